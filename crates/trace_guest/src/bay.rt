@@ -35,12 +35,7 @@ impl Bay {
     }
 
     /// The disk at port `n` is plugged in, or its connection begins anew. Says its number.
-    pub fn plug(
-        &mut self,
-        alloc: Global,
-        n: u8,
-        pm: &mut Multiplier,
-    ) -> Result<u32, AllocError>
+    pub fn plug(&mut self, alloc: Global, n: u8, pm: &mut Multiplier) -> Result<u32, AllocError>
         requires { n < pm.old.registers.ports }
         ensures { pm.new.registers.ports ≡ pm.old.registers.ports }
     {
@@ -63,12 +58,7 @@ impl Bay {
     }
 
     /// The disk at port `n` takes the FIS that waits for it. Says whether there was one.
-    pub fn take(
-        &mut self,
-        alloc: Global,
-        n: u8,
-        pm: &mut Multiplier,
-    ) -> Result<bool, AllocError>
+    pub fn take(&mut self, alloc: Global, n: u8, pm: &mut Multiplier) -> Result<bool, AllocError>
         requires { n < pm.old.registers.ports }
         ensures { pm.new.registers.ports ≡ pm.old.registers.ports }
     {
@@ -82,12 +72,7 @@ impl Bay {
     }
 
     /// The disk at port `n` sends its next FIS, if the port has room for it. Says whether it did.
-    pub fn send(
-        &mut self,
-        alloc: Global,
-        n: u8,
-        pm: &mut Multiplier,
-    ) -> Result<bool, AllocError>
+    pub fn send(&mut self, alloc: Global, n: u8, pm: &mut Multiplier) -> Result<bool, AllocError>
         requires { n < pm.old.registers.ports }
         ensures { pm.new.registers.ports ≡ pm.old.registers.ports }
     {

@@ -38,7 +38,8 @@ fn carry(memory: &mut FlatGuest, step: Move, payload: &[u8]) {
     }
 }
 
-/// Writes to the guest's memory what a FIS that was taken brings: the bytes of Data, then the FIS, then PRDBC.
+/// Writes to the guest's memory what a FIS that was taken brings: the bytes of Data, then the FIS, then
+/// PRDBC.
 fn bring(controller: &Controller, memory: &mut FlatGuest, frame: &Frame, took: Took) {
     let payload = frame.bytes().get(4..).unwrap_or(&[]);
     if let Some(moves) = controller.data() {
@@ -82,7 +83,8 @@ impl Board {
         })
     }
 
-    /// The disk at this port is plugged in. Says the number of its connection, and None if it was there already.
+    /// The disk at this port is plugged in. Says the number of its connection, and None if it was there
+    /// already.
     pub fn plug(&mut self, alloc: Global, port: u8) -> Result<Option<u32>, AllocError> {
         let i = usize::from(port);
         if i >= self.bays.len() {
@@ -120,9 +122,7 @@ impl Board {
 
     /// Writes the register at an offset. Says what that does to the link.
     pub fn write(&mut self, alloc: Global, offset: u32, value: u32) -> Result<Effect, AllocError> {
-        let written = self
-            .controller
-            .write32(alloc, &self.memory, offset, value);
+        let written = self.controller.write32(alloc, &self.memory, offset, value);
         if written.effect == Effect::LinkReset {
             self.reset_link(alloc)?;
         }
@@ -162,7 +162,8 @@ impl Board {
         self.memory.read(at, into)
     }
 
-    /// Moves what can move, round by round, at most this many. Says whether a round came in which nothing did.
+    /// Moves what can move, round by round, at most this many. Says whether a round came in which nothing
+    /// did.
     pub fn settle<W: Write>(
         &mut self,
         alloc: Global,
@@ -177,8 +178,8 @@ impl Board {
         Ok(false)
     }
 
-    /// Moves a FIS out of the controller, one down to each disk and one up from it, and one into the controller. Says
-    /// whether one moved.
+    /// Moves a FIS out of the controller, one down to each disk and one up from it, and one into the
+    /// controller. Says whether one moved.
     fn round<W: Write>(&mut self, alloc: Global, out: &mut W) -> Result<bool, Failure> {
         let mut is_moved = self.move_out(alloc, out)?;
         for port in 0..15_u8 {

@@ -140,11 +140,7 @@ impl Opening {
 }
 
 /// The disks of this many ports.
-fn bays_of(
-    alloc: Global,
-    ports: u8,
-    mut disks: Vec<Option<Shape>>,
-) -> Result<Vec<Bay>, AllocError>
+fn bays_of(alloc: Global, ports: u8, mut disks: Vec<Option<Shape>>) -> Result<Vec<Bay>, AllocError>
     ensures { IfOk result (λ bays. length bays.items ≡ ports) }
 {
     disks.resize_with(usize::from(ports), || None)?;

@@ -170,8 +170,8 @@ impl Scene {
         printer.print(alloc, &reply, out)
     }
 
-    /// Does what one line asks, and gives what is printed about it. A place that is no memory is `range`; a disk that
-    /// comes where it is, or goes where it is not, is `order`.
+    /// Does what one line asks, and gives what is printed about it. A place that is not all memory is
+    /// `range`; a disk that comes where it is, or goes where it is not, is `order`.
     fn act<W: Write>(
         &mut self,
         alloc: Global,
@@ -210,13 +210,7 @@ impl Scene {
     }
 
     /// So many bytes of the guest's memory, from an address on.
-    fn show(
-        &self,
-        alloc: Global,
-        at: u64,
-        len: u32,
-        words: &Words<'_>,
-    ) -> Result<Reply, Failure> {
+    fn show(&self, alloc: Global, at: u64, len: u32, words: &Words<'_>) -> Result<Reply, Failure> {
         let mut bytes = vec![in alloc; 0; len as usize]?;
         match self.board.show(at, &mut bytes) {
             Ok(()) => {

@@ -11,28 +11,16 @@ use trace_text::FisShort;
 pub enum Reply {
     /// The board is built.
     Board(Sizes),
-    Came {
-        port: u8,
-        conn: u32,
-    },
-    Gone {
-        port: u8,
-        conn: u32,
-    },
+    Came { port: u8, conn: u32 },
+    Gone { port: u8, conn: u32 },
     /// What the register at an offset reads.
-    Read {
-        offset: u32,
-        value: u32,
-    },
+    Read { offset: u32, value: u32 },
     /// A register was written, with this effect on the link.
     Written(Effect),
     /// The guest wrote to its memory.
     Put,
     /// Bytes of the guest's memory, from this address on.
-    Shown {
-        at: u64,
-        digits: String,
-    },
+    Shown { at: u64, digits: String },
     /// In one round nothing moved.
     Settled,
     /// All rounds went by, and none was such a round.

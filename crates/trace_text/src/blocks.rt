@@ -9,8 +9,8 @@ use crate::words::Words;
 /// The most times that a block is played.
 const MOST_TIMES: u64 = 1_000_000;
 
-/// Does what a line of this name says about the lines themselves, if it is one: `expect`, `repeat` or `end`. Says
-/// whether it was.
+/// Does what a line of this name says about the lines themselves, if it is one: `expect`, `repeat` or
+/// `end`. Says whether it was.
 pub fn play_aside<'a>(
     name: &[u8],
     words: &mut Words<'a>,

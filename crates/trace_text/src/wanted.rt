@@ -171,7 +171,8 @@ impl Wanted {
             Wanted::Address => "wanted an address, at most 8 hexadecimal digits without 0x",
             Wanted::LongAddress => "wanted an address, at most 16 hexadecimal digits without 0x",
             Wanted::Access => "wanted `read` or `write`",
-            Wanted::Offset => "wanted the offset of a register, at most 8 hexadecimal digits without 0x",
+            Wanted::Offset =>
+                "wanted the offset of a register, at most 8 hexadecimal digits without 0x",
             Wanted::Value => "wanted a value, at most 8 hexadecimal digits without 0x",
             Wanted::GuestArea => "wanted bytes that all lie in the guest's memory",
             Wanted::Place => "wanted ADDRESS:BYTES, as 101000:512",
@@ -195,8 +196,8 @@ settle, poll, put, show, counts, faults, regs, reg, expect, repeat or end";
 const THREADS_LINES: &str = "wanted ports, disk, script, read, write, flush, barrier, pull, put, \
 show or counts";
 
-const GUEST_LINES: &str = "wanted ports, memory, disk, came, gone, mmio, guest, show, settle, line, \
-expect, repeat or end";
+const GUEST_LINES: &str = "wanted ports, memory, disk, came, gone, mmio, guest, show, settle, \
+line, expect, repeat or end";
 
 const STEPS: &str = "wanted pmpresence, disktake, disksend, pmfromdevice, pmdown, pmfromhost, \
 pmup, hosttake, tick or hostpush";
