@@ -1,6 +1,6 @@
 -- What the calls on a disk do, by the rules of the disk (ACS-3; Serial ATA 3.x, native command queuing).
-use Rattle.std.specs.Prelude.{◌≡◌, ℕ, ◌+◌, ◌<◌, ◌≤◌, ◌/◌, ◌%◌, ◌==◌, ◌&&◌, Bool, if◌then◌else◌, true, false, List, length}
-use Rattle.std.specs.Prelude.{Option, Some, None, nat_lt, nat_le}
+use Rattle.std.specs.Prelude.{◌≡◌, ℕ, ◌<◌, ◌≤◌, ◌/◌, ◌%◌, ◌==◌, ◌&&◌, Bool, if◌then◌else◌, true, false, List, length}
+use Rattle.std.specs.Prelude.{nat_lt, nat_le}
 use Rattle.fis_view.specs.Frames.{is_frame}
 use Rattle.disk_model.specs.Chunks.{sectors_at}
 use Rattle.disk_model.specs.Disks.{DiskValue, opening}

@@ -27,6 +27,8 @@ pub enum Task {
     Decode,
     /// Play the scenario of the input, one step at a time, and write this much of what moves.
     Run(Watch),
+    /// Play the accesses of the input, and write what moves if this is true.
+    Guest(bool),
 }
 
 /// What the words after the program's name ask for, and where the input comes from: a file, or
@@ -103,6 +105,7 @@ impl<'a> Call<'a> {
         let mode = match name {
             "decode" => Mode::Alone(Task::Decode),
             "run" => Mode::Alone(Task::Run(watch_of(given)?)),
+            "guest" => Mode::Alone(Task::Guest(given.get_flag("trace"))),
             _ => Mode::Threads(turns_of(given)?),
         };
         let file = given.get_str("file");
@@ -180,6 +183,7 @@ fn command<'a>(alloc: Global) -> Result<Command<'a>, Error> {
         .arg(help(alloc))?
         .subcommand(mode_words(alloc, "decode")?)?
         .subcommand(run_words(alloc)?)?
+        .subcommand(mode_words(alloc, "guest")?.arg(flag(alloc, "trace"))?)?
         .subcommand(mode_words(alloc, "threads")?.arg(turns)?)?;
     Ok(command)
 }

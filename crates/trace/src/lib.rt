@@ -1,8 +1,9 @@
 //! What a list of frames or a scenario means, line by line, from a reader to a writer.
 //!
 //! [`serve`] does what the words of a command line ask for. `decode` prints each frame in words,
-//! `run` plays a scenario on a world of devices, a port multiplier and a host, and `threads` runs
-//! each of these in a thread of its own. Its result is the exit status, which says how a run ended.
+//! `run` plays a scenario on a world of devices, a port multiplier and a host, `threads` runs each of
+//! these in a thread of its own, and `guest` plays the accesses of a driver to an AHCI controller. Its
+//! result is the exit status, which says how a run ended.
 //! [`refuse`] gives the exit status of a run that cannot begin.
 #![tactic(auto)]
 

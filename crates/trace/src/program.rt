@@ -13,6 +13,7 @@ use std::rt::Files;
 use std::sync::Wait;
 use std::thread::Threads;
 use std::{fmt, fs};
+use trace_guest::play_guest;
 use trace_run::{Turns, play_steps, play_threads};
 use trace_text::{Failure, Note, Shown, decode, read_input};
 
@@ -184,6 +185,7 @@ fn play<E: Eprint, W: Write>(
     match task {
         Task::Decode => decode(errors, alloc, input, out),
         Task::Run(watch) => play_steps(errors, alloc, watch, input, out),
+        Task::Guest(is_traced) => play_guest(errors, alloc, is_traced, input, out),
     }
 }
 

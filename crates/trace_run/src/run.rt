@@ -9,7 +9,7 @@ use pm_world::{Answer, Counts, Step, StepError, World, WorldError};
 use std::alloc::Global;
 use std::io::{Eprint, Write};
 use std::mem;
-use trace_text::{Expected, Failure, Lines, Printer, Words, begin_block, end_block, is_skipped};
+use trace_text::{Failure, Lines, Printer, Words, is_skipped, play_aside};
 
 /// Plays the scenario line by line and writes what each line prints. A refused line ends it; the
 /// lines before it have acted and printed. A line that prints something else than was expected ends
@@ -65,14 +65,9 @@ impl Scenario {
                 continue;
             }
             let mut words = Words::of(line, text);
-            match words.next_word().unwrap_or(&[]) {
-                b"expect" => {
-                    let text = words.text()?;
-                    printer.expect(Expected { line, text })?;
-                }
-                b"repeat" => begin_block(&mut lines, &mut words)?,
-                b"end" => end_block(&mut lines, &mut words)?,
-                name => self.play_line(alloc, name, words, printer, out)?,
+            let name = words.next_word().unwrap_or(&[]);
+            if !play_aside(name, &mut words, &mut lines, printer)? {
+                self.play_line(alloc, name, words, printer, out)?;
             }
         }
         self.end(alloc, printer, out)?;

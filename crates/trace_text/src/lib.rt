@@ -19,7 +19,7 @@ mod shape;
 mod wanted;
 mod words;
 
-pub use blocks::{begin_block, end_block};
+pub use blocks::play_aside;
 pub use decoding::{DecodeError, decode, fis_of};
 pub use failure::{Failure, Refusal};
 pub use fis_short::{FisShort, bit_of, named_slots};

@@ -12,6 +12,8 @@ pub enum Quantity {
     Capacity,
     #[error("the host's memory in MiB")]
     Memory,
+    #[error("the bytes of the guest's memory")]
+    GuestBytes,
     #[error("a port")]
     Port,
     #[error("the sectors of the disk")]
@@ -67,12 +69,22 @@ pub enum Wanted {
     RunLine,
     /// The first word of a line of `threads`.
     ThreadsLine,
+    /// The first word of a line of `guest`.
+    GuestLine,
     /// The name of a step.
     StepName,
     /// That `ports` come before all other lines.
     PortsFirst,
     /// That a line about the making of the world come before all others.
     Earlier,
+    /// That a line about the making of the board come before all others.
+    EarlierThanGuest,
+    /// A guest's memory of which no other line has spoken.
+    OneMemory,
+    /// A port whose disk is not plugged in.
+    DiskAway,
+    /// A port whose disk is plugged in.
+    DiskThere,
     /// A port about whose device no other line has spoken.
     FreePort,
     /// This word.
@@ -87,6 +99,16 @@ pub enum Wanted {
     WholeSectors,
     /// A hexadecimal address.
     Address,
+    /// A hexadecimal address of 64 bits.
+    LongAddress,
+    /// `read` or `write`.
+    Access,
+    /// The offset of a register of the controller.
+    Offset,
+    /// The value of a register, in hexadecimal.
+    Value,
+    /// Bytes that all lie in the guest's memory.
+    GuestArea,
     /// An address and a number of bytes.
     Place,
     /// Hexadecimal digits.
@@ -134,14 +156,25 @@ impl Wanted {
             Wanted::Size => "wanted at most 20000 bytes in a line, and 16777216 in the input",
             Wanted::RunLine => RUN_LINES,
             Wanted::ThreadsLine => THREADS_LINES,
+            Wanted::GuestLine => GUEST_LINES,
             Wanted::StepName => STEPS,
             Wanted::PortsFirst => "`ports` comes once, before all other lines",
             Wanted::Earlier => "`ports`, `disk` and `script` come before all other lines",
+            Wanted::EarlierThanGuest => "`ports`, `memory` and `disk` come before all other lines",
+            Wanted::OneMemory => "a line before has said where the guest's memory lies",
+            Wanted::DiskAway => "the disk of this port is there already",
+            Wanted::DiskThere => "the disk of this port is not there",
             Wanted::FreePort => "a line before has said what stands at this port",
             Wanted::Order => "wanted `oldest` or `newest`",
             Wanted::FewerBad => "wanted at most 16 sectors that cannot be read",
             Wanted::WholeSectors => "wanted a multiple of 512",
             Wanted::Address => "wanted an address, at most 8 hexadecimal digits without 0x",
+            Wanted::LongAddress => "wanted an address, at most 16 hexadecimal digits without 0x",
+            Wanted::Access => "wanted `read` or `write`",
+            Wanted::Offset =>
+                "wanted the offset of a register, at most 8 hexadecimal digits without 0x",
+            Wanted::Value => "wanted a value, at most 8 hexadecimal digits without 0x",
+            Wanted::GuestArea => "wanted bytes that all lie in the guest's memory",
             Wanted::Place => "wanted ADDRESS:BYTES, as 101000:512",
             Wanted::Digits => "wanted hexadecimal digits, two for each byte",
             Wanted::EvenDigits => "wanted an even number of digits, two for each byte",
@@ -162,6 +195,9 @@ settle, poll, put, show, counts, faults, regs, reg, expect, repeat or end";
 
 const THREADS_LINES: &str = "wanted ports, disk, script, read, write, flush, barrier, pull, put, \
 show or counts";
+
+const GUEST_LINES: &str = "wanted ports, memory, disk, came, gone, mmio, guest, show, settle, \
+line, expect, repeat or end";
 
 const STEPS: &str = "wanted pmpresence, disktake, disksend, pmfromdevice, pmdown, pmfromhost, \
 pmup, hosttake, tick or hostpush";

@@ -29,6 +29,11 @@ impl<'a> Words<'a> {
         }
     }
 
+    /// The number of the line.
+    pub fn line(&self) -> usize {
+        self.line
+    }
+
     /// The refusal of the line for the word that was last asked for, if this was wanted.
     pub fn refused(&self, refusal: Refusal, wanted: Wanted) -> Failure {
         self.refused_at(self.asked, refusal, wanted)
@@ -72,12 +77,28 @@ impl<'a> Words<'a> {
 
     /// The next word as an address, in hexadecimal.
     pub fn address(&mut self) -> Result<u32, Failure> {
+        self.dword(Wanted::Address)
+    }
+
+    /// The next word as a dword in hexadecimal, where this is wanted.
+    pub fn dword(&mut self, wanted: Wanted) -> Result<u32, Failure> {
         let Some(word) = self.next_word() else {
-            return Err(self.refused(Refusal::Number, Wanted::Address));
+            return Err(self.refused(Refusal::Number, wanted));
         };
         match value_within(word, 16, 0, 0xFFFF_FFFF) {
             Ok(value) => Ok(value as u32),
-            Err(refusal) => Err(self.refused(refusal, Wanted::Address)),
+            Err(refusal) => Err(self.refused(refusal, wanted)),
+        }
+    }
+
+    /// The next word as an address of 64 bits, in hexadecimal.
+    pub fn long_address(&mut self) -> Result<u64, Failure> {
+        let Some(word) = self.next_word() else {
+            return Err(self.refused(Refusal::Number, Wanted::LongAddress));
+        };
+        match value_within(word, 16, 0, u64::MAX) {
+            Ok(value) => Ok(value),
+            Err(refusal) => Err(self.refused(refusal, Wanted::LongAddress)),
         }
     }
 
