@@ -1,16 +1,23 @@
 //! Settings, power management and what is sent at power off.
 
-use super::steps::Step::{Commands, IsSilent, Plugs, Sends, Sets};
-use super::steps::{ABORTED, DONE, SIGNATURE, Step, assert_steps, stock};
+use super::steps::Step::{Commands, IsSilent, Plugs, Reads, Sends, SendsData, Sets};
+use super::steps::{ABORTED, ACCEPTED, DONE, PAGE, SIGNATURE, Step, assert_steps, stock};
 use disk_model::DiskPlan;
 use std::test::Fail;
 
 /// What CHECK POWER MODE answers: active or idle.
 const ACTIVE: &str = "344050000000000000000000ff00000000000000";
 
-static POWER_OFF: [Step; 17] = [
+/// After a queued read, what a system sends when it stops, and what tools send.
+static POWER_OFF: [Step; 23] = [
     Plugs,
     Sends(SIGNATURE),
+    Reads(5, 1),
+    Sends(ACCEPTED),
+    SendsData("4120000005"),
+    SendsData("4600000001020304"),
+    Sends("a140500020000000"),
+    IsSilent,
     Commands(0xE5),
     Sends(ACTIVE),
     Commands(0xE7),
@@ -33,9 +40,13 @@ fn power_off(rt: HostRuntime) -> Result<(), Fail> {
     assert_steps(&rt, rt.alloc(), stock(8), &POWER_OFF)
 }
 
-static SETTINGS: [Step; 23] = [
+/// What a driver sets once it has read the IDENTIFY DEVICE data.
+static SETTINGS: [Step; 26] = [
     Plugs,
     Sends(SIGNATURE),
+    Commands(0xEC),
+    Sends(PAGE),
+    SendsData("4600000040000000"),
     Sets(0x03, 0x46),
     Sends(DONE),
     Sets(0x03, 0x0C),
