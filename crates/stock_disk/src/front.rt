@@ -1,9 +1,10 @@
 //! What the front keeps, which commands it answers, and its answers (ACS-3, commands; Serial ATA 3.x, 13.6,
 //! native command queuing).
 
-ghost use Rattle.std.specs.Prelude.{◌≡◌, ◌<◌, IfOk, false, true};
-ghost use Rattle.stock_disk.specs.Fronts.{answer_to, asks_log, done_for, ended, failing, has_feature, heard, is_done, is_idle, is_mode, named, opening, own_sent, own_to, passed, passed_command, passed_control, settles, tags_of, told};
-ghost use Rattle.disk_model.specs.Requests.{names_error_log};
+ghost use Rattle.std.specs.Prelude.{◌≡◌, IfOk, false, true};
+ghost use Rattle.stock_disk.specs.Fronts.{answer_to, asks_log, done_for, ended, failing, has_feature, is_done};
+ghost use Rattle.stock_disk.specs.Fronts.{is_idle, is_mode, named, opening, own_sent, own_to, passed};
+ghost use Rattle.stock_disk.specs.Fronts.{passed_command, passed_control, settles, tags_of, told};
 ghost use Rattle.disk_model.specs.Sendings.{Shows};
 
 use disk_model::{DiskPlan, Profile};
