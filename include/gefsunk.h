@@ -98,7 +98,7 @@ typedef struct gef_pm {
 #define GEF_PM_CLOSED { 0, 0 }
 
 /*
- * Makes a multiplier with 1 to 15 device ports and no device, and opens the handle. It takes about 25 KB.
+ * Makes a multiplier with 1 to 15 device ports and no device, and opens the handle. It takes about 22 KB.
  * Can return GEF_OPEN (the handle has a multiplier: free it first), GEF_BAD_PORTS, GEF_NO_MEMORY.
  */
 gef_status gef_pm_new(gef_pm *pm, uint8_t ports);
@@ -226,7 +226,7 @@ gef_status gef_disk_sector(gef_disk *disk, uint32_t lba, uint8_t *bytes, size_t 
  * An AHCI controller (AHCI 1.3.1) with one port, as a register file for drivers that nobody will change: FIS-based
  * switching, native command queuing, 32 slots, 64-bit addresses. Behind it you put a multiplier, or one device of your own,
  * and in front of it a guest: gef_hba_read32 and gef_hba_write32 are the accesses to its registers. The rules of a
- * handle are those of gef_pm. A controller takes about 5 MB.
+ * handle are those of gef_pm. A controller takes about 5.3 MB.
  *
  *     on a write of a register:  gef_hba_write32; do what *link says; then pump, and set the line
  *     pump, until nothing moves: gef_hba_next_out gives a FIS: it goes to gef_pm_from_host
