@@ -1,4 +1,4 @@
-use Rattle.std.proofs.Common.{◌≡◌, ◌∷◌, refl}
+use Rattle.std.proofs.Common.{◌≡◌, ◌∷◌, [], refl, sym, ◌∙◌}
 use Rattle.trace_text.specs.Text.{without_blanks}
 use Rattle.trace_text.proofs.HexTextLemmas.{nothing_read, next_pair, pair_refused, half_left, all_read}
 use Rattle.trace_text.proofs.hex_text.decoded.Goals as goal
