@@ -180,7 +180,9 @@ typedef struct gef_disk {
 #define GEF_DISK_NEWEST 1u     /* the newest queued command is started first; without it the oldest */
 #define GEF_DISK_LAST_FIRST 2u /* the chunks of a command go downwards, from its last sectors */
 #define GEF_DISK_AUTO 4u       /* auto-activate: no DMA Activate FIS is sent */
-#define GEF_DISK_STOCK 8u      /* IDENTIFY DEVICE data that drivers of operating systems read */
+#define GEF_DISK_STOCK 8u      /* IDENTIFY DEVICE data that drivers of operating systems read, and the answers they expect: */
+                               /* commands after an error are aborted until its log is read; STANDBY, IDLE, SLEEP, FLUSH */
+                               /* CACHE, CHECK POWER MODE and SET FEATURES are ended */
 
 /*
  * Makes a disk with 1 to 65,536 sectors of 512 bytes, and opens the handle. Byte i of sector L is (L + i) modulo 256 at
