@@ -132,7 +132,7 @@ fn is_any_spent(disks: &[DiskEnd<'_, Unit>], pm: Option<Spent>, host: Option<Spe
 
 /// Why a run whose workers ended like this has not finished, or `None` if it has. Lack of memory is told
 /// before all else.
-// Inlined into `finished`, it costs LLVM half an hour there.
+// Inlined into `finished`, LLVM had not ended there after a quarter of an hour.
 #[inline(never)]
 fn cause(disks: &[DiskEnd<'_, Unit>], pm: &PmEnd<'_>, host: &HostEnd<'_>) -> Option<RunError>
     ensures why { IfSome result (λ error.
