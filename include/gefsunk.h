@@ -98,7 +98,7 @@ typedef struct gef_pm {
 #define GEF_PM_CLOSED { 0, 0 }
 
 /*
- * Makes a multiplier with 1 to 15 device ports and no device, and opens the handle. It takes about 4 KB.
+ * Makes a multiplier with 1 to 15 device ports and no device, and opens the handle. It takes about 22 KB.
  * Can return GEF_OPEN (the handle has a multiplier: free it first), GEF_BAD_PORTS, GEF_NO_MEMORY.
  */
 gef_status gef_pm_new(gef_pm *pm, uint8_t ports);
@@ -180,7 +180,9 @@ typedef struct gef_disk {
 #define GEF_DISK_NEWEST 1u     /* the newest queued command is started first; without it the oldest */
 #define GEF_DISK_LAST_FIRST 2u /* the chunks of a command go downwards, from its last sectors */
 #define GEF_DISK_AUTO 4u       /* auto-activate: no DMA Activate FIS is sent */
-#define GEF_DISK_STOCK 8u      /* IDENTIFY DEVICE data that drivers of operating systems read */
+#define GEF_DISK_STOCK 8u      /* IDENTIFY DEVICE data that drivers of operating systems read, and the answers they expect: */
+                               /* commands after an error are aborted until its log is read; STANDBY, IDLE, SLEEP, FLUSH */
+                               /* CACHE, CHECK POWER MODE and SET FEATURES are ended */
 
 /*
  * Makes a disk with 1 to 65,536 sectors of 512 bytes, and opens the handle. Byte i of sector L is (L + i) modulo 256 at
@@ -226,7 +228,7 @@ gef_status gef_disk_sector(gef_disk *disk, uint32_t lba, uint8_t *bytes, size_t 
  * An AHCI controller (AHCI 1.3.1) with one port, as a register file for drivers that nobody will change: FIS-based
  * switching, native command queuing, 32 slots, 64-bit addresses. Behind it you put a multiplier, or one device of your own,
  * and in front of it a guest: gef_hba_read32 and gef_hba_write32 are the accesses to its registers. The rules of a
- * handle are those of gef_pm. A controller takes about 5 MB.
+ * handle are those of gef_pm. A controller takes about 5.3 MB.
  *
  *     on a write of a register:  gef_hba_write32; do what *link says; then pump, and set the line
  *     pump, until nothing moves: gef_hba_next_out gives a FIS: it goes to gef_pm_from_host
@@ -341,17 +343,23 @@ gef_status gef_hba_next_out(gef_hba *hba, const gef_memory *memory, uint8_t *fis
  *   - FISes of a device go up in the order in which they came, each at most once, and none of a device that went
  *     (`multiplier`: frames_pass_in_order; each call here is a step of it).
  *   - A FIS that goes up has the number of its port as PM Port. A FIS that goes down has 0. No other bit changes.
+ *   - A register of the controller reads what its contract says, and a write leaves what it says (`ahci_port`). Bytes of a
+ *     Data FIS go only to places that the command's table named when the command was issued, in order, each once.
  *   - What a disk sends is what its plan and all that happened to it allow, and it is silent only if they allow nothing.
  *     So the laws of `disk_model` hold of it: a read that ends had the sectors as they were when it was started, and a
  *     write that ends is on the medium.
  *
- * Not proved but tested: the words of gef_fis_text. Not claimed: that anything happens in the end, or how fast.
+ * Not proved but tested: the words of gef_fis_text; that GEF_PLACES_ROOM is always room enough; that drivers of operating
+ * systems work with the controller (guests/RESULTS.md says which did). Not claimed: that anything happens in the end, or
+ * how fast.
  *
  * What no library can see, and you must keep:
  *
  *   - Each length is that of the memory behind its pointer, and pointers of one call do not overlap.
  *   - The fields of a handle are as the library left them, and you use an open handle through one copy only.
  *   - One call at a time on a handle.
+ *   - The bytes of a gef_memory stay as they are during the call, and what the controller asks for is written before the
+ *     guest goes on.
  *
  * What is trusted: the prover; the two compilers (the library's and yours); malloc and free; memcpy and the like; and
  * the file c/gefsunk.c, which tests pointers for null and passes each call on.

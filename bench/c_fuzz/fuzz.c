@@ -150,16 +150,120 @@ static int call_disk(gef_disk *disk, int *is_open) {
     }
 }
 
-/* Handles of the other kind are found out, and stay as they were. */
-static int crossed(gef_pm *pm, gef_disk *disk) {
-    gef_pm of_disk;
-    gef_disk of_pm;
-    memcpy(&of_disk, disk, sizeof of_disk);
-    memcpy(&of_pm, pm, sizeof of_pm);
-    if (gef_pm_plug(&of_disk, 0) != GEF_CLOSED || gef_disk_plug(&of_pm) != GEF_CLOSED) return 0;
-    if (gef_pm_free(&of_disk) != GEF_CLOSED || gef_disk_free(&of_pm) != GEF_CLOSED) return 0;
-    memcpy(disk, &of_disk, sizeof of_disk);
-    memcpy(pm, &of_pm, sizeof of_pm);
+/* The guest's memory: its command list, its received area and its tables lie anywhere in it. */
+static uint8_t memory[0x4000];
+
+static uint32_t value_of(uint8_t kind) {
+    static const uint32_t values[8] = {0, 1, 0x11, 0x10, 0x20011, 0x301, 0xFFFFFFFFu, 0x400};
+    uint32_t value = values[kind & 7];
+    if (kind & 8) value = 1u << (next() & 31);
+    if (kind & 16) value = next() | (uint32_t)next() << 8;
+    return value;
+}
+
+/* A command in a slot: header, FIS and one entry of its table, most of it as it should be. */
+static void put_command(uint8_t slot) {
+    static const uint8_t codes[8] = {0x60, 0x61, 0xEC, 0x2F, 0xE8, 0xE4, 0xEA, 0};
+    uint8_t *header = memory + 0x400 + 32 * (slot & 31), *table = memory + 0x1000 + 256 * (slot & 31);
+    uint8_t port = next() & 15, code = next();
+    memset(header, 0, 32);
+    header[0] = 5 | (code & 0x40);
+    header[1] = (uint8_t)(port << 4);
+    header[2] = next() & 1;
+    header[9] = (uint8_t)(0x10 + (slot & 31));
+    memset(table, 0, 20);
+    table[0] = 0x27;
+    table[1] = 0x80 | port;
+    table[2] = codes[code & 7];
+    table[3] = 1;
+    table[4] = next();
+    table[7] = 0x40;
+    table[12] = (uint8_t)(slot << 3);
+    table[0x81] = 0x30;
+    table[0x8C] = 0xFF;
+    table[0x8D] = 1;
+    if (code & 0x80) table[next() & 0x8F] = next();
+}
+
+/* One call on a controller; 0 where its answer is none that the header allows. */
+static int call_hba(gef_hba *hba, int *is_open) {
+    static uint8_t room[GEF_FIS_ROOM];
+    static gef_place places[64];
+    static const uint16_t offsets[16] = {0x100, 0x104, 0x108, 0x10C, 0x110, 0x114, 0x118, 0x118,
+                                         0x12C, 0x130, 0x134, 0x138, 0x138, 0x13C, 0x140, 4};
+    gef_memory guest = {memory, sizeof memory, 0};
+    uint8_t what = next(), kind = next();
+    uint32_t closed = *is_open ? 0 : BIT(GEF_CLOSED), open = *is_open ? ~0u : 0, value = 2, message = 2;
+    size_t len = 0, at, room_len = kind & 1 ? sizeof room : next();
+    gef_taken taken;
+    gef_status status;
+    uint8_t *fis;
+    switch (what % 12) {
+    case 0:
+        /* It takes 5 MB, so few lists make one. */
+        if (kind & 0xF0) return 1;
+        status = gef_hba_new(hba);
+        if (*is_open) return status == GEF_OPEN;
+        *is_open = status == GEF_OK;
+        return status == GEF_OK;
+    case 1:
+        if (kind & 0x1C) return 1;
+        status = gef_hba_free(hba);
+        if (status != (*is_open ? GEF_OK : GEF_CLOSED)) return 0;
+        *is_open = 0;
+        return 1;
+    case 2:
+        status = gef_hba_read32(hba, (uint32_t)next() << (kind & 3), &value);
+        return allowed(status, closed | (open & BIT(GEF_OK)));
+    case 3:
+    case 4:
+    case 5:
+        guest.len = kind & 0x20 ? (size_t)next() << 6 : guest.len;
+        at = next();
+        at = at & 0xE0 ? offsets[at & 15] : at << (kind & 3);
+        status = gef_hba_write32(hba, &guest, (uint32_t)at, value_of(next()), &value, &message);
+        if (status == GEF_OK && (value > 2 || message > 1)) return 0;
+        return allowed(status, closed | (open & BIT(GEF_OK)));
+    case 6:
+    case 7:
+        fis = fis_of(&len);
+        status = gef_hba_take(hba, fis, len, &taken);
+        free(fis);
+        if (status == GEF_OK && (taken.is_posted > 1 || taken.is_counted > 1 || taken.message > 1)) return 0;
+        return allowed(status, closed | (open & (BIT(GEF_OK) | BIT(GEF_BAD_LENGTH))));
+    case 8:
+        status = gef_hba_data(hba, places, kind & 1 ? 64 : kind & 3, &len);
+        for (at = 0; status == GEF_OK && at < len; at++)
+            if (!places[at].len || places[at].from + places[at].len > GEF_FIS_ROOM - 4) return 0;
+        return allowed(status, closed | (open & (BIT(GEF_OK) | BIT(GEF_NOTHING) | BIT(GEF_TOO_SHORT))));
+    case 9:
+        status = gef_hba_next_out(hba, &guest, room, room_len, &len, &message);
+        if (status == GEF_OK && (len < 4 || len > room_len || message > 1)) return 0;
+        return allowed(status, closed | (open & (BIT(GEF_OK) | BIT(GEF_TOO_SHORT) | BIT(GEF_NOTHING))));
+    case 10:
+        status = gef_hba_line(hba, &value);
+        return allowed(status, closed | (open & BIT(GEF_OK))) && (status != GEF_OK || value <= 1);
+    default:
+        put_command(kind);
+        return 1;
+    }
+}
+
+/* A handle of another kind is found out, and stays as it was. */
+static int crossed(gef_pm *pm, gef_disk *disk, gef_hba *hba) {
+    gef_pm as_pm;
+    gef_disk as_disk;
+    gef_hba as_hba;
+    uint32_t raised;
+    memcpy(&as_pm, disk, sizeof as_pm);
+    memcpy(&as_disk, hba, sizeof as_disk);
+    memcpy(&as_hba, pm, sizeof as_hba);
+    if (gef_pm_plug(&as_pm, 0) != GEF_CLOSED || gef_pm_free(&as_pm) != GEF_CLOSED) return 0;
+    if (gef_disk_plug(&as_disk) != GEF_CLOSED || gef_disk_free(&as_disk) != GEF_CLOSED) return 0;
+    if (gef_hba_line(&as_hba, &raised) != GEF_CLOSED || gef_hba_free(&as_hba) != GEF_CLOSED) return 0;
+    memcpy(disk, &as_pm, sizeof *disk);
+    memcpy(hba, &as_disk, sizeof *hba);
+    memcpy(pm, &as_hba, sizeof *pm);
     return 1;
 }
 
@@ -167,19 +271,25 @@ static int crossed(gef_pm *pm, gef_disk *disk) {
 static int play(const uint8_t *bytes, size_t len) {
     gef_pm pm = GEF_PM_CLOSED;
     gef_disk disk = GEF_DISK_CLOSED;
-    int pm_open = 0, disk_open = 0, fits = 1;
+    gef_hba hba = GEF_HBA_CLOSED;
+    int pm_open = 0, disk_open = 0, hba_open = 0, fits = 1;
+    memset(memory, 0, sizeof memory);
     input = bytes;
     left = len;
     while (left && fits) {
-        if (input[0] >= 0xC0) {
+        if (input[0] >= 0xE0) {
             next();
-            fits = next() & 0x0F ? call_disk(&disk, &disk_open) : crossed(&pm, &disk);
+            fits = call_hba(&hba, &hba_open);
+        } else if (input[0] >= 0xC0) {
+            next();
+            fits = next() & 0x0F ? call_disk(&disk, &disk_open) : crossed(&pm, &disk, &hba);
         } else {
             fits = call(&pm, &pm_open);
         }
     }
     gef_pm_free(&pm);
     gef_disk_free(&disk);
+    gef_hba_free(&hba);
     return fits;
 }
 

@@ -1,3 +1,4 @@
 pub mod EventLemmas
 pub mod StoreLemmas
 pub mod OpenLemmas
+pub mod QuietLemmas

@@ -7,7 +7,7 @@ use guest_bytes::Guest;
 
 /// A law for callers; it runs no code. Take any list of register writes, frames taken and frames asked for, without a reset
 /// of the link or of the controller, from a controller that opens on. What they do to the host port and its memory is a
-/// list of events of that port.
+/// list of events of that port. None is one of the port as a whole, if the port runs all the time.
 pub fn accesses_are_events<G: Guest>(guest: &G)
     ensures events { AccessesAreEvents (G.may_read guest.now) (G.may_miss guest.now) }
     ensures opens { OpensPlaced }
@@ -15,14 +15,15 @@ pub fn accesses_are_events<G: Guest>(guest: &G)
     let _ = guest;
 }
 
-/// A law for callers; it runs no code. Isolation at the registers: over such accesses, where no event is one of the port as
-/// a whole, what belongs to a device is the fold of its own events, whatever the guest writes and the others send. And each
-/// bit of a report's `done` is a slot that the frame completes, of its own device; each issue completes at most once.
-pub fn accesses_isolate()
-    ensures fold { AccessesIsolate }
-    ensures done { DoneIsCompleted }
+/// A law for callers; it runs no code. Isolation at the registers: over such accesses, while the port runs, what belongs to
+/// a device is the fold of its own events, whatever the guest writes and the others send. After such accesses a report has
+/// the bit of each slot that its frame completes, of its own device, and no other; each issue completes at most once.
+pub fn accesses_isolate<G: Guest>(guest: &G)
+    ensures fold { AccessesIsolate (G.may_read guest.now) (G.may_miss guest.now) }
+    ensures done { DoneIsCompleted (G.may_read guest.now) (G.may_miss guest.now) }
     ensures once { CompletesOnce }
 {
     hba_laws::isolated();
     hba_laws::delivers();
+    accesses_are_events(guest);
 }

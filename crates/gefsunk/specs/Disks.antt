@@ -1,17 +1,18 @@
 -- What the calls on a disk do, by the rules of the disk (ACS-3; Serial ATA 3.x, native command queuing).
-use Rattle.std.specs.Prelude.{◌≡◌, ℕ, ◌+◌, ◌<◌, ◌≤◌, ◌/◌, ◌%◌, ◌==◌, ◌&&◌, Bool, if◌then◌else◌, true, false, List, length}
-use Rattle.std.specs.Prelude.{Option, Some, None, nat_lt, nat_le}
+use Rattle.std.specs.Prelude.{◌≡◌, ℕ, ◌<◌, ◌≤◌, ◌/◌, ◌%◌, ◌==◌, ◌&&◌, Bool, if◌then◌else◌, true, false, List, length}
+use Rattle.std.specs.Prelude.{nat_lt, nat_le}
 use Rattle.fis_view.specs.Frames.{is_frame}
 use Rattle.disk_model.specs.Chunks.{sectors_at}
-use Rattle.disk_model.specs.Disks.{DiskValue, opening}
+use Rattle.disk_model.specs.Disks.{opening}
 use Rattle.disk_model.specs.Histories.{GoesOn, IsSilent, Plugged, Received, SendsNext}
-use Rattle.disk_model.specs.Insides.{HasTurn}
-use Rattle.disk_model.specs.Runs.{DiskMaySend, DiskStandsFor, disk_plan, is_size}
+use Rattle.disk_model.specs.Runs.{is_size}
 use Rattle.disk_model.specs.declared.plan.DiskPlan.{DiskPlan}
 use Rattle.disk_model.specs.declared.plan.Order.{Order}
 use Rattle.disk_model.specs.declared.plan.Order.TheVariants.{Oldest, Newest}
 use Rattle.disk_model.specs.declared.plan.Profile.{Profile}
 use Rattle.disk_model.specs.declared.plan.Profile.TheVariants.{Bare, Stock}
+use Rattle.stock_disk.specs.Faces.{MaySendBy, StockMaySend, StockStandsFor, StockValue, stock_plan}
+use Rattle.stock_disk.specs.Fronts.{opening as opening_front}
 use Rattle.gefsunk.specs.declared.status.Status.{Status}
 use Rattle.gefsunk.specs.declared.status.Status.TheVariants as status
 
@@ -41,11 +42,12 @@ abbrev pub can_be : (sectors size flags : ℕ) → List ℕ → Bool
 can_be sectors size flags bads = is_size sectors size && nat_lt flags 16 && nat_le (length bads) 16
 
 -- a new disk, as C asks for it
-pub record IsDiskOf (count size flags serial : ℕ) (bads : List ℕ) (disk : DiskValue) : Type 0 where
+pub record IsDiskOf (count size flags serial : ℕ) (bads : List ℕ) (disk : StockValue) : Type 0 where
   pub can_be : can_be count size flags bads ≡ true
-  pub plan : IsPlanOf size flags serial bads disk.plan
-  pub sectors : disk.sectors ≡ count
-  pub now : disk.now ≡ opening count
+  pub plan : IsPlanOf size flags serial bads disk.disk.plan
+  pub sectors : disk.disk.sectors ≡ count
+  pub now : disk.disk.now ≡ opening count
+  pub front : disk.front ≡ opening_front disk.disk.plan
 
 -- why there is no new disk
 abbrev pub DiskRefused : (sectors size flags : ℕ) → List ℕ → Status → Type 0
@@ -54,30 +56,30 @@ DiskRefused sectors size flags bads status.NoMemory = can_be sectors size flags 
 DiskRefused sectors size flags bads _ = ⊥
 
 -- the disk is plugged in
-abbrev pub DiskPlug : DiskValue → Status → DiskValue → Type 0
-DiskPlug old answer new = (answer ≡ status.Done) × GoesOn disk_plan DiskStandsFor old Plugged new
+abbrev pub DiskPlug : StockValue → Status → StockValue → Type 0
+DiskPlug old answer new = (answer ≡ status.Done) × GoesOn stock_plan StockStandsFor old Plugged new
 
 -- the host sends a FIS
-abbrev pub DiskFromHost : DiskValue → List ℕ → Status → DiskValue → Type 0
+abbrev pub DiskFromHost : StockValue → List ℕ → Status → StockValue → Type 0
 DiskFromHost old fis status.Done new =
-    (is_frame fis ≡ true) × GoesOn disk_plan DiskStandsFor old (Received fis) new
+    (is_frame fis ≡ true) × GoesOn stock_plan StockStandsFor old (Received fis) new
 DiskFromHost old fis status.BadLength new = (is_frame fis ≡ false) × (new ≡ old)
 DiskFromHost old fis status.NoMemory new = (is_frame fis ≡ true) × (new ≡ old)
 DiskFromHost old fis _ new = ⊥
 
 -- the next FIS for the host; the room must hold the longest FIS
-abbrev pub DiskToHost : DiskValue → ℕ → Status → List ℕ → DiskValue → Type 0
-DiskToHost old room status.Done fis new = SendsNext disk_plan DiskStandsFor DiskMaySend old fis new
+abbrev pub DiskToHost : StockValue → ℕ → Status → List ℕ → StockValue → Type 0
+DiskToHost old room status.Done fis new = SendsNext stock_plan StockStandsFor StockMaySend old fis new
 DiskToHost old room status.Nothing fis new =
-    IsSilent disk_plan DiskStandsFor DiskMaySend old × (new ≡ old)
-DiskToHost old room status.NoMemory fis new = HasTurn old × (new ≡ old)
+    IsSilent stock_plan StockStandsFor StockMaySend old × (new ≡ old)
+DiskToHost old room status.NoMemory fis new = MaySendBy old.front.owed old.disk × (new ≡ old)
 DiskToHost old room status.TooShort fis new = (room < 8196) × (new ≡ old)
 DiskToHost old room _ fis new = ⊥
 
 -- a sector of the medium, and the first 512 bytes of the room
-abbrev pub SectorRule : DiskValue → ℕ → ℕ → Status → List ℕ → Type 0
+abbrev pub SectorRule : StockValue → ℕ → ℕ → Status → List ℕ → Type 0
 SectorRule disk lba room status.Done bytes =
-    (lba < disk.sectors) × (bytes ≡ sectors_at disk.now.medium lba 1)
-SectorRule disk lba room status.NoSector bytes = disk.sectors ≤ lba
-SectorRule disk lba room status.TooShort bytes = (lba < disk.sectors) × (room < 512)
+    (lba < disk.disk.sectors) × (bytes ≡ sectors_at disk.disk.now.medium lba 1)
+SectorRule disk lba room status.NoSector bytes = disk.disk.sectors ≤ lba
+SectorRule disk lba room status.TooShort bytes = (lba < disk.disk.sectors) × (room < 512)
 SectorRule disk lba room _ bytes = ⊥

@@ -1,7 +1,9 @@
 -- What an export leaves behind a handle. Where the handle is closed, or has something of another kind, nothing is
 -- done. A handle stays open or closed, except where something is made or freed.
 use Rattle.std.specs.Prelude.{◌≡◌, ℕ, ◌≤◌, List, Option, Some, None}
-use Rattle.disk_model.specs.Disks.{DiskValue}
+use Rattle.ahci_port.specs.Opening.{IsOpening}
+use Rattle.ahci_port.specs.States.{ControllerState}
+use Rattle.stock_disk.specs.Faces.{StockValue}
 use Rattle.gefsunk.specs.Disks.{DiskRefused, IsDiskOf}
 use Rattle.gefsunk.specs.Pms.{opening}
 use Rattle.gefsunk.specs.declared.kept.Kept.{Kept}
@@ -14,17 +16,32 @@ use Rattle.gefsunk.specs.declared.status.Status.TheVariants as status
 abbrev pub AtPm : Option Kept → Status → Option Kept → (Pm → Pm → Type 0) → Type 0
 AtPm (Some (kept.Pm old)) answer (Some (kept.Pm new)) rule = rule old new
 AtPm (Some (kept.Pm old)) answer (Some (kept.Disk new)) rule = ⊥
+AtPm (Some (kept.Pm old)) answer (Some (kept.Hba new)) rule = ⊥
 AtPm (Some (kept.Pm old)) answer None rule = ⊥
 AtPm (Some (kept.Disk old)) answer new rule = (answer ≡ status.Closed) × (new ≡ Some (kept.Disk old))
+AtPm (Some (kept.Hba old)) answer new rule = (answer ≡ status.Closed) × (new ≡ Some (kept.Hba old))
 AtPm None answer new rule = (answer ≡ status.Closed) × (new ≡ None)
 
 -- a call on the disk behind the handle, by its rule
-abbrev pub AtDisk : Option Kept → Status → Option Kept → (DiskValue → DiskValue → Type 0) → Type 0
+abbrev pub AtDisk : Option Kept → Status → Option Kept → (StockValue → StockValue → Type 0) → Type 0
 AtDisk (Some (kept.Disk old)) answer (Some (kept.Disk new)) rule = rule old new
 AtDisk (Some (kept.Disk old)) answer (Some (kept.Pm new)) rule = ⊥
+AtDisk (Some (kept.Disk old)) answer (Some (kept.Hba new)) rule = ⊥
 AtDisk (Some (kept.Disk old)) answer None rule = ⊥
 AtDisk (Some (kept.Pm old)) answer new rule = (answer ≡ status.Closed) × (new ≡ Some (kept.Pm old))
+AtDisk (Some (kept.Hba old)) answer new rule = (answer ≡ status.Closed) × (new ≡ Some (kept.Hba old))
 AtDisk None answer new rule = (answer ≡ status.Closed) × (new ≡ None)
+
+-- a call on the controller behind the handle, by its rule
+abbrev pub AtHba :
+    Option Kept → Status → Option Kept → (ControllerState → ControllerState → Type 0) → Type 0
+AtHba (Some (kept.Hba old)) answer (Some (kept.Hba new)) rule = rule old new
+AtHba (Some (kept.Hba old)) answer (Some (kept.Pm new)) rule = ⊥
+AtHba (Some (kept.Hba old)) answer (Some (kept.Disk new)) rule = ⊥
+AtHba (Some (kept.Hba old)) answer None rule = ⊥
+AtHba (Some (kept.Pm old)) answer new rule = (answer ≡ status.Closed) × (new ≡ Some (kept.Pm old))
+AtHba (Some (kept.Disk old)) answer new rule = (answer ≡ status.Closed) × (new ≡ Some (kept.Disk old))
+AtHba None answer new rule = (answer ≡ status.Closed) × (new ≡ None)
 
 -- a multiplier is made behind a closed handle
 abbrev pub MadePm : Option Kept → ℕ → Status → Option Kept → Type 0
@@ -38,6 +55,7 @@ MadePm None ports _ new = ⊥
 abbrev pub HasDisk : (sectors size flags serial : ℕ) → List ℕ → Option Kept → Type 0
 HasDisk sectors size flags serial bads (Some (kept.Disk disk)) = IsDiskOf sectors size flags serial bads disk
 HasDisk sectors size flags serial bads (Some (kept.Pm pm)) = ⊥
+HasDisk sectors size flags serial bads (Some (kept.Hba hba)) = ⊥
 HasDisk sectors size flags serial bads None = ⊥
 
 -- a disk is made behind a closed handle
@@ -51,10 +69,33 @@ MadeDisk None sectors size flags serial bads answer new =
 abbrev pub FreedPm : Option Kept → Status → Option Kept → Type 0
 FreedPm (Some (kept.Pm old)) answer new = (answer ≡ status.Done) × (new ≡ None)
 FreedPm (Some (kept.Disk old)) answer new = (answer ≡ status.Closed) × (new ≡ Some (kept.Disk old))
+FreedPm (Some (kept.Hba old)) answer new = (answer ≡ status.Closed) × (new ≡ Some (kept.Hba old))
 FreedPm None answer new = (answer ≡ status.Closed) × (new ≡ None)
 
 -- the disk is freed
 abbrev pub FreedDisk : Option Kept → Status → Option Kept → Type 0
 FreedDisk (Some (kept.Disk old)) answer new = (answer ≡ status.Done) × (new ≡ None)
 FreedDisk (Some (kept.Pm old)) answer new = (answer ≡ status.Closed) × (new ≡ Some (kept.Pm old))
+FreedDisk (Some (kept.Hba old)) answer new = (answer ≡ status.Closed) × (new ≡ Some (kept.Hba old))
 FreedDisk None answer new = (answer ≡ status.Closed) × (new ≡ None)
+
+-- a new controller
+abbrev pub HasHba : Option Kept → Type 0
+HasHba (Some (kept.Hba hba)) = IsOpening hba
+HasHba (Some (kept.Pm pm)) = ⊥
+HasHba (Some (kept.Disk disk)) = ⊥
+HasHba None = ⊥
+
+-- a controller is made behind a closed handle
+abbrev pub MadeHba : Option Kept → Status → Option Kept → Type 0
+MadeHba (Some old) answer new = (answer ≡ status.Open) × (new ≡ Some old)
+MadeHba None status.Done new = HasHba new
+MadeHba None status.NoMemory new = new ≡ None
+MadeHba None _ new = ⊥
+
+-- the controller is freed
+abbrev pub FreedHba : Option Kept → Status → Option Kept → Type 0
+FreedHba (Some (kept.Hba old)) answer new = (answer ≡ status.Done) × (new ≡ None)
+FreedHba (Some (kept.Pm old)) answer new = (answer ≡ status.Closed) × (new ≡ Some (kept.Pm old))
+FreedHba (Some (kept.Disk old)) answer new = (answer ≡ status.Closed) × (new ≡ Some (kept.Disk old))
+FreedHba None answer new = (answer ≡ status.Closed) × (new ≡ None)

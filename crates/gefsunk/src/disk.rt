@@ -6,9 +6,10 @@ ghost use Rattle.gefsunk.specs.Disks.{DiskFromHost, DiskPlug, DiskRefused, DiskT
 use crate::pm::{copied, refused, stamp};
 use crate::status::Status;
 use arrayvec::ArrayVec;
-use disk_model::{Device, Disk, DiskError, DiskPlan, Order, Profile};
+use disk_model::{Device, DiskError, DiskPlan, Order, Profile};
 use fis_view::Frame;
 use std::alloc::Global;
+use stock_disk::StockDisk;
 
 /// The newest queued command goes first.
 const NEWEST: u32 = 1;
@@ -16,7 +17,8 @@ const NEWEST: u32 = 1;
 const LAST_FIRST: u32 = 2;
 /// The DMA Setup of a write lets its data come at once.
 const AUTO: u32 = 4;
-/// The IDENTIFY DEVICE data are those that stock drivers read.
+/// The IDENTIFY DEVICE data are those that stock drivers read, and what the disk leaves unanswered is
+/// answered before it.
 const STOCK: u32 = 8;
 
 /// Whether a flag is set.
@@ -57,7 +59,7 @@ pub fn new_disk(
     flags: u32,
     serial: u32,
     bad: &[u32],
-) -> Result<Disk, Status>
+) -> Result<StockDisk, Status>
     ensures made { IfOk result (λ disk. IsDiskOf sectors chunk flags serial bad.now disk) }
     ensures refused { IfErr result (λ e. DiskRefused sectors chunk flags bad.now e) }
 {
@@ -68,7 +70,7 @@ pub fn new_disk(
     if bads.try_extend_from_slice(bad).is_err() {
         return Err(Status::BadDisk);
     }
-    match Disk::new(alloc, sectors, plan(chunk, flags, serial, bads)) {
+    match StockDisk::new(alloc, sectors, plan(chunk, flags, serial, bads)) {
         Ok(disk) => Ok(disk),
         Err(DiskError::BadSize) => Err(Status::BadDisk),
         Err(DiskError::OutOfMemory) => Err(Status::NoMemory),
@@ -76,7 +78,7 @@ pub fn new_disk(
 }
 
 /// The disk is plugged in.
-pub fn plug(disk: &mut Disk, alloc: Global) -> Status
+pub fn plug(disk: &mut StockDisk, alloc: Global) -> Status
     ensures { DiskPlug disk.old result disk.new }
 {
     match disk.plugged(alloc) {
@@ -86,7 +88,7 @@ pub fn plug(disk: &mut Disk, alloc: Global) -> Status
 }
 
 /// The disk takes a FIS of the host.
-pub fn from_host(disk: &mut Disk, alloc: Global, fis: &[u8]) -> Status
+pub fn from_host(disk: &mut StockDisk, alloc: Global, fis: &[u8]) -> Status
     ensures { DiskFromHost disk.old fis.now result disk.new }
 {
     let frame = match Frame::from_bytes(alloc, fis, stamp(0, 0)) {
@@ -100,7 +102,7 @@ pub fn from_host(disk: &mut Disk, alloc: Global, fis: &[u8]) -> Status
 }
 
 /// Writes the next FIS of the disk into the room, and its length.
-pub fn to_host(disk: &mut Disk, alloc: Global, room: &mut [u8], len: &mut usize) -> Status
+pub fn to_host(disk: &mut StockDisk, alloc: Global, room: &mut [u8], len: &mut usize) -> Status
     ensures { DiskToHost disk.old (length room.old) result (take len.new room.new) disk.new }
 {
     if room.len() < Frame::LONGEST {
@@ -125,7 +127,7 @@ fn put(bytes: &[u8], room: &mut [u8])
 }
 
 /// Writes the 512 bytes of a sector on the medium into the room.
-pub fn sector(disk: &Disk, lba: u32, room: &mut [u8]) -> Status
+pub fn sector(disk: &StockDisk, lba: u32, room: &mut [u8]) -> Status
     ensures { SectorRule disk.now lba (length room.old) result (take 512 room.new) }
 {
     let Some(bytes) = disk.sector(lba) else {

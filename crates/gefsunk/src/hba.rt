@@ -33,7 +33,7 @@ pub struct FisTaken {
 /// Where bytes of a Data FIS go, as C sees it.
 #[repr(C)]
 #[derive(Clone, Copy, Debug, PartialEq, Eq)]
-pub struct Place {
+pub struct DataPlace {
     /// The address of the first of them in the guest's memory.
     pub at: u64,
     /// How many bytes of data come before them in the FIS.
@@ -94,7 +94,7 @@ pub fn write32(
 }
 
 fn shown(took: &Took) -> FisTaken
-    ensures { Shows *took result }
+    ensures { Shows took.now result }
 {
     let mut taken = FisTaken {
         is_posted: 0,
@@ -128,10 +128,10 @@ pub fn take(controller: &mut Controller, alloc: Global, fis: &[u8], taken: &mut 
     Status::Done
 }
 
-fn place(step: Move) -> Place
+fn placed(step: Move) -> DataPlace
     ensures { result ≡ place_of step }
 {
-    Place {
+    DataPlace {
         at: step.at,
         from: step.from,
         len: step.len,
@@ -139,7 +139,7 @@ fn place(step: Move) -> Place
 }
 
 /// Writes the places of the bytes of the Data FIS that was taken last into the room, and their number.
-pub fn data(controller: &Controller, room: &mut [Place], count: &mut usize) -> Status
+pub fn data(controller: &Controller, room: &mut [DataPlace], count: &mut usize) -> Status
     ensures { DataRule controller.now (length room.old) result (take count.new room.new) }
 {
     let Some(moves) = controller.data() else {
@@ -150,7 +150,7 @@ pub fn data(controller: &Controller, room: &mut [Place], count: &mut usize) -> S
         if filled == room.len() {
             return Status::TooShort;
         }
-        room[filled] = place(step);
+        room[filled] = placed(step);
         filled += 1;
     }
     *count = filled;

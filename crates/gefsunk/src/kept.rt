@@ -2,7 +2,7 @@
 
 use crate::pm::Pm;
 use ahci_port::Controller;
-use disk_model::Disk;
+use stock_disk::StockDisk;
 
 /// What stands behind a handle. One kind of handle keeps all, so that a handle of one kind that is given to
 /// a call for another is found out.
@@ -11,7 +11,7 @@ pub enum Kept {
     /// A port multiplier.
     Pm(Pm),
     /// A disk.
-    Disk(Disk),
+    Disk(StockDisk),
     /// A controller of one port.
     Hba(Controller),
 }

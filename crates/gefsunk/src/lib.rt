@@ -20,13 +20,13 @@ mod pm;
 mod status;
 mod text;
 
+use crate::guest::GuestBlock;
+use ahci_port::Controller;
 pub use handle::{Handle, Held};
-pub use hba::{FisTaken, Place};
+pub use hba::{DataPlace, FisTaken};
 pub use kept::Kept;
 pub use pm::Pm;
 pub use status::Status;
-use crate::guest::GuestBlock;
-use ahci_port::Controller;
 use std::alloc::Global;
 
 /// Writes the text of a FIS and its length.
@@ -497,7 +497,7 @@ pub extern "C" fn gefsunk_hba_take(
 pub extern "C" fn gefsunk_hba_data(
     handle: &mut Handle,
     alloc: Global,
-    room: &mut [Place],
+    room: &mut [DataPlace],
     count: &mut usize,
 ) -> u32
     ensures { AtHba handle.old.held.value (status_of result) handle.new.held.value
@@ -527,7 +527,7 @@ pub extern "C" fn gefsunk_hba_next_out(
 ) -> u32
     ensures { AtHba handle.old.held.value (status_of result) handle.new.held.value
         (λ old new. NextOut old (block base memory.now) (length room.old) (status_of result)
-            (take len.new room.new) message.new new) }
+        (take len.new room.new) message.new new) }
 {
     let Some(mut kept) = handle.take(alloc) else {
         return Status::Closed.code();

@@ -1,5 +1,5 @@
 -- What is known of the ends of a run.
-use Rattle.std.proofs.Common.{◌≡◌, ℕ, zero, suc, ◌<◌, Bool, true, false, List, [], ◌∷◌, ◌++◌, append_assoc, refl, sym, ap, ◌∙◌, None, Some, Option, drop, arith}
+use Rattle.std.proofs.Common.{◌≡◌, ℕ, zero, suc, ◌<◌, Bool, true, false, List, [], ◌∷◌, ◌++◌, append_assoc, refl, sym, ap, ◌∙◌, subst, None, Some, Option, drop, arith}
 use Rattle.std.specs.Prelude.{◌||◌, map, All, IfOk, OnOk, Result, Ok, Err}
 use Rattle.std.specs.List.{AllZip, list_any}
 use Rattle.std.proofs.lemmas.List.{map-append}
@@ -14,6 +14,7 @@ use Rattle.multiplier.specs.Passing.{of_conn}
 use Rattle.disk_thread.specs.Runs.{StationState, IsAtSamePort}
 use Rattle.pm_thread.specs.Runs.{PortSeats, ends_of, IsUnused, frames_at}
 use Rattle.pm_thread.specs.Passing.{risen}
+use Rattle.host_thread.specs.Runs.{HostView}
 use Rattle.pm_threads.specs.Seats.{TiedTo, Starts, Handed}
 use Rattle.pm_threads.specs.Ends.{sent_at, EachArrives}
 use Rattle.pm_threads.specs.Halts.{is_short, is_shut}
@@ -168,3 +169,9 @@ all_arrive ss ps sent taken handed begun met n c low =
     (of_conn_prefix n c taken sent met)
     (prefix_then (of_conn n c sent) (risen n c (frames_at ps n)) (risen n c (sent_at ss n)) (begun n c low)
     (risen_prefix n c (frames_at ps n) (sent_at ss n) (handed_at ss ps handed n)))
+
+-- the same of equal ends
+pub same_arrive : (ss ts : List (StationState Unit)) (host other : HostView) → ss ≡ ts → host ≡ other → EachArrives ss host.frames.taken
+    → EachArrives ts other.frames.taken
+same_arrive ss ts host other disks hosts arrive =
+    subst (λ l. EachArrives l other.frames.taken) disks (subst (λ (h : HostView). EachArrives ss h.frames.taken) hosts arrive)

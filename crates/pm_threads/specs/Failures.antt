@@ -13,7 +13,7 @@ error_of (Err failure) = Some failure.error
 -- The error says why a run that ended like this has not finished. If there are no ends, memory was refused or
 -- the setup is not one that a run can have.
 abbrev pub IsToldOf : Option Halt → RunError → Type 0
-IsToldOf (Some h) error = IsWhy error h
+IsToldOf (Some h) e = IsWhy e h
 IsToldOf None error.OutOfMemory = ⊤
 IsToldOf None error.BadSetup = ⊤
 IsToldOf None error.GateShut = ⊥

@@ -54,7 +54,7 @@ impl<'a> From<AllocError> for RunFailure<'a> {
     ghost use Rattle.std.specs.Prelude.{◌≡◌, None};
     ghost use Rattle.pm_threads.specs.declared.run.RunError.TheVariants.{OutOfMemory};
 
-    ghost from_gives = { λ _ failure. failure ≡ record { error = OutOfMemory; left = None } };
+    ghost from_gives = { λ _ failure. (failure.error ≡ OutOfMemory) × (failure.left ≡ None) };
 
     fn from(_: AllocError) -> RunFailure<'a> {
         RunFailure {
@@ -132,6 +132,8 @@ fn is_any_spent(disks: &[DiskEnd<'_, Unit>], pm: Option<Spent>, host: Option<Spe
 
 /// Why a run whose workers ended like this has not finished, or `None` if it has. Lack of memory is told
 /// before all else.
+// Inlined into `finished`, LLVM had not ended there after a quarter of an hour.
+#[inline(never)]
 fn cause(disks: &[DiskEnd<'_, Unit>], pm: &PmEnd<'_>, host: &HostEnd<'_>) -> Option<RunError>
     ensures why { IfSome result (λ error.
         IsWhy error (record { disks = disks.now; pm = pm.now; host = host.now })) }
@@ -144,13 +146,13 @@ fn cause(disks: &[DiskEnd<'_, Unit>], pm: &PmEnd<'_>, host: &HostEnd<'_>) -> Opt
     if any_shut(disks) {
         return Some(RunError::GateShut);
     }
-    if !host.worker.is_open() {
-        return None;
+    if host.worker.is_open() {
+        if is_any_spent(disks, pm.spent, host.spent) {
+            return Some(RunError::TurnsSpent);
+        }
+        return Some(RunError::OutOfMemory);
     }
-    if is_any_spent(disks, pm.spent, host.spent) {
-        return Some(RunError::TurnsSpent);
-    }
-    Some(RunError::OutOfMemory)
+    None
 }
 
 /// What is left of a run. It has finished if no worker ended by a fault and no request is open. Otherwise

@@ -2,7 +2,6 @@
 
 mod runs;
 mod setups;
-mod unfinished;
 
 use pm_threads::{Links, LinksError};
 use std::alloc::Global;

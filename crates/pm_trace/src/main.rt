@@ -1,9 +1,10 @@
 //! Reads a list of frames or a scenario from standard input and writes what they mean.
 //!
 //! `pm_trace decode` prints each frame in words, `pm_trace run` plays a scenario on a world of
-//! devices, a port multiplier and a host, and `pm_trace threads` runs each of these in a thread of
-//! its own. The input may also be a file that the command line names. Standard error says why an
-//! input or a command line is refused. The exit status says how a run ended.
+//! devices, a port multiplier and a host, `pm_trace threads` runs each of these in a thread of its
+//! own, and `pm_trace guest` plays the accesses of a driver to an AHCI controller. The input may also
+//! be a file that the command line names. Standard error says why an input or a command line is
+//! refused. The exit status says how a run ended.
 #![tactic(auto)]
 
 use std::alloc::Global;

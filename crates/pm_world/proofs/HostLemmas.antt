@@ -8,7 +8,6 @@ use Rattle.fis_view.specs.Seen.{seen}
 use Rattle.host_memory.specs.Memory.{is_memory_size}
 use Rattle.hba_fbs.specs.declared.report.TakeReport.{TakeReport}
 use Rattle.hba_fbs.specs.Taking.{port_of}
-use Rattle.disk_model.specs.declared.request.Command.{Command}
 use Rattle.disk_model.specs.Ends.{IsRight}
 use Rattle.disk_model.specs.Histories.{Happening, Plugged, Received, Sent}
 use Rattle.disk_model.specs.Ledger.{ledger}

@@ -1,5 +1,5 @@
 -- A read that is submitted in a run after the poll of a write brings the bytes of the write.
-use Rattle.std.proofs.Common.{◌≡◌, ◌-◌, ◌*◌, ◌+◌, ◌<◌, ◌≤◌, ℕ, zero, suc, true, List, [], ◌∷◌, ◌++◌, append_assoc, drop, length, length-append, refl, ap, subst, sym, ◌∙◌, arith, Some}
+use Rattle.std.proofs.Common.{◌≡◌, ◌-◌, ◌*◌, ◌+◌, ◌<◌, ◌≤◌, ℕ, zero, suc, true, List, [], ◌∷◌, ◌++◌, append_assoc, drop, length, length-append, refl, ap, subst, sym, ◌∙◌, arith}
 use Rattle.std.specs.Prelude.{slice_index}
 use Rattle.std.proofs.Math.Path.{path_j, subst_refl}
 use Rattle.std.specs.List.{flat_map, range_with_len}
@@ -13,18 +13,18 @@ use Rattle.hba_driver.specs.declared.mode.Mode.TheVariants.{Switching}
 use Rattle.hba_driver.specs.declared.request.Completion.{Completion}
 use Rattle.hba_driver.specs.declared.request.Request.{Request}
 use Rattle.hba_driver.specs.declared.request.Ticket.{Ticket}
-use Rattle.hba_driver.specs.declared.request.Work.TheVariants.{Read, Write}
+use Rattle.hba_driver.specs.declared.request.Work.TheVariants.{Read}
 use Rattle.hba_driver.specs.Drivers.{Entry}
 use Rattle.hba_driver.specs.Submits.{new_entry}
 use Rattle.pm_world.specs.Disks.{Before, DiskRun, EndedSince, Since, WasSubmitted, disk_history}
 use Rattle.pm_world.specs.InOrder.{IsLeftSince, ReadsFollowWrites, disk_run}
 use Rattle.pm_world.specs.Places.{Places, is_config, new_world}
-use Rattle.pm_world.specs.Polled.{IsPolledHonestly, IsReportedIn}
+use Rattle.pm_world.specs.Polled.{IsPolledHonestly}
 use Rattle.pm_world.specs.ReadBack.{IsOneByte, IsPart}
 use Rattle.pm_world.specs.Rules.{Run}
 use Rattle.pm_world.specs.Runs.{IsStepOf, Telling, over, world_before}
 use Rattle.pm_world.specs.Submitted.{StandsThere}
-use Rattle.pm_world.specs.Tickets.{AreCounted, KeepsTickets, given_by}
+use Rattle.pm_world.specs.Tickets.{AreCounted, given_by}
 use Rattle.pm_world.specs.Units.{happens}
 use Rattle.pm_world.specs.declared.step.Config.{Config}
 use Rattle.pm_world.specs.declared.step.Step.{Step}

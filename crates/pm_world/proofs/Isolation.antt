@@ -1,12 +1,13 @@
 -- Over every run each device is isolated.
 use Rattle.std.proofs.Common.{List, length}
 use Rattle.hba_laws.specs.Isolation.{AreOfDevices}
+use Rattle.hba_laws.proofs.AlikeLemmas.{histories_by_own}
 use Rattle.hba_laws.proofs.IsolationLemmas.{fold_of_own}
 use Rattle.hba_driver.specs.Events.{AreEvents, IsSoundHost, events_over, shared_by}
 use Rattle.hba_driver.specs.HostTurns.{DoesAll, Host, HostTurn}
 use Rattle.hba_driver.proofs.SoundLemmas.{hosts_stay_sound}
 use Rattle.hba_driver.proofs.TurnLemmas.{each_run_tells, turns_are_events}
-use Rattle.pm_world.specs.Isolation.{AreFoldsOfOwn, AreIsolated, Isolates}
+use Rattle.pm_world.specs.Isolation.{AreFoldsOfOwn, AreHistoriesOfOwn, AreIsolated, Isolates}
 use Rattle.pm_world.specs.Places.{Places, new_world_in, opening_host_in}
 use Rattle.pm_world.specs.Rules.{Run}
 use Rattle.pm_world.specs.Runs.{over}
@@ -21,8 +22,12 @@ module _ (old : Host) (turns : List HostTurn) (new : Host) (does : DoesAll old t
   folds e devices n below =
       fold_of_own n below (shared_by old) (shared_by new) (events_over old new turns does) (record { run = e.runs; hosts = e.sound.hosts; devices = devices })
 
+  histories : (e : AreEvents old new turns does) → AreOfDevices (shared_by old) (shared_by new) (events_over old new turns does) e.runs → AreHistoriesOfOwn old turns new does e
+  histories e devices n below past =
+      histories_by_own n below (shared_by old) (shared_by new) (events_over old new turns does) (record { run = e.runs; hosts = e.sound.hosts; devices = devices }) past
+
   are_isolated : IsSoundHost old → AreIsolated old turns new does
-  are_isolated sound = record { events = turns_are_events old new turns does sound; frames = each_run_tells old new turns does; fold = folds }
+  are_isolated sound = record { events = turns_are_events old new turns does sound; frames = each_run_tells old new turns does; fold = folds; bytes = histories }
 
 pub isolates : (old : Places) (steps : List Step) (answers : List Answer) (new : Places) (run : Run old steps answers new) → Isolates old steps answers new run
 isolates old steps answers new run = record {

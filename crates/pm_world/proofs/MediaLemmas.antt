@@ -1,5 +1,5 @@
 -- The medium of a disk in a world is that of the writes that ended.
-use Rattle.std.proofs.Common.{◌≡◌, ℕ, true, List, [], ◌++◌, length, refl, ap, subst, ◌∙◌, Option, Some, None}
+use Rattle.std.proofs.Common.{◌≡◌, ℕ, List, [], ◌++◌, refl, ap, subst, ◌∙◌, Option, Some, None}
 use Rattle.std.specs.Prelude.{IsSomeAnd, slice_get}
 use Rattle.disk_model.specs.declared.plan.DiskPlan.{DiskPlan}
 use Rattle.disk_model.specs.declared.unit.Unit.{Unit}
@@ -12,8 +12,8 @@ use Rattle.disk_model.specs.Units.{StandsFor, plan_of}
 use Rattle.disk_model.proofs.LawLemmas.{agrees}
 use Rattle.hba_driver.specs.declared.mode.Mode.TheVariants.{Switching}
 use Rattle.pm_world.specs.Disks.{IsNewDisk}
-use Rattle.pm_world.specs.Media.{HasMedium, MediaAreOfWrites, ShowsWrites}
-use Rattle.pm_world.specs.Places.{Place, Places, new_world}
+use Rattle.pm_world.specs.Media.{HasMedium, MediaAreOfWrites}
+use Rattle.pm_world.specs.Places.{Place, new_world}
 use Rattle.pm_world.specs.Runs.{over}
 use Rattle.pm_world.specs.Units.{LivesOn, happens}
 use Rattle.pm_world.proofs.DisksLemmas.{part_front}

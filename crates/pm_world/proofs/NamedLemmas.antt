@@ -1,14 +1,13 @@
 -- A request that is polled as failed by its device was named by the device's error log, in a tick of the run.
-use Rattle.std.proofs.Common.{◌≡◌, ◌⊎◌, ℕ, Bool, true, false, List, [], ◌∷◌, ◌++◌, drop, length, map, refl, sym, ap, subst, ◌∙◌, inl, inr, Some, Ok}
+use Rattle.std.proofs.Common.{◌≡◌, ◌⊎◌, ℕ, true, false, List, [], ◌∷◌, drop, length, map, refl, sym, ap, subst, ◌∙◌, inl, inr, Some}
 use Rattle.fis_view.specs.Frames.{Stamped}
 use Rattle.disk_model.specs.declared.unit.Unit.{Unit}
-use Rattle.hba_driver.specs.declared.request.Completion.{Completion}
 use Rattle.hba_driver.specs.declared.request.Outcome.{Outcome}
 use Rattle.hba_driver.specs.declared.request.Outcome.TheVariants.{DeviceError}
 use Rattle.hba_driver.specs.declared.slot.Phase.{Phase}
 use Rattle.hba_driver.specs.declared.slot.Phase.TheVariants.{Waits, Issued, Aside, Ended}
 use Rattle.hba_driver.specs.Drivers.{Driver, Entry, entry_at, has_ended_in}
-use Rattle.hba_driver.specs.HostTurns.{DoesAll, Host, HostTurn, Polled, Pushed, Put, Submitted, Ticked, Ticks, Took, sight_in}
+use Rattle.hba_driver.specs.HostTurns.{DoesAll, Host, HostTurn, Polled, Pushed, Put, Submitted, Ticked, Took, sight_in}
 use Rattle.hba_driver.specs.Laws.{Goes}
 use Rattle.hba_driver.specs.Sights.{file_shown}
 use Rattle.hba_driver.proofs.AcceptLemmas as accept
@@ -16,10 +15,9 @@ use Rattle.hba_driver.proofs.ComeLemmas.{Fresh, Stood, comes_from, ticks}
 use Rattle.hba_driver.proofs.FaultLemmas.{errors_are_named}
 use Rattle.hba_driver.proofs.HistoryLemmas.{PollFacts, poll_facts}
 use Rattle.pm_world.specs.Named.{IsNamedIn, PolledErrorsAreNamed}
-use Rattle.pm_world.specs.Places.{Places, is_config, new_world}
-use Rattle.pm_world.specs.Rules.{Rule, Run}
+use Rattle.pm_world.specs.Places.{Places, new_world}
+use Rattle.pm_world.specs.Rules.{Run}
 use Rattle.pm_world.specs.Turns.{turn_of}
-use Rattle.pm_world.specs.declared.step.Config.{Config}
 use Rattle.pm_world.specs.declared.step.Step.{Step}
 use Rattle.pm_world.specs.declared.step.Step.TheVariants as step
 use Rattle.pm_world.specs.declared.step.Answer.{Answer}

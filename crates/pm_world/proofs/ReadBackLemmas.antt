@@ -1,9 +1,7 @@
 -- A read that was submitted once a write had ended brings its bytes, and they stay on the medium.
-use Rattle.std.proofs.Common.{◌≡◌, ◌*◌, ℕ, zero, suc, ◌+◌, ◌-◌, ◌<◌, ◌≤◌, true, List, [], ◌∷◌, ◌++◌, All, append_assoc, drop, length, length-append, take, refl, ap, subst, sym, ◌∙◌, arith}
+use Rattle.std.proofs.Common.{◌≡◌, ◌*◌, ℕ, zero, suc, ◌+◌, ◌<◌, List, [], ◌∷◌, ◌++◌, All, append_assoc, drop, length, take, refl, ap, subst, sym, ◌∙◌, arith}
 use Rattle.std.proofs.Common.{Option, Some, None}
-use Rattle.std.specs.Prelude.{IsSomeAnd, MatchOption, slice_get, slice_index}
-use Rattle.std.proofs.lemmas.Option.{slice_get_within}
-use Rattle.host_memory.specs.Memory.{Memory, client_start}
+use Rattle.std.specs.Prelude.{IsSomeAnd, MatchOption, slice_get}
 use Rattle.host_memory.specs.Place.{place}
 use Rattle.disk_model.specs.declared.plan.DiskPlan.{DiskPlan}
 use Rattle.disk_model.specs.declared.unit.Unit.{Unit}
@@ -22,19 +20,15 @@ use Rattle.pm_world.proofs.DisksLemmas.{part_front}
 use Rattle.hba_laws.specs.Client.{own}
 use Rattle.hba_laws.specs.History.{filled}
 use Rattle.hba_driver.specs.declared.mode.Mode.TheVariants.{Switching}
-use Rattle.hba_driver.specs.declared.request.Work.TheVariants.{Read, Write}
-use Rattle.hba_driver.specs.Drivers.{Entry}
-use Rattle.pm_world.specs.Disks.{DiskRun, EndedSince, IsNewDisk, disk_history}
+use Rattle.pm_world.specs.Disks.{disk_history}
 use Rattle.pm_world.specs.Ended.{ReadsSectors, StandsAt, WritesSectors}
-use Rattle.pm_world.specs.Places.{Place, Places, is_config}
-use Rattle.pm_world.specs.Rules.{Run}
+use Rattle.pm_world.specs.Places.{Place}
 use Rattle.pm_world.specs.Runs.{over}
 use Rattle.pm_world.specs.Units.{LivesOn, happens}
 use Rattle.pm_world.specs.declared.step.Answer.TheVariants as answer
 use Rattle.pm_world.specs.declared.step.Step.TheVariants as step
 use Rattle.pm_world.proofs.Units.{units_live_on, units_lived_on}
-use Rattle.pm_world.specs.ReadBack.{DisksHaveWrites, IsOneByte, IsPart, ReadsBringWrites, Shows, WritesStayThere}
-use Rattle.pm_world.specs.declared.step.Config.{Config}
+use Rattle.pm_world.specs.ReadBack.{DisksHaveWrites, ReadsBringWrites, Shows, WritesStayThere}
 use Rattle.pm_world.proofs.HonestRuns.{disk_runs}
 
 -- ## Lists

@@ -1,3 +1,1 @@
-pub mod Agendas
-pub mod Statuses
-pub mod Text
+pub use Rattle.trace_text.specs.Statuses

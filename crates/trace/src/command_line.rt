@@ -1,14 +1,13 @@
 //! The words that the program is called with.
 
-ghost use Rattle.std.specs.Prelude.{◌≤◌};
-
-use crate::scenario::value_within;
 use clap::error::ErrorKind;
 use clap::{Arg, ArgAction, ArgMatches, Command, Error};
 use pm_threads::MAX_TURNS;
 use std::alloc::{AllocError, Global};
 use std::convert::AsStr;
 use std::fmt;
+use trace_run::{Turns, Watch};
+use trace_text::value_within;
 
 /// What the program is asked to do.
 #[derive(Clone, Copy, Debug, PartialEq, Eq)]
@@ -28,70 +27,8 @@ pub enum Task {
     Decode,
     /// Play the scenario of the input, one step at a time, and write this much of what moves.
     Run(Watch),
-}
-
-/// What is written of the steps of a run.
-#[derive(Clone, Copy, Debug, PartialEq, Eq)]
-pub struct Watch {
-    /// Whether anything is.
-    pub is_on: bool,
-    /// The port whose steps are, 15 for the control port; None where those of all are.
-    pub port: Option<u8>,
-    /// Whether only faults, drops and removals are.
-    pub is_faults: bool,
-    /// The number of the first step that is.
-    pub from: u64,
-    /// Whether all output is JSON, an object a line.
-    pub is_json: bool,
-}
-
-impl Watch {
-    /// The steps that the words after `run` ask for.
-    fn of(given: &ArgMatches<'_>) -> Result<Watch, Misuse> {
-        let is_json = given.get_flag("json");
-        let mut watch = Watch {
-            is_on: given.get_flag("trace") || is_json,
-            port: None,
-            is_faults: false,
-            from: 1,
-            is_json,
-        };
-        for only in given.get_strs("only").unwrap_or(&[]) {
-            watch.narrow(only)?;
-        }
-        if let Some(text) = given.get_str("from") {
-            watch.is_on = true;
-            watch.from = match value_within(text.as_bytes(), 10, 0, u64::MAX) {
-                Ok(from) => from,
-                Err(_) => return Err(Misuse::From),
-            };
-        }
-        Ok(watch)
-    }
-
-    /// Only those that one more `--only` names.
-    fn narrow(&mut self, only: &str) -> Result<(), Misuse> {
-        self.is_on = true;
-        if only == "faults" {
-            self.is_faults = true;
-            return Ok(());
-        }
-        let Some(port) = only.strip_prefix("port=") else {
-            return Err(Misuse::Only);
-        };
-        match value_within(port.as_bytes(), 10, 0, 15) {
-            Ok(port) => self.port = Some(port as u8),
-            Err(_) => return Err(Misuse::Only),
-        }
-        Ok(())
-    }
-}
-
-/// In how many turns in a row of a worker nothing may move.
-#[derive(Clone, Copy, Debug, PartialEq, Eq)]
-pub struct Turns {
-    pub count: u64,
-    pub ghost has_count: { (1 ≤ count) × (count ≤ 16777216) },
+    /// Play the accesses of the input, and write what moves if this is true.
+    Guest(bool),
 }
 
 /// What the words after the program's name ask for, and where the input comes from: a file, or
@@ -149,22 +86,6 @@ impl From<AllocError> for Misuse {
     }
 }
 
-impl Turns {
-    /// The turns of a run for which the command line gives none.
-    const MOST: Turns = Turns { count: MAX_TURNS };
-
-    /// The turns that the words after `threads` ask for.
-    fn of(given: &ArgMatches<'_>) -> Result<Turns, Misuse> {
-        let Some(text) = given.get_str("turns") else {
-            return Ok(Turns::MOST);
-        };
-        match value_within(text.as_bytes(), 10, 1, MAX_TURNS) {
-            Ok(count) => Ok(Turns { count }),
-            Err(_) => Err(Misuse::Turns),
-        }
-    }
-}
-
 impl<'a> Call<'a> {
     /// What the words after the program's name ask for. No word at all asks for help.
     pub fn of<S: AsStr>(alloc: Global, words: &'a [S]) -> Result<Call<'a>, Misuse> {
@@ -183,8 +104,9 @@ impl<'a> Call<'a> {
         }
         let mode = match name {
             "decode" => Mode::Alone(Task::Decode),
-            "run" => Mode::Alone(Task::Run(Watch::of(given)?)),
-            _ => Mode::Threads(Turns::of(given)?),
+            "run" => Mode::Alone(Task::Run(watch_of(given)?)),
+            "guest" => Mode::Alone(Task::Guest(given.get_flag("trace"))),
+            _ => Mode::Threads(turns_of(given)?),
         };
         let file = given.get_str("file");
         Ok(Call { mode, file })
@@ -195,6 +117,57 @@ impl<'a> Call<'a> {
             mode: Mode::Help,
             file: None,
         }
+    }
+}
+
+/// The steps that the words after `run` ask for.
+fn watch_of(given: &ArgMatches<'_>) -> Result<Watch, Misuse> {
+    let is_json = given.get_flag("json");
+    let mut watch = Watch {
+        is_on: given.get_flag("trace") || is_json,
+        port: None,
+        is_faults: false,
+        from: 1,
+        is_json,
+    };
+    for only in given.get_strs("only").unwrap_or(&[]) {
+        narrow(&mut watch, only)?;
+    }
+    if let Some(text) = given.get_str("from") {
+        watch.is_on = true;
+        watch.from = match value_within(text.as_bytes(), 10, 0, u64::MAX) {
+            Ok(from) => from,
+            Err(_) => return Err(Misuse::From),
+        };
+    }
+    Ok(watch)
+}
+
+/// Only those that one more `--only` names.
+fn narrow(watch: &mut Watch, only: &str) -> Result<(), Misuse> {
+    watch.is_on = true;
+    if only == "faults" {
+        watch.is_faults = true;
+        return Ok(());
+    }
+    let Some(port) = only.strip_prefix("port=") else {
+        return Err(Misuse::Only);
+    };
+    match value_within(port.as_bytes(), 10, 0, 15) {
+        Ok(port) => watch.port = Some(port as u8),
+        Err(_) => return Err(Misuse::Only),
+    }
+    Ok(())
+}
+
+/// The turns that the words after `threads` ask for.
+fn turns_of(given: &ArgMatches<'_>) -> Result<Turns, Misuse> {
+    let Some(text) = given.get_str("turns") else {
+        return Ok(Turns::MOST);
+    };
+    match value_within(text.as_bytes(), 10, 1, MAX_TURNS) {
+        Ok(count) => Ok(Turns { count }),
+        Err(_) => Err(Misuse::Turns),
     }
 }
 
@@ -210,6 +183,7 @@ fn command<'a>(alloc: Global) -> Result<Command<'a>, Error> {
         .arg(help(alloc))?
         .subcommand(mode_words(alloc, "decode")?)?
         .subcommand(run_words(alloc)?)?
+        .subcommand(mode_words(alloc, "guest")?.arg(flag(alloc, "trace"))?)?
         .subcommand(mode_words(alloc, "threads")?.arg(turns)?)?;
     Ok(command)
 }

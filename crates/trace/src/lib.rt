@@ -1,23 +1,15 @@
 //! What a list of frames or a scenario means, line by line, from a reader to a writer.
 //!
 //! [`serve`] does what the words of a command line ask for. `decode` prints each frame in words,
-//! `run` plays a scenario on a world of devices, a port multiplier and a host, and `threads` runs
-//! each of these in a thread of its own. Its result is the exit status, which says how a run ended.
+//! `run` plays a scenario on a world of devices, a port multiplier and a host, `threads` runs each of
+//! these in a thread of its own, and `guest` plays the accesses of a driver to an AHCI controller. Its
+//! result is the exit status, which says how a run ended.
 //! [`refuse`] gives the exit status of a run that cannot begin.
 #![tactic(auto)]
 
 mod command_line;
-mod decode;
-mod failure;
 mod help;
-mod hex_text;
-mod input;
-mod note;
 mod program;
-mod scenario;
-mod wanted;
 
-pub use failure::{Failure, Refusal};
-pub use input::{LONGEST_INPUT, LONGEST_LINE};
 pub use program::{refuse, serve};
-pub use wanted::{Keyword, Quantity, Wanted};
+pub use trace_text::{Failure, LONGEST_INPUT};

@@ -1,15 +1,10 @@
 //! The program between its command line, its input and its output.
 
 ghost use Rattle.std.specs.Prelude.{◌≡◌, ◌≤◌, ◌⊎◌, IfErr};
-ghost use Rattle.trace.specs.Statuses.{status_of};
+ghost use Rattle.trace_text.specs.Statuses.{status_of};
 
-use crate::command_line::{Call, Misuse, Mode, Task, Turns};
-use crate::decode::decode;
-use crate::failure::Failure;
+use crate::command_line::{Call, Misuse, Mode, Task};
 use crate::help::HELP;
-use crate::input::read_input;
-use crate::note::{Note, Shown};
-use crate::scenario;
 use std::alloc::{AllocError, Global};
 use std::convert::AsStr;
 use std::fmt::Display;
@@ -18,6 +13,9 @@ use std::rt::Files;
 use std::sync::Wait;
 use std::thread::Threads;
 use std::{fmt, fs};
+use trace_guest::play_guest;
+use trace_run::{Turns, play_steps, play_threads};
+use trace_text::{Failure, Note, Shown, decode, read_input};
 
 /// Does what the words after the program's name ask for, and gives the exit status: 0 done, 1 the
 /// input is refused, 2 the command line is refused, 3 memory was refused, 4 a read or a write failed,
@@ -186,7 +184,8 @@ fn play<E: Eprint, W: Write>(
 ) -> Result<(), Failure> {
     match task {
         Task::Decode => decode(errors, alloc, input, out),
-        Task::Run(watch) => scenario::play(errors, alloc, watch, input, out),
+        Task::Run(watch) => play_steps(errors, alloc, watch, input, out),
+        Task::Guest(is_traced) => play_guest(errors, alloc, is_traced, input, out),
     }
 }
 
@@ -209,7 +208,7 @@ fn work_in_threads<H: Threads + Wait + Sync + Files + Eprint, R: Read + Drop, W:
         Ok(input) => input,
         Err(failure) => return close(out, Err(failure)),
     };
-    match scenario::play_threads(rt, alloc, turns, &input, &mut out) {
+    match play_threads(rt, alloc, turns, &input, &mut out) {
         Ok(ending) => match close(out, Ok(())) {
             0 => ending.status(),
             status => status,

@@ -1,4 +1,4 @@
-//! The declarations of `include/gefsunk.h`, one for one.
+//! The declarations of `include/gefsunk.h`, one for one, but for those of the controller.
 
 use core::ffi::{c_char, c_int, c_void};
 

@@ -2,10 +2,22 @@ use Rattle.ahci_laws.specs.Accesses.{host_of}
 use Rattle.ahci_laws.proofs.laws.accesses_isolate.Goals as goal
 
 pub returns-clause-fold : goal.returns-clause-fold
-returns-clause-fold c = λ old new are hosts devices n below.
-    c.isolated.ensures.fold n below (host_of old) (host_of new) are.events (record { run = are.run; hosts = hosts; devices = devices })
+returns-clause-fold g c = λ old new accesses at serves running.
+    let are = c.accesses_are_events.ensures.events old new accesses at serves in
+    record {
+      events = are.events;
+      each = are.each;
+      run = are.run;
+      fold = λ hosts n below. c.isolated.ensures.fold n below (host_of old) (host_of new) are.events (record { run = are.run; hosts = hosts; devices = are.devices running });
+    }
 
 pub returns-clause-done : goal.returns-clause-done
-returns-clause-done c = λ old middle new are sound frame took past is history takes.
-    c.delivers.ensures.done (host_of old) (host_of middle) (host_of new) are.events are.run sound frame took.report past is history
-    (record { ignored = takes.port.ignored; heard = takes.port.heard })
+returns-clause-done g c = λ old new last accesses at serves frame took past is history takes.
+    let are = c.accesses_are_events.ensures.events old new accesses at serves in
+    record {
+      events = are.events;
+      each = are.each;
+      run = are.run;
+      done = λ sound. c.delivers.ensures.done (host_of old) (host_of new) (host_of last) are.events are.run sound frame took.report past is history
+          (record { ignored = takes.port.ignored; heard = takes.port.heard });
+    }

@@ -7,7 +7,7 @@ use Rattle.host_thread.specs.Runs.{is_open}
 use Rattle.host_thread.specs.declared.end.HostEnd.{HostEnd}
 use Rattle.pm_thread.specs.declared.end.PmEnd.{PmEnd}
 use Rattle.runner.specs.declared.worker.Fault.{Fault}
-use Rattle.pm_threads.specs.Halts.{Halt, IsOpen, is_any_short, is_short, is_shut}
+use Rattle.pm_threads.specs.Halts.{IsOpen, is_any_short, is_shut}
 use Rattle.pm_threads.proofs.Ends.{all_quiet, first_false}
 use Rattle.pm_threads.proofs.run.cause.Goals as goal
 
@@ -22,21 +22,32 @@ open_ends : (disks : List (DiskEnd Unit)) (pm : PmEnd) (host : HostEnd) → is_a
 open_ends disks pm host short shut is =
     record { memory = short; quiet = quiet disks pm.fault host.fault short shut; open_is = is }
 
-pub returns-then-not-is_open-clause-quiet : goal.returns-then-not-is_open-clause-quiet
-returns-then-not-is_open-clause-quiet c =
-    quiet c.args.disks.now c.args.pm.now.fault c.args.host.now.fault (sym c.is_any_short.ensures ∙ c.if-is_any_short.false)
-    (sym c.any_shut.ensures ∙ c.if-any_shut.false)
-
 pub returns-then-is_any_spent-clause-why : goal.returns-then-is_any_spent-clause-why
-returns-then-is_any_spent-clause-why c = (
-  open_ends c.args.disks.now c.args.pm.now c.args.host.now (sym c.is_any_short.ensures ∙ c.if-is_any_short.false)
-      (sym c.any_shut.ensures ∙ c.if-any_shut.false) (sym c.if-not-is_open.ensures),
-  sym c.is_any_spent.ensures ∙ c.if-is_any_spent.true,
-)
+returns-then-is_any_spent-clause-why c =
+    let not_short : c.is_any_short.result ≡ false = search rules in
+    let not_shut : c.any_shut.result ≡ false = search rules in
+    let is : c.is_open.result ≡ true = search rules in
+    let spent : c.is_any_spent.result ≡ true = search rules in (
+      open_ends c.args.disks.now c.args.pm.now c.args.host.now (sym c.is_any_short.ensures ∙ not_short)
+          (sym c.any_shut.ensures ∙ not_shut) (sym c.is_open.ensures ∙ is),
+      sym c.is_any_spent.ensures ∙ spent,
+    )
 
-pub returns-clause-why : goal.returns-clause-why
-returns-clause-why c = inr (
-  open_ends c.args.disks.now c.args.pm.now c.args.host.now (sym c.is_any_short.ensures ∙ c.if-is_any_short.false)
-      (sym c.any_shut.ensures ∙ c.if-any_shut.false) (sym c.if-not-is_open.ensures),
-  sym c.is_any_spent.ensures ∙ c.if-is_any_spent.false,
-)
+pub returns-then-is_open-clause-why : goal.returns-then-is_open-clause-why
+returns-then-is_open-clause-why c =
+    let not_short : c.is_any_short.result ≡ false = search rules in
+    let not_shut : c.any_shut.result ≡ false = search rules in
+    let is : c.is_open.result ≡ true = search rules in
+    let not_spent : c.is_any_spent.result ≡ false = search rules in
+    inr (
+      open_ends c.args.disks.now c.args.pm.now c.args.host.now (sym c.is_any_short.ensures ∙ not_short)
+          (sym c.any_shut.ensures ∙ not_shut) (sym c.is_open.ensures ∙ is),
+      sym c.is_any_spent.ensures ∙ not_spent,
+    )
+
+pub returns-clause-quiet : goal.returns-clause-quiet
+returns-clause-quiet c =
+    let not_short : c.is_any_short.result ≡ false = search rules in
+    let not_shut : c.any_shut.result ≡ false = search rules in
+    quiet c.args.disks.now c.args.pm.now.fault c.args.host.now.fault (sym c.is_any_short.ensures ∙ not_short)
+    (sym c.any_shut.ensures ∙ not_shut)

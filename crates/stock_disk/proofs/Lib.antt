@@ -1,0 +1,4 @@
+pub mod HistoryLemmas
+pub mod RunLemmas
+pub mod ModeLemmas
+pub mod BareLemmas

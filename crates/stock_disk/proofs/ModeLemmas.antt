@@ -1,0 +1,145 @@
+-- The error mode lasts until it is ended.
+use Rattle.std.proofs.Common.{rules, ◌≡◌, ◌==◌, ◌/◌, ◌%◌, ℕ, Bool, true, false, List, [], ◌∷◌, Option, Some, None, Result, Ok, Err, refl, ap, ◌∙◌}
+use Rattle.fis_view.specs.Seen.{seen}
+use Rattle.fis_view.specs.Table.{H2d, C, Control, field}
+use Rattle.fis_view.specs.declared.view.Fis.{Fis}
+use Rattle.fis_view.specs.declared.view.Fis.TheVariants as view
+use Rattle.fis_view.specs.declared.view.FisFault.{FisFault}
+use Rattle.disk_model.specs.Ends.{reports}
+use Rattle.disk_model.specs.Histories.{Happening, Received, Sent, Plugged}
+use Rattle.stock_disk.specs.declared.front.Front.{Front}
+use Rattle.stock_disk.specs.declared.front.Own.{Own}
+use Rattle.stock_disk.specs.declared.front.Own.TheVariants.{Aborted}
+use Rattle.stock_disk.specs.Faces.{after_sent, front_after, front_at}
+use Rattle.stock_disk.specs.Fronts.{asks_log, ended, heard, hears, named, own_to, passed, told}
+use Rattle.stock_disk.specs.Laws.{ErrorsAbort, NoneEndsMode, ends_mode}
+
+-- a command is aborted in the error mode
+pub aborts : (front : Front) (f : List ℕ) → front.on ≡ true → front.failed ≡ true → (field H2d C f == 1) ≡ true → asks_log f ≡ false
+    → own_to front (Ok (view.RegH2D f)) ≡ Some Aborted
+aborts front f on failed command other = rw (on, command, failed, other) refl
+
+register_keeps : (front : Front) (f : List ℕ) (c : Bool) → front.on ≡ true → front.failed ≡ true → (field H2d C f == 1) ≡ c
+    → ends_mode (Ok (view.RegH2D f)) ≡ false → (heard front (Ok (view.RegH2D f))).failed ≡ true
+register_keeps front f true on failed is goes =
+    let other : asks_log f ≡ false = rw is at goes in
+    let own : own_to front (Ok (view.RegH2D f)) ≡ Some Aborted = aborts front f on failed is other in
+    ap (λ (o : Option Own). (hears front (Ok (view.RegH2D f)) o).failed) own ∙ failed
+register_keeps front f false on failed is goes =
+    let clear : (field H2d Control f / 4 % 2 == 1) ≡ false = rw is at goes in
+    let own : own_to front (Ok (view.RegH2D f)) ≡ None = rw (on, is) refl in
+    let now : (passed front (Ok (view.RegH2D f))).failed ≡ true = rw (is, clear) failed in
+    ap (λ (o : Option Own). (hears front (Ok (view.RegH2D f)) o).failed) own ∙ now
+
+hears_keeps : (front : Front) (fis : Result Fis FisFault) → front.on ≡ true → front.failed ≡ true → ends_mode fis ≡ false
+    → (heard front fis).failed ≡ true
+hears_keeps front (Ok (view.RegH2D f)) on failed goes =
+    register_keeps front f (field H2d C f == 1) on failed refl goes
+hears_keeps front (Ok (view.RegD2H f)) on failed goes = failed
+hears_keeps front (Ok (view.SetBits f)) on failed goes = failed
+hears_keeps front (Ok (view.DmaActivate f)) on failed goes = failed
+hears_keeps front (Ok (view.DmaSetup f)) on failed goes = failed
+hears_keeps front (Ok (view.PioSetup f)) on failed goes = failed
+hears_keeps front (Ok (view.Payload f)) on failed goes = failed
+hears_keeps front (Ok (view.Unknown f)) on failed goes = failed
+hears_keeps front (Err e) on failed goes = failed
+
+ended_keeps : (front : Front) (f : List ℕ) → front.failed ≡ true → (ended front f).failed ≡ true
+ended_keeps front f failed = search (rules, failed)
+
+named_keeps : (front : Front) (f : List ℕ) → front.failed ≡ true → (named front f).failed ≡ true
+named_keeps front f failed = search (rules, failed)
+
+told_keeps : (front : Front) (fis : Result Fis FisFault) → front.failed ≡ true → (told front fis).failed ≡ true
+told_keeps front (Ok (view.RegD2H f)) failed = ended_keeps front f failed
+told_keeps front (Ok (view.SetBits f)) failed = named_keeps front f failed
+told_keeps front (Ok (view.RegH2D f)) failed = failed
+told_keeps front (Ok (view.DmaActivate f)) failed = failed
+told_keeps front (Ok (view.DmaSetup f)) failed = failed
+told_keeps front (Ok (view.PioSetup f)) failed = failed
+told_keeps front (Ok (view.Payload f)) failed = failed
+told_keeps front (Ok (view.Unknown f)) failed = failed
+told_keeps front (Err e) failed = failed
+
+sent_keeps : (front : Front) (owed : Option Own) (bytes : List ℕ) → front.failed ≡ true
+    → (after_sent front owed bytes).failed ≡ true
+sent_keeps front None bytes failed = told_keeps front (seen bytes) failed
+sent_keeps front (Some own) bytes failed = failed
+
+passed_on : (front : Front) (fis : Result Fis FisFault) → (passed front fis).on ≡ front.on
+passed_on front (Ok (view.RegH2D f)) = search rules
+passed_on front (Ok (view.RegD2H f)) = refl
+passed_on front (Ok (view.SetBits f)) = refl
+passed_on front (Ok (view.DmaActivate f)) = refl
+passed_on front (Ok (view.DmaSetup f)) = refl
+passed_on front (Ok (view.PioSetup f)) = refl
+passed_on front (Ok (view.Payload f)) = refl
+passed_on front (Ok (view.Unknown f)) = refl
+passed_on front (Err e) = refl
+
+hears_on : (front : Front) (fis : Result Fis FisFault) (own : Option Own) → (hears front fis own).on ≡ front.on
+hears_on front fis None = passed_on front fis
+hears_on front fis (Some own) = refl
+
+told_on : (front : Front) (fis : Result Fis FisFault) → (told front fis).on ≡ front.on
+told_on front (Ok (view.RegD2H f)) = search rules
+told_on front (Ok (view.SetBits f)) = search rules
+told_on front (Ok (view.RegH2D f)) = refl
+told_on front (Ok (view.DmaActivate f)) = refl
+told_on front (Ok (view.DmaSetup f)) = refl
+told_on front (Ok (view.PioSetup f)) = refl
+told_on front (Ok (view.Payload f)) = refl
+told_on front (Ok (view.Unknown f)) = refl
+told_on front (Err e) = refl
+
+sent_on : (front : Front) (owed : Option Own) (bytes : List ℕ) → (after_sent front owed bytes).on ≡ front.on
+sent_on front None bytes = told_on front (seen bytes)
+sent_on front (Some own) bytes = refl
+
+-- whether the front answers at all stays
+pub after_on : (front : Front) (e : Happening) → (front_after front e).on ≡ front.on
+after_on front (Received bytes) = hears_on front (seen bytes) (own_to front (seen bytes))
+after_on front (Sent bytes) = sent_on front front.owed bytes
+after_on front Plugged = refl
+
+-- the front answers, and is in the error mode
+pub record Refuses (front : Front) : Type 0 where
+  pub on : front.on ≡ true
+  pub failed : front.failed ≡ true
+
+stays_failed : (front : Front) (h : List Happening) → Refuses front → NoneEndsMode h → Refuses (front_at front h)
+unfolding front_at NoneEndsMode
+stays_failed front [] now none = now
+stays_failed front (Received bytes ∷ h) now none =
+    stays_failed (front_after front (Received bytes)) h (record {
+      on = after_on front (Received bytes) ∙ now.on;
+      failed = hears_keeps front (seen bytes) now.on now.failed none.0;
+    }) none.1
+stays_failed front (Sent bytes ∷ h) now none =
+    stays_failed (front_after front (Sent bytes)) h (record {
+      on = after_on front (Sent bytes) ∙ now.on;
+      failed = sent_keeps front front.owed bytes now.failed;
+    }) none
+stays_failed front (Plugged ∷ h) now none = absurd none
+
+reports_fails : (front : Front) (fis : Result Fis FisFault) → reports fis ≡ true → (told front fis).failed ≡ true
+reports_fails front (Ok (view.SetBits f)) is = rw is refl
+reports_fails front (Ok (view.RegD2H f)) is = search (rules, is)
+reports_fails front (Ok (view.RegH2D f)) is = search (rules, is)
+reports_fails front (Ok (view.DmaActivate f)) is = search (rules, is)
+reports_fails front (Ok (view.DmaSetup f)) is = search (rules, is)
+reports_fails front (Ok (view.PioSetup f)) is = search (rules, is)
+reports_fails front (Ok (view.Payload f)) is = search (rules, is)
+reports_fails front (Ok (view.Unknown f)) is = search (rules, is)
+reports_fails front (Err e) is = search (rules, is)
+
+pub errors_abort : ErrorsAbort
+unfolding front_at
+errors_abort front error between f on quiet is none command other =
+    let first : Refuses (front_after front (Sent error)) = record {
+      on = after_on front (Sent error) ∙ on;
+      failed = ap (λ (o : Option Own). (after_sent front o error).failed) quiet
+          ∙ reports_fails front (seen error) is;
+    } in
+    let now = stays_failed (front_after front (Sent error)) between first none in
+    aborts (front_at (front_after front (Sent error)) between) f now.on now.failed command other

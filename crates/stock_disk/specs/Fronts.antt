@@ -1,0 +1,180 @@
+-- What the front of a disk knows from the FISes on its link, and what it answers by itself (ACS-3, STANDBY
+-- IMMEDIATE, IDLE IMMEDIATE, STANDBY, IDLE, CHECK POWER MODE, SLEEP, FLUSH CACHE, SET FEATURES, READ LOG EXT;
+-- Serial ATA 3.x, 13.6, native command queuing). What the host's registers tell of a disk is kept: BSY, which
+-- a command sets and its answer clears, and SActive, a bit for each tag.
+use Rattle.std.specs.Prelude.{ℕ, ◌-◌, ◌/◌, ◌%◌, ◌^◌, ◌==◌, ◌&&◌, ◌||◌, nat_le, bit_and, bit_or, Bool, true}
+use Rattle.std.specs.Prelude.{false, not, List, if◌then◌else◌, Option, Some, None, Result, Ok}
+use Rattle.fis_view.specs.Table.{H2d, D2h, Bits, C, Command, Features, Count, Control, Status, SActive}
+use Rattle.fis_view.specs.Table.{field}
+use Rattle.fis_view.specs.declared.view.Fis.{Fis}
+use Rattle.fis_view.specs.declared.view.Fis.TheVariants as view
+use Rattle.fis_view.specs.declared.view.FisFault.{FisFault}
+use Rattle.disk_model.specs.declared.plan.DiskPlan.{DiskPlan}
+use Rattle.disk_model.specs.declared.plan.Profile.{Profile}
+use Rattle.disk_model.specs.declared.plan.Profile.TheVariants.{Bare, Stock}
+use Rattle.disk_model.specs.Requests.{names_error_log}
+use Rattle.disk_model.specs.Sendings.{Sending, Register}
+use Rattle.stock_disk.specs.declared.front.Front.{Front}
+use Rattle.stock_disk.specs.declared.front.Own.{Own}
+use Rattle.stock_disk.specs.declared.front.Own.TheVariants.{Done, Active, Aborted}
+
+-- ## What the front answers
+
+-- a Register Device to Host FIS with I; LBA and Device are 0
+abbrev pub answer_with : (status error count : ℕ) → Sending
+answer_with status error count = Register (record {
+  pm_port = 0;
+  i = true;
+  status = status;
+  error = error;
+  lba = 0;
+  device = 0;
+  count = count;
+})
+
+-- Count FFh says that the disk is active or idle (ACS-3, CHECK POWER MODE). 51h and 04h are ERR and ABRT.
+abbrev pub own_sent : Own → Sending
+own_sent Done = answer_with 0x50 0 0
+own_sent Active = answer_with 0x50 0 0xFF
+own_sent Aborted = answer_with 0x51 4 0
+
+-- the number is from this one to that one
+abbrev pub is_from : (low high n : ℕ) → Bool
+is_from low high n = nat_le low n && nat_le n high
+
+-- a mode of transfer: PIO with and without IORDY, multiword DMA, Ultra DMA (ACS-3, SET FEATURES, 03h)
+abbrev pub is_mode : ℕ → Bool
+is_mode n = nat_le n 0x01 || is_from 0x08 0x0C n || is_from 0x20 0x22 n || is_from 0x40 0x46 n
+
+-- What SET FEATURES asks for, by the low bytes of Features and Count: a mode of transfer; the write cache on
+-- or off; read look-ahead on or off; what a reset does to settings; and DMA Setup auto-activate on or off,
+-- which has to be what the disk does.
+abbrev pub has_feature : (auto : Bool) (feature count : ℕ) → Bool
+has_feature auto feature count =
+    (if feature == 0x03 then is_mode count
+    else (if feature == 0x10 then auto && (count == 2)
+    else (if feature == 0x90 then not auto && (count == 2)
+    else (feature == 0x02) || (feature == 0x82) || (feature == 0xAA) || (feature == 0x55) || (feature == 0x66)
+    || (feature == 0xCC))))
+
+-- STANDBY IMMEDIATE, IDLE IMMEDIATE, STANDBY, IDLE, SLEEP and FLUSH CACHE
+abbrev pub is_done : ℕ → Bool
+is_done code = is_from 0xE0 0xE3 code || (code == 0xE6) || (code == 0xE7)
+
+-- the answer to a command that moves no data; none to any other
+abbrev pub done_for : (auto : Bool) → List ℕ → Option Own
+done_for auto f =
+    (if is_done (field H2d Command f) then Some Done
+    else (if field H2d Command f == 0xE5 then Some Active
+    else (if not (field H2d Command f == 0xEF) then None
+    else Some (if has_feature auto (field H2d Features f % 256) (field H2d Count f % 256) then Done
+    else Aborted))))
+
+-- READ LOG EXT of the first page of the NCQ Command Error log
+abbrev pub asks_log : List ℕ → Bool
+asks_log f = (field H2d Command f == 0x2F) && names_error_log f
+
+-- nothing was asked of the disk that it has not answered
+abbrev pub is_idle : Front → Bool
+is_idle front = not front.busy && (front.outstanding == 0)
+
+-- After an error each command but the read of the log is aborted. Else commands that move no data are
+-- answered while the disk is idle.
+abbrev pub answer_to : Front → List ℕ → Option Own
+answer_to front f =
+    (if front.failed then (if asks_log f then None else Some Aborted)
+    else (if is_idle front then done_for front.auto f else None))
+
+-- The front's own answer to a FIS of the host, if it answers. C, set in a Register FIS, says that it is a
+-- command. The front of a disk without the stock profile answers nothing.
+abbrev pub own_to : Front → Result Fis FisFault → Option Own
+own_to front (Ok (view.RegH2D f)) = if front.on && (field H2d C f == 1) then answer_to front f else None
+own_to front _ = None
+
+abbrev pub is_none : Option Own → Bool
+is_none None = true
+is_none (Some own) = false
+
+-- the FIS passes to the disk
+abbrev pub passes : Front → Result Fis FisFault → Bool
+passes front fis = is_none (own_to front fis)
+
+-- ## What the front keeps
+
+-- the disk's IDENTIFY DEVICE data are those that stock drivers read
+abbrev pub is_stock : Profile → Bool
+is_stock Bare = false
+is_stock (Stock serial) = true
+
+-- the front of a new disk
+abbrev pub opening : DiskPlan → Front
+opening plan = record {
+  on = is_stock plan.profile;
+  auto = plan.auto;
+  failed = false;
+  busy = false;
+  outstanding = 0;
+  owed = None;
+}
+
+-- only the signature is to come: SRST was set, or the disk was plugged in
+abbrev pub settles : Front → Front
+settles front = record front { failed = false; busy = true; outstanding = 0; owed = None }
+
+-- the bit of a queued command's tag
+abbrev pub tags_of : List ℕ → ℕ
+tags_of f =
+    (if (field H2d Command f == 0x60) || (field H2d Command f == 0x61) then 2 ^ (field H2d Count f % 256 / 8)
+    else 0)
+
+-- a command passed; in the error mode that is the read of the log
+abbrev pub passed_command : Front → List ℕ → Front
+passed_command front f =
+    record front { failed = false; busy = true; outstanding = bit_or front.outstanding (tags_of f) }
+
+-- a write of the Device Control register passed, whose bit 2 is SRST
+abbrev pub passed_control : Front → List ℕ → Front
+passed_control front f = if field H2d Control f / 4 % 2 == 1 then settles front else front
+
+abbrev pub passed : Front → Result Fis FisFault → Front
+passed front (Ok (view.RegH2D f)) =
+    if field H2d C f == 1 then passed_command front f else passed_control front f
+passed front _ = front
+
+abbrev pub owes : Front → Own → Front
+owes front own = record front { busy = true; owed = Some own }
+
+-- its own answer was sent
+abbrev pub answered : Front → Front
+answered front = record front { busy = false; owed = None }
+
+abbrev pub hears : Front → Result Fis FisFault → Option Own → Front
+hears front fis None = passed front fis
+hears front fis (Some own) = owes front own
+
+-- a FIS of the host came
+abbrev pub heard : Front → Result Fis FisFault → Front
+heard front fis = hears front fis (own_to front fis)
+
+-- an error ended all queued commands
+abbrev pub failing : Front → Front
+failing front = record front { failed = true; busy = false; outstanding = 0 }
+
+-- ERR is bit 0 of Status. In an answer it ends the queued commands, if there are any.
+abbrev pub ended : Front → List ℕ → Front
+ended front f =
+    (if (field D2h Status f % 2 == 1) && not (front.outstanding == 0) then failing front
+    else record front { busy = false })
+
+-- a Set Device Bits FIS answers the tags that it names, or ends all queued commands
+abbrev pub named : Front → List ℕ → Front
+named front f =
+    (if field Bits Status f % 2 == 1 then failing front
+    else record front { outstanding = bit_and front.outstanding (0xFFFFFFFF - field Bits SActive f) })
+
+-- The disk sent a FIS. Data that comes while an answer is awaited is a page, which ends its command.
+abbrev pub told : Front → Result Fis FisFault → Front
+told front (Ok (view.RegD2H f)) = ended front f
+told front (Ok (view.SetBits f)) = named front f
+told front (Ok (view.Payload f)) = record front { busy = false }
+told front _ = front

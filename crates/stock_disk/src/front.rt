@@ -1,0 +1,313 @@
+//! What the front keeps, which commands it answers, and its answers (ACS-3, commands; Serial ATA 3.x, 13.6,
+//! native command queuing).
+
+ghost use Rattle.std.specs.Prelude.{◌≡◌, IfOk, false, true};
+ghost use Rattle.stock_disk.specs.Fronts.{answer_to, asks_log, done_for, ended, failing, has_feature, is_done};
+ghost use Rattle.stock_disk.specs.Fronts.{is_idle, is_mode, named, opening, own_sent, own_to, passed};
+ghost use Rattle.stock_disk.specs.Fronts.{passed_command, passed_control, settles, tags_of, told};
+ghost use Rattle.disk_model.specs.Sendings.{Shows};
+
+use disk_model::{DiskPlan, Profile};
+use fis_view::{D2hFields, Fis, FisFault, Frame, RegD2H, RegH2D, SetBits, Stamp, d2h};
+use std::alloc::{AllocError, Global};
+
+/// An answer of the front itself: a Register Device to Host FIS.
+#[derive(Clone, Copy, Debug, PartialEq, Eq)]
+pub enum Own {
+    /// The command ended. It had no effect.
+    Done,
+    /// The command ended: the disk is active or idle.
+    Active,
+    /// The command was aborted.
+    Aborted,
+}
+
+/// What the front keeps: what the host knows of the disk from its registers, and the answer that waits.
+#[derive(Clone, Copy, Debug, PartialEq, Eq)]
+pub struct Front {
+    /// Whether the front answers at all: whether the disk's IDENTIFY DEVICE data are the stock profile.
+    pub on: bool,
+    /// Whether the DMA Setups of the disk's writes have auto-activate.
+    pub auto: bool,
+    /// Whether an error ended all queued commands and its log has not been read.
+    pub failed: bool,
+    /// Whether a command or a reset waits for its answer, as BSY at the host tells.
+    pub busy: bool,
+    /// The tags of queued commands that were not answered, as SActive at the host tells.
+    pub outstanding: u32,
+    /// The front's own answer that waits to be sent.
+    pub owed: Option<Own>,
+}
+
+/// Whether a mode of transfer is one of those in the IDENTIFY DEVICE data: PIO modes up to 4, multiword DMA
+/// modes up to 2, Ultra DMA modes up to 6.
+fn is_mode(mode: u8) -> bool
+    ensures { result ≡ is_mode mode }
+{
+    mode <= 0x01
+        || 0x08 <= mode && mode <= 0x0C
+        || 0x20 <= mode && mode <= 0x22
+        || 0x40 <= mode && mode <= 0x46
+}
+
+/// Whether SET FEATURES with this Features and Count leaves the disk as it asks for.
+fn has_feature(auto: bool, feature: u8, count: u8) -> bool
+    ensures { result ≡ has_feature auto feature count }
+{
+    match feature {
+        0x03 => is_mode(count),
+        0x10 => auto && count == 2,
+        0x90 => !auto && count == 2,
+        0x02 | 0x82 | 0xAA | 0x55 | 0x66 | 0xCC => true,
+        _ => false,
+    }
+}
+
+/// Whether the command moves no data and changes nothing that this disk has.
+fn is_done(code: u8) -> bool
+    ensures { result ≡ is_done code }
+{
+    matches!(code, 0xE0..=0xE3 | 0xE6 | 0xE7)
+}
+
+/// The answer to a command that moves no data, while nothing is outstanding.
+fn done_for(auto: bool, fis: &RegH2D<'_>) -> Option<Own>
+    ensures { result ≡ done_for auto fis.now }
+{
+    let code = fis.command();
+    if is_done(code) {
+        return Some(Own::Done);
+    }
+    if code == 0xE5 {
+        return Some(Own::Active);
+    }
+    if code != 0xEF {
+        return None;
+    }
+    let feature = (fis.features() % 256) as u8;
+    let count = (fis.count() % 256) as u8;
+    if has_feature(auto, feature, count) {
+        Some(Own::Done)
+    } else {
+        Some(Own::Aborted)
+    }
+}
+
+/// Whether the command is READ LOG EXT of the first page of the NCQ Command Error log.
+fn asks_log(fis: &RegH2D<'_>) -> bool
+    ensures { result ≡ asks_log fis.now }
+{
+    let lba = fis.lba();
+    fis.command() == 0x2F && lba % 256 == 0x10 && lba / 256 % 256 == 0 && fis.count() == 1
+}
+
+/// The tag of a queued command as a bit; 0 for other commands.
+fn tags_of(fis: &RegH2D<'_>) -> u32
+    ensures { result ≡ tags_of fis.now }
+{
+    let code = fis.command();
+    if code == 0x60 || code == 0x61 {
+        1 << (fis.count() % 256 / 8)
+    } else {
+        0
+    }
+}
+
+impl Front {
+    /// The front of a disk that was not plugged in.
+    pub(crate) fn opening(plan: &DiskPlan) -> Front
+        ensures { result ≡ opening plan.now }
+    {
+        Front {
+            on: matches!(plan.profile, Profile::Stock(_)),
+            auto: plan.auto,
+            failed: false,
+            busy: false,
+            outstanding: 0,
+            owed: None,
+        }
+    }
+
+    /// Whether nothing was asked of the disk that it has not answered.
+    fn is_idle(self) -> bool
+        ensures { result ≡ is_idle self }
+    {
+        !self.busy && self.outstanding == 0
+    }
+
+    /// The front's own answer to a command, None for one that passes to the disk.
+    fn answer_to(self, fis: &RegH2D<'_>) -> Option<Own>
+        ensures { result ≡ answer_to self fis.now }
+    {
+        if self.failed {
+            if asks_log(fis) {
+                None
+            } else {
+                Some(Own::Aborted)
+            }
+        } else if self.is_idle() {
+            done_for(self.auto, fis)
+        } else {
+            None
+        }
+    }
+
+    /// The front's own answer to a FIS of the host, None for one that passes to the disk.
+    pub(crate) fn own_to(self, fis: &Result<Fis<'_>, FisFault>) -> Option<Own>
+        ensures { result ≡ own_to self fis.now }
+    {
+        match fis {
+            Ok(Fis::RegH2D(fis)) if self.on && fis.c() => self.answer_to(fis),
+            _ => None,
+        }
+    }
+
+    /// The front after a command that passed. A command that passes in the error mode is the read of the log.
+    fn passed_command(self, fis: &RegH2D<'_>) -> Front
+        ensures { result ≡ passed_command self fis.now }
+    {
+        Front {
+            failed: false,
+            busy: true,
+            outstanding: self.outstanding | tags_of(fis),
+            ..self
+        }
+    }
+
+    /// The front after a write of the Device Control register: SRST ends all.
+    fn passed_control(self, fis: &RegH2D<'_>) -> Front
+        ensures { result ≡ passed_control self fis.now }
+    {
+        if fis.control() / 4 % 2 == 1 {
+            self.settled()
+        } else {
+            self
+        }
+    }
+
+    /// The front after a reset has begun or the disk was plugged in: only the signature is to come.
+    pub(crate) fn settled(self) -> Front
+        ensures { result ≡ settles self }
+    {
+        Front {
+            failed: false,
+            busy: true,
+            outstanding: 0,
+            owed: None,
+            ..self
+        }
+    }
+
+    /// The front after a FIS that passed to the disk.
+    pub(crate) fn passed(self, fis: &Result<Fis<'_>, FisFault>) -> Front
+        ensures { result ≡ passed self fis.now }
+    {
+        match fis {
+            Ok(Fis::RegH2D(fis)) if fis.c() => self.passed_command(fis),
+            Ok(Fis::RegH2D(fis)) => self.passed_control(fis),
+            _ => self,
+        }
+    }
+
+    /// The front once it owes this answer.
+    pub(crate) fn owing(self, own: Own) -> Front
+        ensures { result ≡ record self { busy = true; owed = Some own } }
+    {
+        Front {
+            busy: true,
+            owed: Some(own),
+            ..self
+        }
+    }
+
+    /// The front once its own answer was sent.
+    pub(crate) fn answered(self) -> Front
+        ensures { result ≡ record self { busy = false; owed = None } }
+    {
+        Front {
+            busy: false,
+            owed: None,
+            ..self
+        }
+    }
+
+    /// The front after an error that ended all queued commands.
+    fn failing(self) -> Front
+        ensures { result ≡ failing self }
+    {
+        Front {
+            failed: true,
+            busy: false,
+            outstanding: 0,
+            ..self
+        }
+    }
+
+    /// The front after an answer of the disk. One with ERR ends all queued commands.
+    fn ended(self, fis: &RegD2H<'_>) -> Front
+        ensures { result ≡ ended self fis.now }
+    {
+        if fis.status() % 2 == 1 && self.outstanding != 0 {
+            self.failing()
+        } else {
+            Front {
+                busy: false,
+                ..self
+            }
+        }
+    }
+
+    /// The front after a Set Device Bits FIS. One with ERR ends all queued commands, another those that it
+    /// names.
+    fn set_bits(self, fis: &SetBits<'_>) -> Front
+        ensures { result ≡ named self fis.now }
+    {
+        if fis.status() % 2 == 1 {
+            self.failing()
+        } else {
+            Front {
+                outstanding: self.outstanding & !fis.sactive(),
+                ..self
+            }
+        }
+    }
+
+    /// The front after a FIS that the disk sent.
+    pub(crate) fn told(self, fis: &Result<Fis<'_>, FisFault>) -> Front
+        ensures { result ≡ told self fis.now }
+    {
+        match fis {
+            Ok(Fis::RegD2H(fis)) => self.ended(fis),
+            Ok(Fis::SetBits(fis)) => self.set_bits(fis),
+            Ok(Fis::Payload(_)) => Front {
+                busy: false,
+                ..self
+            },
+            _ => self,
+        }
+    }
+}
+
+impl Own {
+    /// The FIS of the answer.
+    pub(crate) fn frame(self, alloc: Global, stamp: Stamp) -> Result<Frame, AllocError>
+        ensures shows { IfOk result (λ f. Shows (own_sent self) f.bytes) }
+        ensures stamp { IfOk result (λ f. f.stamp ≡ stamp) }
+    {
+        let (status, error, count) = match self {
+            Own::Done => (0x50, 0, 0),
+            Own::Active => (0x50, 0, 0xFF),
+            Own::Aborted => (0x51, 4, 0),
+        };
+        let fields = D2hFields {
+            pm_port: 0,
+            i: true,
+            status,
+            error,
+            lba: 0,
+            device: 0,
+            count,
+        };
+        d2h(alloc, &fields, stamp)
+    }
+}

@@ -1,0 +1,20 @@
+//! Laws about every run of a disk behind its front. The functions run no code.
+
+ghost use Rattle.stock_disk.specs.Laws.{BareIsDisk, ErrorsAbort, InsideIsDisk};
+
+/// What passes to the disk and what the disk sends, in every run of a disk behind its front, is a run of a
+/// disk.
+pub fn inside_is_a_disk()
+    ensures { InsideIsDisk }
+{}
+
+/// Once the disk has reported an error of queued commands, the front aborts each command, whatever else comes
+/// and goes, until the error's log is read, SRST is set or the disk is plugged in.
+pub fn errors_abort_commands()
+    ensures { ErrorsAbort }
+{}
+
+/// A disk without the stock profile takes and sends, behind its front, exactly what it takes and sends alone.
+pub fn bare_disks_have_no_front()
+    ensures { BareIsDisk }
+{}

@@ -1,0 +1,136 @@
+//! What a line of a scenario asks for.
+
+use crate::opening::{Opening, Setting, Sizes};
+use fis_view::Bytes;
+use guest_bytes::{FlatError, FlatGuest};
+use std::alloc::Global;
+use trace_text::{Failure, Quantity, Refusal, Shape, Wanted, Words};
+
+/// The most rounds of one line.
+const MOST_ROUNDS: u64 = 1_000_000;
+
+/// The most bytes of a guest's memory.
+const MOST_BYTES: u64 = 67_108_864;
+
+/// What a line asks of the board once it is built.
+#[derive(Debug, Drop)]
+pub enum Action {
+    /// To plug in the disk of this port.
+    Came(u8),
+    /// To pull the disk of this port.
+    Gone(u8),
+    /// To read the register at this offset.
+    Read(u32),
+    /// To write this value to the register at this offset.
+    Write(u32, u32),
+    /// To write these bytes to the guest's memory, from this address on.
+    Put(u64, Bytes),
+    /// To see this many bytes of the guest's memory, from this address on.
+    Show(u64, u32),
+    /// To move what can move, at most this many rounds.
+    Settle(u64),
+    /// To see whether the interrupt line is up.
+    Line,
+}
+
+impl Setting {
+    /// Reads a line of this name, word by word; None if the name is not that of a setting.
+    pub fn read(
+        alloc: Global,
+        name: &[u8],
+        words: &mut Words<'_>,
+        opening: &Opening,
+    ) -> Result<Option<Setting>, Failure> {
+        let setting = match name {
+            b"ports" if opening.is_begun() => {
+                return Err(words.refused(Refusal::Order, Wanted::PortsFirst));
+            }
+            b"memory" if opening.has_memory() => {
+                return Err(words.refused(Refusal::Order, Wanted::OneMemory));
+            }
+            b"ports" => Setting::Ports(ports(words, opening.sizes())?),
+            b"memory" => memory(alloc, words, opening.sizes())?,
+            b"disk" => disk(words, opening)?,
+            _ => return Ok(None),
+        };
+        words.end()?;
+        Ok(Some(setting))
+    }
+}
+
+/// The words after `ports`.
+fn ports(words: &mut Words<'_>, sizes: Sizes) -> Result<Sizes, Failure> {
+    let ports = words.number(Quantity::Ports, 1, 15)? as u8;
+    let Sizes { base, len, .. } = sizes;
+    Ok(Sizes { ports, base, len })
+}
+
+/// The words after `memory`: an address and how many bytes.
+fn memory(alloc: Global, words: &mut Words<'_>, sizes: Sizes) -> Result<Setting, Failure> {
+    let base = words.long_address()?;
+    let len = words.number(Quantity::GuestBytes, 1, MOST_BYTES)? as u32;
+    let ports = sizes.ports;
+    match FlatGuest::new(alloc, base, len) {
+        Ok(memory) => Ok(Setting::Memory(Sizes { ports, base, len }, memory)),
+        Err(FlatError::PastEnd) => Err(words.refused_at(2, Refusal::Range, Wanted::LongAddress)),
+        Err(FlatError::OutOfMemory) => Err(Failure::OutOfMemory),
+    }
+}
+
+/// The words after `disk`.
+fn disk(words: &mut Words<'_>, opening: &Opening) -> Result<Setting, Failure> {
+    let port = words.port(opening.sizes().ports - 1)?;
+    if opening.has_disk(port) {
+        return Err(words.refused(Refusal::Order, Wanted::FreePort));
+    }
+    Ok(Setting::Disk(port, Shape::read(words, port)?))
+}
+
+impl Action {
+    /// Reads a line of this name, word by word, for a board of the ports up to this one.
+    pub fn read(
+        alloc: Global,
+        name: &[u8],
+        words: &mut Words<'_>,
+        last: u8,
+    ) -> Result<Action, Failure> {
+        let action = match name {
+            b"came" => Action::Came(words.port(last)?),
+            b"gone" => Action::Gone(words.port(last)?),
+            b"mmio" => access(words)?,
+            b"guest" => Action::Put(words.long_address()?, words.bytes(alloc)?),
+            b"show" => Action::Show(
+                words.long_address()?,
+                words.number(Quantity::Length, 0, MOST_BYTES)? as u32,
+            ),
+            b"settle" => Action::Settle(rounds(words)?),
+            b"line" => Action::Line,
+            b"ports" | b"memory" | b"disk" => {
+                return Err(words.refused(Refusal::Order, Wanted::EarlierThanGuest));
+            }
+            _ => return Err(words.refused(Refusal::Command, Wanted::GuestLine)),
+        };
+        words.end()?;
+        Ok(action)
+    }
+}
+
+/// The words after `mmio`.
+fn access(words: &mut Words<'_>) -> Result<Action, Failure> {
+    match words.next_word() {
+        Some(b"read") => Ok(Action::Read(words.dword(Wanted::Offset)?)),
+        Some(b"write") => Ok(Action::Write(
+            words.dword(Wanted::Offset)?,
+            words.dword(Wanted::Value)?,
+        )),
+        _ => Err(words.refused(Refusal::Number, Wanted::Access)),
+    }
+}
+
+/// The words after `settle`: how many rounds at most, or none.
+fn rounds(words: &mut Words<'_>) -> Result<u64, Failure> {
+    if words.is_at_end() {
+        return Ok(MOST_ROUNDS);
+    }
+    words.number(Quantity::Rounds, 1, MOST_ROUNDS)
+}

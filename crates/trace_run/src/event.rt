@@ -1,0 +1,414 @@
+//! What a step that moved something tells about itself.
+
+use crate::text::write_outcome;
+use crate::tickets::{Asked, SlotList, Tickets};
+use fis_view::Fis;
+use hba_driver::{Completion, Outcome};
+use hba_fbs::TakeReport;
+use port_errors::{DeviceCause, PortCause};
+use std::fmt;
+use trace_text::{FisShort, bit_of, named_slots};
+
+/// Who did what in a step.
+#[derive(Clone, Copy, Debug, PartialEq, Eq)]
+pub enum Act {
+    /// The device at this port was plugged in.
+    Came(u8),
+    /// The device at this port was unplugged.
+    Gone(u8),
+    /// The multiplier's port recorded that its device came or went.
+    Records(u8),
+    /// The device at this port sent a FIS.
+    DiskSends(u8),
+    /// The device at this port took a FIS.
+    DiskTakes(u8),
+    /// The multiplier's port took a FIS of its device.
+    PmTakesUp(u8),
+    /// The multiplier sent a FIS of this port to the host, 15 for its control port.
+    PmSendsUp(u8),
+    /// The multiplier took a FIS of the host.
+    PmTakesDown,
+    /// The multiplier's port sent a FIS to its device.
+    PmSendsDown(u8),
+    /// The host port took a FIS.
+    HostTakes(u8),
+    /// The host port sent a FIS.
+    HostSends,
+    /// The driver did something.
+    Drives,
+}
+
+impl Act {
+    /// Its name.
+    pub fn name(self) -> &'static str {
+        match self {
+            Act::Came(_) => "came",
+            Act::Gone(_) => "gone",
+            Act::Records(_) => "records",
+            Act::DiskSends(_) | Act::PmSendsUp(_) | Act::PmSendsDown(_) | Act::HostSends => "sends",
+            Act::DiskTakes(_) | Act::PmTakesUp(_) | Act::PmTakesDown | Act::HostTakes(_) => "takes",
+            Act::Drives => "drives",
+        }
+    }
+
+    /// The direction of the FIS that it moves, if it moves one.
+    pub fn way(self) -> Option<&'static str> {
+        match self {
+            Act::DiskSends(_) | Act::PmTakesUp(_) | Act::PmSendsUp(_) | Act::HostTakes(_) => Some(
+                "up",
+            ),
+            Act::HostSends | Act::PmTakesDown | Act::PmSendsDown(_) | Act::DiskTakes(_) => Some(
+                "down",
+            ),
+            Act::Came(_) | Act::Gone(_) | Act::Records(_) | Act::Drives => None,
+        }
+    }
+
+    /// The two ends between which it goes: the one that had it, and the one that has it.
+    pub fn ends(self) -> (&'static str, &'static str) {
+        match self {
+            Act::Came(_) | Act::Gone(_) | Act::Records(_) => ("disk", "pm"),
+            Act::DiskSends(_) | Act::PmTakesUp(_) => ("disk", "pm"),
+            Act::PmSendsUp(_) | Act::HostTakes(_) => ("pm", "host"),
+            Act::HostSends | Act::PmTakesDown => ("host", "pm"),
+            Act::PmSendsDown(_) | Act::DiskTakes(_) => ("pm", "disk"),
+            Act::Drives => ("driver", "host"),
+        }
+    }
+}
+
+/// What came of a step.
+#[derive(Clone, Copy, Debug, PartialEq, Eq)]
+pub enum Upshot {
+    /// Nothing more than what the act says.
+    Plain,
+    /// The host port did this with a FIS.
+    Report(TakeReport),
+    /// The FIS was let go.
+    Dropped(&'static str),
+    /// The control port heard it.
+    Control,
+    /// A connection came or went, and this many frames were dropped because of that.
+    Connection {
+        conn: u32,
+        is_gone: bool,
+        dropped: u32,
+    },
+    /// The driver took a request.
+    Submitted(Asked),
+    /// A request ended.
+    Polled(Completion),
+    /// Bytes were put to client memory.
+    Put {
+        at: u32,
+        len: usize,
+    },
+}
+
+impl Upshot {
+    /// The name of the cause of the fault that it made.
+    pub fn fault(self) -> Option<&'static str> {
+        let Upshot::Report(report) = self else {
+            return None;
+        };
+        match (report.fault, report.stopped) {
+            (Some(cause), _) => Some(device_fault(cause)),
+            (None, Some(cause)) => Some(port_fault(cause)),
+            (None, None) => None,
+        }
+    }
+
+    /// Whether it is a fault, a drop, a removal or the end of a request that was not done.
+    pub fn is_trouble(self) -> bool {
+        match self {
+            Upshot::Report(report) => self.fault().is_some() || report.ignored,
+            Upshot::Dropped(_) => true,
+            Upshot::Connection { is_gone, .. } => is_gone,
+            Upshot::Polled(completion) => completion.outcome != Outcome::Done,
+            Upshot::Plain | Upshot::Control | Upshot::Submitted(_) | Upshot::Put { .. } => false,
+        }
+    }
+}
+
+/// The name of a cause for which a device is faulty.
+fn device_fault(cause: DeviceCause) -> &'static str {
+    match cause {
+        DeviceCause::TaskFile => "task-file",
+        DeviceCause::BadTag => "bad-tag",
+        DeviceCause::Overflow => "overflow",
+        DeviceCause::Stray => "stray",
+        DeviceCause::Twice => "twice",
+        DeviceCause::Fragments => "fragments",
+        DeviceCause::Short => "short",
+        DeviceCause::BadFis => "bad-fis",
+        DeviceCause::WrongWay => "wrong-way",
+    }
+}
+
+/// The name of a cause for which the port is stopped.
+fn port_fault(cause: PortCause) -> &'static str {
+    match cause {
+        PortCause::BadControl => "bad-control",
+        PortCause::Bus => "bus",
+    }
+}
+
+/// The connection of a FIS, and its number there. A FIS of the host has only a number.
+#[derive(Clone, Copy, Debug, PartialEq, Eq)]
+pub struct Mark {
+    pub conn: Option<u32>,
+    pub number: u32,
+}
+
+impl fmt::Display for Mark {
+    fn fmt<W: fmt::Write>(&self, f: &mut fmt::Formatter<W>) -> fmt::Result {
+        if let Some(conn) = self.conn {
+            write!(f, " conn {conn}")?;
+        }
+        write!(f, " fis {}", self.number)
+    }
+}
+
+/// A step that moved something.
+#[derive(Debug, Drop)]
+pub struct Event<'a> {
+    /// Its number among the steps that moved something, from 1.
+    pub number: u64,
+    pub act: Act,
+    /// The port that it concerns, 15 for the control port.
+    pub port: Option<u8>,
+    /// The connection and the number of the FIS that moved.
+    pub mark: Option<Mark>,
+    /// That FIS; None if its bytes are no FIS of a known length.
+    pub fis: Option<Fis<'a>>,
+    /// The slots that it names, or that the driver issued.
+    pub slots: u32,
+    pub upshot: Upshot,
+    /// The registers of the host port before and after.
+    pub registers: Option<Change>,
+}
+
+/// What the driver changed in the registers of the host port.
+#[derive(Clone, Copy, Debug, PartialEq, Eq)]
+pub struct Change {
+    pub before: Registers,
+    pub after: Registers,
+}
+
+/// What the registers of the host port that the driver writes show.
+#[derive(Clone, Copy, Debug, PartialEq, Eq)]
+pub struct Registers {
+    pub clb: u32,
+    pub clbu: u32,
+    pub fb: u32,
+    pub fbu: u32,
+    pub interrupts: u32,
+    pub cmd: u32,
+    pub serr: u32,
+    pub sact: u32,
+    pub ci: u32,
+    pub sntf: u32,
+    pub fbs: u32,
+}
+
+impl Change {
+    /// The slots that the driver issued.
+    pub fn issued(self) -> u32 {
+        let before = self.before.sact | self.before.ci;
+        let after = self.after.sact | self.after.ci;
+        after & !before
+    }
+
+    /// The registers that changed, except those that issue a slot: name, before, after.
+    pub fn others(self) -> [(&'static str, u32, u32); 9] {
+        let Change { before, after } = self;
+        [
+            ("clb", before.clb, after.clb),
+            ("clbu", before.clbu, after.clbu),
+            ("fb", before.fb, after.fb),
+            ("fbu", before.fbu, after.fbu),
+            ("is", before.interrupts, after.interrupts),
+            ("cmd", before.cmd, after.cmd),
+            ("serr", before.serr, after.serr),
+            ("sntf", before.sntf, after.sntf),
+            ("fbs", before.fbs, after.fbs),
+        ]
+    }
+}
+
+impl Event<'static> {
+    /// An act without a FIS, with no number yet.
+    pub fn plain(act: Act, port: Option<u8>, upshot: Upshot) -> Event<'static> {
+        Event {
+            number: 0,
+            act,
+            port,
+            mark: None,
+            fis: None,
+            slots: 0,
+            upshot,
+            registers: None,
+        }
+    }
+}
+
+impl Event<'_> {
+    /// The slots of the FIS, of what it did, and of what the driver issued.
+    pub fn all_slots(&self) -> u32 {
+        let named = match (&self.fis, self.act) {
+            (Some(fis), Act::PmTakesDown | Act::HostSends) => named_slots(fis),
+            (Some(fis), _) if self.port != Some(15) => named_slots(fis),
+            _ => 0,
+        };
+        self.slots | named
+    }
+}
+
+/// A step in one line of text.
+#[derive(Debug, Drop)]
+pub struct EventText<'a, 'b> {
+    pub event: &'b Event<'a>,
+    pub tickets: &'b Tickets,
+}
+
+impl fmt::Display for EventText<'_, '_> {
+    fn fmt<W: fmt::Write>(&self, f: &mut fmt::Formatter<W>) -> fmt::Result {
+        let event = self.event;
+        write!(f, "#{} ", event.number)?;
+        write_act(event, f)?;
+        if let Some(mark) = event.mark {
+            write!(f, "{mark}")?;
+        }
+        if let Some(fis) = &event.fis {
+            write!(f, ": {}", FisShort(fis))?;
+        }
+        let mask = event.all_slots();
+        if mask != 0 {
+            let tickets = self.tickets;
+            write!(f, ", {}", SlotList { mask, tickets })?;
+        }
+        write_change(event, f)?;
+        write_upshot(event.upshot, self.tickets, f)
+    }
+}
+
+/// Writes who did what.
+fn write_act<W: fmt::Write>(event: &Event<'_>, f: &mut fmt::Formatter<W>) -> fmt::Result {
+    match event.act {
+        Act::Came(n) | Act::Gone(n) => write!(f, "disk {n}"),
+        Act::Records(n) => write!(f, "pm records at port {n}"),
+        Act::DiskSends(n) => write!(f, "up disk {n} -> pm"),
+        Act::PmTakesUp(n) => write!(f, "up pm takes at port {n}"),
+        Act::PmSendsUp(15) => f.write_str("up pm control port -> host"),
+        Act::PmSendsUp(n) => write!(f, "up pm port {n} -> host"),
+        Act::HostTakes(15) => f.write_str("up host takes from pm control port"),
+        Act::HostTakes(n) => write!(f, "up host takes from port {n}"),
+        Act::HostSends => write_down("down host -> pm", event.port, f),
+        Act::PmTakesDown => write_down("down pm takes", event.port, f),
+        Act::PmSendsDown(n) => write!(f, "down pm port {n} -> disk {n}"),
+        Act::DiskTakes(n) => write!(f, "down disk {n} takes"),
+        Act::Drives => write_down("driver", event.port, f),
+    }
+}
+
+fn write_down<W: fmt::Write>(
+    who: &str,
+    port: Option<u8>,
+    f: &mut fmt::Formatter<W>,
+) -> fmt::Result {
+    match port {
+        None => f.write_str(who),
+        Some(15) => write!(f, "{who}, control port"),
+        Some(n) => write!(f, "{who}, port {n}"),
+    }
+}
+
+/// Writes what the driver did to the registers.
+fn write_change<W: fmt::Write>(event: &Event<'_>, f: &mut fmt::Formatter<W>) -> fmt::Result {
+    let Some(change) = event.registers else {
+        return Ok(());
+    };
+    if change.issued() != 0 {
+        f.write_str(", issued")?;
+    }
+    for (name, before, after) in change.others().iter() {
+        if before != after {
+            write!(f, ", {name} {before:08x} -> {after:08x}")?;
+        }
+    }
+    if change.before == change.after {
+        f.write_str(
+            ": no register changed (it wrote what stood there, read an answer, or ended requests)",
+        )?;
+    }
+    Ok(())
+}
+
+/// Writes what came of a step.
+fn write_upshot<W: fmt::Write>(
+    upshot: Upshot,
+    tickets: &Tickets,
+    f: &mut fmt::Formatter<W>,
+) -> fmt::Result {
+    match upshot {
+        Upshot::Plain => Ok(()),
+        Upshot::Report(report) => write_report(report, tickets, f),
+        Upshot::Dropped(why) => write!(f, "; dropped: {why}"),
+        Upshot::Control => f.write_str("; heard by the control port"),
+        Upshot::Connection {
+            conn,
+            is_gone,
+            dropped,
+        } => {
+            let what = if is_gone { "went" } else { "came" };
+            write!(f, ", conn {conn} {what}")?;
+            match dropped {
+                0 => Ok(()),
+                1 => f.write_str("; dropped: the frame that it held"),
+                n => write!(f, "; dropped: the {n} frames that it held"),
+            }
+        }
+        Upshot::Submitted(asked) => write!(f, " takes a request: {asked}"),
+        Upshot::Polled(completion) => write_polled(completion, tickets, f),
+        Upshot::Put { at, len } => write!(f, " puts {len} bytes at {at:x}"),
+    }
+}
+
+/// Writes how a request ended, and what it asked.
+fn write_polled<W: fmt::Write>(
+    completion: Completion,
+    tickets: &Tickets,
+    f: &mut fmt::Formatter<W>,
+) -> fmt::Result {
+    f.write_str(" tells ")?;
+    write_outcome(completion.outcome, f)?;
+    match tickets.asked(completion.slot) {
+        Some(asked) => write!(f, ": {asked}"),
+        None => Ok(()),
+    }
+}
+
+/// Writes what the host port did with a FIS.
+fn write_report<W: fmt::Write>(
+    report: TakeReport,
+    tickets: &Tickets,
+    f: &mut fmt::Formatter<W>,
+) -> fmt::Result {
+    if report.ignored {
+        return f.write_str("; taken by nobody");
+    }
+    if let Some(wrote) = report.wrote {
+        let mask = bit_of(wrote.slot);
+        let end = wrote.offset.saturating_add(wrote.len);
+        write!(f, "; bytes {} to {end} of ", wrote.offset)?;
+        write!(f, "{}", SlotList { mask, tickets })?;
+    }
+    if report.done != 0 {
+        let mask = report.done;
+        write!(f, "; done {}", SlotList { mask, tickets })?;
+    }
+    match Upshot::Report(report).fault() {
+        Some(cause) => write!(f, "; fault {cause}"),
+        None => Ok(()),
+    }
+}

@@ -1,0 +1,327 @@
+//! What a line of a scenario asks for.
+
+ghost use Rattle.std.specs.Prelude.{◌≡◌, ◌*◌, IfOk, true};
+ghost use Rattle.trace_run.specs.Agendas.{is_fitting_entry, names_up_to, puts_outside};
+
+use crate::opening::{Opening, Sizes};
+use fis_view::Bytes;
+use hba_driver::{Mode, Request, Work};
+use hba_fbs::Register;
+use pm_world::Step;
+use std::alloc::Global;
+use trace_text::{Failure, Keyword, Quantity, Refusal, Shape, Wanted, Words};
+
+/// The largest address, and the largest number of bytes.
+const LARGEST: u64 = 0xFFFF_FFFF;
+
+/// The most rounds of one line.
+const MOST_ROUNDS: u64 = 1_000_000;
+
+/// The last port that a line can name when nobody asks whether the world has it.
+const LAST_NAME: u8 = 255;
+
+/// What a line says about the world before it is built.
+#[derive(Drop)]
+pub enum Setting {
+    /// The world is to have these sizes.
+    Ports(Sizes),
+    /// The device at this port is to be this disk.
+    Disk(u8, Shape),
+    /// The script of this port is to have this frame after those that it has.
+    Script(u8, Bytes),
+}
+
+/// What a line asks of the host, or asks to see, whether the actors go step by step or in threads.
+#[derive(Debug, Drop)]
+pub enum Common {
+    /// To give the driver this request for the device at this port.
+    Submit(u8, Request),
+    /// To write these bytes to client memory, from this address on.
+    Put(u32, Bytes),
+    /// To see what is shown.
+    See(View),
+}
+
+/// What a line asks to see.
+#[derive(Clone, Copy, Debug, PartialEq, Eq)]
+pub enum View {
+    /// What each connection sent and what was taken of it.
+    Counts,
+    /// This many bytes of client memory, from this address on.
+    Memory(u32, u32),
+}
+
+/// What a line asks of the world once it is built.
+#[derive(Debug, Drop)]
+pub enum Action {
+    /// One step of one actor.
+    Step(Step),
+    /// To have all actors step, round by round, at most this many rounds.
+    Settle(u64),
+    /// To see which devices are faulty, and what stopped the port.
+    Faults,
+    /// To see all registers of the host port.
+    Registers,
+    /// To see this register of it.
+    Register(Register),
+    /// To see what is shown.
+    See(View),
+}
+
+/// What a line asks of a run in threads.
+#[derive(Debug, Drop)]
+pub enum Entry {
+    /// What a line may ask in either kind of run.
+    Common(Common),
+    /// That the next request wait until all earlier ones have ended.
+    Barrier,
+    /// That the device at this port be pulled, and plugged in again, once it has sent so many FISes.
+    Pull(u8, u32),
+}
+
+impl Setting {
+    /// Reads a line of this name, word by word; None if the name is not that of a setting.
+    pub fn read(
+        alloc: Global,
+        name: &[u8],
+        words: &mut Words<'_>,
+        opening: &Opening,
+    ) -> Result<Option<Setting>, Failure> {
+        let setting = match name {
+            b"ports" if opening.is_begun() => {
+                return Err(words.refused(Refusal::Order, Wanted::PortsFirst));
+            }
+            b"ports" => Setting::Ports(sizes(words, opening.has_modes())?),
+            b"disk" => disk(words, opening)?,
+            b"script" => script(alloc, words, opening)?,
+            _ => return Ok(None),
+        };
+        words.end()?;
+        Ok(Some(setting))
+    }
+}
+
+impl Action {
+    /// Reads a line of this name, word by word, in a world of these sizes.
+    pub fn read(
+        alloc: Global,
+        name: &[u8],
+        words: &mut Words<'_>,
+        sizes: Sizes,
+    ) -> Result<Action, Failure> {
+        let action = match name {
+            b"came" => Action::Step(Step::Came(words.port(LAST_NAME)?)),
+            b"gone" => Action::Step(Step::Gone(words.port(LAST_NAME)?)),
+            b"inject" => Action::Step(inject(alloc, words)?),
+            b"step" => Action::Step(step(words)?),
+            b"poll" => Action::Step(Step::Poll),
+            b"settle" => Action::Settle(words.number(Quantity::Rounds, 1, MOST_ROUNDS)?),
+            b"faults" => Action::Faults,
+            b"regs" => Action::Registers,
+            b"reg" => Action::Register(register(words)?),
+            _ => match Common::read(alloc, name, words, sizes, LAST_NAME, Wanted::RunLine)? {
+                Common::Submit(device, request) => Action::Step(Step::Submit(device, request)),
+                Common::Put(at, bytes) => Action::Step(Step::Put(at, bytes)),
+                Common::See(view) => Action::See(view),
+            },
+        };
+        words.end()?;
+        Ok(action)
+    }
+}
+
+impl Entry {
+    /// Reads a line of this name, word by word, for a run of these sizes. A port that is not there is
+    /// `range`, and so are bytes outside client memory.
+    pub fn read(
+        alloc: Global,
+        name: &[u8],
+        words: &mut Words<'_>,
+        sizes: Sizes,
+    ) -> Result<Entry, Failure>
+        ensures { IfOk result (λ entry.
+            is_fitting_entry sizes.ports (1048576 * sizes.memory) entry ≡ true) }
+    {
+        let last = sizes.ports - 1;
+        let entry = match name {
+            b"barrier" => Entry::Barrier,
+            b"pull" => Entry::Pull(
+                words.port(last)?,
+                words.number(Quantity::Fises, 0, LARGEST)? as u32,
+            ),
+            _ => Entry::Common(Common::read(alloc, name, words, sizes, last, Wanted::ThreadsLine)?),
+        };
+        words.end()?;
+        if entry.puts_outside(sizes) {
+            return Err(words.refused_at(2, Refusal::Range, Wanted::ClientArea));
+        }
+        Ok(entry)
+    }
+
+    /// Whether this puts a byte outside client memory.
+    fn puts_outside(&self, sizes: Sizes) -> bool
+        ensures { result ≡ puts_outside (1048576 * sizes.memory) self.now }
+    {
+        match self {
+            Entry::Common(Common::Put(at, bytes)) => !sizes.has_client(*at, bytes.as_slice().len()),
+            _ => false,
+        }
+    }
+}
+
+impl Common {
+    /// Reads a line of this name, word by word, where the devices are those up to the last port. The name of
+    /// a setting comes too late, and any other that is none of these is not known.
+    fn read(
+        alloc: Global,
+        name: &[u8],
+        words: &mut Words<'_>,
+        sizes: Sizes,
+        last: u8,
+        known: Wanted,
+    ) -> Result<Common, Failure>
+        ensures { IfOk result (λ common. names_up_to last common ≡ true) }
+    {
+        let common = match name {
+            b"read" => transfer(alloc, Work::Read, words, last)?,
+            b"write" => transfer(alloc, Work::Write, words, last)?,
+            b"flush" => flush(alloc, words, last)?,
+            b"put" => Common::Put(words.address()?, words.bytes(alloc)?),
+            b"show" => Common::See(memory(words, sizes)?),
+            b"counts" => Common::See(View::Counts),
+            b"ports" | b"disk" | b"script" => {
+                return Err(words.refused(Refusal::Order, Wanted::Earlier));
+            }
+            _ => return Err(words.refused(Refusal::Command, known)),
+        };
+        Ok(common)
+    }
+}
+
+/// The words after `ports`.
+fn sizes(words: &mut Words<'_>, has_modes: bool) -> Result<Sizes, Failure> {
+    let ports = words.number(Quantity::Ports, 1, 15)? as u8;
+    words.keyword(Keyword::Capacity)?;
+    let capacity = words.number(Quantity::Capacity, 1, 64)? as u8;
+    words.keyword(Keyword::Memory)?;
+    let memory = words.number(Quantity::Memory, 2, 16)? as u8;
+    let mode = if has_modes && words.takes(b"commandbased") {
+        Mode::CommandBased
+    } else {
+        Mode::Switching
+    };
+    Ok(Sizes {
+        ports,
+        capacity,
+        memory,
+        mode,
+    })
+}
+
+/// The words after `disk`.
+fn disk(words: &mut Words<'_>, opening: &Opening) -> Result<Setting, Failure> {
+    let port = words.port(LAST_NAME)?;
+    if opening.has_disk(port) || opening.has_script(port) {
+        return Err(words.refused(Refusal::Order, Wanted::FreePort));
+    }
+    has_port(words, opening, port)?;
+    Ok(Setting::Disk(port, Shape::read(words, port)?))
+}
+
+/// Checks that the world has this port.
+fn has_port(words: &Words<'_>, opening: &Opening, port: u8) -> Result<(), Failure> {
+    let last = opening.sizes().ports - 1;
+    if port > last {
+        let wanted = Wanted::Number(Quantity::Port, 0, u64::from(last));
+        return Err(words.refused(Refusal::Range, wanted));
+    }
+    Ok(())
+}
+
+/// The words after `script`.
+fn script(alloc: Global, words: &mut Words<'_>, opening: &Opening) -> Result<Setting, Failure> {
+    let port = words.port(LAST_NAME)?;
+    if opening.has_disk(port) {
+        return Err(words.refused(Refusal::Order, Wanted::FreePort));
+    }
+    has_port(words, opening, port)?;
+    Ok(Setting::Script(port, words.bytes(alloc)?))
+}
+
+/// The words after `inject`. The step itself refuses bytes that are no frame.
+fn inject(alloc: Global, words: &mut Words<'_>) -> Result<Step, Failure> {
+    let port = words.port(LAST_NAME)?;
+    Ok(Step::Inject(port, words.bytes(alloc)?))
+}
+
+/// The words after `read` or `write`: a device, its first sector, how many, and where their bytes
+/// lie.
+fn transfer(alloc: Global, work: Work, words: &mut Words<'_>, last: u8) -> Result<Common, Failure>
+    ensures { IfOk result (λ common. names_up_to last common ≡ true) }
+{
+    let device = words.port(last)?;
+    let lba = words.number(Quantity::Lba, 0, u64::MAX)?;
+    let sectors = words.number(Quantity::Count, 0, 65_535)? as u16;
+    let prds = words.prds(alloc)?;
+    let request = Request {
+        work,
+        lba,
+        sectors,
+        prds,
+    };
+    Ok(Common::Submit(device, request))
+}
+
+/// The words after `flush`: a device.
+fn flush(alloc: Global, words: &mut Words<'_>, last: u8) -> Result<Common, Failure>
+    ensures { IfOk result (λ common. names_up_to last common ≡ true) }
+{
+    let device = words.port(last)?;
+    let request = Request {
+        work: Work::Flush,
+        lba: 0,
+        sectors: 0,
+        prds: Vec::new(alloc),
+    };
+    Ok(Common::Submit(device, request))
+}
+
+/// The words after `show`: an address and how many bytes, all of which lie in client memory.
+fn memory(words: &mut Words<'_>, sizes: Sizes) -> Result<View, Failure> {
+    let at = words.address()?;
+    let count = words.number(Quantity::Length, 0, LARGEST)? as u32;
+    words.end()?;
+    if !sizes.has_client(at, count as usize) {
+        return Err(words.refused_at(2, Refusal::Range, Wanted::ClientArea));
+    }
+    Ok(View::Memory(at, count))
+}
+
+/// The words after `reg`: the offset of a register among those of its port.
+fn register(words: &mut Words<'_>) -> Result<Register, Failure> {
+    let offset = words.address()?;
+    match Register::at(offset) {
+        Some(register) => Ok(register),
+        None => Err(words.refused(Refusal::Range, Wanted::Register)),
+    }
+}
+
+/// The words after `step`.
+fn step(words: &mut Words<'_>) -> Result<Step, Failure> {
+    let Some(name) = words.next_word() else {
+        return Err(words.refused(Refusal::Number, Wanted::StepName));
+    };
+    match name {
+        b"pmpresence" => Ok(Step::PmPresence(words.port(LAST_NAME)?)),
+        b"disktake" => Ok(Step::DiskTake(words.port(LAST_NAME)?)),
+        b"disksend" => Ok(Step::DiskSend(words.port(LAST_NAME)?)),
+        b"pmfromdevice" => Ok(Step::PmFromDevice(words.port(LAST_NAME)?)),
+        b"pmdown" => Ok(Step::PmDown(words.port(LAST_NAME)?)),
+        b"pmfromhost" => Ok(Step::PmFromHost),
+        b"pmup" => Ok(Step::PmUp),
+        b"hosttake" => Ok(Step::HostTake),
+        b"tick" => Ok(Step::Tick),
+        b"hostpush" => Ok(Step::HostPush),
+        _ => Err(words.refused(Refusal::Command, Wanted::StepName)),
+    }
+}

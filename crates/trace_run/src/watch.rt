@@ -1,0 +1,16 @@
+//! What is written of the steps of a run.
+
+/// What is written of the steps of a run.
+#[derive(Clone, Copy, Debug, PartialEq, Eq)]
+pub struct Watch {
+    /// Whether anything is.
+    pub is_on: bool,
+    /// The port whose steps are, 15 for the control port; None where those of all are.
+    pub port: Option<u8>,
+    /// Whether only faults, drops and removals are.
+    pub is_faults: bool,
+    /// The number of the first step that is.
+    pub from: u64,
+    /// Whether all output is JSON, an object a line.
+    pub is_json: bool,
+}

@@ -1,0 +1,129 @@
+//! A FIS in a few words.
+
+use fis_view::{Fis, RegD2H, RegH2D};
+use std::fmt;
+
+/// A FIS in a few words: its kind, and the fields that tell what it does. Its port is left out.
+#[derive(Debug, Drop)]
+pub struct FisShort<'a, 'b>(pub &'b Fis<'a>);
+
+impl fmt::Display for FisShort<'_, '_> {
+    fn fmt<W: fmt::Write>(&self, f: &mut fmt::Formatter<W>) -> fmt::Result {
+        match self.0 {
+            Fis::RegH2D(fis) => write_h2d(fis, f),
+            Fis::RegD2H(fis) => write_d2h(fis, f),
+            Fis::SetBits(fis) => {
+                write!(
+                    f,
+                    "bits status {:02x} error {:02x}",
+                    fis.status(),
+                    fis.error()
+                )?;
+                write!(f, " sactive {:08x}", fis.sactive())?;
+                f.write_str(if fis.n() { " notify" } else { "" })
+            }
+            Fis::DmaActivate(_) => f.write_str("activate"),
+            Fis::DmaSetup(fis) => {
+                let way = if fis.d() { "to host" } else { "to disk" };
+                let tag = fis.buffer_id() & 0x1F;
+                write!(f, "setup tag {tag} {way}")?;
+                write!(f, " offset {} count {}", fis.offset(), fis.count())
+            }
+            Fis::PioSetup(fis) => {
+                write!(
+                    f,
+                    "pio status {:02x} bytes {}",
+                    fis.status(),
+                    fis.transfer()
+                )
+            }
+            Fis::Payload(fis) => write!(f, "data bytes {}", fis.payload().len()),
+            Fis::Unknown(fis) => {
+                let bytes = fis.bytes();
+                write!(f, "unknown type {:02x} bytes {}", bytes[0], bytes.len())
+            }
+        }
+    }
+}
+
+/// The slots that a FIS names: a queued command, a DMA Setup and a Set Device Bits FIS do.
+pub fn named_slots(fis: &Fis<'_>) -> u32 {
+    match fis {
+        Fis::RegH2D(fis) if is_queued(fis.command()) => bit_of((fis.count() >> 3 & 0x1F) as u8),
+        Fis::DmaSetup(fis) => bit_of((fis.buffer_id() & 0x1F) as u8),
+        Fis::SetBits(fis) => fis.sactive(),
+        _ => 0,
+    }
+}
+
+/// The bit of a slot in a mask of slots.
+pub fn bit_of(slot: u8) -> u32 {
+    1u32.checked_shl(u32::from(slot)).unwrap_or(0)
+}
+
+/// READ and WRITE FPDMA QUEUED.
+fn is_queued(command: u8) -> bool {
+    command == 0x60 || command == 0x61
+}
+
+/// Writes a command by its name.
+fn write_h2d<W: fmt::Write>(fis: &RegH2D<'_>, f: &mut fmt::Formatter<W>) -> fmt::Result {
+    if !fis.c() {
+        let control = fis.control();
+        let reset = reset_word(control);
+        return write!(f, "h2d control {control:02x}{reset}");
+    }
+    write!(f, "h2d {}", command_name(fis.command()))?;
+    match fis.command() {
+        0x60 | 0x61 => write!(f, " lba {} sectors {}", fis.lba(), fis.features()),
+        0xE4 | 0xE8 => write_register(fis, f),
+        _ => Ok(()),
+    }
+}
+
+/// Writes which register of the multiplier a command names, and the value that it writes there.
+fn write_register<W: fmt::Write>(fis: &RegH2D<'_>, f: &mut fmt::Formatter<W>) -> fmt::Result {
+    match fis.device() & 0x0F {
+        15 => write!(f, " gscr[{}]", fis.features())?,
+        port => write!(f, " port {port} pscr[{}]", fis.features())?,
+    }
+    if fis.command() == 0xE4 {
+        return Ok(());
+    }
+    let high = fis.lba() & 0xFF_FFFF;
+    write!(f, " value {high:06x}{:02x}", fis.count() & 0xFF)
+}
+
+fn reset_word(control: u8) -> &'static str {
+    if control & 4 == 0 { "" } else { " reset" }
+}
+
+/// The name of a command in ACS-3, in words.
+fn command_name(command: u8) -> &'static str {
+    match command {
+        0x60 => "read-queued",
+        0x61 => "write-queued",
+        0x2F => "read-log",
+        0xE4 => "read-pm",
+        0xE8 => "write-pm",
+        0xEA => "flush",
+        0xEC => "identify",
+        _ => "command",
+    }
+}
+
+/// Writes an answer, with the value of a register if it has one.
+fn write_d2h<W: fmt::Write>(fis: &RegD2H<'_>, f: &mut fmt::Formatter<W>) -> fmt::Result {
+    write!(
+        f,
+        "d2h status {:02x} error {:02x}",
+        fis.status(),
+        fis.error()
+    )?;
+    if fis.pm_port() == 15 {
+        let high = fis.lba() & 0xFF_FFFF;
+        return write!(f, " value {high:06x}{:02x}", fis.count() & 0xFF);
+    }
+    let is_signature = fis.count() == 1 && fis.lba() & 0xFF == 1;
+    f.write_str(if is_signature { " signature" } else { "" })
+}

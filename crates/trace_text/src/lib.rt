@@ -1,0 +1,32 @@
+//! Lines of text: what they say, and what is written about them. It needs no world.
+//!
+//! [`read_input`] reads an input whole. [`Lines`] and [`Words`] take it apart; a line that is refused
+//! is a [`Failure`], which names its word and what was wanted there, and [`Note`] says so. [`Printer`]
+//! prints lines and compares them with those that were expected. [`decode`] prints each frame of an
+//! input in words.
+#![tactic(auto)]
+
+mod blocks;
+mod decoding;
+mod failure;
+mod fis_short;
+mod hex_text;
+mod input;
+mod lines;
+mod note;
+mod printer;
+mod shape;
+mod wanted;
+mod words;
+
+pub use blocks::play_aside;
+pub use decoding::{DecodeError, decode, fis_of};
+pub use failure::{Failure, Refusal};
+pub use fis_short::{FisShort, bit_of, named_slots};
+pub use input::{LONGEST_INPUT, LONGEST_LINE, is_skipped, read_input, without_return};
+pub use lines::Lines;
+pub use note::{Note, Shown};
+pub use printer::{Expected, Mismatch, Printer};
+pub use shape::Shape;
+pub use wanted::{Keyword, Quantity, Wanted};
+pub use words::{Words, value_within};
