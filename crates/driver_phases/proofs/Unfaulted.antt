@@ -141,7 +141,7 @@ events_unfaulted n below old (event.Put at bytes ∷ events) new run well is =
 pub turns_unfaulted : (n : ℕ) → n < 16 → (old : Host) (turns : List HostTurn) (new : Host) → DoesAll old turns new → IsSoundHost old
     → AreUnfaulted n (flat_map taken_by turns) → IsUnfaulted n old.port → IsUnfaulted n new.port
 turns_unfaulted n below old turns new run sound well is =
-    events_unfaulted n below (shared_by old) (events_over old new turns run) (shared_by new) (turns_are_events old new turns run sound).runs
+    events_unfaulted n below (shared_by old) (events_over old new turns run) (shared_by new) (turns_are_events Switching old new turns run sound).runs
     (subst (AreUnfaulted n) (sym (each_run_tells old new turns run).taken) well) is
 
 -- the turn takes no FIS of the device with a fault
@@ -191,7 +191,7 @@ flush_unfaulted n below old acted new does sound flush =
     let run : DoesAll old (Ticked acted ∷ []) new = (new, does, refl) in
     first_unfaulted n below (shared_by old) (events_over old new (Ticked acted ∷ []) run) (shared_by new)
     (flush_events n old acted new does flush)
-    (turns_are_events old new (Ticked acted ∷ []) run sound).runs
+    (turns_are_events Switching old new (Ticked acted ∷ []) run sound).runs
     (subst (AreUnfaulted n) (sym (each_run_tells old new (Ticked acted ∷ []) run).taken) tt)
 
 -- ---- no tick clears a fault

@@ -10,6 +10,7 @@ use Rattle.host_memory.specs.Place.{total_of}
 use Rattle.hba_commands.specs.Commands.{is_proper}
 use Rattle.hba_commands.specs.Requests.{request_of, work_of}
 use Rattle.hba_commands.specs.Writing.{header_for, total_if_usable}
+use Rattle.slots.specs.Table.{IsTable}
 use Rattle.slots.specs.Slots.{Issue, has_bit, issue_at, match_some, no_own_slots, own_issue}
 use Rattle.hba_fbs.specs.declared.register.Register.TheVariants.{Is, Cmd, Fbs}
 use Rattle.hba_fbs.specs.declared.registers.Registers.{Registers}
@@ -467,9 +468,9 @@ module _ (mode : Mode) (h : Host) (w : IsOnWayIn mode h) (dev : ℕ)
       × (list_any (entry_holds (is_issued_of_other dev)) (done_ended (sight_in h).issued h.driver.entries) ≡ false))
   beside_parts =
       let none = not_true _ goes in
-      let first = or_parts (control_beside (sight_in h) dev) _ none in
-      let rest = or_parts (path_beside (sight_in h) (turn (sight_in h) h.driver).plan dev) _ first.1 in
-      (first.0, (rest.0, rest.1))
+      let first = or_parts (control_beside (sight_in h) dev || path_beside (sight_in h) (turn (sight_in h) h.driver).plan dev) _ none in
+      let two = or_parts (control_beside (sight_in h) dev) _ first.0 in
+      (two.0, (two.1, first.1))
 
   of_from : (n s : ℕ) (t : Transfer) → issued s (own n w.past) ≡ Some t → From h.driver n s t → has_bit (sight_in h).issued s ≡ true → n ≡ dev
   of_from n s t here (inl r) on =

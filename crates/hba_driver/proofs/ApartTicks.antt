@@ -116,7 +116,7 @@ module _ (n : ℕ) (past : Touches) (h : Host) (low : n < 15) (on : IsOn30 past 
   bit30 i there = elim (cases_Bool (has_bit v.issued 30)) [
     | inl set ↦ set
     | inr off ↦
-        let none : issue_at h.port.slots 30 ≡ None = slot_free h.port h.memory 30 on.sound.ruled.table (omega arith) off in
+        let none : issue_at h.port.slots 30 ≡ None = slot_free h.driver.plan.mode h.port h.memory 30 on.sound.ruled.table (omega arith) off in
         let bad : None ≡ Some i = sym none ∙ (own_in n 30 h.port.slots i there).1 in
         cc
   ]

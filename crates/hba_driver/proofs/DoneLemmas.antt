@@ -65,9 +65,9 @@ none_issued : (o : Option Issue) → MatchOption o (Unit {0}) IsIssue → issue_
 none_issued None h a q = refl
 none_issued (Some i) h a q = absurd (true≢false (sym (h.answers (not_false i.answered a)).0 ∙ q))
 
-pub free_slot : {mode : Mode} (port : Port) (memory : Memory) (s : ℕ) → IsTable port.slots → s < 32 → has_bit (sight_of mode port memory).issued s ≡ false → issue_at port.slots s ≡ None
+pub free_slot : (mode : Mode) (port : Port) (memory : Memory) (s : ℕ) → IsTable port.slots → s < 32 → has_bit (sight_of mode port memory).issued s ≡ false → issue_at port.slots s ≡ None
 unfolding sight_of
-free_slot port memory s table below h =
+free_slot mode port memory s table below h =
     let bits = or_false (shown port px_ci) (shown port px_sact) s h in
     let unanswered : has_bit (slots_where is_unanswered port.slots) s ≡ false = ap (λ (n : ℕ). has_bit n s) (sym (ci_is port)) ∙ bits.0 in
     let armed = or_false port.registers.armed (slots_where is_queued_issue port.slots) s (ap (λ (n : ℕ). has_bit n s) (sym (sact_is port)) ∙ bits.1) in
@@ -215,4 +215,4 @@ done_is_free mode port memory file d s e f table r here open' there phase =
     let done : is_done (sight_of mode port memory).issued s e.head ≡ true = done_of (sight_of mode port memory) file d s e f here open' there (ap isd phase) in
     let parts = and_both (is_issued e.head) (has_bit (sight_of mode port memory).issued s) done in
     let below : s < 30 = in_slots d.entries s e r.slots here in
-    (parts.0, free_slot port memory s table (omega (arith, below)) parts.1)
+    (parts.0, free_slot mode port memory s table (omega (arith, below)) parts.1)

@@ -215,7 +215,7 @@ module _ (old : Host) (dev : ℕ) (request : Request) (ticket : ℕ) (new : Host
 client_turn : {mode : Mode} (old : Host) (t : HostTurn) (new : Host) → Does old t new → IsSoundHostIn mode old → length new.memory.client ≡ length old.memory.client
 client_turn old t new h sound =
     let one : DoesAll old (t ∷ []) new = (new, h, refl) in
-    client_lens (shared_by old) (shared_by new) (events_over old new (t ∷ []) one) (turns_are_events old new (t ∷ []) one sound).runs
+    client_lens (shared_by old) (shared_by new) (events_over old new (t ∷ []) one) (turns_are_events _ old new (t ∷ []) one sound).runs
 
 fit_fresh_at : (old : Host) (t : HostTurn) (new : Host) → Does old t new → length old.driver.plan.devices ≡ 15 → (s : ℕ) (f : Entry) → Fresh old.driver t s f → IsFit s f new.memory
 fit_fresh_at old (Submitted dev request ticket) new h long s f is =

@@ -166,15 +166,15 @@ held_out past beside h host (out.Data dev offset len command) = (beside, h)
 held_out past beside h host (out.Order dev slot command) = quiet_holds (touched_by_out host (out.Order dev slot command)) past (order_quiet host dev slot command) h
 
 pub turns_hold_writes : TurnsHoldWrites
-turns_hold_writes old (Took frame report) new run sound past served serves h =
+turns_hold_writes mode old (Took frame report) new run sound past served serves h =
     held_device past (writes_beside old.driver past served.issues served.bounded sound.requests) h (port_of frame) (event_taken (shared_by old) frame)
-turns_hold_writes old (Pushed frame) new run sound past served serves h =
+turns_hold_writes mode old (Pushed frame) new run sound past served serves h =
     held_out past (writes_beside old.driver past served.issues served.bounded sound.requests) h (shared_by old) (outgoing old.port old.memory)
-turns_hold_writes old (Ticked acted) new run sound past served serves h =
+turns_hold_writes mode old (Ticked acted) new run sound past served serves h =
     quiet_over (events_over old new (Ticked acted ∷ []) run) (shared_by old) (shared_by new) serves.runs past
     (quiet_both (events_of_effects (effects (sight_in old) old.driver) old.port old.memory run.0.port run.0.memory run.1.does) []
     (effects_quiet (effects (sight_in old) old.driver) old.port old.memory run.0.port run.0.memory run.1.does) tt) h
-turns_hold_writes old (Submitted dev request ticket) new run sound past served serves h = h
-turns_hold_writes old (Polled completion) new run sound past served serves h = h
-turns_hold_writes old (Put at bytes) new run sound past served serves h =
+turns_hold_writes mode old (Submitted dev request ticket) new run sound past served serves h = h
+turns_hold_writes mode old (Polled completion) new run sound past served serves h = h
+turns_hold_writes mode old (Put at bytes) new run sound past served serves h =
     (puts_spare_writes old.driver past served.issues served.bounded sound.requests at (length bytes) run.1.unused, h)

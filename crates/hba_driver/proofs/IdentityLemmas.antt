@@ -1,6 +1,6 @@
 -- The IDENTIFY DEVICE of a device stays in slot 30 until data of it came, whatever the device sends and
 -- whatever goes out.
-use Rattle.std.proofs.Common.{◌≡◌, ◌≢◌, ℕ, ◌<◌, Bool, true, false, ◌&&◌, set, length, refl, sym, ◌∙◌, ap, subst, inl, inr, Option, Some, None, get_or-set_other, get_or-set_same}
+use Rattle.std.proofs.Common.{List, ◌≡◌, ◌≢◌, ℕ, ◌<◌, Bool, true, false, ◌&&◌, set, length, refl, sym, ◌∙◌, ap, subst, inl, inr, Option, Some, None, get_or-set_other, get_or-set_same}
 use Rattle.std.specs.Prelude.{if◌then◌else◌, ◌==◌, ◌-◌, is_some, nat_lt, not, is_ok}
 use Rattle.std.specs.Option.{option_map}
 use Rattle.std.proofs.lemmas.List.{get_or_past}

@@ -93,7 +93,7 @@ good_turn old (Put at bytes) new h = good_same (end_of old.memory) old.driver ne
 -- memory keeps its size
 pub as_long : {mode : Mode} (old : Host) (turns : List HostTurn) (new : Host) → DoesAll old turns new → IsSoundHostIn mode old → length new.memory.client ≡ length old.memory.client
 as_long old turns new run sound =
-    let e = turns_are_events old new turns run sound in
+    let e = turns_are_events _ old new turns run sound in
     (sizes_stay (shared_by old) (shared_by new) (events_over old new turns run) e.runs e.sound.hosts).1
 
 -- a tick leaves client memory

@@ -131,7 +131,7 @@ spares_by d a b past served long same s command busy is =
 -- if nothing more is issued, all is issued to one device still
 pub one_still : (mode : Mode) (p q : Touches) → ((n s : ℕ) (t : Transfer) → issued s (own n q) ≡ Some t → issued s (own n p) ≡ Some t) → AreOfOne mode p → AreOfOne mode q
 one_still Switching p q back one = tt
-one_still CommandBased p q back one n m s r t u here there = one n m s r t u (back n s t here) (back m r u there)
+one_still CommandBased p q back one = λ n m s r t u here there. one n m s r t u (back n s t here) (back m r u there)
 
 pub calm_event : (d : Driver) (a b : event.Host) (e : HostEvent) (past : Touches) → sound.IsHost a → IsFramed e → event.Does a e b → NoneIssues (touched a e) → b.port.commands ≡ a.port.commands → HaveCommands d b.memory
     → IsServed d a past → IsServed d b (touched a e ++ past)

@@ -380,8 +380,8 @@ slot_of_issue d n s t (inr (inl i)) = omega (arith, i.slot)
 slot_of_issue d n s t (inr (inr o)) = omega (arith, o.slot)
 
 -- with command-based switching a write that is not refused issues beside no other device
-beside_none : (on zero beside : Bool) → on ≡ false → zero ≡ false → (not on && not zero && beside) ≡ false → beside ≡ false
-beside_none true zero beside off some h = absurd (true≢false off)
+beside_none : (on empty beside : Bool) → on ≡ false → empty ≡ false → (not on && not empty && beside) ≡ false → beside ≡ false
+beside_none true empty beside off some h = absurd (true≢false off)
 beside_none false true beside off some h = absurd (true≢false some)
 beside_none false false beside off some h = h
 
@@ -499,7 +499,7 @@ module _ (d : Driver) (a b : event.Host) (past : Touches) (slot dev : ℕ) (prds
 
   one_in : (mode : Mode) → d.plan.mode ≡ mode → AreOfOne mode (touched a (event.Wrote Ci (2 ^ slot)) ++ past)
   one_in Switching is = tt
-  one_in CommandBased is n m s r t u here there = owner is n s t here ∙ sym (owner is m r u there)
+  one_in CommandBased is = λ n m s r t u here there. owner is n s t here ∙ sym (owner is m r u there)
 
   pub ci_served : IsServed d b (touched a (event.Wrote Ci (2 ^ slot)) ++ past)
   ci_served = record {

@@ -178,7 +178,7 @@ module _ (n : ℕ) (below : n < 15) (old new : Host) (w : IsOnWay old) where
   sixteen = omega (arith, below)
 
   flushes_none : (a : Act) → ((k : ℕ) → a ≡ act.Orders (Clear k) → n ≢ k) → list_any (flushes n) (effects_due Switching (Some a)) ≡ false
-  flushes_none a orders = false_from_ne_true (list_any (flushes n) (effects_due Switching (Some a))) (λ flushed. orders n (some_act a (act.Orders (Clear n)) (act_clears n (Some a) flushed)) refl)
+  flushes_none a orders = false_from_ne_true (list_any (flushes n) (effects_due Switching (Some a))) (λ flushed. orders n (some_act a (act.Orders (Clear n)) (act_clears Switching n (Some a) flushed)) refl)
     where
       some_act : (x y : Act) → Some x ≡ Some y → x ≡ y
       some_act x y e = cc
@@ -245,7 +245,7 @@ module _ (n : ℕ) (below : n < 15) (old new : Host) (w : IsOnWay old) where
 
   bit_set : IsAwaited n old.port → has_bit v.issued 30 ≡ true
   bit_set h = true_from_ne_false (has_bit v.issued 30) (λ clear.
-      let none : issue_at old.port.slots 30 ≡ None = done.free_slot old.port old.memory 30 w.sound.ruled.table (omega arith) clear in
+      let none : issue_at old.port.slots 30 ≡ None = done.free_slot old.driver.plan.mode old.port old.memory 30 w.sound.ruled.table (omega arith) clear in
       let wrong : None ≡ Some h.own.issue = sym none ∙ (own_in n 30 old.port.slots h.own.issue h.own.is).1 in absurd (cc))
 
   never_back : HostUnknown n old → comes_back v n old.driver.plan.path ≡ false

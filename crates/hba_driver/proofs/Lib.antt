@@ -48,6 +48,7 @@ pub mod ActLemmas
 pub mod PushedLemmas
 pub mod KnownRuns
 pub mod StopLemmas
+pub mod SwitchLemmas
 pub mod ReadLemmas
 pub mod PageLemmas
 pub mod GoingLemmas

@@ -297,7 +297,7 @@ module _ (old : Host) (g : IsGoing old) (stage : Stage31) (at : IsAt31 stage old
   reads_named n r =
       let least : 7 ≤ old.driver.plan.opened = asked_open stage old at r.asked in
       let free : is_none (own_issue (control_of old).view.slots 31) ≡ true =
-      no_issue (own_issue (control_of old).view.slots 31) refl (slot_free old.port old.memory 31 g.way.sound.ruled.table (omega arith) r.free) in
+      no_issue (own_issue (control_of old).view.slots 31) refl (slot_free old.driver.plan.mode old.port old.memory 31 g.way.sound.ruled.table (omega arith) r.free) in
       let bit : has_bit (told_in (control_of old)) n ≡ true = ap (λ (k : ℕ). has_bit k n) (told_is old g least) ∙ ap (λ (v : Sight). has_bit v.answer n) (sym (sight_is old g.way.sound)) ∙ r.bit in
       and_from (is_scan old.driver.plan.order && old.driver.plan.asked) (tells n (control_of old))
       (and_from (is_scan old.driver.plan.order) old.driver.plan.asked (ap is_scan r.order) r.asked)
@@ -346,7 +346,7 @@ module _ (old : Host) (g : IsGoing old) (stage : Stage31) (at : IsAt31 stage old
   tick_clears : IsFound old.driver.plan → (n : ℕ) → orders_clear n old ≡ true → (found n old ≡ true) × (found n new ≡ false)
   tick_clears f n flushed =
       let o : Orders31 (sight_in old) old.driver.plan new.driver.plan (due (sight_in old) old.driver) n =
-      moved_clears (sight_in old) old.driver.plan new.driver.plan (due (sight_in old) old.driver) n move f (act_clears n (due (sight_in old) old.driver) flushed) in (
+      moved_clears (sight_in old) old.driver.plan new.driver.plan (due (sight_in old) old.driver) n move f (act_clears old.driver.plan.mode n (due (sight_in old) old.driver) flushed) in (
         left_or_read n o.left,
         or_from (is_left n new.driver.plan) (is_named n new) (cleared_none (sight_in old) old.driver.plan new.driver.plan (due (sight_in old) old.driver) n o.order o.asked)
             (ap (λ (x : Order). (is_scan x && new.driver.plan.asked) && tells n (control_of new)) o.order),

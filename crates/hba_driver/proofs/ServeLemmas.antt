@@ -114,16 +114,16 @@ clears mode dev (Clear port) h =
 clears mode dev (Detect port) h = none_cleared mode dev h
 clears mode dev Watch h = absurd (false≢true h)
 
-pub act_clears : {mode : Mode} (dev : ℕ) (a : Option Act) → list_any (flushes dev) (effects_due mode a) ≡ true → a ≡ Some (act.Orders (Clear dev))
+pub act_clears : (mode : Mode) (dev : ℕ) (a : Option Act) → list_any (flushes dev) (effects_due mode a) ≡ true → a ≡ Some (act.Orders (Clear dev))
 unfolding effects_of
-act_clears {mode} dev None h = absurd (false≢true h)
-act_clears {mode} dev (Some (act.Opens k)) h = absurd (false≢true (sym (opens_none mode dev k) ∙ h))
-act_clears {mode} dev (Some act.Stops) h = absurd (false≢true h)
-act_clears {mode} dev (Some (act.Restarts k)) h = absurd (false≢true (sym (restarts_none mode dev k) ∙ h))
-act_clears {mode} dev (Some (act.Clears other)) h = absurd (false≢true h)
-act_clears {mode} dev (Some (act.Orders order)) h = ap (λ (o : Order). Some (act.Orders o)) (clears mode dev order h)
-act_clears {mode} dev (Some (act.Steps other stage)) h = absurd (false≢true (sym (steps_none mode dev other stage) ∙ h))
-act_clears {mode} dev (Some (act.Issues slot other queued)) h = absurd (false≢true (sym (issues_none mode dev slot other queued) ∙ h))
+act_clears mode dev None h = absurd (false≢true h)
+act_clears mode dev (Some (act.Opens k)) h = absurd (false≢true (sym (opens_none mode dev k) ∙ h))
+act_clears mode dev (Some act.Stops) h = absurd (false≢true h)
+act_clears mode dev (Some (act.Restarts k)) h = absurd (false≢true (sym (restarts_none mode dev k) ∙ h))
+act_clears mode dev (Some (act.Clears other)) h = absurd (false≢true h)
+act_clears mode dev (Some (act.Orders order)) h = ap (λ (o : Order). Some (act.Orders o)) (clears mode dev order h)
+act_clears mode dev (Some (act.Steps other stage)) h = absurd (false≢true (sym (steps_none mode dev other stage) ∙ h))
+act_clears mode dev (Some (act.Issues slot other queued)) h = absurd (false≢true (sym (issues_none mode dev slot other queued) ∙ h))
 
 -- what is due tells what becomes of the driver
 tick_of : (v : Sight) (file : TaskFile) (d : Driver) (a : Act) → due v d ≡ Some a → after_tick v file d ≡ acted (Some a) file (seen v d)
@@ -132,7 +132,7 @@ tick_of v file d a is = ap (λ (x : Option Act). acted x file (seen v d)) is
 
 -- so the tick is that of the port's scan
 pub cleared : (v : Sight) (file : TaskFile) (d : Driver) (dev : ℕ) → list_any (flushes dev) (effects v d) ≡ true → after_tick v file d ≡ acted (Some (act.Orders (Clear dev))) file (seen v d)
-cleared v file d dev h = tick_of v file d (act.Orders (Clear dev)) (act_clears dev (due v d) h)
+cleared v file d dev h = tick_of v file d (act.Orders (Clear dev)) (act_clears d.plan.mode dev (due v d) h)
 
 absent_set : (devices : List Device) (dev : ℕ) → get_or (set devices dev Absent) dev Absent ≡ Absent
 absent_set devices dev = elim (cases_lt dev (length devices)) [

@@ -96,7 +96,7 @@ module _ (mode : Mode) (port : Port) (memory : Memory) (d : Driver) (past : Touc
   pub bit_on : (n s : ℕ) (t : Transfer) → n < 16 → s < 32 → issued s (own n past) ≡ Some t → has_bit (sight_of mode port memory).issued s ≡ true
   bit_on n s t below slot here = elim (cases_Bool (has_bit (sight_of mode port memory).issued s)) [
     | inl on ↦ on
-    | inr off ↦ absurd (false≢true (sym (ap is_some (free_slot port memory s host.slots slot off)) ∙ told_at (beside port memory) past served.told n s t below here))
+    | inr off ↦ absurd (false≢true (sym (ap is_some (free_slot mode port memory s host.slots slot off)) ∙ told_at (beside port memory) past served.told n s t below here))
   ]
 
   seen_follows : Follows d (seen (sight_of mode port memory) d)
@@ -454,7 +454,7 @@ none_fis d n s t command h = cc
 
 none_of_two : (mode : Mode) → AreOfOne mode []
 none_of_two Switching = tt
-none_of_two CommandBased n m s r t u here there = cc
+none_of_two CommandBased = λ n m s r t u here there. cc
 
 opens : (mode : Mode) (given len : ℕ) → is_memory_size len ≡ true → IsServed (new_driver_in mode given) (shared_by (opening_host_in mode given len)) []
 opens mode given len h = record {

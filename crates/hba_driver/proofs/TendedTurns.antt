@@ -283,7 +283,7 @@ reset_over n v plan entries x true bit is here asked =
 
 pub slot_over : (n : ℕ) (old : Host) (p : Path) → IsSoundHost old → due (sight_in old) old.driver ≡ Some (act.Steps n AssertReset) → old.driver.plan.path ≡ Some p → p.asked ≡ true → issue_at old.port.slots 30 ≡ None
 slot_over n old p sound is here asked =
-    free_slot old.port old.memory 30 sound.ruled.table (omega arith)
+    free_slot old.driver.plan.mode old.port old.memory 30 sound.ruled.table (omega arith)
     (reset_over n (sight_in old) old.driver.plan (done_ended (sight_in old).issued old.driver.entries) p (has_bit (sight_in old).issued 30) refl is here asked)
 
 -- ---- each turn

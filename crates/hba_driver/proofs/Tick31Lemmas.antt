@@ -205,7 +205,7 @@ module _ (h : Host) (g : IsGoing h) (stage : Stage31) (at : IsAt31 stage h) wher
     bit31 i there = elim (cases_Bool (has_bit v.issued 31)) [
       | inl on ↦ on
       | inr off ↦
-          let none : issue_at h.port.slots 31 ≡ None = slot_free h.port h.memory 31 g.way.sound.ruled.table (omega arith) off in
+          let none : issue_at h.port.slots 31 ≡ None = slot_free h.driver.plan.mode h.port h.memory 31 g.way.sound.ruled.table (omega arith) off in
           let bad : None ≡ Some i = sym none ∙ (own_in 15 31 h.port.slots i there).1 in
           cc
     ]

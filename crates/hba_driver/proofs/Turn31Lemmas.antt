@@ -157,7 +157,7 @@ opening_view k less old new before after off acts = ap (view_of 15) acts.4.0 ∙
 module _ (old : Host) (g : IsGoing old) (stage : Stage31) (at : IsAt31 stage old) (acted : Bool) (new : Host) (does : Does old (Ticked acted) new) where
   -- what is due if a device is flushed
   clears_due : (n : ℕ) → orders_clear n old ≡ true → due (sight_in old) old.driver ≡ Some (act.Orders (Clear n))
-  clears_due n flushed = act_clears n (due (sight_in old) old.driver) flushed
+  clears_due n flushed = act_clears old.driver.plan.mode n (due (sight_in old) old.driver) flushed
 
   first_any : (b c : Bool) → b ≡ true → (b || c) ≡ true
   first_any true c e = refl

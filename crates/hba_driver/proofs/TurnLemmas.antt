@@ -238,7 +238,7 @@ framed_over (t ∷ turns) old new run =
     framed_then (events_of old t run.0 run.1) (events_over run.0 new turns run.2) (framed_turn old t run.0 run.1) (framed_over turns run.0 new run.2)
 
 pub turns_are_events : TurnsAreEvents
-turns_are_events old new turns run s =
+turns_are_events mode old new turns run s =
     let g = good_turns turns old new run s in
     record { runs = g.runs; sound = record { hosts = g.hosts; frames = framed_over turns old new run } }
 

@@ -153,7 +153,7 @@ pub record AreEvents (old new : Host) (turns : List HostTurn) (run : DoesAll old
 
 abbrev pub TurnsAreEvents : Type 0
 TurnsAreEvents =
-    {mode : Mode} (old new : Host) (turns : List HostTurn) (run : DoesAll old turns new)
+    (mode : Mode) (old new : Host) (turns : List HostTurn) (run : DoesAll old turns new)
     → IsSoundHostIn mode old → AreEvents old new turns run
 
 -- ---- laws: what the events are

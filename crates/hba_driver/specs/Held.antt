@@ -14,7 +14,7 @@ use Rattle.hba_driver.specs.Served.{IsServed, RunServes}
 -- This holds over each turn whose events serve what is issued.
 abbrev pub TurnsHoldWrites : Type 0
 TurnsHoldWrites =
-    {mode : Mode} (old : Host) (turn : HostTurn) (new : Host) (run : DoesAll old (turn ∷ []) new)
+    (mode : Mode) (old : Host) (turn : HostTurn) (new : Host) (run : DoesAll old (turn ∷ []) new)
     → IsSoundHostIn mode old → (past : Touches) → IsServed old.driver (shared_by old) past
     → (serves : RunServes old new (turn ∷ []) run past) → HoldsWrites past
     → HoldsWrites (touches_after past (shared_by old) (shared_by new)

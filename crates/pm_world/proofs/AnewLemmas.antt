@@ -293,7 +293,7 @@ module _ (config : Config) (units : List Unit) (fits : is_config config (length 
     flush_now answer.Ticked is flushed none =
         let ticked : Rule old s (Ok answer.Ticked) new = subst (λ (x : Answer). Rule old s (Ok x) new) is rule in
         let tick : Rule old step.Tick (Ok answer.Ticked) new = subst (λ (t : Step). Rule old t (Ok answer.Ticked) new) (tick_step old s new ticked) ticked in
-        let flush : IsFlushTick n old.host = act_clears n (due (sight_in old.host) old.host.driver) flushed in
+        let flush : IsFlushTick n old.host = act_clears old.host.driver.plan.mode n (due (sight_in old.host) old.host.driver) flushed in
         let turns_are : now_turns ≡ turns ++ Ticked true ∷ [] = ap (λ (x : Answer). turns ++ turn_of old s x new) is in
         Unsent (ap (λ (b : Bool). if b then true else if list_any (is_clear n) (pushed_by old s a new) then false else unsent)
         (ap (orders_clear n old) is ∙ flushed))

@@ -27,7 +27,7 @@ module _ (old : Host) (turns : List HostTurn) (new : Host) (does : DoesAll old t
       histories_by_own n below (shared_by old) (shared_by new) (events_over old new turns does) (record { run = e.runs; hosts = e.sound.hosts; devices = devices }) past
 
   are_isolated : IsSoundHost old → AreIsolated old turns new does
-  are_isolated sound = record { events = turns_are_events old new turns does sound; frames = each_run_tells old new turns does; fold = folds; bytes = histories }
+  are_isolated sound = record { events = turns_are_events _ old new turns does sound; frames = each_run_tells old new turns does; fold = folds; bytes = histories }
 
 pub isolates : (old : Places) (steps : List Step) (answers : List Answer) (new : Places) (run : Run old steps answers new) → Isolates old steps answers new run
 isolates old steps answers new run = record {

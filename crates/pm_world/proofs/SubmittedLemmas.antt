@@ -73,7 +73,7 @@ touched_sent len turns h touches right (goes before turn old new past run serves
     let served : IsServed old.driver (shared_by old) past = touched_served len before old past right came in
     let kept : AreKept old past = touched_kept len before old past right came in
     record {
-      held = turns_hold_writes old turn new run (touched_sound len before old past right came) past served serves first.held;
+      held = turns_hold_writes _ old turn new run (touched_sound len before old past right came) past served serves first.held;
       gathered = data_is_gathered (shared_by old) (shared_by new) (events_over old new (turn ∷ []) run) serves.runs serves.sound zero_at past served.told
           kept.tables serves.spared kept.client first.gathered;
     }

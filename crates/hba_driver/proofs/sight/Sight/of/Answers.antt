@@ -18,10 +18,10 @@ returns c =
     let port : Port = c.args.port.now in
     same_sight _ (sight_of c.args.mode port c.args.memory.now)
     (rw (c.register.ensures, c.register-2.ensures) refl)
-    (c.stopped.ensures ∙ rw (c.has_bit.ensures, c.register.ensures, c.register-2.ensures, c.register-3.ensures) refl)
+    (c.stopped.ensures ∙ rw (c.has_bit-notified.ensures, c.register.ensures, c.register-2.ensures, c.register-3.ensures) refl)
     c.faulty_device.ensures
     c.resetting.ensures c.in_reset.ensures
-    (c.has_bit.ensures ∙ ap (λ (x : ℕ). has_bit x 15) c.register-3.ensures)
+    (c.has_bit-notified.ensures ∙ ap (λ (x : ℕ). has_bit x 15) c.register-3.ensures)
     (c.answer.ensures ∙ ap (λ (b : List ℕ). answer_in (seen b)) c.last_d2h.ensures ∙ rw (c.structure.ensures.structure, c.answer_row.ensures.value) refl)
     c.signed_in.ensures
     (c.is_usable.ensures ∙ ap is_usable c.client.ensures.client)
