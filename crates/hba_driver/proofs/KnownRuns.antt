@@ -268,7 +268,7 @@ module _ (n : ℕ) (below : n < 15) (old new : Host) (w : IsOnWay old) where
   named_is ReleaseReset h = absurd (false≢true h)
   named_is AwaitReset h = absurd (false≢true h)
 
-  awaits_then : (h : HostUnknown n old) (file : TaskFile) → ActsAll (effects v old.driver) old.port old.memory new.port new.memory → Awaits n (after_tick v file old.driver).plan.path new.port
+  awaits_then : (h : HostUnknown n old) (file : TaskFile) → ActsAll (effects_due Switching (due v old.driver)) old.port old.memory new.port new.memory → Awaits n (after_tick v file old.driver).plan.path new.port
   unfolding after_tick ActsAll
   awaits_then h file acts p here dev named asked = by_act (turn v old.driver).act refl here acts
     where
