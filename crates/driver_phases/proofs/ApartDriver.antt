@@ -49,7 +49,7 @@ use Rattle.hba_driver.proofs.EndingLemmas.{MayClear, MayEnd, may_end}
 use Rattle.hba_driver.proofs.RowMode.{skipped_as}
 use Rattle.hba_driver.proofs.SteadyLemmas.{set_other}
 use Rattle.hba_driver.proofs.SteadyTurns.{calm_or_flush}
-use Rattle.hba_driver.proofs.SwitchLemmas.{tick_acts}
+use Rattle.hba_driver.proofs.SwitchLemmas.{sight_is, tick_acts}
 use Rattle.hba_driver.proofs.TendedTurns.{turn_tended}
 use Rattle.hba_driver.proofs.Tick31Lemmas.{faulty_shown}
 use Rattle.hba_driver.proofs.UnsoughtLemmas.{stays_unsought}
@@ -227,7 +227,7 @@ module _ (n : ℕ) (past : Touches) (h : Host) (low : n < 15) (on : IsOn30 past 
         absurd never
     by_stopped false is early =
         let shown_is = faulty_shown h.port h.memory on.sound.ruled on.going.faultless (reported_some h.port.errors.reported refl) in
-        let clears = early ∙ if_else (sight_in h).stopped _ _ is ∙ map_some _ (sight_in h).faulty shown_is.0 shown_is.1 in
+        let clears = early ∙ if_else (sight_in h).stopped _ _ is ∙ map_some _ (sight_in h).faulty shown_is.0 (ap (λ v. v.faulty) (sight_is h on.sound) ∙ shown_is.1) in
         let d = due_is (ap is_some clears) in
         record { dev = shown_is.0; is = d.0 ∙ clears; same = d.1 }
 
