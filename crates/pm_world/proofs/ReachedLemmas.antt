@@ -13,6 +13,7 @@ use Rattle.pm_world.proofs.Refusals.{same_where_refused}
 
 pub reached_run : (old : Places) (steps : List Step) (answers : List Answer) (new : Places) → IsReached old → Run old steps answers new → IsReached new
 reached_run old steps answers new r run = record {
+  mode = r.mode;
   config = r.config;
   units = r.units;
   fits = r.fits;
