@@ -1,6 +1,6 @@
 //! The controller.
 
-ghost use Rattle.std.specs.Prelude.{IfOk};
+ghost use Rattle.std.specs.Prelude.{◌≡◌, IfErr, IfOk};
 ghost use Rattle.hba_fbs.specs.Views.{opening_port};
 ghost use Rattle.ahci_port.specs.Opening.{IsOpening};
 ghost use Rattle.ahci_port.specs.States.{Tried};
@@ -58,7 +58,8 @@ pub(crate) fn opened(memory: &HostMemory) -> HostPort
 impl Controller {
     /// As it opens: nothing is issued, the port is stopped, the link is up and no interrupt is enabled.
     pub fn new(alloc: Global) -> Result<Controller, MemoryError>
-        ensures { IfOk result IsOpening }
+        ensures ok { IfOk result IsOpening }
+        ensures err { IfErr result (λ error. error ≡ MemoryError.OutOfMemory) }
     {
         let memory = HostMemory::new(alloc, WINDOW_LEN)?;
         let port = opened(&memory);

@@ -25,10 +25,17 @@ use Rattle.gefsunk.specs.declared.status.Status.TheVariants as status
 abbrev pub block : ℕ → List ℕ → Block
 block base bytes = record { base = base; bytes = bytes }
 
--- ---- numbers in C
+-- ---- numbers in C: 1 for yes and 0 for no, and nothing else is answered
+
+abbrev pub number_of : Bool → ℕ
+number_of b = if b then 1 else 0
 
 abbrev pub yes : ℕ → Bool
 yes n = n == 1
+
+-- the number is one of these
+abbrev pub Tells : ℕ → Type 0
+Tells n = n < 2
 
 abbrev pub link_of : ℕ → Effect
 link_of n = if n == 0 then Nothing else if n == 1 then LinkReset else LinkUp
@@ -39,12 +46,12 @@ abbrev pub HbaRead : ControllerState → ℕ → Status → ℕ → Type 0
 HbaRead hba offset answer value = (answer ≡ status.Done) × (value ≡ read_at hba offset)
 
 abbrev pub LineRule : ControllerState → Status → ℕ → Type 0
-LineRule hba answer raised = (answer ≡ status.Done) × (yes raised ≡ line hba.lines)
+LineRule hba answer raised = (answer ≡ status.Done) × (raised ≡ number_of (line hba.lines))
 
 abbrev pub HbaWrite :
     ControllerState → Block → (offset value : ℕ) → Status → (link message : ℕ) → ControllerState → Type 0
 HbaWrite old guest offset value answer link message new =
-    (answer ≡ status.Done)
+    (answer ≡ status.Done) × (link < 3) × Tells message
     × WritesAt (MayRead guest) (MayMiss guest) old offset value
     (record { effect = link_of link; message = yes message }) new
 
@@ -63,7 +70,7 @@ ShowsCount (Some c) taken = (taken.is_counted ≡ 1) × (taken.count_at ≡ c.at
 pub record Shows (took : Took) (taken : FisTaken) : Type 0 where
   pub posted : ShowsPost took.posted taken
   pub counted : ShowsCount took.counted taken
-  pub told : yes taken.message ≡ took.message
+  pub told : taken.message ≡ number_of took.message
 
 -- the controller takes it, or drops it
 pub record TakesOrDrops (old : ControllerState) (fis : List ℕ) (taken : FisTaken) (new : ControllerState)
@@ -120,10 +127,10 @@ pub record GivesFis (old : ControllerState) (guest : Block) (fis : List ℕ) (me
       (record { frame = Some (record { bytes = fis; stamp = stamp }); message = yes message }) new
 
 abbrev pub NextOut : ControllerState → Block → ℕ → Status → List ℕ → ℕ → ControllerState → Type 0
-NextOut old guest room status.Done fis message new = GivesFis old guest fis message new
+NextOut old guest room status.Done fis message new = Tells message × GivesFis old guest fis message new
 NextOut old guest room status.Nothing fis message new =
-    Gives old guest (record { frame = None; message = yes message }) new
+    Tells message × Gives old guest (record { frame = None; message = yes message }) new
 NextOut old guest room status.NoMemory fis message new =
-    (new ≡ record old { memory = new.memory }) × Prepares (MayRead guest) old new.memory
+    (is_deaf old ≡ true → ⊥) × (new ≡ record old { memory = new.memory }) × Prepares (MayRead guest) old new.memory
 NextOut old guest room status.TooShort fis message new = (room < 8196) × (new ≡ old)
 NextOut old guest room _ fis message new = ⊥

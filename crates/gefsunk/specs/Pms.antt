@@ -126,8 +126,10 @@ FromDevice old port fis status.Full new =
     × FromDeviceRule old.multiplier port (of_device old port fis)
     (Err (of_device old port fis)) new.multiplier
     × KeepsSeats old new
-FromDevice old port fis status.BadLength new = (is_frame fis ≡ false) × (new ≡ old)
-FromDevice old port fis status.NoMemory new = (is_frame fis ≡ true) × (new ≡ old)
+FromDevice old port fis status.BadLength new =
+    has_port old port × (slice_index old.seated port ≢ 0) × (is_frame fis ≡ false) × (new ≡ old)
+FromDevice old port fis status.NoMemory new =
+    has_port old port × (slice_index old.seated port ≢ 0) × (is_frame fis ≡ true) × (new ≡ old)
 FromDevice old port fis status.NotThere new =
     has_port old port × (slice_index old.seated port ≡ 0) × (new ≡ old)
 FromDevice old port fis status.NoPort new = (has_port old port → ⊥) × (new ≡ old)

@@ -1,5 +1,5 @@
 -- The number of each answer in C.
-use Rattle.std.specs.Prelude.{ℕ, ◌==◌, if◌then◌else◌}
+use Rattle.std.specs.Prelude.{ℕ, ◌==◌, ◌&&◌, nat_lt, Bool, not, if◌then◌else◌}
 use Rattle.gefsunk.specs.declared.status.Status.{Status}
 use Rattle.gefsunk.specs.declared.status.Status.TheVariants as status
 
@@ -23,3 +23,7 @@ status_of n =
     else if n == 16 then status.Spent
     else if n == 17 then status.BadDisk
     else status.NoSector
+
+-- the numbers that an export answers; 1 is the C side's
+abbrev pub is_code : ℕ → Bool
+is_code n = nat_lt n 19 && not (n == 1)

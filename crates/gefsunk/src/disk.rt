@@ -103,7 +103,8 @@ pub fn from_host(disk: &mut StockDisk, alloc: Global, fis: &[u8]) -> Status
 
 /// Writes the next FIS of the disk into the room, and its length.
 pub fn to_host(disk: &mut StockDisk, alloc: Global, room: &mut [u8], len: &mut usize) -> Status
-    ensures { DiskToHost disk.old (length room.old) result (take len.new room.new) disk.new }
+    ensures rule { DiskToHost disk.old (length room.old) result (take len.new room.new) disk.new }
+    ensures within { result ≡ Status.Done → len.new ≤ length room.old }
 {
     if room.len() < Frame::LONGEST {
         return Status::TooShort;

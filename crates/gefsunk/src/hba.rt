@@ -1,7 +1,7 @@
 //! A controller as the library for C keeps it.
 
-ghost use Rattle.std.specs.Prelude.{◌≡◌, ◌≤◌, if◌then◌else◌, length, take};
-ghost use Rattle.gefsunk.specs.Hbas.{DataRule, HbaRead, HbaTake, HbaWrite, LineRule, NextOut, Shows, link_of, place_of};
+ghost use Rattle.std.specs.Prelude.{◌≡◌, ◌≤◌, ◌<◌, length, take};
+ghost use Rattle.gefsunk.specs.Hbas.{DataRule, HbaRead, HbaTake, HbaWrite, LineRule, NextOut, Shows, link_of, number_of, place_of};
 
 use crate::guest::GuestBlock;
 use crate::pm::{copied, refused, stamp};
@@ -44,13 +44,14 @@ pub struct DataPlace {
 
 /// 1 for yes, 0 for no.
 fn number(yes: bool) -> u32
-    ensures { result ≡ (if yes then 1 else 0) }
+    ensures { result ≡ number_of yes }
 {
     u32::from(yes)
 }
 
 fn link_number(effect: Effect) -> u32
-    ensures { link_of result ≡ effect }
+    ensures is { link_of result ≡ effect }
+    ensures known { result < 3 }
 {
     match effect {
         Effect::Nothing => 0,
@@ -140,7 +141,8 @@ fn placed(step: Move) -> DataPlace
 
 /// Writes the places of the bytes of the Data FIS that was taken last into the room, and their number.
 pub fn data(controller: &Controller, room: &mut [DataPlace], count: &mut usize) -> Status
-    ensures { DataRule controller.now (length room.old) result (take count.new room.new) }
+    ensures rule { DataRule controller.now (length room.old) result (take count.new room.new) }
+    ensures within { result ≡ Status.Done → count.new ≤ length room.old }
 {
     let Some(moves) = controller.data() else {
         return Status::Nothing;
@@ -166,8 +168,9 @@ pub fn next_out(
     len: &mut usize,
     message: &mut u32,
 ) -> Status
-    ensures { NextOut controller.old guest.now (length room.old) result (take len.new room.new) message.new
+    ensures rule { NextOut controller.old guest.now (length room.old) result (take len.new room.new) message.new
         controller.new }
+    ensures within { result ≡ Status.Done → len.new ≤ length room.old }
 {
     if room.len() < Frame::LONGEST {
         return Status::TooShort;

@@ -2,12 +2,12 @@
 //! and returns the number of a [`Status`].
 #![tactic(auto)]
 
-ghost use Rattle.std.specs.Prelude.{◌≡◌, length, take};
+ghost use Rattle.std.specs.Prelude.{◌≡◌, ◌≢◌, ◌≤◌, length, take, true};
 ghost use Rattle.gefsunk.specs.Disks.{DiskFromHost, DiskPlug, DiskToHost, SectorRule};
 ghost use Rattle.gefsunk.specs.Exports.{AtDisk, AtHba, AtPm, FreedDisk, FreedHba, FreedPm, MadeDisk, MadeHba, MadePm};
 ghost use Rattle.gefsunk.specs.Hbas.{DataRule, HbaRead, HbaTake, HbaWrite, LineRule, NextOut, block};
 ghost use Rattle.gefsunk.specs.Pms.{FromDevice, FromHost, Plug, ReadRule, ToDevice, ToHost, Unplug};
-ghost use Rattle.gefsunk.specs.Statuses.{status_of};
+ghost use Rattle.gefsunk.specs.Statuses.{is_code, status_of};
 ghost use Rattle.gefsunk.specs.Texts.{TextRule};
 ghost use Rattle.gefsunk.specs.declared.status.Status.TheVariants as status;
 
@@ -32,7 +32,8 @@ use std::alloc::Global;
 /// Writes the text of a FIS and its length.
 #[unsafe(no_mangle)]
 pub extern "C" fn gefsunk_fis_text(fis: &[u8], room: &mut [u8], len: &mut usize) -> u32
-    ensures { TextRule fis.now (status_of result) (length room.old) len.old len.new }
+    ensures rule { TextRule fis.now (status_of result) (length room.old) len.old len.new }
+    ensures kept { status_of result ≢ status.Done → room.new ≡ room.old }
 {
     text::fis_text(fis, room, len).code()
 }
@@ -158,8 +159,9 @@ pub extern "C" fn gefsunk_pm_to_host(
     len: &mut usize,
     port: &mut u8,
 ) -> u32
-    ensures { AtPm handle.old.held.value (status_of result) handle.new.held.value
+    ensures rule { AtPm handle.old.held.value (status_of result) handle.new.held.value
         (λ old new. ToHost old (length room.old) (status_of result) (take len.new room.new) port.new new) }
+    ensures within { status_of result ≡ status.Done → len.new ≤ length room.old }
 {
     let Some(mut kept) = handle.take(alloc) else {
         return Status::Closed.code();
@@ -181,8 +183,9 @@ pub extern "C" fn gefsunk_pm_to_device(
     room: &mut [u8],
     len: &mut usize,
 ) -> u32
-    ensures { AtPm handle.old.held.value (status_of result) handle.new.held.value
+    ensures rule { AtPm handle.old.held.value (status_of result) handle.new.held.value
         (λ old new. ToDevice old port (length room.old) (status_of result) (take len.new room.new) new) }
+    ensures within { status_of result ≡ status.Done → len.new ≤ length room.old }
 {
     let Some(mut kept) = handle.take(alloc) else {
         return Status::Closed.code();
@@ -328,8 +331,9 @@ pub extern "C" fn gefsunk_disk_to_host(
     room: &mut [u8],
     len: &mut usize,
 ) -> u32
-    ensures { AtDisk handle.old.held.value (status_of result) handle.new.held.value
+    ensures rule { AtDisk handle.old.held.value (status_of result) handle.new.held.value
         (λ old new. DiskToHost old (length room.old) (status_of result) (take len.new room.new) new) }
+    ensures within { status_of result ≡ status.Done → len.new ≤ length room.old }
 {
     let Some(mut kept) = handle.take(alloc) else {
         return Status::Closed.code();
@@ -350,8 +354,9 @@ pub extern "C" fn gefsunk_disk_sector(
     lba: u32,
     room: &mut [u8],
 ) -> u32
-    ensures { AtDisk handle.old.held.value (status_of result) handle.new.held.value
+    ensures rule { AtDisk handle.old.held.value (status_of result) handle.new.held.value
         (λ old new. SectorRule old lba (length room.old) (status_of result) (take 512 room.new) × (new ≡ old)) }
+    ensures known { is_code result ≡ true }
 {
     let Some(kept) = handle.take(alloc) else {
         return Status::Closed.code();
@@ -500,8 +505,9 @@ pub extern "C" fn gefsunk_hba_data(
     room: &mut [DataPlace],
     count: &mut usize,
 ) -> u32
-    ensures { AtHba handle.old.held.value (status_of result) handle.new.held.value
+    ensures rule { AtHba handle.old.held.value (status_of result) handle.new.held.value
         (λ old new. DataRule old (length room.old) (status_of result) (take count.new room.new) × (new ≡ old)) }
+    ensures within { status_of result ≡ status.Done → count.new ≤ length room.old }
 {
     let Some(kept) = handle.take(alloc) else {
         return Status::Closed.code();
@@ -525,9 +531,10 @@ pub extern "C" fn gefsunk_hba_next_out(
     len: &mut usize,
     message: &mut u32,
 ) -> u32
-    ensures { AtHba handle.old.held.value (status_of result) handle.new.held.value
+    ensures rule { AtHba handle.old.held.value (status_of result) handle.new.held.value
         (λ old new. NextOut old (block base memory.now) (length room.old) (status_of result)
         (take len.new room.new) message.new new) }
+    ensures within { status_of result ≡ status.Done → len.new ≤ length room.old }
 {
     let Some(mut kept) = handle.take(alloc) else {
         return Status::Closed.code();

@@ -157,7 +157,8 @@ impl Pm {
         len: &mut usize,
         port: &mut u8,
     ) -> Status
-        ensures { ToHost self.old (length room.old) result (take len.new room.new) port.new self.new }
+        ensures rule { ToHost self.old (length room.old) result (take len.new room.new) port.new self.new }
+        ensures within { result ≡ Status.Done → len.new ≤ length room.old }
     {
         if room.len() < Frame::LONGEST {
             return Status::TooShort;
@@ -176,7 +177,8 @@ impl Pm {
 
     /// Writes the FIS that waits for the device at a port into the room, and its length.
     pub fn to_device(&mut self, port: u8, room: &mut [u8], len: &mut usize) -> Status
-        ensures { ToDevice self.old port (length room.old) result (take len.new room.new) self.new }
+        ensures rule { ToDevice self.old port (length room.old) result (take len.new room.new) self.new }
+        ensures within { result ≡ Status.Done → len.new ≤ length room.old }
     {
         if !self.has_port(port) {
             return Status::NoPort;
@@ -213,6 +215,7 @@ impl Pm {
 pub fn copied(frame: &Frame, room: &mut [u8]) -> usize
     requires { 8196 ≤ length room.old }
     ensures copied { take result room.new ≡ frame.now.bytes }
+    ensures within { result ≤ length room.old }
     ensures room { length room.new ≡ length room.old }
 {
     let bytes = frame.bytes();

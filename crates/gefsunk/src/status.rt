@@ -43,12 +43,13 @@ pub enum Status {
 }
 
 impl Status {
-    ghost use Rattle.std.specs.Prelude.{◌≡◌};
-    ghost use Rattle.gefsunk.specs.Statuses.{status_of};
+    ghost use Rattle.std.specs.Prelude.{◌≡◌, true};
+    ghost use Rattle.gefsunk.specs.Statuses.{is_code, status_of};
 
     /// The number of the answer in C. 1 is left to the C side, for a null pointer.
     pub fn code(self) -> u32
-        ensures { status_of result ≡ self }
+        ensures means { status_of result ≡ self }
+        ensures known { is_code result ≡ true }
     {
         self as u32
     }

@@ -1,6 +1,6 @@
 //! A FIS as text, without a handle.
 
-ghost use Rattle.std.specs.Prelude.{◌≡◌, ◌≤◌, IsTrue, length};
+ghost use Rattle.std.specs.Prelude.{◌≡◌, ◌≢◌, ◌≤◌, IsTrue, false, length, take};
 ghost use Rattle.gefsunk.specs.Texts.{TextRule};
 
 use crate::status::Status;
@@ -12,24 +12,25 @@ use std::fmt::Write;
 /// Room for the longest line.
 const LONGEST_LINE: usize = 160;
 
-/// Copies the text into the room. The caller says whether the room is long enough.
+/// Copies the text into the room, if it is long enough, and says whether it is.
 fn copied(text: &[u8], room: &mut [u8]) -> bool
     ensures room { length room.new ≡ length room.old }
     ensures fits { IsTrue result → length text.now ≤ length room.old }
+    ensures put { IsTrue result → take (length text.now) room.new ≡ text.now }
+    ensures kept { result ≡ false → room.new ≡ room.old }
 {
-    match room.get_mut(..text.len()) {
-        Some(place) => {
-            place.copy_from_slice(text);
-            true
-        }
-        None => false,
+    if text.len() > room.len() {
+        return false;
     }
+    room[..text.len()].copy_from_slice(text);
+    true
 }
 
 /// Writes the text of a FIS, without a 0 behind it, and its length. If the text does not fit, or the bytes
 /// are not a FIS, nothing is written.
 pub fn fis_text(fis: &[u8], room: &mut [u8], len: &mut usize) -> Status
-    ensures { TextRule fis.now result (length room.old) len.old len.new }
+    ensures rule { TextRule fis.now result (length room.old) len.old len.new }
+    ensures kept { result ≢ Status.Done → room.new ≡ room.old }
 {
     if !is_frame_length(fis) {
         return Status::BadLength;

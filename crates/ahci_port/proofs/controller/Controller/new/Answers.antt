@@ -6,8 +6,8 @@ use Rattle.ahci_port.specs.States.{Tried}
 use Rattle.ahci_port.proofs.OpeningLemmas.{no_tables}
 use Rattle.ahci_port.proofs.controller.Controller.new.Goals as goal
 
-pub returns : goal.returns
-returns c = record {
+pub returns-clause-ok : goal.returns-clause-ok
+returns-clause-ok c = record {
   port = subst (λ (m : Memory). Tried Fb opening_port m 0x1000 c.opened-port.result) c.in_ok-memory.ensures.ok c.opened-port.ensures;
   memory = c.in_ok-memory.ensures.ok;
   lines = c.new-2.ensures;
