@@ -68,6 +68,7 @@ typedef struct gef_pump {
     uint32_t message; /* 1: a message (MSI) is due. It stays 1 until you set it to 0 */
     uint32_t moved;   /* 1: something moved in the last round, so more may move in the next */
     uint32_t plugged; /* bit n: the disk at port n is plugged in */
+    uint32_t link;    /* what the last write did to the link: GEF_LINK_STAYS, GEF_LINK_RESET or GEF_LINK_UP */
 
     /* The pump's own. */
     uint8_t ports, down_port;
@@ -107,7 +108,23 @@ static inline void gef_pump_forget(gef_pump *pump) {
     for (port = 0; port < GEF_PUMP_PORTS; port++) pump->up[port].len = 0;
 }
 
-/* From the controller to the multiplier: one FIS. */
+/* To the other end of the link: the multiplier, or the one disk, which sees 0 as PM Port, as behind a multiplier. */
+static inline gef_status gef_pump_to_link(gef_pump *pump) {
+    if (pump->ports) return gef_pm_from_host(&pump->pm, pump->out.fis, pump->out.len);
+    if (!(pump->plugged & 1)) return GEF_DROPPED;
+    pump->out.fis[1] &= 0xF0;
+    return gef_disk_from_host(&pump->disks[0], pump->out.fis, pump->out.len);
+}
+
+/* From there. */
+static inline gef_status gef_pump_from_link(gef_pump *pump) {
+    uint8_t port;
+    if (pump->ports) return gef_pm_to_host(&pump->pm, pump->in.fis, GEF_FIS_ROOM, &pump->in.len, &port);
+    if (!(pump->plugged & 1)) return GEF_NOTHING;
+    return gef_disk_to_host(&pump->disks[0], pump->in.fis, GEF_FIS_ROOM, &pump->in.len);
+}
+
+/* From the controller to the other end: one FIS. */
 static inline gef_status gef_pump_out(gef_pump *pump) {
     gef_memory memory = gef_pump_memory(pump);
     uint32_t message = 0;
@@ -118,7 +135,7 @@ static inline gef_status gef_pump_out(gef_pump *pump) {
         if (status != GEF_OK) return status == GEF_NOTHING ? GEF_OK : status;
         gef_pump_show(pump, 1, &pump->out);
     }
-    status = gef_pm_from_host(&pump->pm, pump->out.fis, pump->out.len);
+    status = gef_pump_to_link(pump);
     if (status == GEF_FULL) return GEF_OK;
     if (status != GEF_OK && status != GEF_DROPPED) return status;
     pump->out.len = 0;
@@ -182,13 +199,12 @@ static inline gef_status gef_pump_take(gef_pump *pump) {
     return status == GEF_NOTHING ? GEF_OK : status;
 }
 
-/* From the multiplier to the controller: all that can go. */
+/* From the other end to the controller: all that can go. */
 static inline gef_status gef_pump_in(gef_pump *pump) {
     gef_status status;
-    uint8_t port;
     for (;;) {
         if (!pump->in.len) {
-            status = gef_pm_to_host(&pump->pm, pump->in.fis, GEF_FIS_ROOM, &pump->in.len, &port);
+            status = gef_pump_from_link(pump);
             if (status != GEF_OK) return status == GEF_NOTHING ? GEF_OK : status;
             gef_pump_show(pump, 0, &pump->in);
         }
@@ -200,20 +216,21 @@ static inline gef_status gef_pump_in(gef_pump *pump) {
 /* ---- what you call ----------------------------------------------------------------------------------------------- */
 
 /*
- * Makes the controller, and a multiplier with 1 to 15 device ports and no device.
+ * Makes the controller, and a multiplier with 1 to 15 device ports and no device. With 0 ports there is no multiplier:
+ * the disk of port 0 is at the other end of the link.
  * Can return GEF_OPEN, GEF_BAD_PORTS, GEF_NO_MEMORY.
  */
 static inline gef_status gef_pump_open(gef_pump *pump, uint8_t ports) {
     gef_status status = gef_hba_new(&pump->hba);
     if (status != GEF_OK) return status;
-    status = gef_pm_new(&pump->pm, ports);
+    if (ports) status = gef_pm_new(&pump->pm, ports);
     if (status != GEF_OK) {
         gef_hba_free(&pump->hba);
         return status;
     }
     gef_pump_forget(pump);
     pump->ports = ports;
-    pump->raised = pump->message = pump->moved = pump->plugged = pump->is_reset_due = 0;
+    pump->raised = pump->message = pump->moved = pump->plugged = pump->link = pump->is_reset_due = 0;
     return GEF_OK;
 }
 
@@ -229,21 +246,21 @@ static inline void gef_pump_close(gef_pump *pump) {
 /*
  * What is behind the controller begins anew, as after a reset of its link: the multiplier, and the disks plugged into
  * it. What is on its way is dropped; the media stay. gef_pump_write32 does this where a write resets the link.
- * Can return GEF_CLOSED, GEF_NO_MEMORY (the next call begins with it).
+ * Can return GEF_CLOSED (a disk was freed and not pulled), GEF_NO_MEMORY (the next call begins with it).
  */
 static inline gef_status gef_pump_reset(gef_pump *pump) {
     gef_pm anew = GEF_PM_CLOSED;
-    gef_status status = gef_pm_new(&anew, pump->ports);
+    gef_status status = pump->ports ? gef_pm_new(&anew, pump->ports) : GEF_OK;
     uint8_t port;
     pump->is_reset_due = 1;
-    if (status != GEF_OK) return status == GEF_BAD_PORTS ? GEF_CLOSED : status;
+    if (status != GEF_OK) return status;
     gef_pm_free(&pump->pm);
     pump->pm = anew;
     gef_pump_forget(pump);
-    for (port = 0; port < pump->ports; port++) {
+    for (port = 0; port < GEF_PUMP_PORTS; port++) {
         if (!(pump->plugged >> port & 1)) continue;
         status = gef_disk_plug(&pump->disks[port]);
-        if (status == GEF_OK) status = gef_pm_plug(&pump->pm, port);
+        if (status == GEF_OK && pump->ports) status = gef_pm_plug(&pump->pm, port);
         if (status != GEF_OK) return status;
     }
     pump->is_reset_due = 0;
@@ -261,8 +278,10 @@ static inline gef_status gef_pump_ready(gef_pump *pump) {
  */
 static inline gef_status gef_pump_plug(gef_pump *pump, uint8_t port) {
     gef_status status = gef_pump_ready(pump);
-    if (status == GEF_OK) status = gef_pm_plug(&pump->pm, port);
+    if (status == GEF_OK && pump->ports) status = gef_pm_plug(&pump->pm, port);
     if (status != GEF_OK) return status;
+    if (!pump->ports && port) return GEF_NO_PORT;
+    if (!pump->ports && pump->plugged & 1) return GEF_ALREADY_THERE;
     status = gef_disk_plug(&pump->disks[port]);
     if (status == GEF_OK)
         pump->plugged |= 1u << port;
@@ -277,7 +296,7 @@ static inline gef_status gef_pump_plug(gef_pump *pump, uint8_t port) {
  */
 static inline gef_status gef_pump_unplug(gef_pump *pump, uint8_t port) {
     if (port >= GEF_PUMP_PORTS || !(pump->plugged >> port & 1)) return GEF_NOT_THERE;
-    gef_pm_unplug(&pump->pm, port);
+    gef_pm_unplug(&pump->pm, port); /* closed where there is no multiplier, or due for a reset */
     pump->plugged &= ~(1u << port);
     pump->up[port].len = 0;
     if (pump->down_port == port) pump->down.len = 0;
@@ -294,6 +313,7 @@ static inline gef_status gef_pump_write32(gef_pump *pump, uint32_t offset, uint3
     uint32_t link = GEF_LINK_STAYS, message = 0;
     gef_status status = gef_hba_write32(&pump->hba, &memory, offset, value, &link, &message);
     pump->message |= message;
+    pump->link = link;
     if (status == GEF_OK && link == GEF_LINK_RESET) status = gef_pump_reset(pump);
     gef_hba_line(&pump->hba, &pump->raised);
     return status;
@@ -313,6 +333,7 @@ static inline gef_status gef_pump_step(gef_pump *pump) {
         if (pump->plugged >> port & 1 && status == GEF_OK) status = gef_pump_up(pump, port);
         if (status == GEF_OK) status = gef_pump_in(pump);
     }
+    if (!pump->ports && status == GEF_OK) status = gef_pump_in(pump);
     gef_hba_line(&pump->hba, &pump->raised);
     return status;
 }

@@ -79,19 +79,24 @@ static void settle(void) {
     if (pump.moved) fail("still moves", 0);
 }
 
+/* Where the first sector of a slot's command lies. */
+static uint32_t data_of(unsigned slot) {
+    return SECTORS + 2048u * slot + 256;
+}
+
 /* The command of a slot, with two PRDs where it moves data. */
 static void command(unsigned slot, unsigned port, const uint8_t *fis, uint32_t bytes) {
-    uint32_t table = TABLES + 0x100u * slot, data = SECTORS + 2048u * slot;
+    uint32_t table = TABLES + 0x100u * slot;
     put32(LIST + 32u * slot, 5u | (fis[2] == 0x61 ? 0x40u : 0) | port << 12 | (bytes ? 2u << 16 : 0));
     put32(LIST + 32u * slot + 4, 0);
     put32(LIST + 32u * slot + 8, table);
     put32(LIST + 32u * slot + 12, 0);
     memcpy(memory + table, fis, 20);
     memory[table + 1] = (uint8_t)(0x80 | port);
-    put32(table + 0x80, data + 256);
+    put32(table + 0x80, data_of(slot));
     put32(table + 0x84, 0);
     put32(table + 0x8C, bytes / 2 - 1);
-    put32(table + 0x90, data + 1024);
+    put32(table + 0x90, data_of(slot) + 768);
     put32(table + 0x94, 0);
     put32(table + 0x9C, bytes / 2 - 1);
 }
@@ -140,10 +145,10 @@ static void bring_up(unsigned ports) {
 /* What the guest has at the end, and the disks. */
 typedef struct found {
     uint8_t memory[MEMORY], sectors[3][16][512];
-    uint32_t is, ci, sact, fbs;
+    uint32_t is, ci, sact, fbs, scontrol;
 } found;
 
-static void look(found *now) {
+static void look(found *now, unsigned disks) {
     unsigned port;
     uint8_t lba;
     memcpy(now->memory, memory, MEMORY);
@@ -151,58 +156,64 @@ static void look(found *now) {
     must("read", gef_hba_read32(&pump.hba, CI, &now->ci));
     must("read", gef_hba_read32(&pump.hba, SACT, &now->sact));
     must("read", gef_hba_read32(&pump.hba, FBS, &now->fbs));
-    for (port = 0; port < 3; port++)
+    for (port = 0; port < disks; port++)
         for (lba = 0; lba < 16; lba++)
             must("sector", gef_disk_sector(&pump.disks[port], lba, now->sectors[port][lba], 512));
 }
 
-/* The link is reset, three disks are found, each is read and written by commands that are all under way at once. */
-static void scene(found *now) {
+/* Disks are found, and again after a reset of the link. Then each is read and written, with all commands under way. */
+static void scene(found *now, uint8_t ports) {
     static const uint32_t flags[3] = {GEF_DISK_AUTO, GEF_DISK_NEWEST | GEF_DISK_LAST_FIRST, GEF_DISK_STOCK};
     static const uint32_t bad[1] = {9};
     gef_status status;
-    uint8_t port;
+    uint8_t port, disks = ports ? ports : 1;
     size_t at;
     for (at = 0; at < MEMORY; at++) memory[at] = (uint8_t)(at * 7 + at / 251);
     memset(&pump, 0, sizeof pump);
     pump.memory = memory;
     pump.len = MEMORY;
-    AGAIN(status, gef_pump_open(&pump, 3));
+    AGAIN(status, gef_pump_open(&pump, ports));
     must("open", status);
-    for (port = 0; port < 3; port++) {
+    for (port = 0; port < disks; port++) {
         must("disk", gef_disk_new(&pump.disks[port], 16, 512, flags[port], port, bad, 1));
         AGAIN(status, gef_pump_plug(&pump, port));
         must("plug", status);
     }
+    bring_up(ports);
+    write_register(CMD, 0x20010);
     write_register(SCTL, 0x301);
     settle();
+    if (ports) must("SControl", gef_pm_read(&pump.pm, 0, 2, &now->scontrol));
     write_register(SCTL, 0x300);
-    bring_up(3);
-    for (port = 0; port < 3; port++) {
+    bring_up(ports);
+    for (port = 0; port < disks; port++) {
         queue(3 + port, port, 0x60, (uint8_t)(1 + port));
         queue(8 + port, port, 0x61, (uint8_t)(5 + port));
         queue(20 + port, port, 0x60, (uint8_t)(12 + port));
     }
     settle();
-    queue(30, 1, 0x60, 9);
+    queue(30, disks - 1, 0x60, 9);
     settle();
-    look(now);
+    look(now, disks);
     gef_pump_close(&pump);
 }
 
-static void play_refused(void) {
+static void play_refused(uint8_t ports) {
     static found whole, now;
     unsigned long all;
     refused = 0;
     asked = 0;
-    scene(&whole);
-    if (whole.ci != 0 || whole.sact != 1u << 30 || !memcmp(whole.sectors[0][5], whole.sectors[1][5], 512))
-        fail("the scene", (int)whole.ci);
+    memset(&whole, 0, sizeof whole);
+    scene(&whole, ports);
+    if (ports && whole.scontrol != 4) fail("the multiplier was not reset", (int)whole.scontrol);
+    if (whole.ci != 0 || whole.sact != 1u << 30) fail("not all commands ended but the last", (int)whole.ci);
+    if (memcmp(whole.memory + data_of(3), whole.sectors[0][1], 512)) fail("a read brought other bytes", 3);
+    if (memcmp(whole.memory + data_of(8), whole.sectors[0][5], 512)) fail("a write brought other bytes", 8);
     all = asked;
     for (refused = 1; refused <= all; refused++) {
         asked = 0;
         memset(&now, 0, sizeof now);
-        scene(&now);
+        scene(&now, ports);
         if (memcmp(&whole, &now, sizeof now)) fail("another end where an allocation was refused", (int)refused);
     }
     printf("%lu allocations refused, one at a time\n", all);
@@ -246,7 +257,7 @@ static void write_any(void) {
 
 static void act(unsigned ports) {
     static const uint8_t codes[6] = {0x60, 0x61, 0x61, 0xEC, 0x2F, 0xE5};
-    unsigned port = pick(ports);
+    unsigned port = pick(ports ? ports : 1);
     switch (pick(12)) {
     case 0: plug_or_pull(port); break;
     case 1: write_any(); break;
@@ -257,7 +268,7 @@ static void act(unsigned ports) {
         break;
     case 3: write_multiplier(port, (uint8_t)pick(3), pick(2) ? 0 : pick(0x10000)); break;
     case 4: bring_up(ports); break;
-    case 5: memory[pick(MEMORY)] = (uint8_t)pick(256); break;
+    case 5: memory[pick((uint32_t)pump.len)] = (uint8_t)pick(256); break;
     case 6: write_register(IS, 0xFFFFFFFFu); break;
     case 7: must("step", gef_pump_settle(&pump, pick(4))); break;
     default: queue(1 + pick(31), port, codes[pick(6)], (uint8_t)pick(64)); break;
@@ -273,17 +284,19 @@ static void play_random(double seconds) {
         memset(&pump, 0, sizeof pump);
         memset(memory, 0, MEMORY);
         pump.memory = memory;
-        pump.len = pick(4) ? MEMORY : 0x4800;
+        pump.len = pick(4) ? MEMORY : 0x4A00; /* data of slot 1 lie across its end */
         pump.write = pick(2) ? write_guest : 0;
-        ports = 1 + pick(4);
+        ports = pick(5);
         must("open", gef_pump_open(&pump, (uint8_t)ports));
-        for (at = 0; at < ports; at++) plug_or_pull(at);
+        for (at = 0; at < (ports ? ports : 1); at++) plug_or_pull(at);
         bring_up(ports);
         for (at = 0; at < 300; at++) {
             act(ports);
             full += pump.up[0].len != 0 || pump.out.len != 0;
         }
         settle();
+        for (at = (unsigned)pump.len; at < MEMORY && !pump.write; at++)
+            if (memory[at]) fail("written past the memory", (int)at);
         gef_pump_close(&pump);
         lists++;
     } while (clock() < until);
@@ -291,11 +304,13 @@ static void play_random(double seconds) {
 }
 
 int main(int count, char **words) {
-    if (count == 2 && !strcmp(words[1], "refused"))
-        play_refused();
-    else if (count == 3 && !strcmp(words[1], "random"))
+    if (count == 2 && !strcmp(words[1], "refused")) {
+        play_refused(3);
+        play_refused(0);
+    } else if (count == 3 && !strcmp(words[1], "random")) {
         play_random(strtod(words[2], 0));
-    else
+    } else {
         return 2;
+    }
     return 0;
 }
