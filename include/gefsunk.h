@@ -234,6 +234,8 @@ gef_status gef_disk_sector(gef_disk *disk, uint32_t lba, uint8_t *bytes, size_t 
  *     pump, until nothing moves: gef_hba_next_out gives a FIS: it goes to gef_pm_from_host
  *                                gef_pm_to_host gives one: it goes to gef_hba_take, and from there to guest memory
  *     after each of them:        gef_hba_line says whether the interrupt line is up
+ *
+ * gefsunk_pump.h has this loop, for a multiplier with disks of this library.
  */
 typedef struct gef_hba {
     uint32_t mark;

@@ -4,7 +4,7 @@
  */
 #include <stdio.h>
 #include <string.h>
-#include "gefsunk.h"
+#include "gefsunk_pump.h"
 
 /* Registers of the port. */
 enum { CLB = 0x100, FB = 0x108, IS = 0x110, IE = 0x114, CMD = 0x118, SCTL = 0x12C, SACT = 0x134, CI = 0x138, FBS = 0x140 };
@@ -13,17 +13,17 @@ enum { CLB = 0x100, FB = 0x108, IS = 0x110, IE = 0x114, CMD = 0x118, SCTL = 0x12
 enum { LIST = 0x1000, AREA = 0x2000, TABLES = 0x4000, SECTORS = 0x8000, MEMORY = 0x10000 };
 
 static uint8_t memory[MEMORY];
-static const gef_memory guest = {memory, MEMORY, 0};
-static gef_hba hba = GEF_HBA_CLOSED;
-static gef_pm pm = GEF_PM_CLOSED;
-static gef_disk disks[2] = {GEF_DISK_CLOSED, GEF_DISK_CLOSED};
+static gef_pump pump;
 
 static void check(const char *what, gef_status status) {
     if (status != GEF_OK) printf("%s: %s\n", what, gef_status_text(status));
 }
 
-static void show(const char *way, const uint8_t *fis, size_t len) {
+/* The pump shows each FIS. */
+static void show(void *context, int is_out, const uint8_t *fis, size_t len) {
+    const char *way = is_out ? "out" : "in ";
     char text[GEF_TEXT_ROOM];
+    (void)context;
     if (fis[0] == 0x46) {
         printf("%s payload port %d bytes %d\n", way, fis[1] & 15, (int)(len - 4));
         return;
@@ -34,58 +34,16 @@ static void show(const char *way, const uint8_t *fis, size_t len) {
 
 static uint32_t read_register(uint32_t offset) {
     uint32_t value = 0;
-    check("read", gef_hba_read32(&hba, offset, &value));
+    check("read", gef_hba_read32(&pump.hba, offset, &value));
     return value;
 }
 
-/* A FIS for the controller, and what comes of it to the guest's memory: data, the FIS, PRDBC. */
-static void take(const uint8_t *fis, size_t len) {
-    static gef_place places[GEF_PLACES_ROOM];
-    gef_taken taken;
-    size_t count, at;
-    show("in ", fis, len);
-    check("take", gef_hba_take(&hba, fis, len, &taken));
-    if (gef_hba_data(&hba, places, GEF_PLACES_ROOM, &count) == GEF_OK)
-        for (at = 0; at < count; at++) memcpy(memory + places[at].at, fis + 4 + places[at].from, places[at].len);
-    if (taken.is_posted) memcpy(memory + taken.post_at, fis, len);
-    if (taken.is_counted)
-        for (at = 0; at < 4; at++) memory[taken.count_at + at] = (uint8_t)(taken.count >> 8 * at);
-}
-
-/* Moves FISes until none can move. Each finds its place empty, because the loop goes on until nothing waits. */
-static void settle(void) {
-    static uint8_t fis[GEF_FIS_ROOM];
-    uint32_t message;
-    uint8_t port, from;
-    size_t len;
-    int moved = 1;
-    while (moved) {
-        moved = 0;
-        if (gef_hba_next_out(&hba, &guest, fis, sizeof fis, &len, &message) == GEF_OK) {
-            show("out", fis, len);
-            check("down", gef_pm_from_host(&pm, fis, len));
-            moved = 1;
-        }
-        for (port = 0; port < 2; port++) {
-            if (gef_pm_to_device(&pm, port, fis, sizeof fis, &len) == GEF_OK) {
-                check("disk", gef_disk_from_host(&disks[port], fis, len));
-                moved = 1;
-            }
-            if (gef_disk_to_host(&disks[port], fis, sizeof fis, &len) == GEF_OK) {
-                check("up", gef_pm_from_device(&pm, port, fis, len));
-                moved = 1;
-            }
-            while (gef_pm_to_host(&pm, fis, sizeof fis, &len, &from) == GEF_OK) {
-                take(fis, len);
-                moved = 1;
-            }
-        }
-    }
-}
-
 static void write_register(uint32_t offset, uint32_t value) {
-    uint32_t link, message;
-    check("write", gef_hba_write32(&hba, &guest, offset, value, &link, &message));
+    check("write", gef_pump_write32(&pump, offset, value));
+}
+
+static void settle(void) {
+    check("settle", gef_pump_settle(&pump, 1000));
 }
 
 static void put32(size_t at, uint32_t value) {
@@ -123,12 +81,13 @@ static void write_multiplier(uint8_t port, uint8_t number, uint32_t value) {
 int main(void) {
     uint8_t read_it[20] = {0x27, 0x80, 0x60, 1, 0, 0, 0, 0x40};
     uint8_t port;
-    check("controller", gef_hba_new(&hba));
-    check("multiplier", gef_pm_new(&pm, 2));
+    pump.memory = memory;
+    pump.len = MEMORY;
+    pump.show = show;
+    check("open", gef_pump_open(&pump, 2));
     for (port = 0; port < 2; port++) {
-        check("disk", gef_disk_new(&disks[port], 64, 8192, GEF_DISK_AUTO, 0, 0, 0));
-        check("plug", gef_pm_plug(&pm, port));
-        check("plug", gef_disk_plug(&disks[port]));
+        check("disk", gef_disk_new(&pump.disks[port], 64, 8192, GEF_DISK_AUTO, 0, 0, 0));
+        check("plug", gef_pump_plug(&pump, port));
     }
     printf("CAP %08x, PxSSTS %03x\n", read_register(0), read_register(0x128));
 
@@ -162,8 +121,6 @@ int main(void) {
                memory[SECTORS + 512 * (3 + port) + 1], memory[SECTORS + 512 * (3 + port) + 511],
                memory[LIST + 32 * (3 + port) + 5] * 256 + memory[LIST + 32 * (3 + port) + 4]);
 
-    for (port = 0; port < 2; port++) check("free", gef_disk_free(&disks[port]));
-    check("free", gef_pm_free(&pm));
-    check("free", gef_hba_free(&hba));
+    gef_pump_close(&pump);
     return 0;
 }

@@ -36,6 +36,9 @@ fn main() -> Result<(), Error> {
     }
     println!("sector 8 begins with {:02x?}", &disk.sector(8)?[..4]);
     println!("sector 64: {}", disk.sector(64).unwrap_err());
-    println!("no disk: {}", Disk::new(0, &plan).err().expect("no sectors"));
+    println!(
+        "no disk: {}",
+        Disk::new(0, &plan).err().expect("no sectors")
+    );
     Ok(())
 }

@@ -39,6 +39,9 @@ pub enum Error {
     Unexpected(c_int),
 }
 
+/// `GEF_TOO_SHORT`: the room is too short.
+pub(crate) const TOO_SHORT: c_int = 9;
+
 /// `GEF_NOTHING`: there is nothing to give.
 pub(crate) const NOTHING: c_int = 10;
 

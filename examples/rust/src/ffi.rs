@@ -1,6 +1,8 @@
-//! The declarations of `include/gefsunk.h`, one for one, but for those of the controller.
+//! The declarations of `include/gefsunk.h`, one for one.
 
 use core::ffi::{c_char, c_int, c_void};
+
+use crate::Place;
 
 /// A handle: `gef_pm`.
 #[repr(C)]
@@ -14,6 +16,33 @@ pub(crate) struct Pm {
 pub(crate) struct Disk {
     pub(crate) mark: u32,
     pub(crate) at: *mut c_void,
+}
+
+/// A handle: `gef_hba`.
+#[repr(C)]
+pub(crate) struct Hba {
+    pub(crate) mark: u32,
+    pub(crate) at: *mut c_void,
+}
+
+/// The guest's memory: `gef_memory`.
+#[repr(C)]
+pub(crate) struct Memory {
+    pub(crate) bytes: *const u8,
+    pub(crate) len: usize,
+    pub(crate) address: u64,
+}
+
+/// What taking a FIS did: `gef_taken`.
+#[repr(C)]
+#[derive(Default)]
+pub(crate) struct Taken {
+    pub(crate) is_posted: u32,
+    pub(crate) is_counted: u32,
+    pub(crate) post_at: u64,
+    pub(crate) count_at: u64,
+    pub(crate) count: u32,
+    pub(crate) message: u32,
 }
 
 #[link(name = "gefsunk", kind = "static")]
@@ -61,6 +90,37 @@ extern "C" {
         room: usize,
         len: *mut usize,
     ) -> c_int;
-    pub(crate) fn gef_disk_sector(disk: *mut Disk, lba: u32, bytes: *mut u8, room: usize)
-        -> c_int;
+    pub(crate) fn gef_disk_sector(disk: *mut Disk, lba: u32, bytes: *mut u8, room: usize) -> c_int;
+    pub(crate) fn gef_hba_new(hba: *mut Hba) -> c_int;
+    pub(crate) fn gef_hba_free(hba: *mut Hba) -> c_int;
+    pub(crate) fn gef_hba_read32(hba: *mut Hba, offset: u32, value: *mut u32) -> c_int;
+    pub(crate) fn gef_hba_line(hba: *mut Hba, raised: *mut u32) -> c_int;
+    pub(crate) fn gef_hba_write32(
+        hba: *mut Hba,
+        memory: *const Memory,
+        offset: u32,
+        value: u32,
+        link: *mut u32,
+        message: *mut u32,
+    ) -> c_int;
+    pub(crate) fn gef_hba_take(
+        hba: *mut Hba,
+        fis: *const u8,
+        len: usize,
+        taken: *mut Taken,
+    ) -> c_int;
+    pub(crate) fn gef_hba_data(
+        hba: *mut Hba,
+        places: *mut Place,
+        room: usize,
+        count: *mut usize,
+    ) -> c_int;
+    pub(crate) fn gef_hba_next_out(
+        hba: *mut Hba,
+        memory: *const Memory,
+        fis: *mut u8,
+        room: usize,
+        len: *mut usize,
+        message: *mut u32,
+    ) -> c_int;
 }

@@ -1,4 +1,4 @@
-//! Safe bindings of Gefsunk's library for C: FISes as text, a Serial ATA port multiplier, and disks.
+//! Safe bindings of Gefsunk's library for C: FISes as text, a Serial ATA port multiplier, disks, an AHCI controller.
 //!
 //! `include/gefsunk.h` says what each call does, what is proved of it, and what is trusted. These bindings keep what the
 //! header leaves to the caller: each length is that of its slice, a handle has one owner and is freed once, and one call
@@ -6,6 +6,7 @@
 //!
 //! `bench/c` builds `build/c/libgefsunk.a`, which the build script links. `GEFSUNK_LIB` names another folder.
 
+mod controller;
 mod disk;
 mod error;
 mod ffi;
@@ -13,6 +14,7 @@ mod multiplier;
 
 use core::ffi::{c_char, CStr};
 
+pub use controller::{ByteCount, Controller, GuestMemory, Link, Out, Place, Taken, Written};
 pub use disk::{Disk, DiskPlan};
 pub use error::Error;
 pub use multiplier::{Multiplier, CONTROL_PORT};
