@@ -47,6 +47,7 @@ struct GefsunkAhci {
     bool is_there[MOST_PORTS], is_held;
     Waiting down, up[MOST_PORTS];
     uint8_t fis[GEF_FIS_ROOM];
+    uint8_t asked; /* with no multiplier: the PM Port of the FIS that went out last */
     gef_place places[GEF_PLACES_ROOM];
     uint32_t serial, logged, raised;
     FILE *out;
@@ -116,6 +117,7 @@ static void reset_link(GefsunkAhci *s)
     gef_pm_free(&s->pm);
     must(gef_pm_new(&s->pm, s->ports));
     s->down.len = 0;
+    s->asked = 0;
     for (port = 0; port < s->ports; port++) {
         s->up[port].len = 0;
         if (s->is_there[port]) {
@@ -125,7 +127,10 @@ static void reset_link(GefsunkAhci *s)
     }
 }
 
-/* To the other end of the link: the multiplier, or the one disk, to which PM Port says nothing. */
+/*
+ * To the other end of the link: the multiplier, or the one disk. A disk has no use for PM Port. But the controller takes
+ * an answer from the port that it asked; so what the disk sends gets the PM Port of the FIS that went out last.
+ */
 static gef_status to_link(GefsunkAhci *s)
 {
     if (s->multiplier) {
@@ -134,6 +139,7 @@ static gef_status to_link(GefsunkAhci *s)
     if (!s->is_there[0]) {
         return GEF_DROPPED;
     }
+    s->asked = s->down.fis[1] & 0x0F;
     s->down.fis[1] &= 0xF0;
     must(gef_disk_from_host(&s->disk[0], s->down.fis, s->down.len));
     return GEF_OK;
@@ -146,7 +152,11 @@ static gef_status from_link(GefsunkAhci *s, size_t *len)
     if (s->multiplier) {
         return gef_pm_to_host(&s->pm, s->fis, GEF_FIS_ROOM, len, &port);
     }
-    return s->is_there[0] ? gef_disk_to_host(&s->disk[0], s->fis, GEF_FIS_ROOM, len) : GEF_NOTHING;
+    if (!s->is_there[0] || gef_disk_to_host(&s->disk[0], s->fis, GEF_FIS_ROOM, len) != GEF_OK) {
+        return GEF_NOTHING;
+    }
+    s->fis[1] |= s->asked;
+    return GEF_OK;
 }
 
 /* From the controller to the other end of the link. */
