@@ -300,8 +300,10 @@ typedef struct gef_taken {
 } gef_taken;
 
 /*
- * A FIS arrives from the multiplier, or from a device of yours, with its port in PM Port. Before the guest goes on, write
- * to its memory, in this order: the bytes of a Data FIS (gef_hba_data), the FIS (is_posted), the count (is_counted).
+ * A FIS arrives from the multiplier, or from a device of yours, with its port in PM Port. A device with no multiplier before
+ * it has that of the FIS which it took last: drivers reset it at port 15, and the answer is awaited from there. Before the
+ * guest goes on, write to its memory, in this order: the bytes of a Data FIS (gef_hba_data), the FIS (is_posted), the count
+ * (is_counted).
  * Can return GEF_CLOSED, GEF_BAD_LENGTH, GEF_NO_MEMORY.
  */
 gef_status gef_hba_take(gef_hba *hba, const uint8_t *fis, size_t len, gef_taken *taken);

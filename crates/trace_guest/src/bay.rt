@@ -2,15 +2,16 @@
 
 ghost use Rattle.std.specs.Prelude.{◌≡◌, ◌<◌};
 
-use disk_model::{Device, Disk};
+use disk_model::Device;
 use fis_view::{Frame, Stamp};
 use multiplier::Multiplier;
 use std::alloc::{AllocError, Global};
+use stock_disk::StockDisk;
 
 /// The disk of a port.
 #[derive(Drop)]
 pub struct Bay {
-    disk: Disk,
+    disk: StockDisk,
     is_there: bool,
     /// How often it was plugged in, which is the number of its connection.
     conn: u32,
@@ -20,7 +21,7 @@ pub struct Bay {
 
 impl Bay {
     /// A disk that is not plugged in.
-    pub fn new(disk: Disk) -> Bay {
+    pub fn new(disk: StockDisk) -> Bay {
         Bay {
             disk,
             is_there: false,

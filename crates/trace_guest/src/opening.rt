@@ -6,6 +6,7 @@ use crate::bay::Bay;
 use crate::board::Board;
 use guest_bytes::{FlatError, FlatGuest};
 use std::alloc::{AllocError, Global};
+use stock_disk::StockDisk;
 use trace_text::Shape;
 
 /// How large a board is.
@@ -55,11 +56,15 @@ fn plain_memory(alloc: Global) -> Result<FlatGuest, AllocError> {
 
 /// The disk of a port about which this was said, not plugged in.
 fn bay_of(alloc: Global, said: Option<Shape>) -> Result<Bay, AllocError> {
-    let shape = match said {
+    let Shape { sectors, plan } = match said {
         Some(shape) => shape,
         None => Shape::plain(),
     };
-    Ok(Bay::new(shape.into_disk(alloc)?))
+    // A shape has a size that a disk may have, so nothing but memory is refused.
+    let Ok(disk) = StockDisk::new(alloc, sectors, plan) else {
+        return Err(AllocError);
+    };
+    Ok(Bay::new(disk))
 }
 
 impl Opening {
