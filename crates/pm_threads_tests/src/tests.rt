@@ -2,6 +2,7 @@
 
 mod runs;
 mod setups;
+mod unfinished;
 
 use pm_threads::{Links, LinksError};
 use std::alloc::Global;

@@ -17,7 +17,7 @@ const FROM: u32 = 0x10_2000;
 const BACK: u32 = 0x10_4000;
 
 /// Device 0 writes a sector and then reads it back. Each other device reads one.
-fn reading(alloc: Global, count: u8) -> Result<Setup, Fail> {
+pub fn reading(alloc: Global, count: u8) -> Result<Setup, Fail> {
     let mut given = setup(alloc, count)?;
     given.puts.push((FROM, vec![in alloc; 0x5A; 512]?))?;
     given
