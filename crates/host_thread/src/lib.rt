@@ -21,6 +21,3 @@ mod worker;
 pub use end::HostEnd;
 pub use plan::{Ended, Planned, State};
 pub use worker::HostWorker;
-
-#[cfg(test)]
-mod tests;

@@ -17,5 +17,8 @@ host_first = orders.host_first
 pub first_of_device : (sent : List Stamped) (f : Stamped) → sent ≡ [] → f.stamp.number ≡ 0 → InDeviceOrder (sent ++ f ∷ [])
 first_of_device sent f none is = subst (λ l. InDeviceOrder (l ++ f ∷ [])) (sym none) (device_first f is)
 
+pub first_of_host : (sent : List Stamped) (f : Stamped) → sent ≡ [] → f.stamp.number ≡ 0 → InStampedOrder (sent ++ f ∷ [])
+first_of_host sent f none is = subst (λ l. InStampedOrder (l ++ f ∷ [])) (sym none) (host_first f is)
+
 pub one_unused : (p : PortSeats) → IsUnused p → All IsUnused (p ∷ [])
 one_unused p unused = All-cons IsUnused p [] unused (All-nil IsUnused)

@@ -1,11 +1,11 @@
-//! What no clause says: that the host sends, takes and counts, and ends by itself.
+//! The host at its links: that it sends, takes and counts, and ends by itself.
 
 ghost use Rattle.std.specs.Prelude.{◌≡◌, [], IfOk};
 
-use crate::{HostWorker, Planned};
 use fis_view::{Frame, FrameError, Stamp};
 use hba_driver::{Request, Work};
 use host_memory::{HostMemory, Prd};
+use host_thread::{HostWorker, Planned};
 use link_items::{Down, ToHost};
 use ruled_links::{Link, Rx, Tx};
 use runner::{Post, Signals, Who, Worker};
@@ -30,7 +30,7 @@ fn first(alloc: Global) -> Result<Frame, FrameError>
 }
 
 /// Sends it up.
-#[tactic(auto, using(crate::proofs::Tallies::first_in_order))]
+#[tactic(auto, using(crate::proofs::Firsts::first_of_host))]
 fn tell<R: Wait>(rt: &R, up: &mut Tx<'_, ToHost>, frame: Frame) -> bool
     requires unused { up.old.sent ≡ [] }
     requires first { frame.stamp.number ≡ 0 }
