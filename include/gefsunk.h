@@ -167,7 +167,7 @@ gef_status gef_pm_dropped(gef_pm *pm, uint32_t *count);
 /*
  * A disk with native command queuing, its sectors in memory. Put it behind a port of a multiplier (gef_pm_to_device gives
  * what gef_disk_from_host takes, and gef_disk_to_host what gef_pm_from_device takes), or at the other end of a link of
- * your own. The rules of a handle are those of gef_pm. A handle of the other kind returns GEF_CLOSED, and stays as it was.
+ * your own. The rules of a handle are those of gef_pm. A handle of another kind returns GEF_CLOSED, and stays as it was.
  */
 typedef struct gef_disk {
     uint32_t mark;

@@ -144,8 +144,9 @@ pub fn requests_stay_with_their_device()
 {}
 
 /// The driver orders that a port of the multiplier be cleared only if the port was named. Over every list of
-/// turns of the host from its opening, the last answer of the multiplier to a read of GSCR[32] has the port's
-/// bit set, and no tick since that answer has ordered that the port be cleared. The call runs no code.
+/// turns of the host from its opening in which the control port sends what may come at its stage, the last
+/// answer of the multiplier to a read of GSCR[32] has the port's bit set, and no tick since that answer has
+/// ordered that the port be cleared. The call runs no code.
 pub fn scans_clear()
     ensures { ScansClear }
 {}

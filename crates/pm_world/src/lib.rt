@@ -1,9 +1,11 @@
 //! A world of devices, a port multiplier and a host, in which one step is one action of one actor.
 //!
-//! `World::run` takes any list of steps, in any order. Its contract says that nothing is lost, made
-//! up or reordered on the way, upward or downward. What the host took from each device on each
-//! connection is a prefix of what that device sent on it, marked with its port. What a device took is
-//! a prefix of what the host's frames passed down to it.
+//! `World::run` takes any list of steps, in any order. Its contract says that nothing is made up or
+//! reordered on the way, upward or downward, and that nothing is lost but what the multiplier drops:
+//! FISes of a connection that went, and on the way down FISes for a port that does not forward. What
+//! the host took from each device on each connection is a prefix of what that device
+//! sent on it, marked with its port. What a device took is a prefix of what the host's frames passed
+//! down to it.
 #![tactic(auto)]
 
 mod counts;

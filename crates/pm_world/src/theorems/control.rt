@@ -4,8 +4,8 @@ ghost use Rattle.pm_world.specs.GoingOn.{PortsGoOn};
 ghost use Rattle.pm_world.specs.Line.{OneOrderAtATime};
 
 /// Holds in every world that a run from a new one leads to. At most one order of the control port, or
-/// its answer, is on its way, except for the two FISes of a software reset. While slot 31 is quiet
-/// there is none.
+/// its answer, is on its way, except that FISes which begin a software reset may go before it. While
+/// slot 31 is quiet there is none.
 pub fn one_order_at_a_time()
     ensures { OneOrderAtATime }
 {}

@@ -11,9 +11,11 @@ pub fn ports_keep_to_one()
     ensures { PortsKeep }
 {}
 
-/// The host sends one FIS for each order to clear a port, and commands of requests only if IDENTIFY
-/// data were accepted since. Then a device takes each such command on the connection on which the
-/// last IDENTIFY data accepted for its port were sent.
+/// Let the host keep to this when it orders that a port be cleared: the order before was sent and
+/// taken, no FIS of the port is on its way up, the port passes none until it is cleared, and one FIS
+/// goes out for each order. Then a device takes the command of a request only on the connection on
+/// which the last IDENTIFY data accepted for its port were sent. `none_is_stale` says that the host
+/// of a world keeps to it.
 pub fn ordered_is_not_stale()
     ensures { OrderedIsNotStale }
 {}
