@@ -339,8 +339,7 @@ may_of mode h plan entries (Some (act.Clears dev)) s due runs =
       },
     )
 may_of mode h plan entries (Some (act.Orders order)) s due runs = tt
-may_of mode h plan entries (Some (act.Steps dev stage)) s due runs = tt
-may_of mode h plan entries (Some (act.Issues slot dev queued)) s due runs = tt
+may_of mode h plan entries other s due runs = tt
 
 pub may_end : {mode : Mode} (h : Host) → IsSoundHostIn mode h → MayEnd mode (turn (sight_in h) h.driver).act h.port
 may_end {mode} h s =

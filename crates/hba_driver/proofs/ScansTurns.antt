@@ -425,11 +425,7 @@ asking_none n stage old frame at asked =
 module _ (n : ℕ) (named : Bool) (stage : Stage31) (old new : Host) (at : IsAt31 stage old) (known : found n old ≡ true → named ≡ true) where
   named_clears : (turn : HostTurn) → ScansOn n stage old turn new → ClearsNamed n named old turn
   named_clears (Ticked acted) s = λ flushed. known (s.clears flushed).0
-  named_clears (Took frame report) s = tt
-  named_clears (Pushed frame) s = tt
-  named_clears (Submitted dev request ticket) s = tt
-  named_clears (Polled c) s = tt
-  named_clears (Put place bytes) s = tt
+  named_clears other s = tt
 
   was_named : (turn : HostTurn) → ScansOn n stage old turn new → (Finds n stage old turn → ⊥) → found n new ≡ true → named ≡ true
   was_named turn s never some = elim (cases_Bool (found n old)) [ inl was ↦ known was | inr none ↦ absurd (never (s.begins none some)) ]
