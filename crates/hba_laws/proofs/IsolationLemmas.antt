@@ -62,14 +62,8 @@ data_alike own state sound count h =
 
 fis_alike : (own : DeviceSlots) (state : DeviceState) (sound : Bool) (fis : Fis) → is_some (port_cause (heard_fis own state sound fis).fault) ≡ false → heard_fis own state sound fis ≡ heard_fis own state true fis
 unfolding heard_fis
-fis_alike own state sound (view.RegH2D f) h = refl
-fis_alike own state sound (view.RegD2H f) h = refl
-fis_alike own state sound (view.SetBits f) h = refl
-fis_alike own state sound (view.DmaActivate f) h = refl
-fis_alike own state sound (view.DmaSetup f) h = refl
-fis_alike own state sound (view.PioSetup f) h = refl
 fis_alike own state sound (view.Payload f) h = data_alike own state sound (length f - 4) h
-fis_alike own state sound (view.Unknown f) h = refl
+fis_alike own state sound other h = refl
 
 pub heard_alike : (n : ℕ) (v : DeviceView) (sound : Bool) (fis : Option Fis) → is_some (port_cause (heard n v sound fis).fault) ≡ false → heard n v sound fis ≡ heard n v true fis
 heard_alike n v sound None h = refl

@@ -80,8 +80,9 @@ down_bank n place pm _ after left acts = absurd acts
 
 conn_bank : (old new : PmState) (frame : Stamped) (p : Passed) (o : Option ℕ) → MatchOption o (ToNobody old (Ok p) new) (λ conn. ToDevice old (pm_port frame) conn frame (Ok p) new) → IsBank old.registers new.registers
 conn_bank old new frame passed.Dropped None acts = same_bank old.registers new.registers (ap (λ (pm : PmState). pm.registers) acts)
+conn_bank old new frame _ None acts = absurd acts
 conn_bank old new frame (passed.Down m) (Some conn) acts = same_bank old.registers new.registers (ap (λ (pm : PmState). pm.registers) acts.2)
-conn_bank old new frame _ other acts = absurd acts
+conn_bank old new frame _ (Some conn) acts = absurd acts
 
 -- ## The steps of some answers
 
@@ -101,8 +102,14 @@ tick_step old (step.DiskTake n) new rule = absurd ((at_device old n answer.Ticke
 tick_step old (step.PmPresence n) new rule = absurd ((at_both old n answer.Ticked new (PmPresenceRule n) rule).rule)
 tick_step old (step.PmFromDevice n) new rule = absurd ((at_both old n answer.Ticked new (PmFromDeviceRule n) rule).rule)
 tick_step old (step.PmDown n) new rule = absurd ((at_both old n answer.Ticked new (PmDownRule n) rule).rule)
+tick_step old step.PmFromHost new rule = absurd (rule.0)
+tick_step old step.PmUp new rule = absurd (rule.0)
+tick_step old step.HostTake new rule = absurd (rule.0)
+tick_step old step.HostPush new rule = absurd (rule.0)
 tick_step old step.Tick new rule = refl
-tick_step old other new rule = absurd (rule.0)
+tick_step old (step.Submit dev request) new rule = absurd (rule.0)
+tick_step old step.Poll new rule = absurd (rule.0)
+tick_step old (step.Put at bytes) new rule = absurd (rule.0)
 
 -- ## The changes
 

@@ -365,8 +365,9 @@ module _ (n c : ℕ) where
       where
         by_cases : (came here : Bool) → (came ≡ false → here ≡ true → (out ≡ []) × (back ≡ [])) → (if here then option_or (told came out back) (Some (first_row n c)) else told came out back) ≡ told (came || here) out back
         by_cases true true empty = refl
+        by_cases true false empty = refl
         by_cases false true empty = rw ((empty refl refl).0, (empty refl refl).1)
-        by_cases other false empty = refl
+        by_cases false false empty = refl
 
     told_sent : (here : Bool) (bytes : List ℕ) → (if here then option_map sent_more (told came out back) else told came out back) ≡ told came (out ++ (if here then bytes ∷ [] else [])) back
     told_sent true bytes = by_cases came

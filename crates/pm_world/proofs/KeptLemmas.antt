@@ -265,7 +265,11 @@ module _ (n k : ℕ) (old new : Places) (a : Answer) (u : IsUnremoved n k old) (
       let like = up_roomy old.multiplier old.upward a new.multiplier new.upward rule.0 (roomy orderly) in
       aside (ap (λ (w : Places). w.devices) rule.1) (like.1.1 n)
   unremoved_after step.HostTake orderly rule = quiet (ap (λ (w : Places). w.devices) rule.1) (ap (λ (w : Places). w.multiplier) rule.1)
-  unremoved_after other orderly rule = quiet (ap (λ (w : Places). w.devices) rule.1) (ap (λ (w : Places). w.multiplier) rule.1)
+  unremoved_after step.HostPush orderly rule = quiet (ap (λ (w : Places). w.devices) rule.1) (ap (λ (w : Places). w.multiplier) rule.1)
+  unremoved_after step.Tick orderly rule = quiet (ap (λ (w : Places). w.devices) rule.1) (ap (λ (w : Places). w.multiplier) rule.1)
+  unremoved_after (step.Submit dev request) orderly rule = quiet (ap (λ (w : Places). w.devices) rule.1) (ap (λ (w : Places). w.multiplier) rule.1)
+  unremoved_after step.Poll orderly rule = quiet (ap (λ (w : Places). w.devices) rule.1) (ap (λ (w : Places). w.multiplier) rule.1)
+  unremoved_after (step.Put at bytes) orderly rule = quiet (ap (λ (w : Places). w.devices) rule.1) (ap (λ (w : Places). w.multiplier) rule.1)
 
 stays_goes : (n c : ℕ) (a : Answer) → StaysOn n c a → GoesBefore n c a
 stays_goes n c (answer.Gone port conn) stays = λ here. absurd (true≢false (sym (eq-eqb port n here) ∙ stays))

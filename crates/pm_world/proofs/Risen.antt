@@ -84,11 +84,13 @@ FromControl (Some fields) = fields.pm_port ≡ 15
 
 read_control : (r : Result ℕ RegisterError) → (read_answer r).pm_port ≡ 15
 read_control (Ok value) = refl
-read_control other = refl
+read_control (Err NoPort) = refl
+read_control (Err NoRegister) = refl
 
 write_control : (r : Result ℕ RegisterError) → (write_answer r).pm_port ≡ 15
 write_control (Ok value) = refl
-write_control other = refl
+write_control (Err NoPort) = refl
+write_control (Err NoRegister) = refl
 
 answer_control : (mark : Bool) (m : RegisterMap) (request : Request) → FromControl (answer_of mark m request)
 answer_control mark m (Read at) = read_control _

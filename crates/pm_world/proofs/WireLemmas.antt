@@ -48,11 +48,12 @@ among_more (x ∷ xs) (y ∷ ys) b (inr later) = inr (among_more (x ∷ xs) ys b
 
 -- without one of them
 among_without : (front : List (List ℕ)) (x : List ℕ) (back ys : List (List ℕ)) → AreAmong (front ++ x ∷ back) ys → AreAmong (front ++ back) ys
+among_without [] x back [] a = absurd a
 among_without [] x back (y ∷ ys) (inl here) = among_weaker back y ys here.1
 among_without [] x back (y ∷ ys) (inr later) = among_weaker back y ys (among_without [] x back ys later)
+among_without (f ∷ front) x back [] a = absurd a
 among_without (f ∷ front) x back (y ∷ ys) (inl here) = inl (here.0, among_without front x back ys here.1)
 among_without (f ∷ front) x back (y ∷ ys) (inr later) = inr (among_without (f ∷ front) x back ys later)
-among_without other x back [] a = absurd a
 
 -- without any of some in the middle
 among_but : (front gone back ys : List (List ℕ)) → AreAmong ((front ++ gone) ++ back) ys → AreAmong (front ++ back) ys
@@ -512,7 +513,12 @@ passed_port old new step.PmFromHost m rule =
           (pm_port r.0 == control_port) r.2;
     }
 passed_port old new step.PmUp m rule = absurd rule.0
-passed_port old new other m rule = absurd rule.0
+passed_port old new step.HostTake m rule = absurd rule.0
+passed_port old new step.HostPush m rule = absurd rule.0
+passed_port old new step.Tick m rule = absurd rule.0
+passed_port old new (step.Submit dev request) m rule = absurd rule.0
+passed_port old new step.Poll m rule = absurd rule.0
+passed_port old new (step.Put at bytes) m rule = absurd rule.0
 
 first_same : (f g : Stamped) (xs ys : List Stamped) (all : List Stamped) → all ≡ f ∷ xs → all ≡ g ∷ ys → g ≡ f
 first_same f g xs ys all here there = let e : g ∷ ys ≡ f ∷ xs = sym there ∙ here in cc e
