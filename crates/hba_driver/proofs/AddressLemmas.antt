@@ -238,19 +238,7 @@ quiet_their g old new memory value other accepts are =
 
 wrote_their : (g : Register) (old new : Port) (memory : Memory) (value : ℕ) → refusal_of g old memory value ≡ None → Accepts old memory g value new → IsRuled old → IsRuled new → AreOfTheir old → AreOfTheir new
 wrote_their Ci old new memory value free accepts ruled next are = ci_their old new memory value free accepts ruled next are
-wrote_their Clb old new memory value free accepts ruled next are = quiet_their Clb old new memory value (λ h. cc) accepts are
-wrote_their Clbu old new memory value free accepts ruled next are = quiet_their Clbu old new memory value (λ h. cc) accepts are
-wrote_their Fb old new memory value free accepts ruled next are = quiet_their Fb old new memory value (λ h. cc) accepts are
-wrote_their Fbu old new memory value free accepts ruled next are = quiet_their Fbu old new memory value (λ h. cc) accepts are
-wrote_their Is old new memory value free accepts ruled next are = quiet_their Is old new memory value (λ h. cc) accepts are
-wrote_their Ie old new memory value free accepts ruled next are = quiet_their Ie old new memory value (λ h. cc) accepts are
-wrote_their Cmd old new memory value free accepts ruled next are = quiet_their Cmd old new memory value (λ h. cc) accepts are
-wrote_their Tfd old new memory value free accepts ruled next are = quiet_their Tfd old new memory value (λ h. cc) accepts are
-wrote_their Sig old new memory value free accepts ruled next are = quiet_their Sig old new memory value (λ h. cc) accepts are
-wrote_their Serr old new memory value free accepts ruled next are = quiet_their Serr old new memory value (λ h. cc) accepts are
-wrote_their Sact old new memory value free accepts ruled next are = quiet_their Sact old new memory value (λ h. cc) accepts are
-wrote_their Sntf old new memory value free accepts ruled next are = quiet_their Sntf old new memory value (λ h. cc) accepts are
-wrote_their Fbs old new memory value free accepts ruled next are = quiet_their Fbs old new memory value (λ h. cc) accepts are
+wrote_their other old new memory value free accepts ruled next are = quiet_their other old new memory value (λ h. cc) accepts are
 
 tried_their : (o : Option Register) (offset value : ℕ) (old new : Port) (memory : Memory) → register_at offset ≡ o → Tries old memory offset value new → IsRuled old → IsRuled new → AreOfTheir old → AreOfTheir new
 tried_their None offset value old new memory at tries ruled next are =

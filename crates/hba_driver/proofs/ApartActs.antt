@@ -132,15 +132,7 @@ module _ (n : ℕ) (stage : Stage30) (v : Sight) (file : TaskFile) (q : Plan) (e
       let far : n ≢ port = λ e. other (ap Clear (sym e)) in
       rests _ _ (λ dev step e. absurd (cc)) (set_other q.devices port n Absent far) (λ x to here. unless_other port q.path x (λ e. far (sym to ∙ e)) here) (λ x to here. unless_back port q.path x here)
   orders ResetOn other = plainly ResetOn
-  orders ResetOff other = plainly ResetOff
-  orders AwaitSignature other = plainly AwaitSignature
-  orders CountPorts other = plainly CountPorts
-  orders SetMask other = plainly SetMask
-  orders Enable other = plainly Enable
-  orders (Open port) other = plainly (Open port)
-  orders Scan other = plainly Scan
-  orders (Detect port) other = plainly (Detect port)
-  orders Watch other = plainly Watch
+  orders rest other = plainly rest
 
   -- another device's fault is cleared
   clears : (b : Bool) (dev : ℕ) → n ≢ dev → Result (Some (act.Clears dev)) (if b then recovering dev file q else from_reset q)

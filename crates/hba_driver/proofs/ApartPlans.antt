@@ -224,14 +224,13 @@ plan_of n stage p q h is = plan_as n stage p q is.0 is.1 h
 pub seen_plan : (n : ℕ) (stage : Stage30) (v : Sight) (c : Plan) → is_faulty stage ≡ false → Shows n stage v → IsPlan30 n stage c → IsPlan30 n stage (device_seen v c)
 seen_plan n Faulty v c well shows h = absurd (true≢false well)
 seen_plan n Cleared v c well shows h = let a = seen_away n v c h.away in cleared_as n c (device_seen v c) a.device a.away h
-seen_plan n Asks v c well shows h = plan_of n Asks c (device_seen v c) h (out_same n v c (ReadLog h.file) shows h.path)
-seen_plan n LogSent v c well shows h = plan_of n LogSent c (device_seen v c) h (out_same n v c (ReadLog h.file) shows h.path)
 seen_plan n Sets v c well shows h = plan_of n Sets c (device_seen v c) h (out_same n v c AssertReset shows h.path)
 seen_plan n On v c well shows (inl h) = asserted n v c (is_back v (record { dev = n; stage = AssertReset; asked = true })) refl h
 seen_plan n On v c well shows (inr h) = plan_of n On c (device_seen v c) (inr h) (free_same n v c ReleaseReset (release_met n v c) h.path)
 seen_plan n Clears v c well shows h = plan_of n Clears c (device_seen v c) h (out_same n v c ReleaseReset shows h.path)
 seen_plan n Off v c well shows (inl h) = released n v c (is_back v (record { dev = n; stage = ReleaseReset; asked = true })) shows refl h
 seen_plan n Off v c well shows (inr h) = plan_of n Off c (device_seen v c) (inr h) (free_same n v c AwaitReset (await_met n v c shows) h.path)
+seen_plan n other v c well shows h = plan_of n other c (device_seen v c) h (out_same n v c (ReadLog h.file) shows h.path)
 
 -- ---- the turn
 

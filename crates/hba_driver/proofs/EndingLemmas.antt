@@ -312,12 +312,7 @@ unfolding effects_of
 each_act D d v file fs c mode (Some act.Stops) old new before after may due drives ours ruled m is acts go = stop_act D d file fs c old new before after may ruled m acts go
 each_act D d v file fs c Switching (Some (act.Clears dev)) old new before after may due drives ours ruled m is acts go = clear_act D d file fs c dev old new before after may.1 ruled m acts go
 each_act D d v file fs c CommandBased (Some (act.Clears dev)) old new before after may due drives ours ruled m is acts go = none_clears may.0
-each_act D d v file fs c mode None old new before after may due drives ours ruled m is acts go = act_goes D d v file fs c mode None old new before after refl due drives ours ruled m is acts go
-each_act D d v file fs c mode (Some (act.Opens k)) old new before after may due drives ours ruled m is acts go = act_goes D d v file fs c mode (Some (act.Opens k)) old new before after refl due drives ours ruled m is acts go
-each_act D d v file fs c mode (Some (act.Restarts k)) old new before after may due drives ours ruled m is acts go = act_goes D d v file fs c mode (Some (act.Restarts k)) old new before after refl due drives ours ruled m is acts go
-each_act D d v file fs c mode (Some (act.Orders order)) old new before after may due drives ours ruled m is acts go = act_goes D d v file fs c mode (Some (act.Orders order)) old new before after refl due drives ours ruled m is acts go
-each_act D d v file fs c mode (Some (act.Steps dev stage)) old new before after may due drives ours ruled m is acts go = act_goes D d v file fs c mode (Some (act.Steps dev stage)) old new before after refl due drives ours ruled m is acts go
-each_act D d v file fs c mode (Some (act.Issues slot dev queued)) old new before after may due drives ours ruled m is acts go = act_goes D d v file fs c mode (Some (act.Issues slot dev queued)) old new before after refl due drives ours ruled m is acts go
+each_act D d v file fs c mode other old new before after may due drives ours ruled m is acts go = act_goes D d v file fs c mode other old new before after refl due drives ours ruled m is acts go
 
 -- ---- an act that ends a fault is due only while the port runs
 

@@ -374,9 +374,7 @@ known_turn n below known old (Took frame report) new does w h e =
     let both = or_parts known (identifies n old (Took frame report)) e in
     unknown_turn n below old (Took frame report) new does w both.1 (h both.0)
 known_turn n below known old (Pushed frame) new does w h e = unknown_turn n below old (Pushed frame) new does w refl (h (or_parts known false e).0)
-known_turn n below known old (Submitted dev request ticket) new does w h e = unknown_turn n below old (Submitted dev request ticket) new does w refl (h (or_parts known false e).0)
-known_turn n below known old (Polled completion) new does w h e = unknown_turn n below old (Polled completion) new does w refl (h (or_parts known false e).0)
-known_turn n below known old (Put at bytes) new does w h e = unknown_turn n below old (Put at bytes) new does w refl (h (or_parts known false e).0)
+known_turn n below known old other new does w h e = unknown_turn n below old other new does w refl (h (or_parts known false e).0)
 
 -- ---- over turns
 

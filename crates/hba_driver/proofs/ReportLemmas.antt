@@ -185,14 +185,9 @@ module _ {mode : Mode} (P Q : ℕ → Entry → Type 0) (old : Host) (w : IsOnWa
       as_phase p is h = subst (λ (x : Phase). Stands Q new.port s (rephased Waits f) x) (sym is) h
 
       by_phase : (p : Phase) → f.head.phase ≡ p → Stands Q new.port s (rephased Waits f) f.head.phase
-      by_phase Waits is = as_phase Waits is tt
       by_phase Issued is = as_phase Issued is (issued_stands is e.head.phase refl)
-      by_phase Aside is = as_phase Aside is tt
       by_phase (Ended Done) is = as_phase (Ended Done) is (done_stands is)
-      by_phase (Ended (DeviceError status error)) is = as_phase (Ended (DeviceError status error)) is tt
-      by_phase (Ended Aborted) is = as_phase (Ended Aborted) is tt
-      by_phase (Ended Removed) is = as_phase (Ended Removed) is tt
-      by_phase (Ended PortError) is = as_phase (Ended PortError) is tt
+      by_phase other is = as_phase other is tt
 
     tick_stands : AllStand Q new
     tick_stands s f here = elim (comes_from old (Ticked a) new does s f here) [

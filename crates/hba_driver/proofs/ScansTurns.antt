@@ -444,9 +444,7 @@ module _ (n : ℕ) (named : Bool) (stage : Stage31) (old new : Host) (at : IsAt3
     | inr not_flushed ↦ and_from named (not (orders_clear n old)) (was_named (Ticked acted) s (λ never. never) some) (not_from_false (orders_clear n old) not_flushed)
   ]
   named_then (Pushed frame) s some = was_named (Pushed frame) s (λ never. never) some
-  named_then (Submitted dev request ticket) s some = was_named (Submitted dev request ticket) s (λ never. never) some
-  named_then (Polled c) s some = was_named (Polled c) s (λ never. never) some
-  named_then (Put place bytes) s some = was_named (Put place bytes) s (λ never. never) some
+  named_then other s some = was_named other s (λ never. never) some
 
 scans_over : (turns : List HostTurn) (old new : Host) (run : DoesAll old turns new) → IsGoing old → (stage : Stage31) → IsAt31 stage old → IsFound old.driver.plan → (n : ℕ) → n < 15
     → (named : Bool) → (found n old ≡ true → named ≡ true) → Scans n named stage old turns new run

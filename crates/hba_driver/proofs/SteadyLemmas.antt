@@ -490,15 +490,7 @@ module _ (n : ℕ) (signs : Type 0) (v : Sight) (file : TaskFile) (plan : Plan) 
       keeps_beside n signs plan (ordered (Clear port) plan) h (set_other plan.devices port n Absent (λ e. other (ap Clear (sym e)))) (λ x there to. (unless_here port plan.path x there).0)
       (λ on. out (Clear port) other is on)
   ordered_keeps ResetOn other is = plainly ResetOn other is
-  ordered_keeps ResetOff other is = plainly ResetOff other is
-  ordered_keeps AwaitSignature other is = plainly AwaitSignature other is
-  ordered_keeps CountPorts other is = plainly CountPorts other is
-  ordered_keeps SetMask other is = plainly SetMask other is
-  ordered_keeps Enable other is = plainly Enable other is
-  ordered_keeps (Open port) other is = plainly (Open port) other is
-  ordered_keeps Scan other is = plainly Scan other is
-  ordered_keeps (Detect port) other is = plainly (Detect port) other is
-  ordered_keeps Watch other is = plainly Watch other is
+  ordered_keeps rest other is = plainly rest other is
 
   -- slot 30 begins to work on a device
   stepped : (dev : ℕ) (stage : Stage) → Plan

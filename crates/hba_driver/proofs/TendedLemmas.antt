@@ -312,15 +312,7 @@ module _ (n : ℕ) (file : TaskFile) (plan : Plan) (h : IsUnsought n plan) where
     unsought = λ on. out (Clear port) other is on;
   }
   ordered_leaves ResetOn other is = plainly ResetOn other is
-  ordered_leaves ResetOff other is = plainly ResetOff other is
-  ordered_leaves AwaitSignature other is = plainly AwaitSignature other is
-  ordered_leaves CountPorts other is = plainly CountPorts other is
-  ordered_leaves SetMask other is = plainly SetMask other is
-  ordered_leaves Enable other is = plainly Enable other is
-  ordered_leaves (Open port) other is = plainly (Open port) other is
-  ordered_leaves Scan other is = plainly Scan other is
-  ordered_leaves (Detect port) other is = plainly (Detect port) other is
-  ordered_leaves Watch other is = plainly Watch other is
+  ordered_leaves rest other is = plainly rest other is
 
   act_leaves : (a : Option Act) → IsCalmAct n a → Plainly plan a → Leaves n plan (match_some a plan (λ x. plan_after x file plan))
   unfolding plan_after
@@ -666,12 +658,9 @@ module _ (n : ℕ) (signs : Type 0) (v : Sight) (file : TaskFile) (p : Plan) (en
           (λ x there to. other (ap (λ (y : Path). y.dev) (same_path (path_at dev stage true) x there) ∙ to))
     ]
     left_acts not_ready unreleased q left None due calm = to_spoilt n signs v None p q not_ready unreleased left.device left.unsought left.free
-    left_acts not_ready unreleased q left (Some (act.Opens k)) due calm = left_plain not_ready unreleased q left (Some (act.Opens k)) tt calm
     left_acts not_ready unreleased q left (Some act.Stops) due calm = absurd calm
-    left_acts not_ready unreleased q left (Some (act.Restarts k)) due calm = left_plain not_ready unreleased q left (Some (act.Restarts k)) tt calm
-    left_acts not_ready unreleased q left (Some (act.Clears dev)) due calm = left_plain not_ready unreleased q left (Some (act.Clears dev)) tt calm
     left_acts not_ready unreleased q left (Some (act.Orders order)) due calm = left_plain not_ready unreleased q left (Some (act.Orders order)) due calm
-    left_acts not_ready unreleased q left (Some (act.Issues slot dev queued)) due calm = left_plain not_ready unreleased q left (Some (act.Issues slot dev queued)) tt calm
+    left_acts not_ready unreleased q left other due calm = left_plain not_ready unreleased q left other tt calm
 
     left_looks : (device_at p n ≡ Ready → ⊥) → (IsAtStage n IsReleasing p → ⊥) → (q : Plan) (news : Bool) → IsLeft n (device_seen v q) → TurnTends n signs v file p (device_turn v news q entries)
     left_looks not_ready unreleased q news left calm =

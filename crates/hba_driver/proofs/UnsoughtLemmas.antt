@@ -72,16 +72,7 @@ module _ (n : ℕ) (file : TaskFile) (plan : Plan) (h : IsUnsought n plan) where
 
   ordered_unsought : (order : Order) → order ≢ Clear n → order ≡ plan.order → IsUnsought n (ordered order plan)
   ordered_unsought (Clear port) other is = out (Clear port) other is
-  ordered_unsought ResetOn other is = out ResetOn other is
-  ordered_unsought ResetOff other is = out ResetOff other is
-  ordered_unsought AwaitSignature other is = out AwaitSignature other is
-  ordered_unsought CountPorts other is = out CountPorts other is
-  ordered_unsought SetMask other is = out SetMask other is
-  ordered_unsought Enable other is = out Enable other is
-  ordered_unsought (Open port) other is = out (Open port) other is
-  ordered_unsought Scan other is = out Scan other is
-  ordered_unsought (Detect port) other is = out (Detect port) other is
-  ordered_unsought Watch other is = out Watch other is
+  ordered_unsought rest other is = out rest other is
 
   act_unsought : (v : Sight) (a : Option Act) → DueOf v plan a → (a ≢ Some (act.Orders (Clear n))) → IsUnsought n (match_some a plan (λ x. plan_after x file plan))
   unfolding plan_after
