@@ -96,9 +96,7 @@ NamesNone h payload = (mask : ℕ) → event_heard h payload ≡ Some (Named mas
 
 none_answered : (a : Answered) (state : DeviceState) (payload : List ℕ) → NamesNone (answered a state) payload
 none_answered answer.Nobody state payload mask is = cc is
-none_answered (answer.Queued slot) state payload mask is = cc is
-none_answered (answer.Done slot) state payload mask is = cc is
-none_answered (answer.Short slot) state payload mask is = cc is
+none_answered other state payload mask is = cc is
 
 none_register : (own : DeviceSlots) (state : DeviceState) (status error : ℕ) (payload : List ℕ) (resetting e busy : Bool)
     → NamesNone (if resetting then quietly (after_reset state status error) happening.Nothing
@@ -211,12 +209,7 @@ by_event (Some (Named mask)) s past t queued done = record { mask = mask; is = r
 by_event (Some event.Answered) s past t queued done =
     absurd (no_answer (is_at s (waiting_in past)) (is_queued t.work.kind) _ queued done)
 by_event (Some (event.Carried bytes)) s past t queued done = absurd (no_end _ (is_pio t.work.kind) _ _ (not_pio t.work.kind queued) done)
-by_event (Some (event.Issued slot u)) s past t queued done = absurd (true≢false (sym done))
-by_event (Some (event.Sent slot)) s past t queued done = absurd (true≢false (sym done))
-by_event (Some (event.SentControl slot)) s past t queued done = absurd (true≢false (sym done))
-by_event (Some (event.SetUp tag offset count to_host)) s past t queued done = absurd (true≢false (sym done))
-by_event (Some (event.PioSetUp count to_host ends)) s past t queued done = absurd (true≢false (sym done))
-by_event (Some event.Emptied) s past t queued done = absurd (true≢false (sym done))
+by_event other s past t queued done = absurd (true≢false (sym done))
 
 -- the FIS that a report of a queued command is of, as the disk sent it
 pub record IsOfBits (bytes : List ℕ) (s : ℕ) (past : History) (t : Transfer) : Type 0 where

@@ -86,12 +86,8 @@ idle_unsent s c past k idle (WriteEnded at w e quiet there same stands counted) 
 -- ## Another command goes out
 
 alone_beside : (k : Ledger) (request : Request) → IsAlone request → IsBeside k (alone k request)
-alone_beside k (asked.Reset on) one = record { outstanding = refl; unanswered = refl; moving = refl; writes = refl; reads = refl }
 alone_beside k (asked.Queue c) one = absurd one
-alone_beside k asked.ReadErrorLog one = record { outstanding = refl; unanswered = refl; moving = refl; writes = refl; reads = refl }
-alone_beside k asked.Identify one = record { outstanding = refl; unanswered = refl; moving = refl; writes = refl; reads = refl }
-alone_beside k asked.Flush one = record { outstanding = refl; unanswered = refl; moving = refl; writes = refl; reads = refl }
-alone_beside k asked.Other one = record { outstanding = refl; unanswered = refl; moving = refl; writes = refl; reads = refl }
+alone_beside k other one = record { outstanding = refl; unanswered = refl; moving = refl; writes = refl; reads = refl }
 
 pub asks_beside : (k : Ledger) (request : Request) → k.failed ≡ false → IsAlone request → FitsRequest k request → IsBeside k (asks k request k.failed)
 asks_beside k request failed one fits = subst (IsBeside k) (sym (asks_fits k request failed fits)) (alone_beside k request one)

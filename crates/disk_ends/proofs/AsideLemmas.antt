@@ -44,14 +44,7 @@ use Rattle.disk_ends.proofs.ElsewhereLemmas.{others_leave_device}
 
 abbrev IssuesNothing : Event → Type 0
 IssuesNothing (Issued slot t) = ⊥
-IssuesNothing (Sent slot) = Unit {0}
-IssuesNothing (SentControl slot) = Unit {0}
-IssuesNothing (SetUp tag offset count to_host) = Unit {0}
-IssuesNothing (PioSetUp count to_host ends) = Unit {0}
-IssuesNothing (Carried bytes) = Unit {0}
-IssuesNothing Answered = Unit {0}
-IssuesNothing (Named mask) = Unit {0}
-IssuesNothing Emptied = Unit {0}
+IssuesNothing other = Unit {0}
 
 unless_none : (b : Bool) (o : Option Transfer) → NoneQueued o → NoneQueued (unless b o)
 unless_none true o none = tt
@@ -260,18 +253,7 @@ keeps_halt : (register : Register) (port : Port) (value : ℕ) → register ≢ 
 unfolding errors_after
 keeps_halt Cmd port value other = absurd (other refl)
 keeps_halt Fbs port value other = maybe_cleared port.errors (has_bit value dec)
-keeps_halt Ci port value other = refl
-keeps_halt Clb port value other = refl
-keeps_halt Clbu port value other = refl
-keeps_halt Fb port value other = refl
-keeps_halt Fbu port value other = refl
-keeps_halt Is port value other = refl
-keeps_halt Ie port value other = refl
-keeps_halt Tfd port value other = refl
-keeps_halt Sig port value other = refl
-keeps_halt Serr port value other = refl
-keeps_halt Sact port value other = refl
-keeps_halt Sntf port value other = refl
+keeps_halt rest port value other = refl
 
 halted_by : (host new : Host) (register : Register) (value : ℕ) → Does host (Wrote register value) new → KeepsHalt register host.port value
     → is_some host.port.errors.port ≡ true → is_some new.port.errors.port ≡ true
@@ -422,9 +404,8 @@ goes_on n host new (Put at bytes) past below does alone aside = aside_elsewhere 
 -- ## What sets it aside
 
 halts : (errors : Errors) (dev : ℕ) (o : Option Fault) → is_some (port_cause o) ≡ true → is_some (errors_with errors dev o).port ≡ true
-halts errors dev None is = cc is
-halts errors dev (Some (fault.Device c)) is = cc is
 halts errors dev (Some (fault.Port c)) is = refl
+halts errors dev other is = cc is
 
 halts_in : (on : Bool) (errors : Errors) (dev : ℕ) (o : Option Fault) → is_some (port_cause o) ≡ true
     → is_some (errors_in on errors dev o).port ≡ true
@@ -457,28 +438,15 @@ took_stop host new frame report false is takes stopped =
 
 fails : (n : ℕ) (host new : Host) (out : Outgoing) (frame : Option Stamped) (past : History)
     → Gives out host.port host.memory frame new.port → fails_by_bus out ≡ true → is_some new.port.errors.port ≡ true
-fails n host new Nothing frame past gives is = cc is
 fails n host new (Unreadable dev) frame past gives is = ap (λ (p : Port). is_some p.errors.port) gives.1
-fails n host new (Data dev offset len command) frame past gives is = cc is
-fails n host new (Order dev slot command) frame past gives is = cc is
+fails n host new other frame past gives is = cc is
 
 starts_wrote : (n : ℕ) (host new : Host) (register : Register) (value : ℕ) (past : History) → WritesAside n host register value
     → IsAside n new (own n (touched host (Wrote register value)) ++ past)
 starts_wrote n host new Cmd value past is =
     Spared (subst (λ (b : Bool). AreUnqueued (own n (if b then Stops ∷ [] else []) ++ past)) (sym is) (emptied past))
 starts_wrote n host new Fbs value past is = Spared (cleared_is n host value past is)
-starts_wrote n host new Ci value past is = absurd is
-starts_wrote n host new Clb value past is = absurd is
-starts_wrote n host new Clbu value past is = absurd is
-starts_wrote n host new Fb value past is = absurd is
-starts_wrote n host new Fbu value past is = absurd is
-starts_wrote n host new Is value past is = absurd is
-starts_wrote n host new Ie value past is = absurd is
-starts_wrote n host new Tfd value past is = absurd is
-starts_wrote n host new Sig value past is = absurd is
-starts_wrote n host new Serr value past is = absurd is
-starts_wrote n host new Sact value past is = absurd is
-starts_wrote n host new Sntf value past is = absurd is
+starts_wrote n host new other value past is = absurd is
 
 starts_took : (n : ℕ) (host new : Host) (frame : List ℕ) (report : TakeReport) (past : History) → TakesFrame host frame report new
     → ((port_of frame ≡ n) × (is_some report.fault ≡ true)) ⊎ (is_some report.stopped ≡ true) → IsAside n new past
@@ -494,9 +462,7 @@ starts n host new (Took frame report) past below does is = starts_took n host ne
 starts n host new (Wrote register value) past below does is = starts_wrote n host new register value past is
 starts n host new (Flushed dev) past below does is = Spared (flushed_is n dev past is)
 starts n host new (Gave frame) past below does is = Halted (fails n host new (outgoing host.port host.memory) frame past does.0 is)
-starts n host new (Stored structure) past below does is = absurd is
-starts n host new (Rewrote dev row) past below does is = absurd is
-starts n host new (Put at bytes) past below does is = absurd is
+starts n host new other past below does is = absurd is
 
 pub aside_is_kept : AsideIsKept
 aside_is_kept = record { starts = starts; goes_on = goes_on; never_done = never_done }

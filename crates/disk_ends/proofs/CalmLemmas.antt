@@ -18,25 +18,7 @@ issued_for : (n : ℕ) (old new : Host) (event : HostEvent) (given : List Happen
     → Does old event new → IssuesFor n (ledger given) old commands event next → IsHosted n old given commands past
     → IsHosted n new given next (own n (touched old event) ++ past)
 issued_for n old new (Wrote Ci value) given commands next past sound does i hosted = issues old new value given commands next past sound i.0 does i.1 i.2 i.3 hosted
-issued_for n old new (Wrote Clb value) given commands next past sound does i hosted = absurd i
-issued_for n old new (Wrote Clbu value) given commands next past sound does i hosted = absurd i
-issued_for n old new (Wrote Fb value) given commands next past sound does i hosted = absurd i
-issued_for n old new (Wrote Fbu value) given commands next past sound does i hosted = absurd i
-issued_for n old new (Wrote Is value) given commands next past sound does i hosted = absurd i
-issued_for n old new (Wrote Ie value) given commands next past sound does i hosted = absurd i
-issued_for n old new (Wrote Cmd value) given commands next past sound does i hosted = absurd i
-issued_for n old new (Wrote Tfd value) given commands next past sound does i hosted = absurd i
-issued_for n old new (Wrote Sig value) given commands next past sound does i hosted = absurd i
-issued_for n old new (Wrote Serr value) given commands next past sound does i hosted = absurd i
-issued_for n old new (Wrote Sact value) given commands next past sound does i hosted = absurd i
-issued_for n old new (Wrote Sntf value) given commands next past sound does i hosted = absurd i
-issued_for n old new (Wrote Fbs value) given commands next past sound does i hosted = absurd i
-issued_for n old new (Took frame report) given commands next past sound does i hosted = absurd i
-issued_for n old new (Flushed dev) given commands next past sound does i hosted = absurd i
-issued_for n old new (Gave frame) given commands next past sound does i hosted = absurd i
-issued_for n old new (Stored structure) given commands next past sound does i hosted = absurd i
-issued_for n old new (Rewrote dev row) given commands next past sound does i hosted = absurd i
-issued_for n old new (Put at bytes) given commands next past sound does i hosted = absurd i
+issued_for n old new other given commands next past sound does i hosted = absurd i
 
 calm_one : (n : ℕ) (old new : Host) (event : HostEvent) (given : List Happening) (commands next : ℕ → SlotCommand) (past : History) → n < 15 → IsHost old
     → Does old event new → IsCalm n (ledger given) old commands event next → IsHosted n old given commands past

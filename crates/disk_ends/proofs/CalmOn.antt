@@ -22,29 +22,12 @@ module _ (n : ℕ) (base : List Happening) (host new : Host) (given : List Happe
   written_for : (register : Register) (value : ℕ) → Does host (Wrote register value) new → WritesIssues n (ledger given) host commands register value next
       → IsHostedOn n base new given next (own n (touched host (Wrote register value)) ++ past)
   written_for Ci value does i = issues host new value given commands next past sound i.0 does i.1 i.2 i.3 hosted
-  written_for Clb value does i = absurd i
-  written_for Clbu value does i = absurd i
-  written_for Fb value does i = absurd i
-  written_for Fbu value does i = absurd i
-  written_for Is value does i = absurd i
-  written_for Ie value does i = absurd i
-  written_for Cmd value does i = absurd i
-  written_for Tfd value does i = absurd i
-  written_for Sig value does i = absurd i
-  written_for Serr value does i = absurd i
-  written_for Sact value does i = absurd i
-  written_for Sntf value does i = absurd i
-  written_for Fbs value does i = absurd i
+  written_for other value does i = absurd i
 
   issued_for : (event : HostEvent) → Does host event new → IssuesFor n (ledger given) host commands event next
       → IsHostedOn n base new given next (own n (touched host event) ++ past)
   issued_for (Wrote register value) does i = written_for register value does i
-  issued_for (Took frame report) does i = absurd i
-  issued_for (Flushed dev) does i = absurd i
-  issued_for (Gave frame) does i = absurd i
-  issued_for (Stored structure) does i = absurd i
-  issued_for (Rewrote dev row) does i = absurd i
-  issued_for (Put at bytes) does i = absurd i
+  issued_for other does i = absurd i
 
   by_calm : (event : HostEvent) → n < 15 → Does host event new → IsCalm n (ledger given) host commands event next
       → IsHostedOn n base new given next (own n (touched host event) ++ past)

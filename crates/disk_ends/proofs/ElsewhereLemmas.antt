@@ -47,16 +47,7 @@ view_kept n value Ci old other =
 view_kept n value Fbs old other =
     ap (λ (b : Bool). if b then stopped_view (view_of n old.port) else view_of n old.port) (not_cleared n (cleared_by old.port.errors value) other)
 view_kept n value Clb old other = refl
-view_kept n value Clbu old other = refl
-view_kept n value Fb old other = refl
-view_kept n value Fbu old other = refl
-view_kept n value Is old other = refl
-view_kept n value Ie old other = refl
-view_kept n value Tfd old other = refl
-view_kept n value Sig old other = refl
-view_kept n value Serr old other = refl
-view_kept n value Sact old other = refl
-view_kept n value Sntf old other = refl
+view_kept n value rest old other = refl
 
 none_written : (n value : ℕ) (register : Register) (old : Host) → WritesElsewhere n old register value
     → own n (touched_by_write register old value) ≡ []
@@ -64,17 +55,7 @@ none_written n value Cmd old other = ap (λ (b : Bool). own n (if b then Stops �
 none_written n value Ci old other =
     other_below n (aimed old.port.registers old.memory.structure value) old.memory (asked old.port.registers old.memory value) 32 (λ same. other (sym same))
 none_written n value Fbs old other = none_cleared n (cleared_by old.port.errors value) other
-none_written n value Clb old other = refl
-none_written n value Clbu old other = refl
-none_written n value Fb old other = refl
-none_written n value Fbu old other = refl
-none_written n value Is old other = refl
-none_written n value Ie old other = refl
-none_written n value Tfd old other = refl
-none_written n value Sig old other = refl
-none_written n value Serr old other = refl
-none_written n value Sact old other = refl
-none_written n value Sntf old other = refl
+none_written n value rest old other = refl
 
 -- ## What goes out
 
@@ -85,10 +66,9 @@ given_elsewhere : (n : ℕ) (old new : Host) (out : Outgoing) (frame : Option St
     → (view_of n new.port ≡ view_of n old.port) × (own n (touched_by_out old out) ≡ [])
 given_elsewhere n old new Nothing frame gives other = (ap (λ (p : Port). view_of n p) gives.1, refl)
 given_elsewhere n old new (Unreadable dev) frame gives other = absurd other
-given_elsewhere n old new (Data dev offset len command) None gives other = absurd gives
 given_elsewhere n old new (Data dev offset len command) (Some f) gives other = (gives.others n other, other_one n dev _ other)
-given_elsewhere n old new (Order dev slot command) None gives other = absurd gives
 given_elsewhere n old new (Order dev slot command) (Some f) gives other = (gives.others n other, other_one n dev _ other)
+given_elsewhere n old new rest None gives other = absurd gives
 
 -- ## All of them
 
@@ -109,5 +89,4 @@ others_leave_device n old new (Gave frame) below does other =
     let both = given_elsewhere n old new (outgoing old.port old.memory) frame does.0 other in
     record { view = both.0; history = both.1 }
 others_leave_device n old new (Stored structure) below does other = record { view = ap (view_of n) does.1; history = refl }
-others_leave_device n old new (Rewrote dev row) below does other = record { view = ap (view_of n) does.1; history = refl }
-others_leave_device n old new (Put at bytes) below does other = record { view = ap (view_of n) does.1; history = refl }
+others_leave_device n old new rest below does other = record { view = ap (view_of n) does.1; history = refl }

@@ -42,24 +42,16 @@ use Rattle.disk_ends.proofs.WatchedLemmas.{watches_on}
 -- ## Nothing is refused
 
 unrefused_alone : (k : Ledger) (r : Request) → IsPlainRequest r → IsUnrefused k → EachReply IsNoRefusal (alone k r).awaited
-unrefused_alone k (Reset on) plain none = absurd plain
 unrefused_alone k (Queue c) plain none = each_push IsNoRefusal k.awaited Accepts none tt
-unrefused_alone k ReadErrorLog plain none = absurd plain
 unrefused_alone k Identify plain none = each_push IsNoRefusal k.awaited ShowsPage none tt
 unrefused_alone k Flush plain none = each_push IsNoRefusal k.awaited Finishes none tt
-unrefused_alone k Other plain none = absurd plain
+unrefused_alone k other plain none = absurd plain
 
 unrefused_down : (k : Ledger) (r : Result Fis FisFault) → IsPlain r → Fits k r → IsUnrefused k → IsUnrefused (listens_down k r)
 unrefused_down k (Ok (view.RegH2D f)) plain fits none =
     subst IsUnrefused (sym (asks_fits k (request_of f) fits.0 fits.1)) (unrefused_alone k (request_of f) plain none)
 unrefused_down k (Ok (view.Payload f)) plain fits none = (leaves_taken k k.moving (drop 4 f)).each IsNoRefusal none
-unrefused_down k (Ok (view.RegD2H f)) plain fits none = absurd plain
-unrefused_down k (Ok (view.SetBits f)) plain fits none = absurd plain
-unrefused_down k (Ok (view.DmaActivate f)) plain fits none = absurd plain
-unrefused_down k (Ok (view.DmaSetup f)) plain fits none = absurd plain
-unrefused_down k (Ok (view.PioSetup f)) plain fits none = absurd plain
-unrefused_down k (Ok (view.Unknown f)) plain fits none = absurd plain
-unrefused_down k (Err e) plain fits none = absurd plain
+unrefused_down k other plain fits none = absurd plain
 
 unrefused_all : (k : Ledger) (since : List Happening) → IsUnrefused k → GavePlain since → FitsAll k since → IsUnrefused (ledger_after k since)
 unfolding FitsAll ledger_after

@@ -72,19 +72,13 @@ not_control dev below = not_control_by dev (eqb dev 15) refl below
 -- the Status of an answer that is awaited, where none is a refusal
 answer_status : (xs : List Reply) (f : List ℕ) → EachReply IsNoRefusal xs → AnswersFirst xs f → field D2h Status f ≡ 0x50
 answer_status [] f none answers = absurd answers
-answer_status (Signs ∷ xs) f none answers = answers.status_is
-answer_status (Accepts ∷ xs) f none answers = answers.status_is
-answer_status (Finishes ∷ xs) f none answers = answers.status_is
 answer_status (Refuses ∷ xs) f none answers = absurd none.0
 answer_status (ShowsPage ∷ xs) f none answers = absurd answers
+answer_status other f none answers = answers.status_is
 
 page_status : (xs : List Reply) (f : List ℕ) → ShowsFirst xs f → field Pio Status f ≡ 0x58
-page_status [] f shows = absurd shows
-page_status (Signs ∷ xs) f shows = absurd shows
-page_status (Accepts ∷ xs) f shows = absurd shows
-page_status (Finishes ∷ xs) f shows = absurd shows
-page_status (Refuses ∷ xs) f shows = absurd shows
 page_status (ShowsPage ∷ xs) f shows = shows.0.status_is
+page_status other f shows = absurd shows
 
 -- ## What is heard
 
@@ -100,10 +94,8 @@ module _ (v : DeviceView) where
   same_heard f done pss fine = record { status = fine.status; ends = fine.ends }
 
   answered_unset : (own : DeviceSlots) (a : Answered) → own.context ≡ None → (answered_as a own).context ≡ None
-  answered_unset own answer.Nobody none = none
-  answered_unset own (answer.Queued slot) none = none
   answered_unset own (answer.Done slot) none = ap (context_unless (is_slot slot)) none
-  answered_unset own (answer.Short slot) none = none
+  answered_unset own other none = none
 
   answered_ends : (a : Answered) → EndsFine v → ((answered_as a v.slots).context ≡ None) ⊎ IsFineBlock v.state.block
   answered_ends a (inl none) = inl (answered_unset v.slots a none)
@@ -200,8 +192,7 @@ module _ (v : DeviceView) where
       pio_heard (field Pio Status f) (field Pio table.Error f) (field Pio table.Transfer f) (field Pio table.D f == 1) (hear.block_of f)
       (page_status k.awaited f right.replies) (ap is_error mine) fine.ends
   fis_heard k sound (view.Payload f) none right mine fine = data_by sound (length f - 4) v.slots.context refl fine
-  fis_heard k sound (view.RegH2D f) none right mine fine = absurd mine
-  fis_heard k sound (view.Unknown f) none right mine fine = absurd mine
+  fis_heard k sound other none right mine fine = absurd mine
 
   admitted_if : (dev : ℕ) (sound : Bool) (fis : Fis) (b : Bool) → IsFineFile v → IsFineHeard v (heard_fis v.slots v.state sound fis)
       → IsFineHeard v (heard dev v sound (if b then Some fis else None))

@@ -71,10 +71,8 @@ ToldAs h payload events = h.fault ≡ None → list_of (event_heard h payload) �
 -- ## Register Device to Host
 
 told_answer : (a : Answered) (state : DeviceState) (payload : List ℕ) → ToldAs (answered a state) payload (event.Answered ∷ [])
-told_answer answer.Nobody state payload fine = refl
-told_answer (answer.Queued slot) state payload fine = refl
-told_answer (answer.Done slot) state payload fine = refl
 told_answer (answer.Short slot) state payload fine = cc fine
+told_answer other state payload fine = refl
 
 told_register : (own : DeviceSlots) (state : DeviceState) (status error : ℕ) (payload : List ℕ) (resetting e busy : Bool) → resetting ≡ false
     → busy ≡ false
@@ -90,11 +88,8 @@ told_register own state status error payload false false false steady idle = tol
 -- no answer of a disk has BSY set
 not_busy : (xs : List Reply) (f : List ℕ) → AnswersFirst xs f → is_busy (field D2h Status f) ≡ false
 not_busy [] f answers = absurd answers
-not_busy (Signs ∷ xs) f answers = ap is_busy answers.status_is
-not_busy (Accepts ∷ xs) f answers = ap is_busy answers.status_is
-not_busy (Finishes ∷ xs) f answers = ap is_busy answers.status_is
-not_busy (Refuses ∷ xs) f answers = ap is_busy answers.status_is
 not_busy (ShowsPage ∷ xs) f answers = absurd answers
+not_busy other f answers = ap is_busy answers.status_is
 
 -- ## Set Device Bits
 

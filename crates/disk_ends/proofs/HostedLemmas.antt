@@ -37,14 +37,12 @@ ledger_more l (x ∷ given) e = ledger_more (listens l x) given e
 -- it comes up, or it goes down and fits
 abbrev pub FitsOne : Ledger → Happening → Type 0
 FitsOne l (Received bytes) = Fits l (seen bytes)
-FitsOne l (Sent bytes) = Unit {0}
-FitsOne l Plugged = Unit {0}
+FitsOne l other = Unit {0}
 
 fits_last : (l : Ledger) (e : Happening) → FitsOne l e → FitsAll l (e ∷ [])
 unfolding FitsAll
 fits_last l (Received bytes) fits = (fits, tt)
-fits_last l (Sent bytes) fits = tt
-fits_last l Plugged fits = tt
+fits_last l other fits = tt
 
 pub fits_more : (l : Ledger) (given : List Happening) (e : Happening) → FitsAll l given → FitsOne (ledger_after l given) e → FitsAll l (given ++ e ∷ [])
 unfolding FitsAll ledger_after

@@ -149,10 +149,9 @@ activated_issues own true = refl
 activated_issues own false = refl
 
 answer_sent : (own : DeviceSlots) (a : Answered) → KeepsSent own (answered_as a own)
-answer_sent own answer.Nobody = stays_sent own
 answer_sent own (answer.Queued slot) = set_sent own (with_answered own slot) slot answered_issue (λ j. refl) refl
 answer_sent own (answer.Done slot) = freed_sent (is_slot slot) own
-answer_sent own (answer.Short slot) = stays_sent own
+answer_sent own other = stays_sent own
 
 moved_sent : (own : DeviceSlots) (h : Happening) → KeepsSent own (moved h own)
 moved_sent own happening.Nothing = stays_sent own
@@ -169,26 +168,15 @@ moved_sent own (happening.Carried wrote finishes) =
 
 told_sent : (s : ℕ) (r : Result Fis FisFault) (past : History) → is_sent s (told r ++ past) ≡ is_sent s past
 told_sent s (Ok (view.RegH2D f)) past = refl
-told_sent s (Ok (view.RegD2H f)) past = refl
-told_sent s (Ok (view.SetBits f)) past = refl
-told_sent s (Ok (view.DmaActivate f)) past = refl
-told_sent s (Ok (view.DmaSetup f)) past = refl
-told_sent s (Ok (view.PioSetup f)) past = refl
-told_sent s (Ok (view.Payload f)) past = refl
-told_sent s (Ok (view.Unknown f)) past = refl
-told_sent s (Err e) past = refl
+told_sent s other past = refl
 
 -- ## What was asked for
 
 -- the happening asks for no data
 abbrev NotActivated : Happening → Type 0
-NotActivated happening.Nothing = Unit {0}
-NotActivated (happening.Answered a) = Unit {0}
-NotActivated (happening.Named mask) = Unit {0}
 NotActivated (happening.SetUp c) = c.activated ≡ false
-NotActivated (happening.PioSetUp count to_host) = Unit {0}
 NotActivated happening.Activated = ⊥
-NotActivated (happening.Carried wrote finishes) = Unit {0}
+NotActivated other = Unit {0}
 
 -- an activated context is the one from before
 abbrev Before : DeviceSlots → DeviceSlots → Type 0
@@ -211,10 +199,8 @@ freed_before : (F : ℕ → Bool) (own : DeviceSlots) → Before own (freed F ow
 freed_before F own c now set = unless_before F own.context c now
 
 answer_before : (own : DeviceSlots) (a : Answered) → Before own (answered_as a own)
-answer_before own answer.Nobody c now set = now
-answer_before own (answer.Queued slot) c now set = now
 answer_before own (answer.Done slot) c now set = freed_before (is_slot slot) own c now set
-answer_before own (answer.Short slot) c now set = now
+answer_before own other c now set = now
 
 pio_before : (own : DeviceSlots) (count : ℕ) (to_host b : Bool) (slot : Option ℕ)
     → Before own (if b then own else match_some slot own
@@ -336,8 +322,7 @@ module _ (c : Context) (k : Ledger) (a : IsAskedBy c k) where
   asked_up (Ok (view.DmaSetup f)) right = absurd (no_setup f right)
   asked_up (Ok (view.PioSetup f)) right = asked_same c k (answered k) refl a
   asked_up (Ok (view.Payload f)) right = absurd (no_data f right)
-  asked_up (Ok (view.Unknown f)) right = a
-  asked_up (Err e) right = a
+  asked_up other right = a
 
 -- ---- a DMA Activate
 

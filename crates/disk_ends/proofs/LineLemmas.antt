@@ -37,14 +37,7 @@ signs_none xs f true is answers none =
 
 pub unsigned_by : (k : Ledger) (r : Result Fis FisFault) → AnswersRight k r → IsUnsigned k → signs r ≡ false
 unsigned_by k (Ok (view.RegD2H f)) answers none = signs_none k.awaited f (is_signature f) refl answers none
-unsigned_by k (Ok (view.RegH2D f)) answers none = refl
-unsigned_by k (Ok (view.SetBits f)) answers none = refl
-unsigned_by k (Ok (view.DmaActivate f)) answers none = refl
-unsigned_by k (Ok (view.DmaSetup f)) answers none = refl
-unsigned_by k (Ok (view.PioSetup f)) answers none = refl
-unsigned_by k (Ok (view.Payload f)) answers none = refl
-unsigned_by k (Ok (view.Unknown f)) answers none = refl
-unsigned_by k (Err e) answers none = refl
+unsigned_by k other answers none = refl
 
 pub none_signs_push : (up : List (List ℕ)) (bytes : List ℕ) → NoneSigns up → signs (seen bytes) ≡ false → NoneSigns (up ++ bytes ∷ [])
 none_signs_push [] bytes quiet one = (one, tt)

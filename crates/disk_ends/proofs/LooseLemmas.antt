@@ -38,10 +38,7 @@ use Rattle.disk_ends.proofs.WatchedLemmas.{next_fails, takes_on}
 pub not_waited : (k : Ledger) (r : Request) → FitsRequest k r → k.awaited ≡ []
 not_waited k (Reset on) fits = absurd fits
 not_waited k (Queue c) fits = fits.1
-not_waited k ReadErrorLog fits = fits.awaited
-not_waited k Identify fits = fits.awaited
-not_waited k Flush fits = fits.awaited
-not_waited k Other fits = fits.awaited
+not_waited k other fits = fits.awaited
 
 -- nothing may be given
 gives_none : (k : Ledger) (r : Result Fis FisFault) → OwesOnly k (Signs ∷ []) [] → Fits k r → ⊥
@@ -49,13 +46,7 @@ gives_none k (Ok (view.RegH2D f)) owes fits =
     let bad : Signs ∷ [] ≡ [] = sym owes.awaited ∙ not_waited k (request_of f) fits.1 in
     cc bad
 gives_none k (Ok (view.Payload f)) owes fits = subst (λ (v : Option Moving). FitsData v (drop 4 f)) owes.clear.moving fits
-gives_none k (Ok (view.RegD2H f)) owes fits = absurd fits
-gives_none k (Ok (view.SetBits f)) owes fits = absurd fits
-gives_none k (Ok (view.DmaActivate f)) owes fits = absurd fits
-gives_none k (Ok (view.DmaSetup f)) owes fits = absurd fits
-gives_none k (Ok (view.PioSetup f)) owes fits = absurd fits
-gives_none k (Ok (view.Unknown f)) owes fits = absurd fits
-gives_none k (Err e) owes fits = absurd fits
+gives_none k other owes fits = absurd fits
 
 -- a DMA Setup may not come
 pub no_setup : (k : Ledger) (f : List ℕ) → k.moving ≡ None → k.outstanding ≡ [] → SetsUpRight k k.moving f → ⊥
@@ -75,8 +66,7 @@ signs_then k (Ok (view.Payload f)) owes mine right =
     let page : PageAsked k None = subst (PageAsked k) owes.clear.moving right.asked in
     absurd (page owes.pages)
 signs_then k (Ok (view.RegH2D f)) owes mine right = absurd mine
-signs_then k (Ok (view.Unknown f)) owes mine right = absurd mine
-signs_then k (Err e) owes mine right = absurd mine
+signs_then k other owes mine right = absurd mine
 
 -- ## Careful hosts
 
@@ -248,15 +238,8 @@ owes_none base disk given down up (Waiting owes disk_is given_is down_is up_is) 
     absurd bad.0
 
 error_unsigned : (r : Result Fis FisFault) → reports r ≡ true → signs r ≡ false
-error_unsigned (Ok (view.SetBits f)) is = refl
-error_unsigned (Ok (view.RegH2D f)) is = refl
 error_unsigned (Ok (view.RegD2H f)) is = cc is
-error_unsigned (Ok (view.DmaActivate f)) is = refl
-error_unsigned (Ok (view.DmaSetup f)) is = refl
-error_unsigned (Ok (view.PioSetup f)) is = refl
-error_unsigned (Ok (view.Payload f)) is = refl
-error_unsigned (Ok (view.Unknown f)) is = refl
-error_unsigned (Err e) is = refl
+error_unsigned other is = refl
 
 pub erred_unsigned : (k : Ledger) → IsErred k → IsUnsigned k
 erred_unsigned k erred = subst (EachReply IsNoSignature) (sym erred.rests.awaited) tt

@@ -31,14 +31,7 @@ asking bytes r q = subst (IsAsking r) (sym q.is) q.asks
 
 requests : (bytes : List ℕ) (r : Request) (s : Result Fis FisFault) → seen bytes ≡ s → IsAsking r s → IsRequest bytes r
 requests bytes r (Ok (view.RegH2D f)) is asks = record { frame = f; is = is; asks = asks }
-requests bytes r (Ok (view.RegD2H f)) is asks = absurd asks
-requests bytes r (Ok (view.SetBits f)) is asks = absurd asks
-requests bytes r (Ok (view.DmaActivate f)) is asks = absurd asks
-requests bytes r (Ok (view.DmaSetup f)) is asks = absurd asks
-requests bytes r (Ok (view.PioSetup f)) is asks = absurd asks
-requests bytes r (Ok (view.Payload f)) is asks = absurd asks
-requests bytes r (Ok (view.Unknown f)) is asks = absurd asks
-requests bytes r (Err e) is asks = absurd asks
+requests bytes r other is asks = absurd asks
 
 module _ (old new : List ℕ) (port : ℕ) (m : IsMarked port old new) where
   record IsSame (r s : Result Fis FisFault) : Type 0 where

@@ -57,12 +57,11 @@ module _ (k : Ledger) (old new : List ℕ) (port : ℕ) (m : IsMarked port old n
   }
 
   same_answer : (xs : List Reply) → AnswersFirst xs old → AnswersFirst xs new
-  same_answer [] answers = absurd answers
   same_answer (Signs ∷ xs) answers = same_register D2h 0 0x50 1 1 answers
   same_answer (Accepts ∷ xs) answers = same_register D2h 0 0x50 0 0 answers
   same_answer (Finishes ∷ xs) answers = same_register D2h 1 0x50 0 0 answers
   same_answer (Refuses ∷ xs) answers = same_register D2h 1 0x51 4 0 answers
-  same_answer (ShowsPage ∷ xs) answers = absurd answers
+  same_answer other answers = absurd answers
 
   alike_d2h : IsAlike (Ok (view.RegD2H old)) (Ok (view.RegD2H new))
   alike_d2h = record {

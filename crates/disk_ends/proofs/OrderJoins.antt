@@ -53,9 +53,7 @@ use Rattle.disk_ends.specs.Same.{SlotCommand}
 not_control : (kind : Kind) → is_queued kind ≡ true → is_control kind ≡ false
 not_control QueuedRead queued = refl
 not_control QueuedWrite queued = refl
-not_control PioIn queued = absurd (true≢false (sym queued))
-not_control NoData queued = absurd (true≢false (sym queued))
-not_control Control queued = absurd (true≢false (sym queued))
+not_control other queued = absurd (true≢false (sym queued))
 
 -- what is known of a command that goes out
 record GoesOn (n slot : ℕ) (host : Host) : Type 0 where

@@ -45,13 +45,7 @@ given_none k reply wanted (Ok (view.RegH2D f)) owes fits =
     let bad : reply ∷ [] ≡ [] = sym owes.awaited ∙ not_waited k (request_of f) fits.1 in
     cc bad
 given_none k reply wanted (Ok (view.Payload f)) owes fits = subst (λ (v : Option Moving). FitsData v (drop 4 f)) owes.clear.moving fits
-given_none k reply wanted (Ok (view.RegD2H f)) owes fits = absurd fits
-given_none k reply wanted (Ok (view.SetBits f)) owes fits = absurd fits
-given_none k reply wanted (Ok (view.DmaActivate f)) owes fits = absurd fits
-given_none k reply wanted (Ok (view.DmaSetup f)) owes fits = absurd fits
-given_none k reply wanted (Ok (view.PioSetup f)) owes fits = absurd fits
-given_none k reply wanted (Ok (view.Unknown f)) owes fits = absurd fits
-given_none k reply wanted (Err e) owes fits = absurd fits
+given_none k reply wanted other owes fits = absurd fits
 
 pub nothing_is_given : NothingIsGiven
 nothing_is_given k reply wanted bytes owes fits = given_none k reply wanted (seen bytes) owes fits

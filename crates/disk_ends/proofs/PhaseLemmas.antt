@@ -66,14 +66,7 @@ record IsErrorBits (r : Result Fis FisFault) : Type 0 where
 
 error_bits : (r : Result Fis FisFault) → reports r ≡ true → IsErrorBits r
 error_bits (Ok (view.SetBits f)) is = record { frame = f; is = refl; error = is }
-error_bits (Ok (view.RegH2D f)) is = cc is
-error_bits (Ok (view.RegD2H f)) is = cc is
-error_bits (Ok (view.DmaActivate f)) is = cc is
-error_bits (Ok (view.DmaSetup f)) is = cc is
-error_bits (Ok (view.PioSetup f)) is = cc is
-error_bits (Ok (view.Payload f)) is = cc is
-error_bits (Ok (view.Unknown f)) is = cc is
-error_bits (Err e) is = cc is
+error_bits other is = cc is
 
 marked_bits : (port : ℕ) (old g : List ℕ) → IsFrame old → port < 16 → seen old ≡ Ok (view.SetBits g)
     → (seen (marked old port) ≡ Ok (view.SetBits (marked old port))) × (g ≡ old)

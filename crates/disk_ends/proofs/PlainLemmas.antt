@@ -67,11 +67,7 @@ stays_opened k c false is =
 -- no reset
 abbrev pub IsNoReset : Request → Type 0
 IsNoReset (Reset on) = ⊥
-IsNoReset (Queue c) = Unit {0}
-IsNoReset ReadErrorLog = Unit {0}
-IsNoReset Identify = Unit {0}
-IsNoReset Flush = Unit {0}
-IsNoReset Other = Unit {0}
+IsNoReset other = Unit {0}
 
 abbrev pub ResetsNot : Result Fis FisFault → Type 0
 ResetsNot (Ok (view.RegH2D f)) = IsNoReset (request_of f)
@@ -97,10 +93,7 @@ stays_asked k Identify false still =
 stays_asked k Flush false still =
     stays_mixed k (awaits k Finishes) k.outstanding (record { resetting = refl; unsigned = λ none. each_push IsNoSignature k.awaited Finishes none tt })
 stays_asked k Other false still = stays_refused k
-stays_asked k (Queue c) true still = stays_same k
-stays_asked k Identify true still = stays_same k
-stays_asked k Flush true still = stays_same k
-stays_asked k Other true still = stays_same k
+stays_asked k other true still = stays_same k
 
 leaves_ended : (k : Ledger) (v : Moving) (write : Bool) → LeavesReplies k (ends k v write)
 leaves_ended k v true = record { resetting = refl; each = λ P all. all }
@@ -129,52 +122,28 @@ stays_of k new leaves = record { resetting = leaves.resetting; unsigned = λ non
 pub stays_down : (k : Ledger) (r : Result Fis FisFault) → ResetsNot r → Stays k (listens_down k r)
 stays_down k (Ok (view.RegH2D f)) still = stays_asked k (request_of f) k.failed still
 stays_down k (Ok (view.Payload f)) still = stays_of k (takes_data k k.moving (drop 4 f)) (leaves_taken k k.moving (drop 4 f))
-stays_down k (Ok (view.RegD2H f)) still = stays_same k
-stays_down k (Ok (view.SetBits f)) still = stays_same k
-stays_down k (Ok (view.DmaActivate f)) still = stays_same k
-stays_down k (Ok (view.DmaSetup f)) still = stays_same k
-stays_down k (Ok (view.PioSetup f)) still = stays_same k
-stays_down k (Ok (view.Unknown f)) still = stays_same k
-stays_down k (Err e) still = stays_same k
+stays_down k other still = stays_same k
 
 request_no_reset : (r : Request) → IsPlainRequest r → IsNoReset r
-request_no_reset (Reset on) plain = absurd plain
 request_no_reset (Queue c) plain = tt
-request_no_reset ReadErrorLog plain = absurd plain
 request_no_reset Identify plain = tt
 request_no_reset Flush plain = tt
-request_no_reset Other plain = absurd plain
+request_no_reset other plain = absurd plain
 
 pub plain_no_reset : (r : Result Fis FisFault) → IsPlain r → ResetsNot r
 plain_no_reset (Ok (view.RegH2D f)) plain = request_no_reset (request_of f) plain
 plain_no_reset (Ok (view.Payload f)) plain = tt
-plain_no_reset (Ok (view.RegD2H f)) plain = absurd plain
-plain_no_reset (Ok (view.SetBits f)) plain = absurd plain
-plain_no_reset (Ok (view.DmaActivate f)) plain = absurd plain
-plain_no_reset (Ok (view.DmaSetup f)) plain = absurd plain
-plain_no_reset (Ok (view.PioSetup f)) plain = absurd plain
-plain_no_reset (Ok (view.Unknown f)) plain = absurd plain
-plain_no_reset (Err e) plain = absurd plain
+plain_no_reset other plain = absurd plain
 
 fits_request : (k : Ledger) (r : Request) → FitsRequest k r → IsNoReset r
 fits_request k (Reset on) fits = absurd fits
-fits_request k (Queue c) fits = tt
-fits_request k ReadErrorLog fits = tt
-fits_request k Identify fits = tt
-fits_request k Flush fits = tt
-fits_request k Other fits = tt
+fits_request k other fits = tt
 
 -- what fits is no reset
 pub fits_no_reset : (k : Ledger) (r : Result Fis FisFault) → Fits k r → ResetsNot r
 fits_no_reset k (Ok (view.RegH2D f)) fits = fits_request k (request_of f) fits.1
 fits_no_reset k (Ok (view.Payload f)) fits = tt
-fits_no_reset k (Ok (view.RegD2H f)) fits = absurd fits
-fits_no_reset k (Ok (view.SetBits f)) fits = absurd fits
-fits_no_reset k (Ok (view.DmaActivate f)) fits = absurd fits
-fits_no_reset k (Ok (view.DmaSetup f)) fits = absurd fits
-fits_no_reset k (Ok (view.PioSetup f)) fits = absurd fits
-fits_no_reset k (Ok (view.Unknown f)) fits = absurd fits
-fits_no_reset k (Err e) fits = absurd fits
+fits_no_reset k other fits = absurd fits
 
 -- ## What goes up
 
@@ -219,9 +188,7 @@ leaves_up k (Ok (view.Payload f)) = leaves_sent k k.moving (drop 4 f)
 leaves_up k (Ok (view.SetBits f)) = leaves_named k (field Bits Error f) (has_error f)
 leaves_up k (Ok (view.RegD2H f)) = leaves_answered k
 leaves_up k (Ok (view.PioSetup f)) = leaves_answered k
-leaves_up k (Ok (view.RegH2D f)) = leaves_same k
-leaves_up k (Ok (view.Unknown f)) = leaves_same k
-leaves_up k (Err e) = leaves_same k
+leaves_up k other = leaves_same k
 
 pub stays_up : (k : Ledger) (r : Result Fis FisFault) → Stays k (listens_up k r)
 stays_up k r = stays_of k (listens_up k r) (leaves_up k r)
@@ -242,14 +209,7 @@ errs_by k e false is = cc is
 
 errs : (k : Ledger) (r : Result Fis FisFault) → reports r ≡ true → IsErred (listens_up k r)
 errs k (Ok (view.SetBits f)) is = errs_by k (field Bits Error f) (has_error f) is
-errs k (Ok (view.RegH2D f)) is = cc is
-errs k (Ok (view.RegD2H f)) is = cc is
-errs k (Ok (view.DmaActivate f)) is = cc is
-errs k (Ok (view.DmaSetup f)) is = cc is
-errs k (Ok (view.PioSetup f)) is = cc is
-errs k (Ok (view.Payload f)) is = cc is
-errs k (Ok (view.Unknown f)) is = cc is
-errs k (Err e) is = cc is
+errs k other is = cc is
 
 -- a disk that reports an error is in its error mode
 pub erred_now : (disk : List Happening) (error : List ℕ) → reports (seen error) ≡ true → IsErred (ledger (disk ++ Sent error ∷ []))
@@ -262,40 +222,25 @@ writes_by k e false = refl
 
 errs_writes : (k : Ledger) (fis : Result Fis FisFault) → reports fis ≡ true → (listens_up k fis).writes ≡ k.writes
 errs_writes k (Ok (view.SetBits f)) is = writes_by k (field Bits Error f) (has_error f)
-errs_writes k (Ok (view.RegH2D f)) is = cc is
-errs_writes k (Ok (view.RegD2H f)) is = cc is
-errs_writes k (Ok (view.DmaActivate f)) is = cc is
-errs_writes k (Ok (view.DmaSetup f)) is = cc is
-errs_writes k (Ok (view.PioSetup f)) is = cc is
-errs_writes k (Ok (view.Payload f)) is = cc is
-errs_writes k (Ok (view.Unknown f)) is = cc is
-errs_writes k (Err e) is = cc is
+errs_writes k other is = cc is
 
 pub erred_writes : (disk : List Happening) (error : List ℕ) → reports (seen error) ≡ true
     → (ledger (disk ++ Sent error ∷ [])).writes ≡ (ledger disk).writes
 erred_writes disk error is = ap (λ (k : Ledger). k.writes) (ledger_push disk (Sent error)) ∙ errs_writes (ledger disk) (seen error) is
 
 passes : (k : Ledger) (r : Request) (failed : Bool) → failed ≡ true → IsPlainRequest r → asks k r failed ≡ k
-passes k (Reset on) failed is plain = absurd plain
-passes k ReadErrorLog failed is plain = absurd plain
-passes k Other failed is plain = absurd plain
 passes k (Queue c) true is plain = refl
 passes k Identify true is plain = refl
 passes k Flush true is plain = refl
 passes k (Queue c) false is plain = cc is
 passes k Identify false is plain = cc is
 passes k Flush false is plain = cc is
+passes k other failed is plain = absurd plain
 
 unheard : (k : Ledger) (r : Result Fis FisFault) → IsErred k → IsPlain r → listens_down k r ≡ k
 unheard k (Ok (view.RegH2D f)) erred plain = passes k (request_of f) k.failed erred.failed plain
 unheard k (Ok (view.Payload f)) erred plain = ap (λ (v : Option Moving). takes_data k v (drop 4 f)) erred.rests.moving
-unheard k (Ok (view.RegD2H f)) erred plain = absurd plain
-unheard k (Ok (view.SetBits f)) erred plain = absurd plain
-unheard k (Ok (view.DmaActivate f)) erred plain = absurd plain
-unheard k (Ok (view.DmaSetup f)) erred plain = absurd plain
-unheard k (Ok (view.PioSetup f)) erred plain = absurd plain
-unheard k (Ok (view.Unknown f)) erred plain = absurd plain
-unheard k (Err e) erred plain = absurd plain
+unheard k other erred plain = absurd plain
 
 -- and hears nothing plain then
 pub unheard_now : (disk : List Happening) (bytes : List ℕ) → IsErred (ledger disk) → IsPlain (seen bytes) → ledger (disk ++ Received bytes ∷ []) ≡ ledger disk

@@ -62,10 +62,9 @@ by_told (Ok (view.Payload f)) s past t None queued same done = cc done
 by_told (Ok (view.Payload f)) s past t (Some e) queued same done =
     let is : e ≡ event.Carried (drop 4 f) = cc same in
     absurd (no_end _ (is_pio t.work.kind) _ _ (not_pio t.work.kind queued) (subst (λ (x : Event). completes s x past t.work ≡ true) is done))
-by_told (Ok (view.Unknown f)) s past t None queued same done = cc done
 by_told (Ok (view.Unknown f)) s past t (Some e) queued same done = cc same
-by_told (Err fault) s past t None queued same done = cc done
 by_told (Err fault) s past t (Some e) queued same done = cc same
+by_told other s past t None queued same done = cc done
 
 -- ## A report that a command is done
 

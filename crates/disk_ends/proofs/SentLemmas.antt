@@ -15,21 +15,15 @@ unfolding places cut
 ends_fine b shows = shows.fields EStatus
 
 answers_by : (sectors : ℕ) (plan : DiskPlan) (a : Answer) (b : List ℕ) → Shows (answer_sent sectors plan a) b → IsOfDisk (seen b)
-answers_by sectors plan Signature b shows = rw shows.viewed tt
-answers_by sectors plan Accepted b shows = rw shows.viewed tt
-answers_by sectors plan Finished b shows = rw shows.viewed tt
-answers_by sectors plan Refused b shows = rw shows.viewed tt
-answers_by sectors plan (Ended t) b shows = rw shows.viewed tt
 answers_by sectors plan PageFollows b shows = rw shows.viewed (ends_fine b shows)
 answers_by sectors plan (PageData page) b shows = rw shows.1 tt
+answers_by sectors plan other b shows = rw shows.viewed tt
 
 goes_by : (x : Sending) (b : List ℕ) → IsTransfer x → Shows x b → IsOfDisk (seen b)
-goes_by (Register f) b moves shows = absurd moves
-goes_by (SetsBits f) b moves shows = absurd moves
 goes_by (SetsUp f) b moves shows = rw shows.viewed tt
 goes_by Activates b moves shows = rw shows.viewed tt
-goes_by (SetsUpPio f) b moves shows = absurd moves
 goes_by (Carries bytes) b moves shows = rw shows.1 tt
+goes_by other b moves shows = absurd moves
 
 pub of_disk : DisksSendTheirs
 of_disk plan sectors disk b size run = sent_by plan sectors disk b _ size run (λ agrees. record {

@@ -77,10 +77,8 @@ short_up k (Ok (view.DmaActivate f)) right few short = short_activate k k.moving
 short_up k (Ok (view.DmaSetup f)) right few short =
     short_auto (is_auto f) (sets_up k k.moving (field Setup BufferId f) (field Setup Offset f) (field Setup table.Count f))
     (short_setup k f k.moving (find (λ q. q.tag == field Setup BufferId f) k.outstanding) refl refl right few)
-short_up k (Ok (view.PioSetup f)) right few short = short
 short_up k (Ok (view.Payload f)) right few short = short_data k (drop 4 f) k.moving refl right.moves short
-short_up k (Ok (view.Unknown f)) right few short = short
-short_up k (Err e) right few short = short
+short_up k other right few short = short
 
 pub short_down : (k : Ledger) (w : Moving) (bytes : List ℕ) → k.moving ≡ Some w → IsAskedFor w bytes → AreShort k
     → AreShort (takes_data k k.moving bytes)

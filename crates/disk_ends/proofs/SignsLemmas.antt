@@ -43,14 +43,7 @@ pub record IsSigned (r : Result Fis FisFault) : Type 0 where
 
 signed_by : (r : Result Fis FisFault) → signs r ≡ true → IsSigned r
 signed_by (Ok (view.RegD2H f)) is = record { frame = f; is = refl; signature = is }
-signed_by (Ok (view.RegH2D f)) is = cc is
-signed_by (Ok (view.SetBits f)) is = cc is
-signed_by (Ok (view.DmaActivate f)) is = cc is
-signed_by (Ok (view.DmaSetup f)) is = cc is
-signed_by (Ok (view.PioSetup f)) is = cc is
-signed_by (Ok (view.Payload f)) is = cc is
-signed_by (Ok (view.Unknown f)) is = cc is
-signed_by (Err e) is = cc is
+signed_by other is = cc is
 
 not_test : (a b c d : Bool) → (a || b || (c && not d)) ≡ false → c ≡ true → d ≡ true
 not_test false false true true unset on = refl
@@ -142,12 +135,11 @@ no_signature f error is other set =
 
 -- it answers what came first, and that is the signature
 pub signs_first : (xs : List Reply) (f : List ℕ) → AnswersFirst xs f → is_signature f ≡ true → (later : List Reply) × (xs ≡ Signs ∷ later)
-signs_first [] f answers set = absurd answers
 signs_first (Signs ∷ xs) f answers set = (xs, refl)
 signs_first (Accepts ∷ xs) f answers set = absurd (no_signature f 0 answers.error_is refl set)
 signs_first (Finishes ∷ xs) f answers set = absurd (no_signature f 0 answers.error_is refl set)
 signs_first (Refuses ∷ xs) f answers set = absurd (no_signature f 4 answers.error_is refl set)
-signs_first (ShowsPage ∷ xs) f answers set = absurd answers
+signs_first other f answers set = absurd answers
 
 talk_quiet : (past : History) (k : Ledger) → k.awaited ≡ [] → k.pages ≡ [] → InTalk past k
 talk_quiet past k none pages = Queues (subst AtMostAccepts (sym none) tt) (λ some. absurd (some none)) pages

@@ -30,13 +30,8 @@ use Rattle.disk_ends.specs.Joined.{IsShort}
 use Rattle.disk_ends.specs.Hosted.{NextIsShort}
 
 answer_short : (sectors : ℕ) (plan : DiskPlan) (a : Answer) (b : List ℕ) → Shows (answer_sent sectors plan a) b → IsShort (seen b)
-answer_short sectors plan Signature b shows = rw shows.viewed tt
-answer_short sectors plan Accepted b shows = rw shows.viewed tt
-answer_short sectors plan Finished b shows = rw shows.viewed tt
-answer_short sectors plan Refused b shows = rw shows.viewed tt
-answer_short sectors plan (Ended t) b shows = rw shows.viewed tt
-answer_short sectors plan PageFollows b shows = rw shows.viewed tt
 answer_short sectors plan (PageData page) b shows = rw shows.1 tt
+answer_short sectors plan other b shows = rw shows.viewed tt
 
 -- the DMA Setup of a chunk
 chunk_short : (plan : DiskPlan) (c : Command) (left : ℕ) (b : List ℕ) → plan.chunk ≤ 8192

@@ -86,26 +86,20 @@ none_after xs x is = ap (drop 1) is
 accepted : (xs : List Reply) → AtMostAccepts xs → drop 1 xs ≡ []
 accepted [] few = refl
 accepted (Accepts ∷ []) few = refl
-accepted (Accepts ∷ x ∷ xs) few = absurd few
-accepted (Signs ∷ xs) few = absurd few
-accepted (Finishes ∷ xs) few = absurd few
-accepted (Refuses ∷ xs) few = absurd few
-accepted (ShowsPage ∷ xs) few = absurd few
+accepted other few = absurd few
 
 none_left : (ps : List Wanted) → AtMostOne ps → drop 1 ps ≡ []
-none_left [] few = refl
-none_left (p ∷ []) few = refl
 none_left (p ∷ q ∷ ps) few = absurd few
+none_left other few = refl
 
 -- ## Commands
 
 own_issue : (reply : Reply) (slot : ℕ) (t : Transfer) (past : History) → issued slot past ≡ None → IsOwnReply reply past
     → IsOwnReply reply (Issued slot t ∷ past)
 own_issue Signs slot t past free own = tt
-own_issue Accepts slot t past free own = own
 own_issue Finishes slot t past free own = waited_issue false slot t past free own
 own_issue Refuses slot t past free own = waited_issue false slot t past free own
-own_issue ShowsPage slot t past free own = own
+own_issue other slot t past free own = own
 
 pub talk_issues : (slot : ℕ) (t : Transfer) (past : History) (k : Ledger) → issued slot past ≡ None → InTalk past k → InTalk (Issued slot t ∷ past) k
 talk_issues slot t past k free (Queues few waits none) = Queues few (λ some. waited_issue true slot t past free (waits some)) none
@@ -126,10 +120,9 @@ quiet_queue past k (x ∷ xs) is nothing waits none = absurd (one_waits true pas
 quiet_reply : (past : History) (k : Ledger) (reply : Reply) → k.awaited ≡ reply ∷ [] → NothingWaits past → k.awaited ≢ Signs ∷ []
     → IsOwnReply reply past → IsQuiet k
 quiet_reply past k Signs is nothing signed own = absurd (signed is)
-quiet_reply past k Accepts is nothing signed own = absurd own
 quiet_reply past k Finishes is nothing signed own = absurd (one_waits false past own nothing)
 quiet_reply past k Refuses is nothing signed own = absurd (one_waits false past own nothing)
-quiet_reply past k ShowsPage is nothing signed own = absurd own
+quiet_reply past k other is nothing signed own = absurd own
 
 pub quiet : (past : History) (k : Ledger) → NothingWaits past → k.awaited ≢ Signs ∷ [] → InTalk past k → IsQuiet k
 quiet past k nothing signed (Queues few waits none) = quiet_queue past k k.awaited refl nothing waits none
@@ -199,19 +192,13 @@ talk_register f past k right (Shows idle is few unset) = absurd (subst (λ (xs :
 talk_register f past k right (Pages page idle is one waited) = absurd (subst (λ (xs : List Reply). AnswersFirst xs f) is right)
 
 shows_none : (xs : List Reply) (f : List ℕ) → AtMostAccepts xs → ShowsFirst xs f → ⊥
-shows_none [] f few shows = shows
-shows_none (Accepts ∷ xs) f few shows = shows
-shows_none (Signs ∷ xs) f few shows = shows
-shows_none (Finishes ∷ xs) f few shows = shows
-shows_none (Refuses ∷ xs) f few shows = shows
 shows_none (ShowsPage ∷ xs) f few shows = few
+shows_none other f few shows = shows
 
 shows_own : (reply : Reply) (past : History) (f : List ℕ) → IsOwnReply reply past → ShowsFirst (reply ∷ []) f → ⊥
-shows_own Signs past f own shows = shows
 shows_own Accepts past f own shows = own
-shows_own Finishes past f own shows = shows
-shows_own Refuses past f own shows = shows
 shows_own ShowsPage past f own shows = own
+shows_own other past f own shows = shows
 
 shown_reply : (reply : Reply) (past : History) (f : List ℕ) (k : Ledger) → k.awaited ≡ reply ∷ [] → IsOwnReply reply past → ShowsFirst k.awaited f → ⊥
 shown_reply reply past f k is own shows = shows_own reply past f own (subst (λ (xs : List Reply). ShowsFirst xs f) is shows)

@@ -114,9 +114,7 @@ no_end false false c d pio e = true≢false (sym e)
 pub not_pio : (kind : Kind) → is_queued kind ≡ true → is_pio kind ≡ false
 not_pio QueuedRead queued = refl
 not_pio QueuedWrite queued = refl
-not_pio PioIn queued = absurd (true≢false (sym queued))
-not_pio NoData queued = absurd (true≢false (sym queued))
-not_pio Control queued = absurd (true≢false (sym queued))
+not_pio other queued = absurd (true≢false (sym queued))
 
 -- ## Tags that stay free
 
@@ -307,9 +305,7 @@ alone_failed : (k : Ledger) (request : Request) → k.failed ≡ false → IsAlo
 alone_failed k (asked.Reset on) failed one fits = absurd fits
 alone_failed k (asked.Queue c) failed one fits = absurd one
 alone_failed k asked.ReadErrorLog failed one fits = refl
-alone_failed k asked.Identify failed one fits = failed
-alone_failed k asked.Flush failed one fits = failed
-alone_failed k asked.Other failed one fits = failed
+alone_failed k other failed one fits = failed
 
 rest_asks : (commands : ℕ → SlotCommand) (slot : ℕ) (t : Transfer) (request : Request) (past : History) (k : Ledger) → issued slot past ≡ Some t
     → is_queued t.work.kind ≡ false → is_sent slot past ≡ false → IsAlone request → FitsRequest k request
@@ -361,10 +357,7 @@ none_moves k (Some v) is free =
 fits_alone : (k : Ledger) (request : Request) → IsAlone request → Rests k → FitsRequest k request
 fits_alone k (asked.Reset on) one rests = absurd one
 fits_alone k (asked.Queue c) one rests = absurd one
-fits_alone k asked.ReadErrorLog one rests = rests
-fits_alone k asked.Identify one rests = rests
-fits_alone k asked.Flush one rests = rests
-fits_alone k asked.Other one rests = rests
+fits_alone k other one rests = rests
 
 asks_same : (commands : ℕ → SlotCommand) (slot : ℕ) (t : Transfer) (request : Request) (past : History) (k : Ledger) → issued slot past ≡ Some t
     → is_queued t.work.kind ≡ false → is_sent slot past ≡ false → IsAlone request
@@ -694,8 +687,7 @@ takes_same commands (Ok (view.PioSetup f)) past k right ended same =
     (λ s life. answers_keep.shows s count ends_with (field Pio table.D f == 1) (commands s) past k (shows_idle f past k right.replies same.talk) life)
     (talk_shown f count ends_with (field Pio table.D f == 1) past k right.replies) same
 takes_same commands (Ok (view.Payload f)) past k right ended same = takes_bytes commands f past k k.moving refl right same
-takes_same commands (Ok (view.Unknown f)) past k right ended same = same
-takes_same commands (Err e) past k right ended same = same
+takes_same commands other past k right ended same = same
 
 pub same_goes_on : SameGoesOn
 same_goes_on = record {

@@ -54,10 +54,9 @@ aside_at n h stage touches below served at = elim (cases_Bool (is_faulty stage))
 -- ---- the driver tends a device that has no requests
 
 not_live : (p : Phase) → (waits_in p || is_issued_in p) ≡ true → (is_aside_in p || has_ended_in p) ≡ true → ⊥
-not_live Waits h k = false≢true k
-not_live IsOut h k = false≢true k
 not_live Aside h k = false≢true h
 not_live (Ended o) h k = false≢true h
+not_live other h k = false≢true k
 
 module _ (n : ℕ) (h : Host) (stage : Stage30) (touches : Touches) (below : n < 15) (sound : IsSoundHost h) (served : IsServed h.driver (shared_by h) touches) (at : IsAt30 n stage h) (off : IsUnsought n h) (well : is_faulty stage ≡ false) where
   abbrev apart : IsApart30 n stage h

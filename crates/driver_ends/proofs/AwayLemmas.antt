@@ -29,26 +29,14 @@ writes_away : (n : ℕ) (h : Host) (register : Register) (value : ℕ) → Write
 writes_away n h Cmd value is = is
 writes_away n h Ci value is = is
 writes_away n h Fbs value is = is
-writes_away n h Clb value is = tt
-writes_away n h Clbu value is = tt
-writes_away n h Fb value is = tt
-writes_away n h Fbu value is = tt
-writes_away n h Is value is = tt
-writes_away n h Ie value is = tt
-writes_away n h Tfd value is = tt
-writes_away n h Sig value is = tt
-writes_away n h Serr value is = tt
-writes_away n h Sact value is = tt
-writes_away n h Sntf value is = tt
+writes_away n h other value is = tt
 
 away_of : (n : ℕ) (h : Host) (e : HostEvent) → IsBeside n h e → IsElsewhere n h e
 away_of n h (Took frame report) is = absurd is
 away_of n h (Wrote register value) is = writes_away n h register value is
 away_of n h (Flushed dev) is = is
 away_of n h (Gave frame) is = absurd is
-away_of n h (Stored structure) is = tt
-away_of n h (Rewrote dev row) is = tt
-away_of n h (Put at bytes) is = tt
+away_of n h other is = tt
 
 -- each of these events is none of the disk's, or issues for it
 abbrev pub AreAway : (n slot : ℕ) → (old new : Host) → (events : List HostEvent) → Runs old events new → Type 0

@@ -110,9 +110,8 @@ request_asks slot e f below queued size built =
     work_asks slot e.head.work e.head.dev e.head.lba e.head.sectors f (omega (arith, below)) size.some size.most size.place queued (fields_read (work_fields slot e.head.work e.head.dev e.head.lba e.head.sectors) f built)
 
 work_flush : (slot : ℕ) (w : Work) (dev lba sectors : ℕ) (f : List ℕ) → is_queued w ≡ false → FieldsRead (work_fields slot w dev lba sectors) f → request_of f ≡ Flush
-work_flush slot work.Read dev lba sectors f queued r = absurd (true≢false queued)
-work_flush slot work.Write dev lba sectors f queued r = absurd (true≢false queued)
 work_flush slot work.Flush dev lba sectors f queued r = request_by f 0xEA r.c r.command ∙ flush_asks f
+work_flush slot other dev lba sectors f queued r = absurd (true≢false queued)
 
 -- another is a Flush
 pub flush_is : (slot : ℕ) (e : Entry) (f : List ℕ) → is_queued e.head.work ≡ false → IsBuilt H2d (h2d_given (request_fields slot e.head)) f → request_of f ≡ Flush
@@ -126,8 +125,7 @@ identify_is dev f built = let r = fields_read (identify_fields dev) f built in r
 
 work_kind : (slot : ℕ) (w : Work) (dev lba sectors : ℕ) → moved.is_queued (kind_of (fields_request (work_fields slot w dev lba sectors))) ≡ is_queued w
 work_kind slot work.Read dev lba sectors = refl
-work_kind slot work.Write dev lba sectors = refl
-work_kind slot work.Flush dev lba sectors = refl
+work_kind slot other dev lba sectors = refl
 
 pub request_kind : (slot : ℕ) (e : Entry) → moved.is_queued (work_of (fields_request (request_fields slot e.head))).kind ≡ is_queued e.head.work
 unfolding request_fields work_of
@@ -135,8 +133,7 @@ request_kind slot e = work_kind slot e.head.work e.head.dev e.head.lba e.head.se
 
 work_control : (slot : ℕ) (w : Work) (dev lba sectors : ℕ) → Rattle.slots.specs.Slots.is_control (kind_of (fields_request (work_fields slot w dev lba sectors))) ≡ false
 work_control slot work.Read dev lba sectors = refl
-work_control slot work.Write dev lba sectors = refl
-work_control slot work.Flush dev lba sectors = refl
+work_control slot other dev lba sectors = refl
 
 pub request_control : (slot : ℕ) (e : Entry) → Rattle.slots.specs.Slots.is_control (work_of (fields_request (request_fields slot e.head))).kind ≡ false
 unfolding request_fields work_of

@@ -78,10 +78,9 @@ frame_by bytes low high dwords = grind (arith, nat_tests)
 
 -- a command that goes out was issued last in its slot; data goes to a device that is there
 abbrev pub HasLast : Port → Outgoing → Type 0
-HasLast port Nothing = Unit {0}
-HasLast port (Unreadable dev) = Unit {0}
 HasLast port (Data dev offset len command) = dev < 16
 HasLast port (Order dev slot command) = last_command port.commands slot ≡ Some command
+HasLast port other = Unit {0}
 
 order_last : (port : Port) (slot : ℕ) → HasLast port (order_due port slot)
 order_last port slot = by_issue (issue_at port.slots slot)
@@ -135,9 +134,8 @@ out_issue port dev slot command goes = record { issue = goes.0; at = goes.1; of_
 -- ---- the command that goes out
 
 pub flush_of : (w : driver_work.Work) → orders.is_queued w ≡ false → orders.is_flush w ≡ true
-flush_of work.Read h = absurd (true≢false h)
-flush_of work.Write h = absurd (true≢false h)
 flush_of work.Flush h = refl
+flush_of other h = absurd (true≢false h)
 
 -- it is told of by the history of its device, and built for it
 pub record OutTold (old : Host) (touches : Touches) (dev slot : ℕ) (command : issued_command.Command) : Type 0 where

@@ -80,14 +80,13 @@ pio_off own state off status error count to_host block =
 
 fis_off : (own : DeviceSlots) (state : DeviceState) (sound : Bool) (fis : Fis) → state.resetting ≡ false → Off (heard_fis own state sound fis)
 unfolding heard_fis
-fis_off own state sound (view.RegH2D f) off = off
 fis_off own state sound (view.RegD2H f) off = register_off own state off (field table.D2h table.Status f) (field table.D2h table.Error f)
 fis_off own state sound (view.SetBits f) off = bits_off own state off _ _ _
 fis_off own state sound (view.DmaActivate f) off = activate_off own state off
 fis_off own state sound (view.DmaSetup f) off = set_up_off own state off _ _ _
 fis_off own state sound (view.PioSetup f) off = pio_off own state off _ _ _ _ _
 fis_off own state sound (view.Payload f) off = data_off own state off sound (length f - 4) own.context
-fis_off own state sound (view.Unknown f) off = off
+fis_off own state sound other off = off
 
 heard_off : (n : ℕ) (v : DeviceView) (sound : Bool) (o : Option Fis) → v.state.resetting ≡ false → Off (heard n v sound o)
 heard_off n v sound None off = off

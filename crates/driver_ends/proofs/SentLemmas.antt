@@ -13,13 +13,7 @@ sent_event : (s : ℕ) (e : Event) (past : History) → NotIssue e → is_sent s
 unfolding NotIssue
 sent_event s (Issued slot t) past none is = absurd none
 sent_event s (Sent slot) past none is = sent_test s past (eqb slot s) is
-sent_event s (SentControl slot) past none is = is
-sent_event s (SetUp tag offset count to_host) past none is = is
-sent_event s (PioSetUp count to_host ends) past none is = is
-sent_event s (Carried bytes) past none is = is
-sent_event s Answered past none is = is
-sent_event s (Named mask) past none is = is
-sent_event s Emptied past none is = is
+sent_event s other past none is = is
 
 pub sent_there : (n s : ℕ) (touches past : Touches) → NoneIssues touches → is_sent s (own n past) ≡ true → is_sent s (own n (touches ++ past)) ≡ true
 unfolding NoneIssues

@@ -72,10 +72,9 @@ asks_down l request true calm fits = absurd (true≢false calm)
 asks_down l (Reset on) false calm fits = absurd fits
 asks_down l (Queue c) false calm fits =
     subst (λ (x : Ledger). x.awaited ≢ Signs ∷ []) (sym (opens_then (list_any (λ q. q.tag == c.tag) l.outstanding) _ _ fits.0.outstanding)) (one_other l.awaited Accepts fits.1 accepts_not)
-asks_down l ReadErrorLog false calm fits = subst (λ (x : Ledger). x.awaited ≢ Signs ∷ []) (sym (alone_is l _ l.outstanding fits.outstanding)) (one_other l.awaited ShowsPage fits.awaited shows_not)
-asks_down l Identify false calm fits = subst (λ (x : Ledger). x.awaited ≢ Signs ∷ []) (sym (alone_is l _ l.outstanding fits.outstanding)) (one_other l.awaited ShowsPage fits.awaited shows_not)
 asks_down l Flush false calm fits = subst (λ (x : Ledger). x.awaited ≢ Signs ∷ []) (sym (alone_is l _ l.outstanding fits.outstanding)) (one_other l.awaited Finishes fits.awaited finishes_not)
 asks_down l Other false calm fits = subst (λ (x : Ledger). x.awaited ≢ Signs ∷ []) (sym (alone_is l _ l.outstanding fits.outstanding)) (one_other l.awaited Refuses fits.awaited refuses_not)
+asks_down l other false calm fits = subst (λ (x : Ledger). x.awaited ≢ Signs ∷ []) (sym (alone_is l _ l.outstanding fits.outstanding)) (one_other l.awaited ShowsPage fits.awaited shows_not)
 
 ends_same : (l : Ledger) (v : Moving) (write : Bool) → (ends l v write).awaited ≡ l.awaited
 ends_same l v true = refl
@@ -99,13 +98,7 @@ takes_same l (Some v) bytes = takes_if (v.active && (length bytes == v.count)) l
 pub signed_down : (l : Ledger) (fis : Result Fis FisFault) → Fits l fis → l.awaited ≢ Signs ∷ [] → (listens_down l fis).awaited ≢ Signs ∷ []
 signed_down l (Ok (view.RegH2D f)) fits was = asks_down l (request_of f) l.failed fits.0 fits.1
 signed_down l (Ok (view.Payload f)) fits was = λ is. was (sym (takes_same l l.moving (drop 4 f)) ∙ is)
-signed_down l (Ok (view.RegD2H f)) fits was = absurd fits
-signed_down l (Ok (view.SetBits f)) fits was = absurd fits
-signed_down l (Ok (view.DmaActivate f)) fits was = absurd fits
-signed_down l (Ok (view.DmaSetup f)) fits was = absurd fits
-signed_down l (Ok (view.PioSetup f)) fits was = absurd fits
-signed_down l (Ok (view.Unknown f)) fits was = absurd fits
-signed_down l (Err e) fits was = absurd fits
+signed_down l other fits was = absurd fits
 
 -- the host gives a FIS that fits
 pub signed_given : (given : List Happening) (bytes : List ℕ) → IsCareful (given ++ Received bytes ∷ []) → HasSigned given → HasSigned (given ++ Received bytes ∷ [])
@@ -144,11 +137,7 @@ none_not xs is h = let bad : [] ≡ Signs ∷ [] = sym is ∙ h in cc
 accepted : (xs : List Reply) → AtMostAccepts xs → drop 1 xs ≡ []
 accepted [] h = refl
 accepted (Accepts ∷ []) h = refl
-accepted (Accepts ∷ r ∷ later) h = absurd h
-accepted (Signs ∷ later) h = absurd h
-accepted (Finishes ∷ later) h = absurd h
-accepted (Refuses ∷ later) h = absurd h
-accepted (ShowsPage ∷ later) h = absurd h
+accepted other h = absurd h
 
 none_after : (xs : List Reply) (r : Reply) → xs ≡ r ∷ [] → drop 1 xs ≡ []
 none_after xs r is = ap (λ (l : List Reply). drop 1 l) is
@@ -169,9 +158,7 @@ signed_up past l (Ok (view.DmaSetup f)) talk fine was =
 signed_up past l (Ok (view.DmaActivate f)) talk fine was = λ is. was (sym (activates_same l l.moving) ∙ is)
 signed_up past l (Ok (view.Payload f)) talk fine was = λ is. was (sym (sends_same l l.moving (drop 4 f)) ∙ is)
 signed_up past l (Ok (view.SetBits f)) talk fine was = λ is. was (sym (answers_same l (field Bits table.Error f) (has_error f) fine) ∙ is)
-signed_up past l (Ok (view.RegH2D f)) talk fine was = was
-signed_up past l (Ok (view.Unknown f)) talk fine was = was
-signed_up past l (Err e) talk fine was = was
+signed_up past l other talk fine was = was
 
 -- the disk gives a FIS that reports no error
 pub signed_sent : (given : List Happening) (past : History) (bytes : List ℕ) → InTalk past (ledger given) → reports (seen bytes) ≡ false → HasSigned given → HasSigned (given ++ Sent bytes ∷ [])

@@ -40,14 +40,8 @@ use Rattle.driver_ends.proofs.TurnLemmas.{after}
 -- a Register FIS of a device, or none
 pub register_or : (r : Result Fis FisFault) → ((f : List ℕ) × (r ≡ Ok (view.RegD2H f))) ⊎ ((f : List ℕ) → r ≡ Ok (view.RegD2H f) → ⊥)
 register_or (Ok (view.RegD2H f)) = inl (f, refl)
-register_or (Ok (view.RegH2D f)) = inr (λ g e. cc)
-register_or (Ok (view.SetBits f)) = inr (λ g e. cc)
-register_or (Ok (view.DmaActivate f)) = inr (λ g e. cc)
-register_or (Ok (view.DmaSetup f)) = inr (λ g e. cc)
-register_or (Ok (view.PioSetup f)) = inr (λ g e. cc)
-register_or (Ok (view.Payload f)) = inr (λ g e. cc)
-register_or (Ok (view.Unknown f)) = inr (λ g e. cc)
 register_or (Err e) = inr (λ g k. cc)
+register_or other = inr (λ g e. cc)
 
 -- the ledger hears the same of the frame and of the marked one
 pub signed_marked : (given : List Happening) (plain frame : List ℕ) → listens (ledger given) (Sent frame) ≡ listens (ledger given) (Sent plain) → HasSigned (given ++ Sent frame ∷ []) → HasSigned (given ++ Sent plain ∷ [])

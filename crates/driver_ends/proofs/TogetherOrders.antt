@@ -150,8 +150,7 @@ identify_or_begun n plan p (Spoilt device free) here to = absurd (free p here to
 
 work_still : (slot : ℕ) (w : driver_work.Work) (dev lba sectors : ℕ) → (orders.work_fields slot w dev lba sectors).control ≡ 0
 work_still slot work.Read dev lba sectors = refl
-work_still slot work.Write dev lba sectors = refl
-work_still slot work.Flush dev lba sectors = refl
+work_still slot other dev lba sectors = refl
 
 request_still : (slot : ℕ) (e : Entry) → (orders.request_fields slot e.head).control ≡ 0
 unfolding orders.request_fields
@@ -172,10 +171,8 @@ pub record IsOrderOn (n slot : ℕ) (old : Host) (command : issued_command.Comma
 
 releasing_begun : (s : Stage) → IsReleasing s → IsBegun s
 releasing_begun Identify h = h
-releasing_begun (ReadLog file) h = tt
 releasing_begun AssertReset h = h
-releasing_begun ReleaseReset h = tt
-releasing_begun AwaitReset h = tt
+releasing_begun other h = tt
 
 module _ (n : ℕ) (base : List Happening) (old : Host) (given : List Happening) (commands : ℕ → SlotCommand) (touches : Touches) (below : n < 15) (sound : IsHost (shared_by old)) (h : IsServedOn n base old given commands touches)
     (slot : ℕ) (command : issued_command.Command) (goes : GoesOut old.port (Order n slot command)) (o : OutTold old touches n slot command) where

@@ -66,27 +66,11 @@ unfolding view_after
 written_state n value k old mid commands next Ci small does is =
     ap (λ (v : DeviceView). v.state.resetting) (does.1.views n small) ∙ issued_state old.port.registers old.memory value (view_of n old.port) (n == aimed old.port.registers old.memory.structure value)
 written_state n value k old mid commands next Clb small does is = absurd is
-written_state n value k old mid commands next Clbu small does is = absurd is
-written_state n value k old mid commands next Fb small does is = absurd is
-written_state n value k old mid commands next Fbu small does is = absurd is
-written_state n value k old mid commands next Is small does is = absurd is
-written_state n value k old mid commands next Ie small does is = absurd is
-written_state n value k old mid commands next Cmd small does is = absurd is
-written_state n value k old mid commands next Tfd small does is = absurd is
-written_state n value k old mid commands next Sig small does is = absurd is
-written_state n value k old mid commands next Serr small does is = absurd is
-written_state n value k old mid commands next Sact small does is = absurd is
-written_state n value k old mid commands next Sntf small does is = absurd is
-written_state n value k old mid commands next Fbs small does is = absurd is
+written_state n value k old mid commands next other small does is = absurd is
 
 issues_state : (n : ℕ) (k : Ledger) (old mid : event.Host) (commands next : ℕ → SlotCommand) (e : HostEvent) → n < 16 → event.Does old e mid → IssuesFor n k old commands e next → (view_of n mid.port).state.resetting ≡ (view_of n old.port).state.resetting
 issues_state n k old mid commands next (event.Wrote register value) small does is = written_state n value k old mid commands next register small does is
-issues_state n k old mid commands next (event.Took frame report) small does is = absurd is
-issues_state n k old mid commands next (event.Flushed dev) small does is = absurd is
-issues_state n k old mid commands next (event.Gave frame) small does is = absurd is
-issues_state n k old mid commands next (event.Stored structure) small does is = absurd is
-issues_state n k old mid commands next (event.Rewrote dev row) small does is = absurd is
-issues_state n k old mid commands next (event.Put at bytes) small does is = absurd is
+issues_state n k old mid commands next other small does is = absurd is
 
 one_state : (n : ℕ) (k : Ledger) (old mid : event.Host) (commands next : ℕ → SlotCommand) (e : HostEvent) → n < 16 → event.Does old e mid → IsCalm n k old commands e next → (view_of n mid.port).state.resetting ≡ (view_of n old.port).state.resetting
 one_state n k old mid commands next e small does (inl away) =
@@ -213,12 +197,9 @@ calm_turn n base old (Put at bytes) new run given commands touches below calm te
 
 -- a turn that is calm for it is so for the driver
 steady_of : (n : ℕ) (old : Host) (turn : HostTurn) → IsCalmTurn n old turn → IsSteadyTurn n old turn
-steady_of n old (Took frame report) calm = tt
 steady_of n old (Pushed frame) calm = absurd calm
 steady_of n old (Ticked a) calm = calm
-steady_of n old (Submitted dev request ticket) calm = tt
-steady_of n old (Polled c) calm = tt
-steady_of n old (Put at bytes) calm = tt
+steady_of n old other calm = tt
 
 pub calm_tends : (n : ℕ) (base : List Happening) (old : Host) (turn : HostTurn) (new : Host) → DoesAll old (turn ∷ []) new → (given : List Happening) (commands : ℕ → SlotCommand) (touches : Touches) → n < 15 → IsCalmTurn n old turn
     → IsServedOn n base old given commands touches → TendsOn n old turn new

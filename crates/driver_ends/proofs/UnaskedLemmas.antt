@@ -79,14 +79,12 @@ setup_none k f clear right =
 
 pub signs_only : (k : Ledger) (fis : Result Fis FisFault) → OwesSignature k → IsRight k fis → IsOfDisk fis → IsItsSignature k fis
 signs_only k (Ok (view.RegD2H f)) owes right mine = register_owed k f owes.awaited right.replies
-signs_only k (Ok (view.RegH2D f)) owes right mine = absurd mine
 signs_only k (Ok (view.SetBits f)) owes right mine = absurd (subst (λ (xs : List ℕ). Names xs (field Bits SActive f)) owes.clear.unanswered (right.answers right.fine))
 signs_only k (Ok (view.DmaActivate f)) owes right mine = absurd (subst ActivatesRight owes.clear.moving right.moves)
 signs_only k (Ok (view.DmaSetup f)) owes right mine = absurd (setup_none k f owes.clear right.moves)
 signs_only k (Ok (view.PioSetup f)) owes right mine = absurd (shows_none k f owes.awaited right.replies)
 signs_only k (Ok (view.Payload f)) owes right mine = absurd ((subst (PageAsked k) owes.clear.moving right.asked) owes.pages)
-signs_only k (Ok (view.Unknown f)) owes right mine = absurd mine
-signs_only k (Err e) owes right mine = absurd mine
+signs_only k other owes right mine = absurd mine
 
 signed_owes : (k : Ledger) (f : List ℕ) → OwesSignature k → k.awaited ≡ Signs ∷ [] → OwesSignature (listens_up k (Ok (view.RegD2H f)))
 signed_owes k f owes owed = record {
@@ -193,12 +191,8 @@ same_driver : (n : ℕ) (old new : Host) (given : List Happening) → new.driver
 same_driver n old new given same h absent = h (sym (ap (λ (d : Driver). device_at d.plan n) same) ∙ absent)
 
 steady_of : (n : ℕ) (old : Host) (turn : HostTurn) → IsCalmTurn n old turn → IsSteadyTurn n old turn
-steady_of n old (Took frame report) calm = tt
-steady_of n old (Pushed frame) calm = tt
 steady_of n old (Ticked a) calm = calm
-steady_of n old (Submitted dev request ticket) calm = tt
-steady_of n old (Polled c) calm = tt
-steady_of n old (Put at bytes) calm = tt
+steady_of n old other calm = tt
 
 reset_there : (n : ℕ) (h : Host) (asked : Bool) (stage other : Stage) → Resets n stage true h.driver.plan ⊎ Resets n other false h.driver.plan → device_at h.driver.plan n ≡ Absent → ⊥
 reset_there n h asked stage other (inl r) absent = recovering_absent Reset (sym r.device ∙ absent)

@@ -76,11 +76,7 @@ finds_none n old off found = false≢true (sym off ∙ ap (detects n old.driver.
 
 unflushed : (n : ℕ) (stage : Stage30) (old : Host) (turn : HostTurn) → MayBe30 n stage old turn → IsUnflushed n old turn
 unflushed n stage old (Ticked acts) may = may
-unflushed n stage old (Took frame report) may = tt
-unflushed n stage old (Pushed frame) may = tt
-unflushed n stage old (Submitted dev request ticket) may = tt
-unflushed n stage old (Polled completion) may = tt
-unflushed n stage old (Put at bytes) may = tt
+unflushed n stage old other may = tt
 
 -- it is not being looked for after the turn
 pub still_off : (n : ℕ) (stage : Stage30) (old : Host) (turn : HostTurn) (new : Host) → Does old turn new → MayBe30 n stage old turn → IsUnsought n old
@@ -119,19 +115,17 @@ faulty_ignored r false s h = absurd (false≢true h)
 module _ (n : ℕ) (old new : Host) where
   pushed_none : (o : Outgoing) (frame : Option Stamped) → Gives o old.port old.memory frame new.port → frame ≡ None
       → view_of n new.port ≡ view_of n old.port
-  pushed_none Nothing frame gives is = ap (view_of n) gives.1
-  pushed_none (Unreadable dev) frame gives is = ap (view_of n) gives.1
   pushed_none (Data dev offset len command) None gives is = absurd gives
   pushed_none (Data dev offset len command) (Some f) gives is = cc is
   pushed_none (Goes dev slot command) None gives is = absurd gives
   pushed_none (Goes dev slot command) (Some f) gives is = cc is
+  pushed_none other frame gives is = ap (view_of n) gives.1
 
   pushed_other : (o : Outgoing) (f : Stamped) → Gives o old.port old.memory (Some f) new.port → f.stamp.port ≢ n
       → view_of n new.port ≡ view_of n old.port
-  pushed_other Nothing f gives other = ap (view_of n) gives.1
-  pushed_other (Unreadable dev) f gives other = ap (view_of n) gives.1
   pushed_other (Data dev offset len command) f gives other = gives.others n (λ e. other (ap (λ (x : Stamped). x.stamp.port) gives.frame_is ∙ sym e))
   pushed_other (Goes dev slot command) f gives other = gives.others n (λ e. other (ap (λ (x : Stamped). x.stamp.port) gives.frame_is ∙ sym e))
+  pushed_other rest f gives other = ap (view_of n) gives.1
 
   faulty_view : (turn : HostTurn) → IsUnticked turn → Does old turn new → IsAt30 n Faulty old → (next : Stage30) → IsNext30 n Faulty turn next
       → (view_of n new.port ≡ view_of n old.port) × (next ≡ Faulty)
@@ -153,9 +147,7 @@ module _ (n : ℕ) (old new : Host) where
     | inr other ↦ (pushed_other (outgoing old.port old.memory) frame does.gives other, is.1 other)
   ]
   faulty_view (Ticked acts) none does at next is = absurd none
-  faulty_view (Submitted dev request ticket) none does at next is = (ap (view_of n) does.port, is)
-  faulty_view (Polled completion) none does at next is = (ap (view_of n) does.port, is)
-  faulty_view (Put place bytes) none does at next is = (ap (view_of n) does.port, is)
+  faulty_view other none does at next is = (ap (view_of n) does.port, is)
 
 -- ---- a tick
 
@@ -325,9 +317,7 @@ leads_to n stage next (Pushed (Some frame)) none is = elim (cases_eq frame.stamp
   | inr other ↦ inl (is.1 other)
 ]
 leads_to n stage next (Ticked acts) none is = absurd none
-leads_to n stage next (Submitted dev request ticket) none is = inl is
-leads_to n stage next (Polled completion) none is = inl is
-leads_to n stage next (Put at bytes) none is = inl is
+leads_to n stage next other none is = inl is
 
 module _ (n : ℕ) (old : Host) (turn : HostTurn) (new : Host) (none : IsUnticked turn) (does : Does old turn new) where
   abbrev ToReset : Stage30 → Type 0
@@ -372,19 +362,17 @@ module _ (n : ℕ) (old : Host) (turn : HostTurn) (new : Host) (none : IsUnticke
       to_stage next Faulty same.1
       (λ ready. ap (λ (w : DeviceView). has_bit w.state.status 0) same.0 ∙ goes (sym (device_same n old turn new none does) ∙ ready))
   rests_on Cleared next at is goes = cleared_to next goes (leads_to n Cleared next turn none is)
-  rests_on Asks next at is goes = absurd goes
-  rests_on LogSent next at is goes = absurd goes
   rests_on Sets next at is goes = sets_to next (at.apart refl).plan.device (leads_to n Sets next turn none is)
   rests_on On next at is goes = on_to next (leads_to n On next turn none is)
   rests_on Clears next at is goes = clears_to next (leads_to n Clears next turn none is)
   rests_on Off next at is goes = off_to next (leads_to n Off next turn none is)
+  rests_on other next at is goes = absurd goes
 
 -- a request that was withdrawn neither waits nor is issued
 not_live : (p : Phase) → (is_aside_in p || has_ended_in p) ≡ true → (waits_in p || is_issued_in p) ≡ true → ⊥
-not_live Waits gone lives = false≢true gone
-not_live Issued gone lives = false≢true gone
 not_live Aside gone lives = false≢true lives
 not_live (Ended o) gone lives = false≢true lives
+not_live other gone lives = false≢true gone
 
 -- the device is to be reset, and slot 30 does not work on it
 spoilt_tended : (n : ℕ) (h : Host) → IsAt30 n Cleared h → IsUnsought n h → device_at h.driver.plan n ≡ Recovering Reset → IsTended n h.driver
@@ -460,12 +448,11 @@ module _ (n : ℕ) (past : Touches) (old : Host) (acts : Bool) (new : Host) (low
   ticks_go : (stage next : Stage30) → IsAt30 n stage old → IsAt30 n next new → TicksOn30 stage next → GoesByReset n stage old → GoesByReset n next new
   ticks_go Faulty next at now is goes = faulty_ticks next at now is goes
   ticks_go Cleared next at now is goes = cleared_ticks next at now is goes
-  ticks_go Asks next at now is goes = absurd goes
-  ticks_go LogSent next at now is goes = absurd goes
   ticks_go Sets next at now is goes = late_goes n next new (late_ticks Sets next tt is)
   ticks_go On next at now is goes = late_goes n next new (late_ticks On next tt is)
   ticks_go Clears next at now is goes = late_goes n next new (late_ticks Clears next tt is)
   ticks_go Off next at now is goes = late_goes n next new (late_ticks Off next tt is)
+  ticks_go other next at now is goes = absurd goes
 
 -- a device that goes by its reset does so on
 pub resets : (n : ℕ) (past : Touches) (old : Host) (turn : HostTurn) (new : Host) (stage : Stage30) → n < 15 → IsOn30 past old → Does old turn new

@@ -203,13 +203,12 @@ module _ (laws : LinesGoOn) (n : ℕ) (h : Host) (k : Ledger) (down up : List (L
   off_taken _ next fits is = absurd fits
 
   pub takes_on : (line : Line) (stage next : Stage30) → HasSpoken line → Fits line stage → TakesOn30 stage next → Leans n line next h → Fit line next
-  takes_on Failed stage next spoken fits is leans = absurd spoken
-  takes_on Asked stage next spoken fits is leans = absurd spoken
   takes_on Loose stage next spoken fits is leans = loose_taken stage next fits is leans
   takes_on Held stage next spoken fits is leans = same Held next (held_taken stage next fits is) tt
   takes_on Both stage next spoken fits is leans = same Both next (off_taken stage next fits is) tt
   takes_on Resting stage next spoken fits is leans = same Resting next (held_taken stage next fits is) tt
   takes_on Releasing stage next spoken fits is leans = same Releasing next (off_taken stage next fits is) tt
+  takes_on other stage next spoken fits is leans = absurd spoken
 
 -- ## What may come to the host
 
@@ -225,9 +224,7 @@ pub may_come : (line : Line) (stage : Stage30) (frame : List ℕ) → HasSpoken 
     → MayCome30 stage frame
 may_come line Asks frame spoken fits unsigned = spoken_asks line spoken fits
 may_come line LogSent frame spoken fits unsigned = spoken_log line spoken fits
-may_come line On frame spoken fits unsigned = unsigned
-may_come line Clears frame spoken fits unsigned = unsigned
-may_come line Off frame spoken fits unsigned = unsigned
 may_come line Faulty frame spoken fits unsigned = tt
 may_come line Cleared frame spoken fits unsigned = tt
 may_come line Sets frame spoken fits unsigned = tt
+may_come line other frame spoken fits unsigned = unsigned

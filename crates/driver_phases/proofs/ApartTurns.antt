@@ -41,30 +41,20 @@ lines = lines_go_on
 beside_may : (n : ℕ) (stage : Stage30) (old : Host) (turn : HostTurn) → IsBesideTurn n old turn → MayBe30 n stage old turn
 beside_may n stage old (Took frame report) beside = λ here. absurd (beside here)
 beside_may n stage old (Ticked acted) beside = beside
-beside_may n stage old (Pushed frame) beside = tt
-beside_may n stage old (Submitted dev request ticket) beside = tt
-beside_may n stage old (Polled completion) beside = tt
-beside_may n stage old (Put at bytes) beside = tt
+beside_may n stage old other beside = tt
 
 same_ticks : (stage next : Stage30) → next ≡ stage → TicksOn30 stage next
 same_ticks Faulty next is = inl is
 same_ticks Cleared next is = inl is
 same_ticks On next is = inl is
-same_ticks Asks next is = is
-same_ticks LogSent next is = is
-same_ticks Sets next is = is
-same_ticks Clears next is = is
-same_ticks Off next is = is
+same_ticks other next is = is
 
 beside_next : (n : ℕ) (stage next : Stage30) (old : Host) (turn : HostTurn) → IsBesideTurn n old turn → IsNext30 n stage turn next
     → TicksOn30 stage next
 beside_next n stage next old (Took frame report) beside is = same_ticks stage next (is.1 beside)
-beside_next n stage next old (Pushed None) beside is = same_ticks stage next is
 beside_next n stage next old (Pushed (Some frame)) beside is = same_ticks stage next (is.1 beside)
 beside_next n stage next old (Ticked acted) beside is = is
-beside_next n stage next old (Submitted dev request ticket) beside is = same_ticks stage next is
-beside_next n stage next old (Polled completion) beside is = same_ticks stage next is
-beside_next n stage next old (Put at bytes) beside is = same_ticks stage next is
+beside_next n stage next old other beside is = same_ticks stage next is
 
 -- ---- turns
 

@@ -54,12 +54,10 @@ IsUnticked turn = Unit {0}
 
 -- it leaves the plan
 pub plan_same : (old : Host) (turn : HostTurn) (new : Host) → Does old turn new → IsUnticked turn → new.driver.plan ≡ old.driver.plan
-plan_same old (Took frame report) new does unticked = ap (λ (d : Driver). d.plan) does.driver
-plan_same old (Pushed frame) new does unticked = ap (λ (d : Driver). d.plan) does.driver
 plan_same old (Ticked acted) new does unticked = absurd unticked
 plan_same old (Submitted dev request ticket) new does unticked = ap (λ (d : Driver). d.plan) does.taken.driver
 plan_same old (Polled completion) new does unticked = ap (λ (d : Driver). d.plan) does.driver ∙ poll_plan old.driver
-plan_same old (Put at bytes) new does unticked = ap (λ (d : Driver). d.plan) does.driver
+plan_same old other new does unticked = ap (λ (d : Driver). d.plan) does.driver
 
 fine_as : (n : ℕ) (p q : Plan) → q ≡ p → IsFine (device_at p n) → IsFine (device_at q n)
 fine_as n p q same fine = subst (λ (x : Plan). IsFine (device_at x n)) (sym same) fine
@@ -97,9 +95,8 @@ events_away n old (Ticked a) new run runs sound bounded calm = record {
   away = beside_away n (slot_in old) (shared_by old) (shared_by new) (events_over old new (Ticked a ∷ []) run) runs
       (tick_beside n old a new run sound bounded calm runs);
 }
-events_away n old (Submitted dev request ticket) new run runs sound bounded calm = record { slot = 31; away = (inl tt, tt) }
 events_away n old (Polled c) new run runs sound bounded calm = record { slot = 31; away = tt }
-events_away n old (Put at bytes) new run runs sound bounded calm = record { slot = 31; away = (inl tt, tt) }
+events_away n old other new run runs sound bounded calm = record { slot = 31; away = (inl tt, tt) }
 
 -- ---- what is awaited
 

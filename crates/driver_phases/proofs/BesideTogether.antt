@@ -67,10 +67,7 @@ page_waits past k is (Replies reply idle awaits mine none) = absurd (of_page rep
   where
     of_page : (r : Reply) → r ∷ [] ≡ ShowsPage ∷ [] → IsOwnReply r past → ⊥
     of_page ShowsPage same is_own = is_own
-    of_page Signs same is_own = cc
-    of_page Accepts same is_own = cc
-    of_page Finishes same is_own = cc
-    of_page Refuses same is_own = cc
+    of_page other same is_own = cc
 page_waits past k is (Shows idle awaits most waits) = waits.waited
 page_waits past k is (Pages page idle awaits one waits) = cc
 
@@ -120,12 +117,8 @@ works_unready n plan p (Spoilt device free) here to ready = recovering_ready Res
 -- ---- the turn
 
 steady_of : (n : ℕ) (old : Host) (turn : HostTurn) → IsCalmTurn n old turn → IsSteadyTurn n old turn
-steady_of n old (Took frame report) calm = tt
-steady_of n old (Pushed frame) calm = tt
 steady_of n old (Ticked a) calm = calm
-steady_of n old (Submitted dev request ticket) calm = tt
-steady_of n old (Polled c) calm = tt
-steady_of n old (Put at bytes) calm = tt
+steady_of n old other calm = tt
 
 module _ (n : ℕ) (old : Host) (turn : HostTurn) (new : Host) (run : DoesAll old (turn ∷ []) new) (disk : List Happening)
     (down up : List (List ℕ)) (floors : ℕ → ℕ) (touches : Touches) (below : n < 15) (t : IsTogether n old disk down up floors touches) where
@@ -309,10 +302,7 @@ reset_apart n old (Ticked acted) new run disk down up floors touches below t on 
     let set = reset_sets_aside n t.base old acted new t.given t.commands touches below done issues on t.served t.well in
     record { stage = Sets; line = Loose; at = set.0; off = set.1; fits = tt; leans = tt; on = line }
 reset_apart n old (Took frame report) new run disk down up floors touches below t on done issues line = absurd issues
-reset_apart n old (Pushed frame) new run disk down up floors touches below t on done issues line = absurd issues
-reset_apart n old (Submitted dev request ticket) new run disk down up floors touches below t on done issues line = absurd issues
-reset_apart n old (Polled completion) new run disk down up floors touches below t on done issues line = absurd issues
-reset_apart n old (Put at bytes) new run disk down up floors touches below t on done issues line = absurd issues
+reset_apart n old other new run disk down up floors touches below t on done issues line = absurd issues
 
 module _ (n : ℕ) (plan : DiskPlan) (sectors : ℕ) (old : Host) (turn : HostTurn) (new : Host) (run : DoesAll old (turn ∷ []) new)
     (disk : List Happening) (down up : List (List ℕ)) (floors : ℕ → ℕ) (touches : Touches) (below : n < 15) (running : IsRunning plan sectors disk touches old)

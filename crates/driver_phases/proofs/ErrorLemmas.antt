@@ -95,22 +95,13 @@ IsAsked l = (l.moving ≡ None) × (l.outstanding ≢ [])
 asked_alone : (l : Ledger) (r : Request) → FitsRequest l r → IsAsked l → IsAsked (alone l r)
 asked_alone l (asked.Reset on) fits is = absurd fits
 asked_alone l (asked.Queue c) fits is = (is.0, λ none. never_empty l.outstanding c none)
-asked_alone l asked.ReadErrorLog fits is = absurd (is.1 fits.outstanding)
-asked_alone l asked.Identify fits is = absurd (is.1 fits.outstanding)
-asked_alone l asked.Flush fits is = absurd (is.1 fits.outstanding)
-asked_alone l asked.Other fits is = absurd (is.1 fits.outstanding)
+asked_alone l other fits is = absurd (is.1 fits.outstanding)
 
 asked_down : (l : Ledger) (fis : Result Fis FisFault) → Fits l fis → IsAsked l → IsAsked (listens_down l fis)
 asked_down l (Ok (view.RegH2D f)) fits is =
     subst IsAsked (sym (asks_fits l (request_of f) fits.0 fits.1)) (asked_alone l (request_of f) fits.1 is)
 asked_down l (Ok (view.Payload f)) fits is = absurd (subst (λ (v : Option Moving). FitsData v (drop 4 f)) is.0 fits)
-asked_down l (Ok (view.RegD2H f)) fits is = absurd fits
-asked_down l (Ok (view.SetBits f)) fits is = absurd fits
-asked_down l (Ok (view.DmaActivate f)) fits is = absurd fits
-asked_down l (Ok (view.DmaSetup f)) fits is = absurd fits
-asked_down l (Ok (view.PioSetup f)) fits is = absurd fits
-asked_down l (Ok (view.Unknown f)) fits is = absurd fits
-asked_down l (Err e) fits is = absurd fits
+asked_down l other fits is = absurd fits
 
 pub asked_with : (l : Ledger) (down : List (List ℕ)) → AreFit l down → IsAsked l → IsAsked (with_down l down)
 unfolding with_down
@@ -133,13 +124,7 @@ error_asked plan sectors l (Ok (view.SetBits f)) errs is =
     let parts = errs is in
     (parts.0, never_fails plan sectors (field Bits Error f) l.outstanding parts.1)
 error_asked plan sectors l (Ok (view.RegH2D f)) errs is = cc is
-error_asked plan sectors l (Ok (view.RegD2H f)) errs is = cc is
-error_asked plan sectors l (Ok (view.DmaActivate f)) errs is = cc is
-error_asked plan sectors l (Ok (view.DmaSetup f)) errs is = cc is
-error_asked plan sectors l (Ok (view.PioSetup f)) errs is = cc is
-error_asked plan sectors l (Ok (view.Payload f)) errs is = cc is
-error_asked plan sectors l (Ok (view.Unknown f)) errs is = cc is
-error_asked plan sectors l (Err e) errs is = cc is
+error_asked plan sectors l other errs is = cc is
 
 module _ (plan : DiskPlan) (sectors : ℕ) (base disk given : List Happening) (down up : List (List ℕ)) (bytes : List ℕ) (size : IsSize plan sectors)
     (run : IsDiskRun plan sectors disk) (careful : IsCarefulSince base given) (fails : reports (seen bytes) ≡ true) where

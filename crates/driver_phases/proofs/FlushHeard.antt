@@ -174,12 +174,7 @@ by_event (Some (event.Named mask)) s past t calm pio done =
     absurd (none_named (has_bit mask s) (is_queued t.work.kind) (is_all_filled (filled s past) t.work.len) calm done)
 by_event (Some Answered) s past t calm pio done = record { is = refl; waits = three_hold (is_at s (waiting_in past)) (is_queued t.work.kind) _ done }
 by_event (Some (event.Carried bytes)) s past t calm pio done = absurd (no_end _ (is_pio t.work.kind) _ _ pio done)
-by_event (Some (event.Issued slot u)) s past t calm pio done = absurd (true≢false (sym done))
-by_event (Some (event.Sent slot)) s past t calm pio done = absurd (true≢false (sym done))
-by_event (Some (event.SentControl slot)) s past t calm pio done = absurd (true≢false (sym done))
-by_event (Some (event.SetUp tag offset count to_host)) s past t calm pio done = absurd (true≢false (sym done))
-by_event (Some (event.PioSetUp count to_host ends)) s past t calm pio done = absurd (true≢false (sym done))
-by_event (Some event.Emptied) s past t calm pio done = absurd (true≢false (sym done))
+by_event other s past t calm pio done = absurd (true≢false (sym done))
 
 -- the FIS that a report of it is of, as the disk sent it
 pub record IsItsAnswer (bytes : List ℕ) (s : ℕ) (past : History) : Type 0 where

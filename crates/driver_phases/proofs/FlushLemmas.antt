@@ -73,10 +73,9 @@ among_first bytes later = refl
 alone_awaits : (l : Ledger) (r : Request) → FitsRequest l r → (alone l r).awaited ≢ []
 alone_awaits l (asked.Reset on) fits is = absurd fits
 alone_awaits l (asked.Queue c) fits is = never_empty l.awaited Accepts is
-alone_awaits l asked.ReadErrorLog fits is = never_empty l.awaited ShowsPage is
-alone_awaits l asked.Identify fits is = never_empty l.awaited ShowsPage is
 alone_awaits l asked.Flush fits is = never_empty l.awaited Finishes is
 alone_awaits l asked.Other fits is = never_empty l.awaited Refuses is
+alone_awaits l other fits is = never_empty l.awaited ShowsPage is
 
 -- Data leaves what is to be answered
 ends_awaited : (l : Ledger) (v : Moving) (b : Bool) → (ends l v b).awaited ≡ l.awaited
@@ -103,13 +102,7 @@ one_awaits : (l : Ledger) (fis : Result Fis FisFault) → Fits l fis → l.await
 one_awaits l (Ok (view.RegH2D f)) fits some =
     subst (λ (x : Ledger). x.awaited ≢ []) (sym (asks_fits l (request_of f) fits.0 fits.1)) (alone_awaits l (request_of f) fits.1)
 one_awaits l (Ok (view.Payload f)) fits some = λ none. some (sym (data_awaited l l.moving (drop 4 f)) ∙ none)
-one_awaits l (Ok (view.RegD2H f)) fits some = absurd fits
-one_awaits l (Ok (view.SetBits f)) fits some = absurd fits
-one_awaits l (Ok (view.DmaActivate f)) fits some = absurd fits
-one_awaits l (Ok (view.DmaSetup f)) fits some = absurd fits
-one_awaits l (Ok (view.PioSetup f)) fits some = absurd fits
-one_awaits l (Ok (view.Unknown f)) fits some = absurd fits
-one_awaits l (Err e) fits some = absurd fits
+one_awaits l other fits some = absurd fits
 
 still_awaits : (l : Ledger) (down : List (List ℕ)) → AreFit l down → l.awaited ≢ [] → (with_down l down).awaited ≢ []
 unfolding with_down
@@ -120,13 +113,7 @@ flush_awaits : (l : Ledger) (fis : Result Fis FisFault) → Fits l fis → is_fl
 flush_awaits l (Ok (view.RegH2D f)) fits is =
     subst (λ (x : Ledger). x.awaited ≢ []) (sym (asks_fits l (request_of f) fits.0 fits.1)) (alone_awaits l (request_of f) fits.1)
 flush_awaits l (Ok (view.Payload f)) fits is = absurd (true≢false (sym is))
-flush_awaits l (Ok (view.RegD2H f)) fits is = absurd fits
-flush_awaits l (Ok (view.SetBits f)) fits is = absurd fits
-flush_awaits l (Ok (view.DmaActivate f)) fits is = absurd fits
-flush_awaits l (Ok (view.DmaSetup f)) fits is = absurd fits
-flush_awaits l (Ok (view.PioSetup f)) fits is = absurd fits
-flush_awaits l (Ok (view.Unknown f)) fits is = absurd fits
-flush_awaits l (Err e) fits is = absurd fits
+flush_awaits l other fits is = absurd fits
 
 -- so no FLUSH is on its way where nothing is to be answered then
 pub none_flushes : (l : Ledger) (down : List (List ℕ)) → AreFit l down → (with_down l down).awaited ≡ [] → flushes_among down ≡ 0

@@ -114,16 +114,11 @@ was_out n s (Puts at bytes ∷ rest) past t none o = was_out n s rest past t non
 happening_quiet : (n dev : ℕ) (x : heard_as.Happening) (block : Option Block) (payload : List ℕ) → NoneSends n (by_device dev (event_of x block payload))
 unfolding NoneSends NotSend
 happening_quiet n dev happening.Nothing block payload = tt
-happening_quiet n dev (happening.Answered answer.Nobody) block payload = (λ e. tt, tt)
-happening_quiet n dev (happening.Answered (answer.Queued slot)) block payload = (λ e. tt, tt)
-happening_quiet n dev (happening.Answered (answer.Done slot)) block payload = (λ e. tt, tt)
 happening_quiet n dev (happening.Answered (answer.Short slot)) block payload = tt
-happening_quiet n dev (happening.Named mask) block payload = (λ e. tt, tt)
-happening_quiet n dev (happening.SetUp c) block payload = (λ e. tt, tt)
 happening_quiet n dev (happening.PioSetUp count to_host) None payload = tt
 happening_quiet n dev (happening.PioSetUp count to_host) (Some b) payload = (λ e. tt, tt)
 happening_quiet n dev happening.Activated block payload = tt
-happening_quiet n dev (happening.Carried wrote finishes) block payload = (λ e. tt, tt)
+happening_quiet n dev other block payload = (λ e. tt, tt)
 
 took_quiet : (n : ℕ) (old : event.Host) (frame : List ℕ) → NoneSends n (by_device (port_of frame) (event_taken old frame))
 unfolding NoneSends
@@ -160,17 +155,7 @@ unfolding NoneSends
 write_quiet n old Cmd value = falls_quiet n (falls old.port.registers value)
 write_quiet n old Ci value = issues_quiet n (aimed old.port.registers old.memory.structure value) old.memory (asked old.port.registers old.memory value) 32
 write_quiet n old Fbs value = clear_quiet n (cleared_by old.port.errors value)
-write_quiet n old Clb value = tt
-write_quiet n old Clbu value = tt
-write_quiet n old Fb value = tt
-write_quiet n old Fbu value = tt
-write_quiet n old Is value = tt
-write_quiet n old Ie value = tt
-write_quiet n old Tfd value = tt
-write_quiet n old Sig value = tt
-write_quiet n old Serr value = tt
-write_quiet n old Sact value = tt
-write_quiet n old Sntf value = tt
+write_quiet n old other value = tt
 
 -- an event in which the port is asked for no frame
 event_quiet : (n : ℕ) (old : event.Host) (e : HostEvent) → gave e ≡ [] → NoneSends n (touched old e)
@@ -179,9 +164,7 @@ event_quiet n old (event.Took frame report) none = took_quiet n old frame
 event_quiet n old (event.Wrote register value) none = write_quiet n old register value
 event_quiet n old (event.Flushed dev) none = (λ e. tt, tt)
 event_quiet n old (event.Gave frame) none = cc none
-event_quiet n old (event.Stored structure) none = tt
-event_quiet n old (event.Rewrote dev row) none = tt
-event_quiet n old (event.Put at bytes) none = tt
+event_quiet n old other none = tt
 
 none_first : {X : Type 0} (xs ys : List X) → xs ++ ys ≡ [] → (xs ≡ []) × (ys ≡ [])
 none_first [] ys is = (refl, is)
@@ -289,10 +272,9 @@ module _ (n : ℕ) (old : Host) (frame : Stamped) (new : Host) (does : Does old 
 -- the port was asked for a frame, and gave none
 none_out : (n : ℕ) (old new : Host) (touches : Touches) (o : Outgoing) → Gives o old.port old.memory None new.port → (s : ℕ) (t : Transfer)
     → IsOut s (own n (touched_by_out (shared_by old) o ++ touches)) t → IsOut s (own n touches) t
-none_out n old new touches out.Nothing gave s t was = was
-none_out n old new touches (out.Unreadable dev) gave s t was = was
 none_out n old new touches (out.Data dev offset len command) gave s t was = absurd gave
 none_out n old new touches (out.Order dev slot command) gave s t was = absurd gave
+none_out n old new touches other gave s t was = was
 
 -- ---- both ends
 
@@ -488,8 +470,7 @@ floors_stay floors happened more are s = floor_stays (floors s) happened more (a
 
 work_pio : (slot : ℕ) (w : driver_work.Work) (dev lba sectors : ℕ) → is_pio (kind_of (fields_request (orders.work_fields slot w dev lba sectors))) ≡ false
 work_pio slot work.Read dev lba sectors = refl
-work_pio slot work.Write dev lba sectors = refl
-work_pio slot work.Flush dev lba sectors = refl
+work_pio slot other dev lba sectors = refl
 
 pub request_pio : (slot : ℕ) (e : Entry) → is_pio (work_of (fields_request (request_fields slot e.head))).kind ≡ false
 unfolding request_fields work_of

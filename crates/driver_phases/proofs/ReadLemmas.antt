@@ -77,10 +77,7 @@ keep_asks l (asked.Queue c) false a = keep_opens l c (list_any (λ q. q.tag == c
 keep_asks l asked.Flush false a = keep_mixes l _ l.outstanding (record { reads = refl; asks = a })
 keep_asks l asked.Identify false a = keep_mixes l _ l.outstanding (record { reads = refl; asks = a })
 keep_asks l asked.Other false a = keep_refuses l a
-keep_asks l (asked.Queue c) true a = keep_same l a
-keep_asks l asked.Flush true a = keep_same l a
-keep_asks l asked.Identify true a = keep_same l a
-keep_asks l asked.Other true a = keep_same l a
+keep_asks l other true a = keep_same l a
 
 keep_ends : (l : Ledger) (w : Moving) (b : Bool) → b ≡ true → KeepsReads l (ends l w b)
 keep_ends l w true is = record { reads = refl; asks = tt }

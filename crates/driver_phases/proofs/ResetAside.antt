@@ -45,11 +45,8 @@ assert_given n = refl
 
 -- no device that is served is at the stage that sets SRST
 abbrev IsSetting : Stage → Type 0
-IsSetting Identify = ⊥
-IsSetting (ReadLog file) = ⊥
 IsSetting AssertReset = Unit {0}
-IsSetting ReleaseReset = ⊥
-IsSetting AwaitReset = ⊥
+IsSetting other = ⊥
 
 never : (n : ℕ) (plan : Plan) → IsTendedBy n plan → IsAtStage n IsSetting plan → ⊥
 never n plan (Fine fine path) there = subst IsSetting (path there.0 there.1.0 there.1.1.0).0 there.1.1.1

@@ -82,10 +82,9 @@ gave_unfaulted : (n : ℕ) (o : Outgoing) (old : Port) (memory : Memory) (frame 
     → IsUnfaulted n old → IsUnfaulted n new
 gave_unfaulted n Nothing old memory frame new gives is = same_port n old new gives.1 is
 gave_unfaulted n (Unreadable dev) old memory frame new gives is = subst (IsUnfaulted n) (sym gives.1) is
-gave_unfaulted n (Data dev offset len command) old memory None new gives is = absurd gives
 gave_unfaulted n (Data dev offset len command) old memory (Some f) new gives is = same_errors n old new gives.errors is
-gave_unfaulted n (Order dev slot command) old memory None new gives is = absurd gives
 gave_unfaulted n (Order dev slot command) old memory (Some f) new gives is = same_errors n old new gives.errors is
+gave_unfaulted n other old memory None new gives is = absurd gives
 
 -- ---- a register is written
 
@@ -151,11 +150,7 @@ IsTurnUnfaulted n turn = Unit {0}
 
 taken_unfaulted : (n : ℕ) (turn : HostTurn) → IsTurnUnfaulted n turn → AreUnfaulted n (flat_map taken_by (turn ∷ []))
 taken_unfaulted n (Took frame report) none = (none, tt)
-taken_unfaulted n (Pushed frame) none = tt
-taken_unfaulted n (Ticked acted) none = tt
-taken_unfaulted n (Submitted dev request ticket) none = tt
-taken_unfaulted n (Polled completion) none = tt
-taken_unfaulted n (Put at bytes) none = tt
+taken_unfaulted n other none = tt
 
 pub turn_unfaulted : (n : ℕ) → n < 16 → (old : Host) (turn : HostTurn) (new : Host) → Does old turn new → IsSoundHost old → IsTurnUnfaulted n turn
     → (view_of n old.port).fault ≡ None → (view_of n new.port).fault ≡ None

@@ -57,15 +57,7 @@ module _ (n : ℕ) (v : Sight) (p : Plan) (sought : IsSoughtAbsent n p) where
     | inr other ↦ set_other p.devices port n _ (λ e. other (sym e)) h
   ]
   noted_was ResetOn is h = h
-  noted_was ResetOff is h = h
-  noted_was AwaitSignature is h = h
-  noted_was CountPorts is h = h
-  noted_was SetMask is h = h
-  noted_was Enable is h = h
-  noted_was (Open port) is h = h
-  noted_was Scan is h = h
-  noted_was (Clear port) is h = h
-  noted_was Watch is h = h
+  noted_was other is h = h
 
   answered_if : (b : Bool) → WasAbsent n p (if b then with_next p.order (noted v p.order p) else p)
   answered_if true h = noted_was p.order refl h
@@ -92,9 +84,7 @@ found_was : (n : ℕ) (v : Sight) (stage : Stage) (dev : ℕ) (p : Plan) → Was
 unfolding found_of
 found_was n v Identify dev p h = set_absent p.devices dev n _ (usable_there v.usable) h
 found_was n v (ReadLog file) dev p h = set_absent p.devices dev n _ (whole_there v.log.whole) h
-found_was n v AssertReset dev p h = h
-found_was n v ReleaseReset dev p h = h
-found_was n v AwaitReset dev p h = h
+found_was n v other dev p h = h
 
 back_was : (n : ℕ) (v : Sight) (p : Plan) (path : Path) (b : Bool) → WasAbsent n p (if b then advanced v path p else p)
 back_was n v p path true h = found_was n v path.stage path.dev p h
@@ -115,28 +105,15 @@ cleared_was n file p dev false other h = h
 
 ordered_was : (n : ℕ) (p : Plan) (order : Order) → order ≢ Clear n → WasAbsent n p (ordered order p)
 ordered_was n p (Clear port) other h = set_other p.devices port n _ (λ e. other (ap Clear (sym e))) h
-ordered_was n p ResetOn other h = h
-ordered_was n p ResetOff other h = h
-ordered_was n p AwaitSignature other h = h
-ordered_was n p CountPorts other h = h
-ordered_was n p SetMask other h = h
-ordered_was n p Enable other h = h
-ordered_was n p (Open port) other h = h
-ordered_was n p Scan other h = h
-ordered_was n p (Detect port) other h = h
-ordered_was n p Watch other h = h
+ordered_was n p rest other h = h
 
 module _ (n : ℕ) (file : TaskFile) where
   act_was : (p : Plan) (a : Option Act) → IsCalmAct n a → WasAbsent n p (match_some a p (λ x. plan_after x file p))
   unfolding plan_after
-  act_was p None calm h = h
-  act_was p (Some (act.Opens k)) calm h = h
   act_was p (Some act.Stops) calm h = absurd calm
-  act_was p (Some (act.Restarts k)) calm h = h
   act_was p (Some (act.Clears dev)) calm h = cleared_was n file p dev (nat_lt dev 15) calm h
   act_was p (Some (act.Orders order)) calm h = ordered_was n p order calm h
-  act_was p (Some (act.Steps dev stage)) calm h = h
-  act_was p (Some (act.Issues slot dev queued)) calm h = h
+  act_was p other calm h = h
 
   -- ---- a turn of the plan
 

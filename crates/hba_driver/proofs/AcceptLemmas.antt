@@ -130,17 +130,9 @@ orderly_none f h = cc
 
 orderly : (order : Order) (f : H2dFields) → order_fields order ≡ Some f → IsOrderly f
 unfolding order_fields is_proper work_of
-orderly ResetOn f h = orderly_by _ f (record { to = refl; proper = refl }) h
-orderly ResetOff f h = orderly_by _ f (record { to = refl; proper = refl }) h
 orderly AwaitSignature f h = orderly_none f h
-orderly CountPorts f h = orderly_by _ f (record { to = refl; proper = refl }) h
-orderly SetMask f h = orderly_by _ f (record { to = refl; proper = refl }) h
-orderly Enable f h = orderly_by _ f (record { to = refl; proper = refl }) h
-orderly (Open port) f h = orderly_by _ f (record { to = refl; proper = refl }) h
-orderly Scan f h = orderly_by _ f (record { to = refl; proper = refl }) h
-orderly (Clear port) f h = orderly_by _ f (record { to = refl; proper = refl }) h
-orderly (Detect port) f h = orderly_by _ f (record { to = refl; proper = refl }) h
 orderly Watch f h = orderly_none f h
+orderly other f h = orderly_by _ f (record { to = refl; proper = refl }) h
 
 abbrev command_effects : Mode → Option H2dFields → List Effect
 command_effects mode o = match_some o [] (λ f. sending mode 31 control_port f false)
@@ -565,9 +557,7 @@ unarmed_turn : {mode : Mode} (old : Host) (t : HostTurn) (new : Host) → Does o
 unarmed_turn old (Took frame report) new h w = (stays_took old new frame report h).armed ∙ w.unarmed
 unarmed_turn old (Pushed frame) new h w = (stays_gives (outgoing old.port old.memory) old.port old.memory frame new.port h.gives).armed ∙ w.unarmed
 unarmed_turn old (Ticked a) new h w = (tick_taken old a new h w).unarmed
-unarmed_turn old (Submitted dev request ticket) new h w = same_armed old.port new.port h.port w.unarmed
-unarmed_turn old (Polled c) new h w = same_armed old.port new.port h.port w.unarmed
-unarmed_turn old (Put at bytes) new h w = same_armed old.port new.port h.port w.unarmed
+unarmed_turn old other new h w = same_armed old.port new.port h.port w.unarmed
 
 pub way_turn : {mode : Mode} (old : Host) (t : HostTurn) (new : Host) → Does old t new → IsOnWayIn mode old → IsOnWayIn mode new
 way_turn {mode} old t new h w =
@@ -600,12 +590,8 @@ way_opens {mode} given len right = record {
 }
 
 turn_accepts : {mode : Mode} (old : Host) (t : HostTurn) (new : Host) (h : Does old t new) → IsOnWayIn mode old → TurnAccepts old t new h
-turn_accepts old (Took frame report) new h w = tt
-turn_accepts old (Pushed frame) new h w = tt
 turn_accepts old (Ticked a) new h w = (tick_taken old a new h w).accepted
-turn_accepts old (Submitted dev request ticket) new h w = tt
-turn_accepts old (Polled c) new h w = tt
-turn_accepts old (Put at bytes) new h w = tt
+turn_accepts old other new h w = tt
 
 turns_accept : {mode : Mode} (turns : List HostTurn) (old new : Host) (run : DoesAll old turns new) → IsOnWayIn mode old → TurnsAccept old new turns run
 turns_accept [] old new run w = tt

@@ -57,9 +57,8 @@ here_restart k = all_at keeps_here restart_writes k _ refl refl
 pub here_act : (a : Act) → ((dev : ℕ) (stage : Stage) → a ≡ act.Steps dev stage → ⊥) → ((slot dev : ℕ) (queued : Bool) → a ≡ act.Issues slot dev queued → slot ≢ 30) → list_all keeps_here (effects_of Switching a) ≡ true
 unfolding effects_of register_at
 here_act (act.Opens k) steps slots = ap (λ (b : Bool). b && true) (here_opening k)
-here_act act.Stops steps slots = refl
 here_act (act.Restarts k) steps slots = ap (λ (b : Bool). b && true) (here_restart k)
-here_act (act.Clears dev) steps slots = refl
 here_act (act.Orders order) steps slots = here_order order
 here_act (act.Steps dev stage) steps slots = absurd (steps dev stage refl)
 here_act (act.Issues slot dev queued) steps slots = here_issuing slot dev queued (slots slot dev queued refl)
+here_act other steps slots = refl

@@ -135,10 +135,9 @@ sent_their old new dev w own others keeps same are =
 gave_their : (o : Outgoing) (old : Port) (memory : Memory) (frame : Option Stamped) (new : Port) → Gives o old memory frame new → AreOfTheir old → AreOfTheir new
 gave_their Nothing old memory frame new gives are = their_same old new gives.1 are
 gave_their (Unreadable dev) old memory frame new gives are = subst AreOfTheir (sym gives.1) are
-gave_their (Data dev offset len command) old memory None new gives are = absurd gives
 gave_their (Data dev offset len command) old memory (Some f) new gives are = sent_their old new dev _ gives.own gives.others (keeps_fed (slots_of dev old.slots)) gives.commands are
-gave_their (Order dev slot command) old memory None new gives are = absurd gives
 gave_their (Order dev slot command) old memory (Some f) new gives are = sent_their old new dev _ gives.own gives.others (keeps_sent (slots_of dev old.slots) slot) gives.commands are
+gave_their other old memory None new gives are = absurd gives
 
 -- ---- a write
 
@@ -239,19 +238,7 @@ quiet_their g old new memory value other accepts are =
 
 wrote_their : (g : Register) (old new : Port) (memory : Memory) (value : ℕ) → refusal_of g old memory value ≡ None → Accepts old memory g value new → IsRuled old → IsRuled new → AreOfTheir old → AreOfTheir new
 wrote_their Ci old new memory value free accepts ruled next are = ci_their old new memory value free accepts ruled next are
-wrote_their Clb old new memory value free accepts ruled next are = quiet_their Clb old new memory value (λ h. cc) accepts are
-wrote_their Clbu old new memory value free accepts ruled next are = quiet_their Clbu old new memory value (λ h. cc) accepts are
-wrote_their Fb old new memory value free accepts ruled next are = quiet_their Fb old new memory value (λ h. cc) accepts are
-wrote_their Fbu old new memory value free accepts ruled next are = quiet_their Fbu old new memory value (λ h. cc) accepts are
-wrote_their Is old new memory value free accepts ruled next are = quiet_their Is old new memory value (λ h. cc) accepts are
-wrote_their Ie old new memory value free accepts ruled next are = quiet_their Ie old new memory value (λ h. cc) accepts are
-wrote_their Cmd old new memory value free accepts ruled next are = quiet_their Cmd old new memory value (λ h. cc) accepts are
-wrote_their Tfd old new memory value free accepts ruled next are = quiet_their Tfd old new memory value (λ h. cc) accepts are
-wrote_their Sig old new memory value free accepts ruled next are = quiet_their Sig old new memory value (λ h. cc) accepts are
-wrote_their Serr old new memory value free accepts ruled next are = quiet_their Serr old new memory value (λ h. cc) accepts are
-wrote_their Sact old new memory value free accepts ruled next are = quiet_their Sact old new memory value (λ h. cc) accepts are
-wrote_their Sntf old new memory value free accepts ruled next are = quiet_their Sntf old new memory value (λ h. cc) accepts are
-wrote_their Fbs old new memory value free accepts ruled next are = quiet_their Fbs old new memory value (λ h. cc) accepts are
+wrote_their other old new memory value free accepts ruled next are = quiet_their other old new memory value (λ h. cc) accepts are
 
 tried_their : (o : Option Register) (offset value : ℕ) (old new : Port) (memory : Memory) → register_at offset ≡ o → Tries old memory offset value new → IsRuled old → IsRuled new → AreOfTheir old → AreOfTheir new
 tried_their None offset value old new memory at tries ruled next are =
@@ -279,9 +266,7 @@ pub turn_their : {mode : Mode} (old : Host) (t : HostTurn) (new : Host) → Does
 turn_their old (Took frame report) new h s are = took_their old new frame report h are
 turn_their old (Pushed frame) new h s are = gave_their (outgoing old.port old.memory) old.port old.memory frame new.port h.gives are
 turn_their old (Ticked a) new h s are = acts_their (effects (sight_in old) old.driver) old.port new.port old.memory new.memory h.does s.ruled are
-turn_their old (Submitted dev request ticket) new h s are = their_same old.port new.port h.port are
-turn_their old (Polled c) new h s are = their_same old.port new.port h.port are
-turn_their old (Put at bytes) new h s are = their_same old.port new.port h.port are
+turn_their old other new h s are = their_same old.port new.port h.port are
 
 -- ---- what goes out
 
@@ -313,13 +298,8 @@ gave_addressed (Order dev slot command) old memory f new is gives ruled are =
     ap (λ (x : Stamped). slice_index x.bytes 1 % 16) gives.frame_is ∙ are dev slot command (subst (λ (m : ℕ). m < 16) of rules.dev_below) busy o.stands ∙ sym (ap (λ (x : Stamped). x.stamp.port) gives.frame_is)
 
 pub turn_addressed : {mode : Mode} (old : Host) (t : HostTurn) (new : Host) → Does old t new → IsSoundHostIn mode old → AreOfTheir old.port → IsAddressed t
-turn_addressed old (Pushed None) new h s are = tt
 turn_addressed old (Pushed (Some f)) new h s are = gave_addressed (outgoing old.port old.memory) old.port old.memory f new.port refl h.gives s.ruled are
-turn_addressed old (Took frame report) new h s are = tt
-turn_addressed old (Ticked a) new h s are = tt
-turn_addressed old (Submitted dev request ticket) new h s are = tt
-turn_addressed old (Polled c) new h s are = tt
-turn_addressed old (Put at bytes) new h s are = tt
+turn_addressed old other new h s are = tt
 
 over_addressed : {mode : Mode} (turns : List HostTurn) (old new : Host) → DoesAll old turns new → IsSoundHostIn mode old → AreOfTheir old.port → AreAddressed turns
 over_addressed [] old new run s are = tt

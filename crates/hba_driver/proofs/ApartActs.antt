@@ -44,27 +44,25 @@ plan_by : (n : ℕ) (stage : Stage30) (p q : Plan) → device_at q n ≡ device_
     → IsPlan30 n stage p → IsPlan30 n stage q
 plan_by n Faulty p q device keep from h = tt
 plan_by n Cleared p q device keep from h = record { way = h.way; device = device ∙ h.device; away = λ x there to. h.away x (from x to there) to }
-plan_by n Asks p q device keep from h = reads_by n p q device keep h
-plan_by n LogSent p q device keep from h = reads_by n p q device keep h
 plan_by n Sets p q device keep from h = resets_by n AssertReset true p q device keep h
 plan_by n On p q device keep from (inl h) = inl (resets_by n AssertReset true p q device keep h)
 plan_by n On p q device keep from (inr h) = inr (resets_by n ReleaseReset false p q device keep h)
 plan_by n Clears p q device keep from h = resets_by n ReleaseReset true p q device keep h
 plan_by n Off p q device keep from (inl h) = inl (resets_by n ReleaseReset true p q device keep h)
 plan_by n Off p q device keep from (inr h) = inr (resets_by n AwaitReset false p q device keep h)
+plan_by n other p q device keep from h = reads_by n p q device keep h
 
 -- slot 30 works on the device, unless its fault was just cleared
 own_path : (n : ℕ) (stage : Stage30) (p : Plan) → is_faulty stage ≡ false → IsPlan30 n stage p → (stage ≡ Cleared) ⊎ ((x : Path) × (p.path ≡ Some x) × (x.dev ≡ n))
 own_path n Faulty p well h = absurd (true≢false well)
 own_path n Cleared p well h = inl refl
-own_path n Asks p well h = inr (record { dev = n; stage = ReadLog h.file; asked = true }, h.path, refl)
-own_path n LogSent p well h = inr (record { dev = n; stage = ReadLog h.file; asked = true }, h.path, refl)
 own_path n Sets p well h = inr (record { dev = n; stage = AssertReset; asked = true }, h.path, refl)
 own_path n On p well (inl h) = inr (record { dev = n; stage = AssertReset; asked = true }, h.path, refl)
 own_path n On p well (inr h) = inr (record { dev = n; stage = ReleaseReset; asked = false }, h.path, refl)
 own_path n Clears p well h = inr (record { dev = n; stage = ReleaseReset; asked = true }, h.path, refl)
 own_path n Off p well (inl h) = inr (record { dev = n; stage = ReleaseReset; asked = true }, h.path, refl)
 own_path n Off p well (inr h) = inr (record { dev = n; stage = AwaitReset; asked = false }, h.path, refl)
+own_path n other p well h = inr (record { dev = n; stage = ReadLog h.file; asked = true }, h.path, refl)
 
 same_stage : (x y : Path) → Some x ≡ Some y → (x.dev ≡ y.dev) × (x.stage ≡ y.stage) × (x.asked ≡ y.asked)
 same_stage x y h = let is : x ≡ y = some_inj x y h in (ap (λ (p : Path). p.dev) is, ap (λ (p : Path). p.stage) is, ap (λ (p : Path). p.asked) is)
@@ -134,15 +132,7 @@ module _ (n : ℕ) (stage : Stage30) (v : Sight) (file : TaskFile) (q : Plan) (e
       let far : n ≢ port = λ e. other (ap Clear (sym e)) in
       rests _ _ (λ dev step e. absurd (cc)) (set_other q.devices port n Absent far) (λ x to here. unless_other port q.path x (λ e. far (sym to ∙ e)) here) (λ x to here. unless_back port q.path x here)
   orders ResetOn other = plainly ResetOn
-  orders ResetOff other = plainly ResetOff
-  orders AwaitSignature other = plainly AwaitSignature
-  orders CountPorts other = plainly CountPorts
-  orders SetMask other = plainly SetMask
-  orders Enable other = plainly Enable
-  orders (Open port) other = plainly (Open port)
-  orders Scan other = plainly Scan
-  orders (Detect port) other = plainly (Detect port)
-  orders Watch other = plainly Watch
+  orders rest other = plainly rest
 
   -- another device's fault is cleared
   clears : (b : Bool) (dev : ℕ) → n ≢ dev → Result (Some (act.Clears dev)) (if b then recovering dev file q else from_reset q)
@@ -238,13 +228,12 @@ module _ (n : ℕ) (stage : Stage30) (v : Sight) (file : TaskFile) (q : Plan) (e
   pub act_plans : (a : Option Act) → IsCalmAct n a → DueOf v q a → Due v q entries a → HasFields a → Result a (match_some a q (λ x. plan_after x file q))
   unfolding plan_after
   act_plans None calm of due has = rests None q (λ dev step e. absurd (cc)) refl (λ x to here. here) (λ x to here. here)
-  act_plans (Some (act.Opens k)) calm of due has = rests _ _ (λ dev step e. absurd (cc)) refl (λ x to here. here) (λ x to here. here)
   act_plans (Some act.Stops) calm of due has = absurd calm
-  act_plans (Some (act.Restarts k)) calm of due has = rests _ _ (λ dev step e. absurd (cc)) refl (λ x to here. here) (λ x to here. here)
   act_plans (Some (act.Clears dev)) calm of due has = clears (nat_lt dev 15) dev calm
   act_plans (Some (act.Orders order)) calm of due has = orders order calm
   act_plans (Some (act.Steps dev step)) calm of due has = steps dev step due of has
   act_plans (Some (act.Issues slot dev queued)) calm of due has = rests _ _ (λ d step e. absurd (cc)) refl (λ x to here. here) (λ x to here. here)
+  act_plans other calm of due has = rests _ _ (λ dev step e. absurd (cc)) refl (λ x to here. here) (λ x to here. here)
 
   second : (a b : Bool) → (a && b) ≡ true → b ≡ true
   second true b e = e

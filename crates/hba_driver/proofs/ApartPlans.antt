@@ -64,15 +64,7 @@ module _ (n : ℕ) (v : Sight) (plan : Plan) (way : Recovery) (recovers : device
     | inr other ↦ record { device = set_other plan.devices port n (detected v.answer (device_at plan port)) (λ e. other (sym e)); path = refl }
   ]
   answers_order ResetOn is came = beside n plan _ refl refl
-  answers_order ResetOff is came = beside n plan _ refl refl
-  answers_order AwaitSignature is came = beside n plan _ refl refl
-  answers_order CountPorts is came = beside n plan _ refl refl
-  answers_order SetMask is came = beside n plan _ refl refl
-  answers_order Enable is came = beside n plan _ refl refl
-  answers_order (Open port) is came = beside n plan _ refl refl
-  answers_order Scan is came = beside n plan _ refl refl
-  answers_order (Clear port) is came = beside n plan _ refl refl
-  answers_order Watch is came = beside n plan _ refl refl
+  answers_order other is came = beside n plan _ refl refl
 
   answers_if : (b : Bool) → (plan.asked && not (is_out v plan)) ≡ b → Leaves n plan (if b then with_next plan.order (noted v plan.order plan) else plan)
   answers_if true came = answers_order plan.order refl came
@@ -99,14 +91,13 @@ control_leaves n v plan way recovers found =
 pub recovers : (n : ℕ) (stage : Stage30) (p : Plan) → is_faulty stage ≡ false → IsPlan30 n stage p → (way : Recovery) × (device_at p n ≡ Recovering way)
 recovers n Faulty p well h = absurd (true≢false well)
 recovers n Cleared p well h = (h.way, h.device)
-recovers n Asks p well h = (Log h.file, h.device)
-recovers n LogSent p well h = (Log h.file, h.device)
 recovers n Sets p well h = (Reset, h.device)
 recovers n On p well (inl h) = (Reset, h.device)
 recovers n On p well (inr h) = (Reset, h.device)
 recovers n Clears p well h = (Reset, h.device)
 recovers n Off p well (inl h) = (Reset, h.device)
 recovers n Off p well (inr h) = (Reset, h.device)
+recovers n other p well h = (Log h.file, h.device)
 
 resets_as : (n : ℕ) (stage : Stage) (asked : Bool) (p q : Plan) → device_at q n ≡ device_at p n → q.path ≡ p.path → Resets n stage asked p → Resets n stage asked q
 resets_as n stage asked p q device path h = record { device = device ∙ h.device; path = path ∙ h.path }
@@ -121,23 +112,20 @@ cleared_as n p q device away h = record { way = h.way; device = device ∙ h.dev
 pub plan_as : (n : ℕ) (stage : Stage30) (p q : Plan) → device_at q n ≡ device_at p n → q.path ≡ p.path → IsPlan30 n stage p → IsPlan30 n stage q
 plan_as n Faulty p q device path h = tt
 plan_as n Cleared p q device path h = cleared_as n p q device (λ x there. h.away x (sym path ∙ there)) h
-plan_as n Asks p q device path h = reads_as n p q device path h
-plan_as n LogSent p q device path h = reads_as n p q device path h
 plan_as n Sets p q device path h = resets_as n AssertReset true p q device path h
 plan_as n On p q device path (inl h) = inl (resets_as n AssertReset true p q device path h)
 plan_as n On p q device path (inr h) = inr (resets_as n ReleaseReset false p q device path h)
 plan_as n Clears p q device path h = resets_as n ReleaseReset true p q device path h
 plan_as n Off p q device path (inl h) = inl (resets_as n ReleaseReset true p q device path h)
 plan_as n Off p q device path (inr h) = inr (resets_as n AwaitReset false p q device path h)
+plan_as n other p q device path h = reads_as n p q device path h
 
 -- what is found of another device, and of a reset
 found_device : (n : ℕ) (v : Sight) (plan : Plan) (stage : Stage) (dev : ℕ) → dev ≢ n → device_at (found_of v stage dev plan) n ≡ device_at plan n
 unfolding found_of
 found_device n v plan Identify dev other = set_other plan.devices dev n _ (λ e. other (sym e))
 found_device n v plan (ReadLog file) dev other = set_other plan.devices dev n _ (λ e. other (sym e))
-found_device n v plan AssertReset dev other = refl
-found_device n v plan ReleaseReset dev other = refl
-found_device n v plan AwaitReset dev other = refl
+found_device n v plan rest dev other = refl
 
 met_dev : (v : Sight) (b : Bool) (path : Path) → (if b then path else record path { stage = met_stage v path.dev path.stage }).dev ≡ path.dev
 met_dev v true path = refl
@@ -236,14 +224,13 @@ plan_of n stage p q h is = plan_as n stage p q is.0 is.1 h
 pub seen_plan : (n : ℕ) (stage : Stage30) (v : Sight) (c : Plan) → is_faulty stage ≡ false → Shows n stage v → IsPlan30 n stage c → IsPlan30 n stage (device_seen v c)
 seen_plan n Faulty v c well shows h = absurd (true≢false well)
 seen_plan n Cleared v c well shows h = let a = seen_away n v c h.away in cleared_as n c (device_seen v c) a.device a.away h
-seen_plan n Asks v c well shows h = plan_of n Asks c (device_seen v c) h (out_same n v c (ReadLog h.file) shows h.path)
-seen_plan n LogSent v c well shows h = plan_of n LogSent c (device_seen v c) h (out_same n v c (ReadLog h.file) shows h.path)
 seen_plan n Sets v c well shows h = plan_of n Sets c (device_seen v c) h (out_same n v c AssertReset shows h.path)
 seen_plan n On v c well shows (inl h) = asserted n v c (is_back v (record { dev = n; stage = AssertReset; asked = true })) refl h
 seen_plan n On v c well shows (inr h) = plan_of n On c (device_seen v c) (inr h) (free_same n v c ReleaseReset (release_met n v c) h.path)
 seen_plan n Clears v c well shows h = plan_of n Clears c (device_seen v c) h (out_same n v c ReleaseReset shows h.path)
 seen_plan n Off v c well shows (inl h) = released n v c (is_back v (record { dev = n; stage = ReleaseReset; asked = true })) shows refl h
 seen_plan n Off v c well shows (inr h) = plan_of n Off c (device_seen v c) (inr h) (free_same n v c AwaitReset (await_met n v c shows) h.path)
+seen_plan n other v c well shows h = plan_of n other c (device_seen v c) h (out_same n v c (ReadLog h.file) shows h.path)
 
 -- ---- the turn
 

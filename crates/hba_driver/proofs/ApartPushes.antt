@@ -64,13 +64,11 @@ unsent_same n fields p q view last u = record {
 
 pub slot_same : (n : ℕ) (stage : Stage30) (p q : Port) → view_of n q ≡ view_of n p → (is_some (fields30 n stage) ≡ true → last_command q.commands 30 ≡ last_command p.commands 30) → IsSlot30 n stage p → IsSlot30 n stage q
 slot_same n Faulty p q view last is = tt
-slot_same n Cleared p q view last is = ap (λ (v : DeviceView). own_issue v.slots 30) view ∙ is
 slot_same n Asks p q view last is = unsent_same n (log_fields n) p q view (last refl) is
 slot_same n LogSent p q view last is = record { issue = is.issue; issued = ap (λ (v : DeviceView). own_issue v.slots 30) view ∙ is.issued; sent = is.sent; unanswered = is.unanswered; work = is.work }
 slot_same n Sets p q view last is = unsent_same n (control n 4) p q view (last refl) is
-slot_same n On p q view last is = ap (λ (v : DeviceView). own_issue v.slots 30) view ∙ is
 slot_same n Clears p q view last is = unsent_same n (control n 0) p q view (last refl) is
-slot_same n Off p q view last is = ap (λ (v : DeviceView). own_issue v.slots 30) view ∙ is
+slot_same n other p q view last is = ap (λ (v : DeviceView). own_issue v.slots 30) view ∙ is
 
 -- the driver's side of a stage
 pub record IsDriven30 (n : ℕ) (stage : Stage30) (d : Driver) : Type 0 where
@@ -101,10 +99,8 @@ same_driver n stage old new is h = subst (IsDriven30 n stage) (sym is) h
 -- ---- what is issued
 
 not_withdrawn : (p : Phase) → is_issued_in p ≡ true → (is_aside_in p || has_ended_in p) ≡ true → ⊥
-not_withdrawn Waits h k = false≢true h
 not_withdrawn Issued h k = false≢true k
-not_withdrawn Aside h k = false≢true h
-not_withdrawn (Ended o) h k = false≢true h
+not_withdrawn other h k = false≢true h
 
 -- no command of slot 30 is queued
 unqueued_log : (n : ℕ) → is_queued (work_of (request_of (log_fields n))).kind ≡ false
@@ -125,13 +121,11 @@ issue_of_transfer o (Some i) t is same = (i, refl, some_inj i.work t.work (sym s
 
 queued_slot : (n : ℕ) (stage : Stage30) (port : Port) (i : Issue) → is_faulty stage ≡ false → IsSlot30 n stage port → own_issue (view_of n port).slots 30 ≡ Some i → is_queued i.work.kind ≡ false
 queued_slot n Faulty port i well is there = absurd (true≢false well)
-queued_slot n Cleared port i well is there = let bad : None ≡ Some i = sym is ∙ there in cc
 queued_slot n Asks port i well is there = ap (λ (x : Issue). is_queued x.work.kind) (some_inj i (new_issue n (work_of (request_of (log_fields n)))) (sym there ∙ is.issued)) ∙ unqueued_log n
 queued_slot n LogSent port i well is there = ap (λ (x : Issue). is_queued x.work.kind) (some_inj i is.issue (sym there ∙ is.issued)) ∙ ap (λ (w : Work). is_queued w.kind) is.work ∙ unqueued_log n
 queued_slot n Sets port i well is there = ap (λ (x : Issue). is_queued x.work.kind) (some_inj i (new_issue n (work_of (request_of (control n 4)))) (sym there ∙ is.issued)) ∙ (control_kind n 4).0
-queued_slot n On port i well is there = let bad : None ≡ Some i = sym is ∙ there in cc
 queued_slot n Clears port i well is there = ap (λ (x : Issue). is_queued x.work.kind) (some_inj i (new_issue n (work_of (request_of (control n 0)))) (sym there ∙ is.issued)) ∙ (control_kind n 0).0
-queued_slot n Off port i well is there = let bad : None ≡ Some i = sym is ∙ there in cc
+queued_slot n other port i well is there = let bad : None ≡ Some i = sym is ∙ there in cc
 
 module _ (n : ℕ) (past : Touches) (h : Host) (stage : Stage30) (low : n < 15) (served : IsServed h.driver (shared_by h) past) (at : IsAt30 n stage h) (well : is_faulty stage ≡ false) where
   in_thirty : (s : ℕ) (t : Transfer) → IsRequest h.driver n s t ⊎ (IsStep h.driver n s t ⊎ IsOrdered h.driver n s t) → s ≡ 30
@@ -402,14 +396,11 @@ pushes_on n past old frame new stage low sound served does at = pushed_by n past
 not_ready : (n : ℕ) (stage : Stage30) (plan : Plan) → is_faulty stage ≡ false → IsPlan30 n stage plan → device_at plan n ≡ Ready → ⊥
 not_ready n Faulty plan well is ready = true≢false well
 not_ready n Cleared plan well is ready = let bad : Recovering is.way ≡ Ready = sym is.device ∙ ready in cc
-not_ready n Asks plan well is ready = let bad : Recovering _ ≡ Ready = sym is.device ∙ ready in cc
-not_ready n LogSent plan well is ready = let bad : Recovering _ ≡ Ready = sym is.device ∙ ready in cc
-not_ready n Sets plan well is ready = let bad : Recovering _ ≡ Ready = sym is.device ∙ ready in cc
 not_ready n On plan well (inl is) ready = let bad : Recovering _ ≡ Ready = sym is.device ∙ ready in cc
 not_ready n On plan well (inr is) ready = let bad : Recovering _ ≡ Ready = sym is.device ∙ ready in cc
-not_ready n Clears plan well is ready = let bad : Recovering _ ≡ Ready = sym is.device ∙ ready in cc
 not_ready n Off plan well (inl is) ready = let bad : Recovering _ ≡ Ready = sym is.device ∙ ready in cc
 not_ready n Off plan well (inr is) ready = let bad : Recovering _ ≡ Ready = sym is.device ∙ ready in cc
+not_ready n other plan well is ready = let bad : Recovering _ ≡ Ready = sym is.device ∙ ready in cc
 
 same_port : (n : ℕ) (stage : Stage30) (old new : Host) → new.port ≡ old.port → IsDriven30 n stage new.driver → IsAt30 n stage old → IsAt30 n stage new
 same_port n stage old new port d at = kept30 n stage old new (ap (view_of n) port) (λ some. ap (λ (p : Port). last_command p.commands 30) port) d at

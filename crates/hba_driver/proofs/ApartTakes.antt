@@ -284,8 +284,7 @@ module _ (n : ℕ) (past : Touches) (old : Host) (frame : List ℕ) (report : Ta
       (record { issued = issue ∙ u.issued; command = u.command; there = ap (λ (l : List (Option Command)). last_command l 30) commands ∙ u.there; work = u.work; built = u.built }))
       (subst (λ (x : Stage30). TakesOn30 x x) (sym is) (inl refl)) (subst (λ (x : Stage30). TakesOn30 x Faulty) (sym is) (inr refl))
   own_by On is own may = same_stage On is (λ e. refl) (skipped (reset_skips own ((at.apart (ap is_faulty is)).resetting ∙ ap is_resetting is) may))
-  own_by Clears is own may = same_stage Clears is (λ e. refl) (skipped (reset_skips own ((at.apart (ap is_faulty is)).resetting ∙ ap is_resetting is) may))
-  own_by Off is own may = same_stage Off is (λ e. refl) (skipped (reset_skips own ((at.apart (ap is_faulty is)).resetting ∙ ap is_resetting is) may))
+  own_by other is own may = same_stage other is (λ e. refl) (skipped (reset_skips own ((at.apart (ap is_faulty is)).resetting ∙ ap is_resetting is) may))
 
   pub took_turn : (port_of frame ≡ n → MayCome30 stage frame) → Turns30 n stage (Took frame report) new
   took_turn may = elim (cases_eq (port_of frame) n) [

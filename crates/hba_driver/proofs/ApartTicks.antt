@@ -62,16 +62,14 @@ use Rattle.hba_driver.proofs.TickingLemmas.{free_slot, step_dev}
 -- ---- requests
 
 withdrawn_aside : (q : Phase) → Goes Aside q → (is_aside_in q || has_ended_in q) ≡ true
-withdrawn_aside Waits h = absurd (true≢false h)
-withdrawn_aside Issued h = absurd (true≢false h)
 withdrawn_aside Aside h = refl
 withdrawn_aside (Ended o) h = refl
+withdrawn_aside other h = absurd (true≢false h)
 
 withdrawn_goes : (p q : Phase) → (is_aside_in p || has_ended_in p) ≡ true → Goes p q → (is_aside_in q || has_ended_in q) ≡ true
-withdrawn_goes Waits q h k = absurd (false≢true h)
-withdrawn_goes Issued q h k = absurd (false≢true h)
 withdrawn_goes Aside q h k = withdrawn_aside q k
 withdrawn_goes (Ended o) q h k = subst (λ (x : Phase). (is_aside_in x || has_ended_in x) ≡ true) (sym k) refl
+withdrawn_goes other q h k = absurd (false≢true h)
 
 ticked_withdrawn : (n : ℕ) (old : Host) (acted : Bool) (new : Host) → Does old (Ticked acted) new → ((s : ℕ) (x : Entry) → entry_at old.driver.entries s ≡ Some x → x.head.dev ≡ n → is_withdrawn x.head ≡ true)
     → (s : ℕ) (x : Entry) → entry_at new.driver.entries s ≡ Some x → x.head.dev ≡ n → is_withdrawn x.head ≡ true
@@ -126,26 +124,20 @@ module _ (n : ℕ) (past : Touches) (h : Host) (low : n < 15) (on : IsOn30 past 
   in_reset is = get_or-map-range_with_len (λ dev. (view_of dev h.port).state.resetting) 0 16 n n false (omega (arith, low)) (omega arith) ∙ is
 
   shows : (s : Stage30) → stage ≡ s → is_faulty stage ≡ false → IsSlot30 n s h.port → Shows n s v
-  shows Faulty is well slot = tt
-  shows Cleared is well slot = tt
   shows Asks is well slot = bit30 _ slot.issued
   shows LogSent is well slot = bit30 slot.issue slot.issued
   shows Sets is well slot = bit30 _ slot.issued
-  shows On is well slot = tt
   shows Clears is well slot = bit30 _ slot.issued
   shows Off is well slot = in_reset ((at.apart well).resetting ∙ ap is_resetting is)
+  shows other is well slot = tt
 
   -- ---- the act is calm
 
   calm_by : (a : Option Act) → due v h.driver ≡ a → is_faulty stage ≡ false → MayEnd Switching a h.port → IsCalmAct n a
-  calm_by None is well may = tt
-  calm_by (Some (act.Opens k)) is well may = tt
   calm_by (Some act.Stops) is well may = on.going.ticks act.Stops is
-  calm_by (Some (act.Restarts k)) is well may = tt
   calm_by (Some (act.Clears dev)) is well may = λ same. false≢true (sym well ∙ sym at.fault ∙ subst (λ (k : ℕ). is_some (view_of k h.port).fault ≡ true) (sym same) (cleared_faulty h.port dev on.sound.ruled may.1.faulty))
   calm_by (Some (act.Orders order)) is well may = λ same. flush (is ∙ ap (λ (o : Order). Some (act.Orders o)) same)
-  calm_by (Some (act.Steps dev step)) is well may = tt
-  calm_by (Some (act.Issues slot dev queued)) is well may = tt
+  calm_by other is well may = tt
 
   -- ---- a stage that is not the fault
 
@@ -225,12 +217,8 @@ module _ (n : ℕ) (past : Touches) (h : Host) (low : n < 15) (on : IsOn30 past 
     same_follows : (s : Stage30) → TicksOn30 s s
     same_follows Faulty = inl refl
     same_follows Cleared = inl refl
-    same_follows Asks = refl
-    same_follows LogSent = refl
-    same_follows Sets = refl
     same_follows On = inl refl
-    same_follows Clears = refl
-    same_follows Off = refl
+    same_follows other = refl
 
     none_held : (a : Option Act) → ((dev : ℕ) (step : Stage) → a ≡ Some (act.Steps dev step) → stage ≡ Cleared) → is_some (fields30 n stage) ≡ true → (dev : ℕ) (step : Stage) → a ≡ Some (act.Steps dev step) → ⊥
     none_held a free some dev step e = false≢true (sym (ap (λ (s : Stage30). is_some (fields30 n s)) (free dev step e)) ∙ some)
@@ -399,9 +387,7 @@ module _ (n : ℕ) (past : Touches) (h : Host) (low : n < 15) (on : IsOn30 past 
         by_bit true e k = (refl, cc, e)
         by_bit false e k = cc
     logged_by Absent shown_file file is = cc
-    logged_by Starting shown_file file is = cc
-    logged_by Unusable shown_file file is = cc
-    logged_by (Recovering way) shown_file file is = cc
+    logged_by other shown_file file is = cc
 
     pub logged_then : (file : TaskFile) → is_some (view_of n new.port).fault ≡ false → device_at new.driver.plan n ≡ Recovering (Log file) → IsLogged n h new file
     logged_then file well device =

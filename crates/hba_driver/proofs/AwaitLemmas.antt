@@ -167,19 +167,7 @@ not_asked old memory value h = by_test (has_bit value 30) h
 here_after : (register : Register) (old : Port) (memory : Memory) (value : ℕ) → leaves_here (Some register) value ≡ true → last_command (commands_after register old memory value) 30 ≡ last_command old.commands 30
 unfolding commands_after
 here_after Ci old memory value h = with_none (asked old.registers memory value) old.commands (not_asked old memory value h)
-here_after Clb old memory value h = refl
-here_after Clbu old memory value h = refl
-here_after Fb old memory value h = refl
-here_after Fbu old memory value h = refl
-here_after Is old memory value h = refl
-here_after Ie old memory value h = refl
-here_after Cmd old memory value h = refl
-here_after Tfd old memory value h = refl
-here_after Sig old memory value h = refl
-here_after Serr old memory value h = refl
-here_after Sact old memory value h = refl
-here_after Sntf old memory value h = refl
-here_after Fbs old memory value h = refl
+here_after other old memory value h = refl
 
 here_write : (o : Option Register) (offset value : ℕ) (old new : Port) (memory : Memory) → register_at offset ≡ o → leaves_here o value ≡ true → Tries old memory offset value new → last_command new.commands 30 ≡ last_command old.commands 30
 here_write None offset value old new memory at h tries =
@@ -193,8 +181,7 @@ here_write (Some register) offset value old new memory at h tries = elim (tried_
 here_effect : (e : Effect) (old new : Port) (before after : Memory) → keeps_here e ≡ true → Acts e old before new after → last_command new.commands 30 ≡ last_command old.commands 30
 here_effect (effect.Writes offset value) old new before after h acts = here_write (register_at offset) offset value old new before refl h acts.0
 here_effect (effect.Flushes dev) old new before after h acts = ap (λ (c : List (Option Command)). last_command c 30) acts.0.commands
-here_effect (effect.Empties dev) old new before after h acts = ap (λ (p : Port). last_command p.commands 30) acts.0
-here_effect (effect.Commands slot fields buffer) old new before after h acts = ap (λ (p : Port). last_command p.commands 30) acts.0
+here_effect other old new before after h acts = ap (λ (p : Port). last_command p.commands 30) acts.0
 
 both_parts : (a b : Bool) → (a && b) ≡ true → (a ≡ true) × (b ≡ true)
 both_parts true true h = (refl, refl)

@@ -201,9 +201,7 @@ tame_at quiet (Some register) value = true
 
 abbrev tame : Bool → Effect → Bool
 tame quiet (effect.Writes offset value) = tame_at quiet (register_at offset) value
-tame quiet (effect.Flushes dev) = false
-tame quiet (effect.Empties dev) = false
-tame quiet (effect.Commands slot fields buffer) = false
+tame quiet other = false
 
 no_fall : (quiet started bit : Bool) → (quiet ≡ true → started ≡ false) → (quiet || bit) ≡ true → (started && not bit) ≡ false
 no_fall quiet false bit off h = refl
@@ -223,17 +221,7 @@ tame_write : (n value : ℕ) (quiet : Bool) (g : Register) (h : event.Host) → 
 tame_write n value quiet Cmd h off is = no_fall quiet h.port.registers.started (has_bit value st) off is
 tame_write n value quiet Ci h off is = absurd (false≢true is)
 tame_write n value quiet Fbs h off is = λ named. cleared_none (cleared_device h.port.errors) (has_bit value dec) n (unset (has_bit value dec) is) named
-tame_write n value quiet Clb h off is = tt
-tame_write n value quiet Clbu h off is = tt
-tame_write n value quiet Fb h off is = tt
-tame_write n value quiet Fbu h off is = tt
-tame_write n value quiet Is h off is = tt
-tame_write n value quiet Ie h off is = tt
-tame_write n value quiet Tfd h off is = tt
-tame_write n value quiet Sig h off is = tt
-tame_write n value quiet Serr h off is = tt
-tame_write n value quiet Sact h off is = tt
-tame_write n value quiet Sntf h off is = tt
+tame_write n value quiet other h off is = tt
 
 tame_by : (n slot value : ℕ) (quiet : Bool) (o : Option WriteError) (r : Option Register) (c h : event.Host) → (quiet ≡ true → h.port.registers.started ≡ false) → tame_at quiet r value ≡ true
     → Calm n slot (match_some o (wrote_to r value) (λ e. []) ++ []) c h
@@ -245,9 +233,7 @@ calm_tame : (n slot : ℕ) (quiet : Bool) (e : Effect) (old new : Port) (before 
     → Calm n slot (events_of_effects (e ∷ []) old before new after acts) c h
 unfolding ActsAll events_of_effects
 calm_tame n slot quiet (effect.Writes offset value) old new before after c h off is acts = tame_by n slot value quiet (write_refusal old before offset value) (register_at offset) c h off is
-calm_tame n slot quiet (effect.Flushes dev) old new before after c h off is acts = absurd (false≢true is)
-calm_tame n slot quiet (effect.Empties dev) old new before after c h off is acts = absurd (false≢true is)
-calm_tame n slot quiet (effect.Commands k fields buffer) old new before after c h off is acts = absurd (false≢true is)
+calm_tame n slot quiet other old new before after c h off is acts = absurd (false≢true is)
 
 tame_opening : (k : ℕ) → tame true (opening_write Switching k) ≡ true
 unfolding opening_write register_at
@@ -281,14 +267,12 @@ calm_clearing n slot dev old new before after c h other is acts =
 
 -- what an act finds: a port that has not started, one that switches between devices, or a device with a fault
 abbrev Finds : Option Act → Port → event.Host → Type 0
-Finds None old h = Unit {0}
 Finds (Some (act.Opens k)) old h = h.port.registers.started ≡ false
-Finds (Some act.Stops) old h = Unit {0}
-Finds (Some (act.Restarts k)) old h = Unit {0}
 Finds (Some (act.Clears dev)) old h = cleared_device h.port.errors ≡ Some dev
 Finds (Some (act.Orders order)) old h = old.registers.switching ≡ true
 Finds (Some (act.Steps dev stage)) old h = (old.registers.switching ≡ true) × (dev < 16)
 Finds (Some (act.Issues slot dev queued)) old h = (old.registers.switching ≡ true) × ((slot < 30) × (dev < 16))
+Finds other old h = Unit {0}
 
 calm_act : (n : ℕ) (old new : Port) (before after : Memory) (c h : event.Host) (a : Option Act) → IsCalmAct n a → Finds a old h → (acts : ActsAll (effects_due Switching a) old before new after)
     → Calm n (slot_of a) (events_of_effects (effects_due Switching a) old before new after acts) c h

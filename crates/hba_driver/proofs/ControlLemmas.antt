@@ -373,17 +373,9 @@ proper_none f h = cc
 
 pub proper31 : (order : Order) (f : H2dFields) → order_fields order ≡ Some f → IsProper31 f
 unfolding order_fields is_proper work_of
-proper31 ResetOn f h = proper_by _ f (record { to = refl; proper = refl }) h
-proper31 ResetOff f h = proper_by _ f (record { to = refl; proper = refl }) h
 proper31 AwaitSignature f h = proper_none f h
-proper31 CountPorts f h = proper_by _ f (record { to = refl; proper = refl }) h
-proper31 SetMask f h = proper_by _ f (record { to = refl; proper = refl }) h
-proper31 Enable f h = proper_by _ f (record { to = refl; proper = refl }) h
-proper31 (Open port) f h = proper_by _ f (record { to = refl; proper = refl }) h
-proper31 Scan f h = proper_by _ f (record { to = refl; proper = refl }) h
-proper31 (Clear port) f h = proper_by _ f (record { to = refl; proper = refl }) h
-proper31 (Detect port) f h = proper_by _ f (record { to = refl; proper = refl }) h
 proper31 Watch f h = proper_none f h
+proper31 other f h = proper_by _ f (record { to = refl; proper = refl }) h
 
 no_bit : (n slot : ℕ) → n ≡ 0 → has_bit n slot ≡ false
 no_bit n slot h = ap (λ (k : ℕ). has_bit k slot) h ∙ ap (λ (k : ℕ). k == 1) (bit_at-zero slot)

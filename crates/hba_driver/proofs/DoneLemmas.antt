@@ -142,20 +142,12 @@ module _ (P : Phase → Bool) (own : IsOwnEnd P) where
 -- ---- Done
 
 abbrev isd : Phase → Bool
-isd Waits = false
-isd Issued = false
-isd Aside = false
 isd (Ended Done) = true
-isd (Ended (DeviceError status error)) = false
-isd (Ended Aborted) = false
-isd (Ended Removed) = false
-isd (Ended PortError) = false
+isd other = false
 
 isd_ended : (p : Phase) → isd p ≡ true → has_ended_in p ≡ true
-isd_ended Waits h = h
-isd_ended Issued h = h
-isd_ended Aside h = h
 isd_ended (Ended o) h = refl
+isd_ended other h = h
 
 isd_own : IsOwnEnd isd
 isd_own = record { issued = refl; aside = refl; aborted = refl; removed = refl; stopped = refl }

@@ -94,9 +94,7 @@ calm mode (Some register) value = false
 
 abbrev pub calm_effect : Mode → Effect → Bool
 calm_effect mode (effect.Writes offset value) = calm mode (register_at offset) value
-calm_effect mode (effect.Flushes dev) = true
-calm_effect mode (effect.Empties dev) = true
-calm_effect mode (effect.Commands slot fields buffer) = true
+calm_effect mode other = true
 
 -- FBS.EN stays as the mode has it, and FRE stays set
 pub record SamePlace (mode : Mode) (r s : Registers) : Type 0 where
@@ -143,14 +141,7 @@ written_calm mode Sntf r value h = record { list = refl; list_high = refl; area 
 written_calm mode Is r value h = record { list = refl; list_high = refl; area = refl; area_high = refl; switches = λ on. on; receives = λ on. on }
 written_calm mode Fbs r value h = record { list = refl; list_high = refl; area = refl; area_high = refl; switches = λ on. en_kept mode value h; receives = λ on. on }
 written_calm mode Cmd r value h = record { list = refl; list_high = refl; area = refl; area_high = refl; switches = λ on. on; receives = λ on. h }
-written_calm mode Clb r value h = absurd (false≢true h)
-written_calm mode Clbu r value h = absurd (false≢true h)
-written_calm mode Fb r value h = absurd (false≢true h)
-written_calm mode Fbu r value h = absurd (false≢true h)
-written_calm mode Ie r value h = absurd (false≢true h)
-written_calm mode Tfd r value h = absurd (false≢true h)
-written_calm mode Sig r value h = absurd (false≢true h)
-written_calm mode Serr r value h = absurd (false≢true h)
+written_calm mode other r value h = absurd (false≢true h)
 
 place_tried : (mode : Mode) (o : Option Register) (offset value : ℕ) (old : Port) (memory : Memory) (new : Port) → register_at offset ≡ o → calm mode o value ≡ true → Tries old memory offset value new
     → SamePlace mode old.registers new.registers
@@ -163,8 +154,7 @@ place_tried mode (Some register) offset value old memory new at h tries = elim (
 pub place_effect : (mode : Mode) (e : Effect) (old new : Port) (before after : Memory) → calm_effect mode e ≡ true → Acts e old before new after → SamePlace mode old.registers new.registers
 place_effect mode (effect.Writes offset value) old new before after h acts = place_tried mode (register_at offset) offset value old before new refl h acts.0
 place_effect mode (effect.Flushes dev) old new before after h acts = same_place old.registers new.registers acts.0.registers
-place_effect mode (effect.Empties dev) old new before after h acts = same_place old.registers new.registers (ap (λ (p : Port). p.registers) acts.0)
-place_effect mode (effect.Commands slot fields buffer) old new before after h acts = same_place old.registers new.registers (ap (λ (p : Port). p.registers) acts.0)
+place_effect mode other old new before after h acts = same_place old.registers new.registers (ap (λ (p : Port). p.registers) acts.0)
 
 -- EN is in the values that choose and clear a device; DEC is not in the first
 pub en_chosen : (dev : ℕ) → has_bit (256 * dev + 1) en ≡ true
@@ -209,17 +199,10 @@ calm_emptying CommandBased dev es h = h
 
 calm_order : (mode : Mode) (order : Order) → list_all (calm_effect mode) (order_effects mode order) ≡ true
 unfolding order_fields order_effects register_at
-calm_order mode ResetOn = calm_issuing mode 31 15 false
-calm_order mode ResetOff = calm_issuing mode 31 15 false
 calm_order mode AwaitSignature = refl
-calm_order mode CountPorts = calm_issuing mode 31 15 false
-calm_order mode SetMask = calm_issuing mode 31 15 false
-calm_order mode Enable = calm_issuing mode 31 15 false
-calm_order mode (Open port) = calm_issuing mode 31 15 false
-calm_order mode Scan = calm_issuing mode 31 15 false
 calm_order mode (Clear port) = calm_emptying mode port (order_command mode (Clear port)) (calm_issuing mode 31 15 false)
-calm_order mode (Detect port) = calm_issuing mode 31 15 false
 calm_order mode Watch = refl
+calm_order mode other = calm_issuing mode 31 15 false
 
 -- ---- what leaves ST
 
@@ -230,9 +213,7 @@ firm (Some register) = true
 
 abbrev pub firm_effect : Effect → Bool
 firm_effect (effect.Writes offset value) = firm (register_at offset)
-firm_effect (effect.Flushes dev) = true
-firm_effect (effect.Empties dev) = true
-firm_effect (effect.Commands slot fields buffer) = true
+firm_effect other = true
 
 written_firm : (register : Register) (r : Registers) (value : ℕ) → firm (Some register) ≡ true → (written register r value).started ≡ r.started
 unfolding written
@@ -250,8 +231,7 @@ firm_tried (Some register) offset value old memory new at h tries = elim (tried_
 started_effect : (e : Effect) (old new : Port) (before after : Memory) → firm_effect e ≡ true → Acts e old before new after → new.registers.started ≡ old.registers.started
 started_effect (effect.Writes offset value) old new before after h acts = firm_tried (register_at offset) offset value old before new refl h acts.0
 started_effect (effect.Flushes dev) old new before after h acts = ap (λ (r : Registers). r.started) acts.0.registers
-started_effect (effect.Empties dev) old new before after h acts = ap (λ (p : Port). p.registers.started) acts.0
-started_effect (effect.Commands slot fields buffer) old new before after h acts = ap (λ (p : Port). p.registers.started) acts.0
+started_effect other old new before after h acts = ap (λ (p : Port). p.registers.started) acts.0
 
 and_parts : (a b : Bool) → (a && b) ≡ true → (a ≡ true) × (b ≡ true)
 and_parts true b h = (refl, h)
@@ -390,11 +370,8 @@ calm_restart mode k = all_at (calm_effect mode) restart_writes k _ refl refl
 
 calm_stage : (mode : Mode) (dev : ℕ) (stage : Stage) → list_all (calm_effect mode) (stage_effects mode dev stage) ≡ true
 unfolding stage_fields
-calm_stage mode dev Identify = calm_issuing mode 30 dev false
-calm_stage mode dev (ReadLog file) = calm_issuing mode 30 dev false
-calm_stage mode dev AssertReset = calm_issuing mode 30 dev false
-calm_stage mode dev ReleaseReset = calm_issuing mode 30 dev false
 calm_stage mode dev AwaitReset = refl
+calm_stage mode dev other = calm_issuing mode 30 dev false
 
 calm_stops : (mode : Mode) → list_all (calm_effect mode) (effects_due mode (Some act.Stops)) ≡ true
 unfolding effects_of register_at

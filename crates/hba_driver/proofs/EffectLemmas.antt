@@ -27,15 +27,7 @@ pub no_effects : (mode : Mode) (order : Order) → order_fields order ≡ None �
 unfolding order_fields order_effects
 no_effects mode AwaitSignature h = refl
 no_effects mode Watch h = refl
-no_effects mode ResetOn h = cc
-no_effects mode ResetOff h = cc
-no_effects mode CountPorts h = cc
-no_effects mode SetMask h = cc
-no_effects mode Enable h = cc
-no_effects mode (Open port) h = cc
-no_effects mode Scan h = cc
-no_effects mode (Clear port) h = cc
-no_effects mode (Detect port) h = cc
+no_effects mode other h = cc
 
 pub none_acts : (port after : Port) (memory later : Memory) → ActsAll [] port memory after later → (after ≡ port) × (later ≡ memory)
 unfolding ActsAll
@@ -78,11 +70,8 @@ issuing_possible mode slot dev false = chosen_possible mode dev (effect.Writes p
 
 stage_possible : (mode : Mode) (dev : ℕ) (stage : Stage) → list_all is_effect (stage_effects mode dev stage) ≡ true
 unfolding stage_fields
-stage_possible mode dev Identify = issuing_possible mode 30 dev false
-stage_possible mode dev (ReadLog file) = issuing_possible mode 30 dev false
-stage_possible mode dev AssertReset = issuing_possible mode 30 dev false
-stage_possible mode dev ReleaseReset = issuing_possible mode 30 dev false
 stage_possible mode dev AwaitReset = refl
+stage_possible mode dev other = issuing_possible mode 30 dev false
 
 below_is : (n m : ℕ) → n < 15 → nat_lt n 16 ≡ true
 below_is n m h = grind (arith, nat_tests)
@@ -109,9 +98,8 @@ order_possible mode Watch h = refl
 pub act_possible : (mode : Mode) (a : Act) → IsAct a → list_all is_effect (effects_of mode a) ≡ true
 unfolding effects_of
 act_possible mode (act.Opens k) h = rw (opens_possible mode k) refl
-act_possible mode act.Stops h = refl
 act_possible mode (act.Restarts k) h = rw (restarts_possible k) refl
-act_possible mode (act.Clears dev) h = refl
 act_possible mode (act.Orders order) h = order_possible mode order h
 act_possible mode (act.Steps dev stage) h = stage_possible mode dev stage
 act_possible mode (act.Issues slot dev queued) h = issuing_possible mode slot dev queued
+act_possible mode other h = refl

@@ -312,12 +312,7 @@ unfolding effects_of
 each_act D d v file fs c mode (Some act.Stops) old new before after may due drives ours ruled m is acts go = stop_act D d file fs c old new before after may ruled m acts go
 each_act D d v file fs c Switching (Some (act.Clears dev)) old new before after may due drives ours ruled m is acts go = clear_act D d file fs c dev old new before after may.1 ruled m acts go
 each_act D d v file fs c CommandBased (Some (act.Clears dev)) old new before after may due drives ours ruled m is acts go = none_clears may.0
-each_act D d v file fs c mode None old new before after may due drives ours ruled m is acts go = act_goes D d v file fs c mode None old new before after refl due drives ours ruled m is acts go
-each_act D d v file fs c mode (Some (act.Opens k)) old new before after may due drives ours ruled m is acts go = act_goes D d v file fs c mode (Some (act.Opens k)) old new before after refl due drives ours ruled m is acts go
-each_act D d v file fs c mode (Some (act.Restarts k)) old new before after may due drives ours ruled m is acts go = act_goes D d v file fs c mode (Some (act.Restarts k)) old new before after refl due drives ours ruled m is acts go
-each_act D d v file fs c mode (Some (act.Orders order)) old new before after may due drives ours ruled m is acts go = act_goes D d v file fs c mode (Some (act.Orders order)) old new before after refl due drives ours ruled m is acts go
-each_act D d v file fs c mode (Some (act.Steps dev stage)) old new before after may due drives ours ruled m is acts go = act_goes D d v file fs c mode (Some (act.Steps dev stage)) old new before after refl due drives ours ruled m is acts go
-each_act D d v file fs c mode (Some (act.Issues slot dev queued)) old new before after may due drives ours ruled m is acts go = act_goes D d v file fs c mode (Some (act.Issues slot dev queued)) old new before after refl due drives ours ruled m is acts go
+each_act D d v file fs c mode other old new before after may due drives ours ruled m is acts go = act_goes D d v file fs c mode other old new before after refl due drives ours ruled m is acts go
 
 -- ---- an act that ends a fault is due only while the port runs
 
@@ -339,8 +334,7 @@ may_of mode h plan entries (Some (act.Clears dev)) s due runs =
       },
     )
 may_of mode h plan entries (Some (act.Orders order)) s due runs = tt
-may_of mode h plan entries (Some (act.Steps dev stage)) s due runs = tt
-may_of mode h plan entries (Some (act.Issues slot dev queued)) s due runs = tt
+may_of mode h plan entries other s due runs = tt
 
 pub may_end : {mode : Mode} (h : Host) → IsSoundHostIn mode h → MayEnd mode (turn (sight_in h) h.driver).act h.port
 may_end {mode} h s =

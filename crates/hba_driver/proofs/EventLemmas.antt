@@ -127,10 +127,9 @@ good_write None (Some register) offset value old new before after is at tries st
 
 -- the received area must be the driver's
 abbrev pub wants_area : Effect → Bool
-wants_area (effect.Writes offset value) = false
-wants_area (effect.Flushes dev) = false
 wants_area (effect.Empties dev) = true
 wants_area (effect.Commands slot fields buffer) = true
+wants_area other = false
 
 pub good_effect : (e : Effect) (old new : Port) (before after : Memory) → is_effect e ≡ true → (wants_area e ≡ true → old.registers.fb ≡ 4096) → IsHostMemory before → Acts e old before new after
     → sound.IsHost (beside old before) → sound.IsHost (beside new after) → Good (beside old before) (events_of_effect e old before after) (beside new after)

@@ -28,14 +28,8 @@ use Rattle.hba_driver.proofs.LifeLemmas.{entry_of_rephased}
 -- ---- the phase of such an end
 
 abbrev failed : Phase → Bool
-failed Waits = false
-failed Issued = false
-failed Aside = false
-failed (Ended Done) = false
 failed (Ended (DeviceError status error)) = true
-failed (Ended Aborted) = false
-failed (Ended Removed) = false
-failed (Ended PortError) = false
+failed other = false
 
 failed_own : IsOwnEnd failed
 failed_own = record { issued = refl; aside = refl; aborted = refl; removed = refl; stopped = refl }
@@ -76,10 +70,7 @@ read_log v true path plan l file here back stage whole h =
 read_stage : (v : Sight) (s : Stage) (path : Path) (plan : Plan) (l : Logged) → plan.path ≡ Some path → is_back v path ≡ true → path.stage ≡ s → logged_by v path.dev s ≡ Some l → IsRead v plan l
 unfolding logged_by
 read_stage v (ReadLog file) path plan l here back stage h = read_log v v.log.whole path plan l file here back stage refl h
-read_stage v Identify path plan l here back stage h = no_log l h
-read_stage v AssertReset path plan l here back stage h = no_log l h
-read_stage v ReleaseReset path plan l here back stage h = no_log l h
-read_stage v AwaitReset path plan l here back stage h = no_log l h
+read_stage v other path plan l here back stage h = no_log l h
 
 read_back : (v : Sight) (b : Bool) (path : Path) (plan : Plan) (l : Logged) → plan.path ≡ Some path → is_back v path ≡ b → (if b then logged_by v path.dev path.stage else None) ≡ Some l → IsRead v plan l
 read_back v true path plan l here back h = read_stage v path.stage path plan l here back refl h
@@ -117,10 +108,8 @@ not_failed : (g : Entry) → has_ended g.head ≡ false → failed g.head.phase 
 not_failed g open' h = by_phase g.head.phase open' h
   where
     by_phase : (p : Phase) → has_ended_in p ≡ false → failed p ≡ true → ⊥
-    by_phase Waits o k = false≢true k
-    by_phase Issued o k = false≢true k
-    by_phase Aside o k = false≢true k
     by_phase (Ended q) o k = true≢false o
+    by_phase other o k = false≢true k
 
 -- the second pass leaves what the first has ended
 after_first : (log : ErrorLog) (l : Logged) (s : ℕ) (b : Bool) (g m x : Entry) → is_named_of log l.dev s g.head ≡ b → has_ended g.head ≡ false
@@ -176,14 +165,8 @@ named_tick v d s e x status error (Some l) logged here open' there phase =
 
 -- exactly this end
 abbrev exactly : (status error : ℕ) → Phase → Bool
-exactly status error Waits = false
-exactly status error Issued = false
-exactly status error Aside = false
-exactly status error (Ended Done) = false
 exactly status error (Ended (DeviceError s e)) = (s == status) && (e == error)
-exactly status error (Ended Aborted) = false
-exactly status error (Ended Removed) = false
-exactly status error (Ended PortError) = false
+exactly status error other = false
 
 exactly_own : (status error : ℕ) → IsOwnEnd (exactly status error)
 exactly_own status error = record { issued = refl; aside = refl; aborted = refl; removed = refl; stopped = refl }
@@ -199,8 +182,7 @@ exactly_is status error (Ended (DeviceError s e)) h =
     let second : e ≡ error = equal_of e error parts.1 in
     ap (λ (x : ℕ). Ended (DeviceError x e)) first ∙ ap (λ (y : ℕ). Ended (DeviceError status y)) second
 exactly_is status error (Ended Aborted) h = absurd (false≢true h)
-exactly_is status error (Ended Removed) h = absurd (false≢true h)
-exactly_is status error (Ended PortError) h = absurd (false≢true h)
+exactly_is status error other h = absurd (false≢true h)
 
 equal_self : (x : ℕ) → (x == x) ≡ true
 equal_self x = grind (arith, nat_tests)

@@ -222,10 +222,7 @@ fit_fresh_at old (Submitted dev request ticket) new h long s f is =
     let it : IsFit (next_slot old.driver) (new_entry (old.driver.given + 1) dev request) new.memory = fit_fresh old dev request ticket new h long in
     subst (λ (k : ℕ). IsFit k f new.memory) (sym is.0) (subst (λ (x : Entry). IsFit (next_slot old.driver) x new.memory) is.1 it)
 fit_fresh_at old (Took frame report) new h long s f is = absurd is
-fit_fresh_at old (Pushed frame) new h long s f is = absurd is
-fit_fresh_at old (Ticked a) new h long s f is = absurd is
-fit_fresh_at old (Polled c) new h long s f is = absurd is
-fit_fresh_at old (Put at bytes) new h long s f is = absurd is
+fit_fresh_at old other new h long s f is = absurd is
 
 pub fit_turn : {mode : Mode} (old : Host) (t : HostTurn) (new : Host) → Does old t new → IsSoundHostIn mode old → IsSoundHostIn mode new → AreBounded old.driver → AreFit old.driver old.memory → AreFit new.driver new.memory
 fit_turn old t new h sound next bounded fit s f here = elim (comes_from old t new h s f here) [

@@ -33,17 +33,7 @@ unfolding view_after
 written_off n value old memory Cmd off = either Off (falls old.registers value) (stopped_view (view_of n old)) (view_of n old) refl off
 written_off n value old memory Ci off = either Off (n == aimed old.registers memory.structure value) (view_issued old.registers memory value (view_of n old)) (view_of n old) off off
 written_off n value old memory Fbs off = either Off (is_device n (cleared_by old.errors value)) (stopped_view (view_of n old)) (view_of n old) refl off
-written_off n value old memory Clb off = off
-written_off n value old memory Clbu off = off
-written_off n value old memory Fb off = off
-written_off n value old memory Fbu off = off
-written_off n value old memory Is off = off
-written_off n value old memory Ie off = off
-written_off n value old memory Tfd off = off
-written_off n value old memory Sig off = off
-written_off n value old memory Serr off = off
-written_off n value old memory Sact off = off
-written_off n value old memory Sntf off = off
+written_off n value old memory other off = off
 
 accepted_off : (n value : ℕ) (old new : Port) (memory : Memory) (o : Option Register) → n < 16 → Off (view_of n old) → MatchOption o ⊥ (λ register. Accepts old memory register value new) → Off (view_of n new)
 accepted_off n value old new memory None below off does = absurd does

@@ -143,10 +143,9 @@ took_calm old new frame report h stops of is = elim (cases_Bool (ignores (port_o
 gave_calm : (o : Outgoing) (old : Port) (memory : Memory) (frame : Option Stamped) (new : Port) → Gives o old memory frame new → fails_by_bus o ≡ false → IsCalm old → IsCalm new
 gave_calm Nothing old memory frame new gives none is = calm_same old new gives.1 is
 gave_calm (Unreadable dev) old memory frame new gives none is = absurd (true≢false none)
-gave_calm (Data dev offset len command) old memory None new gives none is = absurd gives
 gave_calm (Data dev offset len command) old memory (Some f) new gives none is = calm_as old new (ap (λ (e : Errors). e.port) gives.errors) (ap (λ (r : Registers). r.interrupts) gives.registers) is
-gave_calm (Order dev slot command) old memory None new gives none is = absurd gives
 gave_calm (Order dev slot command) old memory (Some f) new gives none is = calm_as old new (ap (λ (e : Errors). e.port) gives.errors) (ap (λ (r : Registers). r.interrupts) gives.registers) is
+gave_calm other old memory None new gives none is = absurd gives
 
 -- ---- the effects of a tick
 
@@ -182,8 +181,7 @@ tried_calm (Some register) offset value old memory new at tries is = elim (tried
 pub act_calm : (e : Effect) (old new : Port) (before after : Memory) → Acts e old before new after → IsCalm old → IsCalm new
 act_calm (effect.Writes offset value) old new before after h is = tried_calm (register_at offset) offset value old before new refl h.0 is
 act_calm (effect.Flushes dev) old new before after h is = calm_as old new (ap (λ (e : Errors). e.port) h.0.errors) (ap (λ (r : Registers). r.interrupts) h.0.registers) is
-act_calm (effect.Empties dev) old new before after h is = calm_same old new h.0 is
-act_calm (effect.Commands slot fields buffer) old new before after h is = calm_same old new h.0 is
+act_calm other old new before after h is = calm_same old new h.0 is
 
 acts_calm : (es : List Effect) (old new : Port) (before after : Memory) → ActsAll es old before new after → IsCalm old → IsCalm new
 unfolding ActsAll
@@ -226,15 +224,11 @@ module _ (h : Host) (s : IsSoundHost h) (calm : IsCalm h.port) (up : h.driver.pl
   leaves_due : (a : Option Act) → Due (sight_in h) (seen (sight_in h) h.driver).plan (seen (sight_in h) h.driver).entries a → (b : Act) → a ≡ Some b → leaves_port b
   leaves_due (Some act.Stops) known act.Stops is = absurd (true≢false (sym known ∙ never_stops h s calm))
   leaves_due (Some (act.Restarts k)) known (act.Restarts n) is = absurd (omega (arith, known.1, seen_up))
-  leaves_due a known (act.Opens k) is = tt
-  leaves_due a known (act.Clears dev) is = tt
-  leaves_due a known (act.Orders order) is = tt
-  leaves_due a known (act.Steps dev stage) is = tt
-  leaves_due a known (act.Issues slot dev queued) is = tt
   leaves_due None known act.Stops is = cc
   leaves_due None known (act.Restarts n) is = cc
   leaves_due (Some a) known act.Stops is = cc
   leaves_due (Some a) known (act.Restarts n) is = cc
+  leaves_due a known other is = tt
 
   pub leaves : (b : Act) → due (sight_in h) h.driver ≡ Some b → leaves_port b
   leaves b is = leaves_due (due (sight_in h) h.driver) (due_seen (sight_in h) h.driver) b is
@@ -262,9 +256,7 @@ calm_turn : (old : Host) (t : HostTurn) (new : Host) → Does old t new → IsGo
 calm_turn old (Took frame report) new h g of = took_calm old new frame report h (stops_none old g) of g.calm
 calm_turn old (Pushed frame) new h g of = gave_calm (outgoing old.port old.memory) old.port old.memory frame new.port h.gives (stops_none old g).gives g.calm
 calm_turn old (Ticked a) new h g of = acts_calm (effects (sight_in old) old.driver) old.port new.port old.memory new.memory h.does g.calm
-calm_turn old (Submitted dev request ticket) new h g of = calm_same old.port new.port h.port g.calm
-calm_turn old (Polled c) new h g of = calm_same old.port new.port h.port g.calm
-calm_turn old (Put at bytes) new h g of = calm_same old.port new.port h.port g.calm
+calm_turn old other new h g of = calm_same old.port new.port h.port g.calm
 
 poll_up : (d : Driver) → (after_poll d).plan.restarted ≡ d.plan.restarted
 unfolding after_poll
@@ -319,11 +311,7 @@ going_opens given len right =
 
 heads : (t : HostTurn) (turns : List HostTurn) → AreOfControl (t ∷ turns) → IsOfControlIn t × AreOfControl turns
 heads (Took frame report) turns of = of
-heads (Pushed frame) turns of = (tt, of)
-heads (Ticked a) turns of = (tt, of)
-heads (Submitted dev request ticket) turns of = (tt, of)
-heads (Polled c) turns of = (tt, of)
-heads (Put at bytes) turns of = (tt, of)
+heads other turns of = (tt, of)
 
 pub going_over : (turns : List HostTurn) (old new : Host) → DoesAll old turns new → IsGoing old → AreOfControl turns → IsGoing new
 going_over [] old new run g of = subst IsGoing (sym run) g

@@ -109,13 +109,11 @@ AreQuietEvents [] = Unit {0}
 AreQuietEvents (e ∷ es) = IsQuietEvent e × AreQuietEvents es
 
 quiet_event : (host : event.Host) (e : HostEvent) (past : Touches) → IsQuietEvent e → HoldsWrites past → HoldsWrites (touched host e ++ past)
-quiet_event host (event.Took frame report) past quiet h = absurd quiet
-quiet_event host (event.Gave frame) past quiet h = absurd quiet
-quiet_event host (event.Put at bytes) past quiet h = absurd quiet
 quiet_event host (event.Wrote register value) past quiet h = quiet_holds (touched_by_write register host value) past (write_quiet host register value) h
 quiet_event host (event.Flushed dev) past quiet h = h
 quiet_event host (event.Stored structure) past quiet h = h
 quiet_event host (event.Rewrote dev row) past quiet h = h
+quiet_event host other past quiet h = absurd quiet
 
 quiet_over : (es : List HostEvent) (old new : event.Host) (runs : Runs old es new) (past : Touches) → AreQuietEvents es → HoldsWrites past
     → HoldsWrites (touches_after past old new es runs)
@@ -138,8 +136,7 @@ effect_quiet (effect.Writes offset value) port before after = by_refusal (write_
     by_refusal None = wrote_quiet (register_at offset) value
     by_refusal (Some e) = tt
 effect_quiet (effect.Flushes dev) port before after = (tt, tt)
-effect_quiet (effect.Empties dev) port before after = (tt, tt)
-effect_quiet (effect.Commands slot fields buffer) port before after = (tt, tt)
+effect_quiet other port before after = (tt, tt)
 
 effects_quiet : (es : List Effect) (old : Port) (before : Memory) (new : Port) (after : Memory) (acts : ActsAll es old before new after)
     → AreQuietEvents (events_of_effects es old before new after acts)
@@ -160,10 +157,9 @@ held_device past beside h dev None = h
 held_device past beside h dev (Some e) = held_event past beside h dev e
 
 held_out : (past : Touches) → AreBeside past → HoldsWrites past → (host : event.Host) (o : Outgoing) → HoldsWrites (touched_by_out host o ++ past)
-held_out past beside h host out.Nothing = h
-held_out past beside h host (out.Unreadable dev) = h
 held_out past beside h host (out.Data dev offset len command) = (beside, h)
 held_out past beside h host (out.Order dev slot command) = quiet_holds (touched_by_out host (out.Order dev slot command)) past (order_quiet host dev slot command) h
+held_out past beside h host other = h
 
 pub turns_hold_writes : TurnsHoldWrites
 turns_hold_writes mode old (Took frame report) new run sound past served serves h =

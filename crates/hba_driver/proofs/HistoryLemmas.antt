@@ -117,22 +117,18 @@ comes_poll c old new polled is s f here =
     ]
 
 comes_turn : (old : Host) (t : HostTurn) (new : Host) → Does old t new → (s : ℕ) (f : Entry) → entry_at new.driver.entries s ≡ Some f → ComesOf old.driver s f
-comes_turn old (Took frame report) new h = comes_same old.driver new.driver h.driver
-comes_turn old (Pushed frame) new h = comes_same old.driver new.driver h.driver
 comes_turn old (Ticked a) new h = comes_tick (sight_in old) _ old.driver new.driver h.driver
 comes_turn old (Submitted dev request ticket) new h = comes_submit dev request old.driver new.driver h.taken.driver
 comes_turn old (Polled c) new h = comes_poll c old.driver new.driver h.polled h.driver
-comes_turn old (Put at bytes) new h = comes_same old.driver new.driver h.driver
+comes_turn old other new h = comes_same old.driver new.driver h.driver
 
 -- ---- tickets are given one after another
 
 given_least : (old : Host) (t : HostTurn) (new : Host) → Does old t new → old.driver.given ≤ new.driver.given
-given_least old (Took frame report) new h = omega (arith, ap (λ (d : Driver). d.given) h.driver)
-given_least old (Pushed frame) new h = omega (arith, ap (λ (d : Driver). d.given) h.driver)
 given_least old (Ticked a) new h = omega (arith, ap (λ (d : Driver). d.given) h.driver, given_tick (sight_in old) (file_shown new.port) old.driver)
 given_least old (Submitted dev request ticket) new h = omega (arith, ap (λ (d : Driver). d.given) h.taken.driver)
 given_least old (Polled c) new h = let facts = poll_facts old.driver c h.polled in omega (arith, ap (λ (d : Driver). d.given) (h.driver ∙ freed old.driver c facts))
-given_least old (Put at bytes) new h = omega (arith, ap (λ (d : Driver). d.given) h.driver)
+given_least old other new h = omega (arith, ap (λ (d : Driver). d.given) h.driver)
 
 record GivenIn (old new : Driver) (tickets : List ℕ) : Type 0 where
   pub given : tickets ≡ range_with_len (old.given + 1) (length tickets)
@@ -189,12 +185,10 @@ poll_requests d c polled h =
     subst (λ (e : Driver). AreRequests e.given e.entries) (sym (freed d c facts)) (requests_freed d.given d.entries facts.place None h refl)
 
 pub requests_turn : (old : Host) (t : HostTurn) (new : Host) → Does old t new → AreRequests old.driver.given old.driver.entries → AreRequests new.driver.given new.driver.entries
-requests_turn old (Took frame report) new h r = same_requests old.driver new.driver h.driver r
-requests_turn old (Pushed frame) new h r = same_requests old.driver new.driver h.driver r
 requests_turn old (Ticked a) new h r = same_requests (after_tick (sight_in old) (file_shown new.port) old.driver) new.driver h.driver (tick_requests (sight_in old) (file_shown new.port) old.driver r)
 requests_turn old (Submitted dev request ticket) new h r = same_requests (after_submit old.driver dev request) new.driver h.taken.driver (submit_requests old.driver old.memory dev request h.accepted r)
 requests_turn old (Polled c) new h r = same_requests (after_poll old.driver) new.driver h.driver (poll_requests old.driver c h.polled r)
-requests_turn old (Put at bytes) new h r = same_requests old.driver new.driver h.driver r
+requests_turn old other new h r = same_requests old.driver new.driver h.driver r
 
 requests_over : (turns : List HostTurn) (old new : Host) → DoesAll old turns new → AreRequests old.driver.given old.driver.entries → AreRequests new.driver.given new.driver.entries
 requests_over [] old new run r = subst (λ (h : Host). AreRequests h.driver.given h.driver.entries) (sym run) r
@@ -223,9 +217,8 @@ gone_stays p q h k = k
 
 past_stays : Stable past
 past_stays Waits q h k = absurd (false≢true k)
-past_stays Issued q h k = rw h refl
 past_stays Aside q h k = rw (or_parts (waits_in q) (is_issued_in q) h).0 refl
-past_stays (Ended o) q h k = rw h refl
+past_stays other q h k = rw h refl
 
 stands_turn : (test : Phase → Bool) → Stable test → (ticket : ℕ) (old : Host) (t : HostTurn) (new : Host) → Does old t new → Stands test ticket old.driver → Stands test ticket new.driver
 stands_turn test stable ticket old t new h stands = record {
@@ -324,8 +317,7 @@ own_outcome (DeviceError status error) = both_own (status == status) (error == e
     both_own true b h k = k
     both_own false b h k = absurd (false≢true h)
 own_outcome Aborted = refl
-own_outcome Removed = refl
-own_outcome PortError = refl
+own_outcome other = refl
 
 all_three : (a b c : Bool) → a ≡ true → b ≡ true → c ≡ true → (a && b && c) ≡ true
 all_three true true c h k l = l
@@ -355,18 +347,14 @@ lives_poll d new c polled is s e here =
     ]
 
 pub lives_turn : (old : Host) (t : HostTurn) (new : Host) → Does old t new → (s : ℕ) (e : Entry) → entry_at old.driver.entries s ≡ Some e → LivesOn s e t new
-lives_turn old (Took frame report) new h s e here = inl (lives_same old.driver new.driver h.driver s e here)
-lives_turn old (Pushed frame) new h s e here = inl (lives_same old.driver new.driver h.driver s e here)
 lives_turn old (Ticked a) new h s e here = inl (lives_tick (sight_in old) _ old.driver new.driver h.driver s e here)
 lives_turn old (Submitted dev request ticket) new h s e here = inl (lives_submit old.driver new.driver old.memory dev request h.accepted h.taken.driver s e here)
 lives_turn old (Polled c) new h s e here = lives_poll old.driver new.driver c h.polled h.driver s e here
-lives_turn old (Put at bytes) new h s e here = inl (lives_same old.driver new.driver h.driver s e here)
+lives_turn old other new h s e here = inl (lives_same old.driver new.driver h.driver s e here)
 
 ends_back : (p q : Phase) (o : Outcome) → Goes p q → ends_as q o ≡ true → ends_as p o ≡ true
-ends_back Waits q o h k = refl
-ends_back Issued q o h k = refl
-ends_back Aside q o h k = refl
 ends_back (Ended x) q o h k = sym (ap (λ (r : Phase). ends_as r o) h) ∙ k
+ends_back other q o h k = refl
 
 -- what gives a request later gives it now
 gives_back : (s : ℕ) (e f : Entry) → GoesOn e f → (t : HostTurn) → gives s f t ≡ true → gives s e t ≡ true

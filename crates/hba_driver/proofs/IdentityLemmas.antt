@@ -60,24 +60,15 @@ short_set own slot x other h = short_as own (record own { issues = set own.issue
 
 not_queued : (k : Kind) → is_pio k ≡ true → is_queued k ≡ false
 not_queued PioIn h = refl
-not_queued QueuedRead h = absurd (false≢true h)
-not_queued QueuedWrite h = absurd (false≢true h)
-not_queued NoData h = absurd (false≢true h)
-not_queued Control h = absurd (false≢true h)
+not_queued other h = absurd (false≢true h)
 
 pub not_control : (k : Kind) → is_pio k ≡ true → is_control k ≡ false
-not_control PioIn h = refl
-not_control QueuedRead h = refl
-not_control QueuedWrite h = refl
-not_control NoData h = refl
 not_control Control h = absurd (false≢true h)
+not_control other h = refl
 
 pub reads : (k : Kind) → is_pio k ≡ true → is_read k ≡ true
 reads PioIn h = refl
-reads QueuedRead h = absurd (false≢true h)
-reads QueuedWrite h = absurd (false≢true h)
-reads NoData h = absurd (false≢true h)
-reads Control h = absurd (false≢true h)
+reads other h = absurd (false≢true h)
 
 -- ---- what it hears
 

@@ -83,12 +83,10 @@ good_poll end c old new polled is good s f here =
     ]
 
 good_turn : (old : Host) (t : HostTurn) (new : Host) → Does old t new → HaveGoodPrds (end_of old.memory) old.driver → HaveGoodPrds (end_of old.memory) new.driver
-good_turn old (Took frame report) new h = good_same (end_of old.memory) old.driver new.driver h.driver
-good_turn old (Pushed frame) new h = good_same (end_of old.memory) old.driver new.driver h.driver
 good_turn old (Ticked a) new h = good_tick (end_of old.memory) (sight_in old) (file_shown new.port) old.driver new.driver h.driver
 good_turn old (Submitted dev request ticket) new h = good_submit old dev request new.driver h.accepted h.taken.driver
 good_turn old (Polled c) new h = good_poll (end_of old.memory) c old.driver new.driver h.polled h.driver
-good_turn old (Put at bytes) new h = good_same (end_of old.memory) old.driver new.driver h.driver
+good_turn old other new h = good_same (end_of old.memory) old.driver new.driver h.driver
 
 -- memory keeps its size
 pub as_long : {mode : Mode} (old : Host) (turns : List HostTurn) (new : Host) → DoesAll old turns new → IsSoundHostIn mode old → length new.memory.client ≡ length old.memory.client
@@ -98,10 +96,8 @@ as_long old turns new run sound =
 
 -- a tick leaves client memory
 act_client : (e : Effect) (old : Port) (before : Memory) (new : Port) (after : Memory) → Acts e old before new after → after.client ≡ before.client
-act_client (effect.Writes offset value) old before new after acts = ap (λ (m : Memory). m.client) acts.1
-act_client (effect.Flushes dev) old before new after acts = ap (λ (m : Memory). m.client) acts.1
-act_client (effect.Empties dev) old before new after acts = ap (λ (m : Memory). m.client) acts.1
 act_client (effect.Commands slot fields buffer) old before new after acts = acts.1.client
+act_client other old before new after acts = ap (λ (m : Memory). m.client) acts.1
 
 acts_client : (es : List Effect) (old : Port) (before : Memory) (new : Port) (after : Memory) → ActsAll es old before new after → after.client ≡ before.client
 unfolding ActsAll
@@ -152,9 +148,7 @@ buffer_inside len least = (omega arith, omega (arith, least))
 step_inside : (len : ℕ) (stage : Stage) → 1048576 ≤ len → AreInside len (prds_with (reads_page stage))
 step_inside len Identify least = (buffer_inside len least, tt)
 step_inside len (ReadLog file) least = (buffer_inside len least, tt)
-step_inside len AssertReset least = tt
-step_inside len ReleaseReset least = tt
-step_inside len AwaitReset least = tt
+step_inside len other least = tt
 
 pub issue_inside : {mode : Mode} (h : Host) (n s : ℕ) (t : Transfer) → IsSoundHostIn mode h → HaveGoodPrds (end_of h.memory) h.driver → From h.driver n s t → AreInside (length h.memory.client) t.table
 issue_inside h n s t sound good (inl r) =

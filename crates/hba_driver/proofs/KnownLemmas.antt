@@ -85,10 +85,7 @@ if_new n false p q h k = k
 
 shown_new : (device : Device) → is_trusted device ≡ false → is_trusted (found_there device) ≡ false
 shown_new (Recovering way) new = new
-shown_new Absent new = refl
-shown_new Starting new = refl
-shown_new Ready new = refl
-shown_new Unusable new = refl
+shown_new other new = refl
 
 detected_new : (status : ℕ) (device : Device) → is_trusted device ≡ false → is_trusted (detected status device) ≡ false
 detected_new status device new = by_test (is_there status)
@@ -155,9 +152,7 @@ next_new : (n dev : ℕ) (stage : Stage) → is_reading n (path_to dev (next_sta
 unfolding next_stage
 next_new n dev Identify = refl
 next_new n dev (ReadLog file) = refl
-next_new n dev AssertReset = and_false (dev == n)
-next_new n dev ReleaseReset = and_false (dev == n)
-next_new n dev AwaitReset = and_false (dev == n)
+next_new n dev other = and_false (dev == n)
 
 advanced_new : (n : ℕ) (v : Sight) (path : Path) (plan : Plan) → (is_named path.stage ≡ true → path.dev ≢ n) → (is_logging path.stage ≡ true → path.dev ≢ n) → IsNew n plan → IsNew n (advanced v path plan)
 advanced_new n v path plan named logging h =
@@ -254,8 +249,7 @@ first_new (Recovering Reset) signed stage h e = ap is_logging (sym (same_stage A
     same_stage : (x y : Stage) → Some x ≡ Some y → x ≡ y
     same_stage x y e = cc
 first_new Absent signed stage h e = absurd (cc)
-first_new Ready signed stage h e = absurd (cc)
-first_new Unusable signed stage h e = absurd (cc)
+first_new other signed stage h e = absurd (cc)
 
 fits_stage : (n : ℕ) (v : Sight) (plan : Plan) (dev : ℕ) → IsNew n plan → Fits n (stage_due v plan dev)
 fits_stage n v plan dev h = by_stage (stage_for v plan dev) refl
@@ -345,10 +339,7 @@ there_new (d ∷ devices) (suc n) = there_new devices n
 
 recovery_new : (d : Device) (file : TaskFile) → is_trusted d ≡ false → is_trusted (Recovering (recovery d file)) ≡ false
 recovery_new Ready file h = absurd (true≢false h)
-recovery_new Absent file h = refl
-recovery_new Starting file h = refl
-recovery_new Unusable file h = refl
-recovery_new (Recovering r) file h = refl
+recovery_new other file h = refl
 
 new_ordered : (n : ℕ) (order : Order) (plan : Plan) → IsNew n plan → IsNew n (ordered order plan)
 new_ordered n (Clear port) plan h = record { device = set_new plan.devices n port Absent (λ same. refl) h.device; path = unless_new n port plan.path h.path }
@@ -411,10 +402,7 @@ ready_trusted plan e may = by_device (device_at plan e.head.dev) (and_parts (wai
   where
     by_device : (d : Device) → is_ready d ≡ true → is_trusted d ≡ true
     by_device Ready h = refl
-    by_device Absent h = absurd (false≢true h)
-    by_device Starting h = absurd (false≢true h)
-    by_device Unusable h = absurd (false≢true h)
-    by_device (Recovering r) h = absurd (false≢true h)
+    by_device other h = absurd (false≢true h)
 
 none_issue : (n : ℕ) (v : Sight) (slot dev : ℕ) (queued : Bool) (plan : Plan) (entries : List (Option Entry)) → IsNew n plan → Due v plan entries (Some (act.Issues slot dev queued)) → NoneIssued n entries
     → NoneIssued n (set entries slot (option_map (rephased Issued) (entry_at entries slot)))
@@ -433,13 +421,12 @@ none_issue n v slot dev queued plan entries new due h s f here issued =
 
 none_after : (n : ℕ) (v : Sight) (a : Act) (plan : Plan) (entries : List (Option Entry)) → IsNew n plan → Due v plan entries (Some a) → NoneIssued n entries → NoneIssued n (entries_after a entries)
 unfolding entries_after
-none_after n v (act.Opens k) plan entries new due h = h
 none_after n v act.Stops plan entries new due h = none_rephased n is_open (Ended PortError) entries refl h
-none_after n v (act.Restarts k) plan entries new due h = h
 none_after n v (act.Clears dev) plan entries new due h = none_rephased n (is_open_of dev) Aside entries refl h
 none_after n v (act.Orders order) plan entries new due h = none_removed n order entries h
 none_after n v (act.Steps dev stage) plan entries new due h = none_staged n dev stage entries h
 none_after n v (act.Issues slot dev queued) plan entries new due h = none_issue n v slot dev queued plan entries new due h
+none_after n v other plan entries new due h = h
 
 -- ---- a tick
 

@@ -128,15 +128,7 @@ leaves_order (Clear port) plan p e =
     port_is : (k : ℕ) → Clear port ≡ Clear k → port ≡ k
     port_is k e = cc
 leaves_order ResetOn plan p e = (e, λ k same. absurd (cc))
-leaves_order ResetOff plan p e = (e, λ k same. absurd (cc))
-leaves_order AwaitSignature plan p e = (e, λ k same. absurd (cc))
-leaves_order CountPorts plan p e = (e, λ k same. absurd (cc))
-leaves_order SetMask plan p e = (e, λ k same. absurd (cc))
-leaves_order Enable plan p e = (e, λ k same. absurd (cc))
-leaves_order (Open port) plan p e = (e, λ k same. absurd (cc))
-leaves_order Scan plan p e = (e, λ k same. absurd (cc))
-leaves_order (Detect port) plan p e = (e, λ k same. absurd (cc))
-leaves_order Watch plan p e = (e, λ k same. absurd (cc))
+leaves_order other plan p e = (e, λ k same. absurd (cc))
 
 leaves_clear : (dev : ℕ) (file : TaskFile) (plan : Plan) (p : Path) → p.dev < 15 → (if nat_lt dev 15 then recovering dev file plan else from_reset plan).path ≡ Some p → (plan.path ≡ Some p) × (p.dev ≢ dev)
 leaves_clear dev file plan p low e = by_test (nat_lt dev 15) refl e
@@ -263,10 +255,7 @@ module _ (n : ℕ) (below : n < 15) (old new : Host) (w : IsOnWay old) where
 
   named_is : (stage : Stage) → is_named stage ≡ true → stage ≡ Identify
   named_is Identify h = refl
-  named_is (ReadLog file) h = absurd (false≢true h)
-  named_is AssertReset h = absurd (false≢true h)
-  named_is ReleaseReset h = absurd (false≢true h)
-  named_is AwaitReset h = absurd (false≢true h)
+  named_is other h = absurd (false≢true h)
 
   awaits_then : (h : HostUnknown n old) (file : TaskFile) → ActsAll (effects_due Switching (due v old.driver)) old.port old.memory new.port new.memory → Awaits n (after_tick v file old.driver).plan.path new.port
   unfolding after_tick ActsAll
@@ -320,10 +309,8 @@ module _ (n : ℕ) (below : n < 15) (old new : Host) (w : IsOnWay old) where
       by_path (Some p) is = ap (λ (b : Bool). b && is_logging p.stage) (ne_eqb p.dev n (flush_path (file_shown new.port) flushed p is))
 
       ended_phase : (p : Phase) → has_ended_in p ≡ true → is_issued_in p ≡ true → ⊥
-      ended_phase Waits a b = false≢true a
-      ended_phase Issued a b = false≢true a
-      ended_phase Aside a b = false≢true a
       ended_phase (Ended o) a b = false≢true b
+      ended_phase other a b = false≢true a
 
       ended_not : (e : Entry) → has_ended e.head ≡ true → is_issued e.head ≡ true → ⊥
       ended_not e a b = ended_phase e.head.phase a b
@@ -387,9 +374,7 @@ known_turn n below known old (Took frame report) new does w h e =
     let both = or_parts known (identifies n old (Took frame report)) e in
     unknown_turn n below old (Took frame report) new does w both.1 (h both.0)
 known_turn n below known old (Pushed frame) new does w h e = unknown_turn n below old (Pushed frame) new does w refl (h (or_parts known false e).0)
-known_turn n below known old (Submitted dev request ticket) new does w h e = unknown_turn n below old (Submitted dev request ticket) new does w refl (h (or_parts known false e).0)
-known_turn n below known old (Polled completion) new does w h e = unknown_turn n below old (Polled completion) new does w refl (h (or_parts known false e).0)
-known_turn n below known old (Put at bytes) new does w h e = unknown_turn n below old (Put at bytes) new does w refl (h (or_parts known false e).0)
+known_turn n below known old other new does w h e = unknown_turn n below old other new does w refl (h (or_parts known false e).0)
 
 -- ---- over turns
 

@@ -33,27 +33,23 @@ use Rattle.hba_driver.proofs.DueLemmas.{Due, Waiting, due_turn}
 
 pub goes_same : (p : Phase) → Goes p p
 goes_same Waits = tt
-goes_same Issued = refl
-goes_same Aside = refl
-goes_same (Ended o) = refl
+goes_same other = refl
 
 pub goes_trans : (p q r : Phase) → Goes p q → Goes q r → Goes p r
 goes_trans Waits q r h k = tt
-goes_trans Issued Waits r h k = absurd (true≢false h)
 goes_trans Issued Issued r h k = k
 goes_trans Issued Aside r h k = (or_parts (waits_in r) (is_issued_in r) k).0
 goes_trans Issued (Ended o) r h k = rw k refl
-goes_trans Aside Waits r h k = absurd (true≢false h)
 goes_trans Aside Issued r h k = absurd (true≢false h)
 goes_trans Aside Aside r h k = k
 goes_trans Aside (Ended o) r h k = rw k refl
 goes_trans (Ended o) q r h k = subst (λ (x : Phase). Goes x r) h k
+goes_trans other Waits r h k = absurd (true≢false h)
 
 goes_done : (p : Phase) (b : Bool) → (is_issued_in p && b) ≡ true → Goes p (Ended Done)
 goes_done Waits b h = tt
-goes_done Issued b h = refl
-goes_done Aside b h = refl
 goes_done (Ended o) b h = absurd (false≢true h)
+goes_done other b h = refl
 
 second : (b c : Bool) → (b && c) ≡ true → c ≡ true
 second true c h = h
@@ -66,27 +62,22 @@ first false c h = absurd (false≢true h)
 -- what has not ended ends, or is set aside
 goes_ended : (p : Phase) (o : Outcome) → not (has_ended_in p) ≡ true → Goes p (Ended o)
 goes_ended Waits o h = tt
-goes_ended Issued o h = refl
-goes_ended Aside o h = refl
 goes_ended (Ended q) o h = absurd (false≢true h)
+goes_ended other o h = refl
 
 goes_aside : (p : Phase) → not (has_ended_in p) ≡ true → Goes p Aside
 goes_aside Waits h = tt
-goes_aside Issued h = refl
-goes_aside Aside h = refl
 goes_aside (Ended q) h = absurd (false≢true h)
+goes_aside other h = refl
 
 aside_open : (p : Phase) → is_aside_in p ≡ true → not (has_ended_in p) ≡ true
-aside_open Waits h = absurd (false≢true h)
-aside_open Issued h = absurd (false≢true h)
 aside_open Aside h = refl
-aside_open (Ended q) h = absurd (false≢true h)
+aside_open other h = absurd (false≢true h)
 
 goes_issued : (p : Phase) → waits_in p ≡ true → Goes p Issued
 goes_issued Waits h = tt
 goes_issued Issued h = refl
-goes_issued Aside h = absurd (false≢true h)
-goes_issued (Ended o) h = absurd (false≢true h)
+goes_issued other h = absurd (false≢true h)
 
 -- ---- requests
 
@@ -175,9 +166,7 @@ keeps_staged dev stage entries s = keeps_same (entry_at entries s)
 
 waits_only : (p : Phase) → waits_in p ≡ true → is_aside_in p ≡ false
 waits_only Waits h = refl
-waits_only Issued h = absurd (false≢true h)
-waits_only Aside h = absurd (false≢true h)
-waits_only (Ended o) h = absurd (false≢true h)
+waits_only other h = absurd (false≢true h)
 
 spared : (test : Head → Bool) (phase : Phase) (o : Option Entry) → holds test o ≡ false → rephase test phase o ≡ o
 spared test phase o h = ap (λ (b : Bool). if b then option_map (rephased phase) o else o) h
@@ -293,14 +282,12 @@ keeps_seen v d s =
 
 keeps_acted : (a : Option Act) (file : TaskFile) (d : Driver) → May d.plan d.entries a → (s : ℕ) → Keeps (entry_at d.entries s) (entry_at (acted a file d).entries s)
 unfolding entries_after
-keeps_acted None file d h s = keeps_same (entry_at d.entries s)
-keeps_acted (Some (act.Opens k)) file d h s = keeps_same (entry_at d.entries s)
 keeps_acted (Some act.Stops) file d h s = keeps_stopped d.entries s
-keeps_acted (Some (act.Restarts k)) file d h s = keeps_same (entry_at d.entries s)
 keeps_acted (Some (act.Clears dev)) file d h s = keeps_set_aside dev d.entries s
 keeps_acted (Some (act.Orders order)) file d h s = keeps_removed order d.entries s
 keeps_acted (Some (act.Steps dev stage)) file d h s = keeps_staged dev stage d.entries s
 keeps_acted (Some (act.Issues slot dev queued)) file d h s = keeps_set d.entries slot s (waits_if_may d.plan (entry_at d.entries slot) h)
+keeps_acted other file d h s = keeps_same (entry_at d.entries s)
 
 pub keeps_tick : (v : Sight) (file : TaskFile) (d : Driver) (s : ℕ) → Keeps (entry_at d.entries s) (entry_at (after_tick v file d).entries s)
 unfolding after_tick
@@ -326,14 +313,12 @@ length_staged dev stage entries = refl
 
 same_acted : (a : Option Act) (file : TaskFile) (d : Driver) → Same d (acted a file d)
 unfolding entries_after
-same_acted None file d = record { given = refl; slots = refl }
-same_acted (Some (act.Opens k)) file d = record { given = refl; slots = refl }
 same_acted (Some act.Stops) file d = record { given = refl; slots = length_of_rephased is_open (Ended PortError) d.entries }
-same_acted (Some (act.Restarts k)) file d = record { given = refl; slots = refl }
 same_acted (Some (act.Clears dev)) file d = record { given = refl; slots = length_of_rephased (is_open_of dev) Aside d.entries }
 same_acted (Some (act.Orders order)) file d = record { given = refl; slots = same_removed order d.entries }
 same_acted (Some (act.Steps dev stage)) file d = record { given = refl; slots = length_staged dev stage d.entries }
 same_acted (Some (act.Issues slot dev queued)) file d = record { given = refl; slots = length-set d.entries slot _ }
+same_acted other file d = record { given = refl; slots = refl }
 
 pub slots_seen : (v : Sight) (d : Driver) → length (seen v d).entries ≡ length d.entries
 slots_seen v d = length_logged v.log (turn v d).logged (done_ended v.issued d.entries) ∙ length_of_rephased (is_done v.issued) (Ended Done) d.entries

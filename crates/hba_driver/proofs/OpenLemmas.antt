@@ -101,13 +101,7 @@ stays_posted : (r : Registers) (dev : ℕ) (b : Bool) (fis : Option Fis) → Sta
 unfolding posted
 stays_posted r dev b None = stays_same r r refl
 stays_posted r dev b (Some (view.RegH2D f)) = stays_same r r refl
-stays_posted r dev b (Some (view.RegD2H f)) = record { list = refl; list_high = refl; area = refl; area_high = refl; switches = refl; receives = refl; starts = refl; armed = refl }
-stays_posted r dev b (Some (view.SetBits f)) = record { list = refl; list_high = refl; area = refl; area_high = refl; switches = refl; receives = refl; starts = refl; armed = refl }
-stays_posted r dev b (Some (view.DmaActivate f)) = record { list = refl; list_high = refl; area = refl; area_high = refl; switches = refl; receives = refl; starts = refl; armed = refl }
-stays_posted r dev b (Some (view.DmaSetup f)) = record { list = refl; list_high = refl; area = refl; area_high = refl; switches = refl; receives = refl; starts = refl; armed = refl }
-stays_posted r dev b (Some (view.PioSetup f)) = record { list = refl; list_high = refl; area = refl; area_high = refl; switches = refl; receives = refl; starts = refl; armed = refl }
-stays_posted r dev b (Some (view.Payload f)) = record { list = refl; list_high = refl; area = refl; area_high = refl; switches = refl; receives = refl; starts = refl; armed = refl }
-stays_posted r dev b (Some (view.Unknown f)) = record { list = refl; list_high = refl; area = refl; area_high = refl; switches = refl; receives = refl; starts = refl; armed = refl }
+stays_posted r dev b other = record { list = refl; list_high = refl; area = refl; area_high = refl; switches = refl; receives = refl; starts = refl; armed = refl }
 
 stays_settled : (r : Registers) (dev : ℕ) (b : Bool) (fis : Option Fis) (h : Heard) → Stays r (settled (posted_of r dev b fis) h)
 unfolding settled
@@ -123,10 +117,9 @@ stays_gives Nothing old memory frame new gives = stays_port old new gives.1
 stays_gives (Unreadable dev) old memory frame new gives =
     subst (Stays old.registers) (sym (ap (λ (p : Port). p.registers) gives.1))
     (record { list = refl; list_high = refl; area = refl; area_high = refl; switches = refl; receives = refl; starts = refl; armed = refl })
-stays_gives (Data dev offset len command) old memory None new gives = absurd gives
 stays_gives (Data dev offset len command) old memory (Some f) new gives = stays_same old.registers new.registers gives.registers
-stays_gives (Order dev slot command) old memory None new gives = absurd gives
 stays_gives (Order dev slot command) old memory (Some f) new gives = stays_same old.registers new.registers gives.registers
+stays_gives other old memory None new gives = absurd gives
 
 pub stays_took : (old new : Host) (frame : List ℕ) (report : TakeReport) → Does old (Took frame report) new → Stays old.port.registers new.port.registers
 stays_took old new frame report h =

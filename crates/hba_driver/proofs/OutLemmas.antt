@@ -87,14 +87,9 @@ out_same p q slot dev is h = subst (λ (x : Port). HasOut x slot dev) (sym is) h
 -- an event that a frame may be, or a command that goes out
 abbrev Goes : Event → Type 0
 Goes (Issued slot t) = ⊥
-Goes (Sent slot) = Unit {0}
 Goes (SentControl slot) = ⊥
-Goes (SetUp tag offset count to_host) = Unit {0}
-Goes (PioSetUp count to_host ends) = Unit {0}
-Goes (Carried bytes) = Unit {0}
-Goes Answered = Unit {0}
-Goes (Named mask) = Unit {0}
 Goes Emptied = ⊥
+Goes other = Unit {0}
 
 still_by : (s : ℕ) (b : Bool) (t : Transfer) → b ≡ false → unless b (Some t) ≡ Some t
 still_by s true t h = absurd (true≢false h)
@@ -125,17 +120,15 @@ still_own n dev s e past t is here = by_test (eqb dev n) refl
 
 -- which events a frame is
 happening_goes : (x : Happening) (block : Option Block) (payload : List ℕ) (e : Event) → event_of x block payload ≡ Some e → Goes e
-happening_goes happening.Nothing block payload e h = cc
 happening_goes (happening.Answered answer.Nobody) block payload e h = subst Goes (some_inj Answered e h) tt
 happening_goes (happening.Answered (answer.Queued slot)) block payload e h = subst Goes (some_inj Answered e h) tt
 happening_goes (happening.Answered (answer.Done slot)) block payload e h = subst Goes (some_inj Answered e h) tt
-happening_goes (happening.Answered (answer.Short slot)) block payload e h = cc
 happening_goes (happening.Named mask) block payload e h = subst Goes (some_inj (Named mask) e h) tt
 happening_goes (happening.SetUp c) block payload e h = subst Goes (some_inj (SetUp c.slot c.next c.left c.to_host) e h) tt
 happening_goes (happening.PioSetUp count to_host) None payload e h = cc
 happening_goes (happening.PioSetUp count to_host) (Some b) payload e h = subst Goes (some_inj (PioSetUp count to_host b.ends) e h) tt
-happening_goes happening.Activated block payload e h = cc
 happening_goes (happening.Carried wrote finishes) block payload e h = subst Goes (some_inj (Carried payload) e h) tt
+happening_goes other block payload e h = cc
 
 taken_goes : (host : event.Host) (frame : List ℕ) (e : Event) → event_taken host frame ≡ Some e → Goes e
 taken_goes host frame e h = by_ignored (ignores (port_of frame) host.port frame) h
@@ -331,21 +324,9 @@ off_where false true h = refl
 off_where a false h = absurd (false≢true h)
 
 no_fall : (o : Option Register) (r : Registers) (value : ℕ) → lasting o value ≡ true → MatchOption o (Unit {0}) (λ g. NoFall g r value)
-no_fall None r value h = tt
 no_fall (Some Cmd) r value h = off_where r.started (has_bit value 0) h
-no_fall (Some Clb) r value h = tt
-no_fall (Some Clbu) r value h = tt
-no_fall (Some Fb) r value h = tt
-no_fall (Some Fbu) r value h = tt
-no_fall (Some Is) r value h = tt
-no_fall (Some Ie) r value h = tt
-no_fall (Some Tfd) r value h = tt
-no_fall (Some Sig) r value h = tt
-no_fall (Some Serr) r value h = tt
-no_fall (Some Sact) r value h = tt
-no_fall (Some Ci) r value h = tt
-no_fall (Some Sntf) r value h = tt
 no_fall (Some Fbs) r value h = h
+no_fall other r value h = tt
 
 other_port : (n dev : ℕ) → (n == dev) ≡ false → dev ≢ n
 other_port n dev h same = true≢false (sym (equal_is n dev (sym same)) ∙ h)
@@ -407,12 +388,11 @@ pub lasting_act : (mode : Mode) (a : Option Act) → is_calm a ≡ true → ((k 
 unfolding effects_of
 lasting_act mode None calm opens = refl
 lasting_act mode (Some (act.Opens k)) calm opens = absurd (opens k refl)
-lasting_act mode (Some act.Stops) calm opens = absurd (false≢true calm)
 lasting_act mode (Some (act.Restarts k)) calm opens = rw (lasting_restart k) refl
-lasting_act mode (Some (act.Clears dev)) calm opens = absurd (false≢true calm)
 lasting_act mode (Some (act.Orders order)) calm opens = lasting_order mode order
 lasting_act mode (Some (act.Steps dev stage)) calm opens = lasting_sending mode 30 dev (stage_fields dev stage) (reads_page stage)
 lasting_act mode (Some (act.Issues slot dev queued)) calm opens = lasting_issuing mode slot dev queued
+lasting_act mode other calm opens = absurd (false≢true calm)
 
 -- ---- another device is cleared
 
@@ -465,28 +445,14 @@ clears_none (Some Fbs) value = not (has_bit value dec)
 clears_none o value = true
 
 stopped_fall : (o : Option Register) (r : Registers) (value : ℕ) → r.started ≡ false → clears_none o value ≡ true → MatchOption o (Unit {0}) (λ g. NoFall g r value)
-stopped_fall None r value h none = tt
 stopped_fall (Some Cmd) r value h none = ap (λ (b : Bool). b && not (has_bit value 0)) h
-stopped_fall (Some Clb) r value h none = tt
-stopped_fall (Some Clbu) r value h none = tt
-stopped_fall (Some Fb) r value h none = tt
-stopped_fall (Some Fbu) r value h none = tt
-stopped_fall (Some Is) r value h none = tt
-stopped_fall (Some Ie) r value h none = tt
-stopped_fall (Some Tfd) r value h none = tt
-stopped_fall (Some Sig) r value h none = tt
-stopped_fall (Some Serr) r value h none = tt
-stopped_fall (Some Sact) r value h none = tt
-stopped_fall (Some Ci) r value h none = tt
-stopped_fall (Some Sntf) r value h none = tt
 stopped_fall (Some Fbs) r value h none = none
+stopped_fall other r value h none = tt
 
 -- a write that clears no device
 abbrev pub is_write : Effect → Bool
 is_write (effect.Writes offset value) = clears_none (register_at offset) value
-is_write (effect.Flushes dev) = false
-is_write (effect.Empties dev) = false
-is_write (effect.Commands slot fields buffer) = false
+is_write other = false
 
 pub opening_is : (mode : Mode) (k : ℕ) → is_write (opening_write mode k) ≡ true
 unfolding opening_write register_at
@@ -498,8 +464,7 @@ pub kept_stopped : (e : Effect) (old new : Port) (before after : Memory) (dev s 
 kept_stopped (effect.Writes offset value) old new before after dev s i is stopped below acts table here =
     kept_write (register_at offset) offset value old new before dev s i refl (stopped_fall (register_at offset) old.registers value stopped is) below acts.0 table here
 kept_stopped (effect.Flushes n) old new before after dev s i is stopped below acts table here = absurd (false≢true is)
-kept_stopped (effect.Empties n) old new before after dev s i is stopped below acts table here = absurd (false≢true is)
-kept_stopped (effect.Commands slot fields buffer) old new before after dev s i is stopped below acts table here = absurd (false≢true is)
+kept_stopped other old new before after dev s i is stopped below acts table here = absurd (false≢true is)
 
 pub out_opening : (mode : Mode) (k : ℕ) (old new : Port) (before after : Memory) (slot dev : ℕ) → old.registers.started ≡ false → dev < 16 → ActsAll (opening_write mode k ∷ []) old before new after → IsTable old.slots → HasOut old slot dev → HasOut new slot dev
 unfolding ActsAll

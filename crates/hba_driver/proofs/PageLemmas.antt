@@ -148,10 +148,8 @@ SamePage old new = Same page_at 16 old new
 
 -- what writes no command into slot 30
 abbrev spares_page : Effect → Bool
-spares_page (effect.Writes offset value) = true
-spares_page (effect.Flushes dev) = true
-spares_page (effect.Empties dev) = true
 spares_page (effect.Commands slot fields buffer) = nat_lt 30 slot
+spares_page other = true
 
 same_page : (s t : List ℕ) → t ≡ s → length s ≡ 1048576 → SamePage s t
 same_page s t same long = record { long = ap (λ (l : List ℕ). length l) same ∙ long; agree = λ i h. ap (λ (l : List ℕ). slice_index l (page_at + i)) (sym same) }
@@ -201,27 +199,16 @@ spares_restarts k = all_at spares_page restart_writes k _ refl refl
 spares_order : (order : Order) → list_all spares_page (order_effects Switching order) ≡ true
 unfolding order_fields order_effects
 spares_order ResetOn = refl
-spares_order ResetOff = refl
-spares_order AwaitSignature = refl
-spares_order CountPorts = refl
-spares_order SetMask = refl
-spares_order Enable = refl
-spares_order (Open port) = refl
-spares_order Scan = refl
-spares_order (Clear port) = refl
-spares_order (Detect port) = refl
-spares_order Watch = refl
+spares_order other = refl
 
 spares_due : (a : Option Act) → Elsewhere a → list_all spares_page (effects_due Switching a) ≡ true
 unfolding effects_of
-spares_due None other = refl
 spares_due (Some (act.Opens k)) other = rw (spares_opens k) refl
-spares_due (Some act.Stops) other = refl
 spares_due (Some (act.Restarts k)) other = rw (spares_restarts k) refl
-spares_due (Some (act.Clears dev)) other = refl
 spares_due (Some (act.Orders order)) other = spares_order order
 spares_due (Some (act.Steps dev stage)) other = absurd other
 spares_due (Some (act.Issues slot dev queued)) other = spares_issuing slot dev queued
+spares_due rest other = refl
 
 -- ---- the table as it is written
 
@@ -252,9 +239,7 @@ page_stage : (dev : ℕ) (stage : Stage) (old new : Port) (before after : Memory
 unfolding stage_fields
 page_stage dev Identify old new before after reads m acts = page_written dev _ old new before after m acts
 page_stage dev (ReadLog file) old new before after reads m acts = page_written dev _ old new before after m acts
-page_stage dev AssertReset old new before after reads m acts = absurd (false≢true reads)
-page_stage dev ReleaseReset old new before after reads m acts = absurd (false≢true reads)
-page_stage dev AwaitReset old new before after reads m acts = absurd (false≢true reads)
+page_stage dev other old new before after reads m acts = absurd (false≢true reads)
 
 -- ---- over a turn
 

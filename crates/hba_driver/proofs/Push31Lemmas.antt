@@ -57,14 +57,8 @@ unfolding order_fields work_of
 control_is ResetOn f h = kind_by true _ f refl h
 control_is ResetOff f h = kind_by true _ f refl h
 control_is AwaitSignature f h = kind_none false f h
-control_is CountPorts f h = kind_by false _ f refl h
-control_is SetMask f h = kind_by false _ f refl h
-control_is Enable f h = kind_by false _ f refl h
-control_is (Open port) f h = kind_by false _ f refl h
-control_is Scan f h = kind_by false _ f refl h
-control_is (Clear port) f h = kind_by false _ f refl h
-control_is (Detect port) f h = kind_by false _ f refl h
 control_is Watch f h = kind_none false f h
+control_is other f h = kind_by false _ f refl h
 
 -- none moves data
 abbrev pub IsPlain : H2dFields → Type 0
@@ -78,17 +72,9 @@ plain_none f h = cc
 
 plain_is : (order : Order) (f : H2dFields) → order_fields order ≡ Some f → IsPlain f
 unfolding order_fields work_of
-plain_is ResetOn f h = plain_by _ f refl h
-plain_is ResetOff f h = plain_by _ f refl h
 plain_is AwaitSignature f h = plain_none f h
-plain_is CountPorts f h = plain_by _ f refl h
-plain_is SetMask f h = plain_by _ f refl h
-plain_is Enable f h = plain_by _ f refl h
-plain_is (Open port) f h = plain_by _ f refl h
-plain_is Scan f h = plain_by _ f refl h
-plain_is (Clear port) f h = plain_by _ f refl h
-plain_is (Detect port) f h = plain_by _ f refl h
 plain_is Watch f h = plain_none f h
+plain_is other f h = plain_by _ f refl h
 
 -- SRST is set in the first of the two
 on_control : (order : Order) (f : H2dFields) → is_on order ≡ true → order_fields order ≡ Some f → f.control ≡ 4

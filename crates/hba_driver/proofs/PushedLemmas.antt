@@ -183,9 +183,7 @@ plain_turn old (Took frame report) new does w h = by_ignored (ignores (port_of f
 plain_turn old (Pushed frame) new does w h =
     plain_as old.port new.port (ap (λ (l : List (Option Command)). last_command l 30) (gives_commands (outgoing old.port old.memory) old.port new.port old.memory frame does.gives)) h
 plain_turn old (Ticked did) new does w h = plain_ticked old new (due (sight_in old) old.driver) w refl (tick_acts old did new does w.sound) h
-plain_turn old (Submitted dev request ticket) new does w h = plain_as old.port new.port (ap (λ (p : Port). last_command p.commands 30) does.port) h
-plain_turn old (Polled completion) new does w h = plain_as old.port new.port (ap (λ (p : Port). last_command p.commands 30) does.port) h
-plain_turn old (Put at bytes) new does w h = plain_as old.port new.port (ap (λ (p : Port). last_command p.commands 30) does.port) h
+plain_turn old other new does w h = plain_as old.port new.port (ap (λ (p : Port). last_command p.commands 30) does.port) h
 
 plain_run : (old new : Host) (turns : List HostTurn) → DoesAll old turns new → IsOnWay old → IsPlain old.port → IsPlain new.port
 plain_run old new [] run w h = plain_as old.port new.port (ap (λ (x : Host). last_command x.port.commands 30) run) h
@@ -253,10 +251,9 @@ module _ (h new : Host) (frame : Stamped) (w : IsOnWay h) (plain : IsPlain h.por
           by_from i t.0 other (w.served.issues dev slot t.0 t.1)
 
   by_out : (o : Outgoing) → outgoing h.port h.memory ≡ o → out.Gives o h.port h.memory (Some frame) new.port → IsSomeCommand h frame
-  by_out out.Nothing is gives = let wrong : Some frame ≡ None = gives.0 in absurd (cc)
-  by_out (out.Unreadable dev) is gives = let wrong : Some frame ≡ None = gives.0 in absurd (cc)
   by_out (out.Data dev offset len command) is gives = absurd (true≢false (sym asks ∙ ap (λ (f : Stamped). is_request f.bytes) gives.frame_is))
   by_out (out.Order dev slot command) is gives = by_order dev slot command is (ap (λ (f : Stamped). f.stamp.port) gives.frame_is) (ap (λ (f : Stamped). f.bytes) gives.frame_is)
+  by_out other is gives = let wrong : Some frame ≡ None = gives.0 in absurd (cc)
 
   pub request_of_slot : Does h (Pushed (Some frame)) new → IsSomeCommand h frame
   request_of_slot does = by_out (outgoing h.port h.memory) refl does.gives

@@ -26,16 +26,13 @@ use Rattle.hba_driver.proofs.SteadyTurns.{is_ready_dev}
 
 -- what waits or is issued had not ended and was not set aside before
 live_goes : (p q : Phase) → Goes p q → (waits_in q || is_issued_in q) ≡ true → (waits_in p || is_issued_in p) ≡ true
-live_goes Waits q goes live = refl
-live_goes Issued q goes live = refl
 live_goes Aside q goes live = absurd (false≢true (sym goes ∙ live))
 live_goes (Ended o) q goes live = absurd (false≢true (ap (λ (x : Phase). waits_in x || is_issued_in x) (sym goes) ∙ live))
+live_goes other q goes live = refl
 
 live_open : (p : Phase) → (waits_in p || is_issued_in p) ≡ true → has_ended_in p ≡ true → ⊥
-live_open Waits live ended = false≢true ended
-live_open Issued live ended = false≢true ended
-live_open Aside live ended = false≢true ended
 live_open (Ended o) live ended = false≢true live
+live_open other live ended = false≢true ended
 
 module _ (n s : ℕ) (old : Host) (new : Host) (e : Entry) (live : IsLiveAt n s new.driver.entries e) where
   -- a live request ends in no tick
@@ -47,10 +44,7 @@ module _ (n s : ℕ) (old : Host) (new : Host) (e : Entry) (live : IsLiveAt n s 
         absurd (live_open e.head.phase live.lives (ticks_serve.ends (sight_in old) (file_shown new.port) old.driver n s e flushed here live.of_dev))
   ]
   unflushed (Took frame report) does = refl
-  unflushed (Pushed frame) does = refl
-  unflushed (Submitted dev request ticket) does = refl
-  unflushed (Polled completion) does = refl
-  unflushed (Put at bytes) does = refl
+  unflushed other does = refl
 
   stood : (turn : HostTurn) → Does old turn new → come.Stood old.driver turn s e → IsQueuedBy n s old turn e
   stood turn does it =
@@ -69,10 +63,7 @@ module _ (n s : ℕ) (old : Host) (new : Host) (e : Entry) (live : IsLiveAt n s 
       subst (λ (k : ℕ). IsQueuedBy k s old (Submitted dev request ticket) e) of
       (Taken request ticket refl (is_ready_dev old.driver old.memory dev request does.accepted) is refl)
   fresh (Took frame report) does it = absurd it
-  fresh (Pushed frame) does it = absurd it
-  fresh (Ticked acted) does it = absurd it
-  fresh (Polled completion) does it = absurd it
-  fresh (Put at bytes) does it = absurd it
+  fresh other does it = absurd it
 
   queued : (turn : HostTurn) → Does old turn new → IsQueuedBy n s old turn e
   queued turn does = elim (comes_from old turn new does s e live.stands) [

@@ -45,26 +45,17 @@ AllStand P h = (s : ℕ) (e : Entry) → entry_at h.driver.entries s ≡ Some e 
 
 stands_on : (P Q : ℕ → Entry → Type 0) (old new : Port) (s : ℕ) (e : Entry) (p : Phase) → (P s e → Q s e)
     → (p ≡ Issued → HasOut old s e.head.dev → Q s e ⊎ HasOut new s e.head.dev) → Stands P old s e p → Stands Q new s e p
-stands_on P Q old new s e Waits on out h = tt
 stands_on P Q old new s e Issued on out (inl h) = inl (on h)
 stands_on P Q old new s e Issued on out (inr h) = out refl h
-stands_on P Q old new s e Aside on out h = tt
 stands_on P Q old new s e (Ended Done) on out h = on h
-stands_on P Q old new s e (Ended (DeviceError status error)) on out h = tt
-stands_on P Q old new s e (Ended Aborted) on out h = tt
-stands_on P Q old new s e (Ended Removed) on out h = tt
-stands_on P Q old new s e (Ended PortError) on out h = tt
+stands_on P Q old new s e other on out h = tt
 
 pub all_wider : (P Q : ℕ → Entry → Type 0) (h : Host) → ((s : ℕ) (e : Entry) → P s e → Q s e) → AllStand P h → AllStand Q h
 all_wider P Q h wide all s e here = stands_on P Q h.port h.port s (rephased Waits e) e.head.phase (wide s (rephased Waits e)) (λ is out. inr out) (all s e here)
 
 stands_fresh : (Q : ℕ → Entry → Type 0) (port : Port) (s : ℕ) (old : Driver) (t : HostTurn) (f : Entry) → Fresh old t s f → Stands Q port s (rephased Waits f) f.head.phase
 stands_fresh Q port s old (Submitted dev request ticket) f is = subst (λ (x : Entry). Stands Q port s (rephased Waits x) x.head.phase) is.1 tt
-stands_fresh Q port s old (Took frame report) f is = absurd is
-stands_fresh Q port s old (Pushed frame) f is = absurd is
-stands_fresh Q port s old (Ticked a) f is = absurd is
-stands_fresh Q port s old (Polled c) f is = absurd is
-stands_fresh Q port s old (Put at bytes) f is = absurd is
+stands_fresh Q port s old other f is = absurd is
 
 -- ---- a turn
 
@@ -80,11 +71,9 @@ done_out p is = ap is_issued_in is
 
 -- what ended as Done was reported
 stands_free : (P : ℕ → Entry → Type 0) (port : Port) (s : ℕ) (e : Entry) (p : Phase) → issue_at port.slots s ≡ None → is_issued_in p ≡ true → Stands P port s e p → P s e
-stands_free P port s e Waits free is h = absurd (false≢true is)
 stands_free P port s e Issued free is (inl h) = h
 stands_free P port s e Issued free is (inr h) = none_some h.issue (sym free ∙ (own_in e.head.dev s port.slots h.issue h.is).1)
-stands_free P port s e Aside free is h = absurd (false≢true is)
-stands_free P port s e (Ended o) free is h = absurd (false≢true is)
+stands_free P port s e other free is h = absurd (false≢true is)
 
 module _ {mode : Mode} (P Q : ℕ → Entry → Type 0) (old : Host) (w : IsOnWayIn mode old) (stand : AllStand P old) (on : (s : ℕ) (e : Entry) → P s e → Q s e) where
   low_slot : (s : ℕ) (e : Entry) → entry_at old.driver.entries s ≡ Some e → s < 32
@@ -196,14 +185,9 @@ module _ {mode : Mode} (P Q : ℕ → Entry → Type 0) (old : Host) (w : IsOnWa
       as_phase p is h = subst (λ (x : Phase). Stands Q new.port s (rephased Waits f) x) (sym is) h
 
       by_phase : (p : Phase) → f.head.phase ≡ p → Stands Q new.port s (rephased Waits f) f.head.phase
-      by_phase Waits is = as_phase Waits is tt
       by_phase Issued is = as_phase Issued is (issued_stands is e.head.phase refl)
-      by_phase Aside is = as_phase Aside is tt
       by_phase (Ended Done) is = as_phase (Ended Done) is (done_stands is)
-      by_phase (Ended (DeviceError status error)) is = as_phase (Ended (DeviceError status error)) is tt
-      by_phase (Ended Aborted) is = as_phase (Ended Aborted) is tt
-      by_phase (Ended Removed) is = as_phase (Ended Removed) is tt
-      by_phase (Ended PortError) is = as_phase (Ended PortError) is tt
+      by_phase other is = as_phase other is tt
 
     tick_stands : AllStand Q new
     tick_stands s f here = elim (comes_from old (Ticked a) new does s f here) [

@@ -74,10 +74,7 @@ reported_first (Took frame report) turns old new run s e r =
       issued = r.0;
     }
 reported_first (Pushed frame) turns old new run s e r = absurd (false≢true r.1)
-reported_first (Ticked a) turns old new run s e r = absurd (false≢true r.1)
-reported_first (Submitted dev request ticket) turns old new run s e r = absurd (false≢true r.1)
-reported_first (Polled c) turns old new run s e r = absurd (false≢true r.1)
-reported_first (Put at bytes) turns old new run s e r = absurd (false≢true r.1)
+reported_first other turns old new run s e r = absurd (false≢true r.1)
 
 reported_later : (t : HostTurn) (turns : List HostTurn) (old new : Host) (run : DoesAll old (t ∷ turns) new) (s : ℕ) (e : Entry) → ReportedIn run.0 new turns run.2 s e → ReportedIn old new (t ∷ turns) run s e
 unfolding later_turn
@@ -125,10 +122,7 @@ submitted_first (Submitted dev request ticket) turns old new run s f fresh = rec
   is = ap (λ (n : ℕ). new_entry n dev request) run.1.taken.next ∙ ap (rephased Waits) fresh.1;
 }
 submitted_first (Took frame report) turns old new run s f fresh = absurd fresh
-submitted_first (Pushed frame) turns old new run s f fresh = absurd fresh
-submitted_first (Ticked a) turns old new run s f fresh = absurd fresh
-submitted_first (Polled c) turns old new run s f fresh = absurd fresh
-submitted_first (Put at bytes) turns old new run s f fresh = absurd fresh
+submitted_first other turns old new run s f fresh = absurd fresh
 
 submitted_later : (t : HostTurn) (turns : List HostTurn) (old new : Host) (run : DoesAll old (t ∷ turns) new) (e : Entry) → SubmittedIn run.0 new turns run.2 e → SubmittedIn old new (t ∷ turns) run e
 submitted_later t turns old new run e i = record {

@@ -243,7 +243,6 @@ requests_taken last old slot x new h is ticket free =
     }
   where
     or_comm : (a b : Bool) → (a || b) ≡ true → (b || a) ≡ true
-    or_comm true true h = refl
     or_comm true false h = refl
-    or_comm false true h = refl
     or_comm false false h = h
+    or_comm other true h = refl

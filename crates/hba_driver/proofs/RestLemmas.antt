@@ -38,15 +38,7 @@ met_quiet : (v : Sight) (o : Order) → ((awaits o && not v.resetting) || (watch
 unfolding met_order
 met_quiet v AwaitSignature n = waits_on v.resetting _ (or_parts (not v.resetting) false n).0
 met_quiet v Watch n = watches_on v.notified n
-met_quiet v ResetOn n = refl
-met_quiet v ResetOff n = refl
-met_quiet v CountPorts n = refl
-met_quiet v SetMask n = refl
-met_quiet v Enable n = refl
-met_quiet v (Open p) n = refl
-met_quiet v Scan n = refl
-met_quiet v (Clear p) n = refl
-met_quiet v (Detect p) n = refl
+met_quiet v other n = refl
 
 abbrev with_order : Order → Plan → Plan
 with_order o plan = record plan { order = o }
@@ -104,10 +96,7 @@ waits_for false h = absurd (true≢false h)
 stage_quiet : (v : Sight) (dev : ℕ) (s : Stage) → (awaits_reset s && not (is_in_reset v dev)) ≡ false → met_stage v dev s ≡ s
 unfolding met_stage
 stage_quiet v dev stage.AwaitReset h = waits_for (is_in_reset v dev) h
-stage_quiet v dev Identify h = refl
-stage_quiet v dev (ReadLog file) h = refl
-stage_quiet v dev AssertReset h = refl
-stage_quiet v dev ReleaseReset h = refl
+stage_quiet v dev other h = refl
 
 abbrev with_stage : Path → Stage → Path
 with_stage path s = record path { stage = s }

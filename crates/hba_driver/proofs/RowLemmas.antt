@@ -77,10 +77,8 @@ byte_of n i s low below =
 
 -- the row of the device is not emptied
 abbrev spares : ℕ → Effect → Bool
-spares n (effect.Writes offset value) = true
-spares n (effect.Flushes dev) = true
 spares n (effect.Empties dev) = not (dev == n)
-spares n (effect.Commands slot fields buffer) = true
+spares n other = true
 
 here : (n : ℕ) (s : List ℕ) → length s ≡ 1048576 → Same (place n) 20 s s
 here n s long = record { long = long; agree = λ i h. refl }
@@ -120,24 +118,12 @@ and_true b h = ap (λ (x : Bool). x && true) h
 spares_order : (n : ℕ) (order : Order) → order ≢ Clear n → list_all (spares n) (order_effects Switching order) ≡ true
 unfolding order_effects order_fields
 spares_order n (Clear port) other = ap (λ (b : Bool). not b && true) (ne_eqb port n (λ same. other (ap Clear same)))
-spares_order n ResetOn other = refl
-spares_order n ResetOff other = refl
-spares_order n AwaitSignature other = refl
-spares_order n CountPorts other = refl
-spares_order n SetMask other = refl
-spares_order n Enable other = refl
-spares_order n (Open port) other = refl
-spares_order n Scan other = refl
-spares_order n (Detect port) other = refl
-spares_order n Watch other = refl
+spares_order n rest other = refl
 
 spares_stage : (n dev : ℕ) (stage : Stage) → list_all (spares n) (stage_effects Switching dev stage) ≡ true
 unfolding stage_fields
 spares_stage n dev Identify = refl
-spares_stage n dev (ReadLog file) = refl
-spares_stage n dev AssertReset = refl
-spares_stage n dev ReleaseReset = refl
-spares_stage n dev AwaitReset = refl
+spares_stage n dev other = refl
 
 spares_issuing : (n slot dev : ℕ) (queued : Bool) → list_all (spares n) (issuing Switching slot dev queued) ≡ true
 spares_issuing n slot dev true = refl
@@ -145,14 +131,12 @@ spares_issuing n slot dev false = refl
 
 spares_act : (n : ℕ) (a : Option Act) → IsCalmAct n a → list_all (spares n) (effects_due Switching a) ≡ true
 unfolding effects_of opening_write restart_write
-spares_act n None calm = refl
 spares_act n (Some (act.Opens k)) calm = and_true _ (all_at (spares n) (opening_writes Switching) k _ refl refl)
-spares_act n (Some act.Stops) calm = refl
 spares_act n (Some (act.Restarts k)) calm = and_true _ (all_at (spares n) restart_writes k _ refl refl)
-spares_act n (Some (act.Clears dev)) calm = refl
 spares_act n (Some (act.Orders order)) calm = spares_order n order calm
 spares_act n (Some (act.Steps dev stage)) calm = spares_stage n dev stage
 spares_act n (Some (act.Issues slot dev queued)) calm = spares_issuing n slot dev queued
+spares_act n other calm = refl
 
 -- ---- a FIS is posted
 
@@ -168,14 +152,11 @@ equal_of : (a b : ℕ) → (a == b) ≡ true → a ≡ b
 equal_of a b h = grind (arith, nat_tests)
 
 size_as : (k : Kind) (frame : List ℕ) → may_have k (length frame) ≡ true → IsSized (view_as k frame)
-size_as H2d frame h = tt
 size_as D2h frame h = equal_of (length frame) 20 h
-size_as Activate frame h = tt
 size_as Setup frame h = equal_of (length frame) 28 h
-size_as Data frame h = tt
 size_as Pio frame h = equal_of (length frame) 20 h
 size_as Bits frame h = equal_of (length frame) 8 h
-size_as Other frame h = tt
+size_as other frame h = tt
 
 abbrev shows : Fis → Result Fis FisFault
 shows fis = Ok fis
@@ -209,9 +190,7 @@ own_row row (view.Unknown f) long size other = by_test (nat_le (length f) 64) re
     by_test true h = let few : length f ≤ 64 = le_of (length f) 64 h in agree_beside row 96 f 64 20 (omega (arith, long, few)) (inl (omega arith))
     by_test false h = agree_beside row 0 [] 64 20 (omega (arith, long)) (inr (omega arith))
 own_row row (view.RegD2H f) long size other = absurd other
-own_row row (view.RegH2D f) long size other = agree_beside row 0 [] 64 20 (omega (arith, long)) (inr (omega arith))
-own_row row (view.DmaActivate f) long size other = agree_beside row 0 [] 64 20 (omega (arith, long)) (inr (omega arith))
-own_row row (view.Payload f) long size other = agree_beside row 0 [] 64 20 (omega (arith, long)) (inr (omega arith))
+own_row row rest long size other = agree_beside row 0 [] 64 20 (omega (arith, long)) (inr (omega arith))
 
 pub row_long : (n : ℕ) (s : List ℕ) → n < 16 → length s ≡ 1048576 → length (rx.row_of (area_at s 4096) n) ≡ 256
 row_long n s low long =
@@ -259,13 +238,7 @@ posted_of n dev fb frame old new low area long which posts = by_seen (seen frame
 
     plain : (fis : Fis) → seen frame ≡ Ok fis → ((f : List ℕ) → seen frame ≡ Ok (view.RegD2H f) → ⊥) → IsNoRegister fis
     plain (view.RegD2H f) is not_one = not_one f is
-    plain (view.RegH2D f) is not_one = tt
-    plain (view.SetBits f) is not_one = tt
-    plain (view.DmaActivate f) is not_one = tt
-    plain (view.DmaSetup f) is not_one = tt
-    plain (view.PioSetup f) is not_one = tt
-    plain (view.Payload f) is not_one = tt
-    plain (view.Unknown f) is not_one = tt
+    plain other is not_one = tt
 
     by_test : (fis : Fis) (b : Bool) → seen frame ≡ Ok fis → PostsOf fb dev (if b then Some fis else None) old new → AgreeFrom (place n) 20 old new
     by_test fis false is h = none h

@@ -197,8 +197,7 @@ acted_other (Some (act.Restarts k)) file d other = inl refl
 acted_other (Some (act.Clears dev)) file d other =
     either (λ (q : Plan). (control_in q ≡ control_in d.plan) ⊎ (q.order ≡ ResetOn)) (nat_lt dev 15) (recovering dev file d.plan) (from_reset d.plan) (inl refl) (inr refl)
 acted_other (Some (act.Orders order)) file d other = absurd other
-acted_other (Some (act.Steps dev stage)) file d other = inl refl
-acted_other (Some (act.Issues slot dev queued)) file d other = inl refl
+acted_other rest file d other = inl refl
 
 pub moves : (v : Sight) (file : TaskFile) (d : Driver) → Moves v d.plan (after_tick v file d).plan (due v d)
 unfolding after_tick

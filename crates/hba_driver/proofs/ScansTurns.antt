@@ -425,11 +425,7 @@ asking_none n stage old frame at asked =
 module _ (n : ℕ) (named : Bool) (stage : Stage31) (old new : Host) (at : IsAt31 stage old) (known : found n old ≡ true → named ≡ true) where
   named_clears : (turn : HostTurn) → ScansOn n stage old turn new → ClearsNamed n named old turn
   named_clears (Ticked acted) s = λ flushed. known (s.clears flushed).0
-  named_clears (Took frame report) s = tt
-  named_clears (Pushed frame) s = tt
-  named_clears (Submitted dev request ticket) s = tt
-  named_clears (Polled c) s = tt
-  named_clears (Put place bytes) s = tt
+  named_clears other s = tt
 
   was_named : (turn : HostTurn) → ScansOn n stage old turn new → (Finds n stage old turn → ⊥) → found n new ≡ true → named ≡ true
   was_named turn s never some = elim (cases_Bool (found n old)) [ inl was ↦ known was | inr none ↦ absurd (never (s.begins none some)) ]
@@ -448,9 +444,7 @@ module _ (n : ℕ) (named : Bool) (stage : Stage31) (old new : Host) (at : IsAt3
     | inr not_flushed ↦ and_from named (not (orders_clear n old)) (was_named (Ticked acted) s (λ never. never) some) (not_from_false (orders_clear n old) not_flushed)
   ]
   named_then (Pushed frame) s some = was_named (Pushed frame) s (λ never. never) some
-  named_then (Submitted dev request ticket) s some = was_named (Submitted dev request ticket) s (λ never. never) some
-  named_then (Polled c) s some = was_named (Polled c) s (λ never. never) some
-  named_then (Put place bytes) s some = was_named (Put place bytes) s (λ never. never) some
+  named_then other s some = was_named other s (λ never. never) some
 
 scans_over : (turns : List HostTurn) (old new : Host) (run : DoesAll old turns new) → IsGoing old → (stage : Stage31) → IsAt31 stage old → IsFound old.driver.plan → (n : ℕ) → n < 15
     → (named : Bool) → (found n old ≡ true → named ≡ true) → Scans n named stage old turns new run

@@ -73,11 +73,8 @@ issues_none CommandBased dev slot other false = refl
 
 steps_none : (mode : Mode) (dev other : ℕ) (stage : Stage) → list_any (flushes dev) (stage_effects mode other stage) ≡ false
 unfolding stage_fields
-steps_none mode dev other Identify = issues_none mode dev 30 other false
-steps_none mode dev other (ReadLog file) = issues_none mode dev 30 other false
-steps_none mode dev other AssertReset = issues_none mode dev 30 other false
-steps_none mode dev other ReleaseReset = issues_none mode dev 30 other false
 steps_none mode dev other AwaitReset = refl
+steps_none mode dev other rest = issues_none mode dev 30 other false
 
 -- an order flushes only the port that it clears
 abbrev ClearsPort : ℕ → Order → Type 0
@@ -116,14 +113,12 @@ clears mode dev Watch h = absurd (false≢true h)
 
 pub act_clears : (mode : Mode) (dev : ℕ) (a : Option Act) → list_any (flushes dev) (effects_due mode a) ≡ true → a ≡ Some (act.Orders (Clear dev))
 unfolding effects_of
-act_clears mode dev None h = absurd (false≢true h)
 act_clears mode dev (Some (act.Opens k)) h = absurd (false≢true (sym (opens_none mode dev k) ∙ h))
-act_clears mode dev (Some act.Stops) h = absurd (false≢true h)
 act_clears mode dev (Some (act.Restarts k)) h = absurd (false≢true (sym (restarts_none mode dev k) ∙ h))
-act_clears mode dev (Some (act.Clears other)) h = absurd (false≢true h)
 act_clears mode dev (Some (act.Orders order)) h = ap (λ (o : Order). Some (act.Orders o)) (clears mode dev order h)
 act_clears mode dev (Some (act.Steps other stage)) h = absurd (false≢true (sym (steps_none mode dev other stage) ∙ h))
 act_clears mode dev (Some (act.Issues slot other queued)) h = absurd (false≢true (sym (issues_none mode dev slot other queued) ∙ h))
+act_clears mode dev rest h = absurd (false≢true h)
 
 -- what is due tells what becomes of the driver
 tick_of : (v : Sight) (file : TaskFile) (d : Driver) (a : Act) → due v d ≡ Some a → after_tick v file d ≡ acted (Some a) file (seen v d)

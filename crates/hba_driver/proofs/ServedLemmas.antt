@@ -86,10 +86,8 @@ else_entry true x y h = absurd (true≢false h)
 else_entry false x y h = refl
 
 issued_unaside : (p : Phase) → is_issued_in p ≡ true → is_aside_in p ≡ false
-issued_unaside Waits h = refl
-issued_unaside Issued h = refl
 issued_unaside Aside h = absurd (false≢true h)
-issued_unaside (Ended o) h = refl
+issued_unaside other h = refl
 
 module _ (mode : Mode) (port : Port) (memory : Memory) (d : Driver) (past : Touches) (host : sound.IsHost (beside port memory)) (served : IsServed d (beside port memory) past) where
   -- what is issued has its bit
@@ -195,10 +193,9 @@ kept_sent past k dev slot true = k
 kept_sent past k dev slot false = k
 
 kept_out : (past : Touches) → AreApart past → IsKept past → (host : event.Host) (o : Outgoing) → IsKept (touched_by_out host o ++ past)
-kept_out past apart k host out.Nothing = k
-kept_out past apart k host (out.Unreadable dev) = k
 kept_out past apart k host (out.Data dev offset len command) = (apart, k)
 kept_out past apart k host (out.Order dev slot command) = kept_sent past k dev slot (issue_holds is_control_issue (issue_at host.port.slots slot))
+kept_out past apart k host other = k
 
 all_apart : {mode : Mode} (h : Host) (past : Touches) → IsSoundHostIn mode h → IsServed h.driver (shared_by h) past → AreApart past
 all_apart h past s served = issues_apart h.driver past served.issues served.bounded s.requests
@@ -241,9 +238,8 @@ count_good : (s l : ℕ) → ((s == 0) || nat_lt 256 s || nat_le 281474976710656
 count_good s l h = (grind (arith, nat_tests), (grind (arith, nat_tests), grind (arith, nat_tests)))
 
 sized : (w : Work) (s l : ℕ) → (if is_flush w then not (s == 0) else (s == 0) || nat_lt 256 s || nat_le 281474976710656 l) ≡ false → is_queued w ≡ true → (0 < s) × ((s ≤ 256) × (l < 281474976710656))
-sized work.Read s l h q = count_good s l h
-sized work.Write s l h q = count_good s l h
 sized work.Flush s l h q = absurd (false≢true q)
+sized other s l h q = count_good s l h
 
 sized_request : (request : Request) (ticket dev : ℕ) → is_bad_count request ≡ false → is_queued request.work ≡ true → HasSize (new_head ticket dev request)
 sized_request request ticket dev h q =
@@ -311,10 +307,9 @@ submit_served old dev request ticket new past h served = record {
 -- ---- a request is polled
 
 ended_not : (p : Phase) → has_ended_in p ≡ true → is_issued_in p ≡ true → ⊥
-ended_not Waits h k = false≢true h
-ended_not Issued h k = false≢true h
 ended_not Aside h k = false≢true k
 ended_not (Ended o) h k = false≢true k
+ended_not other h k = false≢true h
 
 poll_ended : (d : Driver) (c : Completion) (f : PollFacts d c) → has_ended f.entry.head ≡ true
 unfolding lowest_ended

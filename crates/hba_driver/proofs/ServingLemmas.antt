@@ -147,18 +147,8 @@ calm_write : (register : Register) (host : event.Host) (value : ℕ) → is_ci r
 unfolding NoneIssues
 calm_write Cmd host value h = falls_none (falls host.port.registers value)
 calm_write Ci host value h = absurd (true≢false h)
-calm_write Clb host value h = tt
-calm_write Clbu host value h = tt
-calm_write Fb host value h = tt
-calm_write Fbu host value h = tt
-calm_write Is host value h = tt
-calm_write Ie host value h = tt
-calm_write Tfd host value h = tt
-calm_write Sig host value h = tt
-calm_write Serr host value h = tt
-calm_write Sact host value h = tt
-calm_write Sntf host value h = tt
 calm_write Fbs host value h = clear_none (cleared_by host.port.errors value)
+calm_write other host value h = tt
 
 kept_falls : (b : Bool) (past : Touches) → IsKept past → IsKept (cond b (Stops ∷ []) [] ++ past)
 kept_falls true past k = k
@@ -171,35 +161,13 @@ kept_clear (Some dev) past k = k
 kept_write : (register : Register) (host : event.Host) (value : ℕ) (past : Touches) → IsKept past → IsKept (touched_by_write register host value ++ past)
 kept_write Cmd host value past k = kept_falls (falls host.port.registers value) past k
 kept_write Ci host value past k = kept_below (aimed host.port.registers host.memory.structure value) host.memory (asked host.port.registers host.memory value) past 32 k
-kept_write Clb host value past k = k
-kept_write Clbu host value past k = k
-kept_write Fb host value past k = k
-kept_write Fbu host value past k = k
-kept_write Is host value past k = k
-kept_write Ie host value past k = k
-kept_write Tfd host value past k = k
-kept_write Sig host value past k = k
-kept_write Serr host value past k = k
-kept_write Sact host value past k = k
-kept_write Sntf host value past k = k
 kept_write Fbs host value past k = kept_clear (cleared_by host.port.errors value) past k
+kept_write other host value past k = k
 
 commands_calm : (register : Register) (old : Port) (memory : Memory) (value : ℕ) → is_ci register ≡ false → commands_after register old memory value ≡ old.commands
 unfolding commands_after
 commands_calm Ci old memory value h = absurd (true≢false h)
-commands_calm Cmd old memory value h = refl
-commands_calm Clb old memory value h = refl
-commands_calm Clbu old memory value h = refl
-commands_calm Fb old memory value h = refl
-commands_calm Fbu old memory value h = refl
-commands_calm Is old memory value h = refl
-commands_calm Ie old memory value h = refl
-commands_calm Tfd old memory value h = refl
-commands_calm Sig old memory value h = refl
-commands_calm Serr old memory value h = refl
-commands_calm Sact old memory value h = refl
-commands_calm Sntf old memory value h = refl
-commands_calm Fbs old memory value h = refl
+commands_calm other old memory value h = refl
 
 accepts_at : (old new : Port) (before : Memory) (offset value : ℕ) (r : Option Register) → register_at offset ≡ r → Tries old before offset value new → write_refusal old before offset value ≡ None
     → MatchOption r ⊥ (λ (g : Register). Accepts old before g value new)

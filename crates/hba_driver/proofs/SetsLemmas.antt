@@ -23,11 +23,8 @@ use Rattle.hba_driver.proofs.TendedLemmas.{at_stage, stage_is, unworked}
 use Rattle.hba_driver.proofs.TendedTurns.{turn_tended}
 
 abbrev IsSetting : Stage → Type 0
-IsSetting Identify = ⊥
-IsSetting (ReadLog file) = ⊥
 IsSetting AssertReset = Unit {0}
-IsSetting ReleaseReset = ⊥
-IsSetting AwaitReset = ⊥
+IsSetting other = ⊥
 
 path_set : (n : ℕ) (old : Host) (file : TaskFile) → due (sight_in old) old.driver ≡ Some (act.Steps n AssertReset) → WorksOn n AssertReset true (after_tick (sight_in old) file old.driver).plan
 unfolding after_tick plan_after
@@ -45,10 +42,9 @@ not_tended n plan (Logs before file device works) there = stage_is n (ReadLog fi
 not_tended n plan (Spoilt device free) there = unworked n plan IsSetting free there
 
 withdrawn_by : (p : Phase) → ((waits_in p || is_issued_in p) ≡ true → ⊥) → (is_aside_in p || has_ended_in p) ≡ true
-withdrawn_by Waits none = absurd (none refl)
-withdrawn_by Issued none = absurd (none refl)
 withdrawn_by Aside none = refl
 withdrawn_by (Ended o) none = refl
+withdrawn_by other none = absurd (none refl)
 
 set_driven : (n : ℕ) (h : Host) → IsBeingReset n h.driver → IsSetDriven n h
 set_driven n h reset = record {

@@ -160,8 +160,7 @@ acted_same (Some (act.Restarts k)) file d other may = refl
 acted_same (Some (act.Clears dev)) file d other may =
     ap (λ (b : Bool). control_in (if b then recovering dev file d.plan else from_reset d.plan)) (lt-ltb dev 15 (may.clears dev refl))
 acted_same (Some (act.Orders order)) file d other may = absurd other
-acted_same (Some (act.Steps dev stage)) file d other may = refl
-acted_same (Some (act.Issues slot dev queued)) file d other may = refl
+acted_same rest file d other may = refl
 
 pub acted_order : (o : Order) (file : TaskFile) (d : Driver) → control_in (acted (Some (act.Orders o)) file d).plan ≡ record (control_in d.plan) { asked = true }
 unfolding plan_after
@@ -231,13 +230,8 @@ scanned_off found from = scan_off _
 pub next_off : (ports found : ℕ) (o : Order) → is_on o ≡ false → is_off (next_order ports found o) ≡ false
 unfolding next_order
 next_off ports found ResetOn h = absurd (true≢false h)
-next_off ports found ResetOff h = refl
-next_off ports found AwaitSignature h = refl
-next_off ports found CountPorts h = refl
-next_off ports found SetMask h = refl
 next_off ports found Enable h = either (λ (o : Order). is_off o ≡ false) (nat_lt 0 ports) (Open 0) Scan refl refl
 next_off ports found (Open port) h = either (λ (o : Order). is_off o ≡ false) (nat_lt (port + 1) ports) (Open (port + 1)) Scan refl refl
 next_off ports found Scan h = scanned_off found 0
-next_off ports found (Clear port) h = refl
 next_off ports found (Detect port) h = scanned_off found (port + 1)
-next_off ports found Watch h = refl
+next_off ports found other h = refl

@@ -97,10 +97,8 @@ pub record IsOwn (at count : ℕ) : Type 0 where
   pub tables : LieApart at count 131072 8192
 
 abbrev pub late : Effect → Bool
-late (effect.Writes offset value) = true
-late (effect.Flushes dev) = true
-late (effect.Empties dev) = true
 late (effect.Commands slot fields buffer) = nat_le 30 slot
+late other = true
 
 within : (at count place room from n : ℕ) → LieApart at count place room → place ≤ from → from + n ≤ place + room → LieApart at count from n
 within at count place room from n (inl before) low high = inl (omega (arith, before, low))
@@ -167,36 +165,24 @@ late_restarts k = all_at late restart_writes k _ refl refl
 
 late_stage : (mode : Mode) (dev : ℕ) (stage : Stage) → list_all late (stage_effects mode dev stage) ≡ true
 unfolding stage_fields
-late_stage mode dev Identify = late_issuing mode 30 dev false
-late_stage mode dev (ReadLog file) = late_issuing mode 30 dev false
-late_stage mode dev AssertReset = late_issuing mode 30 dev false
-late_stage mode dev ReleaseReset = late_issuing mode 30 dev false
 late_stage mode dev AwaitReset = refl
+late_stage mode dev other = late_issuing mode 30 dev false
 
 late_order : (mode : Mode) (order : Order) → list_all late (order_effects mode order) ≡ true
 unfolding order_fields order_effects
-late_order mode ResetOn = late_issuing mode 31 15 false
-late_order mode ResetOff = late_issuing mode 31 15 false
 late_order mode AwaitSignature = refl
-late_order mode CountPorts = late_issuing mode 31 15 false
-late_order mode SetMask = late_issuing mode 31 15 false
-late_order mode Enable = late_issuing mode 31 15 false
-late_order mode (Open port) = late_issuing mode 31 15 false
-late_order mode Scan = late_issuing mode 31 15 false
 late_order mode (Clear port) = late_emptying mode port (order_command mode (Clear port)) (late_issuing mode 31 15 false)
-late_order mode (Detect port) = late_issuing mode 31 15 false
 late_order mode Watch = refl
+late_order mode other = late_issuing mode 31 15 false
 
 pub late_act : (mode : Mode) (a : Option Act) → list_all late (effects_due mode a) ≡ true
 unfolding effects_of
-late_act mode None = refl
 late_act mode (Some (act.Opens k)) = rw (late_opens mode k) refl
-late_act mode (Some act.Stops) = refl
 late_act mode (Some (act.Restarts k)) = rw (late_restarts k) refl
-late_act mode (Some (act.Clears dev)) = refl
 late_act mode (Some (act.Orders order)) = late_order mode order
 late_act mode (Some (act.Steps dev stage)) = late_stage mode dev stage
 late_act mode (Some (act.Issues slot dev queued)) = late_issuing mode slot dev queued
+late_act mode other = refl
 
 -- ---- posted FISes
 

@@ -190,14 +190,7 @@ module _ (n : ℕ) (signs : Type 0) (v : Sight) (plan : Plan) (h : IsSteadyPlan 
       by_test true k = k
       by_test false k = k
   met_never ResetOn on = on
-  met_never ResetOff on = on
-  met_never CountPorts on = on
-  met_never SetMask on = on
-  met_never Enable on = on
-  met_never (Open port) on = on
-  met_never Scan on = on
-  met_never (Clear port) on = on
-  met_never (Detect port) on = on
+  met_never other on = on
 
   met_if : (a : Bool) → plan.asked ≡ a → PlanKeeps n signs plan (if a then plan else record plan { order = met_order v plan.order })
   met_if true is = keeps_none n signs plan h
@@ -270,17 +263,12 @@ module _ (n : ℕ) (signs : Type 0) (v : Sight) (plan : Plan) (h : IsSteadyPlan 
   unfolding found_of
   found_device Identify dev other = set_other plan.devices dev n _ (λ e. other (sym e))
   found_device (ReadLog file) dev other = set_other plan.devices dev n _ (λ e. other (sym e))
-  found_device AssertReset dev other = refl
-  found_device ReleaseReset dev other = refl
-  found_device AwaitReset dev other = refl
+  found_device rest dev other = refl
 
   found_order : (stage : Stage) (dev : ℕ) → detects n (found_of v stage dev plan).asked (found_of v stage dev plan).order ≡ detects n plan.asked plan.order
   unfolding found_of
   found_order Identify dev = refl
-  found_order (ReadLog file) dev = refl
-  found_order AssertReset dev = refl
-  found_order ReleaseReset dev = refl
-  found_order AwaitReset dev = refl
+  found_order other dev = refl
 
   advanced_keeps : (path : Path) → plan.path ≡ Some path → PlanKeeps n signs plan (advanced v path plan)
   advanced_keeps path here = elim (cases_eq path.dev n) [
@@ -489,15 +477,7 @@ module _ (n : ℕ) (signs : Type 0) (v : Sight) (file : TaskFile) (plan : Plan) 
       equal_of : (a b : ℕ) → (true && (a == b)) ≡ true → a ≡ b
       equal_of a b e = grind (arith, nat_tests)
   detects_out asked (Detect port) other on = on
-  detects_out asked ResetOn other on = on
-  detects_out asked ResetOff other on = on
-  detects_out asked AwaitSignature other on = on
-  detects_out asked CountPorts other on = on
-  detects_out asked SetMask other on = on
-  detects_out asked Enable other on = on
-  detects_out asked (Open port) other on = on
-  detects_out asked Scan other on = on
-  detects_out asked Watch other on = on
+  detects_out asked rest other on = on
 
   out : (order : Order) → order ≢ Clear n → order ≡ plan.order → detects n true plan.order ≡ true → detects n plan.asked plan.order ≡ true
   out order other is on = detects_out plan.asked plan.order (λ e. other (is ∙ e)) on
@@ -510,15 +490,7 @@ module _ (n : ℕ) (signs : Type 0) (v : Sight) (file : TaskFile) (plan : Plan) 
       keeps_beside n signs plan (ordered (Clear port) plan) h (set_other plan.devices port n Absent (λ e. other (ap Clear (sym e)))) (λ x there to. (unless_here port plan.path x there).0)
       (λ on. out (Clear port) other is on)
   ordered_keeps ResetOn other is = plainly ResetOn other is
-  ordered_keeps ResetOff other is = plainly ResetOff other is
-  ordered_keeps AwaitSignature other is = plainly AwaitSignature other is
-  ordered_keeps CountPorts other is = plainly CountPorts other is
-  ordered_keeps SetMask other is = plainly SetMask other is
-  ordered_keeps Enable other is = plainly Enable other is
-  ordered_keeps (Open port) other is = plainly (Open port) other is
-  ordered_keeps Scan other is = plainly Scan other is
-  ordered_keeps (Detect port) other is = plainly (Detect port) other is
-  ordered_keeps Watch other is = plainly Watch other is
+  ordered_keeps rest other is = plainly rest other is
 
   -- slot 30 begins to work on a device
   stepped : (dev : ℕ) (stage : Stage) → Plan
@@ -558,11 +530,10 @@ module _ (n : ℕ) (signs : Type 0) (v : Sight) (file : TaskFile) (plan : Plan) 
 
   pub act_keeps : (a : Option Act) → (Rattle.std.specs.Prelude.slice_index_or v.signed n false ≡ true → signs) → IsCalmAct n a → DueOf v plan a → PlanKeeps n signs plan (match_some a plan (λ x. plan_after x file plan))
   unfolding plan_after
-  act_keeps None signed calm due = keeps_none n signs plan h
   act_keeps (Some (act.Opens k)) signed calm due = keeps_beside n signs plan _ h refl (λ x there to. there) (λ on. on)
   act_keeps (Some act.Stops) signed calm due = absurd calm
   act_keeps (Some (act.Restarts k)) signed calm due = keeps_beside n signs plan _ h refl (λ x there to. there) (λ on. on)
   act_keeps (Some (act.Clears dev)) signed calm due = cleared_if (nat_lt dev 15) dev calm
   act_keeps (Some (act.Orders order)) signed calm due = ordered_keeps order calm due
   act_keeps (Some (act.Steps dev stage)) signed calm due = step_keeps dev stage signed due
-  act_keeps (Some (act.Issues slot dev queued)) signed calm due = keeps_none n signs plan h
+  act_keeps other signed calm due = keeps_none n signs plan h

@@ -54,16 +54,12 @@ use Rattle.hba_driver.proofs.TurnLemmas.{first_none}
 -- ---- requests that go on
 
 ended_before : (p q : Phase) → Goes p q → has_ended_in q ≡ false → has_ended_in p ≡ false
-ended_before Waits q h k = refl
-ended_before Issued q h k = refl
-ended_before Aside q h k = refl
 ended_before (Ended o) q h k = absurd (true≢false (sym (ap has_ended_in h) ∙ k))
+ended_before other q h k = refl
 
 unended_in : (p : Phase) → is_issued_in p ≡ true → has_ended_in p ≡ false
-unended_in Waits h = refl
-unended_in Issued h = refl
-unended_in Aside h = refl
 unended_in (Ended o) h = absurd (false≢true h)
+unended_in other h = refl
 
 -- what is issued has not ended
 pub issued_unended : (e : Entry) → is_issued e.head ≡ true → has_ended e.head ≡ false
@@ -163,11 +159,8 @@ not_blocked d memory dev request h =
     unrefused (is_blocked d dev request) refusal.QueueBusy (first_none (queue_refusal d dev request) _ rest)
 
 ready_device : (device : Device) → device_refusal device ≡ None → device ≡ Ready
-ready_device Absent h = cc
-ready_device Starting h = cc
 ready_device Ready h = refl
-ready_device Unusable h = cc
-ready_device (Recovering way) h = cc
+ready_device other h = cc
 
 pub is_ready_dev : (d : Driver) (memory : Memory) (dev : ℕ) (request : Request) → submit_refusal d memory dev request ≡ None → device_at d.plan dev ≡ Ready
 unfolding submit_refusal
@@ -390,9 +383,7 @@ calm_or_flush n h goes unclear = by_act (due (sight_in h) h.driver) refl
       | inr same ↦ inr (ap (λ (x : Order). Some (act.Orders x)) same)
     ]
     by_act (Some (act.Opens k)) is = inl tt
-    by_act (Some (act.Restarts k)) is = inl tt
-    by_act (Some (act.Steps dev stage)) is = inl tt
-    by_act (Some (act.Issues slot dev queued)) is = inl tt
+    by_act other is = inl tt
 
 -- ---- a request that began
 
@@ -407,10 +398,8 @@ pub begun_later : (e f : Entry) → waits_in e.head.phase ≡ false → GoesOn e
 begun_later e f begun on = still_begun e.head.phase f.head.phase begun on.goes
 
 not_withdrawn : (p : Phase) → is_issued_in p ≡ true → (is_aside_in p || has_ended_in p) ≡ true → ⊥
-not_withdrawn Waits is other = false≢true is
 not_withdrawn Issued is other = false≢true other
-not_withdrawn Aside is other = false≢true is
-not_withdrawn (Ended o) is other = false≢true is
+not_withdrawn rest is other = false≢true is
 
 kept_of : (o p : Option Entry) (e : Entry) → o ≡ Some e → Keeps o p → Kept e p
 kept_of None p e h keeps = cc
@@ -440,10 +429,7 @@ module _ (old : Host) (acted_so : Bool) (new : Host) (does : Does old (Ticked ac
       by_act (Some (act.Clears dev)) due_is = λ same.
           not_withdrawn f.head.phase is (ticks_serve.withdraws (sight_in old) (file_shown new.port) old.driver dev s f due_is f_after (dev_is ∙ same))
       by_act (Some (act.Orders o)) due_is = λ same. never_flushed (due_is ∙ ap (λ (x : Order). Some (act.Orders x)) same)
-      by_act (Some (act.Opens k)) due_is = tt
-      by_act (Some (act.Restarts k)) due_is = tt
-      by_act (Some (act.Steps dev stage)) due_is = tt
-      by_act (Some (act.Issues slot dev queued)) due_is = tt
+      by_act other due_is = tt
 
   seen_begun : holds waits (entry_at (seen (sight_in old) old.driver).entries s) ≡ true → ⊥
   seen_begun waits_so =

@@ -54,9 +54,7 @@ Calm h = Spares h.fault
 
 answer_calm : (a : Answered) → Spares (answer_fault a)
 answer_calm answer.Nobody = refl
-answer_calm (answer.Queued slot) = refl
-answer_calm (answer.Done slot) = refl
-answer_calm (answer.Short slot) = refl
+answer_calm other = refl
 
 d2h_calm : (own : DeviceSlots) (state : DeviceState) (status error : ℕ) → Calm (heard_d2h own state status error)
 d2h_calm own state status error =
@@ -98,14 +96,13 @@ data_calm own state sound count (Some c) can = data_calm_of own state sound c.to
 -- if Data comes by a table that can be used
 fis_calm : (own : DeviceSlots) (state : DeviceState) (sound : Bool) (fis : Fis) → ((c : Context) → own.context ≡ Some c → c.to_host ≡ true → sound ≡ true) → Calm (heard_fis own state sound fis)
 unfolding heard_fis
-fis_calm own state sound (view.RegH2D f) can = refl
 fis_calm own state sound (view.RegD2H f) can = register_calm own state (field table.D2h table.Status f) (field table.D2h table.Error f)
 fis_calm own state sound (view.SetBits f) can = bits_calm own state (field table.Bits table.Status f) (field table.Bits table.Error f) (field table.Bits table.SActive f)
 fis_calm own state sound (view.DmaActivate f) can = activate_calm own state
 fis_calm own state sound (view.DmaSetup f) can = set_up_calm _ state None _
 fis_calm own state sound (view.PioSetup f) can = pio_calm own state _ _ _ _ _
 fis_calm own state sound (view.Payload f) can = data_calm own state sound (length f - 4) own.context can
-fis_calm own state sound (view.Unknown f) can = refl
+fis_calm own state sound other can = refl
 
 -- a FIS that a device may not send is a fault of the device
 bad_calm : (n : ℕ) → n ≢ control_port → Spares (Some (bad_fault n))

@@ -160,14 +160,7 @@ met_never n v Watch on = by_test v.notified on
     by_test true k = k
     by_test false k = k
 met_never n v ResetOn on = on
-met_never n v ResetOff on = on
-met_never n v CountPorts on = on
-met_never n v SetMask on = on
-met_never n v Enable on = on
-met_never n v (Open port) on = on
-met_never n v Scan on = on
-met_never n v (Clear port) on = on
-met_never n v (Detect port) on = on
+met_never n v other on = on
 
 module _ (n : ℕ) (v : Sight) (plan : Plan) (h : IsUnsought n plan) where
   answers_order : (order : Order) → plan.order ≡ order → plan.asked ≡ true → Leaves n plan (with_next order (noted v order plan))
@@ -269,14 +262,8 @@ plainly_allowed : (v : Sight) (plan : Plan) (entries : List (Option Entry)) (a :
 plainly_allowed v plan entries a h = allowed_keeps (Plainly plan) tt plan.mode v plan entries a h
 
 plainly_stepless : (plan : Plan) (a : Option Act) → Plainly plan a → IsStepless a
-plainly_stepless plan None h = tt
-plainly_stepless plan (Some (act.Opens k)) h = tt
-plainly_stepless plan (Some act.Stops) h = tt
-plainly_stepless plan (Some (act.Restarts k)) h = tt
-plainly_stepless plan (Some (act.Clears dev)) h = tt
-plainly_stepless plan (Some (act.Orders order)) h = tt
 plainly_stepless plan (Some (act.Steps dev stage)) h = h
-plainly_stepless plan (Some (act.Issues slot dev queued)) h = tt
+plainly_stepless plan other h = tt
 
 -- an order that is out
 pub detects_out : (n : ℕ) (asked : Bool) (order : Order) → order ≢ Clear n → detects n true order ≡ true → detects n asked order ≡ true
@@ -285,15 +272,7 @@ detects_out n asked (Clear port) other on = absurd (other (ap Clear (equal_of po
     equal_of : (a b : ℕ) → (true && (a == b)) ≡ true → a ≡ b
     equal_of a b e = grind (arith, nat_tests)
 detects_out n asked (Detect port) other on = on
-detects_out n asked ResetOn other on = on
-detects_out n asked ResetOff other on = on
-detects_out n asked AwaitSignature other on = on
-detects_out n asked CountPorts other on = on
-detects_out n asked SetMask other on = on
-detects_out n asked Enable other on = on
-detects_out n asked (Open port) other on = on
-detects_out n asked Scan other on = on
-detects_out n asked Watch other on = on
+detects_out n asked rest other on = on
 
 -- the path of another device is given up
 unless_stays : (dev : ℕ) (o : Option Path) (x : Path) → x.dev ≢ dev → o ≡ Some x → unless dev o ≡ Some x
@@ -333,26 +312,17 @@ module _ (n : ℕ) (file : TaskFile) (plan : Plan) (h : IsUnsought n plan) where
     unsought = λ on. out (Clear port) other is on;
   }
   ordered_leaves ResetOn other is = plainly ResetOn other is
-  ordered_leaves ResetOff other is = plainly ResetOff other is
-  ordered_leaves AwaitSignature other is = plainly AwaitSignature other is
-  ordered_leaves CountPorts other is = plainly CountPorts other is
-  ordered_leaves SetMask other is = plainly SetMask other is
-  ordered_leaves Enable other is = plainly Enable other is
-  ordered_leaves (Open port) other is = plainly (Open port) other is
-  ordered_leaves Scan other is = plainly Scan other is
-  ordered_leaves (Detect port) other is = plainly (Detect port) other is
-  ordered_leaves Watch other is = plainly Watch other is
+  ordered_leaves rest other is = plainly rest other is
 
   act_leaves : (a : Option Act) → IsCalmAct n a → Plainly plan a → Leaves n plan (match_some a plan (λ x. plan_after x file plan))
   unfolding plan_after
-  act_leaves None calm due = leaves_same n plan h
   act_leaves (Some (act.Opens k)) calm due = leaves_path n plan _ refl refl h
   act_leaves (Some act.Stops) calm due = absurd calm
   act_leaves (Some (act.Restarts k)) calm due = leaves_path n plan _ refl refl h
   act_leaves (Some (act.Clears dev)) calm due = cleared_if (nat_lt dev 15) dev calm
   act_leaves (Some (act.Orders order)) calm due = ordered_leaves order calm due
   act_leaves (Some (act.Steps dev stage)) calm due = absurd due
-  act_leaves (Some (act.Issues slot dev queued)) calm due = leaves_same n plan h
+  act_leaves other calm due = leaves_same n plan h
 
 -- ---- what becomes of the device
 
@@ -516,17 +486,12 @@ found_device : (n : ℕ) (v : Sight) (plan : Plan) (stage : Stage) (dev : ℕ) �
 unfolding found_of
 found_device n v plan Identify dev other = get_or-set_other plan.devices dev n _ Absent (λ e. other (sym e))
 found_device n v plan (ReadLog file) dev other = get_or-set_other plan.devices dev n _ Absent (λ e. other (sym e))
-found_device n v plan AssertReset dev other = refl
-found_device n v plan ReleaseReset dev other = refl
-found_device n v plan AwaitReset dev other = refl
+found_device n v plan rest dev other = refl
 
 found_order : (n : ℕ) (v : Sight) (plan : Plan) (stage : Stage) (dev : ℕ) → detects n (found_of v stage dev plan).asked (found_of v stage dev plan).order ≡ detects n plan.asked plan.order
 unfolding found_of
 found_order n v plan Identify dev = refl
-found_order n v plan (ReadLog file) dev = refl
-found_order n v plan AssertReset dev = refl
-found_order n v plan ReleaseReset dev = refl
-found_order n v plan AwaitReset dev = refl
+found_order n v plan other dev = refl
 
 path_to_dev : (dev : ℕ) (stage : Option Stage) (x : Path) → path_to dev stage ≡ Some x → x.dev ≡ dev
 path_to_dev dev None x h = none_path x h
@@ -693,12 +658,9 @@ module _ (n : ℕ) (signs : Type 0) (v : Sight) (file : TaskFile) (p : Plan) (en
           (λ x there to. other (ap (λ (y : Path). y.dev) (same_path (path_at dev stage true) x there) ∙ to))
     ]
     left_acts not_ready unreleased q left None due calm = to_spoilt n signs v None p q not_ready unreleased left.device left.unsought left.free
-    left_acts not_ready unreleased q left (Some (act.Opens k)) due calm = left_plain not_ready unreleased q left (Some (act.Opens k)) tt calm
     left_acts not_ready unreleased q left (Some act.Stops) due calm = absurd calm
-    left_acts not_ready unreleased q left (Some (act.Restarts k)) due calm = left_plain not_ready unreleased q left (Some (act.Restarts k)) tt calm
-    left_acts not_ready unreleased q left (Some (act.Clears dev)) due calm = left_plain not_ready unreleased q left (Some (act.Clears dev)) tt calm
     left_acts not_ready unreleased q left (Some (act.Orders order)) due calm = left_plain not_ready unreleased q left (Some (act.Orders order)) due calm
-    left_acts not_ready unreleased q left (Some (act.Issues slot dev queued)) due calm = left_plain not_ready unreleased q left (Some (act.Issues slot dev queued)) tt calm
+    left_acts not_ready unreleased q left other due calm = left_plain not_ready unreleased q left other tt calm
 
     left_looks : (device_at p n ≡ Ready → ⊥) → (IsAtStage n IsReleasing p → ⊥) → (q : Plan) (news : Bool) → IsLeft n (device_seen v q) → TurnTends n signs v file p (device_turn v news q entries)
     left_looks not_ready unreleased q news left calm =

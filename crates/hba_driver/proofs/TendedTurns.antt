@@ -43,30 +43,26 @@ use Rattle.hba_driver.proofs.TendedLemmas.{PlanTends, recovering_ready, turn_ten
 -- ---- requests that go on
 
 live_unended : (p : Phase) → (waits_in p || is_issued_in p) ≡ true → has_ended_in p ≡ false
-live_unended Waits h = refl
-live_unended Issued h = refl
-live_unended Aside h = refl
 live_unended (Ended o) h = absurd (false≢true h)
+live_unended other h = refl
 
 -- a request that waits or is issued is open
 pub live_open : (n s : ℕ) (entries : List (Option Entry)) (e : Entry) → IsLiveAt n s entries e → IsOpenAt n s entries e
 live_open n s entries e there = record { stands = there.stands; of_dev = there.of_dev; unended = live_unended e.head.phase there.lives }
 
 issued_lives : (p : Phase) → is_issued_in p ≡ true → (waits_in p || is_issued_in p) ≡ true
-issued_lives Waits h = refl
-issued_lives Issued h = refl
 issued_lives Aside h = absurd (false≢true h)
 issued_lives (Ended o) h = absurd (false≢true h)
+issued_lives other h = refl
 
 -- an issued request is live
 pub issued_live : (e : Entry) → is_issued e.head ≡ true → (waits e.head || is_issued e.head) ≡ true
 issued_live e h = issued_lives e.head.phase h
 
 lived_before : (p q : Phase) → Goes p q → (waits_in q || is_issued_in q) ≡ true → (waits_in p || is_issued_in p) ≡ true
-lived_before Waits q goes h = refl
-lived_before Issued q goes h = refl
 lived_before Aside q goes h = absurd (false≢true (sym goes ∙ h))
 lived_before (Ended o) q goes h = sym (ap (λ (x : Phase). waits_in x || is_issued_in x) goes) ∙ h
+lived_before other q goes h = refl
 
 record WasLive (n s : ℕ) (old : List (Option Entry)) (f : Entry) : Type 0 where
   pub entry : Entry
@@ -252,14 +248,9 @@ poll_tends n old c new does h =
 
 -- a tick that issues no command of the driver's own for a device issues in another slot
 stepless_by : (v : Sight) (plan : Plan) (entries : List (Option Entry)) (a : Option Act) → Due v plan entries a → IsStepless a → slot_of a ≢ 30
-stepless_by v plan entries None is stepless at = omega (arith, at)
-stepless_by v plan entries (Some (act.Opens k)) is stepless at = omega (arith, at)
-stepless_by v plan entries (Some act.Stops) is stepless at = omega (arith, at)
-stepless_by v plan entries (Some (act.Restarts k)) is stepless at = omega (arith, at)
-stepless_by v plan entries (Some (act.Clears dev)) is stepless at = omega (arith, at)
-stepless_by v plan entries (Some (act.Orders order)) is stepless at = omega (arith, at)
 stepless_by v plan entries (Some (act.Steps dev stage)) is stepless at = stepless
 stepless_by v plan entries (Some (act.Issues slot dev queued)) is stepless at = let low = is.0.below in omega (arith, at, low)
+stepless_by v plan entries other is stepless at = omega (arith, at)
 
 pub stepless_slot : (old : Host) (a : Bool) → IsSteplessTurn old (Ticked a) → slot_in old ≢ 30
 stepless_slot old a stepless =

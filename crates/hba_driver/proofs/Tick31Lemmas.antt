@@ -124,12 +124,7 @@ module _ (h : Host) (g : IsGoing h) (stage : Stage31) (at : IsAt31 stage h) wher
       let same : d ≡ dev = cc in
       may.1.faulty ∙ ap (λ (n : ℕ). Some n) same
   cleared None may dev is = cc
-  cleared (Some act.Stops) may dev is = cc
-  cleared (Some (act.Opens k)) may dev is = cc
-  cleared (Some (act.Restarts k)) may dev is = cc
-  cleared (Some (act.Orders o)) may dev is = cc
-  cleared (Some (act.Steps d s)) may dev is = cc
-  cleared (Some (act.Issues s d q)) may dev is = cc
+  cleared other may dev is = cc
 
   cleared_due : (dev : ℕ) → due v h.driver ≡ Some (act.Clears dev) → cleared_device h.port.errors ≡ Some dev
   cleared_due dev is = cleared (due v h.driver) (may_end h g.way.sound) dev is
@@ -417,11 +412,7 @@ module _ (h : Host) (g : IsGoing h) (stage : Stage31) (at : IsAt31 stage h) wher
             quiet_idle : (x : Stage31) → is_idle x ≡ true → flags31 x ≡ (false, false)
             quiet_idle Rests e = refl
             quiet_idle Told e = refl
-            quiet_idle Waits e = absurd (false≢true e)
-            quiet_idle Resets e = absurd (false≢true e)
-            quiet_idle Signs e = absurd (false≢true e)
-            quiet_idle Asks e = absurd (false≢true e)
-            quiet_idle Fails e = absurd (false≢true e)
+            quiet_idle other e = absurd (false≢true e)
 
         resets_of : StaysOn stage Resets → stage ≡ Resets
         resets_of (inl same) = sym same
@@ -432,14 +423,12 @@ module _ (h : Host) (g : IsGoing h) (stage : Stage31) (at : IsAt31 stage h) wher
 
         by_next : (n : Stage31) → s.next ≡ n → IsIn n o false (control_of h) → Then31 o
         by_next Rests same is = let both = idle_of (from Rests same) in wait_then o is.1 both.0 both.1
-        by_next Waits same is = absurd (false≢true is.0)
         by_next Resets same (inl is) = absurd (false≢true is.1)
         by_next Resets same (inr is) = off_then o is.0 (resets_of (from Resets same))
         by_next Signs same (free, inl is) = absurd (false≢true is.1)
         by_next Signs same (free, inr is) = no_fields is.0
-        by_next Asks same is = absurd (false≢true is.0)
-        by_next Told same is = absurd (false≢true is.0)
         by_next Fails same is = absurd (false≢true (sym well ∙ sym (ap (λ (x : Bool × Bool). x.1) s.resets) ∙ ap has_failed same))
+        by_next other same is = absurd (false≢true is.0)
 
     tick_by : has_failed stage ≡ false → (new : Host) (a : Bool) → Does h (Ticked a) new → Ticks31 v p new.driver.plan (due v h.driver) → Ticked31 new
     tick_by well new a does (Stays other same) =

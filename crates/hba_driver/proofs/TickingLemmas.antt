@@ -196,17 +196,9 @@ port_none f h = cc
 
 port_of_order : (order : Order) (f : H2dFields) → order_fields order ≡ Some f → f.pm_port ≡ 15
 unfolding order_fields
-port_of_order ResetOn f h = port_by _ f refl h
-port_of_order ResetOff f h = port_by _ f refl h
 port_of_order AwaitSignature f h = port_none f h
-port_of_order CountPorts f h = port_by _ f refl h
-port_of_order SetMask f h = port_by _ f refl h
-port_of_order Enable f h = port_by _ f refl h
-port_of_order (Open port) f h = port_by _ f refl h
-port_of_order Scan f h = port_by _ f refl h
-port_of_order (Clear port) f h = port_by _ f refl h
-port_of_order (Detect port) f h = port_by _ f refl h
 port_of_order Watch f h = port_none f h
+port_of_order other f h = port_by _ f refl h
 
 -- ---- a port is cleared
 
@@ -358,10 +350,8 @@ steps_follows dev stage d below may = record {
 }
 
 issued_only : (p : Phase) → is_issued_in p ≡ true → Rattle.hba_driver.specs.Drivers.is_aside_in p ≡ false
-issued_only Waits h = refl
-issued_only Issued h = refl
 issued_only Aside h = absurd (false≢true h)
-issued_only (Ended o) h = refl
+issued_only other h = refl
 
 and_false : (a b : Bool) → b ≡ false → (a && b) ≡ false
 and_false true b h = h
@@ -427,8 +417,7 @@ step_act D d file fs c mode dev stage old new before after may ours drives ruled
 
 work_port : (slot : ℕ) (w : Work) (dev lba sectors : ℕ) → (work_fields slot w dev lba sectors).pm_port ≡ dev
 work_port slot work.Read dev lba sectors = refl
-work_port slot work.Write dev lba sectors = refl
-work_port slot work.Flush dev lba sectors = refl
+work_port slot other dev lba sectors = refl
 
 pub request_port : (slot : ℕ) (head : Head) → (request_fields slot head).pm_port ≡ head.dev
 unfolding request_fields
@@ -437,18 +426,16 @@ request_port slot head = work_port slot head.work head.dev head.lba head.sectors
 work_reads : (slot : ℕ) (w : Work) (dev lba sectors : ℕ) → moved.is_read (work_of (request_of (work_fields slot w dev lba sectors))).kind ≡ true → is_read w ≡ true
 unfolding work_of
 work_reads slot work.Read dev lba sectors h = refl
-work_reads slot work.Write dev lba sectors h = h
-work_reads slot work.Flush dev lba sectors h = h
+work_reads slot other dev lba sectors h = h
 
 request_reads : (slot : ℕ) (head : Head) → moved.is_read (work_of (request_of (request_fields slot head))).kind ≡ true → is_read head.work ≡ true
 unfolding request_fields
 request_reads slot head h = work_reads slot head.work head.dev head.lba head.sectors h
 
 pub not_both : (p : Phase) → waits_in p ≡ true → is_issued_in p ≡ true → ⊥
-not_both Waits h k = false≢true k
 not_both Issued h k = false≢true h
 not_both Aside h k = false≢true h
-not_both (Ended o) h k = false≢true k
+not_both other h k = false≢true k
 
 fields_rephased : (slot : ℕ) (phase : Rattle.hba_driver.specs.declared.slot.Phase.Phase) (x : Entry) → request_fields slot (rephased phase x).head ≡ request_fields slot x.head
 unfolding request_fields
@@ -534,9 +521,7 @@ plain_at (Some r) = not (is_ci r)
 
 abbrev plain : Effect → Bool
 plain (effect.Writes offset value) = plain_at (register_at offset)
-plain (effect.Flushes dev) = false
-plain (effect.Empties dev) = false
-plain (effect.Commands slot fields buffer) = false
+plain other = false
 
 not_ci : (r : Option Register) → plain_at r ≡ true → MatchOption r (Unit {0}) (λ g. is_ci g ≡ false)
 not_ci None h = tt
@@ -558,8 +543,7 @@ plain_goes D d fs c (effect.Writes offset value) old new before after is ruled m
     (write_goes D d fs c offset value old acts.0 before acts.1 (not_ci (register_at offset) is) (sound_beside old before ruled m) acts.2
     (subst (λ (h : event.Host). Goes D d fs c h) (beside_same acts.0 new acts.1 after acts.4.0 acts.4.1) go))
 plain_goes D d fs c (effect.Flushes dev) old new before after is ruled m acts go = absurd (false≢true is)
-plain_goes D d fs c (effect.Empties dev) old new before after is ruled m acts go = absurd (false≢true is)
-plain_goes D d fs c (effect.Commands slot fields buffer) old new before after is ruled m acts go = absurd (false≢true is)
+plain_goes D d fs c other old new before after is ruled m acts go = absurd (false≢true is)
 
 opening_act : (D d : Driver) (file : TaskFile) (fs : List HostEvent) (c : event.Host) (mode : Mode) (k : ℕ) (old new : Port) (before after : Memory) → IsRuled old → IsHostMemory before → (acts : ActsAll (opening_write mode k ∷ []) old before new after)
     → Goes D (acted (Some (act.Opens k)) file d) fs c (beside new after) → Goes D d (events_of_effects (opening_write mode k ∷ []) old before new after acts ++ fs) c (beside old before)

@@ -209,10 +209,9 @@ heard_right own state status error right done =
 
 -- the answer to a command that moves no data
 abbrev IsPlainAnswer : Answered → Type 0
-IsPlainAnswer answer.Nobody = Unit {0}
 IsPlainAnswer (answer.Queued slot) = ⊥
-IsPlainAnswer (answer.Done slot) = Unit {0}
 IsPlainAnswer (answer.Short slot) = ⊥
+IsPlainAnswer other = Unit {0}
 
 plain_for : (slot : ℕ) (i : Issue) (pio queued : Bool) → is_pio i.work.kind ≡ pio → is_queued_issue i ≡ queued → (pio || queued) ≡ false → IsPlainAnswer (answer_for slot i)
 plain_for slot i false false p q none =
@@ -233,16 +232,14 @@ plain_answer own plain = by_slot (waiting own)
     by_slot (Some slot) = by_issue slot (own_issue own slot) refl
 
 plain_fault : (a : Answered) → IsPlainAnswer a → device_cause (answer_fault a) ≡ None
-plain_fault answer.Nobody is = refl
 plain_fault (answer.Queued slot) is = absurd is
-plain_fault (answer.Done slot) is = refl
 plain_fault (answer.Short slot) is = absurd is
+plain_fault other is = refl
 
 plain_context : (a : Answered) (own : DeviceSlots) → IsPlainAnswer a → own.context ≡ None → (answered_as a own).context ≡ None
 plain_context answer.Nobody own is none = none
-plain_context (answer.Queued slot) own is none = absurd is
 plain_context (answer.Done slot) own is none = context_none (is_slot slot) own.context none
-plain_context (answer.Short slot) own is none = absurd is
+plain_context other own is none = absurd is
 
 plain_issue : (a : Answered) (own : DeviceSlots) → IsPlainAnswer a → (own_issue (answered_as a own) 31 ≡ None) ⊎ (own_issue (answered_as a own) 31 ≡ own_issue own 31)
 plain_issue answer.Nobody own is = inr refl
@@ -420,12 +417,8 @@ module _ (old : Host) (g : IsGoing old) (new : Host) (n : IsGoing new) (frame : 
       opens busy = elim (cases_lt old.driver.plan.opened 7) [ inl less ↦ absurd (busy (at.closed less)) | inr least ↦ least ]
 
       by_stage : (s : Stage31) → stage ≡ s → MayCome31 s frame → Took31 stage frame new
-      by_stage Rests same is = note is
-      by_stage Waits same is = note is
-      by_stage Resets same is = note is
       by_stage Signs same (inl is) = note is
       by_stage Signs same (inr is) = signed same (opens (λ rests. let bad : Signs ≡ Rests = sym same ∙ rests in cc)) is
       by_stage Asks same (inl is) = note is
       by_stage Asks same (inr is) = answered_by same (opens (λ rests. let bad : Asks ≡ Rests = sym same ∙ rests in cc)) is
-      by_stage Told same is = note is
-      by_stage Fails same is = note is
+      by_stage other same is = note is

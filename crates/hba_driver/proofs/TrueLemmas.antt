@@ -60,10 +60,9 @@ pub none_some : {A : Type 0} (a : A) {P : Type 0} → None ≡ Some a → P
 none_some a h = cc
 
 waits_not : (p : Phase) → waits_in p ≡ true → is_issued_in p ≡ true → ⊥
-waits_not Waits h k = false≢true k
 waits_not Issued h k = false≢true h
 waits_not Aside h k = false≢true h
-waits_not (Ended o) h k = false≢true k
+waits_not other h k = false≢true k
 
 pub issued_is : (p : Phase) → p ≡ Issued → is_issued_in p ≡ true
 issued_is p h = ap is_issued_in h
@@ -108,14 +107,8 @@ issued_entry v d ticket slot dev queued is (Some e) there h =
     record { slot = slot; dev = dev; queued = queued; is = is; entry = e; there = there; of_ticket = equal_of e.head.ticket ticket (or_false (e.head.ticket == ticket) h) }
 
 pub issued_act : (v : Sight) (d : Driver) (ticket : ℕ) (a : Option Act) → due v d ≡ a → list_any (λ y. y == ticket) (issued_by_act a (seen v d).entries) ≡ true → IssuesIt v d ticket
-issued_act v d ticket None is h = absurd (false≢true h)
-issued_act v d ticket (Some (act.Opens k)) is h = absurd (false≢true h)
-issued_act v d ticket (Some (act.Orders order)) is h = absurd (false≢true h)
-issued_act v d ticket (Some act.Stops) is h = absurd (false≢true h)
-issued_act v d ticket (Some (act.Restarts k)) is h = absurd (false≢true h)
-issued_act v d ticket (Some (act.Clears dev)) is h = absurd (false≢true h)
-issued_act v d ticket (Some (act.Steps dev stage)) is h = absurd (false≢true h)
 issued_act v d ticket (Some (act.Issues slot dev queued)) is h = issued_entry v d ticket slot dev queued is (entry_at (seen v d).entries slot) refl h
+issued_act v d ticket other is h = absurd (false≢true h)
 
 -- only an act that issues its ticket issues a request that waits
 issued_as : (e f : Entry) → Some e ≡ Some f → waits_in e.head.phase ≡ true → is_issued_in f.head.phase ≡ true → ⊥
@@ -163,10 +156,8 @@ else_entry true x y h = absurd (true≢false h)
 else_entry false x y h = refl
 
 not_done : (p : Phase) (b : Bool) → waits_in p ≡ true → (is_issued_in p && b) ≡ false
-not_done Waits b h = refl
 not_done Issued b h = absurd (false≢true h)
-not_done Aside b h = refl
-not_done (Ended o) b h = refl
+not_done other b h = refl
 
 seen_waits : (v : Sight) (d : Driver) (s : ℕ) (e : Entry) → entry_at d.entries s ≡ Some e → waits_in e.head.phase ≡ true → entry_at (seen v d).entries s ≡ Some e
 seen_waits v d s e here wait =
@@ -185,8 +176,7 @@ tick_issues v file d s e f here there wait h = acted_issues (turn v d).act file 
 calm_work : (slot : ℕ) (w : Work) (dev lba sectors : ℕ) → (is_pio (work_of (request_of (work_fields slot w dev lba sectors))).kind ≡ false) × (is_control (work_of (request_of (work_fields slot w dev lba sectors))).kind ≡ false)
 unfolding work_of
 calm_work slot work.Read dev lba sectors = (refl, refl)
-calm_work slot work.Write dev lba sectors = (refl, refl)
-calm_work slot work.Flush dev lba sectors = (refl, refl)
+calm_work slot other dev lba sectors = (refl, refl)
 
 calm_request : (slot : ℕ) (head : Head) → (is_pio (work_of (request_of (request_fields slot head))).kind ≡ false) × (is_control (work_of (request_of (request_fields slot head))).kind ≡ false)
 unfolding request_fields
@@ -268,15 +258,10 @@ Far ticket slot dev h stage =
 -- the port leaves what is issued, or the stage goes on
 fits_on : (stage next : Stage) (old new : Port) (slot dev : ℕ) (p : Phase) → (stage ≡ Whole → next ≡ Whole) → (stage ≡ Out → HasOut old slot dev → (next ≡ Whole) ⊎ ((next ≡ Out) × HasOut new slot dev))
     → Fits stage old slot dev p → Fits next new slot dev p
-fits_on stage next old new slot dev Waits whole out h = tt
 fits_on stage next old new slot dev Issued whole out (inl h) = inl (whole h)
 fits_on stage next old new slot dev Issued whole out (inr h) = out h.0 h.1
-fits_on stage next old new slot dev Aside whole out h = tt
 fits_on stage next old new slot dev (Ended Done) whole out h = whole h
-fits_on stage next old new slot dev (Ended (DeviceError status error)) whole out h = tt
-fits_on stage next old new slot dev (Ended Aborted) whole out h = tt
-fits_on stage next old new slot dev (Ended Removed) whole out h = tt
-fits_on stage next old new slot dev (Ended PortError) whole out h = tt
+fits_on stage next old new slot dev other whole out h = tt
 
 far_still : (t : HostTurn) (ticket slot dev : ℕ) (old new : Host) (stage next : Stage) → Does old t new → ticks t ≡ false → (stage ≡ Whole → next ≡ Whole)
     → (stage ≡ Out → HasOut old.port slot dev → (next ≡ Whole) ⊎ ((next ≡ Out) × HasOut new.port slot dev)) → Far ticket slot dev old stage → Far ticket slot dev new next
@@ -290,11 +275,7 @@ far_still t ticket slot dev old new stage next does calm whole out far e here of
   where
     fits_fresh : (u : HostTurn) → Fresh old.driver u slot e → Fits next new.port slot dev e.head.phase
     fits_fresh (Submitted other request given) is = subst (λ (x : Entry). Fits next new.port slot dev x.head.phase) is.1 tt
-    fits_fresh (Took frame report) is = absurd is
-    fits_fresh (Pushed frame) is = absurd is
-    fits_fresh (Ticked a) is = absurd is
-    fits_fresh (Polled c) is = absurd is
-    fits_fresh (Put at bytes) is = absurd is
+    fits_fresh rest is = absurd is
 
 took_whole : (c : Bool) (stage : Stage) → stage ≡ Whole → stage_by false c stage ≡ Whole
 took_whole true Idle h = let bad : Idle ≡ Whole = h in cc
@@ -314,20 +295,16 @@ done_bar p h k = false≢true (sym (ap is_issued_in h) ∙ k)
 
 -- what is there as Done after a tick is whole before it
 fits_ended : (stage : Stage) (port : Port) (slot dev : ℕ) (p : Phase) → issue_at port.slots slot ≡ None → is_issued_in p ≡ true → Fits stage port slot dev p → stage ≡ Whole
-fits_ended stage port slot dev Waits free is h = absurd (false≢true is)
 fits_ended stage port slot dev Issued free is (inl h) = h
 fits_ended stage port slot dev Issued free is (inr h) = none_some h.1.issue (sym free ∙ (own_in dev slot port.slots h.1.issue h.1.is).1)
-fits_ended stage port slot dev Aside free is h = absurd (false≢true is)
-fits_ended stage port slot dev (Ended o) free is h = absurd (false≢true is)
+fits_ended stage port slot dev other free is h = absurd (false≢true is)
 
 fits_done : (stage : Stage) (port : Port) (slot dev : ℕ) (p : Phase) → p ≡ Ended Done → Fits stage port slot dev p → stage ≡ Whole
 fits_done stage port slot dev p is h = subst (λ (x : Phase). Fits stage port slot dev x) is h
 
 pub ended_same : (p q : Phase) → Goes p q → has_ended_in p ≡ true → q ≡ p
-ended_same Waits q h k = absurd (false≢true k)
-ended_same Issued q h k = absurd (false≢true k)
-ended_same Aside q h k = absurd (false≢true k)
 ended_same (Ended o) q h k = h
+ended_same other q h k = absurd (false≢true k)
 
 whole_ended : {mode : Mode} (ticket slot dev : ℕ) (h : Host) (stage : Stage) (e f : Entry) → IsOnWayIn mode h → Far ticket slot dev h stage → entry_at h.driver.entries slot ≡ Some e → GoesOn e f
     → (file : TaskFile) → entry_at (after_tick (sight_in h) file h.driver).entries slot ≡ Some f → f.head.phase ≡ Ended Done → e.head.ticket ≡ ticket → e.head.dev ≡ dev → stage ≡ Whole
@@ -424,10 +401,7 @@ module _ {mode : Mode} (ticket slot dev : ℕ) (h : Host) (a : Bool) (new : Host
       by_phase e at on ticket_is dev_is (Ended Done) is =
           subst (λ (x : Phase). Fits stage new.port slot dev x) (sym is) (whole_ended ticket slot dev h stage e f w far at on (file_shown new.port) (here_after f here) is ticket_is dev_is)
       by_phase e at on ticket_is dev_is Aside is = subst (λ (x : Phase). Fits stage new.port slot dev x) (sym is) tt
-      by_phase e at on ticket_is dev_is (Ended (DeviceError status error)) is = subst (λ (x : Phase). Fits stage new.port slot dev x) (sym is) tt
-      by_phase e at on ticket_is dev_is (Ended Aborted) is = subst (λ (x : Phase). Fits stage new.port slot dev x) (sym is) tt
-      by_phase e at on ticket_is dev_is (Ended PortError) is = subst (λ (x : Phase). Fits stage new.port slot dev x) (sym is) tt
-      by_phase e at on ticket_is dev_is (Ended Removed) is = subst (λ (x : Phase). Fits stage new.port slot dev x) (sym is) tt
+      by_phase e at on ticket_is dev_is other is = subst (λ (x : Phase). Fits stage new.port slot dev x) (sym is) tt
 
   far_tick : Far ticket slot dev new (stage_after ticket slot dev stage h (Ticked a))
   far_tick = by_issue (list_any (λ y. y == ticket) (issued_in_tick v h.driver)) refl
@@ -480,10 +454,7 @@ takes_fresh old (Submitted dev request ticket) new h s f is =
     both true b h k = k
     both false b h k = absurd (false≢true h)
 takes_fresh old (Took frame report) new h s f is = absurd is
-takes_fresh old (Pushed frame) new h s f is = absurd is
-takes_fresh old (Ticked a) new h s f is = absurd is
-takes_fresh old (Polled c) new h s f is = absurd is
-takes_fresh old (Put at bytes) new h s f is = absurd is
+takes_fresh old other new h s f is = absurd is
 
 comes_over : (turns : List HostTurn) (old new : Host) → DoesAll old turns new → (s : ℕ) (f : Entry) → entry_at new.driver.entries s ≡ Some f → Comes old turns s f
 comes_over [] old new run s f here = inl (f, ap (λ (h : Host). entry_at h.driver.entries s) (sym run) ∙ here, refl, refl)

@@ -104,15 +104,11 @@ push_turn old g (Some f) new n does stage at = elim (cases_eq f.stamp.port 15) [
 
 -- what may come is a FIS of the control port
 of_control : (stage : Stage31) (frame : List ℕ) → MayCome31 stage frame → IsReport frame
-of_control Rests frame is = inr is.viewed
-of_control Waits frame is = inr is.viewed
-of_control Resets frame is = inr is.viewed
 of_control Signs frame (inl is) = inr is.viewed
 of_control Signs frame (inr is) = inl is.viewed
 of_control Asks frame (inl is) = inr is.viewed
 of_control Asks frame (inr is) = inl is.viewed
-of_control Told frame is = inr is.viewed
-of_control Fails frame is = inr is.viewed
+of_control other frame is = inr is.viewed
 
 took_turn : (old : Host) → IsGoing old → (frame : List ℕ) (report : TakeReport) (new : Host) → IsGoing new → Does old (Took frame report) new → IsOfControl frame → (stage : Stage31) → IsAt31 stage old
     → (port_of frame ≡ 15 → MayCome31 stage frame) → Turns31 stage old (Took frame report) new
@@ -220,11 +216,7 @@ module _ (old : Host) (g : IsGoing old) (stage : Stage31) (at : IsAt31 stage old
 -- a FIS that may come is one of the control port
 pub control_in31 : (stage : Stage31) (t : HostTurn) → MayBe31 stage t → IsOfControlIn t
 control_in31 stage (Took frame report) may = λ own. of_control stage frame (may own)
-control_in31 stage (Pushed frame) may = tt
-control_in31 stage (Ticked a) may = tt
-control_in31 stage (Submitted dev request ticket) may = tt
-control_in31 stage (Polled c) may = tt
-control_in31 stage (Put at bytes) may = tt
+control_in31 stage other may = tt
 
 pub turn31 : (old : Host) → IsGoing old → (t : HostTurn) (new : Host) → IsGoing new → Does old t new → (stage : Stage31) → IsAt31 stage old → MayBe31 stage t → Turns31 stage old t new
 turn31 old g (Took frame report) new n does stage at may = took_turn old g frame report new n does (control_in31 stage (Took frame report) may) stage at may

@@ -178,28 +178,16 @@ silent_put : IsSilent put
 silent_put = record { wrote = λ r v. refl; flushed = λ d. refl; stored = λ s. refl; rewrote = λ d r. refl }
 
 tell_taken : (old : Host) (t : HostTurn) (new : Host) (h : Does old t new) → flat_map took (events_of old t new h) ≡ taken_by t
-tell_taken old (Took frame report) new h = refl
-tell_taken old (Pushed frame) new h = refl
 tell_taken old (Ticked a) new h = silent_effects took silent_took (effects (sight_in old) old.driver) old.port new.port old.memory new.memory h.does
-tell_taken old (Submitted dev request ticket) new h = refl
-tell_taken old (Polled c) new h = refl
-tell_taken old (Put at bytes) new h = refl
+tell_taken old other new h = refl
 
 tell_given : (old : Host) (t : HostTurn) (new : Host) (h : Does old t new) → flat_map gave (events_of old t new h) ≡ pushed_by t
-tell_given old (Took frame report) new h = refl
-tell_given old (Pushed frame) new h = refl
 tell_given old (Ticked a) new h = silent_effects gave silent_gave (effects (sight_in old) old.driver) old.port new.port old.memory new.memory h.does
-tell_given old (Submitted dev request ticket) new h = refl
-tell_given old (Polled c) new h = refl
-tell_given old (Put at bytes) new h = refl
+tell_given old other new h = refl
 
 tell_put : (old : Host) (t : HostTurn) (new : Host) (h : Does old t new) → flat_map put (events_of old t new h) ≡ put_by t
-tell_put old (Took frame report) new h = refl
-tell_put old (Pushed frame) new h = refl
 tell_put old (Ticked a) new h = silent_effects put silent_put (effects (sight_in old) old.driver) old.port new.port old.memory new.memory h.does
-tell_put old (Submitted dev request ticket) new h = refl
-tell_put old (Polled c) new h = refl
-tell_put old (Put at bytes) new h = refl
+tell_put old other new h = refl
 
 -- ---- each event that takes something takes a frame
 
@@ -214,9 +202,7 @@ framed_write None (Some r) value = (tt, tt)
 
 framed_effect : (e : Effect) (old : Port) (before after : Memory) → AreFramed (events_of_effect e old before after)
 framed_effect (effect.Writes offset value) old before after = framed_write (write_refusal old before offset value) (register_at offset) value
-framed_effect (effect.Flushes dev) old before after = (tt, tt)
-framed_effect (effect.Empties dev) old before after = (tt, tt)
-framed_effect (effect.Commands slot fields buffer) old before after = (tt, tt)
+framed_effect other old before after = (tt, tt)
 
 framed_effects : (es : List Effect) (old new : Port) (before after : Memory) (acts : ActsAll es old before new after) → AreFramed (events_of_effects es old before new after acts)
 unfolding ActsAll events_of_effects
@@ -226,11 +212,9 @@ framed_effects (e ∷ es) old new before after acts =
 
 framed_turn : (old : Host) (t : HostTurn) (new : Host) (h : Does old t new) → AreFramed (events_of old t new h)
 framed_turn old (Took frame report) new h = (h.framed, tt)
-framed_turn old (Pushed frame) new h = (tt, tt)
 framed_turn old (Ticked a) new h = framed_effects (effects (sight_in old) old.driver) old.port new.port old.memory new.memory h.does
-framed_turn old (Submitted dev request ticket) new h = (tt, tt)
 framed_turn old (Polled c) new h = tt
-framed_turn old (Put at bytes) new h = (tt, tt)
+framed_turn old other new h = (tt, tt)
 
 pub framed_over : (turns : List HostTurn) (old new : Host) (run : DoesAll old turns new) → AreFramed (events_over old new turns run)
 framed_over [] old new run = tt

@@ -34,10 +34,7 @@ is_sought n plan = detects n plan.asked plan.order
 found_order : (n : ℕ) (v : Sight) (plan : Plan) (stage : Stage) (dev : ℕ) → is_sought n (found_of v stage dev plan) ≡ is_sought n plan
 unfolding found_of
 found_order n v plan Identify dev = refl
-found_order n v plan (ReadLog file) dev = refl
-found_order n v plan AssertReset dev = refl
-found_order n v plan ReleaseReset dev = refl
-found_order n v plan AwaitReset dev = refl
+found_order n v plan other dev = refl
 
 back_order : (n : ℕ) (v : Sight) (plan : Plan) (path : Path) (b : Bool) → is_sought n (if b then advanced v path plan else plan) ≡ is_sought n plan
 back_order n v plan path true = found_order n v plan path.stage path.dev
@@ -75,27 +72,14 @@ module _ (n : ℕ) (file : TaskFile) (plan : Plan) (h : IsUnsought n plan) where
 
   ordered_unsought : (order : Order) → order ≢ Clear n → order ≡ plan.order → IsUnsought n (ordered order plan)
   ordered_unsought (Clear port) other is = out (Clear port) other is
-  ordered_unsought ResetOn other is = out ResetOn other is
-  ordered_unsought ResetOff other is = out ResetOff other is
-  ordered_unsought AwaitSignature other is = out AwaitSignature other is
-  ordered_unsought CountPorts other is = out CountPorts other is
-  ordered_unsought SetMask other is = out SetMask other is
-  ordered_unsought Enable other is = out Enable other is
-  ordered_unsought (Open port) other is = out (Open port) other is
-  ordered_unsought Scan other is = out Scan other is
-  ordered_unsought (Detect port) other is = out (Detect port) other is
-  ordered_unsought Watch other is = out Watch other is
+  ordered_unsought rest other is = out rest other is
 
   act_unsought : (v : Sight) (a : Option Act) → DueOf v plan a → (a ≢ Some (act.Orders (Clear n))) → IsUnsought n (match_some a plan (λ x. plan_after x file plan))
   unfolding plan_after
-  act_unsought v None of other = h
-  act_unsought v (Some (act.Opens k)) of other = h
   act_unsought v (Some act.Stops) of other = λ on. false≢true on
-  act_unsought v (Some (act.Restarts k)) of other = h
   act_unsought v (Some (act.Clears dev)) of other = cleared_if (nat_lt dev 15) dev
   act_unsought v (Some (act.Orders order)) of other = ordered_unsought order (λ e. other (ap (λ (o : Order). Some (act.Orders o)) e)) of
-  act_unsought v (Some (act.Steps dev stage)) of other = h
-  act_unsought v (Some (act.Issues slot dev queued)) of other = h
+  act_unsought v rest of other = h
 
 -- ---- a turn of the host
 
@@ -108,12 +92,10 @@ tick_unsought n old file flush h =
     (of_turn v old.driver.plan (done_ended v.issued old.driver.entries)) flush)
 
 plan_unsought : (n : ℕ) (old : Host) (t : HostTurn) (new : Host) → Does old t new → IsUnflushed n old t → IsUnsought n old.driver.plan → IsUnsought n new.driver.plan
-plan_unsought n old (Took frame report) new does flush h = subst (IsUnsought n) (ap (λ (x : Driver). x.plan) (sym does.driver)) h
-plan_unsought n old (Pushed frame) new does flush h = subst (IsUnsought n) (ap (λ (x : Driver). x.plan) (sym does.driver)) h
 plan_unsought n old (Ticked a) new does flush h = subst (IsUnsought n) (ap (λ (x : Driver). x.plan) (sym does.driver)) (tick_unsought n old (file_shown new.port) flush h)
 plan_unsought n old (Submitted dev request ticket) new does flush h = subst (IsUnsought n) (ap (λ (x : Driver). x.plan) (sym does.taken.driver)) h
 plan_unsought n old (Polled c) new does flush h = subst (IsUnsought n) (sym (ap (λ (x : Driver). x.plan) does.driver ∙ poll_plan old.driver)) h
-plan_unsought n old (Put at bytes) new does flush h = subst (IsUnsought n) (ap (λ (x : Driver). x.plan) (sym does.driver)) h
+plan_unsought n old other new does flush h = subst (IsUnsought n) (ap (λ (x : Driver). x.plan) (sym does.driver)) h
 
 pub stays_unsought : (n : ℕ) → StaysUnsought n
 stays_unsought n old t new does flush off = elim (cases_Bool (is_sought n new.driver.plan)) [

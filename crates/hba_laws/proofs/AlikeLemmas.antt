@@ -126,17 +126,7 @@ wrote : (n : ℕ) (old : Host) (register : Register) (value : ℕ) (past : Histo
 wrote n old Cmd value past none = sym (ap (λ (b : Bool). own n (if b then Stops ∷ [] else []) ++ past) none)
 wrote n old Ci value past none = wrote_issues n old value past
 wrote n old Fbs value past none = clear_told n (part_of n old) (with_memory old (Wrote Fbs value)) (cleared_by old.port.errors value) past refl
-wrote n old Clb value past none = refl
-wrote n old Clbu value past none = refl
-wrote n old Fb value past none = refl
-wrote n old Fbu value past none = refl
-wrote n old Is value past none = refl
-wrote n old Ie value past none = refl
-wrote n old Tfd value past none = refl
-wrote n old Sig value past none = refl
-wrote n old Serr value past none = refl
-wrote n old Sact value past none = refl
-wrote n old Sntf value past none = refl
+wrote n old other value past none = refl
 
 -- ---- a device is flushed
 

@@ -87,10 +87,9 @@ sent_fault n dev old new view own same others = elim (cases_eq n dev) [
 gave_fault : (n : ℕ) (o : Outgoing) (old : Port) (memory : Memory) (frame : Option Stamped) (new : Port) → Gives o old memory frame new → fault_of n new ≡ fault_of n old
 gave_fault n Nothing old memory frame new gives = same_fault n old new gives.1
 gave_fault n (Unreadable dev) old memory frame new gives = ap (λ (p : Port). fault_of n p) gives.1
-gave_fault n (Data dev offset len command) old memory None new gives = absurd gives
 gave_fault n (Data dev offset len command) old memory (Some f) new gives = sent_fault n dev old new _ gives.own refl gives.others
-gave_fault n (Order dev slot command) old memory None new gives = absurd gives
 gave_fault n (Order dev slot command) old memory (Some f) new gives = sent_fault n dev old new _ gives.own refl gives.others
+gave_fault n other old memory None new gives = absurd gives
 
 -- ---- events
 
@@ -102,9 +101,7 @@ event_fault n lt old new (Wrote register value) does from none =
 event_fault n lt old new (Flushed dev) does from none =
     fault_in (view_of n new.port) (view_of n old.port) (does.0.others n (λ e. eqb-false dev n none (sym e)))
 event_fault n lt old new (Gave frame) does from none = gave_fault n (outgoing old.port old.memory) old.port old.memory frame new.port does.0
-event_fault n lt old new (Stored structure) does from none = same_fault n old.port new.port does.1
-event_fault n lt old new (Rewrote dev row) does from none = same_fault n old.port new.port does.1
-event_fault n lt old new (Put at bytes) does from none = same_fault n old.port new.port does.1
+event_fault n lt old new other does from none = same_fault n old.port new.port does.1
 
 event_keeps : (n : ℕ) → n < 16 → (cause : DeviceCause) (old new : Host) (event : HostEvent) → Does old event new → clears n old event ≡ false → fault_of n old.port ≡ Some cause
     → fault_of n new.port ≡ Some cause
@@ -115,12 +112,7 @@ event_keeps n lt cause old new event does none is = elim (cases_Bool (comes_from
   where
     own_event : (e : HostEvent) → Does old e new → comes_from n e ≡ true → fault_of n new.port ≡ fault_of n old.port
     own_event (Took frame report) d own = took_own n cause old new frame report d (eqb-true (port_of frame) n own) is
-    own_event (Wrote register value) d own = absurd (false≢true own)
-    own_event (Flushed dev) d own = absurd (false≢true own)
-    own_event (Gave frame) d own = absurd (false≢true own)
-    own_event (Stored structure) d own = absurd (false≢true own)
-    own_event (Rewrote dev row) d own = absurd (false≢true own)
-    own_event (Put at bytes) d own = absurd (false≢true own)
+    own_event other d own = absurd (false≢true own)
 
 -- ---- runs
 
@@ -173,10 +165,9 @@ port_in e f is = ap (λ (x : Errors). x.port) is
 gave_port : (o : Outgoing) (cause : Stop) (old : Port) (memory : Memory) (frame : Option Stamped) (new : Port) → Gives o old memory frame new → stopped_by old ≡ Some cause → stopped_by new ≡ Some cause
 gave_port Nothing cause old memory frame new gives is = ap (λ (p : Port). stopped_by p) gives.1 ∙ is
 gave_port (Unreadable dev) cause old memory frame new gives is = ap (λ (p : Port). stopped_by p) gives.1 ∙ ap (λ (o : Option Stop). Some (unwrap_or o (stop.Port Bus))) is
-gave_port (Data dev offset len command) cause old memory None new gives is = absurd gives
 gave_port (Data dev offset len command) cause old memory (Some f) new gives is = port_in new.errors old.errors gives.errors ∙ is
-gave_port (Order dev slot command) cause old memory None new gives is = absurd gives
 gave_port (Order dev slot command) cause old memory (Some f) new gives is = port_in new.errors old.errors gives.errors ∙ is
+gave_port other cause old memory None new gives is = absurd gives
 
 event_stops : (cause : Stop) (old new : Host) (event : HostEvent) → Does old event new → clears_port old event ≡ false → stopped_by old.port ≡ Some cause → stopped_by new.port ≡ Some cause
 event_stops cause old new (Took frame report) does none is =
@@ -185,9 +176,7 @@ event_stops cause old new (Wrote register value) does none is =
     port_in new.port.errors (errors_after register old.port value) does.1.errors ∙ written_port register old.port value none ∙ is
 event_stops cause old new (Flushed dev) does none is = port_in new.port.errors (without old.port.errors dev) does.0.errors ∙ is
 event_stops cause old new (Gave frame) does none is = gave_port (outgoing old.port old.memory) cause old.port old.memory frame new.port does.0 is
-event_stops cause old new (Stored structure) does none is = ap (λ (p : Port). stopped_by p) does.1 ∙ is
-event_stops cause old new (Rewrote dev row) does none is = ap (λ (p : Port). stopped_by p) does.1 ∙ is
-event_stops cause old new (Put at bytes) does none is = ap (λ (p : Port). stopped_by p) does.1 ∙ is
+event_stops cause old new other does none is = ap (λ (p : Port). stopped_by p) does.1 ∙ is
 
 pub port_causes_stay : PortCausesStay
 port_causes_stay cause old new [] run none is = ap (λ (h : Host). stopped_by h.port) run ∙ is

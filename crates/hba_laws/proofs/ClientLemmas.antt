@@ -354,18 +354,14 @@ module _ (old : Host) (host : IsHost old) (past : Touches) (hist : AreHistoriesO
   event_is (Gave frame) new does reads before is =
       stays_is (touched_by_out old (outgoing old.port old.memory)) new (ap (λ (m : Memory). m.client) does.1) before
       (λ k. out_touches_none before (outgoing old.port old.memory) (goes_out old.port old.memory) k) is
-  event_is (Stored structure) new does reads before is = stays_is [] new (ap (λ (m : Memory). m.client) does.0.after) before (λ k. refl) is
-  event_is (Rewrote dev row) new does reads before is = stays_is [] new (ap (λ (m : Memory). m.client) does.0.after) before (λ k. refl) is
   event_is (Put at bytes) new does reads before is = put_is at bytes new does.0 before is
+  event_is other new does reads before is = stays_is [] new (ap (λ (m : Memory). m.client) does.0.after) before (λ k. refl) is
 
   pub event_within : (event : HostEvent) → AreWithin past → AreWithin (touched old event ++ past)
   event_within (Took frame report) w = took_within frame w
   event_within (WroteRegister register value) w = write_within register value w
-  event_within (Flushed dev) w = w
   event_within (Gave frame) w = out_within (outgoing old.port old.memory) (goes_out old.port old.memory) w
-  event_within (Stored structure) w = w
-  event_within (Rewrote dev row) w = w
-  event_within (Put at bytes) w = w
+  event_within other w = w
 
   pub histories_step : (event : HostEvent) (new : Host) → IsFramed event → Does old event new → AreHistoriesOf new (touched old event ++ past)
   histories_step event new framed does n lt = subst (IsHistoryOf n new) (sym (own_app n (touched old event) past)) (step n old host (own n past) (hist n lt) event new lt framed does)

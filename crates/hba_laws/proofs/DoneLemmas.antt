@@ -270,16 +270,11 @@ left_alone (Some t) = refl
 
 event_is_taken : (x : Happening) (block : Option Block) (payload : List ℕ) (past : History) → IsTaken (event_of x block payload) past
 event_is_taken happening.Nothing block payload past s = left_alone (issued s past)
-event_is_taken (happening.Answered answer.Nobody) block payload past s = refl
-event_is_taken (happening.Answered (answer.Queued slot)) block payload past s = refl
-event_is_taken (happening.Answered (answer.Done slot)) block payload past s = refl
 event_is_taken (happening.Answered (answer.Short slot)) block payload past s = left_alone (issued s past)
-event_is_taken (happening.Named mask) block payload past s = refl
-event_is_taken (happening.SetUp c) block payload past s = refl
 event_is_taken (happening.PioSetUp count to_host) None payload past s = left_alone (issued s past)
 event_is_taken (happening.PioSetUp count to_host) (Some b) payload past s = refl
 event_is_taken happening.Activated block payload past s = left_alone (issued s past)
-event_is_taken (happening.Carried wrote finishes) block payload past s = refl
+event_is_taken other block payload past s = refl
 
 same_some : (o : Option Transfer) (p : Option Issue) → option_map work_of_transfer o ≡ option_map work_of_issue p → is_some p ≡ is_some o
 same_some None None e = refl

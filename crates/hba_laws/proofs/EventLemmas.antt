@@ -145,10 +145,8 @@ goes_out port memory = by_running (is_running port)
 
 writes_none : (kind : Kind) → is_read kind ≡ false → is_pio kind ≡ false
 writes_none QueuedRead e = absurd (true≢false e)
-writes_none QueuedWrite e = refl
 writes_none PioIn e = absurd (true≢false e)
-writes_none NoData e = refl
-writes_none Control e = refl
+writes_none other e = refl
 
 none_ends : (ends : Option ℕ) (b : Bool) → is_some ends ≡ false → ends_block ends b ≡ false
 none_ends None true e = refl
@@ -250,16 +248,7 @@ module _ (n : ℕ) (old : Host) (host : IsHost old) (past : History) (told : IsH
       by_clear None = told
       by_clear (Some dev) = by_device_is dev (eqb dev n) refl
   wrote Clb value new lt accepted does = stays new (does.views n lt)
-  wrote Clbu value new lt accepted does = stays new (does.views n lt)
-  wrote Fb value new lt accepted does = stays new (does.views n lt)
-  wrote Fbu value new lt accepted does = stays new (does.views n lt)
-  wrote Is value new lt accepted does = stays new (does.views n lt)
-  wrote Ie value new lt accepted does = stays new (does.views n lt)
-  wrote Tfd value new lt accepted does = stays new (does.views n lt)
-  wrote Sig value new lt accepted does = stays new (does.views n lt)
-  wrote Serr value new lt accepted does = stays new (does.views n lt)
-  wrote Sact value new lt accepted does = stays new (does.views n lt)
-  wrote Sntf value new lt accepted does = stays new (does.views n lt)
+  wrote other value new lt accepted does = stays new (does.views n lt)
 
   -- the device of an event is this one, or another
   of_device : (dev : ℕ) (x : Event) (new : Host) → (n ≡ dev → IsTold (view_of dev new.port) (x ∷ past)) → (n ≢ dev → view_of n new.port ≡ v)
@@ -355,9 +344,7 @@ module _ (n : ℕ) (old : Host) (host : IsHost old) (past : History) (told : IsH
       (λ same. subst (λ (w : DeviceView). IsTold w (Emptied ∷ past)) (sym does.0.own) (told_of flushed_view (Emptied ∷ past) (says_emptied None past)))
       (does.0.others n)
   step (Gave frame) new lt framed does = gave (outgoing old.port old.memory) (goes_out old.port old.memory) frame new does.0
-  step (Stored structure) new lt framed does = stays new (ap (view_of n) does.1)
-  step (Rewrote dev row) new lt framed does = stays new (ap (view_of n) does.1)
-  step (Put at bytes) new lt framed does = stays new (ap (view_of n) does.1)
+  step other new lt framed does = stays new (ap (view_of n) does.1)
 
 -- ---- lists of events
 

@@ -321,11 +321,8 @@ module _ (old : Host) (host : IsHost old) (past : Touches) (hist : AreHistoriesO
   pub event_gathered : (event : HostEvent) → AreGathered opening (touched old event ++ past)
   event_gathered (Took frame report) = took_gathered frame
   event_gathered (WroteRegister register value) = quiet_gathered opening (touched_by_write register old value) past (write_quiet old register value) before
-  event_gathered (Flushed dev) = before
   event_gathered (Gave frame) = out_gathered (outgoing old.port old.memory) (is_due_out old.port old.memory)
-  event_gathered (Stored structure) = before
-  event_gathered (Rewrote dev row) = before
-  event_gathered (Put at bytes) = before
+  event_gathered other = before
 
 pub data_is_gathered : DataIsGathered
 data_is_gathered old new [] run sound opening past hist tables spared is before = before

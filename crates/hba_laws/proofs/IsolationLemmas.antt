@@ -62,14 +62,8 @@ data_alike own state sound count h =
 
 fis_alike : (own : DeviceSlots) (state : DeviceState) (sound : Bool) (fis : Fis) → is_some (port_cause (heard_fis own state sound fis).fault) ≡ false → heard_fis own state sound fis ≡ heard_fis own state true fis
 unfolding heard_fis
-fis_alike own state sound (view.RegH2D f) h = refl
-fis_alike own state sound (view.RegD2H f) h = refl
-fis_alike own state sound (view.SetBits f) h = refl
-fis_alike own state sound (view.DmaActivate f) h = refl
-fis_alike own state sound (view.DmaSetup f) h = refl
-fis_alike own state sound (view.PioSetup f) h = refl
 fis_alike own state sound (view.Payload f) h = data_alike own state sound (length f - 4) h
-fis_alike own state sound (view.Unknown f) h = refl
+fis_alike own state sound other h = refl
 
 pub heard_alike : (n : ℕ) (v : DeviceView) (sound : Bool) (fis : Option Fis) → is_some (port_cause (heard n v sound fis).fault) ≡ false → heard n v sound fis ≡ heard n v true fis
 heard_alike n v sound None h = refl
@@ -232,16 +226,7 @@ wrote n old new Fbs value lt started is next does place none =
     (λ same. wrote_clear n old new (does.1.views n lt ∙ cond-true (is_device n o) (stopped_view v) v same) does.1.commands place (ap (λ (m : Memory). m.structure) does.2))
     (λ differs. wrote_none n old new Fbs value lt does place (cond-false (is_device n o) (stopped_view v) v differs) refl)
 wrote n old new Clb value lt started is next does place none = wrote_none n old new Clb value lt does place refl refl
-wrote n old new Clbu value lt started is next does place none = wrote_none n old new Clbu value lt does place refl refl
-wrote n old new Fb value lt started is next does place none = wrote_none n old new Fb value lt does place refl refl
-wrote n old new Fbu value lt started is next does place none = wrote_none n old new Fbu value lt does place refl refl
-wrote n old new Is value lt started is next does place none = wrote_none n old new Is value lt does place refl refl
-wrote n old new Ie value lt started is next does place none = wrote_none n old new Ie value lt does place refl refl
-wrote n old new Tfd value lt started is next does place none = wrote_none n old new Tfd value lt does place refl refl
-wrote n old new Sig value lt started is next does place none = wrote_none n old new Sig value lt does place refl refl
-wrote n old new Serr value lt started is next does place none = wrote_none n old new Serr value lt does place refl refl
-wrote n old new Sact value lt started is next does place none = wrote_none n old new Sact value lt does place refl refl
-wrote n old new Sntf value lt started is next does place none = wrote_none n old new Sntf value lt does place refl refl
+wrote n old new other value lt started is next does place none = wrote_none n old new other value lt does place refl refl
 
 -- ---- a device is flushed
 

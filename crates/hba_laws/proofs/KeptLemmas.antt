@@ -32,13 +32,7 @@ use Rattle.hba_laws.proofs.WriteLemmas.{fb_refused, mode_stays}
 posted_fb : (r : Registers) (dev : ℕ) (b : Bool) (fis : Fis) → (posted r dev b fis).fb ≡ r.fb
 unfolding posted
 posted_fb r dev b (view.RegH2D f) = refl
-posted_fb r dev b (view.RegD2H f) = refl
-posted_fb r dev b (view.SetBits f) = refl
-posted_fb r dev b (view.DmaActivate f) = refl
-posted_fb r dev b (view.DmaSetup f) = refl
-posted_fb r dev b (view.PioSetup f) = refl
-posted_fb r dev b (view.Payload f) = refl
-posted_fb r dev b (view.Unknown f) = refl
+posted_fb r dev b other = refl
 
 settled_fb : (r : Registers) (h : Heard) → (settled r h).fb ≡ r.fb
 unfolding settled
@@ -57,25 +51,18 @@ written_fb host register value h =
     eqb-true next host.port.registers.fb (not-false (next == host.port.registers.fb) h)
 
 gives_fb : (o : Outgoing) (old : Port) (memory : Memory) (frame : Option Stamped) (new : Port) → Gives o old memory frame new → new.registers.fb ≡ old.registers.fb
-gives_fb Nothing old memory frame new gives = ap (λ (p : Port). p.registers.fb) gives.1
-gives_fb (Unreadable dev) old memory frame new gives = ap (λ (p : Port). p.registers.fb) gives.1
 gives_fb (Data dev offset len command) old memory None new gives = absurd gives
 gives_fb (Data dev offset len command) old memory (Some f) new gives = ap (λ (r : Registers). r.fb) gives.registers
 gives_fb (Order dev slot command) old memory None new gives = absurd gives
 gives_fb (Order dev slot command) old memory (Some f) new gives = ap (λ (r : Registers). r.fb) gives.registers
+gives_fb other old memory frame new gives = ap (λ (p : Port). p.registers.fb) gives.1
 
 -- ---- nor does the mode change while the port runs
 
 posted_mode : (r : Registers) (dev : ℕ) (b : Bool) (fis : Fis) → (posted r dev b fis).switching ≡ r.switching
 unfolding posted
 posted_mode r dev b (view.RegH2D f) = refl
-posted_mode r dev b (view.RegD2H f) = refl
-posted_mode r dev b (view.SetBits f) = refl
-posted_mode r dev b (view.DmaActivate f) = refl
-posted_mode r dev b (view.DmaSetup f) = refl
-posted_mode r dev b (view.PioSetup f) = refl
-posted_mode r dev b (view.Payload f) = refl
-posted_mode r dev b (view.Unknown f) = refl
+posted_mode r dev b other = refl
 
 settled_mode : (r : Registers) (h : Heard) → (settled r h).switching ≡ r.switching
 unfolding settled
@@ -92,27 +79,14 @@ written_mode : (host : Host) (register : Register) (value : ℕ) → host.port.r
     → (written register host.port.registers value).switching ≡ host.port.registers.switching
 unfolding written
 written_mode host Fbs value started accepted = mode_stays host.port host.memory value started accepted
-written_mode host Clb value started accepted = refl
-written_mode host Clbu value started accepted = refl
-written_mode host Fb value started accepted = refl
-written_mode host Fbu value started accepted = refl
-written_mode host Is value started accepted = refl
-written_mode host Ie value started accepted = refl
-written_mode host Cmd value started accepted = refl
-written_mode host Tfd value started accepted = refl
-written_mode host Sig value started accepted = refl
-written_mode host Serr value started accepted = refl
-written_mode host Sact value started accepted = refl
-written_mode host Ci value started accepted = refl
-written_mode host Sntf value started accepted = refl
+written_mode host other value started accepted = refl
 
 gives_mode : (o : Outgoing) (old : Port) (memory : Memory) (frame : Option Stamped) (new : Port) → Gives o old memory frame new → new.registers.switching ≡ old.registers.switching
-gives_mode Nothing old memory frame new gives = ap (λ (p : Port). p.registers.switching) gives.1
-gives_mode (Unreadable dev) old memory frame new gives = ap (λ (p : Port). p.registers.switching) gives.1
 gives_mode (Data dev offset len command) old memory None new gives = absurd gives
 gives_mode (Data dev offset len command) old memory (Some f) new gives = ap (λ (r : Registers). r.switching) gives.registers
 gives_mode (Order dev slot command) old memory None new gives = absurd gives
 gives_mode (Order dev slot command) old memory (Some f) new gives = ap (λ (r : Registers). r.switching) gives.registers
+gives_mode other old memory frame new gives = ap (λ (p : Port). p.registers.switching) gives.1
 
 pub mode_kept : (old new : Host) (event : HostEvent) → is_running old.port ≡ true → Does old event new → new.port.registers.switching ≡ old.port.registers.switching
 mode_kept old new (Took frame report) runs does =
@@ -127,9 +101,7 @@ mode_kept old new (Wrote register value) runs does =
     ∙ written_mode old register value (and_parts old.port.registers.started (is_none old.port.errors.port) runs).0 does.0
 mode_kept old new (Flushed dev) runs does = ap (λ (r : Registers). r.switching) does.0.registers
 mode_kept old new (Gave frame) runs does = gives_mode (outgoing old.port old.memory) old.port old.memory frame new.port does.0
-mode_kept old new (Stored structure) runs does = ap (λ (p : Port). p.registers.switching) does.1
-mode_kept old new (Rewrote dev row) runs does = ap (λ (p : Port). p.registers.switching) does.1
-mode_kept old new (Put at bytes) runs does = ap (λ (p : Port). p.registers.switching) does.1
+mode_kept old new other runs does = ap (λ (p : Port). p.registers.switching) does.1
 
 -- an event that does not move it leaves its place
 pub fb_kept : (old new : Host) (event : HostEvent) → Does old event new → moves_area old event ≡ false → new.port.registers.fb ≡ old.port.registers.fb
@@ -143,9 +115,7 @@ fb_kept old new (Took frame report) does h =
 fb_kept old new (Wrote register value) does h = ap (λ (r : Registers). r.fb) does.1.registers ∙ written_fb old register value h
 fb_kept old new (Flushed dev) does h = ap (λ (r : Registers). r.fb) does.0.registers
 fb_kept old new (Gave frame) does h = gives_fb (outgoing old.port old.memory) old.port old.memory frame new.port does.0
-fb_kept old new (Stored structure) does h = ap (λ (p : Port). p.registers.fb) does.1
-fb_kept old new (Rewrote dev row) does h = ap (λ (p : Port). p.registers.fb) does.1
-fb_kept old new (Put at bytes) does h = ap (λ (p : Port). p.registers.fb) does.1
+fb_kept old new other does h = ap (λ (p : Port). p.registers.fb) does.1
 
 -- nor is it moved while the port runs
 pub receives : (host : Host) → IsHost host → is_running host.port ≡ true → host.port.registers.receives ≡ true
@@ -158,24 +128,12 @@ pub stays_put : (old new : Host) (event : HostEvent) → IsHost old → is_runni
 unfolding written
 stays_put old new (Took frame report) is runs does = refl
 stays_put old new (Wrote Fb value) is runs does = absurd (fb_refused old.port old.memory value (receives old is runs) does.0)
-stays_put old new (Wrote Clb value) is runs does = still old.port.registers.fb
-stays_put old new (Wrote Clbu value) is runs does = still old.port.registers.fb
-stays_put old new (Wrote Fbu value) is runs does = still old.port.registers.fb
-stays_put old new (Wrote Is value) is runs does = still old.port.registers.fb
-stays_put old new (Wrote Ie value) is runs does = still old.port.registers.fb
-stays_put old new (Wrote Cmd value) is runs does = still old.port.registers.fb
-stays_put old new (Wrote Tfd value) is runs does = still old.port.registers.fb
-stays_put old new (Wrote Sig value) is runs does = still old.port.registers.fb
-stays_put old new (Wrote Serr value) is runs does = still old.port.registers.fb
-stays_put old new (Wrote Sact value) is runs does = still old.port.registers.fb
-stays_put old new (Wrote Ci value) is runs does = still old.port.registers.fb
-stays_put old new (Wrote Sntf value) is runs does = still old.port.registers.fb
-stays_put old new (Wrote Fbs value) is runs does = still old.port.registers.fb
 stays_put old new (Flushed dev) is runs does = refl
 stays_put old new (Gave frame) is runs does = refl
 stays_put old new (Stored structure) is runs does = refl
 stays_put old new (Rewrote dev row) is runs does = refl
 stays_put old new (Put at bytes) is runs does = refl
+stays_put old new other is runs does = still old.port.registers.fb
 
 -- ---- the hosts of a run
 
@@ -210,11 +168,10 @@ client_len old new (Took frame report) does =
           new.memory.client (does.heard f).client
     ]
 client_len old new (Wrote register value) does = ap (λ (m : Memory). length m.client) does.2
-client_len old new (Flushed dev) does = ap (λ (m : Memory). length m.client) does.1
-client_len old new (Gave frame) does = ap (λ (m : Memory). length m.client) does.1
 client_len old new (Stored structure) does = ap (λ (m : Memory). length m.client) does.0.after
 client_len old new (Rewrote dev row) does = ap (λ (m : Memory). length m.client) does.0.after
 client_len old new (Put at bytes) does = ap (λ (m : Memory). length m.client) does.0.after ∙ put_len old.memory.client bytes at does.0.inside.0 does.0.inside.1
+client_len old new other does = ap (λ (m : Memory). length m.client) does.1
 
 pub client_lens : (old new : Host) (events : List HostEvent) → Runs old events new → length new.memory.client ≡ length old.memory.client
 client_lens old new [] run = ap (λ (h : Host). length h.memory.client) run

@@ -67,13 +67,7 @@ module _ (opening : ℕ → ℕ) (past : Touches) (n s i b : ℕ) (t : Transfer)
     stood = stood opening past n bytes s i b t (subst (λ d. IsGathered opening past d bytes) same gathered.0) writing c;
   }
   sent_by dev (Issued slot u) same gathered c = absurd c
-  sent_by dev (Sent slot) same gathered c = absurd c
-  sent_by dev (SentControl slot) same gathered c = absurd c
-  sent_by dev (SetUp tag offset count to_host) same gathered c = absurd c
-  sent_by dev (PioSetUp count to_host ends) same gathered c = absurd c
-  sent_by dev Answered same gathered c = absurd c
-  sent_by dev (Named mask) same gathered c = absurd c
-  sent_by dev Emptied same gathered c = absurd c
+  sent_by dev other same gathered c = absurd c
 
   sent_later : (touch : Touch) → WasSent opening past n s i b t → WasSent opening (touch ∷ past) n s i b t
   sent_later touch was = record {
@@ -135,25 +129,11 @@ module _ (opening : ℕ → ℕ) (past : Touches) (n s i : ℕ) (t : Transfer) (
   event_leaves : (dev : ℕ) (e : Event) → HoldsWrites (By dev e ∷ past) → AreWithin (By dev e ∷ past)
       → client opening (By dev e ∷ past) (place t.table i) ≡ client opening past (place t.table i)
   event_leaves dev (Carried bytes) holds within = data_leaves dev bytes holds.0 within.0
-  event_leaves dev (Issued slot u) holds within = refl
-  event_leaves dev (Sent slot) holds within = refl
-  event_leaves dev (SentControl slot) holds within = refl
-  event_leaves dev (SetUp tag offset count to_host) holds within = refl
-  event_leaves dev (PioSetUp count to_host ends) holds within = refl
-  event_leaves dev Answered holds within = refl
-  event_leaves dev (Named mask) holds within = refl
-  event_leaves dev Emptied holds within = refl
+  event_leaves dev other holds within = refl
 
   stood_by : (dev : ℕ) (e : Event) (b : ℕ) → dev ≡ n → AreGathered opening (By dev e ∷ past) → CarriesIn e (own n past) s i b → client opening past (place t.table i) ≡ b
   stood_by dev (Carried bytes) b same gathered c = stood opening past n bytes s i b t (subst (λ d. IsGathered opening past d bytes) same gathered.0) writing c
-  stood_by dev (Issued slot u) b same gathered c = absurd c
-  stood_by dev (Sent slot) b same gathered c = absurd c
-  stood_by dev (SentControl slot) b same gathered c = absurd c
-  stood_by dev (SetUp tag offset count to_host) b same gathered c = absurd c
-  stood_by dev (PioSetUp count to_host ends) b same gathered c = absurd c
-  stood_by dev Answered b same gathered c = absurd c
-  stood_by dev (Named mask) b same gathered c = absurd c
-  stood_by dev Emptied b same gathered c = absurd c
+  stood_by dev other b same gathered c = absurd c
 
 holds_before : (past : Touches) (dev : ℕ) (e : Event) → HoldsWrites (By dev e ∷ past) → HoldsWrites past
 holds_before past dev (Carried bytes) holds = holds.1

@@ -109,15 +109,11 @@ written_errors register port value are = are
 
 posted_are : (r : Registers) (dev : ℕ) (b : Bool) (fis : Option Fis) → AreRegisters r → AreRegisters (posted_of r dev b fis)
 unfolding posted
-posted_are r dev b None are = are
-posted_are r dev b (Some (view.RegH2D f)) are = are
 posted_are r dev b (Some (view.RegD2H f)) are = record { chosen = are.chosen; started = are.started; receives = are.receives }
 posted_are r dev b (Some (view.SetBits f)) are = record { chosen = are.chosen; started = are.started; receives = are.receives }
-posted_are r dev b (Some (view.DmaActivate f)) are = are
 posted_are r dev b (Some (view.DmaSetup f)) are = record { chosen = are.chosen; started = are.started; receives = are.receives }
-posted_are r dev b (Some (view.PioSetup f)) are = are
-posted_are r dev b (Some (view.Payload f)) are = are
 posted_are r dev b (Some (view.Unknown f)) are = record { chosen = are.chosen; started = are.started; receives = are.receives }
+posted_are r dev b other are = are
 
 settled_are : (r : Registers) (h : Heard) → AreRegisters r → AreRegisters (settled r h)
 unfolding settled
@@ -140,16 +136,9 @@ written_are Cmd port memory value are h =
     let free : cmd_refusal r (has_bit value st) (has_bit value fre) ≡ None = first_none (cmd_refusal r (has_bit value st) (has_bit value fre)) (slots_refusal Cmd port memory value) h in
     cmd_are r (has_bit value st) (has_bit value fre) (has_bit value pma) (if falls r value then 0 else r.armed) are free
 written_are Fbs port memory value are h = record { chosen = omega arith; started = are.started; receives = are.receives }
-written_are Clbu port memory value are h = record { chosen = are.chosen; started = are.started; receives = are.receives }
-written_are Fbu port memory value are h = record { chosen = are.chosen; started = are.started; receives = are.receives }
-written_are Is port memory value are h = record { chosen = are.chosen; started = are.started; receives = are.receives }
-written_are Ie port memory value are h = record { chosen = are.chosen; started = are.started; receives = are.receives }
 written_are Tfd port memory value are h = are
 written_are Sig port memory value are h = are
-written_are Serr port memory value are h = record { chosen = are.chosen; started = are.started; receives = are.receives }
-written_are Sact port memory value are h = record { chosen = are.chosen; started = are.started; receives = are.receives }
-written_are Ci port memory value are h = record { chosen = are.chosen; started = are.started; receives = are.receives }
-written_are Sntf port memory value are h = record { chosen = are.chosen; started = are.started; receives = are.receives }
+written_are other port memory value are h = record { chosen = are.chosen; started = are.started; receives = are.receives }
 
 -- ---- events
 
@@ -169,10 +158,9 @@ gives_are (Unreadable dev) old memory frame new gives are =
       subst AreRegisters (sym after) (record { chosen = are.0.chosen; started = are.0.started; receives = are.0.receives }),
       subst AreErrors (sym (ap (λ (p : Port). p.errors) gives.1)) (stopped_errors old.errors Bus are.1),
     )
-gives_are (Data dev offset len command) old memory None new gives are = absurd gives
 gives_are (Data dev offset len command) old memory (Some f) new gives are = sound_by new.registers old.registers new.errors old.errors gives.registers gives.errors are
-gives_are (Order dev slot command) old memory None new gives are = absurd gives
 gives_are (Order dev slot command) old memory (Some f) new gives are = sound_by new.registers old.registers new.errors old.errors gives.registers gives.errors are
+gives_are other old memory None new gives are = absurd gives
 
 port_below : (frame : List ℕ) → port_of frame < 16
 port_below frame = omega arith
@@ -195,9 +183,7 @@ stays_by old new (Wrote register value) are does =
 stays_by old new (Flushed dev) are does =
     sound_by new.port.registers old.port.registers new.port.errors (without old.port.errors dev) does.0.registers does.0.errors (are.0, flushed_errors old.port.errors dev does.0.dev_below are.1)
 stays_by old new (Gave frame) are does = gives_are (outgoing old.port old.memory) old.port old.memory frame new.port does.0 are
-stays_by old new (Stored structure) are does = same_port old.port new.port does.1 are
-stays_by old new (Rewrote dev row) are does = same_port old.port new.port does.1 are
-stays_by old new (Put at bytes) are does = same_port old.port new.port does.1 are
+stays_by old new other are does = same_port old.port new.port does.1 are
 
 pub registers_stay_sound : RegistersStaySound
 registers_stay_sound old new event is does = stays_by old new event (is.port.registers, is.errors) does

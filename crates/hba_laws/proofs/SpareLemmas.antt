@@ -85,16 +85,11 @@ was_there n s (Puts at bytes ∷ rest) past t none h = was_there n s rest past t
 happening_none : (dev : ℕ) (x : Happening) (block : Option Block) (payload : List ℕ) → NoneIssues (by_device dev (event_of x block payload))
 unfolding NoneIssues NotIssue
 happening_none dev happening.Nothing block payload = tt
-happening_none dev (happening.Answered answer.Nobody) block payload = (tt, tt)
-happening_none dev (happening.Answered (answer.Queued slot)) block payload = (tt, tt)
-happening_none dev (happening.Answered (answer.Done slot)) block payload = (tt, tt)
 happening_none dev (happening.Answered (answer.Short slot)) block payload = tt
-happening_none dev (happening.Named mask) block payload = (tt, tt)
-happening_none dev (happening.SetUp c) block payload = (tt, tt)
 happening_none dev (happening.PioSetUp count to_host) None payload = tt
 happening_none dev (happening.PioSetUp count to_host) (Some b) payload = (tt, tt)
 happening_none dev happening.Activated block payload = tt
-happening_none dev (happening.Carried wrote finishes) block payload = (tt, tt)
+happening_none dev other block payload = (tt, tt)
 
 pub took_none : (old : Host) (frame : List ℕ) → NoneIssues (by_device (port_of frame) (event_taken old frame))
 unfolding NoneIssues
@@ -128,12 +123,11 @@ falls_none true = tt
 falls_none false = tt
 
 pub gives_commands : (o : Outgoing) (old new : Port) (memory : Memory) (frame : Option Stamped) → Gives o old memory frame new → new.commands ≡ old.commands
-gives_commands out.Nothing old new memory frame does = ap (λ (p : Port). p.commands) does.1
-gives_commands (out.Unreadable dev) old new memory frame does = ap (λ (p : Port). p.commands) does.1
 gives_commands (out.Data dev offset len command) old new memory None does = absurd does
 gives_commands (out.Data dev offset len command) old new memory (Some f) does = does.commands
 gives_commands (out.Order dev slot command) old new memory None does = absurd does
 gives_commands (out.Order dev slot command) old new memory (Some f) does = does.commands
+gives_commands other old new memory frame does = ap (λ (p : Port). p.commands) does.1
 
 -- ---- one event
 
@@ -230,18 +224,8 @@ module _ (old : Host) (host : IsHost old) (past : Touches) (hist : AreHistoriesO
   unfolding commands_after NoneIssues
   wrote_tables Cmd value accepted does memory = none_issued (touched_by_write Cmd old value) (falls_none (falls old.port.registers value)) does.commands
   wrote_tables Ci value accepted does memory = ci_tables value accepted does.commands memory
-  wrote_tables Clb value accepted does memory = none_issued [] tt does.commands
-  wrote_tables Clbu value accepted does memory = none_issued [] tt does.commands
-  wrote_tables Fb value accepted does memory = none_issued [] tt does.commands
-  wrote_tables Fbu value accepted does memory = none_issued [] tt does.commands
-  wrote_tables Is value accepted does memory = none_issued [] tt does.commands
-  wrote_tables Ie value accepted does memory = none_issued [] tt does.commands
-  wrote_tables Tfd value accepted does memory = none_issued [] tt does.commands
-  wrote_tables Sig value accepted does memory = none_issued [] tt does.commands
-  wrote_tables Serr value accepted does memory = none_issued [] tt does.commands
-  wrote_tables Sact value accepted does memory = none_issued [] tt does.commands
-  wrote_tables Sntf value accepted does memory = none_issued [] tt does.commands
   wrote_tables Fbs value accepted does memory = none_issued (touched_by_write Fbs old value) (clear_none (cleared_by old.port.errors value)) does.commands
+  wrote_tables other value accepted does memory = none_issued [] tt does.commands
 
   took_commands : (frame : List ℕ) (report : TakeReport) → TakesFrame old frame report new → new.port.commands ≡ old.port.commands
   took_commands frame report does = elim (cases_Bool (ignores (port_of frame) old.port frame)) [
@@ -256,9 +240,8 @@ module _ (old : Host) (host : IsHost old) (past : Touches) (hist : AreHistoriesO
   event_tables (Flushed dev) does = none_issued (By dev Emptied ∷ []) (tt, tt) does.0.commands
   event_tables (Gave frame) does =
       none_issued (touched_by_out old (outgoing old.port old.memory)) (out_none old (outgoing old.port old.memory)) (gives_commands (outgoing old.port old.memory) old.port new.port old.memory frame does.0)
-  event_tables (Stored structure) does = none_issued [] tt (ap (λ (p : Port). p.commands) does.1)
-  event_tables (Rewrote dev row) does = none_issued [] tt (ap (λ (p : Port). p.commands) does.1)
   event_tables (Put at bytes) does = none_issued (Puts at bytes ∷ []) tt (ap (λ (p : Port). p.commands) does.1)
+  event_tables other does = none_issued [] tt (ap (λ (p : Port). p.commands) does.1)
 
 -- Data is written by the table that stood there at the issue
 data_reads : (old : Host) (past : History) (n : ℕ) → HasTables n old past → (e : Event) → DataReadsAsIssued old past e

@@ -182,13 +182,7 @@ module _ (opening : ℕ → ℕ) (past : Touches) (n s i b : ℕ) (t : Transfer)
       → client opening (By dev e ∷ past) (place t.table i) ≡ b
   by_device dev (Carried bytes) kept within f = carried_any dev bytes kept.0 within.0 (eqb dev n) refl f
   by_device dev (Issued slot u) kept within f = other_any (Issued slot u) (anew slot u) (eqb dev n) f
-  by_device dev (Sent slot) kept within f = other_any (Sent slot) (λ x. x) (eqb dev n) f
-  by_device dev (SentControl slot) kept within f = other_any (SentControl slot) (λ x. x) (eqb dev n) f
-  by_device dev (SetUp tag offset count to_host) kept within f = other_any (SetUp tag offset count to_host) (λ x. x) (eqb dev n) f
-  by_device dev (PioSetUp count to_host ends) kept within f = other_any (PioSetUp count to_host ends) (λ x. x) (eqb dev n) f
-  by_device dev Answered kept within f = other_any Answered (λ x. x) (eqb dev n) f
-  by_device dev (Named mask) kept within f = other_any (Named mask) (λ x. x) (eqb dev n) f
-  by_device dev Emptied kept within f = other_any Emptied (λ x. x) (eqb dev n) f
+  by_device dev other kept within f = other_any other (λ x. x) (eqb dev n) f
 
 pub kept_before : (past : Touches) (dev : ℕ) (e : Event) → IsKept (By dev e ∷ past) → IsKept past
 kept_before past dev (Carried bytes) kept = kept.1

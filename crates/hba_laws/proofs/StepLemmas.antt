@@ -87,25 +87,17 @@ sent_waits i is e =
     ]
   where
     pio_queued : (kind : Kind) → is_pio kind ≡ true → is_queued kind ≡ true → ⊥
-    pio_queued QueuedRead p q = false≢true p
-    pio_queued QueuedWrite p q = false≢true p
     pio_queued PioIn p q = false≢true q
-    pio_queued NoData p q = false≢true p
-    pio_queued Control p q = false≢true p
+    pio_queued other p q = false≢true p
 
 pub not_queued : (kind : Kind) → is_pio kind ≡ true → is_queued kind ≡ false
 not_queued QueuedRead p = absurd (false≢true p)
 not_queued QueuedWrite p = absurd (false≢true p)
-not_queued PioIn p = refl
-not_queued NoData p = refl
-not_queued Control p = refl
+not_queued other p = refl
 
 pub not_pio : (kind : Kind) → is_queued kind ≡ true → is_pio kind ≡ false
-not_pio QueuedRead q = refl
-not_pio QueuedWrite q = refl
 not_pio PioIn q = absurd (false≢true q)
-not_pio NoData q = refl
-not_pio Control q = refl
+not_pio other q = refl
 
 module _ (n : ℕ) (own : DeviceSlots) (ends : Option ℕ) (past : History) (is : IsOwn n own) (says : Says own ends past) where
   -- the PIO data-in that was sent is the one that waits

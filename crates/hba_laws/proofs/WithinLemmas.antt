@@ -106,13 +106,8 @@ pub record CarriesFor (own : DeviceSlots) (sound : Bool) (len : ℕ) (wrote : Wr
   pub wrote_is : wrote ≡ record { slot = context.slot; offset = context.next; len = len }
 
 abbrev pub Carries : DeviceSlots → Bool → ℕ → Happening → Type 0
-Carries own sound len happening.Nothing = Unit {0}
-Carries own sound len (happening.Answered a) = Unit {0}
-Carries own sound len (happening.Named mask) = Unit {0}
-Carries own sound len (happening.SetUp c) = Unit {0}
-Carries own sound len (happening.PioSetUp count to_host) = Unit {0}
-Carries own sound len happening.Activated = Unit {0}
 Carries own sound len (happening.Carried wrote finishes) = CarriesFor own sound len wrote
+Carries own sound len other = Unit {0}
 
 module _ (own : DeviceSlots) (state : DeviceState) (sound : Bool) (len : ℕ) where
   d2h : (status error : ℕ) (e b : Bool)

@@ -25,14 +25,8 @@ use Rattle.disk_ends.specs.Same.{SlotCommand}
 fills_nothing : (s : ℕ) (e : Event) (past : History) (w : Work) → is_queued w.kind ≡ true → completes s e past w ≡ true
     → filled s (e ∷ past) ≡ filled s past
 fills_nothing s (event.Issued slot t) past w queued done = absurd (true≢false (sym done))
-fills_nothing s (event.Sent slot) past w queued done = refl
-fills_nothing s (event.SentControl slot) past w queued done = refl
-fills_nothing s (event.SetUp tag offset count to_host) past w queued done = refl
-fills_nothing s (event.PioSetUp count to_host ends) past w queued done = refl
 fills_nothing s (event.Carried bytes) past w queued done = absurd (no_end _ (is_pio w.kind) _ _ (not_pio w.kind queued) done)
-fills_nothing s event.Answered past w queued done = refl
-fills_nothing s (event.Named mask) past w queued done = refl
-fills_nothing s event.Emptied past w queued done = refl
+fills_nothing s other past w queued done = refl
 
 -- so the FIS by which it is done leaves what is filled
 pub leaves_filled : (m s : ℕ) (o : Option Event) (touches : Touches) (w : Work) → is_queued w.kind ≡ true

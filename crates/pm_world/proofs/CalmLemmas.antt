@@ -63,8 +63,7 @@ none_issues s (event.SetUp tag offset count to_host) past t none h =
 none_issues s (event.PioSetUp count to_host ends) past t none h =
     was_by (issued s past) (λ u. completes s (event.PioSetUp count to_host ends) past u.work) t h
 none_issues s (event.Carried bytes) past t none h = was_by (issued s past) (λ u. completes s (event.Carried bytes) past u.work) t h
-none_issues s event.Answered past t none h = was_by (issued s past) (λ u. completes s event.Answered past u.work) t h
-none_issues s (event.Named mask) past t none h = was_by (issued s past) (λ u. completes s (event.Named mask) past u.work) t h
+none_issues s other past t none h = was_by (issued s past) (λ u. completes s other past u.work) t h
 
 abbrev IsNone : Option Event → Type 0
 IsNone None = Prim.Unit {0}
@@ -84,22 +83,16 @@ device_issues n s m (Some e) touches t none h = by_test n s e touches t (m == n)
 
 answer_none : (a : Answered) → IsNone (event_of_answer a)
 answer_none answered.Nobody = tt
-answer_none (answered.Queued slot) = tt
-answer_none (answered.Done slot) = tt
-answer_none (answered.Short slot) = tt
+answer_none other = tt
 
 block_none : (count : ℕ) (to_host : Bool) (block : Option Block) → IsNone (event_of_block count to_host block)
 block_none count to_host None = tt
 block_none count to_host (Some block) = tt
 
 happening_none : (h : Happening) (block : Option Block) (payload : List ℕ) → IsNone (event_of h block payload)
-happening_none happening.Nothing block payload = tt
 happening_none (happening.Answered a) block payload = answer_none a
-happening_none (happening.Named mask) block payload = tt
-happening_none (happening.SetUp c) block payload = tt
 happening_none (happening.PioSetUp count to_host) block payload = block_none count to_host block
-happening_none happening.Activated block payload = tt
-happening_none (happening.Carried wrote finishes) block payload = tt
+happening_none other block payload = tt
 
 taken_none : (host : host_event.Host) (frame : List ℕ) → IsNone (event_taken host frame)
 taken_none host frame = by_ignores (ignores (port_of frame) host.port frame)
@@ -182,5 +175,4 @@ turn_freed old (Ticked acted) new does touches sound served serves s e f low her
   | inr unissued ↦ unissued_freed new _ s f serves.last low there unissued e.head.dev
 ]
 turn_freed old (Submitted dev request ticket) new does touches sound served serves s e f low here there on begun freed = freed
-turn_freed old (Polled c) new does touches sound served serves s e f low here there on begun freed = freed
-turn_freed old (Put at bytes) new does touches sound served serves s e f low here there on begun freed = freed
+turn_freed old other new does touches sound served serves s e f low here there on begun freed = freed

@@ -102,14 +102,8 @@ tick_step old (step.DiskTake n) new rule = absurd ((at_device old n answer.Ticke
 tick_step old (step.PmPresence n) new rule = absurd ((at_both old n answer.Ticked new (PmPresenceRule n) rule).rule)
 tick_step old (step.PmFromDevice n) new rule = absurd ((at_both old n answer.Ticked new (PmFromDeviceRule n) rule).rule)
 tick_step old (step.PmDown n) new rule = absurd ((at_both old n answer.Ticked new (PmDownRule n) rule).rule)
-tick_step old step.PmFromHost new rule = absurd (rule.0)
-tick_step old step.PmUp new rule = absurd (rule.0)
-tick_step old step.HostTake new rule = absurd (rule.0)
-tick_step old step.HostPush new rule = absurd (rule.0)
 tick_step old step.Tick new rule = refl
-tick_step old (step.Submit dev request) new rule = absurd (rule.0)
-tick_step old step.Poll new rule = absurd (rule.0)
-tick_step old (step.Put at bytes) new rule = absurd (rule.0)
+tick_step old other new rule = absurd (rule.0)
 
 -- ## The changes
 

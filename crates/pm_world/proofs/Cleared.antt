@@ -199,24 +199,15 @@ request_waits m n (Some (Write at value)) none is =
     (λ here told. written_told (map.port_at m at.port) at.register value (λ first.
     x_unshared value (third_fails (at.port == n) (at.register == 1) (shares value bit_x) none (eq-eqb at.port n here) (eq-eqb at.register 1 first))) told) is
 request_waits m n (Some Unknown) none is = is
-request_waits m n (Some Reset) none is = is
-request_waits m n (Some EndReset) none is = is
+request_waits m n other none is = is
 
 request_shows : (m : RegisterMap) (n : ℕ) (request : Option Request) → Shows n m → Shows n (registers_after_request m request)
-request_shows m n None is = is
-request_shows m n (Some (Read at)) is = is
 request_shows m n (Some (Write at value)) is = write_keeps ShowsTruly m n at.port at.register value (λ here shows. shows_written (map.port_at m at.port) at.register value shows) is
-request_shows m n (Some Unknown) is = is
-request_shows m n (Some Reset) is = is
-request_shows m n (Some EndReset) is = is
+request_shows m n other is = is
 
 request_room : (m : RegisterMap) (request : Option Request) → SameRoom m (registers_after_request m request)
-request_room m None = refl
-request_room m (Some (Read at)) = refl
 request_room m (Some (Write at value)) = write_room m at.port at.register value
-request_room m (Some Unknown) = refl
-request_room m (Some Reset) = refl
-request_room m (Some EndReset) = refl
+request_room m other = refl
 
 -- ---- one step of the multiplier
 
@@ -403,12 +394,7 @@ rule_goes n old (step.PmDown k) a new rule =
     subst (λ (w : Places). PortGoes n (is_cleared n old a) old.multiplier w.multiplier) (sym p.new_is) (down_goes n (is_cleared n old a) k p.place old.multiplier a p.after p.left p.rule)
 rule_goes n old step.PmFromHost a new rule = from_host_goes n old new a rule.0
 rule_goes n old step.PmUp a new rule = up_goes n (is_cleared n old a) old.multiplier old.upward a new.multiplier new.upward rule.0
-rule_goes n old step.HostTake a new rule = equal_goes n (is_cleared n old a) old.multiplier new.multiplier (ap (λ (w : Places). w.multiplier) rule.1)
-rule_goes n old step.HostPush a new rule = equal_goes n (is_cleared n old a) old.multiplier new.multiplier (ap (λ (w : Places). w.multiplier) rule.1)
-rule_goes n old step.Tick a new rule = equal_goes n (is_cleared n old a) old.multiplier new.multiplier (ap (λ (w : Places). w.multiplier) rule.1)
-rule_goes n old (step.Submit dev request) a new rule = equal_goes n (is_cleared n old a) old.multiplier new.multiplier (ap (λ (w : Places). w.multiplier) rule.1)
-rule_goes n old step.Poll a new rule = equal_goes n (is_cleared n old a) old.multiplier new.multiplier (ap (λ (w : Places). w.multiplier) rule.1)
-rule_goes n old (step.Put at bytes) a new rule = equal_goes n (is_cleared n old a) old.multiplier new.multiplier (ap (λ (w : Places). w.multiplier) rule.1)
+rule_goes n old other a new rule = equal_goes n (is_cleared n old a) old.multiplier new.multiplier (ap (λ (w : Places). w.multiplier) rule.1)
 
 -- ---- a run
 
@@ -470,22 +456,8 @@ up_other n pm upward (answer.Up k) left new below is answers acts =
 up_other n pm upward _ left new below is answers acts = absurd acts
 
 none_up : (n : ℕ) (old : Places) (s : Step) (a : Answer) (new : Places) → n < 15 → IsOrderly old → IsWaiting n old.multiplier.registers → Rule old s (Ok a) new → is_up_from n s a ≡ false
-none_up n old (step.Came k) a new below orderly is rule = refl
-none_up n old (step.Gone k) a new below orderly is rule = refl
-none_up n old (step.DiskSend k) a new below orderly is rule = refl
-none_up n old (step.Inject k bytes) a new below orderly is rule = refl
-none_up n old (step.DiskTake k) a new below orderly is rule = refl
-none_up n old (step.PmPresence k) a new below orderly is rule = refl
-none_up n old (step.PmFromDevice k) a new below orderly is rule = refl
-none_up n old (step.PmDown k) a new below orderly is rule = refl
-none_up n old step.PmFromHost a new below orderly is rule = refl
 none_up n old step.PmUp a new below orderly is rule = up_other n old.multiplier old.upward a new.multiplier new.upward below is orderly.answer rule.0
-none_up n old step.HostTake a new below orderly is rule = refl
-none_up n old step.HostPush a new below orderly is rule = refl
-none_up n old step.Tick a new below orderly is rule = refl
-none_up n old (step.Submit dev request) a new below orderly is rule = refl
-none_up n old step.Poll a new below orderly is rule = refl
-none_up n old (step.Put at bytes) a new below orderly is rule = refl
+none_up n old other a new below orderly is rule = refl
 
 pub run_waits : (n : ℕ) (old : Places) (steps : List Step) (answers : List Answer) (new : Places) (run : Run old steps answers new) → n < 15 → IsOrderly old → IsWaiting n old.multiplier.registers → PassesNone n old steps answers new run
 run_waits n old [] answers new run below orderly is = tt

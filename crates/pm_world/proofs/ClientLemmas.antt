@@ -112,16 +112,8 @@ module _ (h : Host) (touches : Touches) (sound : IsSoundHost h) (served : IsServ
 
   event_leaves : (m : ℕ) (o : Option Event) → AreWithin (by_device m o ++ touches)
       → client zero_at (by_device m o ++ touches) (place e.prds i) ≡ client zero_at touches (place e.prds i)
-  event_leaves m None within = refl
   event_leaves m (Some (event.Carried bytes)) within = data_leaves m bytes within.0
-  event_leaves m (Some (event.Issued slot t)) within = refl
-  event_leaves m (Some (event.Sent slot)) within = refl
-  event_leaves m (Some (event.SentControl slot)) within = refl
-  event_leaves m (Some (event.SetUp tag offset count to_host)) within = refl
-  event_leaves m (Some (event.PioSetUp count to_host ends)) within = refl
-  event_leaves m (Some event.Answered) within = refl
-  event_leaves m (Some (event.Named mask)) within = refl
-  event_leaves m (Some event.Emptied) within = refl
+  event_leaves m other within = refl
 
   -- and what is put does not touch it
   module _ (at len : ℕ) (unused : in_use h.driver at len ≡ false) where
@@ -237,11 +229,10 @@ module _ (len : ℕ) (right : is_memory_size len ≡ true) where
 
       pub turn_stays : (turn : HostTurn) (new : Host) → Does old turn new → Stays (place e.prds i - client_start) old new
       turn_stays (Took frame report) new does = took_stays frame report new does
-      turn_stays (Pushed frame) new does = ap (λ (m : Memory). slice_index m.client (place e.prds i - client_start)) does.memory
       turn_stays (Ticked acted) new does = ap (λ (c : List ℕ). slice_index c (place e.prds i - client_start)) (tick_client old acted new does)
       turn_stays (Submitted dev request ticket) new does = ap (λ (c : List ℕ). slice_index c (place e.prds i - client_start)) does.taken.client
-      turn_stays (Polled c) new does = ap (λ (m : Memory). slice_index m.client (place e.prds i - client_start)) does.memory
       turn_stays (Put at bytes) new does = put_stays at bytes new does
+      turn_stays other new does = ap (λ (m : Memory). slice_index m.client (place e.prds i - client_start)) does.memory
 
   -- ## Until it is polled
 

@@ -143,14 +143,7 @@ drops_other n c old new (step.PmPresence m) f rest there rule first = absurd (at
 drops_other n c old new (step.PmFromDevice m) f rest there rule first =
     absurd (at_both old m (answer.DiskTook n true) new (PmFromDeviceRule m) rule).rule
 drops_other n c old new (step.PmDown m) f rest there rule first = absurd (at_both old m (answer.DiskTook n true) new (PmDownRule m) rule).rule
-drops_other n c old new step.PmFromHost f rest there rule first = absurd rule.0
-drops_other n c old new step.PmUp f rest there rule first = absurd rule.0
-drops_other n c old new step.HostTake f rest there rule first = absurd rule.0
-drops_other n c old new step.HostPush f rest there rule first = absurd rule.0
-drops_other n c old new step.Tick f rest there rule first = absurd rule.0
-drops_other n c old new (step.Submit dev request) f rest there rule first = absurd rule.0
-drops_other n c old new step.Poll f rest there rule first = absurd rule.0
-drops_other n c old new (step.Put at bytes) f rest there rule first = absurd rule.0
+drops_other n c old new other f rest there rule first = absurd rule.0
 
 -- ## A frame of the host
 
@@ -342,9 +335,8 @@ module _ (n c : ℕ) (below : n < 15) (old : Places) (s : Step) (new : Places) (
   received_none (x ∷ xs) e = cc e
 
   received_one : (xs : List (List ℕ)) (bytes : List ℕ) → map (λ b. Received b) xs ≡ Received bytes ∷ [] → xs ≡ bytes ∷ []
-  received_one [] bytes e = cc e
   received_one (x ∷ []) bytes e = let same : x ≡ bytes = cc e in ap (λ (b : List ℕ). b ∷ []) same
-  received_one (x ∷ y ∷ xs) bytes e = cc e
+  received_one other bytes e = cc e
 
   given_is : (f : Stamped) → new.downward.frames ≡ old.downward.frames ++ f ∷ [] → (heard : List Happening) → IsAtHost n old answer.Pushed new heard
       → heard ≡ map (λ bytes. Received bytes) (for_port n f)

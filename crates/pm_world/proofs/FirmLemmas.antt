@@ -43,14 +43,7 @@ came_by old new port conn (step.DiskTake m) rule = absurd (at_device old m (answ
 came_by old new port conn (step.PmPresence m) rule = absurd (at_both old m (answer.Came port conn) new (PmPresenceRule m) rule).rule
 came_by old new port conn (step.PmFromDevice m) rule = absurd (at_both old m (answer.Came port conn) new (PmFromDeviceRule m) rule).rule
 came_by old new port conn (step.PmDown m) rule = absurd (at_both old m (answer.Came port conn) new (PmDownRule m) rule).rule
-came_by old new port conn step.PmFromHost rule = absurd rule.0
-came_by old new port conn step.PmUp rule = absurd rule.0
-came_by old new port conn step.HostTake rule = absurd rule.0
-came_by old new port conn step.HostPush rule = absurd rule.0
-came_by old new port conn step.Tick rule = absurd rule.0
-came_by old new port conn (step.Submit dev request) rule = absurd rule.0
-came_by old new port conn step.Poll rule = absurd rule.0
-came_by old new port conn (step.Put at given) rule = absurd rule.0
+came_by old new port conn other rule = absurd rule.0
 
 -- ## Changes, one after another
 

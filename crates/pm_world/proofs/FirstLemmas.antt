@@ -52,10 +52,7 @@ OpensWell n old a = Prim.Unit {0}
 no_request : (r : Request) → FitsRequest (listens empty Plugged) r → ⊥
 no_request (asked.Reset on) fits = fits
 no_request (asked.Queue c) fits = let e : Signs ∷ [] ≡ [] = fits.1 in cc e
-no_request asked.ReadErrorLog fits = let e : Signs ∷ [] ≡ [] = fits.awaited in cc e
-no_request asked.Identify fits = let e : Signs ∷ [] ≡ [] = fits.awaited in cc e
-no_request asked.Flush fits = let e : Signs ∷ [] ≡ [] = fits.awaited in cc e
-no_request asked.Other fits = let e : Signs ∷ [] ≡ [] = fits.awaited in cc e
+no_request other fits = let e : Signs ∷ [] ≡ [] = fits.awaited in cc e
 
 nothing_fits : (f : Result Fis FisFault) → Fits (listens empty Plugged) f → ⊥
 nothing_fits (Ok (view.RegH2D f)) fits = no_request (request_of f) fits.1

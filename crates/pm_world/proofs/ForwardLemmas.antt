@@ -114,8 +114,7 @@ request_meets n m (Some (Write a value)) at = record {
   meets = write_keeps Meets m n a.port a.register value (λ here was. written_meets (map.port_at m a.port) a.register value was) at.meets;
 }
 request_meets n m (Some Unknown) at = at
-request_meets n m (Some Reset) at = at
-request_meets n m (Some EndReset) at = at
+request_meets n m other at = at
 
 set_meets : (n k : ℕ) (m new : RegisterMap) (q : PortRegisters) → new.bank ≡ set m.bank k q → Meets q → Meets (map.port_at m n)
     → Meets (map.port_at new n)

@@ -124,19 +124,7 @@ module _ (old new : event.Host) (sound : IsHost old) (have : HaveFises old) wher
   wrote_fises : (register : Register) (value : ℕ) → Accepts old.port old.memory register value new.port → HaveFises new
   unfolding commands_after
   wrote_fises Ci value does = issued_fises value does.commands
-  wrote_fises Clb value does = same_fises does.commands
-  wrote_fises Clbu value does = same_fises does.commands
-  wrote_fises Fb value does = same_fises does.commands
-  wrote_fises Fbu value does = same_fises does.commands
-  wrote_fises Is value does = same_fises does.commands
-  wrote_fises Ie value does = same_fises does.commands
-  wrote_fises Cmd value does = same_fises does.commands
-  wrote_fises Tfd value does = same_fises does.commands
-  wrote_fises Sig value does = same_fises does.commands
-  wrote_fises Serr value does = same_fises does.commands
-  wrote_fises Sact value does = same_fises does.commands
-  wrote_fises Sntf value does = same_fises does.commands
-  wrote_fises Fbs value does = same_fises does.commands
+  wrote_fises other value does = same_fises does.commands
 
   took_fises : (frame : List ℕ) (report : TakeReport) → TakesFrame old frame report new → HaveFises new
   took_fises frame report does = elim (cases_Bool (ignores (port_of frame) old.port frame)) [
@@ -149,9 +137,7 @@ module _ (old new : event.Host) (sound : IsHost old) (have : HaveFises old) wher
   event_fises (Wrote register value) does = wrote_fises register value does.1
   event_fises (Flushed dev) does = same_fises does.0.commands
   event_fises (Gave frame) does = same_fises (gives_commands (outgoing old.port old.memory) old.port new.port old.memory frame does.0)
-  event_fises (Stored structure) does = same_fises (ap (λ (p : Port). p.commands) does.1)
-  event_fises (Rewrote dev row) does = same_fises (ap (λ (p : Port). p.commands) does.1)
-  event_fises (Put at bytes) does = same_fises (ap (λ (p : Port). p.commands) does.1)
+  event_fises other does = same_fises (ap (λ (p : Port). p.commands) does.1)
 
 fises_over : (old new : event.Host) (events : List HostEvent) (run : Runs old events new) → AreHosts old new events run → HaveFises old → HaveFises new
 fises_over old new [] run hosts have = subst HaveFises (sym run) have

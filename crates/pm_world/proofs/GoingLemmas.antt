@@ -26,20 +26,12 @@ use Rattle.pm_world.proofs.ListLemmas.{IsAwaited, line_reply}
 notice_comes : (stage : Stage31) (bytes : List ℕ) → IsNotice31 bytes → MayCome31 stage bytes
 notice_comes Signs bytes is = inl is
 notice_comes Asks bytes is = inl is
-notice_comes Rests bytes is = is
-notice_comes Waits bytes is = is
-notice_comes Resets bytes is = is
-notice_comes Told bytes is = is
-notice_comes Fails bytes is = is
+notice_comes other bytes is = is
 
 awaited_comes : (stage : Stage31) (f : Stamped) → IsAwaited stage f → MayCome31 stage f.bytes
 awaited_comes Signs f is = inr is
 awaited_comes Asks f is = inr is
-awaited_comes Rests f is = absurd is
-awaited_comes Waits f is = absurd is
-awaited_comes Resets f is = absurd is
-awaited_comes Told f is = absurd is
-awaited_comes Fails f is = absurd is
+awaited_comes other f is = absurd is
 
 may_come : (stage : Stage31) (down : List Stamped) (waits : Option Stamped) (f : Stamped) (up : List Stamped) (report : TakeReport) → IsFrame f.bytes → HasRisen f
     → OnLine stage down waits (f ∷ up) → AreNotices (f ∷ up) → MayBe31 stage (Took f.bytes report)
@@ -85,12 +77,7 @@ of_control now n (step.PmFromDevice m) port conn number bytes report new rule =
 of_control now n (step.PmDown m) port conn number bytes report new rule =
     absurd (at_both now m (answer.Took port conn number bytes report) new (PmDownRule m) rule).rule
 of_control now n step.PmFromHost port conn number bytes report new rule = absurd rule.0
-of_control now n step.PmUp port conn number bytes report new rule = absurd rule.0
-of_control now n step.HostPush port conn number bytes report new rule = absurd rule.0
-of_control now n step.Tick port conn number bytes report new rule = absurd rule.0
-of_control now n (step.Submit dev request) port conn number bytes report new rule = absurd rule.0
-of_control now n step.Poll port conn number bytes report new rule = absurd rule.0
-of_control now n (step.Put at given) port conn number bytes report new rule = absurd rule.0
+of_control now n other port conn number bytes report new rule = absurd rule.0
 
 -- ---- the law
 

@@ -139,14 +139,8 @@ pushed_turn old new (step.DiskTake m) rule = absurd (at_device old m answer.Push
 pushed_turn old new (step.PmPresence m) rule = absurd (at_both old m answer.Pushed new (PmPresenceRule m) rule).rule
 pushed_turn old new (step.PmFromDevice m) rule = absurd (at_both old m answer.Pushed new (PmFromDeviceRule m) rule).rule
 pushed_turn old new (step.PmDown m) rule = absurd (at_both old m answer.Pushed new (PmDownRule m) rule).rule
-pushed_turn old new step.PmFromHost rule = absurd rule.0
-pushed_turn old new step.PmUp rule = absurd rule.0
-pushed_turn old new step.HostTake rule = absurd rule.0
 pushed_turn old new step.HostPush rule = refl
-pushed_turn old new step.Tick rule = absurd rule.0
-pushed_turn old new (step.Submit dev request) rule = absurd rule.0
-pushed_turn old new step.Poll rule = absurd rule.0
-pushed_turn old new (step.Put at given) rule = absurd rule.0
+pushed_turn old new other rule = absurd rule.0
 
 -- ## A step
 

@@ -78,14 +78,8 @@ push_step old (step.DiskTake n) new rule = absurd ((at_device old n answer.Pushe
 push_step old (step.PmPresence n) new rule = absurd ((at_both old n answer.Pushed new (PmPresenceRule n) rule).rule)
 push_step old (step.PmFromDevice n) new rule = absurd ((at_both old n answer.Pushed new (PmFromDeviceRule n) rule).rule)
 push_step old (step.PmDown n) new rule = absurd ((at_both old n answer.Pushed new (PmDownRule n) rule).rule)
-push_step old step.PmFromHost new rule = absurd (rule.0)
-push_step old step.PmUp new rule = absurd (rule.0)
-push_step old step.HostTake new rule = absurd (rule.0)
 push_step old step.HostPush new rule = refl
-push_step old step.Tick new rule = absurd (rule.0)
-push_step old (step.Submit dev request) new rule = absurd (rule.0)
-push_step old step.Poll new rule = absurd (rule.0)
-push_step old (step.Put at bytes) new rule = absurd (rule.0)
+push_step old other new rule = absurd (rule.0)
 
 -- turns in which nothing is taken, and which are no ticks
 abbrev IsIdle : HostTurn → Type 0
@@ -100,10 +94,7 @@ AreIdle (turn ∷ turns) = IsIdle turn × AreIdle turns
 idle_known : (n : ℕ) (known : Bool) (h : Host) (t : HostTurn) → IsIdle t → host.known_after n known h t ≡ known
 idle_known n known h (Took frame report) idle = absurd idle
 idle_known n known h (Ticked did) idle = absurd idle
-idle_known n known h (Pushed frame) idle = or_false known
-idle_known n known h (Submitted dev request ticket) idle = or_false known
-idle_known n known h (Polled completion) idle = or_false known
-idle_known n known h (Put at bytes) idle = or_false known
+idle_known n known h other idle = or_false known
 
 idle_turns : (n : ℕ) (below : n < 15) (known : Bool) (old new : Host) (turns : List HostTurn) → DoesAll old turns new → AreIdle turns → IsAsking n known old → IsAsking n known new
 idle_turns n below known old new [] does idle h = subst (IsAsking n known) (sym does) h

@@ -92,10 +92,9 @@ both_passed n pm (x ∷ xs) ys first second = (first.0, both_passed n pm xs ys f
 -- down
 module _ (n : ℕ) (pm : PmState) where
   falls_passed : (o : Option ℕ) (frames : List Stamped) → ((c : ℕ) → o ≡ Some c → (forwards pm.registers n ≡ true) × ((port_at pm n).present ≡ Some c)) → ArePassed n pm (flat_map (falls o) frames)
-  falls_passed None [] h = tt
   falls_passed None (f ∷ frames) h = falls_passed None frames h
-  falls_passed (Some c) [] h = tt
   falls_passed (Some c) (f ∷ frames) h = (record { opens = (h c refl).0; there = (h c refl).1 }, falls_passed (Some c) frames h)
+  falls_passed other [] h = tt
 
   pub passes_open : (c : ℕ) → passes_to pm n ≡ Some c → (forwards pm.registers n ≡ true) × ((port_at pm n).present ≡ Some c)
   passes_open c e = by_test (forwards pm.registers n) e

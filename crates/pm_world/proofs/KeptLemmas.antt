@@ -265,11 +265,7 @@ module _ (n k : ℕ) (old new : Places) (a : Answer) (u : IsUnremoved n k old) (
       let like = up_roomy old.multiplier old.upward a new.multiplier new.upward rule.0 (roomy orderly) in
       aside (ap (λ (w : Places). w.devices) rule.1) (like.1.1 n)
   unremoved_after step.HostTake orderly rule = quiet (ap (λ (w : Places). w.devices) rule.1) (ap (λ (w : Places). w.multiplier) rule.1)
-  unremoved_after step.HostPush orderly rule = quiet (ap (λ (w : Places). w.devices) rule.1) (ap (λ (w : Places). w.multiplier) rule.1)
-  unremoved_after step.Tick orderly rule = quiet (ap (λ (w : Places). w.devices) rule.1) (ap (λ (w : Places). w.multiplier) rule.1)
-  unremoved_after (step.Submit dev request) orderly rule = quiet (ap (λ (w : Places). w.devices) rule.1) (ap (λ (w : Places). w.multiplier) rule.1)
-  unremoved_after step.Poll orderly rule = quiet (ap (λ (w : Places). w.devices) rule.1) (ap (λ (w : Places). w.multiplier) rule.1)
-  unremoved_after (step.Put at bytes) orderly rule = quiet (ap (λ (w : Places). w.devices) rule.1) (ap (λ (w : Places). w.multiplier) rule.1)
+  unremoved_after other orderly rule = quiet (ap (λ (w : Places). w.devices) rule.1) (ap (λ (w : Places). w.multiplier) rule.1)
 
 stays_goes : (n c : ℕ) (a : Answer) → StaysOn n c a → GoesBefore n c a
 stays_goes n c (answer.Gone port conn) stays = λ here. absurd (true≢false (sym (eq-eqb port n here) ∙ stays))
@@ -358,13 +354,7 @@ module _ (n : ℕ) (old new : Places) (a : Answer) (q : Place) (now : slice_get 
       let d : AtBoth old m (Ok a) new (PmDownRule m) = at_both old m a new (PmDownRule m) rule in
       was_at m d.place d.after d.is (ap (λ (w : Places). w.devices) d.new_is) (keeps_down m d.place old.multiplier a d.after d.left d.rule)
   was step.PmFromHost rule = rests step.PmFromHost rule (λ p c r. absurd r.0) (ap (λ (w : Places). w.devices) rule.1)
-  was step.PmUp rule = rests step.PmUp rule (λ p c r. absurd r.0) (ap (λ (w : Places). w.devices) rule.1)
-  was step.HostTake rule = rests step.HostTake rule (λ p c r. absurd r.0) (ap (λ (w : Places). w.devices) rule.1)
-  was step.HostPush rule = rests step.HostPush rule (λ p c r. absurd r.0) (ap (λ (w : Places). w.devices) rule.1)
-  was step.Tick rule = rests step.Tick rule (λ p c r. absurd r.0) (ap (λ (w : Places). w.devices) rule.1)
-  was (step.Submit dev request) rule = rests (step.Submit dev request) rule (λ p c r. absurd r.0) (ap (λ (w : Places). w.devices) rule.1)
-  was step.Poll rule = rests step.Poll rule (λ p c r. absurd r.0) (ap (λ (w : Places). w.devices) rule.1)
-  was (step.Put at bytes) rule = rests (step.Put at bytes) rule (λ p c r. absurd r.0) (ap (λ (w : Places). w.devices) rule.1)
+  was other rule = rests other rule (λ p c r. absurd r.0) (ap (λ (w : Places). w.devices) rule.1)
 
 ahead_after : (n : ℕ) (old new : Places) (s : Step) (a : Answer) → IsOrderly old → Rule old s (Ok a) new → IsAhead n old → IsAhead n new
 ahead_after n old new s a orderly rule ahead q now =

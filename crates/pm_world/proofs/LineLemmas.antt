@@ -160,11 +160,7 @@ not_reply f other = ap (λ (b : Bool). b && is_register (seen f.bytes)) (ne_eqb 
 pub awaited_reply : (stage : Stage31) (f : Stamped) → f.stamp.port ≡ control_port → IsAwaited stage f → is_reply f ≡ true
 awaited_reply Signs f port is = ap (λ (b : Bool). b && is_register (seen f.bytes)) (eq-eqb f.stamp.port control_port port) ∙ ap is_register is.viewed
 awaited_reply Asks f port is = ap (λ (b : Bool). b && is_register (seen f.bytes)) (eq-eqb f.stamp.port control_port port) ∙ ap is_register is.viewed
-awaited_reply Rests f port is = absurd is
-awaited_reply Waits f port is = absurd is
-awaited_reply Resets f port is = absurd is
-awaited_reply Told f port is = absurd is
-awaited_reply Fails f port is = absurd is
+awaited_reply other f port is = absurd is
 
 pub notice_no_reply : (f : Stamped) → IsNotice31 f.bytes → is_reply f ≡ false
 notice_no_reply f is = ap (λ o. (f.stamp.port == control_port) && is_register o) is.viewed ∙ by_test (f.stamp.port == control_port)
@@ -251,20 +247,12 @@ tick_line down waits up stage next (inr h) line =
 notice_may : (f : Stamped) (s : Stage31) → IsNotice31 f.bytes → MayCome31 s f.bytes
 notice_may f Signs is = inl is
 notice_may f Asks is = inl is
-notice_may f Rests is = is
-notice_may f Waits is = is
-notice_may f Resets is = is
-notice_may f Told is = is
-notice_may f Fails is = is
+notice_may f other is = is
 
 awaited_may : (f : Stamped) (s : Stage31) → IsAwaited s f → MayCome31 s f.bytes
 awaited_may f Signs is = inr is
 awaited_may f Asks is = inr is
-awaited_may f Rests is = absurd is
-awaited_may f Waits is = absurd is
-awaited_may f Resets is = absurd is
-awaited_may f Told is = absurd is
-awaited_may f Fails is = absurd is
+awaited_may f other is = absurd is
 
 pub may_come : (stage : Stage31) (down up : List Stamped) (waits : Option Stamped) (f : Stamped) → f.stamp.port ≡ control_port → OnLine stage down waits (f ∷ up) → AreNotices (f ∷ up) → MayCome31 stage f.bytes
 may_come stage down up waits f own line notices = elim (cases_Bool (is_reply f)) [
@@ -285,11 +273,7 @@ module _ (down : List Stamped) (waits : Option Stamped) (up : List Stamped) (f :
   awaited_viewed : (s : Stage31) → IsAwaited s f → seen f.bytes ≡ Ok (view.RegD2H f.bytes)
   awaited_viewed Signs is = is.viewed
   awaited_viewed Asks is = is.viewed
-  awaited_viewed Rests is = absurd is
-  awaited_viewed Waits is = absurd is
-  awaited_viewed Resets is = absurd is
-  awaited_viewed Told is = absurd is
-  awaited_viewed Fails is = absurd is
+  awaited_viewed other is = absurd is
 
   reply_quiet : (s next : Stage31) → IsAwaited s f → TakesOn s f.bytes next → is_quiet next ≡ true
   reply_quiet s next is (inl h) = not_both h.1 (awaited_viewed s is)

@@ -475,8 +475,7 @@ module _ (capacity : ℕ) (old : Places) (downward : Queue) (left : PmState) (ro
   passes_at : (p : Passed) → Went old.multiplier p left → (n : ℕ) → PortPassesDown capacity n
       (slice_get old.devices n) (held_down n old.multiplier) (answer.Passed p ∷ []) (slice_get old.devices n) left
   passes_at (passed.Down m) w = falls_at m w
-  passes_at passed.Control w = passes_by (answer.Passed passed.Control) w (λ n. record { fell = refl; left = refl; taken = refl })
-  passes_at passed.Dropped w = passes_by (answer.Passed passed.Dropped) w (λ n. record { fell = refl; left = refl; taken = refl })
+  passes_at other w = passes_by (answer.Passed other) w (λ n. record { fell = refl; left = refl; taken = refl })
 
   from_host_goes : (a : Answer) → PmFromHostRule old.downward old.multiplier (Ok a) downward left → GoesDown capacity old a after_host
   from_host_goes answer.Idle acts = rests_all capacity old answer.Idle after_host room refl acts.1 refl (same_down acts.2)

@@ -130,37 +130,22 @@ pub line_app : (stage : Stage31) (down up : List Stamped) (waits : Option Stampe
 line_app Resets down up waits f other line = (resets_app down f line.0 (λ own. absurd (other own)), line.1, line.2)
 line_app Signs down up waits f other line = owed_app IsReset IsEnd _ waits f down up other line
 line_app Asks down up waits f other line = owed_app never any _ waits f down up other line
-line_app Rests down up waits f other line = (none_app down f line.0 other, line.1, line.2)
-line_app Waits down up waits f other line = (none_app down f line.0 other, line.1, line.2)
-line_app Told down up waits f other line = (none_app down f line.0 other, line.1, line.2)
-line_app Fails down up waits f other line = (none_app down f line.0 other, line.1, line.2)
+line_app rest down up waits f other line = (none_app down f line.0 other, line.1, line.2)
 
 pub line_passes : (stage : Stage31) (down up : List Stamped) (waits : Option Stamped) (f : Stamped) → pm_port f ≢ control_port → OnLine stage (f ∷ down) waits up → OnLine stage down waits up
-line_passes Resets down up waits f other line = (line.0.1, line.1, line.2)
 line_passes Signs down up waits f other line = owed_passes IsReset IsEnd _ waits f down up other line
 line_passes Asks down up waits f other line = owed_passes never any _ waits f down up other line
-line_passes Rests down up waits f other line = (line.0.1, line.1, line.2)
-line_passes Waits down up waits f other line = (line.0.1, line.1, line.2)
-line_passes Told down up waits f other line = (line.0.1, line.1, line.2)
-line_passes Fails down up waits f other line = (line.0.1, line.1, line.2)
+line_passes rest down up waits f other line = (line.0.1, line.1, line.2)
 
 pub line_up : (stage : Stage31) (down up : List Stamped) (waits : Option Stamped) (f : Stamped) → is_reply f ≡ false → OnLine stage down waits up → OnLine stage down waits (up ++ f ∷ [])
-line_up Resets down up waits f other line = (line.0, line.1, up_app up f line.2 other)
 line_up Signs down up waits f other line = owed_up IsReset IsEnd _ waits f down up other line
 line_up Asks down up waits f other line = owed_up never any _ waits f down up other line
-line_up Rests down up waits f other line = (line.0, line.1, up_app up f line.2 other)
-line_up Waits down up waits f other line = (line.0, line.1, up_app up f line.2 other)
-line_up Told down up waits f other line = (line.0, line.1, up_app up f line.2 other)
-line_up Fails down up waits f other line = (line.0, line.1, up_app up f line.2 other)
+line_up rest down up waits f other line = (line.0, line.1, up_app up f line.2 other)
 
 pub line_takes : (stage : Stage31) (down up : List Stamped) (waits : Option Stamped) (f : Stamped) → is_reply f ≡ false → OnLine stage down waits (f ∷ up) → OnLine stage down waits up
-line_takes Resets down up waits f other line = (line.0, line.1, line.2.1)
 line_takes Signs down up waits f other line = owed_takes IsReset IsEnd _ waits f down up other line
 line_takes Asks down up waits f other line = owed_takes never any _ waits f down up other line
-line_takes Rests down up waits f other line = (line.0, line.1, line.2.1)
-line_takes Waits down up waits f other line = (line.0, line.1, line.2.1)
-line_takes Told down up waits f other line = (line.0, line.1, line.2.1)
-line_takes Fails down up waits f other line = (line.0, line.1, line.2.1)
+line_takes rest down up waits f other line = (line.0, line.1, line.2.1)
 
 -- an answer is taken: it is the one that was awaited, and nothing else is on its way
 abbrev pub IsAwaited : Stage31 → Stamped → Type 0
@@ -171,11 +156,7 @@ IsAwaited stage f = ⊥
 pub line_reply : (stage : Stage31) (down up : List Stamped) (waits : Option Stamped) (f : Stamped) → is_reply f ≡ true → OnLine stage down waits (f ∷ up) → IsAwaited stage f × NoneDown down × (waits ≡ None) × NoneUp up
 line_reply Signs down up waits f own line = owed_reply IsReset IsEnd _ waits f down up own line
 line_reply Asks down up waits f own line = owed_reply never any _ waits f down up own line
-line_reply Resets down up waits f own line = absurd (true≢false (sym own ∙ line.2.0))
-line_reply Rests down up waits f own line = absurd (true≢false (sym own ∙ line.2.0))
-line_reply Waits down up waits f own line = absurd (true≢false (sym own ∙ line.2.0))
-line_reply Told down up waits f own line = absurd (true≢false (sym own ∙ line.2.0))
-line_reply Fails down up waits f own line = absurd (true≢false (sym own ∙ line.2.0))
+line_reply other down up waits f own line = absurd (true≢false (sym own ∙ line.2.0))
 
 none_waits : (f : Stamped) {P : Type 0} → Some f ≡ None → P
 none_waits f h = cc
@@ -183,21 +164,14 @@ none_waits f h = cc
 pub line_rises : (stage : Stage31) (down up : List Stamped) (f : Stamped) → (IsAwaited stage f → is_reply f ≡ true) → OnLine stage down (Some f) up → OnLine stage down None (up ++ f ∷ [])
 line_rises Signs down up f own line = owed_rises IsReset IsEnd _ f down up own line
 line_rises Asks down up f own line = owed_rises never any _ f down up own line
-line_rises Resets down up f own line = none_waits f line.1
-line_rises Rests down up f own line = none_waits f line.1
-line_rises Waits down up f own line = none_waits f line.1
-line_rises Told down up f own line = none_waits f line.1
-line_rises Fails down up f own line = none_waits f line.1
+line_rises other down up f own line = none_waits f line.1
 
 pub line_asks : (stage : Stage31) (down up : List Stamped) (now : Option Stamped) (f : Stamped) → pm_port f ≡ control_port → (IsReset f → now ≡ None) → (IsEnd f → (g : Stamped) → now ≡ Some g → IsSignature31 g.bytes)
     → ((g : Stamped) → now ≡ Some g → IsAnswer31 g.bytes) → OnLine stage (f ∷ down) None up → OnLine stage down now up
 line_asks Signs down up now f own begins ends answers line = owed_asks IsReset IsEnd _ f down up now own begins ends line
 line_asks Asks down up now f own begins ends answers line = owed_asks never any _ f down up now own (λ h. absurd h) (λ h. answers) line
 line_asks Resets down up now f own begins ends answers line = (line.0.1, begins (line.0.0 own), line.2)
-line_asks Rests down up now f own begins ends answers line = absurd (line.0.0 own)
-line_asks Waits down up now f own begins ends answers line = absurd (line.0.0 own)
-line_asks Told down up now f own begins ends answers line = absurd (line.0.0 own)
-line_asks Fails down up now f own begins ends answers line = absurd (line.0.0 own)
+line_asks other down up now f own begins ends answers line = absurd (line.0.0 own)
 
 -- an order goes out
 pub line_begins : (down up : List Stamped) (waits : Option Stamped) (f : Stamped) → IsReset f → OnLine Waits down waits up → OnLine Resets (down ++ f ∷ []) waits up
@@ -212,36 +186,23 @@ line_ends down up waits f own is line = inl (ends_resets IsEnd down f line.0 own
 pub line_waits : (stage : Stage31) (down up : List Stamped) (f : Stamped) → OnLine stage down (Some f) up → IsAwaited stage f
 line_waits Signs down up f line = owed_waits IsReset IsEnd _ f down up line
 line_waits Asks down up f line = owed_waits never any _ f down up line
-line_waits Resets down up f line = none_waits f line.1
-line_waits Rests down up f line = none_waits f line.1
-line_waits Waits down up f line = none_waits f line.1
-line_waits Told down up f line = none_waits f line.1
-line_waits Fails down up f line = none_waits f line.1
+line_waits other down up f line = none_waits f line.1
 
 -- at a quiet stage nothing is on its way
 pub line_quiet : (stage : Stage31) (down up : List Stamped) (waits : Option Stamped) → is_quiet stage ≡ true → OnLine stage down waits up → NoneDown down × (waits ≡ None) × NoneUp up
-line_quiet Rests down up waits quiet line = line
-line_quiet Waits down up waits quiet line = line
-line_quiet Told down up waits quiet line = line
-line_quiet Fails down up waits quiet line = line
 line_quiet Resets down up waits quiet line = absurd (false≢true quiet)
 line_quiet Signs down up waits quiet line = absurd (false≢true quiet)
 line_quiet Asks down up waits quiet line = absurd (false≢true quiet)
+line_quiet other down up waits quiet line = line
 
 pub quiet_line : (stage : Stage31) (down up : List Stamped) (waits : Option Stamped) → is_quiet stage ≡ true → NoneDown down × (waits ≡ None) × NoneUp up → OnLine stage down waits up
-quiet_line Rests down up waits quiet line = line
-quiet_line Waits down up waits quiet line = line
-quiet_line Told down up waits quiet line = line
-quiet_line Fails down up waits quiet line = line
 quiet_line Resets down up waits quiet line = absurd (false≢true quiet)
 quiet_line Signs down up waits quiet line = absurd (false≢true quiet)
 quiet_line Asks down up waits quiet line = absurd (false≢true quiet)
+quiet_line other down up waits quiet line = line
 
 pub idle_quiet : (stage : Stage31) → is_idle stage ≡ true → is_quiet stage ≡ true
-idle_quiet Rests e = refl
-idle_quiet Told e = refl
-idle_quiet Waits e = refl
-idle_quiet Fails e = refl
 idle_quiet Resets e = absurd (false≢true e)
 idle_quiet Signs e = absurd (false≢true e)
 idle_quiet Asks e = absurd (false≢true e)
+idle_quiet other e = refl

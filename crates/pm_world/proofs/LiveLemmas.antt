@@ -89,8 +89,7 @@ request_open n m (Some (Read at)) plain is = is
 request_open n m (Some (Write at value)) plain is =
     write_keeps IsOpenTo m n at.port at.register value (λ here was. written_open (map.port_at m at.port) at.register value plain.1 was) is
 request_open n m (Some Unknown) plain is = is
-request_open n m (Some Reset) plain is = is
-request_open n m (Some EndReset) plain is = is
+request_open n m other plain is = is
 
 bank_open : (n : ℕ) (m new : RegisterMap) → new.bank ≡ m.bank → IsOpenAt n m → IsOpenAt n new
 bank_open n m new same is = subst (λ (l : List PortRegisters). IsOpenTo (get_or l n opening_port)) (sym same) is
@@ -215,12 +214,7 @@ module _ (n : ℕ) (old : Places) (a : Answer) (new : Places) (none : is_recorde
       subst (λ (w : Places). IsOpenAt n w.multiplier.registers) (sym p.new_is) (down_open n k p.place old.multiplier a p.after p.left p.rule is)
   rule_open step.PmFromHost rule = from_host_open n old new a rule.0 writes is
   rule_open step.PmUp rule = up_open n old.multiplier old.upward a new.multiplier new.upward rule.0 is
-  rule_open step.HostTake rule = rests (ap (λ (w : Places). w.multiplier) rule.1)
-  rule_open step.HostPush rule = rests (ap (λ (w : Places). w.multiplier) rule.1)
-  rule_open step.Tick rule = rests (ap (λ (w : Places). w.multiplier) rule.1)
-  rule_open (step.Submit dev request) rule = rests (ap (λ (w : Places). w.multiplier) rule.1)
-  rule_open step.Poll rule = rests (ap (λ (w : Places). w.multiplier) rule.1)
-  rule_open (step.Put at bytes) rule = rests (ap (λ (w : Places). w.multiplier) rule.1)
+  rule_open other rule = rests (ap (λ (w : Places). w.multiplier) rule.1)
 
 -- ## What is recorded
 

@@ -213,10 +213,8 @@ run_means n below known unsent last S M old (s ∷ steps) (a ∷ answers) new ru
 -- ## From a new world
 
 issued_phase : (p : Phase) → is_issued_in p ≡ true → p ≡ Issued
-issued_phase Waits is = absurd (false≢true is)
 issued_phase Issued is = refl
-issued_phase Aside is = absurd (false≢true is)
-issued_phase (Ended o) is = absurd (false≢true is)
+issued_phase other is = absurd (false≢true is)
 
 module _ (config : Config) (units : List Unit) (right : is_config config (length units) ≡ true) (steps : List Step) (answers : List Answer) (now : Places)
     (run : Run (new_world config units) steps answers now) (n : ℕ) (below : n < 15) where

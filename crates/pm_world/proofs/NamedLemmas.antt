@@ -54,10 +54,7 @@ waits_first : (old : Driver) (t : HostTurn) (slot : ℕ) (f : Entry) (outcome : 
 waits_first old (Submitted dev request ticket) slot f outcome ended fresh =
     let bad : Waits ≡ Ended outcome = ap (λ (x : Entry). x.head.phase) fresh.1 ∙ ended in cc bad
 waits_first old (Took frame report) slot f outcome ended fresh = fresh
-waits_first old (Pushed frame) slot f outcome ended fresh = fresh
-waits_first old (Ticked acted) slot f outcome ended fresh = fresh
-waits_first old (Polled c) slot f outcome ended fresh = fresh
-waits_first old (Put at bytes) slot f outcome ended fresh = fresh
+waits_first old other slot f outcome ended fresh = fresh
 
 same_over : (turns : List HostTurn) (old new : Host) → DoesAll old turns new → NoTicks turns → (slot : ℕ) (f : Entry) (outcome : Outcome)
     → f.head.phase ≡ Ended outcome → entry_at new.driver.entries slot ≡ Some f → entry_at old.driver.entries slot ≡ Some f
@@ -108,10 +105,8 @@ module _ (slot status error : ℕ) where
 
       by_phase : (e : Entry) → entry_at old.host.driver.entries slot ≡ Some e → f.head.ticket ≡ e.head.ticket → (p : Phase) → e.head.phase ≡ p → Goes p f.head.phase
           → HadEnded old slot f.head.ticket (DeviceError status error) ⊎ Named old new (s ∷ steps) (answer.Ticked ∷ answers) run f.head.ticket
-      by_phase e stands same Waits is goes = inr (now_named e stands same (ap has_ended_in is))
-      by_phase e stands same Issued is goes = inr (now_named e stands same (ap has_ended_in is))
-      by_phase e stands same Aside is goes = inr (now_named e stands same (ap has_ended_in is))
       by_phase e stands same (Ended outcome) is goes = inl (record { entry = e; here = stands; ticket_is = sym same; ended = is ∙ sym goes ∙ ended })
+      by_phase e stands same other is goes = inr (now_named e stands same (ap has_ended_in is))
 
       by_stood : Stood old.host.driver (Ticked true) slot f ⊎ Fresh old.host.driver (Ticked true) slot f
           → HadEnded old slot f.head.ticket (DeviceError status error) ⊎ Named old new (s ∷ steps) (answer.Ticked ∷ answers) run f.head.ticket

@@ -74,21 +74,16 @@ silent_may stage t silent = tt
 
 silent_next : (stage : Stage31) (old : Host) (t : HostTurn) (new : Host) (next : Stage31) → IsSilent t → IsNext31 stage old t new next → next ≡ stage
 silent_next stage old (Took frame report) new next silent is = absurd silent
-silent_next stage old (Pushed None) new next silent is = is
 silent_next stage old (Pushed (Some frame)) new next silent is = absurd silent
 silent_next stage old (Ticked acted) new next silent is = absurd silent
-silent_next stage old (Submitted dev request ticket) new next silent is = is
-silent_next stage old (Polled completion) new next silent is = is
-silent_next stage old (Put at bytes) new next silent is = is
+silent_next stage old other new next silent is = is
 
 silent_order : (old : Host) (t : HostTurn) (new : Host) → IsSilent t → Does old t new → new.driver.plan.order ≡ old.driver.plan.order
-silent_order old (Took frame report) new silent does = absurd silent
 silent_order old (Pushed None) new silent does = ap (λ (d : Driver). d.plan.order) does.driver
-silent_order old (Pushed (Some frame)) new silent does = absurd silent
-silent_order old (Ticked acted) new silent does = absurd silent
 silent_order old (Submitted dev request ticket) new silent does = ap (λ (d : Driver). d.plan.order) does.taken.driver
 silent_order old (Polled completion) new silent does = ap (λ (d : Driver). d.plan.order) does.driver ∙ ap (λ p. p.order) (poll_plan old.driver)
 silent_order old (Put at bytes) new silent does = ap (λ (d : Driver). d.plan.order) does.driver
+silent_order old other new silent does = absurd silent
 
 silent_finds : (n : ℕ) (stage : Stage31) (old : Host) (t : HostTurn) → IsSilent t → Finds n stage old t → ⊥
 silent_finds n stage old (Took frame report) silent finds = absurd silent

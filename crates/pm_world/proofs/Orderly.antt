@@ -327,10 +327,7 @@ follows old step.PmUp a new orderly rule =
     follows_with old new (ap (λ (w : Places). length w.devices) rule.1) (grown old.multiplier new.multiplier (up_roomy old.multiplier old.upward a new.multiplier new.upward rule.0 (roomy orderly))) orderly
 follows old step.HostTake a new orderly rule = aside old new (with_host (with_upward old new.upward) new.host) rule.1 refl refl orderly
 follows old step.HostPush a new orderly rule = aside old new (with_downward (with_host old new.host) new.downward) rule.1 refl refl orderly
-follows old step.Tick a new orderly rule = aside old new (with_host old new.host) rule.1 refl refl orderly
-follows old (step.Submit dev request) a new orderly rule = aside old new (with_host old new.host) rule.1 refl refl orderly
-follows old step.Poll a new orderly rule = aside old new (with_host old new.host) rule.1 refl refl orderly
-follows old (step.Put at bytes) a new orderly rule = aside old new (with_host old new.host) rule.1 refl refl orderly
+follows old other a new orderly rule = aside old new (with_host old new.host) rule.1 refl refl orderly
 
 pub orderly_after : (old : Places) (s : Step) (a : Answer) (new : Places) → IsOrderly old → Rule old s (Ok a) new → IsOrderly new
 orderly_after old s a new orderly rule = (follows old s a new orderly rule).orderly

@@ -163,13 +163,7 @@ module _ (n c : ℕ) (old : Places) (a : Answer) (new : Places) (only : IsOnly n
       let d : AtBoth old m (Ok a) new (PmDownRule m) = at_both old m a new (PmDownRule m) rule in
       at_two m d.place d.after d.left d.is d.new_is (keeps_down m d.place old.multiplier a d.after d.left d.rule)
   only_after step.PmFromHost rule = subst (λ (w : Places). IsOnly n c w) (sym rule.1) only
-  only_after step.PmUp rule = subst (λ (w : Places). IsOnly n c w) (sym rule.1) only
-  only_after step.HostTake rule = subst (λ (w : Places). IsOnly n c w) (sym rule.1) only
-  only_after step.HostPush rule = subst (λ (w : Places). IsOnly n c w) (sym rule.1) only
-  only_after step.Tick rule = subst (λ (w : Places). IsOnly n c w) (sym rule.1) only
-  only_after (step.Submit dev request) rule = subst (λ (w : Places). IsOnly n c w) (sym rule.1) only
-  only_after step.Poll rule = subst (λ (w : Places). IsOnly n c w) (sym rule.1) only
-  only_after (step.Put at bytes) rule = subst (λ (w : Places). IsOnly n c w) (sym rule.1) only
+  only_after other rule = subst (λ (w : Places). IsOnly n c w) (sym rule.1) only
 
 -- ## What the unit takes
 
@@ -196,11 +190,4 @@ takes_own n c old new (step.Inject m bytes) f rest only rule first = absurd (at_
 takes_own n c old new (step.PmPresence m) f rest only rule first = absurd (at_both old m (answer.DiskTook n false) new (PmPresenceRule m) rule).rule
 takes_own n c old new (step.PmFromDevice m) f rest only rule first = absurd (at_both old m (answer.DiskTook n false) new (PmFromDeviceRule m) rule).rule
 takes_own n c old new (step.PmDown m) f rest only rule first = absurd (at_both old m (answer.DiskTook n false) new (PmDownRule m) rule).rule
-takes_own n c old new step.PmFromHost f rest only rule first = absurd rule.0
-takes_own n c old new step.PmUp f rest only rule first = absurd rule.0
-takes_own n c old new step.HostTake f rest only rule first = absurd rule.0
-takes_own n c old new step.HostPush f rest only rule first = absurd rule.0
-takes_own n c old new step.Tick f rest only rule first = absurd rule.0
-takes_own n c old new (step.Submit dev request) f rest only rule first = absurd rule.0
-takes_own n c old new step.Poll f rest only rule first = absurd rule.0
-takes_own n c old new (step.Put at bytes) f rest only rule first = absurd rule.0
+takes_own n c old new other f rest only rule first = absurd rule.0

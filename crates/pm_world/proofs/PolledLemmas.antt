@@ -153,8 +153,7 @@ completed_gone s (event.SetUp tag offset count to_host) past u done h =
 completed_gone s (event.PioSetUp count to_host ends) past u done h =
     by_issue (issued s past) (λ t. completes s (event.PioSetUp count to_host ends) past t.work) u done h
 completed_gone s (event.Carried bytes) past u done h = by_issue (issued s past) (λ t. completes s (event.Carried bytes) past t.work) u done h
-completed_gone s event.Answered past u done h = by_issue (issued s past) (λ t. completes s event.Answered past t.work) u done h
-completed_gone s (event.Named mask) past u done h = by_issue (issued s past) (λ t. completes s (event.Named mask) past t.work) u done h
+completed_gone s other past u done h = by_issue (issued s past) (λ t. completes s other past t.work) u done h
 
 -- the event of a device completes what is issued in a slot of it
 event_frees : (m s : ℕ) (o : Option Event) (touches : Touches)

@@ -16,9 +16,7 @@ ended entries n h = (lowest_is (λ slot. holds has_ended (entry_at entries slot)
 -- an ended request has a completion
 told : (n : ℕ) (head : Head) (phase : Phase) → has_ended_in phase ≡ true → completed n head phase ≡ None → ⊥
 told n head Waits is none = absurd (cc)
-told n head Issued is none = absurd (cc)
-told n head Aside is none = absurd (cc)
-told n head (Ended outcome) is none = absurd (cc)
+told n head other is none = absurd (cc)
 
 told_at : (n : ℕ) (o : Option Entry) → holds has_ended o ≡ true → completion_at n o ≡ None → ⊥
 told_at n None is none = absurd (cc)

@@ -142,12 +142,8 @@ write_fit m port register value both fit =
     (written_fits (map.port_at m port) register value both (fit.fits port)) fit))) fit
 
 pub request_fit : (m : RegisterMap) (request : Option Request) → WritesChanges request → AreFit m → AreFit (registers_after_request m request)
-request_fit m None plain fit = fit
-request_fit m (Some (Read at)) plain fit = fit
 request_fit m (Some (Write at value)) plain fit = write_fit m at.port at.register value plain.0 fit
-request_fit m (Some Unknown) plain fit = fit
-request_fit m (Some Reset) plain fit = fit
-request_fit m (Some EndReset) plain fit = fit
+request_fit m other plain fit = fit
 
 pub opening_fit : (ports : ℕ) → ports ≤ 15 → AreFit (map.opening ports)
 opening_fit ports most = record { most = most; fits = all_blank 15 }

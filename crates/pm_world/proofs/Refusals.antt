@@ -60,10 +60,8 @@ refused old step.HostTake e new rule = absurd rule.0
 refused old step.HostPush e new rule =
     let same = push_same old.host old.downward e new.host new.downward rule.0 in
     rule.1 ∙ ap (λ (h : Host). with_downward (with_host old h) new.downward) same.0 ∙ ap (λ (q : Queue). with_downward old q) same.1
-refused old step.Tick e new rule = absurd rule.0
-refused old (step.Submit dev request) e new rule = absurd rule.0
-refused old step.Poll e new rule = absurd rule.0
 refused old (step.Put at bytes) e new rule = rule.1 ∙ ap (with_host old) rule.0.1
+refused old other e new rule = absurd rule.0
 
 pub same_where_refused : (old : Places) (s : Step) (outcome : Outcome) (new : Places) → Rule old s outcome new → OnErr outcome (new ≡ old)
 same_where_refused old s (Ok a) new rule = tt

@@ -36,15 +36,8 @@ refuses_named (Some error.InUse) e named is = subst (λ (v : StepError). Refuses
 
 -- lack of memory is the error if no refusal applies
 pub refuses_or_wants : (first : Option StepError) → IsNamed first → Refuses first (unwrap_or first error.OutOfMemory)
-refuses_or_wants None named = refl
 refuses_or_wants (Some error.OutOfMemory) named = absurd named
-refuses_or_wants (Some error.BadBytes) named = refl
-refuses_or_wants (Some error.NoSuchPort) named = refl
-refuses_or_wants (Some error.AlreadyThere) named = refl
-refuses_or_wants (Some error.NotThere) named = refl
-refuses_or_wants (Some error.Spent) named = refl
-refuses_or_wants (Some error.Outside) named = refl
-refuses_or_wants (Some error.InUse) named = refl
+refuses_or_wants other named = refl
 
 -- either of two, by a test
 by_test : (b : Bool) (x y : Option StepError) → IsNamed x → IsNamed y → IsNamed (if b then x else y)
@@ -95,14 +88,8 @@ refusal_named now (step.DiskTake n) = port_named (slice_get now.devices n) no_re
 refusal_named now (step.PmPresence n) = port_named (slice_get now.devices n) no_refusal (λ place. tt)
 refusal_named now (step.PmFromDevice n) = port_named (slice_get now.devices n) no_refusal (λ place. tt)
 refusal_named now (step.PmDown n) = port_named (slice_get now.devices n) no_refusal (λ place. tt)
-refusal_named now step.PmFromHost = tt
-refusal_named now step.PmUp = tt
-refusal_named now step.HostTake = tt
-refusal_named now step.HostPush = tt
-refusal_named now step.Tick = tt
-refusal_named now (step.Submit dev request) = tt
-refusal_named now step.Poll = tt
 refusal_named now (step.Put at bytes) = put_named now.host at (length bytes)
+refusal_named now other = tt
 
 -- an error of a step at a port is its first refusal
 on_device_refuses : (old : Places) (n : ℕ) (e : StepError) (new : Places) (R : Place → Outcome → Place → Type 0) (first : Place → Option StepError) → ((place after : Place) → R place (Err e) after → Refuses (first place) e) → OnDevice old n (Err e) new R → Refuses (port_refusal old n first) e
@@ -158,9 +145,6 @@ rule_refuses old (step.PmFromDevice n) e new rule = both_refuses old n e new (Pm
 rule_refuses old (step.PmDown n) e new rule = both_refuses old n e new (PmDownRule n) (λ place after left r. r) rule
 rule_refuses old step.PmFromHost e new rule = heard_wants old.downward old.multiplier e new.downward new.multiplier rule.0
 rule_refuses old step.PmUp e new rule = up_wants old.multiplier old.upward e new.multiplier new.upward rule.0
-rule_refuses old step.HostTake e new rule = absurd rule.0
 rule_refuses old step.HostPush e new rule = push_wants old.host old.downward e new.host new.downward rule.0
-rule_refuses old step.Tick e new rule = absurd rule.0
-rule_refuses old (step.Submit dev request) e new rule = absurd rule.0
-rule_refuses old step.Poll e new rule = absurd rule.0
 rule_refuses old (step.Put at bytes) e new rule = refuses_named (put_refusal old.host at (length bytes)) e (put_named old.host at (length bytes)) rule.0.0
+rule_refuses old other e new rule = absurd rule.0

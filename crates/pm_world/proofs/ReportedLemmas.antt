@@ -106,12 +106,7 @@ is_take old new (step.PmFromDevice m) port conn number bytes report rule =
 is_take old new (step.PmDown m) port conn number bytes report rule =
     absurd (at_both old m (answer.Took port conn number bytes report) new (PmDownRule m) rule).rule
 is_take old new step.PmFromHost port conn number bytes report rule = absurd rule.0
-is_take old new step.PmUp port conn number bytes report rule = absurd rule.0
-is_take old new step.HostPush port conn number bytes report rule = absurd rule.0
-is_take old new step.Tick port conn number bytes report rule = absurd rule.0
-is_take old new (step.Submit dev request) port conn number bytes report rule = absurd rule.0
-is_take old new step.Poll port conn number bytes report rule = absurd rule.0
-is_take old new (step.Put at given) port conn number bytes report rule = absurd rule.0
+is_take old new other port conn number bytes report rule = absurd rule.0
 
 -- ## Turns that take nothing
 
@@ -152,11 +147,8 @@ way_over (t ∷ turns) old new run w = way_over turns run.0 new run.2 (way_turn 
 
 unreported : (old : Host) (t : HostTurn) (s : ℕ) (e : Entry) → IsCalm t → Reports old t s e → ⊥
 unreported old (Took frame report) s e calm r = calm
-unreported old (Pushed frame) s e calm r = false≢true r.1
-unreported old (Ticked acted) s e calm r = false≢true r.1
 unreported old (Submitted dev request ticket) s e calm r = calm
-unreported old (Polled c) s e calm r = false≢true r.1
-unreported old (Put at bytes) s e calm r = false≢true r.1
+unreported old other s e calm r = false≢true r.1
 
 calm_stand : (turns : List HostTurn) (P : ℕ → Entry → Type 0) (old new : Host) → DoesAll old turns new → AreCalm turns → IsOnWay old → AllStand P old
     → AllStand P new
@@ -269,10 +261,8 @@ pub record StoodIn (h : Host) (slot : ℕ) (f : Entry) : Type 0 where
 
 -- what has not ended had not ended before
 pub open_before : (was now : Phase) → Goes was now → has_ended_in now ≡ false → has_ended_in was ≡ false
-open_before Waits now goes unended = refl
-open_before Issued now goes unended = refl
-open_before Aside now goes unended = refl
 open_before (Ended outcome) now goes unended = absurd (false≢true (sym unended ∙ ap has_ended_in goes))
+open_before other now goes unended = refl
 
 stood_before : (a b : Host) (slot : ℕ) (f : Entry) → b ≡ a → StoodIn b slot f → StoodIn a slot f
 stood_before a b slot f same it = subst (λ (h : Host). StoodIn h slot f) same it
@@ -288,12 +278,8 @@ calm_stood (t ∷ turns) old new run calm slot f here =
     ]
   where
     not_fresh : (t : HostTurn) (e : Entry) → IsCalm t → Fresh old.driver t slot e → ⊥
-    not_fresh (Took frame report) e is fresh = fresh
-    not_fresh (Pushed frame) e is fresh = fresh
-    not_fresh (Ticked acted) e is fresh = fresh
     not_fresh (Submitted dev request ticket) e is fresh = is
-    not_fresh (Polled c) e is fresh = fresh
-    not_fresh (Put at bytes) e is fresh = fresh
+    not_fresh other e is fresh = fresh
 
 -- nothing stands in the slot
 abbrev pub IsFreeSlot : ℕ → Host → Type 0

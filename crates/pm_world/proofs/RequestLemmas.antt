@@ -106,7 +106,6 @@ module _ (fields : H2dFields) (bytes : List ℕ) (built : IsBuilt H2d (h2d_given
   unfolding order_fields cut places
   order_asks ResetOn are = asks_reset _ bytes (as_built _ are) refl refl
   order_asks ResetOff are = asks_end _ bytes (as_built _ are) refl refl
-  order_asks AwaitSignature are = absurd (cc)
   order_asks CountPorts are = read_asked (reads control_port port_count) bytes (as_built _ are) refl refl
   order_asks SetMask are = write_asked (writes control_port error_mask changes) bytes (as_built _ are) refl refl
   order_asks Enable are = write_asked (writes control_port features_on 8) bytes (as_built _ are) refl refl
@@ -114,23 +113,17 @@ module _ (fields : H2dFields) (bytes : List ℕ) (built : IsBuilt H2d (h2d_given
   order_asks Scan are = read_asked (reads control_port error_ports) bytes (as_built _ are) refl refl
   order_asks (Clear port) are = write_asked (writes port serror changes) bytes (as_built _ are) refl refl
   order_asks (Detect port) are = read_asked (reads port sstatus) bytes (as_built _ are) refl refl
-  order_asks Watch are = absurd (cc)
+  order_asks other are = absurd (cc)
 
 -- ## Which of them write PSCR[1] and PSCR[2]
 
 -- PSCR[1] is only written to clear N and X, and PSCR[2] to open the port
 pub order_changes : (o : Order) → WritesChanges (asked o)
-order_changes ResetOn = tt
-order_changes ResetOff = tt
-order_changes AwaitSignature = tt
-order_changes CountPorts = tt
 order_changes SetMask = (λ e. absurd (omega (arith, e)), λ e. absurd (omega (arith, e)))
 order_changes Enable = (λ e. absurd (omega (arith, e)), λ e. absurd (omega (arith, e)))
 order_changes (Open port) = (λ e. absurd (omega (arith, e)), λ e. refl)
-order_changes Scan = tt
 order_changes (Clear port) = (λ e. refl, λ e. absurd (omega (arith, e)))
-order_changes (Detect port) = tt
-order_changes Watch = tt
+order_changes other = tt
 
 first_two : (a b c : Bool) → (a && b && c) ≡ true → (a ≡ true) × (b ≡ true)
 first_two true true c h = (refl, refl)

@@ -182,9 +182,8 @@ module _ (a b p q : ℕ) where
   by_second Greater e h = inr (sym e, h)
 
   by_first : (o : Ordering) → MatchOrdering o (a < p) (a ≡ p) (p < a) → Ranks (ordering_then o (nat_cmp b q))
-  by_first Less h = inl h
   by_first Equal h = by_second (nat_cmp b q) h (ranks b q)
-  by_first Greater h = inl h
+  by_first other h = inl h
 
   keys_ranked : Ranks (ordering_then (nat_cmp a p) (nat_cmp b q))
   keys_ranked = by_first (nat_cmp a p) (ranks a p)
@@ -200,12 +199,11 @@ module _ (rows : List ConnCount) (sorted : AreSorted rows) (port conn : ℕ) whe
     where
       by_ranks : (o r : Ordering) → Ranks row.port row.conn port conn o → Ranks later.port later.conn port conn r → ordering_index o ≤ ordering_index r
       by_ranks Less r p q = omega arith
-      by_ranks Equal Less p q = absurd (grind arith)
       by_ranks Equal Equal p q = omega arith
       by_ranks Equal Greater p q = omega arith
-      by_ranks Greater Less p q = absurd (grind arith)
       by_ranks Greater Equal p q = absurd (grind arith)
       by_ranks Greater Greater p q = omega arith
+      by_ranks other Less p q = absurd (grind arith)
 
   comparisons_rise : IsNonDecreasingBy (λ row. ordering_index (compared port conn row)) rows
   comparisons_rise i j d le in_range =

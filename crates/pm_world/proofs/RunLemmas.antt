@@ -104,13 +104,7 @@ module _ (n c : ℕ) (old : Places) (a : Answer) (new : Places) (there : IsThere
       let d : AtBoth old m (Ok a) new (PmDownRule m) = at_both old m a new (PmDownRule m) rule in
       at_two m d.place d.after d.left d.is d.new_is (λ same. keeps_down m d.place old.multiplier a d.after d.left d.rule)
   there_after step.PmFromHost clean rule = subst (λ (w : Places). IsThere n c w) (sym rule.1) there
-  there_after step.PmUp clean rule = subst (λ (w : Places). IsThere n c w) (sym rule.1) there
-  there_after step.HostTake clean rule = subst (λ (w : Places). IsThere n c w) (sym rule.1) there
-  there_after step.HostPush clean rule = subst (λ (w : Places). IsThere n c w) (sym rule.1) there
-  there_after step.Tick clean rule = subst (λ (w : Places). IsThere n c w) (sym rule.1) there
-  there_after (step.Submit dev request) clean rule = subst (λ (w : Places). IsThere n c w) (sym rule.1) there
-  there_after step.Poll clean rule = subst (λ (w : Places). IsThere n c w) (sym rule.1) there
-  there_after (step.Put at bytes) clean rule = subst (λ (w : Places). IsThere n c w) (sym rule.1) there
+  there_after other clean rule = subst (λ (w : Places). IsThere n c w) (sym rule.1) there
 
 -- ## What an answer tells of the unit
 
@@ -150,14 +144,7 @@ module _ (n c : ℕ) (old new : Places) (port conn number : ℕ) (bytes : List �
   sending (step.PmPresence m) clean rule = absurd (at_both old m a new (PmPresenceRule m) rule).rule
   sending (step.PmFromDevice m) clean rule = absurd (at_both old m a new (PmFromDeviceRule m) rule).rule
   sending (step.PmDown m) clean rule = absurd (at_both old m a new (PmDownRule m) rule).rule
-  sending step.PmFromHost clean rule = absurd rule.0
-  sending step.PmUp clean rule = absurd rule.0
-  sending step.HostTake clean rule = absurd rule.0
-  sending step.HostPush clean rule = absurd rule.0
-  sending step.Tick clean rule = absurd rule.0
-  sending (step.Submit dev request) clean rule = absurd rule.0
-  sending step.Poll clean rule = absurd rule.0
-  sending (step.Put at bytes) clean rule = absurd rule.0
+  sending other clean rule = absurd rule.0
 
 -- a FIS of another port
 pub sent_elsewhere : (n : ℕ) (old : Places) (s : Step) (port conn number : ℕ) (bytes : List ℕ) (new : Places) → eqb port n ≡ false
@@ -183,14 +170,7 @@ coming n c old new port conn (step.DiskTake m) there rule = absurd (at_device ol
 coming n c old new port conn (step.PmPresence m) there rule = absurd (at_both old m (answer.Came port conn) new (PmPresenceRule m) rule).rule
 coming n c old new port conn (step.PmFromDevice m) there rule = absurd (at_both old m (answer.Came port conn) new (PmFromDeviceRule m) rule).rule
 coming n c old new port conn (step.PmDown m) there rule = absurd (at_both old m (answer.Came port conn) new (PmDownRule m) rule).rule
-coming n c old new port conn step.PmFromHost there rule = absurd rule.0
-coming n c old new port conn step.PmUp there rule = absurd rule.0
-coming n c old new port conn step.HostTake there rule = absurd rule.0
-coming n c old new port conn step.HostPush there rule = absurd rule.0
-coming n c old new port conn step.Tick there rule = absurd rule.0
-coming n c old new port conn (step.Submit dev request) there rule = absurd rule.0
-coming n c old new port conn step.Poll there rule = absurd rule.0
-coming n c old new port conn (step.Put at bytes) there rule = absurd rule.0
+coming n c old new port conn other there rule = absurd rule.0
 
 pub came_elsewhere : (n : ℕ) (old : Places) (s : Step) (port conn : ℕ) (new : Places) → eqb port n ≡ false
     → happens n old s (answer.Came port conn) new ≡ []
@@ -208,14 +188,7 @@ taking n old new port (step.Inject m given) rule = absurd (at_device old m (answ
 taking n old new port (step.PmPresence m) rule = absurd (at_both old m (answer.DiskTook port false) new (PmPresenceRule m) rule).rule
 taking n old new port (step.PmFromDevice m) rule = absurd (at_both old m (answer.DiskTook port false) new (PmFromDeviceRule m) rule).rule
 taking n old new port (step.PmDown m) rule = absurd (at_both old m (answer.DiskTook port false) new (PmDownRule m) rule).rule
-taking n old new port step.PmFromHost rule = absurd rule.0
-taking n old new port step.PmUp rule = absurd rule.0
-taking n old new port step.HostTake rule = absurd rule.0
-taking n old new port step.HostPush rule = absurd rule.0
-taking n old new port step.Tick rule = absurd rule.0
-taking n old new port (step.Submit dev request) rule = absurd rule.0
-taking n old new port step.Poll rule = absurd rule.0
-taking n old new port (step.Put at bytes) rule = absurd rule.0
+taking n old new port other rule = absurd rule.0
 
 -- the unit that is not unplugged does not go
 pub going : (n : ℕ) (old new : Places) (port conn : ℕ) (s : Step) → unplugs n s ≡ false → Rule old s (Ok (answer.Gone port conn)) new → eqb port n ≡ false
@@ -230,14 +203,7 @@ going n old new port conn (step.DiskTake m) stays rule = absurd (at_device old m
 going n old new port conn (step.PmPresence m) stays rule = absurd (at_both old m (answer.Gone port conn) new (PmPresenceRule m) rule).rule
 going n old new port conn (step.PmFromDevice m) stays rule = absurd (at_both old m (answer.Gone port conn) new (PmFromDeviceRule m) rule).rule
 going n old new port conn (step.PmDown m) stays rule = absurd (at_both old m (answer.Gone port conn) new (PmDownRule m) rule).rule
-going n old new port conn step.PmFromHost stays rule = absurd rule.0
-going n old new port conn step.PmUp stays rule = absurd rule.0
-going n old new port conn step.HostTake stays rule = absurd rule.0
-going n old new port conn step.HostPush stays rule = absurd rule.0
-going n old new port conn step.Tick stays rule = absurd rule.0
-going n old new port conn (step.Submit dev request) stays rule = absurd rule.0
-going n old new port conn step.Poll stays rule = absurd rule.0
-going n old new port conn (step.Put at bytes) stays rule = absurd rule.0
+going n old new port conn other stays rule = absurd rule.0
 
 -- it tells the unit nothing
 pub gone_tells : (n : ℕ) (old : Places) (s : Step) (port conn : ℕ) (new : Places) → [] ≡ happens n old s (answer.Gone port conn) new

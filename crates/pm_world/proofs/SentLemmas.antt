@@ -52,14 +52,7 @@ sender old new port conn number bytes (step.DiskTake m) rule = absurd (at_device
 sender old new port conn number bytes (step.PmPresence m) rule = absurd (at_both old m (answer.Sent port conn number bytes) new (PmPresenceRule m) rule).rule
 sender old new port conn number bytes (step.PmFromDevice m) rule = absurd (at_both old m (answer.Sent port conn number bytes) new (PmFromDeviceRule m) rule).rule
 sender old new port conn number bytes (step.PmDown m) rule = absurd (at_both old m (answer.Sent port conn number bytes) new (PmDownRule m) rule).rule
-sender old new port conn number bytes step.PmFromHost rule = absurd rule.0
-sender old new port conn number bytes step.PmUp rule = absurd rule.0
-sender old new port conn number bytes step.HostTake rule = absurd rule.0
-sender old new port conn number bytes step.HostPush rule = absurd rule.0
-sender old new port conn number bytes step.Tick rule = absurd rule.0
-sender old new port conn number bytes (step.Submit dev request) rule = absurd rule.0
-sender old new port conn number bytes step.Poll rule = absurd rule.0
-sender old new port conn number bytes (step.Put at given) rule = absurd rule.0
+sender old new port conn number bytes other rule = absurd rule.0
 
 -- ## Connections on which nothing is sent
 

@@ -104,10 +104,7 @@ too_new old (Submitted dev request ticket) s e given fresh =
     let is : old.given + 1 ≡ e.head.ticket = ap (λ (x : Entry). x.head.ticket) fresh.1 in
     omega (arith, is, given)
 too_new old (Took frame report) s e given fresh = fresh
-too_new old (Pushed frame) s e given fresh = fresh
-too_new old (Ticked acted) s e given fresh = fresh
-too_new old (Polled c) s e given fresh = fresh
-too_new old (Put at bytes) s e given fresh = fresh
+too_new old other s e given fresh = fresh
 
 given_on : (old : Host) (t : HostTurn) (new : Host) → Does old t new → IsSoundHost old → (k : ℕ) → k ≤ old.driver.given → k ≤ new.driver.given
 given_on old t new does sound k least =

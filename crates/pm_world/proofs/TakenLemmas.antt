@@ -16,22 +16,11 @@ use Rattle.pm_world.specs.Ended.{TookFlush}
 
 asks_it : (r : Request) → asks_flush r ≡ true → r ≡ asked.Flush
 asks_it asked.Flush is = refl
-asks_it (asked.Reset on) is = absurd (false≢true is)
-asks_it (asked.Queue c) is = absurd (false≢true is)
-asks_it asked.ReadErrorLog is = absurd (false≢true is)
-asks_it asked.Identify is = absurd (false≢true is)
-asks_it asked.Other is = absurd (false≢true is)
+asks_it other is = absurd (false≢true is)
 
 request_by : (bytes : List ℕ) (r : Result Fis FisFault) → seen bytes ≡ r → is_flush r ≡ true → IsRequest bytes asked.Flush
 request_by bytes (Ok (view.RegH2D f)) shown is = record { frame = f; is = shown; asks = asks_it (request_of f) is }
-request_by bytes (Ok (view.RegD2H f)) shown is = absurd (false≢true is)
-request_by bytes (Ok (view.SetBits f)) shown is = absurd (false≢true is)
-request_by bytes (Ok (view.DmaActivate f)) shown is = absurd (false≢true is)
-request_by bytes (Ok (view.DmaSetup f)) shown is = absurd (false≢true is)
-request_by bytes (Ok (view.PioSetup f)) shown is = absurd (false≢true is)
-request_by bytes (Ok (view.Payload f)) shown is = absurd (false≢true is)
-request_by bytes (Ok (view.Unknown f)) shown is = absurd (false≢true is)
-request_by bytes (Err e) shown is = absurd (false≢true is)
+request_by bytes other shown is = absurd (false≢true is)
 
 one_more : (e : Happening) (rest : List Happening) → TookFlush rest → TookFlush (e ∷ rest)
 one_more e rest t =

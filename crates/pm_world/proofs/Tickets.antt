@@ -76,13 +76,7 @@ submitted_gives old (step.DiskTake n) ticket new rule = absurd (at_device old n 
 submitted_gives old (step.PmPresence n) ticket new rule = absurd (at_both old n (answer.Submitted ticket) new (PmPresenceRule n) rule).rule
 submitted_gives old (step.PmFromDevice n) ticket new rule = absurd (at_both old n (answer.Submitted ticket) new (PmFromDeviceRule n) rule).rule
 submitted_gives old (step.PmDown n) ticket new rule = absurd (at_both old n (answer.Submitted ticket) new (PmDownRule n) rule).rule
-submitted_gives old step.PmFromHost ticket new rule = absurd rule.0
-submitted_gives old step.PmUp ticket new rule = absurd rule.0
-submitted_gives old step.HostTake ticket new rule = absurd rule.0
-submitted_gives old step.HostPush ticket new rule = absurd rule.0
-submitted_gives old step.Tick ticket new rule = absurd rule.0
-submitted_gives old step.Poll ticket new rule = absurd rule.0
-submitted_gives old (step.Put at bytes) ticket new rule = absurd rule.0
+submitted_gives old other ticket new rule = absurd rule.0
 
 step_gives : (old : Places) (s : Step) (a : Answer) (new : Places) → Rule old s (Ok a) new → given_in (turn_of old s a new) ≡ given_by a
 step_gives old s answer.Idle new rule = idle_gives old s new

@@ -33,12 +33,7 @@ host_takes old new (step.PmFromDevice m) port conn number bytes report rule =
 host_takes old new (step.PmDown m) port conn number bytes report rule =
     absurd (at_both old m (answer.Took port conn number bytes report) new (PmDownRule m) rule).rule
 host_takes old new step.PmFromHost port conn number bytes report rule = absurd rule.0
-host_takes old new step.PmUp port conn number bytes report rule = absurd rule.0
-host_takes old new step.HostPush port conn number bytes report rule = absurd rule.0
-host_takes old new step.Tick port conn number bytes report rule = absurd rule.0
-host_takes old new (step.Submit dev request) port conn number bytes report rule = absurd rule.0
-host_takes old new step.Poll port conn number bytes report rule = absurd rule.0
-host_takes old new (step.Put at given) port conn number bytes report rule = absurd rule.0
+host_takes old new other port conn number bytes report rule = absurd rule.0
 
 -- a marked frame is as long as the frame
 pub plain_frame : (plain : List ℕ) (n : ℕ) → IsFrame (marked plain n) → IsFrame plain

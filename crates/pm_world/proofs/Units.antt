@@ -186,14 +186,7 @@ rule_lives old (step.DiskTake n) a new rule m = on_device old n (step.DiskTake n
 rule_lives old (step.PmPresence n) a new rule m = on_both old n (step.PmPresence n) a new (PmPresenceRule n) (λ place after left r. presence_lives n old place old.multiplier a after left new r) rule m
 rule_lives old (step.PmFromDevice n) a new rule m = on_both old n (step.PmFromDevice n) a new (PmFromDeviceRule n) (λ place after left r. from_device_lives n old place old.multiplier a after left new r) rule m
 rule_lives old (step.PmDown n) a new rule m = on_both old n (step.PmDown n) a new (PmDownRule n) (λ place after left r. down_lives n old place old.multiplier a after left new r) rule m
-rule_lives old step.PmFromHost a new rule m = none_lives old new (ap (λ (w : Places). w.devices) rule.1) m
-rule_lives old step.PmUp a new rule m = none_lives old new (ap (λ (w : Places). w.devices) rule.1) m
-rule_lives old step.HostTake a new rule m = none_lives old new (ap (λ (w : Places). w.devices) rule.1) m
-rule_lives old step.HostPush a new rule m = none_lives old new (ap (λ (w : Places). w.devices) rule.1) m
-rule_lives old step.Tick a new rule m = none_lives old new (ap (λ (w : Places). w.devices) rule.1) m
-rule_lives old (step.Submit dev request) a new rule m = none_lives old new (ap (λ (w : Places). w.devices) rule.1) m
-rule_lives old step.Poll a new rule m = none_lives old new (ap (λ (w : Places). w.devices) rule.1) m
-rule_lives old (step.Put at bytes) a new rule m = none_lives old new (ap (λ (w : Places). w.devices) rule.1) m
+rule_lives old other a new rule m = none_lives old new (ap (λ (w : Places). w.devices) rule.1) m
 
 -- ---- a whole run
 

@@ -31,14 +31,8 @@ up_step old (step.DiskTake n) port new rule = absurd ((at_device old n (answer.U
 up_step old (step.PmPresence n) port new rule = absurd ((at_both old n (answer.Up port) new (PmPresenceRule n) rule).rule)
 up_step old (step.PmFromDevice n) port new rule = absurd ((at_both old n (answer.Up port) new (PmFromDeviceRule n) rule).rule)
 up_step old (step.PmDown n) port new rule = absurd ((at_both old n (answer.Up port) new (PmDownRule n) rule).rule)
-up_step old step.PmFromHost port new rule = absurd (rule.0)
 up_step old step.PmUp port new rule = refl
-up_step old step.HostTake port new rule = absurd (rule.0)
-up_step old step.HostPush port new rule = absurd (rule.0)
-up_step old step.Tick port new rule = absurd (rule.0)
-up_step old (step.Submit dev request) port new rule = absurd (rule.0)
-up_step old step.Poll port new rule = absurd (rule.0)
-up_step old (step.Put at bytes) port new rule = absurd (rule.0)
+up_step old other port new rule = absurd (rule.0)
 
 -- and a frame goes down in the step that serves for it
 pub passed_step : (old : Places) (s : Step) (p : Passed) (new : Places) → Rule old s (Ok (answer.Passed p)) new → s ≡ step.PmFromHost
@@ -51,13 +45,7 @@ passed_step old (step.PmPresence n) p new rule = absurd ((at_both old n (answer.
 passed_step old (step.PmFromDevice n) p new rule = absurd ((at_both old n (answer.Passed p) new (PmFromDeviceRule n) rule).rule)
 passed_step old (step.PmDown n) p new rule = absurd ((at_both old n (answer.Passed p) new (PmDownRule n) rule).rule)
 passed_step old step.PmFromHost p new rule = refl
-passed_step old step.PmUp p new rule = absurd (rule.0)
-passed_step old step.HostTake p new rule = absurd (rule.0)
-passed_step old step.HostPush p new rule = absurd (rule.0)
-passed_step old step.Tick p new rule = absurd (rule.0)
-passed_step old (step.Submit dev request) p new rule = absurd (rule.0)
-passed_step old step.Poll p new rule = absurd (rule.0)
-passed_step old (step.Put at bytes) p new rule = absurd (rule.0)
+passed_step old other p new rule = absurd (rule.0)
 
 -- the step in which a device takes a FIS
 pub record IsTake (old : Places) (s : Step) (port : ℕ) (dropped : Bool) (new : Places) : Type 0 where
@@ -73,14 +61,7 @@ took_step old (step.DiskTake n) port d new rule = record { at = n; is = refl }
 took_step old (step.PmPresence n) port d new rule = absurd ((at_both old n (answer.DiskTook port d) new (PmPresenceRule n) rule).rule)
 took_step old (step.PmFromDevice n) port d new rule = absurd ((at_both old n (answer.DiskTook port d) new (PmFromDeviceRule n) rule).rule)
 took_step old (step.PmDown n) port d new rule = absurd ((at_both old n (answer.DiskTook port d) new (PmDownRule n) rule).rule)
-took_step old step.PmFromHost port d new rule = absurd (rule.0)
-took_step old step.PmUp port d new rule = absurd (rule.0)
-took_step old step.HostTake port d new rule = absurd (rule.0)
-took_step old step.HostPush port d new rule = absurd (rule.0)
-took_step old step.Tick port d new rule = absurd (rule.0)
-took_step old (step.Submit dev request) port d new rule = absurd (rule.0)
-took_step old step.Poll port d new rule = absurd (rule.0)
-took_step old (step.Put at bytes) port d new rule = absurd (rule.0)
+took_step old other port d new rule = absurd (rule.0)
 
 -- ## The host's link
 

@@ -513,12 +513,7 @@ passed_port old new step.PmFromHost m rule =
           (pm_port r.0 == control_port) r.2;
     }
 passed_port old new step.PmUp m rule = absurd rule.0
-passed_port old new step.HostTake m rule = absurd rule.0
-passed_port old new step.HostPush m rule = absurd rule.0
-passed_port old new step.Tick m rule = absurd rule.0
-passed_port old new (step.Submit dev request) m rule = absurd rule.0
-passed_port old new step.Poll m rule = absurd rule.0
-passed_port old new (step.Put at bytes) m rule = absurd rule.0
+passed_port old new other m rule = absurd rule.0
 
 first_same : (f g : Stamped) (xs ys : List Stamped) (all : List Stamped) → all ≡ f ∷ xs → all ≡ g ∷ ys → g ≡ f
 first_same f g xs ys all here there = let e : g ∷ ys ≡ f ∷ xs = sym there ∙ here in cc e
