@@ -171,8 +171,6 @@ sent_order n slot old bytes command lt is order =
 
 gave : (n : ℕ) (old new : Host) (frame : Option Stamped) (o : Outgoing) (past : History) → n < 16 → IsHost old → outgoing old.port old.memory ≡ o → Gives o old.port old.memory frame new.port
     → history_by n (part_of n old) past (brought n old (Gave frame)) ≡ own n (touched_by_out old o) ++ past
-gave n old new frame Nothing past lt is next gives = ap (λ (f : Option Stamped). history_by n (part_of n old) past (brought n old (Gave f))) gives.0
-gave n old new frame (Unreadable dev) past lt is next gives = ap (λ (f : Option Stamped). history_by n (part_of n old) past (brought n old (Gave f))) gives.0
 gave n old new None (Data dev offset len command) past lt is next gives = absurd gives
 gave n old new (Some frame) (Data dev offset len command) past lt is next gives =
     let carried : List ℕ = gathered (prds_of old.memory command) offset len old.memory.client in
@@ -187,6 +185,7 @@ gave n old new (Some frame) (Order dev slot command) past lt is next gives =
     (λ at.
     sent_order n slot old frame.bytes command lt is
     (subst (λ (m : ℕ). IsOrder old.port m slot command (next_receiver old.port) (next_to_send old.port)) at (order_is old.port old.memory dev slot command next)))
+gave n old new frame other past lt is next gives = ap (λ (f : Option Stamped). history_by n (part_of n old) past (brought n old (Gave f))) gives.0
 
 -- ---- one event
 
@@ -196,10 +195,9 @@ step_by n old new (Took frame report) past lt is runs does none = took n old fra
 step_by n old new (Wrote register value) past lt is runs does none = wrote n old register value past none
 step_by n old new (Flushed dev) past lt is runs does none = flushed n old dev past
 step_by n old new (Gave frame) past lt is runs does none = gave n old new frame (outgoing old.port old.memory) past lt is refl does.0
-step_by n old new (Stored structure) past lt is runs does none = refl
 step_by n old new (Rewrote dev row) past lt is runs does none =
     one_told n (part_of n old) past past (with_memory old (Rewrote dev row)) (dev == n) _ (λ same. refl) (λ differs. refl)
-step_by n old new (Put at bytes) past lt is runs does none = refl
+step_by n old new other past lt is runs does none = refl
 
 step : (n : ℕ) (old new : Host) (event : HostEvent) (past : History) → n < 16 → IsHost old → Does old event new → is_port_event old event ≡ false
     → history_by n (part_of n old) past (brought n old event) ≡ own n (touched old event) ++ past

@@ -165,9 +165,8 @@ port_in e f is = ap (λ (x : Errors). x.port) is
 gave_port : (o : Outgoing) (cause : Stop) (old : Port) (memory : Memory) (frame : Option Stamped) (new : Port) → Gives o old memory frame new → stopped_by old ≡ Some cause → stopped_by new ≡ Some cause
 gave_port Nothing cause old memory frame new gives is = ap (λ (p : Port). stopped_by p) gives.1 ∙ is
 gave_port (Unreadable dev) cause old memory frame new gives is = ap (λ (p : Port). stopped_by p) gives.1 ∙ ap (λ (o : Option Stop). Some (unwrap_or o (stop.Port Bus))) is
-gave_port (Data dev offset len command) cause old memory (Some f) new gives is = port_in new.errors old.errors gives.errors ∙ is
-gave_port (Order dev slot command) cause old memory (Some f) new gives is = port_in new.errors old.errors gives.errors ∙ is
 gave_port other cause old memory None new gives is = absurd gives
+gave_port rest cause old memory (Some f) new gives is = port_in new.errors old.errors gives.errors ∙ is
 
 event_stops : (cause : Stop) (old new : Host) (event : HostEvent) → Does old event new → clears_port old event ≡ false → stopped_by old.port ≡ Some cause → stopped_by new.port ≡ Some cause
 event_stops cause old new (Took frame report) does none is =

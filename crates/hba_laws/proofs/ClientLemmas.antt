@@ -283,8 +283,6 @@ module _ (old : Host) (host : IsHost old) (past : Touches) (hist : AreHistoriesO
 
   out_touches_none : (before : ℕ → ℕ) (o : Outgoing) → GoesOut old.port o → (k : ℕ) → client before (touched_by_out old o ++ past) k ≡ client before past k
   unfolding GoesOut
-  out_touches_none before out.Nothing goes k = refl
-  out_touches_none before (out.Unreadable dev) goes k = refl
   out_touches_none before (out.Data dev offset len command) goes k =
       let lt = context_below dev goes.0 goes.1 in
       let has : HasContext dev (view_of dev old.port).slots goes.0 = (is_own dev old.port.slots host.slots).contexts goes.0 goes.1 in
@@ -295,11 +293,10 @@ module _ (old : Host) (host : IsHost old) (past : Touches) (hist : AreHistoriesO
       by_kind : (b : Bool) → client before (By dev (cond b (SentControl slot) (Sent slot)) ∷ past) k ≡ client before past k
       by_kind true = refl
       by_kind false = refl
+  out_touches_none before other goes k = refl
 
   out_within : (o : Outgoing) → GoesOut old.port o → AreWithin past → AreWithin (touched_by_out old o ++ past)
   unfolding GoesOut
-  out_within out.Nothing goes w = w
-  out_within (out.Unreadable dev) goes w = w
   out_within (out.Data dev offset len command) goes w =
       let lt = context_below dev goes.0 goes.1 in
       let long : length (gathered (prds_of old.memory command) offset len old.memory.client) ≡ min goes.0.left 8192 = length-map-range_with_len _ 0 len ∙ goes.3 in
@@ -309,6 +306,7 @@ module _ (old : Host) (host : IsHost old) (past : Touches) (hist : AreHistoriesO
       by_kind : (b : Bool) → AreWithin (By dev (cond b (SentControl slot) (Sent slot)) ∷ past)
       by_kind true = w
       by_kind false = w
+  out_within other goes w = w
 
   -- bytes are put
   put_is : (at : ℕ) (bytes : List ℕ) (new : Host) → PutsBytes old.memory at bytes new.memory → (before : ℕ → ℕ) → IsClient before past old → IsClient before (Puts at bytes ∷ past) new

@@ -236,7 +236,6 @@ module _ (n : ℕ) (own : DeviceSlots) (state : DeviceState) (is : IsOwn n own) 
 
   pub fis_frees : (sound : Bool) (fis : Fis) → Frees (heard_fis own state sound fis)
   unfolding heard_fis
-  fis_frees sound (view.RegH2D f) = quiet
   fis_frees sound (view.RegD2H f) = register (field table.D2h table.Status f) (field table.D2h table.Error f) state.resetting
   fis_frees sound (view.SetBits f) = bits (field table.Bits table.Status f) (field table.Bits table.Error f) (field table.Bits table.SActive f) (is_error (field table.Bits table.Status f))
   fis_frees sound (view.DmaActivate f) = activate (may_activate own.context)
@@ -247,7 +246,7 @@ module _ (n : ℕ) (own : DeviceSlots) (state : DeviceState) (is : IsOwn n own) 
       pio (field table.Pio table.Status f) (field table.Pio table.Error f) (field table.Pio table.Transfer f) (eqb (field table.Pio table.D f) 1) (block_of f) (is_error (field table.Pio table.Status f))
       (pio_fault (pio_issue own) (field table.Pio table.Transfer f) (eqb (field table.Pio table.D f) 1))
   fis_frees sound (view.Payload f) = data_fis sound (length f - 4)
-  fis_frees sound (view.Unknown f) = quiet
+  fis_frees sound other = quiet
 
 heard_frees : (n : ℕ) (v : DeviceView) (sound : Bool) (o : Option Fis) → IsOwn n v.slots → (s : ℕ) → s < 32
     → has_bit (heard n v sound o).done s ≡ becomes_free v.slots (moved (heard n v sound o).happening v.slots) s

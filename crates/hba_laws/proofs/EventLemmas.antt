@@ -67,11 +67,10 @@ other_one n dev x past ne = ap (λ b. cond b (x ∷ []) [] ++ past) (ne_eqb dev 
 
 -- what is known of it
 unfoldable pub GoesOut : Port → Outgoing → Type 0
-GoesOut port out.Nothing = Unit {0}
-GoesOut port (out.Unreadable dev) = Unit {0}
 GoesOut port (out.Data dev offset len command) = (c : Context) × (context_of port.slots dev ≡ Some c) × (c.activated ≡ true) × (len ≡ payload_len c)
 GoesOut port (out.Order dev slot command) =
     (i : Issue) × (issue_at port.slots slot ≡ Some i) × (dev ≡ i.dev) × (slot < 32) × (i.sent ≡ false) × (is_control i.work.kind ≡ false → waiting (slots_of i.dev port.slots) ≡ None)
+GoesOut port other = Unit {0}
 
 not_true : (b : Bool) → not b ≡ true → b ≡ false
 not_true true e = absurd (false≢true e)
@@ -325,16 +324,15 @@ module _ (n : ℕ) (old : Host) (host : IsHost old) (past : History) (told : IsH
   gave : (o : Outgoing) → GoesOut old.port o → (frame : Option Stamped) (new : Host) → Gives o old.port old.memory frame new.port → IsHistoryOf n new (own n (touched_by_out old o) ++ past)
   gave out.Nothing goes frame new does = subst (λ (p : Port). IsTold (view_of n p) past) (sym does.1) told
   gave (out.Unreadable dev) goes frame new does = subst (λ (p : Port). IsTold (view_of n p) past) (sym does.1) (told_of (view_of n (stopped_by_bus old.port)) past says)
-  gave (out.Data dev offset len command) goes None new does = absurd does
   gave (out.Data dev offset len command) goes (Some f) new does =
       of_device dev (Carried (gathered (prds_of old.memory command) offset len old.memory.client)) new
       (λ same. subst (λ (w : DeviceView). IsTold w (Carried (gathered (prds_of old.memory command) offset len old.memory.client) ∷ past)) (sym does.own) (data_own dev offset len command goes same))
       (does.others n)
-  gave (out.Order dev slot command) goes None new does = absurd does
   gave (out.Order dev slot command) goes (Some f) new does =
       of_device dev (event_sent old.port.slots slot) new
       (λ same. subst (λ (w : DeviceView). IsTold w (event_sent old.port.slots slot ∷ past)) (sym does.own) (order_own dev slot command goes same))
       (does.others n)
+  gave other goes None new does = absurd does
 
   pub step : (event : HostEvent) (new : Host) → n < 16 → IsFramed event → Does old event new → IsHistoryOf n new (own n (touched old event) ++ past)
   step (Took frame report) new lt framed does = took frame report new framed does

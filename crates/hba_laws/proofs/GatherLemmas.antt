@@ -311,12 +311,11 @@ module _ (old : Host) (host : IsHost old) (past : Touches) (hist : AreHistoriesO
 
   out_gathered : (o : Outgoing) → IsDue old.port old.memory o → AreGathered opening (touched_by_out old o ++ past)
   unfolding IsDue
-  out_gathered out.Nothing due = before
-  out_gathered (out.Unreadable dev) due = before
   out_gathered (out.Data dev offset len command) due =
       let lt = context_below old host past hist dev due.0 due.1 in (sent_gathered old host past dev (hist dev lt) opening (tables dev lt) is offset len command due, before)
   out_gathered (out.Order dev slot command) due =
       quiet_gathered opening (touched_by_out old (out.Order dev slot command)) past (order_quiet old dev slot command) before
+  out_gathered other due = before
 
   pub event_gathered : (event : HostEvent) → AreGathered opening (touched old event ++ past)
   event_gathered (Took frame report) = took_gathered frame

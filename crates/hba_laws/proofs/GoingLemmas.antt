@@ -49,8 +49,6 @@ order_bytes n slot host command lt is order =
 
 goes : (n : ℕ) (host : Host) (new : Port) (frame : Stamped) (o : Outgoing) → n < 16 → IsHost host → outgoing host.port host.memory ≡ o → Gives o host.port host.memory (Some frame) new → frame.stamp.port ≡ n
     → own_bytes n (part_of n host) host.memory ≡ Some frame.bytes
-goes n host new frame Nothing lt is next gives to = let e : Some frame ≡ None = gives.0 in cc
-goes n host new frame (Unreadable dev) lt is next gives to = let e : Some frame ≡ None = gives.0 in cc
 goes n host new frame (Data dev offset len command) lt is next gives to =
     let e : dev ≡ n = sym (ap (λ (f : Stamped). f.stamp.port) gives.frame_is) ∙ to in
     let bytes : own_bytes dev (part_of dev host) host.memory ≡ Some frame.bytes =
@@ -61,6 +59,7 @@ goes n host new frame (Order dev slot command) lt is next gives to =
     let bytes : own_bytes dev (part_of dev host) host.memory ≡ Some frame.bytes =
     order_bytes dev slot host command (subst (λ (m : ℕ). m < 16) (sym e) lt) is (order_is host.port host.memory dev slot command next) ∙ ap (λ (f : Stamped). Some f.bytes) (sym gives.frame_is) in
     subst (λ (m : ℕ). own_bytes m (part_of m host) host.memory ≡ Some frame.bytes) e bytes
+goes n host new frame other lt is next gives to = let e : Some frame ≡ None = gives.0 in cc
 
 pub goes_by_own : GoesByOwn
 goes_by_own n lt old new frame is does to = goes n old new.port frame (outgoing old.port old.memory) lt is refl does.0 to

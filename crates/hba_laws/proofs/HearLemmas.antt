@@ -166,7 +166,6 @@ module _ (n : ℕ) (own : DeviceSlots) (state : DeviceState) (payload : List ℕ
 
   pub fis_follows : (sound : Bool) (fis : Fis) → ((f : List ℕ) → fis ≡ view.Payload f → (length f - 4 ≡ length payload) × (length payload % 4 ≡ 0)) → Follows own payload past (heard_fis own state sound fis)
   unfolding heard_fis
-  fis_follows sound (view.RegH2D f) is_data = says
   fis_follows sound (view.RegD2H f) is_data = register (field table.D2h table.Status f) (field table.D2h table.Error f) state.resetting
   fis_follows sound (view.SetBits f) is_data = bits (field table.Bits table.Status f) (field table.Bits table.Error f) (field table.Bits table.SActive f) (is_error (field table.Bits table.Status f))
   fis_follows sound (view.DmaActivate f) is_data = activate (may_activate own.context) refl
@@ -176,7 +175,7 @@ module _ (n : ℕ) (own : DeviceSlots) (state : DeviceState) (payload : List ℕ
   fis_follows sound (view.Payload f) is_data =
       let p = is_data f refl in
       subst (λ (len : ℕ). Follows own payload past (heard_data own state sound len)) (sym p.0) (data_fis p.1 sound)
-  fis_follows sound (view.Unknown f) is_data = says
+  fis_follows sound other is_data = says
 
 -- ---- the FIS of a frame
 
@@ -184,13 +183,7 @@ module _ (n : ℕ) (own : DeviceSlots) (state : DeviceState) (payload : List ℕ
 payload_by : (kind : Kind) (b : Bool) (f g : List ℕ) → may_have kind (length f) ≡ b → cond b (Ok (view_as kind f)) (Err WrongLength) ≡ Ok (view.Payload g) → g ≡ f
 payload_by kind false f g e h = cc
 payload_by Data true f g e h = cc
-payload_by H2d true f g e h = cc
-payload_by D2h true f g e h = cc
-payload_by Activate true f g e h = cc
-payload_by Setup true f g e h = cc
-payload_by Pio true f g e h = cc
-payload_by Bits true f g e h = cc
-payload_by Other true f g e h = cc
+payload_by other true f g e h = cc
 
 pub payload_is : (f g : List ℕ) → seen f ≡ Ok (view.Payload g) → g ≡ f
 unfolding seen

@@ -296,17 +296,16 @@ gave : (n : ℕ) (old new : Host) (frame : Option Stamped) (o : Outgoing) → n 
 gave n old new frame Nothing lt is next gives memory none =
     same_hosts n old new gives.1 memory ∙ ap (λ (f : Option Stamped). part_after_all n (part_of n old) (gone_to n f)) (sym gives.0)
 gave n old new frame (Unreadable dev) lt is next gives memory none = absurd (true≢false none)
-gave n old new None (Data dev offset len command) lt is next gives memory none = absurd gives
 gave n old new (Some frame) (Data dev offset len command) lt is next gives memory none =
     let w : DeviceView = view_fed (view_of dev old.port) in
     let bytes : List ℕ = data_fis dev (gathered (prds_of old.memory command) offset len old.memory.client) in
     gone n old new dev bytes w frame gives memory (sent_own old new dev bytes w frame gives memory (keeps_fed (view_of dev old.port).slots))
     (λ e. going_data dev old (data_is_own old.port old.memory dev offset len command next))
-gave n old new None (Order dev slot command) lt is next gives memory none = absurd gives
 gave n old new (Some frame) (Order dev slot command) lt is next gives memory none =
     let w : DeviceView = view_sent (view_of dev old.port) slot command in
     gone n old new dev command.cfis w frame gives memory (sent_own old new dev command.cfis w frame gives memory (keeps_sent (view_of dev old.port).slots slot))
     (λ e. sent_order old dev slot command (subst (λ (m : ℕ). m < 16) (sym e) lt) is (order_is old.port old.memory dev slot command next))
+gave n old new None other lt is next gives memory none = absurd gives
 
 -- ---- the software writes
 

@@ -90,15 +90,14 @@ keeps_ended true own middle keeps = λ slot h. keeps_done middle slot (keeps slo
 keeps_ended false own middle keeps = keeps
 
 pub keeps_moved : (m : Happening) (own : DeviceSlots) → KeepsOwn own (moved m own)
-keeps_moved happening.Nothing own = λ slot h. h
 keeps_moved (happening.Answered a) own = keeps_answered a own
 keeps_moved (happening.Named mask) own = keeps_freed own (is_done mask own)
-keeps_moved (happening.SetUp c) own = λ slot h. h
 keeps_moved (happening.PioSetUp count to_host) own = keeps_pio own count to_host
 keeps_moved happening.Activated own =
     let asked : DeviceSlots = record own { context = option_map activated own.context } in
     keeps_either own asked own (may_activate own.context) (λ slot h. h) (λ slot h. h)
 keeps_moved (happening.Carried wrote finishes) own = keeps_ended finishes own (after_arrive own wrote.len) (keeps_arrived own wrote.len)
+keeps_moved other own = λ slot h. h
 
 -- a command goes out, data goes out, and the device is flushed
 pub keeps_sent : (own : DeviceSlots) (slot : ℕ) → KeepsOwn own (after_sent own slot)

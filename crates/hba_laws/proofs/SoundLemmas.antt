@@ -158,9 +158,8 @@ gives_are (Unreadable dev) old memory frame new gives are =
       subst AreRegisters (sym after) (record { chosen = are.0.chosen; started = are.0.started; receives = are.0.receives }),
       subst AreErrors (sym (ap (λ (p : Port). p.errors) gives.1)) (stopped_errors old.errors Bus are.1),
     )
-gives_are (Data dev offset len command) old memory (Some f) new gives are = sound_by new.registers old.registers new.errors old.errors gives.registers gives.errors are
-gives_are (Order dev slot command) old memory (Some f) new gives are = sound_by new.registers old.registers new.errors old.errors gives.registers gives.errors are
 gives_are other old memory None new gives are = absurd gives
+gives_are rest old memory (Some f) new gives are = sound_by new.registers old.registers new.errors old.errors gives.registers gives.errors are
 
 port_below : (frame : List ℕ) → port_of frame < 16
 port_below frame = omega arith

@@ -103,14 +103,13 @@ took_none old frame = by_ignored (ignores (port_of frame) old.port frame)
 
 pub out_none : (old : Host) (o : Outgoing) → NoneIssues (touched_by_out old o)
 unfolding NoneIssues NotIssue
-out_none old out.Nothing = tt
-out_none old (out.Unreadable dev) = tt
 out_none old (out.Data dev offset len command) = (tt, tt)
 out_none old (out.Order dev slot command) = by_kind (holds is_control_issue (issue_at old.port.slots slot))
   where
     by_kind : (b : Bool) → NoneIssues (By dev (cond b (SentControl slot) (Sent slot)) ∷ [])
     by_kind true = (tt, tt)
     by_kind false = (tt, tt)
+out_none old other = tt
 
 pub clear_none : (o : Option ℕ) → NoneIssues (touched_by_clear o)
 unfolding NoneIssues NotIssue

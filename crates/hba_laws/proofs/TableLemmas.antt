@@ -45,13 +45,12 @@ step at count old new (Took frame report) is next does apart spares =
           apart_posted at count old.port.registers.fb (row_for old.port (port_of frame)) (admitted (port_of frame) (seen frame)) old.memory.structure new.memory.structure apart (does.heard f).structure
     ]
 step at count old new (Wrote register value) is next does apart spares = same_bytes at count old.memory.structure new.memory.structure (ap (λ (m : Memory). m.structure) does.2)
-step at count old new (Flushed dev) is next does apart spares = same_bytes at count old.memory.structure new.memory.structure (ap (λ (m : Memory). m.structure) does.1)
-step at count old new (Gave frame) is next does apart spares = same_bytes at count old.memory.structure new.memory.structure (ap (λ (m : Memory). m.structure) does.1)
 step at count old new (Stored structure) is next does apart spares =
     λ i h. spares i h ∙ ap (λ (m : Memory). slice_index m.structure (at + i)) (sym does.0.after)
 step at count old new (Rewrote dev row) is next does apart spares =
     rewritten at count old.port.registers.fb dev row old.memory new.memory does.0.dev_below does.0.as_long does.0.after is.memory.structure_len next.memory.structure_len apart
 step at count old new (Put at2 bytes) is next does apart spares = same_bytes at count old.memory.structure new.memory.structure (ap (λ (m : Memory). m.structure) does.0.after)
+step at count old new other is next does apart spares = same_bytes at count old.memory.structure new.memory.structure (ap (λ (m : Memory). m.structure) does.1)
 
 bytes_over : (at count : ℕ) (old new : Host) (events : List HostEvent) (run : Runs old events new) → AreHosts old new events run → LieApart at count old.port.registers.fb 4096
     → Spares at count old new events run → AgreeFrom at count old.memory.structure new.memory.structure

@@ -163,7 +163,6 @@ module _ (own : DeviceSlots) (state : DeviceState) (sound : Bool) (len : ℕ) wh
 
   fis_carries : (fis : Fis) → ((f : List ℕ) → fis ≡ view.Payload f → length f - 4 ≡ len) → Carries own sound len (heard_fis own state sound fis).happening
   unfolding heard_fis
-  fis_carries (view.RegH2D f) is_data = tt
   fis_carries (view.RegD2H f) is_data = register (field table.D2h table.Status f) (field table.D2h table.Error f) state.resetting
   fis_carries (view.SetBits f) is_data = bits (field table.Bits table.Status f) (field table.Bits table.Error f) (field table.Bits table.SActive f) (is_error (field table.Bits table.Status f))
   fis_carries (view.DmaActivate f) is_data = activate (may_activate own.context)
@@ -174,7 +173,7 @@ module _ (own : DeviceSlots) (state : DeviceState) (sound : Bool) (len : ℕ) wh
       pio (field table.Pio table.Status f) (field table.Pio table.Error f) (field table.Pio table.Transfer f) (eqb (field table.Pio table.D f) 1) (block_of f) (is_error (field table.Pio table.Status f))
       (pio_fault (pio_issue own) (field table.Pio table.Transfer f) (eqb (field table.Pio table.D f) 1))
   fis_carries (view.Payload f) is_data = subst (λ (k : ℕ). Carries own sound len (heard_data own state sound k).happening) (sym (is_data f refl)) data_fis
-  fis_carries (view.Unknown f) is_data = tt
+  fis_carries other is_data = tt
 
 -- what is known of the happening that a frame is
 pub heard_carries : (n : ℕ) (v : DeviceView) (sound : Bool) (frame : List ℕ) → Carries v.slots sound (length (drop 4 frame)) (heard n v sound (admitted n (seen frame))).happening
