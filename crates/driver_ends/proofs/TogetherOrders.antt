@@ -67,12 +67,7 @@ plain_by : (kind : Kind) (b : Bool) (old new : List ℕ) → request_of new ≡ 
 plain_by kind false old new same plain = absurd plain
 plain_by table.H2d true old new same plain = subst IsPlainRequest (sym same) plain
 plain_by table.Data true old new same plain = tt
-plain_by table.D2h true old new same plain = absurd plain
-plain_by table.Activate true old new same plain = absurd plain
-plain_by table.Setup true old new same plain = absurd plain
-plain_by table.Bits true old new same plain = absurd plain
-plain_by table.Pio true old new same plain = absurd plain
-plain_by table.Other true old new same plain = absurd plain
+plain_by other true old new same plain = absurd plain
 
 same_request : (port : ℕ) (old new : List ℕ) → IsMarked port old new → request_of new ≡ request_of old
 same_request port old new m =

@@ -32,11 +32,6 @@ module _ (n : ℕ) (base : List Happening) (old : Host) (given : List Happening)
 
   -- what slot 30 holds is over
   not_stepped : (turn : HostTurn) → IsResetTurn n old turn → (s : ℕ) (t : Transfer) → issued s (own n touches) ≡ Some t → From old.driver n s t → ⊥
-  not_stepped (Took frame report) resets s t here from = resets
-  not_stepped (Pushed frame) resets s t here from = resets
-  not_stepped (Submitted dev request ticket) resets s t here from = resets
-  not_stepped (Polled c) resets s t here from = resets
-  not_stepped (Put at bytes) resets s t here from = resets
   not_stepped (Ticked a) resets s t here (inl r) = unready (h.tended.requests.ready s r.entry (record { stands = r.stands; of_dev = r.of_dev; lives = issued_live r.entry r.goes }))
   not_stepped (Ticked a) resets s t here (inr (inl i)) =
       let at : IsThere (view_of n old.port).slots s t =
@@ -45,6 +40,7 @@ module _ (n : ℕ) (base : List Happening) (old : Host) (given : List Happening)
       let over : issue_at old.port.slots 30 ≡ None = slot_over n old i.path h.sound resets i.goes i.asked in
       let bad : None ≡ Some at.issue = sym (ap (issue_at old.port.slots) i.slot ∙ over) ∙ there in cc bad
   not_stepped (Ticked a) resets s t here (inr (inr o)) = omega (arith, below, o.of_dev)
+  not_stepped other resets s t here from = resets
 
   reset_free : (turn : HostTurn) → IsResetTurn n old turn → IsFreeAt n old touches
   reset_free turn resets =

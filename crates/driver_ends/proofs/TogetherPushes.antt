@@ -193,8 +193,6 @@ module _ (n : ℕ) (base : List Happening) (old : Host) (frame : Option Stamped)
       (subst (GoesOut old.port) (ap (λ (d : ℕ). Order d slot command) same) goes) (subst (λ (d : ℕ). OutTold old touches d slot command) same o))
 
   by_frame : (o : Outgoing) → outgoing old.port old.memory ≡ o → Gives o old.port old.memory frame new.port → HasLast old.port o → GoesOut old.port o → (x : Option Stamped) → frame ≡ x → Goes o
-  by_frame Nothing out gave last goes x is = beside Nothing (ap (view_of n) gave.1) (ap (given_to n) gave.0) refl
-  by_frame (Unreadable dev) out gave last goes x is = beside (Unreadable dev) (ap (view_of n) gave.1) (ap (given_to n) gave.0) refl
   by_frame (Data dev offset len command) out gave last goes None is = absurd (subst (λ (y : Option Stamped). Gives (Data dev offset len command) old.port old.memory y new.port) is gave)
   by_frame (Data dev offset len command) out gave last goes (Some f) is =
       let did : event.Does (shared_by old) (event.Gave (Some f)) (shared_by new) = subst (λ (y : Option Stamped). event.Does (shared_by old) (event.Gave y) (shared_by new)) is does in
@@ -215,6 +213,7 @@ module _ (n : ℕ) (base : List Happening) (old : Host) (frame : Option Stamped)
         | inl same ↦ order_frame f dev slot command is out did bytes sent.own goes o same
         | inr other ↦ to_other f dev is (ap (λ (b : List ℕ). slice_index b 1 % 16) bytes ∙ o.port) (λ e. other (sym e)) (subst (IsForOther n) (sym out) (λ e. other (sym e))) (Order dev slot command) out
       ]
+  by_frame rest out gave last goes x is = beside rest (ap (view_of n) gave.1) (ap (given_to n) gave.0) refl
 
   goes_then : Goes (outgoing old.port old.memory)
   goes_then = by_frame (outgoing old.port old.memory) refl does.0 (out_last old.port old.memory) (goes_out old.port old.memory) frame refl

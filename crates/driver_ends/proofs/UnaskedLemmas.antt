@@ -161,8 +161,6 @@ module _ (n : ℕ) (h : Host) (touches : Touches) (below : n < 15) (served : IsS
     data_port dev bytes small = omega (arith, small)
 
     by_frame : (o : Outgoing) → Gives o h.port h.memory frame new.port → HasLast h.port o → GoesOut h.port o → (x : Option Stamped) → frame ≡ x → given_to n frame ≡ []
-    by_frame Nothing gave last goes x is = ap (given_to n) gave.0
-    by_frame (Unreadable dev) gave last goes x is = ap (given_to n) gave.0
     by_frame (Data dev offset len command) gave last goes None is = ap (given_to n) is
     by_frame (Data dev offset len command) gave last goes (Some f) is =
         let sent = subst (λ (y : Option Stamped). Gives (Data dev offset len command) h.port h.memory y new.port) is gave in
@@ -181,6 +179,7 @@ module _ (n : ℕ) (h : Host) (touches : Touches) (below : n < 15) (served : IsS
           | inl same ↦ absurd (no_order slot command (subst (λ (d : ℕ). OutTold h touches d slot command) same o))
           | inr other ↦ ap (given_to n) is ∙ given_elsewhere n dev f (ap (λ (b : List ℕ). slice_index b 1 % 16) (ap (λ (s : Stamped). s.bytes) sent.frame_is) ∙ o.port) (λ e. other (sym e))
         ]
+    by_frame rest gave last goes x is = ap (given_to n) gave.0
 
     none_given : Gives (outgoing h.port h.memory) h.port h.memory frame new.port → given_to n frame ≡ []
     none_given gives = by_frame (outgoing h.port h.memory) gives (out_last h.port h.memory) (goes_out h.port h.memory) frame refl

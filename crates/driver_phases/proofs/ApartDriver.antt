@@ -459,13 +459,12 @@ pub resets : (n : ℕ) (past : Touches) (old : Host) (turn : HostTurn) (new : Ho
     → MayBe30 n stage old turn → IsUnsought n old → IsAt30 n stage old → (t : Turns30 n stage turn new) → GoesByReset n stage old → GoesByReset n t.next new
 resets n past old (Took frame report) new stage low on does may off at t goes =
     rests_on n old (Took frame report) new tt does stage t.next at t.is goes
-resets n past old (Pushed frame) new stage low on does may off at t goes = rests_on n old (Pushed frame) new tt does stage t.next at t.is goes
 resets n past old (Ticked acts) new stage low on does may off at t goes = ticks_go n past old acts new low on does may off stage t.next at t.at t.is goes
 resets n past old (Submitted dev request ticket) new stage low on does may off at t goes =
     rests_on n old (Submitted dev request ticket) new tt does stage t.next at t.is goes
 resets n past old (Polled completion) new stage low on does may off at t goes =
     rests_on n old (Polled completion) new tt does stage t.next at t.is goes
-resets n past old (Put place bytes) new stage low on does may off at t goes = rests_on n old (Put place bytes) new tt does stage t.next at t.is goes
+resets n past old other new stage low on does may off at t goes = rests_on n old other new tt does stage t.next at t.is goes
 
 -- ---- what slot 30 holds asks the disk for that
 

@@ -81,9 +81,8 @@ module _ (laws : LinesGoOn) (n : ℕ) (h : Host) (k : Ledger) (down up : List (L
   given_on Asked stage fields are fits asks on = none_asked Asked stage fields are fits
   given_on Loose stage fields are fits asks on = gives_loose stage fields are fits asks on
   given_on Held stage fields are fits asks on = gives_held stage fields are fits asks on
-  given_on Both stage fields are fits asks on = none_off Both stage fields are fits
   given_on Resting stage fields are fits asks on = gives_resting stage fields are fits asks on
-  given_on Releasing stage fields are fits asks on = none_off Releasing stage fields are fits
+  given_on other stage fields are fits asks on = none_off other stage fields are fits
 
 -- ## What comes to the disk
 
@@ -108,18 +107,16 @@ off_loose n _ h fits = absurd fits
 module _ (n : ℕ) (stage : Stage30) (h : Host) (old new : Ledger) (back up : List (List ℕ)) where
   pub comes_on : (line : Line) → Fits line stage → Leans n line stage h → ComesTo line old new back up → Comes30 n stage h old new back up
   comes_on Failed fits leans stands = Line30 Failed fits leans stands.on
-  comes_on Asked fits leans (inl stands) = Line30 Asked fits leans stands.on
   comes_on Asked fits leans (inr both) = LogRead (LogOf old.failure) (is_log stage fits) both
   comes_on Loose fits leans stands = Line30 Loose fits leans stands.on
-  comes_on Held fits leans (inl stands) = Line30 Held fits leans stands.on
   comes_on Held fits leans (inr on) = Line30 Resting fits tt on
-  comes_on Both fits leans (inl stands) = Line30 Both fits leans stands.on
   comes_on Both fits leans (inr (inl on)) = Line30 Releasing fits tt on
   comes_on Both fits leans (inr (inr on)) =
       let loose = off_loose n stage h fits in
       Line30 Loose loose.0 loose.1 on.0.on
   comes_on Resting fits leans none = absurd none
   comes_on Releasing fits leans both = ResetDone (is_off stage fits) both
+  comes_on other fits leans (inl stands) = Line30 other fits leans stands.on
 
 -- ## Turns in which nothing goes over the link
 
@@ -177,10 +174,9 @@ module _ (laws : LinesGoOn) (n : ℕ) (h : Host) (k : Ledger) (down up : List (L
   ticks_on Failed stage next fits is leans = failed_on stage next fits is
   ticks_on Asked stage next fits is leans = same Asked next (asked_on stage next fits is) tt
   ticks_on Loose stage next fits is leans = loose_on stage next fits is leans
-  ticks_on Held stage next fits is leans = same Held next (held_on stage next fits is) tt
   ticks_on Both stage next fits is leans = same Both next (off_on stage next fits is) tt
-  ticks_on Resting stage next fits is leans = same Resting next (held_on stage next fits is) tt
   ticks_on Releasing stage next fits is leans = same Releasing next (off_on stage next fits is) tt
+  ticks_on other stage next fits is leans = same other next (held_on stage next fits is) tt
 
   -- ## A FIS of the disk comes to the host
 

@@ -67,7 +67,6 @@ pub fine_stays : (n : ℕ) (old : Host) (turn : HostTurn) (new : Host) → Does 
     → IsFine (device_at new.driver.plan n)
 fine_stays n old (Took frame report) new does steady h =
     fine_as n old.driver.plan new.driver.plan (plan_same old (Took frame report) new does tt) h.fine
-fine_stays n old (Pushed frame) new does steady h = fine_as n old.driver.plan new.driver.plan (plan_same old (Pushed frame) new does tt) h.fine
 fine_stays n old (Ticked acted) new does steady h =
     fine_as n (after_tick (sight_in old) (file_shown new.port) old.driver).plan new.driver.plan (ap (λ (d : Driver). d.plan) does.driver)
     (tick_plan n old (file_shown new.port) steady h).steady.fine
@@ -75,7 +74,7 @@ fine_stays n old (Submitted dev request ticket) new does steady h =
     fine_as n old.driver.plan new.driver.plan (plan_same old (Submitted dev request ticket) new does tt) h.fine
 fine_stays n old (Polled completion) new does steady h =
     fine_as n old.driver.plan new.driver.plan (plan_same old (Polled completion) new does tt) h.fine
-fine_stays n old (Put at bytes) new does steady h = fine_as n old.driver.plan new.driver.plan (plan_same old (Put at bytes) new does tt) h.fine
+fine_stays n old other new does steady h = fine_as n old.driver.plan new.driver.plan (plan_same old other new does tt) h.fine
 
 -- ---- the events of a calm turn
 

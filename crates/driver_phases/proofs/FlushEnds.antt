@@ -52,7 +52,6 @@ issue_waits s slot w sent true false at is later waits =
     absurd (true≢false (sym waits ∙ ap (λ (m : ℕ). is_at m w) (sym (Rattle.std.proofs.lemmas.Bool.eqb-true slot s at)) ∙ is))
 
 waited_sent : (s : ℕ) (past : History) → is_at s (waiting_in past) ≡ true → is_sent s past ≡ true
-waited_sent s [] waits = absurd (false≢true waits)
 waited_sent s (Issued slot t ∷ past) waits =
     issue_waits s slot (waiting_in past) (is_sent s past) (eqb slot s) (is_at slot (waiting_in past)) refl refl (waited_sent s past) waits
 waited_sent s (event_of.Sent slot ∷ past) waits = ap (λ (b : Bool). if b then true else is_sent s past) waits
@@ -60,9 +59,9 @@ waited_sent s (SentControl slot ∷ past) waits = waited_sent s past waits
 waited_sent s (SetUp tag offset count to_host ∷ past) waits = waited_sent s past waits
 waited_sent s (PioSetUp count to_host ends ∷ past) waits = waited_sent s past waits
 waited_sent s (Carried bytes ∷ past) waits = waited_sent s past waits
-waited_sent s (Answered ∷ past) waits = absurd (false≢true waits)
 waited_sent s (Named mask ∷ past) waits = waited_sent s past waits
 waited_sent s (Emptied ∷ past) waits = waited_sent s past waits
+waited_sent s other waits = absurd (false≢true waits)
 
 -- ---- the ends
 

@@ -97,7 +97,6 @@ record IsRegister (r : Result Fis FisFault) : Type 0 where
 by_fis : (v : DeviceView) (sound : Bool) (payload : List ℕ) (fis : Fis)
     → event_heard (heard_fis v.slots v.state sound fis) payload ≡ Some Answered → IsRegister (Ok fis)
 unfolding heard_fis
-by_fis v sound payload (view.RegH2D f) is = cc is
 by_fis v sound payload (view.RegD2H f) is = record { frame = f; is = refl }
 by_fis v sound payload (view.SetBits f) is = absurd (none_bits v.slots v.state f payload (is_error (field Bits Status f)) is)
 by_fis v sound payload (view.DmaActivate f) is = absurd (none_activate v.state payload (may_activate v.slots.context) is)
@@ -108,7 +107,7 @@ by_fis v sound payload (view.PioSetup f) is =
     absurd (none_pio v.state (field Pio Status f) (field Pio table.Error f) (field Pio table.Transfer f) (field Pio table.D f == 1) (block_of f) payload
     (is_error (field Pio Status f)) (pio_fault (pio_issue v.slots) (field Pio table.Transfer f) (field Pio table.D f == 1)) is)
 by_fis v sound payload (view.Payload f) is = absurd (none_data v.slots v.state sound (length f - 4) payload v.slots.context is)
-by_fis v sound payload (view.Unknown f) is = cc is
+by_fis v sound payload other is = cc is
 
 by_test : (dev : ℕ) (v : DeviceView) (sound : Bool) (payload : List ℕ) (fis : Fis) (b : Bool)
     → event_heard (heard dev v sound (if b then Some fis else None)) payload ≡ Some Answered → IsRegister (Ok fis)
@@ -138,13 +137,7 @@ register_by : (kind : Kind) (b : Bool) (old new g : List ℕ) → (if b then Ok 
     → (if b then Ok (view_as kind old) else Err WrongLength) ≡ Ok (view.RegD2H old)
 register_by kind false old new g e = absurd (cc e)
 register_by D2h true old new g e = refl
-register_by Bits true old new g e = absurd (cc e)
-register_by H2d true old new g e = absurd (cc e)
-register_by Activate true old new g e = absurd (cc e)
-register_by Setup true old new g e = absurd (cc e)
-register_by table.Data true old new g e = absurd (cc e)
-register_by Pio true old new g e = absurd (cc e)
-register_by Other true old new g e = absurd (cc e)
+register_by other true old new g e = absurd (cc e)
 
 register_marked : (port : ℕ) (old g : List ℕ) → IsFrame old → port < 16 → seen (marked old port) ≡ Ok (view.RegD2H g) → seen old ≡ Ok (view.RegD2H old)
 unfolding seen

@@ -134,7 +134,6 @@ no_setup l f none empty right =
     subst (λ (cs : List Command). StartsOne (find (λ c. c.tag == field Setup table.BufferId f) cs) f) empty start
 
 quiet_one : (l : Ledger) (fis : Result Fis FisFault) → Rests l → IsRight l fis → listens_up l fis ≡ l
-quiet_one l (Ok (view.RegH2D f)) rests right = refl
 quiet_one l (Ok (view.RegD2H f)) rests right = absurd (subst (λ (xs : List Reply). AnswersFirst xs f) rests.awaited right.replies)
 quiet_one l (Ok (view.SetBits f)) rests right =
     absurd (subst (λ (xs : List ℕ). Names xs (field Bits SActive f)) rests.unanswered (right.answers right.fine))
@@ -143,8 +142,7 @@ quiet_one l (Ok (view.DmaSetup f)) rests right = absurd (no_setup l f rests.movi
 quiet_one l (Ok (view.PioSetup f)) rests right = absurd (subst (λ (xs : List Reply). ShowsFirst xs f) rests.awaited right.replies)
 quiet_one l (Ok (view.Payload f)) rests right =
     absurd (subst (λ (v : Option Moving). PageAsked l v) rests.moving right.asked rests.pages)
-quiet_one l (Ok (view.Unknown f)) rests right = refl
-quiet_one l (Err e) rests right = refl
+quiet_one l other rests right = refl
 
 pub quiet_up : (l : Ledger) (up : List (List ℕ)) → Rests l → AreRight l up → with_up l up ≡ l
 unfolding with_up AreRight

@@ -83,13 +83,7 @@ out_before s (Issued slot u) past t quiet o = by_slot (eqb slot s) o.0 o.1
     by_slot true here sent = absurd (false≢true sent)
     by_slot false here sent = (here, sent)
 out_before s (Sent slot) past t quiet o = absurd quiet
-out_before s (SentControl slot) past t quiet o = (issued_before s (SentControl slot) past t tt o.0, o.1)
-out_before s (SetUp tag offset count to_host) past t quiet o = (issued_before s (SetUp tag offset count to_host) past t tt o.0, o.1)
-out_before s (PioSetUp count to_host ends) past t quiet o = (issued_before s (PioSetUp count to_host ends) past t tt o.0, o.1)
-out_before s (Carried bytes) past t quiet o = (issued_before s (Carried bytes) past t tt o.0, o.1)
-out_before s Answered past t quiet o = (issued_before s Answered past t tt o.0, o.1)
-out_before s (Named mask) past t quiet o = (issued_before s (Named mask) past t tt o.0, o.1)
-out_before s Emptied past t quiet o = (issued_before s Emptied past t tt o.0, o.1)
+out_before s other past t quiet o = (issued_before s other past t tt o.0, o.1)
 
 -- touches of which none transmits a command of the device
 unfoldable pub NoneSends : ℕ → Touches → Type 0
@@ -249,8 +243,6 @@ module _ (n : ℕ) (old : Host) (frame : Stamped) (new : Host) (does : Does old 
       → (s : ℕ) (t : Transfer) → s < 30 → moved.is_queued t.work.kind ≡ false
       → IsOut s (own n (touched_by_out (shared_by old) o ++ touches)) t → IsOut s (own n touches) t ⊎ IsFlushTo n frame
   unfolding NoneSends NotSend
-  by_frame out.Nothing gave last goes s t low calm was = inl was
-  by_frame (out.Unreadable dev) gave last goes s t low calm was = inl was
   by_frame (out.Data dev offset len command) gave last goes s t low calm was =
       inl (was_out n s (touched_by_out (shared_by old) (out.Data dev offset len command)) touches t (λ e. tt, tt) was)
   by_frame (out.Order dev slot command) gave last goes s t low calm was = by_dev (eqb dev n) refl was
@@ -264,6 +256,7 @@ module _ (n : ℕ) (old : Host) (frame : Stamped) (new : Host) (does : Does old 
           subst (λ (d : ℕ). OutTold old touches d slot command) same (out_told old touches dev slot command sound served goes last) in
           order_pushed slot command (ap (λ (x : Stamped). x.bytes) gave.frame_is) (ap (λ (x : Stamped). x.stamp.port) gave.frame_is ∙ same) told s t low calm
           (holds is_control_issue (issue_at old.port.slots slot)) o
+  by_frame rest gave last goes s t low calm was = inl was
 
   pub pushed_out : (s : ℕ) (t : Transfer) → s < 30 → moved.is_queued t.work.kind ≡ false
       → IsOut s (own n (touched_by_out (shared_by old) (outgoing old.port old.memory) ++ touches)) t → IsOut s (own n touches) t ⊎ IsFlushTo n frame
@@ -293,7 +286,6 @@ module _ (n : ℕ) (plan : DiskPlan) (sectors : ℕ) where
   beside_stays : (old : Host) (turn : HostTurn) (new : Host) (run : DoesAll old (turn ∷ []) new) (disk : List Happening) (touches : Touches)
       (serves : RunServes old new (turn ∷ []) run touches) → IsRunning plan sectors disk touches old → IsBesideTurn n old turn
       → StayOut n touches (now_touches n old turn new run touches serves)
-  beside_stays old (Took frame report) new run disk touches serves runs beside s t low calm o = turn_quiet n old (Took frame report) new run touches serves refl s t o
   beside_stays old (Pushed None) new run disk touches serves runs beside s t low calm o =
       let d : Does old (Pushed None) new = after old (Pushed None) new run in
       none_out n old new touches (outgoing old.port old.memory) d.gives s t o
@@ -303,11 +295,9 @@ module _ (n : ℕ) (plan : DiskPlan) (sectors : ℕ) where
         | inl was ↦ was
         | inr to ↦ absurd (beside to.0)
       ]
-  beside_stays old (Ticked acted) new run disk touches serves runs beside s t low calm o = turn_quiet n old (Ticked acted) new run touches serves refl s t o
   beside_stays old (Submitted dev request ticket) new run disk touches serves runs beside s t low calm o =
       turn_quiet n old (Submitted dev request ticket) new run touches serves refl s t o
-  beside_stays old (Polled completion) new run disk touches serves runs beside s t low calm o = turn_quiet n old (Polled completion) new run touches serves refl s t o
-  beside_stays old (Put at bytes) new run disk touches serves runs beside s t low calm o = turn_quiet n old (Put at bytes) new run touches serves refl s t o
+  beside_stays old other new run disk touches serves runs beside s t low calm o = turn_quiet n old other new run touches serves refl s t o
 
   since_beside : (old : Host) (turn : HostTurn) (new : Host) (run : DoesAll old (turn ∷ []) new)
       (disk : List Happening) (down up : List (List ℕ)) (floors : ℕ → Floor) (touches : Touches) → n < 15

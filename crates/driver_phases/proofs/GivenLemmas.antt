@@ -22,8 +22,6 @@ module _ (h : Host) (touches : Touches) (frame : Stamped) (new : Host) (sound : 
 
   by_frame : (o : Outgoing) → Gives o h.port h.memory (Some frame) new.port → HasLast h.port o → GoesOut h.port o
       → slice_index frame.bytes 1 % 16 ≡ frame.stamp.port
-  by_frame Nothing gave last goes = let none : Some frame ≡ None = gave.0 in cc
-  by_frame (Unreadable dev) gave last goes = let none : Some frame ≡ None = gave.0 in cc
   by_frame (Data dev offset len command) gave last goes =
       ap (λ (s : Stamped). slice_index s.bytes 1 % 16) gave.frame_is
       ∙ data_port dev (gathered (prds_of h.memory command) offset len h.memory.client) last
@@ -31,6 +29,7 @@ module _ (h : Host) (touches : Touches) (frame : Stamped) (new : Host) (sound : 
   by_frame (Order dev slot command) gave last goes =
       let o : OutTold h touches dev slot command = out_told h touches dev slot command sound served goes last in
       ap (λ (s : Stamped). slice_index s.bytes 1 % 16) gave.frame_is ∙ o.port ∙ sym (ap (λ (s : Stamped). s.stamp.port) gave.frame_is)
+  by_frame other gave last goes = let none : Some frame ≡ None = gave.0 in cc
 
 pub frame_port : (h : Host) (touches : Touches) (frame : Stamped) (new : Host) → IsSoundHost h → IsServed h.driver (shared_by h) touches
     → Does h (Pushed (Some frame)) new → slice_index frame.bytes 1 % 16 ≡ frame.stamp.port

@@ -71,13 +71,11 @@ keep_logs l false a = keep_mixes l _ l.outstanding (record { reads = refl; asks 
 keep_asks : (l : Ledger) (r : Request) (failed : Bool) → IsAsked l.moving → KeepsReads l (asks l r failed)
 keep_asks l (asked.Reset true) failed a = record { reads = refl; asks = tt }
 keep_asks l (asked.Reset false) failed a = keep_restarts l l.resetting a
-keep_asks l asked.ReadErrorLog false a = keep_mixes l _ l.outstanding (record { reads = refl; asks = a })
 keep_asks l asked.ReadErrorLog true a = keep_logs l l.in_reset a
 keep_asks l (asked.Queue c) false a = keep_opens l c (list_any (λ q. q.tag == c.tag) l.outstanding) a
-keep_asks l asked.Flush false a = keep_mixes l _ l.outstanding (record { reads = refl; asks = a })
-keep_asks l asked.Identify false a = keep_mixes l _ l.outstanding (record { reads = refl; asks = a })
 keep_asks l asked.Other false a = keep_refuses l a
 keep_asks l other true a = keep_same l a
+keep_asks l rest false a = keep_mixes l _ l.outstanding (record { reads = refl; asks = a })
 
 keep_ends : (l : Ledger) (w : Moving) (b : Bool) → b ≡ true → KeepsReads l (ends l w b)
 keep_ends l w true is = record { reads = refl; asks = tt }

@@ -82,9 +82,8 @@ gave_unfaulted : (n : ℕ) (o : Outgoing) (old : Port) (memory : Memory) (frame 
     → IsUnfaulted n old → IsUnfaulted n new
 gave_unfaulted n Nothing old memory frame new gives is = same_port n old new gives.1 is
 gave_unfaulted n (Unreadable dev) old memory frame new gives is = subst (IsUnfaulted n) (sym gives.1) is
-gave_unfaulted n (Data dev offset len command) old memory (Some f) new gives is = same_errors n old new gives.errors is
-gave_unfaulted n (Order dev slot command) old memory (Some f) new gives is = same_errors n old new gives.errors is
 gave_unfaulted n other old memory None new gives is = absurd gives
+gave_unfaulted n rest old memory (Some f) new gives is = same_errors n old new gives.errors is
 
 -- ---- a register is written
 

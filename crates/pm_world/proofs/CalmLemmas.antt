@@ -109,11 +109,10 @@ sent_none false slot = tt
 
 out_issues : (n s : ℕ) (host : host_event.Host) (o : Outgoing) (touches : Touches) (t : Transfer) → issued s (own n (touched_by_out host o ++ touches)) ≡ Some t
     → issued s (own n touches) ≡ Some t
-out_issues n s host out.Nothing touches t h = h
-out_issues n s host (out.Unreadable dev) touches t h = h
 out_issues n s host (out.Data dev offset len command) touches t h = by_test n s _ touches t (dev == n) tt h
 out_issues n s host (out.Order dev slot command) touches t h =
     by_test n s _ touches t (dev == n) (sent_none (holds is_control_issue (issue_at host.port.slots slot)) slot) h
+out_issues n s host other touches t h = h
 
 -- ## A tick
 

@@ -362,8 +362,7 @@ cleared_by n old passed.Control frame rest e =
     or_false : (b : Bool) → (b || false) ≡ b
     or_false true = refl
     or_false false = refl
-cleared_by n old (passed.Down m) frame rest e = refl
-cleared_by n old passed.Dropped frame rest e = refl
+cleared_by n old other frame rest e = refl
 
 from_host_goes : (n : ℕ) (old new : Places) (a : Answer) → PmFromHostRule old.downward old.multiplier (Ok a) new.downward new.multiplier → PortGoes n (is_cleared n old a) old.multiplier new.multiplier
 from_host_goes n old new answer.Idle acts = equal_goes n false old.multiplier new.multiplier acts.2

@@ -191,8 +191,6 @@ context_len t dev (Some c) next sound is = by_activated c.activated is
 module _ (len : ℕ) (right : is_memory_size len ≡ true) (turns : List HostTurn) (h new : Host) (touches : Touches) (came : AreTouched len turns h touches)
     (frame : Stamped) where
   by_out : (o : Outgoing) → outgoing h.port h.memory ≡ o → Gives o h.port h.memory (Some frame) new.port → IsFrame frame.bytes
-  by_out Nothing is does = let none : Some frame ≡ None = does.0 in cc none
-  by_out (Unreadable dev) is does = let none : Some frame ≡ None = does.0 in cc none
   by_out (Data dev offset n command) is does =
       let d = outgoing_lemmas.data_is h.port h.memory dev offset n command is in
       let sound : IsSoundHost h = touched_sound len turns h touches right came in
@@ -207,6 +205,7 @@ module _ (len : ℕ) (right : is_memory_size len ≡ true) (turns : List HostTur
       let o = outgoing_lemmas.order_is h.port h.memory dev slot command is in
       let bytes : frame.bytes ≡ command.cfis = ap (λ (f : Stamped). f.bytes) does.frame_is in
       frame_by frame.bytes 16 (ap (λ (xs : List ℕ). length xs) bytes ∙ fises_touched len turns h touches came slot command o.stands) (omega arith) refl
+  by_out other is does = let none : Some frame ≡ None = does.0 in cc none
 
   pub pushes_frame : Pushes h (Some frame) new → IsFrame frame.bytes
   pushes_frame pushes = by_out (outgoing h.port h.memory) refl pushes.gives

@@ -623,8 +623,7 @@ take_goes capacity old _ upward host room acts = absurd acts
 went_rests : (old : PmState) (p : Passed) (new : PmState) → Went old p new → KeepsHeld old new
 went_rests old (passed.Down m) new w = λ n.
     ap (λ (l : List PortState). (at l n).up) w.new_is ∙ kept_part (λ (q : PortState). q.up) old.ports m (with_down (port_at old m) (Some w.frame)) refl n
-went_rests old passed.Control new w = λ n. ap (λ (l : List PortState). (at l n).up) w
-went_rests old passed.Dropped new w = λ n. ap (λ (l : List PortState). (at l n).up) w
+went_rests old other new w = λ n. ap (λ (l : List PortState). (at l n).up) w
 
 from_host_rests : (pm : PmState) (downward : Queue) (a : Answer) (left : PmState) (new : Queue) → PmFromHostRule downward pm (Ok a) new left → (tells_up a ≡ false) × KeepsHeld pm left
 from_host_rests pm downward answer.Idle left new acts = (refl, same_held acts.2)

@@ -132,18 +132,12 @@ first_two false b c h = absurd (false≢true h)
 
 -- the order that clears bit X of port n is the one that serves for it
 pub clears_order : (n : ℕ) (o : Order) → IsLow o → clears_x n (asked o) ≡ true → o ≡ Clear n
-clears_order n ResetOn within h = absurd (false≢true h)
-clears_order n ResetOff within h = absurd (false≢true h)
-clears_order n AwaitSignature within h = absurd (false≢true h)
-clears_order n CountPorts within h = absurd (false≢true h)
 clears_order n SetMask within h = absurd (false≢true (first_two (15 == n) false _ h).1)
 clears_order n Enable within h = absurd (false≢true (first_two (15 == n) false _ h).1)
 clears_order n (Open port) within h = absurd (false≢true (first_two (low port == n) false _ h).1)
-clears_order n Scan within h = absurd (false≢true h)
 clears_order n (Clear port) within h =
     ap (λ (k : ℕ). Clear k) (sym (low_is port within) ∙ eqb-true (low port) n (first_two (low port == n) true (shares changes bit_x) h).0)
-clears_order n (Detect port) within h = absurd (false≢true h)
-clears_order n Watch within h = absurd (false≢true h)
+clears_order n other within h = absurd (false≢true h)
 
 all_three : (a b c : Bool) → a ≡ true → b ≡ true → c ≡ true → (a && b && c) ≡ true
 all_three true true true h k l = refl

@@ -81,12 +81,11 @@ end_answers false stamp g is = absurd is
 -- whatever is asked
 pub answers : (mark : Bool) (m : RegisterMap) (request : Option Request) (stamp : Stamp) (now : Option Stamped) → IsAnswer (answer_to_request mark m request) stamp now → (g : Stamped) → now ≡ Some g → IsAnswer31 g.bytes
 answers mark m request stamp None is g same = cc
-answers mark m None stamp (Some x) is g same = absurd is
 answers mark m (Some (Read at)) stamp (Some x) is g same = let e : x ≡ g = cc in subst (λ (y : Stamped). IsAnswer31 y.bytes) e (read_answers (read_at m at.port at.register) x.bytes is.0)
 answers mark m (Some (Write at value)) stamp (Some x) is g same = let e : x ≡ g = cc in subst (λ (y : Stamped). IsAnswer31 y.bytes) e (write_answers (read_at m at.port at.register) x.bytes is.0)
 answers mark m (Some Unknown) stamp (Some x) is g same = let e : x ≡ g = cc in subst (λ (y : Stamped). IsAnswer31 y.bytes) e (answers_as (refused 4) x.bytes 0x51 refl wrong_busy is.0)
-answers mark m (Some Reset) stamp (Some x) is g same = absurd is
 answers mark m (Some EndReset) stamp (Some x) is g same = let e : x ≡ g = cc in subst (λ (y : Stamped). IsAnswer31 y.bytes) e (answers_as signature x.bytes 0x50 refl right_busy (end_answers mark stamp x is))
+answers mark m other stamp (Some x) is g same = absurd is
 
 -- the beginning of a software reset has no answer
 none_now : (now : Option Stamped) (stamp : Stamp) → IsAnswer None stamp now → now ≡ None

@@ -113,8 +113,6 @@ pub record Holds (n : ℕ) (known unsent : Bool) (last : Option ℕ) (now : Plac
 
 -- the mark of a FIS does not affect whether it is the command of a request
 pub same_request : (bytes : List ℕ) → is_request (marked bytes 0) ≡ is_request bytes
-same_request [] = refl
-same_request (x ∷ []) = refl
 same_request (x ∷ y ∷ bytes) =
     let m = is_marked_from (x ∷ y ∷ bytes) 0 (omega arith) (omega arith) in
     let c = m.fields H2d C (λ wrong. absurd (cc)) in
@@ -130,6 +128,7 @@ same_request (x ∷ y ∷ bytes) =
     by_type : {X : Type 0} (asks : X → Bool) (b : Bool) (r q : X) → asks r ≡ asks q → match_some (if b then Some r else None) false asks ≡ match_some (if b then Some q else None) false asks
     by_type asks true r q e = e
     by_type asks false r q e = refl
+same_request other = refl
 
 -- ## The line of the host
 
