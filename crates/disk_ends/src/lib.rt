@@ -2,9 +2,9 @@
 //! history of the device's events at its port.
 #![tactic(auto)]
 
-mod law;
+mod laws;
 
-pub use law::{
+pub use laws::{
     answers_keep_the_same, both_views_go_on_together, data_fills_what_moves, data_keeps_the_same,
     devices_are_set_aside, disks_are_followed_to_their_errors, disks_are_watched_to_their_errors,
     done_is_honest, each_fis_has_its_outcome, fises_are_heard_as_told, hosts_are_careful,

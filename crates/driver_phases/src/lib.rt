@@ -5,4 +5,4 @@
 //! Every function is a law: an empty body whose contract is the statement.
 #![tactic(auto)]
 
-pub mod law;
+pub mod laws;

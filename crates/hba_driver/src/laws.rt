@@ -1,19 +1,23 @@
-//! Laws of the driver over ticks and over lists of turns.
+//! Laws: what holds of the driver over ticks, and over turns of the host from its opening.
 
-ghost use Rattle.hba_driver.specs.Delivered.{TurnsDeliver};
 ghost use Rattle.hba_driver.specs.Absent.{EachWasAbsent};
 ghost use Rattle.hba_driver.specs.Accepted.{WritesAreAccepted};
+ghost use Rattle.hba_driver.specs.Addressed.{FramesAreAddressed};
+ghost use Rattle.hba_driver.specs.Delivered.{TurnsDeliver};
 ghost use Rattle.hba_driver.specs.Done.{DoneIsTrue};
 ghost use Rattle.hba_driver.specs.Events.{EachRunTells, HostsAreSound, TurnsAreEvents};
 ghost use Rattle.hba_driver.specs.Faults.{ErrorsAreNamed};
+ghost use Rattle.hba_driver.specs.Going.{FaultsNeverStop, PortsGoOn};
 ghost use Rattle.hba_driver.specs.Held.{TurnsHoldWrites};
 ghost use Rattle.hba_driver.specs.Known.{DevicesAreKnown};
+ghost use Rattle.hba_driver.specs.Laws.{CommandsStand, DoneIsFree, EachRunKeeps, TicksKeep, TicksServe};
 ghost use Rattle.hba_driver.specs.Queued.{RequestsStay};
 ghost use Rattle.hba_driver.specs.Reported.{DoneWasReported};
-ghost use Rattle.hba_driver.specs.Laws.{CommandsStand, DoneIsFree, EachRunKeeps, TicksKeep, TicksServe};
 ghost use Rattle.hba_driver.specs.Resetting.{EachResetIsDriven};
 ghost use Rattle.hba_driver.specs.Scans.{ScansClear};
 ghost use Rattle.hba_driver.specs.Served.{TurnsServe};
+ghost use Rattle.hba_driver.specs.Slot30.{EachIsApart, NoneIsArmed};
+ghost use Rattle.hba_driver.specs.Slot31.{OrdersTakeTurns};
 ghost use Rattle.hba_driver.specs.Steady.{EachIsSteady};
 ghost use Rattle.hba_driver.specs.Tended.{EachIsTended};
 
@@ -168,4 +172,45 @@ pub fn resets_are_issued()
 /// what was sent of a write stays there as long as the write is issued. The call runs no code.
 pub fn writes_are_held()
     ensures { TurnsHoldWrites }
+{}
+
+/// A device that has a fault goes from stage to stage with each turn of the host. This ends when its log was
+/// asked for, when its software reset is over, or when a tick flushes it or is told by PSCR[0] that no device
+/// is there. PSCR[0] telling that the device is there changes nothing. Its fault is cleared first. Then slot
+/// 30 reads its error log, or resets it. Meanwhile only what slot 30 holds is issued for it, and nothing
+/// queued, and no other frame goes out to it. What comes from it is ignored, leaves its stage, or is a fault.
+/// No request of it is taken. A device that is not being looked for is not looked for until a tick flushes
+/// it. The call runs no code.
+pub fn devices_are_apart()
+    ensures { EachIsApart }
+{}
+
+/// Over every list of turns of the host from its opening, no bit of PxSACT waits for its command between two
+/// turns. The call runs no code.
+pub fn none_is_armed()
+    ensures { NoneIsArmed }
+{}
+
+/// A FIS from a device is never a fault of the host port as a whole while the tables of issued commands can
+/// be used. Neither is a Register Device to Host or a Set Device Bits FIS from the control port. With
+/// FIS-based switching none of them stops the port. So over every list of turns of the host from its opening
+/// in which the control port sends no others, no fault of the port stands, and the driver never stops the
+/// port or starts it again. The call runs no code.
+pub fn port_goes_on()
+    ensures hears { FaultsNeverStop }
+    ensures turns { PortsGoOn }
+{}
+
+/// Slot 31 goes from stage to stage with each turn of the host from its opening, as long as the control port
+/// sends only notifications and what it is asked for. An order is issued only while nothing of the control
+/// port is on its way. Its command goes out once, and no other command goes out until its answer came. The
+/// call runs no code.
+pub fn orders_take_turns()
+    ensures { OrdersTakeTurns }
+{}
+
+/// Over every list of turns of the host from its opening, each frame that goes out has the PM Port of its
+/// device, and so does its stamp. The call runs no code.
+pub fn frames_are_addressed()
+    ensures { FramesAreAddressed }
 {}

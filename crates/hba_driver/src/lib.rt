@@ -8,13 +8,11 @@
 
 mod driver;
 mod effect;
-mod going;
 mod laws;
 mod mode;
 mod order;
 mod path;
 mod plan;
-mod recovering;
 mod refusal;
 mod request;
 mod scan;
@@ -23,13 +21,12 @@ mod slot;
 mod turn;
 
 pub use driver::Driver;
-pub use going::{frames_are_addressed, orders_take_turns, port_goes_on};
 pub use laws::{
-    absent_before, commands_stand, devices_are_known, done_is_free, done_is_true,
-    done_was_reported, errors_are_named, hosts_stay_sound, requests_stay_with_their_device,
-    resets_are_issued, ticks_keep, ticks_serve, turns_are_events, turns_are_steady, turns_deliver,
-    turns_keep, turns_serve, turns_tend, writes_are_accepted, writes_are_held,
+    absent_before, commands_stand, devices_are_apart, devices_are_known, done_is_free,
+    done_is_true, done_was_reported, errors_are_named, frames_are_addressed, hosts_stay_sound,
+    none_is_armed, orders_take_turns, port_goes_on, requests_stay_with_their_device,
+    resets_are_issued, scans_clear, ticks_keep, ticks_serve, turns_are_events, turns_are_steady,
+    turns_deliver, turns_keep, turns_serve, turns_tend, writes_are_accepted, writes_are_held,
 };
 pub use mode::Mode;
-pub use recovering::{devices_are_apart, none_is_armed};
 pub use request::{Completion, Outcome, Request, SubmitError, Ticket, Work};

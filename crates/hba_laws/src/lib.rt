@@ -5,16 +5,6 @@
 //! of its calls and of what its software writes between them. The functions run no code.
 #![tactic(auto)]
 
-mod causes;
-mod delivering;
-mod devices;
-mod sound;
-mod tables;
-mod writes;
+mod laws;
 
-pub use causes::causes_stay;
-pub use delivering::delivers;
-pub use devices::isolated;
-pub use sound::stays_sound;
-pub use tables::tables_stay;
-pub use writes::writes_are_gathered;
+pub use laws::{causes_stay, delivers, isolated, stays_sound, tables_stay, writes_are_gathered};

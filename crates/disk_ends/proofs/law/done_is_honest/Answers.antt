@@ -1,8 +1,0 @@
-use Rattle.disk_ends.proofs.HonestLemmas.{done_is_honest, next_right}
-use Rattle.disk_ends.proofs.law.done_is_honest.Goals as goal
-
-pub returns-clause-next : goal.returns-clause-next
-returns-clause-next c = next_right
-
-pub returns-clause-done : goal.returns-clause-done
-returns-clause-done c = done_is_honest

@@ -1,5 +1,0 @@
-use Rattle.disk_ends.proofs.ReportLemmas.{reports_honestly}
-use Rattle.disk_ends.proofs.law.reports_are_honest.Goals as goal
-
-pub returns : goal.returns
-returns c = reports_honestly

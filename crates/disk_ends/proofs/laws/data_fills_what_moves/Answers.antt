@@ -1,0 +1,5 @@
+use Rattle.disk_ends.proofs.SameLemmas.{data_fills}
+use Rattle.disk_ends.proofs.laws.data_fills_what_moves.Goals as goal
+
+pub returns : goal.returns
+returns c = data_fills

@@ -1,0 +1,5 @@
+use Rattle.driver_ends.proofs.TogetherTurns.{calm_turns_keep_on}
+use Rattle.driver_ends.proofs.laws.calm_turns_serve_on.Goals as goal
+
+pub returns : goal.returns
+returns c = calm_turns_keep_on

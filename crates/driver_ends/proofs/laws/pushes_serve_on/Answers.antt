@@ -1,0 +1,5 @@
+use Rattle.driver_ends.proofs.TogetherPushes.{pushes_go_on_on}
+use Rattle.driver_ends.proofs.laws.pushes_serve_on.Goals as goal
+
+pub returns : goal.returns
+returns c = pushes_go_on_on

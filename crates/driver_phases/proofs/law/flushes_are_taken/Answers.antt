@@ -1,5 +1,0 @@
-use Rattle.driver_phases.proofs.FlushEnds.{flushes_are_taken}
-use Rattle.driver_phases.proofs.law.flushes_are_taken.Goals as goal
-
-pub returns : goal.returns
-returns c = flushes_are_taken

@@ -1,0 +1,13 @@
+use Rattle.driver_phases.proofs.Beginnings.{flush_begins}
+use Rattle.driver_phases.proofs.EndLemmas.{ends_go_on}
+use Rattle.driver_phases.proofs.FloorLemmas.{floors_rise}
+use Rattle.driver_phases.proofs.laws.ends_go_on.Goals as goal
+
+pub returns-clause-begins : goal.returns-clause-begins
+returns-clause-begins c = flush_begins
+
+pub returns-clause-goes_on : goal.returns-clause-goes_on
+returns-clause-goes_on c = ends_go_on
+
+pub returns-clause-rises : goal.returns-clause-rises
+returns-clause-rises c = floors_rise

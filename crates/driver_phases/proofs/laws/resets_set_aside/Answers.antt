@@ -1,0 +1,5 @@
+use Rattle.driver_phases.proofs.ResetAside.{reset_sets_aside}
+use Rattle.driver_phases.proofs.laws.resets_set_aside.Goals as goal
+
+pub returns : goal.returns
+returns c = reset_sets_aside

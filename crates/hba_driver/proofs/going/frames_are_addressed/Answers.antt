@@ -1,5 +1,0 @@
-use Rattle.hba_driver.proofs.AddressLemmas.{frames_are_addressed}
-use Rattle.hba_driver.proofs.going.frames_are_addressed.Goals as goal
-
-pub returns : goal.returns
-returns c = frames_are_addressed

@@ -1,5 +1,0 @@
-use Rattle.hba_driver.proofs.Turn31Lemmas.{orders_take_turns}
-use Rattle.hba_driver.proofs.going.orders_take_turns.Goals as goal
-
-pub returns : goal.returns
-returns c = orders_take_turns

@@ -1,0 +1,5 @@
+use Rattle.hba_driver.proofs.Turn31Lemmas.{orders_take_turns}
+use Rattle.hba_driver.proofs.laws.orders_take_turns.Goals as goal
+
+pub returns : goal.returns
+returns c = orders_take_turns

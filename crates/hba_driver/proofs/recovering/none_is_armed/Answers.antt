@@ -1,5 +1,0 @@
-use Rattle.hba_driver.proofs.ApartArmed.{none_is_armed}
-use Rattle.hba_driver.proofs.recovering.none_is_armed.Goals as goal
-
-pub returns : goal.returns
-returns c = none_is_armed
