@@ -26,7 +26,7 @@ use Rattle.hba_driver.specs.declared.path.Stage.TheVariants.{Identify, ReadLog, 
 use Rattle.hba_driver.specs.declared.path.TaskFile.{TaskFile}
 use Rattle.hba_driver.specs.declared.request.Completion.{Completion}
 use Rattle.hba_driver.specs.declared.request.Request.{Request}
-use Rattle.hba_driver.specs.declared.sight.Sight.{Sight}
+use Rattle.hba_driver.specs.Seeing.{Sight}
 use Rattle.hba_driver.specs.Drivers.{Driver, Entry, entry_at}
 use Rattle.hba_driver.specs.Effects.{Acts, ActsAll, prds_with}
 use Rattle.hba_driver.specs.Events.{IsSoundHostIn, events_over, shared_by}

@@ -17,7 +17,7 @@ use Rattle.hba_driver.specs.declared.plan.Device.TheVariants.{Absent, Starting, 
 use Rattle.hba_driver.specs.declared.plan.Plan.{Plan}
 use Rattle.hba_driver.specs.declared.request.Outcome.TheVariants.{Aborted, Done, PortError, Removed}
 use Rattle.hba_driver.specs.declared.sight.ErrorLog.{ErrorLog}
-use Rattle.hba_driver.specs.declared.sight.Sight.{Sight}
+use Rattle.hba_driver.specs.Seeing.{Sight}
 use Rattle.hba_driver.specs.declared.slot.Head.{Head}
 use Rattle.hba_driver.specs.declared.slot.Phase.{Phase}
 use Rattle.hba_driver.specs.declared.slot.Phase.TheVariants.{Aside, Ended, Issued}

@@ -10,7 +10,7 @@ use Rattle.hba_laws.proofs.StandLemmas.{some_inj}
 use Rattle.hba_laws.proofs.ViewLemmas.{own_in}
 use Rattle.hba_driver.specs.declared.mode.Mode.{Mode}
 use Rattle.hba_driver.specs.declared.request.Outcome.TheVariants.{Done, DeviceError, Aborted, Removed, PortError}
-use Rattle.hba_driver.specs.declared.sight.Sight.{Sight}
+use Rattle.hba_driver.specs.Seeing.{Sight}
 use Rattle.hba_driver.specs.declared.slot.Phase.{Phase}
 use Rattle.hba_driver.specs.declared.slot.Phase.TheVariants.{Waits, Issued, Aside, Ended}
 use Rattle.hba_driver.specs.declared.turn.Act.TheVariants as act

@@ -24,7 +24,7 @@ use Rattle.hba_laws.proofs.ViewLemmas.{own_in}
 use Rattle.hba_driver.specs.declared.order.Order.{Order}
 use Rattle.hba_driver.specs.declared.order.Order.TheVariants.{Scan}
 use Rattle.hba_driver.specs.declared.plan.Plan.{Plan}
-use Rattle.hba_driver.specs.declared.sight.Sight.{Sight}
+use Rattle.hba_driver.specs.Seeing.{Sight}
 use Rattle.hba_driver.specs.Drivers.{Driver}
 use Rattle.hba_driver.specs.Events.{opening_host, shared_by}
 use Rattle.hba_driver.specs.Going.{IsOfControl, IsReport}

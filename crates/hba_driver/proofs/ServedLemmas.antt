@@ -38,7 +38,7 @@ use Rattle.hba_driver.specs.declared.request.SubmitError.{SubmitError}
 use Rattle.hba_driver.specs.declared.request.SubmitError.TheVariants as refusal
 use Rattle.hba_driver.specs.declared.request.Work.{Work}
 use Rattle.hba_driver.specs.declared.request.Work.TheVariants as work
-use Rattle.hba_driver.specs.declared.sight.Sight.{Sight}
+use Rattle.hba_driver.specs.Seeing.{Sight}
 use Rattle.hba_driver.specs.declared.slot.Phase.{Phase}
 use Rattle.hba_driver.specs.declared.slot.Phase.TheVariants.{Waits, Issued, Aside, Ended}
 use Rattle.hba_driver.specs.declared.turn.Turn.{Turn}

@@ -1,25 +1,27 @@
--- A sight is its parts.
-use Rattle.std.proofs.Common.{◌≡◌, ℕ, Bool, List, refl, Option}
-use Rattle.hba_driver.specs.declared.sight.ErrorLog.{ErrorLog}
-use Rattle.hba_driver.specs.declared.sight.Sight.{Sight}
+-- Flags by device.
+use Rattle.std.proofs.Common.{◌≡◌, ℕ, ◌<◌, ◌≤◌, Bool, false, map, arith}
+use Rattle.std.specs.Prelude.{slice_index_or}
+use Rattle.std.specs.List.{range_with_len}
+use Rattle.std.proofs.lemmas.List.{get_or_past}
+use Rattle.std.proofs.lemmas.List.FromFn.{get_or-map-range_with_len, length-map-range_with_len}
+use Rattle.fis_view.specs.Seen.{seen}
+use Rattle.host_memory.specs.Memory.{Memory}
+use Rattle.hba_fbs.specs.Views.{Port, view_of}
+use Rattle.hba_driver.specs.declared.mode.Mode.{Mode}
+use Rattle.hba_driver.specs.declared.mode.Mode.TheVariants.{Switching, CommandBased}
+use Rattle.hba_driver.specs.Sights.{is_ata, last_d2h, signed_by}
 
-abbrev sight : ℕ → Bool → Option ℕ → Bool → List Bool → Bool → ℕ → List Bool → Bool → ErrorLog → Sight
-sight issued stopped faulty resetting in_reset notified answer signed usable log = record {
-  issued = issued;
-  stopped = stopped;
-  faulty = faulty;
-  resetting = resetting;
-  in_reset = in_reset;
-  notified = notified;
-  answer = answer;
-  signed = signed;
-  usable = usable;
-  log = log;
-}
+-- the flag of a device
+pub flag_at : (f : ℕ → Bool) (dev : ℕ) → dev < 16 → slice_index_or (map f (range_with_len 0 16)) dev false ≡ f dev
+flag_at f dev below = get_or-map-range_with_len f 0 16 dev dev false below (omega arith)
 
-pub same_sight : (v w : Sight) → v.issued ≡ w.issued → v.stopped ≡ w.stopped → v.faulty ≡ w.faulty → v.resetting ≡ w.resetting → v.in_reset ≡ w.in_reset
-    → v.notified ≡ w.notified → v.answer ≡ w.answer → v.signed ≡ w.signed → v.usable ≡ w.usable → v.log ≡ w.log → v ≡ w
-same_sight v w a b c d e g h i j k =
-    let same : sight v.issued v.stopped v.faulty v.resetting v.in_reset v.notified v.answer v.signed v.usable v.log
-    ≡ sight w.issued w.stopped w.faulty w.resetting w.in_reset w.notified w.answer w.signed w.usable w.log = rw (a, b, c, d, e, g, h, i, j, k) refl in
-    same
+-- no flag stands past those of the devices
+pub flag_past : (f : ℕ → Bool) (dev : ℕ) → 16 ≤ dev → slice_index_or (map f (range_with_len 0 16)) dev false ≡ false
+flag_past f dev past =
+    let long = length-map-range_with_len f 0 16 in
+    get_or_past (map f (range_with_len 0 16)) dev false (omega (arith, long, past))
+
+-- no signature came from a device that does not exist
+pub unsigned_past : (mode : Mode) (port : Port) (memory : Memory) (dev : ℕ) → 16 ≤ dev → slice_index_or (signed_by mode port memory) dev false ≡ false
+unsigned_past Switching port memory dev past = flag_past (λ d. is_ata (seen (last_d2h memory.structure d))) dev past
+unsigned_past CommandBased port memory dev past = flag_past (λ d. (view_of d port).state.signed) dev past

@@ -23,7 +23,7 @@ use Rattle.hba_driver.specs.declared.request.Completion.{Completion}
 use Rattle.hba_driver.specs.declared.request.Outcome.TheVariants.{Done, DeviceError, Aborted, Removed, PortError}
 use Rattle.hba_driver.specs.declared.request.Work.{Work}
 use Rattle.hba_driver.specs.declared.request.Work.TheVariants as work
-use Rattle.hba_driver.specs.declared.sight.Sight.{Sight}
+use Rattle.hba_driver.specs.Seeing.{Sight}
 use Rattle.hba_driver.specs.declared.slot.Head.{Head}
 use Rattle.hba_driver.specs.declared.slot.Phase.{Phase}
 use Rattle.hba_driver.specs.declared.slot.Phase.TheVariants.{Waits, Issued, Aside, Ended}

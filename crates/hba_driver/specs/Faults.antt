@@ -5,7 +5,7 @@ use Rattle.hba_driver.specs.declared.path.Path.{Path}
 use Rattle.hba_driver.specs.declared.path.Stage.TheVariants.{ReadLog}
 use Rattle.hba_driver.specs.declared.path.TaskFile.{TaskFile}
 use Rattle.hba_driver.specs.declared.request.Outcome.TheVariants.{DeviceError}
-use Rattle.hba_driver.specs.declared.sight.Sight.{Sight}
+use Rattle.hba_driver.specs.Seeing.{Sight}
 use Rattle.hba_driver.specs.declared.slot.Phase.TheVariants.{Ended}
 use Rattle.hba_driver.specs.Drivers.{Driver, Entry, entry_at, has_ended, is_aside}
 use Rattle.hba_driver.specs.Ticks.{after_tick, is_named, log_outcome}

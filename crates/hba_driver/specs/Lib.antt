@@ -2,6 +2,7 @@ pub mod Modes
 pub mod Drivers
 pub mod Orders
 pub mod Paths
+pub mod Seeing
 pub mod Sights
 pub mod Turns
 pub mod Effects

@@ -19,7 +19,7 @@ use Rattle.hba_driver.specs.declared.request.Outcome.{Outcome}
 use Rattle.hba_driver.specs.declared.request.Outcome.TheVariants.{Done, DeviceError, Aborted, Removed}
 use Rattle.hba_driver.specs.declared.request.Outcome.TheVariants.{PortError}
 use Rattle.hba_driver.specs.declared.sight.ErrorLog.{ErrorLog}
-use Rattle.hba_driver.specs.declared.sight.Sight.{Sight}
+use Rattle.hba_driver.specs.Seeing.{Sight}
 use Rattle.hba_driver.specs.declared.slot.Group.{Group}
 use Rattle.hba_driver.specs.declared.slot.Group.TheVariants as group
 use Rattle.hba_driver.specs.declared.slot.Head.{Head}

@@ -112,18 +112,19 @@ impl Driver {
 
     // Looks at all that came. Answers what is due to port and memory, and whether something is due or came.
     #[tactic(auto, unfolding(crate::specs::Ticks::acts))]
-    fn look(&mut self, sight: Sight) -> (Option<Act>, bool)
-        ensures driver { self.new ≡ seen sight self.old }
-        ensures due { result.0 ≡ due_of sight self.old }
+    fn look(&mut self, sight: &Sight<'_>) -> (Option<Act>, bool)
+        ensures driver { self.new ≡ seen sight.now self.old }
+        ensures due { result.0 ≡ due_of sight.now self.old }
         ensures act { IfSome result.0 IsAct }
-        ensures answer { result.1 ≡ acts sight self.old }
+        ensures answer { result.1 ≡ acts sight.now self.old }
         ensures long { length self.old.entries ≡ 30 }
     {
-        let ended = any_done(&self.slots, sight.issued);
-        end_done(&mut self.slots, sight.issued);
+        let issued = sight.issued();
+        let ended = any_done(&self.slots, issued);
+        end_done(&mut self.slots, issued);
         let turn = self.plan.turn(sight, &self.slots);
         self.plan = turn.plan;
-        end_logged(&mut self.slots, sight.log, turn.logged);
+        end_logged(&mut self.slots, sight, turn.logged);
         (turn.act, turn.act.is_some() || (ended || turn.news))
     }
 
@@ -145,7 +146,7 @@ impl Driver {
     {
         let mode = self.mode();
         let sight = Sight::of(mode, port, memory);
-        let (act, acted) = self.look(sight);
+        let (act, acted) = self.look(&sight);
         perform(mode, act, port, memory);
         self.advance(act, TaskFile::shown(port));
         acted

@@ -1,17 +1,17 @@
 //! What slot 30 does with a device: it identifies the device, reads its error log, or resets it.
 
-ghost use Rattle.std.specs.Prelude.{◌≡◌, ◌<◌, IfSome, Some, length, map, None};
+ghost use Rattle.std.specs.Prelude.{◌≡◌, ◌<◌, IfSome, Some, false, length, map, None, slice_index_or};
 ghost use Rattle.std.specs.Option.{option_map};
 ghost use Rattle.slots.specs.Slots.{lowest_below};
 ghost use Rattle.hba_driver.specs.Drivers.{IsPath, IsSoundPlan};
 ghost use Rattle.hba_driver.specs.Orders.{identify_fields, log_fields};
 ghost use Rattle.hba_driver.specs.Paths.{first_stage, next_stage, reads_page as reads_page_of, recovery as recovery_of, reset_if_there as reset_if_there_of, stage_fields};
 ghost use Rattle.hba_driver.specs.Sights.{file_in, file_shown};
-ghost use Rattle.hba_driver.specs.Turns.{advanced as advanced_by, awaits_reset as awaits_reset_of, device_logged, device_news as device_news_of, device_seen as device_seen_by, found_of, is_back as is_back_of, is_due as is_due_of, is_in_reset as is_in_reset_of, logged_by, met_path, met_stage, path_answered, path_met, path_news, path_to, stage_for as stage_for_of};
+ghost use Rattle.hba_driver.specs.Turns.{advanced as advanced_by, awaits_reset as awaits_reset_of, device_logged, device_news as device_news_of, device_seen as device_seen_by, found_of, is_back as is_back_of, is_due as is_due_of, logged_by, met_path, met_stage, path_answered, path_met, path_news, path_to, stage_for as stage_for_of};
 
 use crate::order::{command, control};
 use crate::plan::{Device, Plan};
-use crate::sight::{Sight, TFD, has_bit, is_at, register};
+use crate::sight::{Sight, TFD, has_bit, register};
 use crate::turn::Logged;
 use fis_view::H2dFields;
 use hba_fbs::HostPort;
@@ -145,31 +145,25 @@ impl Stage {
 
     // The stage that is due after this one has waited.
     #[tactic(auto, unfolding(crate::specs::Turns::met_stage))]
-    fn met(self, sight: Sight, dev: u8) -> Stage
-        ensures { result ≡ met_stage sight dev self }
+    fn met(self, sight: &Sight<'_>, dev: u8) -> Stage
+        ensures { result ≡ met_stage sight.now dev self }
     {
         match self {
-            Stage::AwaitReset if !is_in_reset(sight, dev) => Stage::Identify,
+            Stage::AwaitReset if !sight.in_reset(dev) => Stage::Identify,
             _ => self,
         }
     }
 
     // The device with its task file, if this is its log and the log is whole.
     #[tactic(auto, unfolding(crate::specs::Turns::logged_by))]
-    fn logged(self, sight: Sight, dev: u8) -> Option<Logged>
-        ensures { result ≡ logged_by sight dev self }
+    fn logged(self, sight: &Sight<'_>, dev: u8) -> Option<Logged>
+        ensures { result ≡ logged_by sight.now dev self }
     {
         match self {
-            Stage::ReadLog(file) if sight.log.whole => Some(Logged { dev, file }),
+            Stage::ReadLog(file) if sight.log().whole => Some(Logged { dev, file }),
             _ => None,
         }
     }
-}
-
-fn is_in_reset(sight: Sight, dev: u8) -> bool
-    ensures { result ≡ is_in_reset_of sight dev }
-{
-    is_at(&sight.in_reset, dev)
 }
 
 // A path that continues with a stage, if there is one.
@@ -188,14 +182,14 @@ fn path_of(dev: u8, stage: Option<Stage>) -> Option<Path>
 
 impl Path {
     // Whether its command was issued and is back.
-    fn is_back(self, sight: Sight) -> bool
-        ensures { result ≡ is_back_of sight self }
+    fn is_back(self, sight: &Sight<'_>) -> bool
+        ensures { result ≡ is_back_of sight.now self }
     {
-        self.asked && !has_bit(sight.issued, DEVICE_SLOT)
+        self.asked && !has_bit(sight.issued(), DEVICE_SLOT)
     }
 
-    fn met(self, sight: Sight) -> Path
-        ensures { result ≡ met_path sight self }
+    fn met(self, sight: &Sight<'_>) -> Path
+        ensures { result ≡ met_path sight.now self }
     {
         if self.asked {
             self
@@ -207,13 +201,13 @@ impl Path {
         }
     }
 
-    fn has_news(self, sight: Sight) -> bool
-        ensures { result ≡ path_news sight self }
+    fn has_news(self, sight: &Sight<'_>) -> bool
+        ensures { result ≡ path_news sight.now self }
     {
         if self.asked {
-            !has_bit(sight.issued, DEVICE_SLOT)
+            !has_bit(sight.issued(), DEVICE_SLOT)
         } else {
-            self.stage.awaits_reset() && !is_in_reset(sight, self.dev)
+            self.stage.awaits_reset() && !sight.in_reset(self.dev)
         }
     }
 }
@@ -240,12 +234,12 @@ impl Device {
         }
     }
 
-    // The first stage of what is due for the device.
-    fn first_stage(self, signed: bool) -> Option<Stage>
-        ensures { result ≡ first_stage self signed }
+    // The first stage of what is due for the device, which has this number.
+    fn first_stage(self, sight: &Sight<'_>, dev: u8) -> Option<Stage>
+        ensures { result ≡ first_stage self (slice_index_or sight.now.signed dev false) }
     {
         match self {
-            Device::Starting if signed => Some(Stage::Identify),
+            Device::Starting if sight.signed(dev) => Some(Stage::Identify),
             Device::Recovering(Recovery::Log(file)) => Some(Stage::ReadLog(file)),
             Device::Recovering(Recovery::Reset) => Some(Stage::AssertReset),
             Device::Absent | Device::Starting | Device::Ready | Device::Unusable => None,
@@ -267,26 +261,26 @@ pub(crate) fn reset_all(devices: [Device; 15]) -> [Device; 15]
 impl Plan {
     // Notes what a stage found.
     #[tactic(auto, unfolding(crate::specs::Turns::found_of))]
-    fn found(self, sight: Sight, stage: Stage, dev: u8) -> Plan
+    fn found(self, sight: &Sight<'_>, stage: Stage, dev: u8) -> Plan
         requires dev { dev < 15 }
         requires sound { IsSoundPlan self }
-        ensures value { result ≡ found_of sight stage dev self }
+        ensures value { result ≡ found_of sight.now stage dev self }
         ensures sound { IsSoundPlan result }
     {
         match stage {
-            Stage::Identify if sight.usable => self.with_device(dev, Device::Ready),
+            Stage::Identify if sight.usable() => self.with_device(dev, Device::Ready),
             Stage::Identify => self.with_device(dev, Device::Unusable),
-            Stage::ReadLog(_) if sight.log.whole => self.with_device(dev, Device::Ready),
+            Stage::ReadLog(_) if sight.log().whole => self.with_device(dev, Device::Ready),
             Stage::ReadLog(_) => self.with_device(dev, Device::Recovering(Recovery::Reset)),
             Stage::AssertReset | Stage::ReleaseReset | Stage::AwaitReset => self,
         }
     }
 
     // The command of a path's stage is over.
-    fn advanced(self, sight: Sight, path: Path) -> Plan
+    fn advanced(self, sight: &Sight<'_>, path: Path) -> Plan
         requires dev { path.dev < 15 }
         requires sound { IsSoundPlan self }
-        ensures value { result ≡ advanced_by sight path self }
+        ensures value { result ≡ advanced_by sight.now path self }
         ensures sound { IsSoundPlan result }
     {
         Plan {
@@ -296,9 +290,9 @@ impl Plan {
     }
 
     // Notes the answer to slot 30, if it came.
-    fn path_answered(self, sight: Sight) -> Plan
+    fn path_answered(self, sight: &Sight<'_>) -> Plan
         requires { IsSoundPlan self }
-        ensures value { result ≡ path_answered sight self }
+        ensures value { result ≡ path_answered sight.now self }
         ensures sound { IsSoundPlan result }
     {
         match self.path {
@@ -314,9 +308,9 @@ impl Plan {
     }
 
     /// Notes what slot 30 shows.
-    pub(crate) fn device_seen(self, sight: Sight) -> Plan
+    pub(crate) fn device_seen(self, sight: &Sight<'_>) -> Plan
         requires { IsSoundPlan self }
-        ensures value { result ≡ device_seen_by sight self }
+        ensures value { result ≡ device_seen_by sight.now self }
         ensures sound { IsSoundPlan result }
     {
         let plan = self.path_answered(sight);
@@ -328,8 +322,8 @@ impl Plan {
     }
 
     /// Whether an answer to slot 30 came, or the end of a reset.
-    pub(crate) fn device_news(self, sight: Sight) -> bool
-        ensures { result ≡ device_news_of sight self }
+    pub(crate) fn device_news(self, sight: &Sight<'_>) -> bool
+        ensures { result ≡ device_news_of sight.now self }
     {
         match self.path {
             Some(path) => path.has_news(sight),
@@ -338,8 +332,8 @@ impl Plan {
     }
 
     /// The device whose log came and is whole.
-    pub(crate) fn device_logged(self, sight: Sight) -> Option<Logged>
-        ensures { result ≡ device_logged sight self }
+    pub(crate) fn device_logged(self, sight: &Sight<'_>) -> Option<Logged>
+        ensures { result ≡ device_logged sight.now self }
     {
         match self.path {
             Some(path) => {
@@ -354,21 +348,21 @@ impl Plan {
     }
 
     /// What is due for a device by slot 30.
-    pub(crate) fn stage_for(self, sight: Sight, dev: u8) -> Option<Stage>
-        ensures { result ≡ stage_for_of sight self dev }
+    pub(crate) fn stage_for(self, sight: &Sight<'_>, dev: u8) -> Option<Stage>
+        ensures { result ≡ stage_for_of sight.now self dev }
     {
-        self.device(dev).first_stage(is_at(&sight.signed, dev))
+        self.device(dev).first_stage(sight, dev)
     }
 
-    fn is_due(self, sight: Sight, dev: u8) -> bool
-        ensures { result ≡ is_due_of sight self dev }
+    fn is_due(self, sight: &Sight<'_>, dev: u8) -> bool
+        ensures { result ≡ is_due_of sight.now self dev }
     {
         self.stage_for(sight, dev).is_some()
     }
 
     /// The lowest device for which something is due.
-    pub(crate) fn lowest_due(self, sight: Sight) -> Option<u8>
-        ensures value { result ≡ lowest_below (is_due_of sight self) 15 }
+    pub(crate) fn lowest_due(self, sight: &Sight<'_>) -> Option<u8>
+        ensures value { result ≡ lowest_below (is_due_of sight.now self) 15 }
         ensures below { IfSome result (λ dev. dev < 15) }
     {
         for dev in 0..15_u8 {

@@ -128,23 +128,23 @@ impl Plan {
 
     // Notes what the answer of an order tells.
     #[tactic(auto, unfolding(crate::specs::Turns::noted))]
-    fn noted(self, sight: Sight, order: Order) -> Plan
+    fn noted(self, sight: &Sight<'_>, order: Order) -> Plan
         requires order { IsOrder order }
         requires sound { IsSoundPlan self }
-        ensures value { result ≡ noted_by sight order self }
+        ensures value { result ≡ noted_by sight.now order self }
         ensures sound { IsSoundPlan result }
     {
         match order {
             Order::CountPorts => Plan {
-                ports: (sight.answer % 16) as u8,
+                ports: (sight.answer() % 16) as u8,
                 ..self
             },
             Order::Scan => Plan {
-                found: sight.answer,
+                found: sight.answer(),
                 ..self
             },
             Order::Detect(port) => {
-                let device = self.device(port).detected(sight.answer);
+                let device = self.device(port).detected(sight.answer());
                 self.with_device(port, device)
             }
             Order::ResetOn
@@ -171,16 +171,16 @@ impl Plan {
         }
     }
 
-    fn is_out(self, sight: Sight) -> bool
-        ensures { result ≡ is_out_of sight self }
+    fn is_out(self, sight: &Sight<'_>) -> bool
+        ensures { result ≡ is_out_of sight.now self }
     {
-        has_bit(sight.issued, CONTROL_SLOT)
+        has_bit(sight.issued(), CONTROL_SLOT)
     }
 
     // Notes the answer of the order, if it came.
-    fn answered(self, sight: Sight) -> Plan
+    fn answered(self, sight: &Sight<'_>) -> Plan
         requires { IsSoundPlan self }
-        ensures value { result ≡ answered_by sight self }
+        ensures value { result ≡ answered_by sight.now self }
         ensures sound { IsSoundPlan result }
     {
         if self.asked && !self.is_out(sight) {
@@ -192,9 +192,9 @@ impl Plan {
     }
 
     /// Notes what slot 31 shows.
-    pub(crate) fn control_seen(self, sight: Sight) -> Plan
+    pub(crate) fn control_seen(self, sight: &Sight<'_>) -> Plan
         requires { IsSoundPlan self }
-        ensures value { result ≡ control_seen_by sight self }
+        ensures value { result ≡ control_seen_by sight.now self }
         ensures sound { IsSoundPlan result }
     {
         let plan = self.answered(sight);
@@ -209,13 +209,13 @@ impl Plan {
     }
 
     /// Whether an answer, a signature or a notification came.
-    pub(crate) fn control_news(self, sight: Sight) -> bool
-        ensures { result ≡ control_news_of sight self }
+    pub(crate) fn control_news(self, sight: &Sight<'_>) -> bool
+        ensures { result ≡ control_news_of sight.now self }
     {
         if self.asked {
             !self.is_out(sight)
         } else {
-            self.order.awaits() && !sight.resetting || self.order.watches() && sight.notified
+            self.order.awaits() && !sight.resetting() || self.order.watches() && sight.notified()
         }
     }
 }
@@ -233,12 +233,12 @@ impl Order {
         matches!(self, Order::Watch)
     }
 
-    fn signed(sight: Sight) -> Order
-        ensures { result ≡ signed_order_by sight }
+    fn signed(sight: &Sight<'_>) -> Order
+        ensures { result ≡ signed_order_by sight.now }
     {
-        if sight.resetting {
+        if sight.resetting() {
             Order::AwaitSignature
-        } else if sight.answer == MULTIPLIER {
+        } else if sight.answer() == MULTIPLIER {
             Order::CountPorts
         } else {
             Order::ResetOn
@@ -247,14 +247,14 @@ impl Order {
 
     // The order that is due after this one has waited.
     #[tactic(auto, unfolding(crate::specs::Turns::met_order))]
-    fn met(self, sight: Sight) -> Order
+    fn met(self, sight: &Sight<'_>) -> Order
         requires { IsOrder self }
-        ensures value { result ≡ met_order_by sight self }
+        ensures value { result ≡ met_order_by sight.now self }
         ensures order { IsOrder result }
     {
         match self {
             Order::AwaitSignature => Order::signed(sight),
-            Order::Watch if sight.notified => Order::Scan,
+            Order::Watch if sight.notified() => Order::Scan,
             _ => self,
         }
     }

@@ -13,7 +13,7 @@ use crate::order::Order;
 use crate::path::{Stage, TaskFile};
 use crate::plan::Plan;
 use crate::request::{Outcome, Work};
-use crate::sight::ErrorLog;
+use crate::sight::{ErrorLog, Sight};
 use crate::slot::{Group, Phase, Slot};
 use crate::turn::{Act, Logged};
 use host_memory::Prd;
@@ -123,12 +123,12 @@ fn end_by_log(slots: &mut [Slot; 30], log: ErrorLog, logged: Logged)
 }
 
 /// Ends each request that was set aside, of the device whose log came.
-pub(crate) fn end_logged(slots: &mut [Slot; 30], log: ErrorLog, logged: Option<Logged>)
-    ensures ended { slots.new ≡ logged_ended log logged slots.old }
+pub(crate) fn end_logged(slots: &mut [Slot; 30], sight: &Sight<'_>, logged: Option<Logged>)
+    ensures ended { slots.new ≡ logged_ended sight.now.log logged slots.old }
     ensures long { length slots.new ≡ 30 }
 {
     if let Some(logged) = logged {
-        end_by_log(slots, log, logged);
+        end_by_log(slots, sight.log(), logged);
     }
 }
 

@@ -1,12 +1,10 @@
 //! What a tick sees of the port and of memory.
 
-ghost use Rattle.std.specs.Prelude.{◌≡◌, ◌+◌, ◌<◌, ◌≤◌, false, length, map, slice_index_or, sum, take};
-ghost use Rattle.std.specs.List.{range_with_len};
+ghost use Rattle.std.specs.Prelude.{◌≡◌, ◌<◌, ◌≤◌, false, length, slice_index_or, sum};
 ghost use Rattle.fis_view.specs.Seen.{seen};
 ghost use Rattle.hba_fbs.specs.Posting.{is_signature};
 ghost use Rattle.hba_fbs.specs.Status.{is_quiet as is_quiet_status};
-ghost use Rattle.hba_driver.specs.Sights.{answer_in, answer_row as answer_row_of, faulty_for, faulty_in, is_ata, is_stopped as is_stopped_of, is_stopped_alone as is_stopped_alone_of, is_usable as is_usable_in, last_d2h as last_d2h_of, log_in, shown, sight_of, signed_by, stopped_by};
-ghost use Rattle.hba_fbs.specs.Views.{view_of};
+ghost use Rattle.hba_driver.specs.Sights.{answer_in, answer_row as answer_row_of, faulty_for, faulty_in, is_ata, is_stopped as is_stopped_of, is_stopped_alone as is_stopped_alone_of, is_usable as is_usable_in, last_d2h as last_d2h_of, log_in, px_sntf, shown, sight_of, signed_by, stopped_by};
 ghost use Rattle.slots.specs.Slots.{has_bit as has_bit_of};
 
 use crate::mode::Mode;
@@ -14,6 +12,7 @@ use crate::order::CONTROL_PORT;
 use fis_view::{Fis, RegD2H};
 use hba_fbs::HostPort;
 use host_memory::HostMemory;
+use std::marker::Model;
 
 /// PxCLB.
 pub(crate) const CLB: u32 = 0x00;
@@ -69,29 +68,27 @@ pub(crate) struct ErrorLog {
     pub(crate) error: u8,
 }
 
-/// What a tick sees.
-#[derive(Clone, Copy, Debug, PartialEq, Eq)]
-pub(crate) struct Sight {
+/// What a tick sees. Each part is looked at only when it is asked for.
+#[derive(Drop)]
+pub(crate) struct Sight<'a> {
+    mode: Mode,
+    port: &'a HostPort,
+    memory: &'a HostMemory,
     /// PxCI and PxSACT together: the slots that are not done.
-    pub(crate) issued: u32,
-    /// The port is to be stopped: a fault stopped it, or a notification came beside a command of a device.
-    pub(crate) stopped: bool,
-    /// The device whose fault the port shows, and is to be cleared.
-    pub(crate) faulty: Option<u8>,
-    /// The multiplier is in software reset.
-    pub(crate) resetting: bool,
-    /// By device: it is in software reset.
-    pub(crate) in_reset: [bool; 16],
-    /// PxSNTF has the multiplier's bit.
-    pub(crate) notified: bool,
-    /// The value in the multiplier's last answer, or its signature.
-    pub(crate) answer: u32,
-    /// By device: the signature of an ATA device stands in its row of the received area, or was heard.
-    pub(crate) signed: [bool; 16],
-    /// The IDENTIFY data in the driver's buffer is that of a device for queued commands.
-    pub(crate) usable: bool,
-    /// The error log, if the driver's buffer has it.
-    pub(crate) log: ErrorLog,
+    issued: u32,
+}
+
+impl<'a> Model for Sight<'a> {
+    ghost use Rattle.std.specs.Prelude.{◌≡◌};
+    ghost use Rattle.hba_driver.specs.Seeing.{Sight};
+
+    ghost Value = { Sight };
+
+    ghost use Rattle.hba_driver.specs.Sights.{sight_of};
+
+    ghost view = { λ s. sight_of s.mode s.port.now s.memory.now };
+
+    ghost invariant = { λ s. s.issued ≡ (sight_of s.mode s.port.now s.memory.now).issued };
 }
 
 /// Whether a dword has this bit.
@@ -113,7 +110,7 @@ pub(crate) fn register(port: &HostPort, offset: u32) -> u32
 // The last Register Device to Host FIS of a PM Port.
 fn last_d2h(structure: &[u8], dev: u8) -> [u8; 20]
     requires dev { dev < 16 }
-    requires area { 8192 ≤ length structure.now }
+    requires area { 0x2000 ≤ length structure.now }
     ensures { result ≡ last_d2h_of structure.now dev }
 {
     let at = 0x1040 + 0x100 * dev as usize;
@@ -157,36 +154,14 @@ fn is_ata_signature(bytes: [u8; 20]) -> bool
     }
 }
 
-// The devices with an ATA signature in their rows.
-fn signed(structure: &[u8]) -> [bool; 16]
-    requires { 8192 ≤ length structure.now }
-    ensures { result ≡ map (λ dev. is_ata (seen (last_d2h_of structure.now dev))) (range_with_len 0 16) }
-{
-    let mut signed = [false; 16];
-    for dev in 0..16_u8 {
-        signed[dev as usize] = is_ata_signature(last_d2h(structure, dev));
-    }
-    signed
-}
-
-// The devices of which the port heard an ATA signature.
-fn marked(port: &HostPort) -> [bool; 16]
-    ensures { result ≡ map (λ dev. (view_of dev port.now).state.signed) (range_with_len 0 16) }
-{
-    let mut marked = [false; 16];
-    for dev in 0..16_u8 {
-        marked[dev as usize] = port.signed(dev);
-    }
-    marked
-}
-
-// The devices whose signature came.
-fn signed_in(mode: Mode, port: &HostPort, memory: &HostMemory) -> [bool; 16]
-    ensures { result ≡ signed_by mode port.now memory.now }
+// Whether the signature of a device came.
+fn signed_in(mode: Mode, port: &HostPort, memory: &HostMemory, dev: u8) -> bool
+    requires { dev < 16 }
+    ensures { result ≡ slice_index_or (signed_by mode port.now memory.now) dev false }
 {
     match mode {
-        Mode::Switching => signed(memory.structure()),
-        Mode::CommandBased => marked(port),
+        Mode::Switching => is_ata_signature(last_d2h(memory.structure(), dev)),
+        Mode::CommandBased => port.signed(dev),
     }
 }
 
@@ -206,16 +181,6 @@ fn is_usable(client: &[u8]) -> bool
     ensures { result ≡ is_usable_in client.now }
 {
     client[153] % 2 == 1 && client[150] % 32 == 31
-}
-
-/// The flag of a device.
-pub(crate) fn is_at(flags: &[bool; 16], dev: u8) -> bool
-    ensures { result ≡ slice_index_or flags.now dev false }
-{
-    match flags.get(dev as usize) {
-        Some(is) => *is,
-        None => false,
-    }
 }
 
 // The sum of these bytes.
@@ -243,17 +208,6 @@ fn error_log(client: &[u8]) -> ErrorLog
     }
 }
 
-// The devices in software reset.
-fn in_reset(port: &HostPort) -> [bool; 16]
-    ensures { result ≡ map (λ dev. (view_of dev port.now).state.resetting) (range_with_len 0 16) }
-{
-    let mut in_reset = [false; 16];
-    for dev in 0..16_u8 {
-        in_reset[dev as usize] = port.resetting(dev);
-    }
-    in_reset
-}
-
 fn is_stopped(interrupts: u32, switching: u32) -> bool
     ensures { result ≡ is_stopped_of interrupts switching }
 {
@@ -272,13 +226,21 @@ fn is_stopped_alone(interrupts: u32, notified: bool, issued: u32) -> bool
         || notified && issued % 0x8000_0000 != 0
 }
 
+// Whether PxSNTF has the multiplier's bit.
+fn is_notified(port: &HostPort) -> bool
+    ensures { result ≡ has_bit_of (shown port.now px_sntf) 15 }
+{
+    has_bit(register(port, SNTF), CONTROL_PORT)
+}
+
 // Whether the port is stopped, or to be stopped.
-fn stopped(mode: Mode, port: &HostPort, notified: bool, issued: u32) -> bool
-    ensures { result ≡ stopped_by mode port.now notified issued }
+fn stopped(mode: Mode, port: &HostPort, issued: u32) -> bool
+    ensures { result
+        ≡ stopped_by mode port.now (has_bit_of (shown port.now px_sntf) 15) issued }
 {
     match mode {
         Mode::Switching => is_stopped(register(port, IS), register(port, FBS)),
-        Mode::CommandBased => is_stopped_alone(register(port, IS), notified, issued),
+        Mode::CommandBased => is_stopped_alone(register(port, IS), is_notified(port), issued),
     }
 }
 
@@ -302,25 +264,105 @@ fn faulty_device(mode: Mode, port: &HostPort) -> Option<u8>
     }
 }
 
-impl Sight {
+impl<'a> Sight<'a> {
     /// All that there is to see.
     #[tactic(auto, unfolding(crate::specs::Sights::sight_of))]
-    pub(crate) fn of(mode: Mode, port: &HostPort, memory: &HostMemory) -> Sight
+    pub(crate) fn of(mode: Mode, port: &'a HostPort, memory: &'a HostMemory) -> Sight<'a>
         ensures { result ≡ sight_of mode port.now memory.now }
     {
         let issued = register(port, CI) | register(port, SACT);
-        let notified = has_bit(register(port, SNTF), CONTROL_PORT);
         Sight {
+            mode,
+            port,
+            memory,
             issued,
-            stopped: stopped(mode, port, notified, issued),
-            faulty: faulty_device(mode, port),
-            resetting: port.resetting(CONTROL_PORT),
-            in_reset: in_reset(port),
-            notified,
-            answer: answer(last_d2h(memory.structure(), answer_row(mode))),
-            signed: signed_in(mode, port, memory),
-            usable: is_usable(memory.client()),
-            log: error_log(memory.client()),
         }
+    }
+
+    /// PxCI and PxSACT together: the slots that are not done.
+    pub(crate) fn issued(&self) -> u32
+        ensures { result ≡ self.now.issued }
+    {
+        self.issued
+    }
+
+    /// PxSNTF has the multiplier's bit.
+    #[tactic(auto, unfolding(crate::specs::Sights::sight_of))]
+    pub(crate) fn notified(&self) -> bool
+        ensures { result ≡ self.now.notified }
+    {
+        is_notified(self.port)
+    }
+
+    /// The port is to be stopped: a fault stopped it, or a notification came beside a command of a device.
+    #[tactic(auto, unfolding(crate::specs::Sights::sight_of))]
+    pub(crate) fn stopped(&self) -> bool
+        ensures { result ≡ self.now.stopped }
+    {
+        stopped(self.mode, self.port, self.issued)
+    }
+
+    /// The device whose fault the port shows, and is to be cleared.
+    #[tactic(auto, unfolding(crate::specs::Sights::sight_of))]
+    pub(crate) fn faulty(&self) -> Option<u8>
+        ensures { result ≡ self.now.faulty }
+    {
+        faulty_device(self.mode, self.port)
+    }
+
+    /// The multiplier is in software reset.
+    #[tactic(auto, unfolding(crate::specs::Sights::sight_of))]
+    pub(crate) fn resetting(&self) -> bool
+        ensures { result ≡ self.now.resetting }
+    {
+        self.port.resetting(CONTROL_PORT)
+    }
+
+    /// The device is in software reset.
+    #[tactic(auto, unfolding(crate::specs::Sights::sight_of))]
+    pub(crate) fn in_reset(&self, dev: u8) -> bool
+        ensures { result ≡ slice_index_or self.now.in_reset dev false }
+    {
+        if dev < 16 {
+            self.port.resetting(dev)
+        } else {
+            false
+        }
+    }
+
+    /// The value in the multiplier's last answer, or its signature.
+    #[tactic(auto, unfolding(crate::specs::Sights::sight_of))]
+    pub(crate) fn answer(&self) -> u32
+        ensures { result ≡ self.now.answer }
+    {
+        answer(last_d2h(self.memory.structure(), answer_row(self.mode)))
+    }
+
+    /// The signature of an ATA device stands in the device's row of the received area, or was heard.
+    #[tactic(auto, unfolding(crate::specs::Sights::sight_of))]
+    pub(crate) fn signed(&self, dev: u8) -> bool
+        ensures { result ≡ slice_index_or self.now.signed dev false }
+    {
+        if dev < 16 {
+            signed_in(self.mode, self.port, self.memory, dev)
+        } else {
+            false
+        }
+    }
+
+    /// The IDENTIFY data in the driver's buffer is that of a device for queued commands.
+    #[tactic(auto, unfolding(crate::specs::Sights::sight_of))]
+    pub(crate) fn usable(&self) -> bool
+        ensures { result ≡ self.now.usable }
+    {
+        is_usable(self.memory.client())
+    }
+
+    /// The error log, if the driver's buffer has it.
+    #[tactic(auto, unfolding(crate::specs::Sights::sight_of))]
+    pub(crate) fn log(&self) -> ErrorLog
+        ensures { result ≡ self.now.log }
+    {
+        error_log(self.memory.client())
     }
 }

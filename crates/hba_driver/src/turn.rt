@@ -95,14 +95,14 @@ fn request_due(plan: Plan, slots: &[Slot; 30]) -> Option<Act>
 }
 
 // The clearing of the fault that the port shows.
-fn fault_due(sight: Sight) -> Option<Act>
-    ensures value { result ≡ fault_due_of sight }
+fn fault_due(sight: &Sight<'_>) -> Option<Act>
+    ensures value { result ≡ fault_due_of sight.now }
     ensures act { IfSome result IsAct }
 {
-    if sight.stopped {
+    if sight.stopped() {
         return Some(Act::Stops);
     }
-    match sight.faulty {
+    match sight.faulty() {
         Some(dev) => Some(Act::Clears(dev)),
         None => None,
     }
@@ -139,25 +139,25 @@ impl Path {
 
 impl Plan {
     // Whether slot 31 has a command, and this is another device.
-    fn control_beside(sight: Sight, dev: u8) -> bool
-        ensures { result ≡ control_beside_of sight dev }
+    fn control_beside(sight: &Sight<'_>, dev: u8) -> bool
+        ensures { result ≡ control_beside_of sight.now dev }
     {
-        has_bit(sight.issued, CONTROL_SLOT) && dev != CONTROL_PORT
+        has_bit(sight.issued(), CONTROL_SLOT) && dev != CONTROL_PORT
     }
 
     // Whether slot 30 has a command of another device.
-    fn path_beside(self, sight: Sight, dev: u8) -> bool
-        ensures { result ≡ path_beside_of sight self dev }
+    fn path_beside(self, sight: &Sight<'_>, dev: u8) -> bool
+        ensures { result ≡ path_beside_of sight.now self dev }
     {
         match self.path {
-            Some(path) => has_bit(sight.issued, DEVICE_SLOT) && path.dev != dev,
+            Some(path) => has_bit(sight.issued(), DEVICE_SLOT) && path.dev != dev,
             None => false,
         }
     }
 
     // Whether nothing is issued for another device.
-    fn may_go(self, sight: Sight, slots: &[Slot; 30], dev: u8) -> bool
-        ensures { result ≡ may_go_of sight self slots.now dev }
+    fn may_go(self, sight: &Sight<'_>, slots: &[Slot; 30], dev: u8) -> bool
+        ensures { result ≡ may_go_of sight.now self slots.now dev }
     {
         !(Plan::control_beside(sight, dev)
             || self.path_beside(sight, dev)
@@ -165,8 +165,8 @@ impl Plan {
     }
 
     // The same for what an act issues, if it issues something.
-    fn may_go_to(self, sight: Sight, slots: &[Slot; 30], dev: Option<u8>) -> bool
-        ensures { result ≡ may_go_to_of sight self slots.now dev }
+    fn may_go_to(self, sight: &Sight<'_>, slots: &[Slot; 30], dev: Option<u8>) -> bool
+        ensures { result ≡ may_go_to_of sight.now self slots.now dev }
     {
         match dev {
             Some(dev) => self.may_go(sight, slots, dev),
@@ -175,9 +175,9 @@ impl Plan {
     }
 
     // What is due, if it may go: with command-based switching only if nothing is issued for another device.
-    fn allowed(self, sight: Sight, slots: &[Slot; 30], due: Option<Act>) -> Option<Act>
+    fn allowed(self, sight: &Sight<'_>, slots: &[Slot; 30], due: Option<Act>) -> Option<Act>
         requires { IfSome due IsAct }
-        ensures value { result ≡ allowed_of self.mode sight self slots.now due }
+        ensures value { result ≡ allowed_of self.mode sight.now self slots.now due }
         ensures act { IfSome result IsAct }
     {
         match self.mode {
@@ -215,9 +215,9 @@ impl Plan {
     }
 
     // The command of the order, if it may go.
-    fn order_allowed(self, sight: Sight, slots: &[Slot; 30]) -> Option<Act>
+    fn order_allowed(self, sight: &Sight<'_>, slots: &[Slot; 30]) -> Option<Act>
         requires { IsSoundPlan self }
-        ensures value { result ≡ order_allowed_of sight self slots.now }
+        ensures value { result ≡ order_allowed_of sight.now self slots.now }
         ensures act { IfSome result IsAct }
     {
         self.allowed(sight, slots, self.order_due())
@@ -236,8 +236,8 @@ impl Plan {
 
     // What comes before everything else.
     #[tactic(auto, unfolding(crate::specs::Turns::early_due))]
-    fn early_due(self, sight: Sight) -> Option<Act>
-        ensures value { result ≡ early_due_of sight self }
+    fn early_due(self, sight: &Sight<'_>) -> Option<Act>
+        ensures value { result ≡ early_due_of sight.now self }
         ensures act { IfSome result IsAct }
     {
         if let Some(act) = self.opening_due() {
@@ -249,9 +249,9 @@ impl Plan {
         fault_due(sight)
     }
 
-    fn stage_due(self, sight: Sight, dev: u8) -> Option<Act>
+    fn stage_due(self, sight: &Sight<'_>, dev: u8) -> Option<Act>
         requires { dev < 15 }
-        ensures value { result ≡ stage_due_of sight self dev }
+        ensures value { result ≡ stage_due_of sight.now self dev }
         ensures act { IfSome result IsAct }
     {
         match self.stage_for(sight, dev) {
@@ -261,9 +261,9 @@ impl Plan {
     }
 
     #[tactic(auto, unfolding(crate::specs::Turns::device_due))]
-    fn slot_due(self, sight: Sight) -> Option<Act>
+    fn slot_due(self, sight: &Sight<'_>) -> Option<Act>
         requires { IsSoundPlan self }
-        ensures value { result ≡ device_due_of sight self }
+        ensures value { result ≡ device_due_of sight.now self }
         ensures act { IfSome result IsAct }
     {
         if let Some(path) = self.path {
@@ -276,9 +276,9 @@ impl Plan {
     }
 
     // What is due by slot 30, or else for the requests.
-    fn device_due(self, sight: Sight, slots: &[Slot; 30]) -> Option<Act>
+    fn device_due(self, sight: &Sight<'_>, slots: &[Slot; 30]) -> Option<Act>
         requires { IsSoundPlan self }
-        ensures value { result ≡ device_or_request sight self slots.now }
+        ensures value { result ≡ device_or_request sight.now self slots.now }
         ensures act { IfSome result IsAct }
     {
         match self.allowed(sight, slots, self.slot_due(sight)) {
@@ -287,9 +287,9 @@ impl Plan {
         }
     }
 
-    fn device_turn(self, sight: Sight, news: bool, slots: &[Slot; 30]) -> Turn
+    fn device_turn(self, sight: &Sight<'_>, news: bool, slots: &[Slot; 30]) -> Turn
         requires { IsSoundPlan self }
-        ensures value { result ≡ device_turn_of sight news self slots.now }
+        ensures value { result ≡ device_turn_of sight.now news self slots.now }
         ensures sound { IsSoundPlan result.plan }
         ensures act { IfSome result.act IsAct }
     {
@@ -302,9 +302,9 @@ impl Plan {
         }
     }
 
-    fn control_turn(self, sight: Sight, news: bool, slots: &[Slot; 30]) -> Turn
+    fn control_turn(self, sight: &Sight<'_>, news: bool, slots: &[Slot; 30]) -> Turn
         requires { IsSoundPlan self }
-        ensures value { result ≡ control_turn_of sight news self slots.now }
+        ensures value { result ≡ control_turn_of sight.now news self slots.now }
         ensures sound { IsSoundPlan result.plan }
         ensures act { IfSome result.act IsAct }
     {
@@ -453,9 +453,9 @@ impl Plan {
 
     /// What is due with these requests, for a tick that sees this.
     #[tactic(auto, unfolding(crate::specs::Turns::turn_of))]
-    pub(crate) fn turn(self, sight: Sight, slots: &[Slot; 30]) -> Turn
+    pub(crate) fn turn(self, sight: &Sight<'_>, slots: &[Slot; 30]) -> Turn
         requires { IsSoundPlan self }
-        ensures value { result ≡ turn_of sight self slots.now }
+        ensures value { result ≡ turn_of sight.now self slots.now }
         ensures sound { IsSoundPlan result.plan }
         ensures act { IfSome result.act IsAct }
     {

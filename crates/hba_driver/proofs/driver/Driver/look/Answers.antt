@@ -1,6 +1,5 @@
 use Rattle.hba_driver.specs.declared.request.Outcome.TheVariants.{Done}
 use Rattle.hba_driver.specs.declared.slot.Phase.TheVariants.{Ended}
-use Rattle.hba_driver.specs.Ticks.{is_done}
 use Rattle.hba_driver.specs.Drivers.{AreRequests, Entry}
 use Rattle.hba_driver.proofs.RequestLemmas.{requests_logged, requests_rephased}
 use Rattle.std.proofs.Common.{List, Option, subst, sym}
@@ -10,6 +9,6 @@ pub invariant_of-self : goal.invariant_of-self
 invariant_of-self c = record {
   plan = c.turn-turn.ensures.sound;
   requests = subst (λ (x : List (Option Entry)). AreRequests c.self.inside.given x) (sym c.end_logged.ensures.ended)
-      (requests_logged c.self.inside.given c.args.sight.log c.turn-turn.result.logged c.end_done.new.slots
-      (requests_rephased c.self.inside.given (is_done c.args.sight.issued) (Ended Done) c.self.inside.slots c.end_done.new.slots c.self.invariant.requests c.end_done.ensures.ended));
+      (requests_logged c.self.inside.given c.args.sight.now.log c.turn-turn.result.logged c.end_done.new.slots
+      (requests_rephased c.self.inside.given _ (Ended Done) c.self.inside.slots c.end_done.new.slots c.self.invariant.requests c.end_done.ensures.ended));
 }

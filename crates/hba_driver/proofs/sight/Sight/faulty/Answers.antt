@@ -1,0 +1,8 @@
+use Rattle.std.proofs.Common.{ap, ◌∙◌}
+use Rattle.hba_driver.specs.Seeing.{Sight}
+use Rattle.hba_driver.specs.Sights.{sight_of}
+use Rattle.hba_driver.proofs.sight.Sight.faulty.Goals as goal
+
+pub returns : goal.returns
+unfolding sight_of
+returns c = c.faulty_device.ensures ∙ ap (λ (v : Sight). v.faulty) c.self.view_is
