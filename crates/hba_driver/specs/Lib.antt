@@ -29,3 +29,4 @@ pub mod Slot30
 pub mod Absent
 pub mod Resetting
 pub mod Queued
+pub mod Spans
