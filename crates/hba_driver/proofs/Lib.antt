@@ -78,3 +78,4 @@ pub mod ApartFiles
 pub mod SetsLemmas
 pub mod HeldLemmas
 pub mod QueuedLemmas
+pub mod SpanLemmas

@@ -30,3 +30,4 @@ pub mod Slot30
 pub mod Absent
 pub mod Resetting
 pub mod Queued
+pub mod Spans

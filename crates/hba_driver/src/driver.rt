@@ -23,10 +23,11 @@ use crate::scan::{
 };
 use crate::sight::Sight;
 use crate::slot::{Head, Phase, Slot, share_bytes};
+use crate::span::have_overlap;
 use crate::turn::Act;
 use hba_commands::write_command;
 use hba_fbs::HostPort;
-use host_memory::{CLIENT_START, HostMemory, have_overlap};
+use host_memory::{CLIENT_START, HostMemory};
 use std::marker::Model;
 
 /// The size of the driver's own buffer in bytes. It is the start of the client area.

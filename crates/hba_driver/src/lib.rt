@@ -18,6 +18,7 @@ mod request;
 mod scan;
 mod sight;
 mod slot;
+mod span;
 mod turn;
 
 pub use driver::Driver;

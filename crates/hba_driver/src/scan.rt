@@ -15,6 +15,7 @@ use crate::plan::Plan;
 use crate::request::{Outcome, Work};
 use crate::sight::{ErrorLog, Sight};
 use crate::slot::{Group, Phase, Slot};
+use crate::span::Buffers;
 use crate::turn::{Act, Logged};
 use host_memory::Prd;
 
@@ -178,7 +179,8 @@ pub(crate) fn are_blocked(slots: &[Slot; 30], dev: u8, work: Work) -> bool
 pub(crate) fn have_conflict(slots: &[Slot; 30], work: Work, prds: &[Prd]) -> bool
     ensures { result ≡ list_any (conflicts work prds.now) slots.now }
 {
-    slots.iter().any(|slot| slot.conflicts(work, prds))
+    let buffers = Buffers::of(prds);
+    slots.iter().any(|slot| slot.conflicts(work, &buffers))
 }
 
 /// Whether a request has one of these bytes.

@@ -2,7 +2,6 @@
 
 ghost use Rattle.std.specs.Prelude.{◌≡◌, ◌≤◌, ◌<◌, Some, None, if◌then◌else◌, length, take};
 ghost use Rattle.std.specs.Option.{option_map};
-ghost use Rattle.host_memory.specs.Reading.{shares_with as shares_with_of, share_byte as share_byte_of, share_with as share_with_of};
 ghost use Rattle.hba_driver.specs.Drivers.{has_ended as has_ended_head, holds, is_aside as is_aside_head, is_issued as is_issued_head, is_read as is_read_of, rephased, waits as waits_head};
 ghost use Rattle.hba_driver.specs.Orders.{is_flush as is_flush_of, is_queued as is_queued_of, request_fields, work_fields};
 ghost use Rattle.hba_driver.specs.Requests.{blocks as blocks_of, conflicts as conflicts_of, is_among as is_among_of, is_free as is_free_entry, is_used_by, share_bytes as share_bytes_of};
@@ -14,6 +13,7 @@ use crate::order::command;
 use crate::plan::Plan;
 use crate::request::{Completion, Outcome, Ticket, Work};
 use crate::sight::{ErrorLog, has_bit};
+use crate::span::{Buffers, NO_SPAN, Span};
 use crate::turn::Act;
 use fis_view::H2dFields;
 use host_memory::Prd;
@@ -72,17 +72,20 @@ pub(crate) struct Slot {
     head: Option<Head>,
     prds: [Prd; 248],
     count: usize,
+    /// A span of the entries.
+    span: Span,
 }
 
 impl Model for Slot {
     ghost use Rattle.std.specs.Prelude.{Option, take, ◌≤◌};
     ghost use Rattle.hba_driver.specs.Drivers.{Entry, entry_of};
+    ghost use Rattle.hba_driver.specs.Spans.{Spans};
 
     ghost Value = { Option Entry };
 
     ghost view = { λ s. entry_of s.head (take s.count s.prds) };
 
-    ghost invariant = { λ s. s.count ≤ 248 };
+    ghost invariant = { λ s. (s.count ≤ 248) × Spans s.span (take s.count s.prds) };
 }
 
 impl Default for Slot {
@@ -259,26 +262,6 @@ fn is_among(at: u32, len: u32, prds: &[Prd]) -> bool
         .any(|prd| share_bytes(at, len, prd.address, prd.bytes))
 }
 
-fn share_byte(p: Prd, q: Prd) -> bool
-    ensures { result ≡ share_byte_of p q }
-{
-    let p_end = u64::from(p.address) + u64::from(p.bytes);
-    let q_end = u64::from(q.address) + u64::from(q.bytes);
-    u64::from(p.address.max(q.address)) < p_end.min(q_end)
-}
-
-fn shares_with(prd: Prd, others: &[Prd]) -> bool
-    ensures { result ≡ shares_with_of prd others.now }
-{
-    others.iter().any(|other| share_byte(prd, *other))
-}
-
-fn share_with(prds: &[Prd], others: &[Prd]) -> bool
-    ensures { result ≡ share_with_of prds.now others.now }
-{
-    prds.iter().any(|prd| shares_with(*prd, others))
-}
-
 // These entries, followed by none.
 fn filled(prds: &[Prd]) -> [Prd; 248]
     requires { length prds.now ≤ 248 }
@@ -300,6 +283,7 @@ impl Slot {
             head: None,
             prds: [NO_PRD; MAX_PRDS],
             count: 0,
+            span: NO_SPAN,
         }
     }
 
@@ -312,6 +296,7 @@ impl Slot {
             head: Some(head),
             prds: filled(prds),
             count: prds.len(),
+            span: Span::of(prds),
         };
     }
 
@@ -381,13 +366,13 @@ impl Slot {
     }
 
     /// Whether its request has one of these bytes, and one of the two reads.
-    pub(crate) fn conflicts(&self, work: Work, prds: &[Prd]) -> bool
-        ensures { result ≡ conflicts_of work prds.now self.now }
+    pub(crate) fn conflicts(&self, work: Work, buffers: &Buffers<'_>) -> bool
+        ensures { result ≡ conflicts_of work buffers.now self.now }
     {
         match self.head {
             Some(head) => {
                 (work.is_read() || head.work.is_read())
-                    && share_with(prds, &self.prds[..self.count])
+                    && buffers.share_with(&self.prds[..self.count], self.span)
             }
             None => false,
         }
@@ -398,7 +383,9 @@ impl Slot {
         ensures { result ≡ is_used_by at len self.now }
     {
         match self.head {
-            Some(_) => is_among(at, len, &self.prds[..self.count]),
+            Some(_) => {
+                self.span.may_hold(at, len) && is_among(at, len, &self.prds[..self.count])
+            }
             None => false,
         }
     }
