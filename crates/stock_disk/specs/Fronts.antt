@@ -1,7 +1,8 @@
 -- What the front of a disk knows from the FISes on its link, and what it answers by itself (ACS-3, STANDBY
 -- IMMEDIATE, IDLE IMMEDIATE, STANDBY, IDLE, CHECK POWER MODE, SLEEP, FLUSH CACHE, SET FEATURES, READ LOG EXT,
--- READ VERIFY SECTOR(S), READ VERIFY SECTOR(S) EXT; Serial ATA 3.x, 13.6, native command queuing). What the host's registers tell of a disk is kept: BSY, which
--- a command sets and its answer clears, and SActive, a bit for each tag.
+-- READ VERIFY SECTOR(S), READ VERIFY SECTOR(S) EXT; Serial ATA 3.x, 13.6, native command queuing). What the
+-- host's registers tell of a disk is kept: BSY, which a command sets and its answer clears, and SActive, a bit
+-- for each tag.
 use Rattle.std.specs.Prelude.{ℕ, ◌-◌, ◌/◌, ◌%◌, ◌^◌, ◌==◌, ◌&&◌, ◌||◌, nat_le, bit_and, bit_or, Bool, true}
 use Rattle.std.specs.Prelude.{false, not, List, if◌then◌else◌, Option, Some, None, Result, Ok, option_map}
 use Rattle.fis_view.specs.Table.{H2d, D2h, Bits, C, Command, Features, Lba, Count, Control, Status, SActive}
