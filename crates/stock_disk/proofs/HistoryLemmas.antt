@@ -79,9 +79,17 @@ pub takes_inside : (old new : StockValue) (bytes : List ℕ) → own_to old.fron
 takes_inside old new bytes is on front =
     goes_inside old new (Received bytes) (rw is refl) on (rw is front)
 
+-- what is sent by the copies of the size and the plan is what is sent by the disk's
+pub shows_own : (known sectors : ℕ) (copy plan : DiskPlan) (own : Own) (bytes : List ℕ) → known ≡ sectors → copy ≡ plan
+    → Shows (own_sent known copy own) bytes → Shows (own_sent sectors plan own) bytes
+shows_own known sectors copy plan own bytes size same shows =
+    subst (λ (n : ℕ). Shows (own_sent n plan own) bytes) size
+    (subst (λ (p : DiskPlan). Shows (own_sent known p own) bytes) same shows)
+
 -- the front's own answer is sent
 pub sends_own : (old new : StockValue) (bytes : List ℕ) (own : Own) → old.front.owed ≡ Some own
-    → Shows (own_sent own) bytes → new.disk ≡ old.disk → new.front ≡ answered old.front
+    → Shows (own_sent old.disk.sectors old.disk.plan own) bytes → new.disk ≡ old.disk
+    → new.front ≡ answered old.front own
     → SendsNext stock_plan StockStandsFor StockMaySend old bytes new
 sends_own old new bytes own is shows same front =
     let on = stays_outside old new (Sent bytes) (rw is refl) same (rw is front) in

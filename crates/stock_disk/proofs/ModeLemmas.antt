@@ -9,9 +9,9 @@ use Rattle.disk_model.specs.Ends.{reports}
 use Rattle.disk_model.specs.Histories.{Happening, Received, Sent, Plugged}
 use Rattle.stock_disk.specs.declared.front.Front.{Front}
 use Rattle.stock_disk.specs.declared.front.Own.{Own}
-use Rattle.stock_disk.specs.declared.front.Own.TheVariants.{Aborted}
+use Rattle.stock_disk.specs.declared.front.Own.TheVariants.{Done, Active, Aborted, Verifies, LogFollows, LogData}
 use Rattle.stock_disk.specs.Faces.{after_sent, front_after, front_at}
-use Rattle.stock_disk.specs.Fronts.{asks_log, ended, heard, hears, named, own_to, passed, told}
+use Rattle.stock_disk.specs.Fronts.{answered, asks_log, ended, heard, hears, named, own_to, passed, told}
 use Rattle.stock_disk.specs.Laws.{ErrorsAbort, NoneEndsMode, ends_mode}
 
 -- a command is aborted in the error mode
@@ -61,10 +61,18 @@ told_keeps front (Ok (view.Payload f)) failed = failed
 told_keeps front (Ok (view.Unknown f)) failed = failed
 told_keeps front (Err e) failed = failed
 
+answered_keeps : (front : Front) (own : Own) → front.failed ≡ true → (answered front own).failed ≡ true
+answered_keeps front Done failed = failed
+answered_keeps front Active failed = failed
+answered_keeps front Aborted failed = failed
+answered_keeps front (Verifies v) failed = failed
+answered_keeps front (LogFollows log) failed = failed
+answered_keeps front (LogData log) failed = failed
+
 sent_keeps : (front : Front) (owed : Option Own) (bytes : List ℕ) → front.failed ≡ true
     → (after_sent front owed bytes).failed ≡ true
 sent_keeps front None bytes failed = told_keeps front (seen bytes) failed
-sent_keeps front (Some own) bytes failed = failed
+sent_keeps front (Some own) bytes failed = answered_keeps front own failed
 
 passed_on : (front : Front) (fis : Result Fis FisFault) → (passed front fis).on ≡ front.on
 passed_on front (Ok (view.RegH2D f)) = search rules
@@ -92,9 +100,17 @@ told_on front (Ok (view.Payload f)) = refl
 told_on front (Ok (view.Unknown f)) = refl
 told_on front (Err e) = refl
 
+answered_on : (front : Front) (own : Own) → (answered front own).on ≡ front.on
+answered_on front Done = refl
+answered_on front Active = refl
+answered_on front Aborted = refl
+answered_on front (Verifies v) = refl
+answered_on front (LogFollows log) = refl
+answered_on front (LogData log) = refl
+
 sent_on : (front : Front) (owed : Option Own) (bytes : List ℕ) → (after_sent front owed bytes).on ≡ front.on
 sent_on front None bytes = told_on front (seen bytes)
-sent_on front (Some own) bytes = refl
+sent_on front (Some own) bytes = answered_on front own
 
 -- whether the front answers at all stays
 pub after_on : (front : Front) (e : Happening) → (front_after front e).on ≡ front.on

@@ -21,7 +21,7 @@ pub record StockValue : Type 0 where
 
 -- a FIS was sent: the front's own answer, if it owed one, and else one of the disk
 abbrev pub after_sent : Front → Option Own → List ℕ → Front
-after_sent front (Some own) bytes = answered front
+after_sent front (Some own) bytes = answered front own
 after_sent front None bytes = told front (seen bytes)
 
 abbrev pub front_after : Front → Happening → Front
@@ -69,9 +69,14 @@ pub record StockStandsFor (s : StockValue) (history : List Happening) : Type 0 w
   pub disk : DiskStandsFor s.disk (inside (opening_of (stock_plan s)) history)
   pub front : s.front ≡ front_at (opening_of (stock_plan s)) history
 
+-- the bytes show the front's own answer; a script has no front
+abbrev pub OwnMaySend : Own → Plan → List ℕ → Type 0
+OwnMaySend own (DiskOf plan sectors) bytes = Shows (own_sent sectors plan own) bytes
+OwnMaySend own (Script frames) bytes = ⊥
+
 -- the front's own answer, if it owes one, and else what the disk may send
 abbrev pub OwnOrDisk : Option Own → Plan → List Happening → List ℕ → Type 0
-OwnOrDisk (Some own) plan history bytes = Shows (own_sent own) bytes
+OwnOrDisk (Some own) plan history bytes = OwnMaySend own plan bytes
 OwnOrDisk None plan history bytes = DiskMaySend plan history bytes
 
 abbrev pub StockMaySend : Plan → List Happening → List ℕ → Type 0
@@ -102,7 +107,7 @@ MaySendBy None disk = HasTurn disk
 
 -- the bytes are the front's own answer, or else the disk sent them as its own call says
 abbrev pub GaveBy : Option Own → DiskValue → List ℕ → DiskValue → Type 0
-GaveBy (Some own) old bytes new = Shows (own_sent own) bytes × (new ≡ old)
+GaveBy (Some own) old bytes new = Shows (own_sent old.sectors old.plan own) bytes × (new ≡ old)
 GaveBy None old bytes new = SendsNext disk_plan DiskStandsFor DiskMaySend old bytes new
 
 -- a FIS was sent

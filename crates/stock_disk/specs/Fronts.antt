@@ -1,10 +1,11 @@
 -- What the front of a disk knows from the FISes on its link, and what it answers by itself (ACS-3, STANDBY
--- IMMEDIATE, IDLE IMMEDIATE, STANDBY, IDLE, CHECK POWER MODE, SLEEP, FLUSH CACHE, SET FEATURES, READ LOG EXT;
--- Serial ATA 3.x, 13.6, native command queuing). What the host's registers tell of a disk is kept: BSY, which
--- a command sets and its answer clears, and SActive, a bit for each tag.
+-- IMMEDIATE, IDLE IMMEDIATE, STANDBY, IDLE, CHECK POWER MODE, SLEEP, FLUSH CACHE, SET FEATURES, READ LOG EXT,
+-- READ VERIFY SECTOR(S), READ VERIFY SECTOR(S) EXT; Serial ATA 3.x, 13.6, native command queuing). What the
+-- host's registers tell of a disk is kept: BSY, which a command sets and its answer clears, and SActive, a bit
+-- for each tag.
 use Rattle.std.specs.Prelude.{ℕ, ◌-◌, ◌/◌, ◌%◌, ◌^◌, ◌==◌, ◌&&◌, ◌||◌, nat_le, bit_and, bit_or, Bool, true}
-use Rattle.std.specs.Prelude.{false, not, List, if◌then◌else◌, Option, Some, None, Result, Ok}
-use Rattle.fis_view.specs.Table.{H2d, D2h, Bits, C, Command, Features, Count, Control, Status, SActive}
+use Rattle.std.specs.Prelude.{false, not, List, if◌then◌else◌, Option, Some, None, Result, Ok, option_map}
+use Rattle.fis_view.specs.Table.{H2d, D2h, Bits, C, Command, Features, Lba, Count, Control, Status, SActive}
 use Rattle.fis_view.specs.Table.{field}
 use Rattle.fis_view.specs.declared.view.Fis.{Fis}
 use Rattle.fis_view.specs.declared.view.Fis.TheVariants as view
@@ -13,10 +14,12 @@ use Rattle.disk_model.specs.declared.plan.DiskPlan.{DiskPlan}
 use Rattle.disk_model.specs.declared.plan.Profile.{Profile}
 use Rattle.disk_model.specs.declared.plan.Profile.TheVariants.{Bare, Stock}
 use Rattle.disk_model.specs.Requests.{names_error_log}
-use Rattle.disk_model.specs.Sendings.{Sending, Register}
+use Rattle.disk_model.specs.Sendings.{Sending, Register, Carries, page_follows}
 use Rattle.stock_disk.specs.declared.front.Front.{Front}
 use Rattle.stock_disk.specs.declared.front.Own.{Own}
-use Rattle.stock_disk.specs.declared.front.Own.TheVariants.{Done, Active, Aborted}
+use Rattle.stock_disk.specs.declared.front.Own.TheVariants.{Done, Active, Aborted, Verifies, LogFollows, LogData}
+use Rattle.stock_disk.specs.Pages.{log_bytes, log_named}
+use Rattle.stock_disk.specs.Verifies.{verified, verify_28, verify_48}
 
 -- ## What the front answers
 
@@ -33,10 +36,14 @@ answer_with status error count = Register (record {
 })
 
 -- Count FFh says that the disk is active or idle (ACS-3, CHECK POWER MODE). 51h and 04h are ERR and ABRT.
-abbrev pub own_sent : Own → Sending
-own_sent Done = answer_with 0x50 0 0
-own_sent Active = answer_with 0x50 0 0xFF
-own_sent Aborted = answer_with 0x51 4 0
+-- A page of a log comes as those of the disk do: a PIO Setup, then Data.
+abbrev pub own_sent : (sectors : ℕ) (plan : DiskPlan) → Own → Sending
+own_sent sectors plan Done = answer_with 0x50 0 0
+own_sent sectors plan Active = answer_with 0x50 0 0xFF
+own_sent sectors plan Aborted = answer_with 0x51 4 0
+own_sent sectors plan (Verifies v) = Register (verified sectors plan v)
+own_sent sectors plan (LogFollows log) = page_follows
+own_sent sectors plan (LogData log) = Carries (log_bytes sectors plan log)
 
 -- the number is from this one to that one
 abbrev pub is_from : (low high n : ℕ) → Bool
@@ -61,12 +68,25 @@ has_feature auto feature count =
 abbrev pub is_done : ℕ → Bool
 is_done code = is_from 0xE0 0xE3 code || (code == 0xE6) || (code == 0xE7)
 
--- the answer to a command that moves no data; none to any other
+-- READ LOG EXT of one page that the front has
+abbrev pub log_asked : List ℕ → Option Own
+log_asked f =
+    if field H2d Count f == 1 then option_map (λ log. LogFollows log) (log_named (field H2d Lba f % 0x10000))
+    else None
+
+-- the answer to READ LOG EXT and to the commands that verify sectors; none to any other
+abbrev pub read_for : List ℕ → Option Own
+read_for f =
+    (if field H2d Command f == 0x2F then log_asked f
+    else (if field H2d Command f == 0x40 then Some (Verifies (verify_28 f))
+    else (if field H2d Command f == 0x42 then Some (Verifies (verify_48 f)) else None)))
+
+-- the answer to a command while nothing is outstanding; none to one that passes
 abbrev pub done_for : (auto : Bool) → List ℕ → Option Own
 done_for auto f =
     (if is_done (field H2d Command f) then Some Done
     else (if field H2d Command f == 0xE5 then Some Active
-    else (if not (field H2d Command f == 0xEF) then None
+    else (if not (field H2d Command f == 0xEF) then read_for f
     else Some (if has_feature auto (field H2d Features f % 256) (field H2d Count f % 256) then Done
     else Aborted))))
 
@@ -78,7 +98,7 @@ asks_log f = (field H2d Command f == 0x2F) && names_error_log f
 abbrev pub is_idle : Front → Bool
 is_idle front = not front.busy && (front.outstanding == 0)
 
--- After an error each command but the read of the log is aborted. Else commands that move no data are
+-- After an error each command but the read of the error log is aborted. Else commands that move no sectors are
 -- answered while the disk is idle.
 abbrev pub answer_to : Front → List ℕ → Option Own
 answer_to front f =
@@ -144,9 +164,10 @@ passed front _ = front
 abbrev pub owes : Front → Own → Front
 owes front own = record front { busy = true; owed = Some own }
 
--- its own answer was sent
-abbrev pub answered : Front → Front
-answered front = record front { busy = false; owed = None }
+-- Its own answer was sent. After the PIO Setup of a page it owes the page.
+abbrev pub answered : Front → Own → Front
+answered front (LogFollows log) = record front { owed = Some (LogData log) }
+answered front own = record front { busy = false; owed = None }
 
 abbrev pub hears : Front → Result Fis FisFault → Option Own → Front
 hears front fis None = passed front fis

@@ -21,7 +21,7 @@ use Rattle.stock_disk.specs.Fronts.{asks_log, opening, own_sent, own_to}
 
 -- what may be sent: the front's own answer, if it owes one, and else the disk's turn
 abbrev pub IsNext : Option Own → DiskPlan → ℕ → Moment → List ℕ → Type 0
-IsNext (Some own) plan sectors m bytes = Shows (own_sent own) bytes
+IsNext (Some own) plan sectors m bytes = Shows (own_sent sectors plan own) bytes
 IsNext None plan sectors m bytes = IsTurn (turn plan sectors m) bytes
 
 abbrev pub MayHappen : DiskPlan → ℕ → Front → Moment → Happening → Type 0

@@ -1,3 +1,5 @@
+pub mod Pages
+pub mod Verifies
 pub mod Fronts
 pub mod Faces
 pub mod Laws

@@ -19,14 +19,39 @@ use std::marker::Model;
 pub struct StockDisk {
     disk: Disk,
     front: Front,
+    /// The disk's size, which the disk tells nobody.
+    sectors: u32,
+    /// The disk's plan, which it tells nobody.
+    plan: DiskPlan,
 }
 
 impl Model for StockDisk {
+    ghost use Rattle.std.specs.Prelude.{◌≡◌};
     ghost use Rattle.stock_disk.specs.Faces.{StockValue};
 
     ghost Value = { StockValue };
 
     ghost view = { λ s. record { disk = s.disk; front = s.front } };
+
+    ghost invariant = { λ s. (s.sectors ≡ s.disk.sectors) × (s.plan ≡ s.disk.plan) };
+}
+
+/// The same plan once more.
+fn copy_of(plan: &DiskPlan) -> DiskPlan
+    ensures { result ≡ plan.now }
+{
+    let mut copy = DiskPlan {
+        order: plan.order,
+        chunk: plan.chunk,
+        last_first: plan.last_first,
+        auto: plan.auto,
+        profile: plan.profile,
+        ..DiskPlan::plain()
+    };
+    match copy.bad.try_extend_from_slice(plan.bad.as_slice()) {
+        Ok(()) => copy,
+        Err(_) => unreachable!(),
+    }
 }
 
 impl StockDisk {
@@ -42,8 +67,14 @@ impl StockDisk {
         ensures bad_size { IsErrOf result DiskError.BadSize ↔ ¬ IsTrue (is_size sectors plan.chunk) }
     {
         let front = Front::opening(&plan);
+        let known = copy_of(&plan);
         let disk = Disk::new(alloc, sectors, plan)?;
-        Ok(StockDisk { disk, front })
+        Ok(StockDisk {
+            disk,
+            front,
+            sectors,
+            plan: known,
+        })
     }
 
     /// The 512 bytes of a sector on the medium, None behind the end.
@@ -112,8 +143,8 @@ impl Device for StockDisk {
     {
         match self.front.owed {
             Some(own) => {
-                let frame = own.frame(alloc, stamp)?;
-                self.front = self.front.answered();
+                let frame = own.frame(alloc, self.sectors, &self.plan, stamp)?;
+                self.front = self.front.answered(own);
                 Ok(Some(frame))
             }
             None => {

@@ -2,16 +2,20 @@
 //! native command queuing).
 
 ghost use Rattle.std.specs.Prelude.{◌≡◌, IfOk, false, true};
-ghost use Rattle.stock_disk.specs.Fronts.{answer_to, asks_log, done_for, ended, failing, has_feature, is_done};
-ghost use Rattle.stock_disk.specs.Fronts.{is_idle, is_mode, named, opening, own_sent, own_to, passed};
-ghost use Rattle.stock_disk.specs.Fronts.{passed_command, passed_control, settles, tags_of, told};
-ghost use Rattle.disk_model.specs.Sendings.{Shows};
+ghost use Rattle.stock_disk.specs.Fronts.{answer_to, answer_with, answered, asks_log, done_for, ended, failing};
+ghost use Rattle.stock_disk.specs.Fronts.{has_feature, is_done, is_idle, is_mode, log_asked, named, opening};
+ghost use Rattle.stock_disk.specs.Fronts.{own_sent, own_to, passed, passed_command, passed_control, read_for};
+ghost use Rattle.stock_disk.specs.Fronts.{settles, tags_of, told};
+ghost use Rattle.disk_model.specs.Sendings.{Register, Shows};
 
+use crate::log::{Log, setup_frame};
+use crate::verify::Verify;
 use disk_model::{DiskPlan, Profile};
 use fis_view::{D2hFields, Fis, FisFault, Frame, RegD2H, RegH2D, SetBits, Stamp, d2h};
 use std::alloc::{AllocError, Global};
 
-/// An answer of the front itself: a Register Device to Host FIS.
+/// A FIS of the front itself, which answers a command: a Register Device to Host FIS, or for a page of a log its
+/// PIO Setup and its Data.
 #[derive(Clone, Copy, Debug, PartialEq, Eq)]
 pub enum Own {
     /// The command ended. It had no effect.
@@ -20,6 +24,12 @@ pub enum Own {
     Active,
     /// The command was aborted.
     Aborted,
+    /// The command verifies sectors. It ended, or it failed if they cannot be read.
+    Verifies(Verify),
+    /// A page of a log follows.
+    LogFollows(Log),
+    /// A page of a log.
+    LogData(Log),
 }
 
 /// What the front keeps: what the host knows of the disk from its registers, and the answer that waits.
@@ -70,7 +80,32 @@ fn is_done(code: u8) -> bool
     matches!(code, 0xE0..=0xE3 | 0xE6 | 0xE7)
 }
 
-/// The answer to a command that moves no data, while nothing is outstanding.
+/// The answer to READ LOG EXT, None if the front has no such page.
+fn log_asked(fis: &RegH2D<'_>) -> Option<Own>
+    ensures { result ≡ log_asked fis.now }
+{
+    if fis.count() != 1 {
+        return None;
+    }
+    match Log::named((fis.lba() % 0x1_0000) as u16) {
+        Some(log) => Some(Own::LogFollows(log)),
+        None => None,
+    }
+}
+
+/// The answer to a command that reads a log or verifies sectors, None for any other.
+fn read_for(fis: &RegH2D<'_>) -> Option<Own>
+    ensures { result ≡ read_for fis.now }
+{
+    match fis.command() {
+        0x2F => log_asked(fis),
+        0x40 => Some(Own::Verifies(Verify::with_28_bits(fis))),
+        0x42 => Some(Own::Verifies(Verify::with_48_bits(fis))),
+        _ => None,
+    }
+}
+
+/// The answer to a command while nothing is outstanding, None for one that passes.
 fn done_for(auto: bool, fis: &RegH2D<'_>) -> Option<Own>
     ensures { result ≡ done_for auto fis.now }
 {
@@ -82,7 +117,7 @@ fn done_for(auto: bool, fis: &RegH2D<'_>) -> Option<Own>
         return Some(Own::Active);
     }
     if code != 0xEF {
-        return None;
+        return read_for(fis);
     }
     let feature = (fis.features() % 256) as u8;
     let count = (fis.count() % 256) as u8;
@@ -220,14 +255,20 @@ impl Front {
         }
     }
 
-    /// The front once its own answer was sent.
-    pub(crate) fn answered(self) -> Front
-        ensures { result ≡ record self { busy = false; owed = None } }
+    /// The front once its own answer was sent. After the PIO Setup of a page it owes the page.
+    pub(crate) fn answered(self, own: Own) -> Front
+        ensures { result ≡ answered self own }
     {
-        Front {
-            busy: false,
-            owed: None,
-            ..self
+        match own {
+            Own::LogFollows(log) => Front {
+                owed: Some(Own::LogData(log)),
+                ..self
+            },
+            _ => Front {
+                busy: false,
+                owed: None,
+                ..self
+            },
         }
     }
 
@@ -288,26 +329,48 @@ impl Front {
     }
 }
 
+/// A Register Device to Host FIS with I. LBA and Device are 0.
+fn answer_frame(
+    alloc: Global,
+    status: u8,
+    error: u8,
+    count: u16,
+    stamp: Stamp,
+) -> Result<Frame, AllocError>
+    ensures shows { IfOk result (λ f. Shows (answer_with status error count) f.bytes) }
+    ensures stamp { IfOk result (λ f. f.stamp ≡ stamp) }
+{
+    let fields = D2hFields {
+        pm_port: 0,
+        i: true,
+        status,
+        error,
+        lba: 0,
+        device: 0,
+        count,
+    };
+    d2h(alloc, &fields, stamp)
+}
+
 impl Own {
-    /// The FIS of the answer.
-    pub(crate) fn frame(self, alloc: Global, stamp: Stamp) -> Result<Frame, AllocError>
-        ensures shows { IfOk result (λ f. Shows (own_sent self) f.bytes) }
+    /// The FIS, before a disk with this many sectors and this plan.
+    pub(crate) fn frame(
+        self,
+        alloc: Global,
+        sectors: u32,
+        plan: &DiskPlan,
+        stamp: Stamp,
+    ) -> Result<Frame, AllocError>
+        ensures shows { IfOk result (λ f. Shows (own_sent sectors plan.now self) f.bytes) }
         ensures stamp { IfOk result (λ f. f.stamp ≡ stamp) }
     {
-        let (status, error, count) = match self {
-            Own::Done => (0x50, 0, 0),
-            Own::Active => (0x50, 0, 0xFF),
-            Own::Aborted => (0x51, 4, 0),
-        };
-        let fields = D2hFields {
-            pm_port: 0,
-            i: true,
-            status,
-            error,
-            lba: 0,
-            device: 0,
-            count,
-        };
-        d2h(alloc, &fields, stamp)
+        match self {
+            Own::Done => answer_frame(alloc, 0x50, 0, 0, stamp),
+            Own::Active => answer_frame(alloc, 0x50, 0, 0xFF, stamp),
+            Own::Aborted => answer_frame(alloc, 0x51, 4, 0, stamp),
+            Own::Verifies(verify) => d2h(alloc, &verify.answer(sectors, plan), stamp),
+            Own::LogFollows(_) => setup_frame(alloc, stamp),
+            Own::LogData(log) => log.frame(alloc, sectors, plan, stamp),
+        }
     }
 }

@@ -8,7 +8,7 @@ use std::test::Fail;
 use stock_disk::StockDisk;
 
 /// The stamp of each frame in the tests.
-const STAMP: Stamp = Stamp {
+pub(super) const STAMP: Stamp = Stamp {
     port: 3,
     conn: 1,
     number: 7,
@@ -39,6 +39,8 @@ pub(super) enum Step {
     Commands(u8),
     /// SET FEATURES is given: its Features and its Count.
     Sets(u16, u16),
+    /// A command is given: its code, its Device, its sector and its Count.
+    Asks(u8, u8, u64, u16),
     /// READ LOG EXT of the NCQ Command Error log is given.
     ReadsLog,
     /// The Device Control register is given with this SRST.
@@ -71,6 +73,10 @@ fn given(step: Step) -> Option<H2dFields> {
         Step::Reads(tag, lba) => Some(command(0x60, 1, lba, 8 * tag as u16)),
         Step::Commands(code) => Some(command(code, 0, 0, 0)),
         Step::Sets(features, count) => Some(command(0xEF, features, 0, count)),
+        Step::Asks(code, device, lba, count) => Some(H2dFields {
+            device,
+            ..command(code, 0, lba, count)
+        }),
         Step::ReadsLog => Some(command(0x2F, 0, 0x10, 1)),
         Step::Resets(srst) => Some(H2dFields {
             c: false,
@@ -82,7 +88,7 @@ fn given(step: Step) -> Option<H2dFields> {
 }
 
 /// What is done with the disk.
-fn acts(alloc: Global, disk: &mut StockDisk, step: Step) -> Result<(), Fail> {
+pub(super) fn acts(alloc: Global, disk: &mut StockDisk, step: Step) -> Result<(), Fail> {
     if let Some(fields) = given(step) {
         disk.on_frame(alloc, &h2d(alloc, &fields, STAMP)?)?;
     }
