@@ -168,6 +168,15 @@ port_small = omega arith
 calm_order : (n : ℕ) (order : Order) (old new : Port) (before after : Memory) (c : event.Host) → order ≢ Clear n → old.registers.switching ≡ true → (acts : ActsAll (order_effects Switching order) old before new after) → (h : event.Host)
     → Calm n 31 (events_of_effects (order_effects Switching order) old before new after acts) c h
 unfolding order_effects ActsAll events_of_effects register_at
+calm_order n ResetOn old new before after c other on acts h = calm_command n 31 15 (order_fields ResetOn) false old new before after c small port_small on acts h
+calm_order n ResetOff old new before after c other on acts h = calm_command n 31 15 (order_fields ResetOff) false old new before after c small port_small on acts h
+calm_order n AwaitSignature old new before after c other on acts h = calm_command n 31 15 (order_fields AwaitSignature) false old new before after c small port_small on acts h
+calm_order n CountPorts old new before after c other on acts h = calm_command n 31 15 (order_fields CountPorts) false old new before after c small port_small on acts h
+calm_order n SetMask old new before after c other on acts h = calm_command n 31 15 (order_fields SetMask) false old new before after c small port_small on acts h
+calm_order n Enable old new before after c other on acts h = calm_command n 31 15 (order_fields Enable) false old new before after c small port_small on acts h
+calm_order n (Open port) old new before after c other on acts h = calm_command n 31 15 (order_fields (Open port)) false old new before after c small port_small on acts h
+calm_order n (Detect port) old new before after c other on acts h = calm_command n 31 15 (order_fields (Detect port)) false old new before after c small port_small on acts h
+calm_order n Watch old new before after c other on acts h = calm_command n 31 15 (order_fields Watch) false old new before after c small port_small on acts h
 calm_order n Scan old new before after c other on acts h =
     let place = place_effect Switching (effect.Writes px_sntf 32768) old acts.0 before acts.1 refl acts.2 in
     let rest : (k : event.Host) → Calm n 31 (events_of_effects (match_some (order_fields Scan) [] (λ f. sending Switching 31 control_port f false)) acts.0 acts.1 new after acts.4) c k =
@@ -179,7 +188,6 @@ calm_order n (Clear port) old new before after c other on acts h =
     calm_then n 31 (event.Rewrote port (replicate 256 0)) last c mid (λ mid does. inl tt) (λ mid does.
     calm_command n 31 15 (order_fields (Clear port)) false acts.4.0 new acts.4.1 after c small port_small
     (ap (λ (p : Port). p.registers.switching) acts.4.2.0 ∙ (ap (λ r. r.switching) acts.2.0.registers ∙ on)) acts.4.4 mid))
-calm_order n any old new before after c other on acts h = calm_command n 31 15 (order_fields any) false old new before after c small port_small on acts h
 
 -- ---- the writes that open the port, and start it again
 
@@ -292,7 +300,10 @@ switching old s up = s.registers.switches (omega (arith, not_below old.driver.pl
 -- what is known of the host if an act is due
 finds_of : (old : Host) (plan : Plan) (entries : List (Option Entry)) (a : Option Act) → IsSoundHost old → plan.opened ≡ old.driver.plan.opened → IsPath plan.path → ((s : ℕ) (e : Entry) → entry_at entries s ≡ Some e → e.head.dev < 15)
     → Due (sight_in old) plan entries a → due_lemmas.Runs old.driver.plan a → MayEnd Switching a old.port → Finds a old.port (shared_by old)
+finds_of old plan entries None s same path devs due runs may = tt
 finds_of old plan entries (Some (act.Opens k)) s same path devs due runs may = s.registers.stopped (omega (arith, due.1, same))
+finds_of old plan entries (Some act.Stops) s same path devs due runs may = tt
+finds_of old plan entries (Some (act.Restarts k)) s same path devs due runs may = tt
 finds_of old plan entries (Some (act.Clears dev)) s same path devs due runs may = may.1.faulty
 finds_of old plan entries (Some (act.Orders order)) s same path devs due runs may = switching old s runs.0
 finds_of old plan entries (Some (act.Steps dev stage)) s same path devs due runs may =
@@ -302,7 +313,6 @@ finds_of old plan entries (Some (act.Issues slot dev queued)) s same path devs d
     let w = due.0 in
     let low : w.entry.head.dev < 15 = devs slot w.entry w.stands in
     (switching old s runs.0, (w.below, subst (λ (k : ℕ). k < 16) w.of_dev (omega (arith, low))))
-finds_of old plan entries other s same path devs due runs may = tt
 
 done_devs : (d : Driver) (issued : ℕ) → AreBounded d → (s : ℕ) (e : Entry) → entry_at (done_ended issued d.entries) s ≡ Some e → e.head.dev < 15
 done_devs d issued bounded s e here =

@@ -82,11 +82,18 @@ emptying_possible CommandBased dev es low h = h
 
 order_possible : (mode : Mode) (order : Order) → IsOrder order → list_all is_effect (order_effects mode order) ≡ true
 unfolding order_fields order_effects
+order_possible mode ResetOn h = issuing_possible mode 31 control_port false
+order_possible mode ResetOff h = issuing_possible mode 31 control_port false
 order_possible mode AwaitSignature h = refl
+order_possible mode CountPorts h = issuing_possible mode 31 control_port false
+order_possible mode SetMask h = issuing_possible mode 31 control_port false
+order_possible mode Enable h = issuing_possible mode 31 control_port false
+order_possible mode (Open port) h = issuing_possible mode 31 control_port false
+order_possible mode Scan h = issuing_possible mode 31 control_port false
 order_possible mode (Clear port) h =
     rw (below_is port 0 h) (emptying_possible mode port (order_command mode (Clear port)) (below_is port 0 h) (issuing_possible mode 31 control_port false))
+order_possible mode (Detect port) h = issuing_possible mode 31 control_port false
 order_possible mode Watch h = refl
-order_possible mode other h = issuing_possible mode 31 control_port false
 
 pub act_possible : (mode : Mode) (a : Act) → IsAct a → list_all is_effect (effects_of mode a) ≡ true
 unfolding effects_of

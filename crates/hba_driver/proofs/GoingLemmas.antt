@@ -143,8 +143,9 @@ took_calm old new frame report h stops of is = elim (cases_Bool (ignores (port_o
 gave_calm : (o : Outgoing) (old : Port) (memory : Memory) (frame : Option Stamped) (new : Port) → Gives o old memory frame new → fails_by_bus o ≡ false → IsCalm old → IsCalm new
 gave_calm Nothing old memory frame new gives none is = calm_same old new gives.1 is
 gave_calm (Unreadable dev) old memory frame new gives none is = absurd (true≢false none)
+gave_calm (Data dev offset len command) old memory (Some f) new gives none is = calm_as old new (ap (λ (e : Errors). e.port) gives.errors) (ap (λ (r : Registers). r.interrupts) gives.registers) is
+gave_calm (Order dev slot command) old memory (Some f) new gives none is = calm_as old new (ap (λ (e : Errors). e.port) gives.errors) (ap (λ (r : Registers). r.interrupts) gives.registers) is
 gave_calm other old memory None new gives none is = absurd gives
-gave_calm rest old memory (Some f) new gives none is = calm_as old new (ap (λ (e : Errors). e.port) gives.errors) (ap (λ (r : Registers). r.interrupts) gives.registers) is
 
 -- ---- the effects of a tick
 
@@ -203,6 +204,8 @@ never_stops h s is = ap (λ (v : Sight). v.stopped) (sight_is h s) ∙ never_sto
 -- an act that leaves the port does not have to start it again
 acted_restarted : (a : Option Act) (file : TaskFile) (d : Driver) → ((b : Act) → a ≡ Some b → leaves_port b) → (acted a file d).plan.restarted ≡ d.plan.restarted
 unfolding plan_after
+acted_restarted None file d leaves = refl
+acted_restarted (Some (act.Opens k)) file d leaves = refl
 acted_restarted (Some act.Stops) file d leaves = absurd (leaves act.Stops refl)
 acted_restarted (Some (act.Restarts k)) file d leaves = absurd (leaves (act.Restarts k) refl)
 acted_restarted (Some (act.Clears dev)) file d leaves = either (λ (p : Plan). p.restarted ≡ d.plan.restarted) (nat_lt dev 15) (recovering dev file d.plan) (from_reset d.plan) refl refl
@@ -211,7 +214,8 @@ acted_restarted (Some (act.Orders order)) file d leaves = by_order order
     by_order : (o : own_order.Order) → (ordered o d.plan).restarted ≡ d.plan.restarted
     by_order (Clear port) = refl
     by_order o = refl
-acted_restarted other file d leaves = refl
+acted_restarted (Some (act.Steps dev stage)) file d leaves = refl
+acted_restarted (Some (act.Issues slot dev queued)) file d leaves = refl
 
 module _ (h : Host) (s : IsSoundHost h) (calm : IsCalm h.port) (up : h.driver.plan.restarted ≡ 2) where
   seen_up : (seen (sight_in h) h.driver).plan.restarted ≡ 2
@@ -264,13 +268,15 @@ poll_up d = by_slot (lowest_ended d.entries)
 
 up_turn : (old : Host) (t : HostTurn) (new : Host) → Does old t new → IsGoing old → new.driver.plan.restarted ≡ 2
 unfolding after_tick
+up_turn old (Took frame report) new h g = ap (λ (d : Driver). d.plan.restarted) h.driver ∙ g.up
+up_turn old (Pushed frame) new h g = ap (λ (d : Driver). d.plan.restarted) h.driver ∙ g.up
 up_turn old (Ticked a) new h g =
     ap (λ (d : Driver). d.plan.restarted) h.driver
     ∙ acted_restarted (due (sight_in old) old.driver) (file_shown new.port) (seen (sight_in old) old.driver) (leaves old g.way.sound g.calm g.up)
     ∙ seen_up old g.way.sound g.calm g.up
 up_turn old (Submitted dev request ticket) new h g = ap (λ (d : Driver). d.plan.restarted) h.taken.driver ∙ g.up
 up_turn old (Polled c) new h g = ap (λ (d : Driver). d.plan.restarted) h.driver ∙ poll_up old.driver ∙ g.up
-up_turn old other new h g = ap (λ (d : Driver). d.plan.restarted) h.driver ∙ g.up
+up_turn old (Put at bytes) new h g = ap (λ (d : Driver). d.plan.restarted) h.driver ∙ g.up
 
 pub going_turn : (old : Host) (t : HostTurn) (new : Host) → Does old t new → IsGoing old → IsOfControlIn t → IsGoing new
 going_turn old t new h g of =

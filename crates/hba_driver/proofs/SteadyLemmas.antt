@@ -150,6 +150,11 @@ module _ (n : ℕ) (signs : Type 0) (v : Sight) (plan : Plan) (h : IsSteadyPlan 
 
   answers_order : (order : Order) → plan.order ≡ order → plan.asked ≡ true → PlanKeeps n signs plan (with_next order (noted v order plan))
   unfolding noted next_order
+  answers_order ResetOn is out = beside _ refl refl (λ on. absurd (false≢true on))
+  answers_order ResetOff is out = beside _ refl refl (λ on. absurd (false≢true on))
+  answers_order AwaitSignature is out = beside _ refl refl (λ on. absurd (false≢true on))
+  answers_order CountPorts is out = beside _ refl refl (λ on. absurd (false≢true on))
+  answers_order SetMask is out = beside _ refl refl (λ on. absurd (false≢true on))
   answers_order Enable is out = beside _ refl refl (λ on. absurd (never_open n plan.ports 0 on))
   answers_order (Open port) is out = beside _ refl refl (λ on. absurd (never_open n plan.ports (port + 1) on))
   answers_order Scan is out = beside _ refl refl (λ on. absurd (never n v.answer 0 on))
@@ -158,7 +163,7 @@ module _ (n : ℕ) (signs : Type 0) (v : Sight) (plan : Plan) (h : IsSteadyPlan 
     | inl same ↦ detected_here port is same
     | inr other ↦ keeps_beside n signs plan _ h (set_other plan.devices port n (detected v.answer (device_at plan port)) (λ e. other (sym e))) (λ x here to. here) (λ on. absurd (never n plan.found (port + 1) on))
   ]
-  answers_order rest is out = beside _ refl refl (λ on. absurd (false≢true on))
+  answers_order Watch is out = beside _ refl refl (λ on. absurd (false≢true on))
 
   answers_if : (a out : Bool) → plan.asked ≡ a → PlanKeeps n signs plan (if a && not out then with_next plan.order (noted v plan.order plan) else plan)
   answers_if true false on = answers_order plan.order refl on

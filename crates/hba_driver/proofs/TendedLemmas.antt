@@ -165,6 +165,11 @@ met_never n v other on = on
 module _ (n : ℕ) (v : Sight) (plan : Plan) (h : IsUnsought n plan) where
   answers_order : (order : Order) → plan.order ≡ order → plan.asked ≡ true → Leaves n plan (with_next order (noted v order plan))
   unfolding noted next_order
+  answers_order ResetOn is out = leaves_path n plan _ refl refl (λ on. false≢true on)
+  answers_order ResetOff is out = leaves_path n plan _ refl refl (λ on. false≢true on)
+  answers_order AwaitSignature is out = leaves_path n plan _ refl refl (λ on. false≢true on)
+  answers_order CountPorts is out = leaves_path n plan _ refl refl (λ on. false≢true on)
+  answers_order SetMask is out = leaves_path n plan _ refl refl (λ on. false≢true on)
   answers_order Enable is out = leaves_path n plan _ refl refl (λ on. never_open n plan.ports 0 on)
   answers_order (Open port) is out = leaves_path n plan _ refl refl (λ on. never_open n plan.ports (port + 1) on)
   answers_order Scan is out = leaves_path n plan _ refl refl (λ on. never n v.answer 0 on)
@@ -177,7 +182,7 @@ module _ (n : ℕ) (v : Sight) (plan : Plan) (h : IsUnsought n plan) where
 
       other : n ≢ port
       other same = h (subst (λ (o : Order). detects n plan.asked o ≡ true) (sym is) (equal_is port n (sym same)))
-  answers_order rest is out = leaves_path n plan _ refl refl (λ on. false≢true on)
+  answers_order Watch is out = leaves_path n plan _ refl refl (λ on. false≢true on)
 
   answers_if : (a out : Bool) → plan.asked ≡ a → Leaves n plan (if a && not out then with_next plan.order (noted v plan.order plan) else plan)
   answers_if true false on = answers_order plan.order refl on
