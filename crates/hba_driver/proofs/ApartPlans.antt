@@ -24,7 +24,7 @@ use Rattle.hba_driver.specs.Paths.{next_stage, stage_fields}
 use Rattle.hba_driver.specs.Tended.{IsUnworked}
 use Rattle.hba_driver.specs.Slot30.{Asks, Cleared, Clears, Faulty, IsCleared, IsPlan30, LogSent, Off, On, ReadsLog, Resets, Sets, Stage30, is_faulty, path_of}
 use Rattle.hba_driver.specs.Turns.{advanced, allowed, answered, control_seen, detected, device_due, device_or_request, device_seen, early_due, found_of, is_back, is_due, is_in_reset, is_out, is_there, issue_of, may_issue, met, met_order, met_path, met_stage, noted, order_allowed, order_due, path_answered, path_due, path_met, request_due, stage_due, stage_for, step_of, turn_of, with_next}
-use Rattle.hba_driver.proofs.DueLemmas.{allowed_keeps}
+use Rattle.hba_driver.proofs.DueLemmas.{early_by, late_by, order_allowed_by, turn_by}
 use Rattle.hba_driver.proofs.SteadyLemmas.{none_path, path_to_dev, same_path, set_other}
 use Rattle.hba_driver.proofs.StopLemmas.{either}
 
@@ -234,18 +234,12 @@ seen_plan n other v c well shows h = plan_of n other c (device_seen v c) h (out_
 
 -- ---- the turn
 
-turn_if : (n : ℕ) (stage : Stage30) (b : Bool) (t u : Turn) → IsPlan30 n stage t.plan → IsPlan30 n stage u.plan → IsPlan30 n stage (if b then t else u).plan
-turn_if n stage true t u h k = h
-turn_if n stage false t u h k = k
-
 pub turn_plan : (n : ℕ) (stage : Stage30) (v : Sight) (p : Plan) (entries : List (Option Entry)) → is_faulty stage ≡ false → Shows n stage v → IsFound n v p → IsPlan30 n stage p → IsPlan30 n stage (turn_of v p entries).plan
-unfolding turn_of
 turn_plan n stage v p entries well shows found h =
     let r = recovers n stage p well h in
     let l : Leaves n p (control_seen v p) = control_leaves n v p r.0 r.1 found in
     let c : IsPlan30 n stage (control_seen v p) = plan_of n stage p (control_seen v p) h (l.device, l.path) in
-    turn_if n stage (is_some (early_due v p)) _ _ h
-    (turn_if n stage (is_some (order_allowed v (control_seen v p) entries)) _ _ c (seen_plan n stage v (control_seen v p) well shows c))
+    turn_by (λ t. IsPlan30 n stage t.plan) v p entries h c (seen_plan n stage v (control_seen v p) well shows c)
 
 -- ---- what a stage issues has fields
 
@@ -253,75 +247,7 @@ abbrev pub HasFields : Option Act → Type 0
 HasFields (Some (act.Steps dev stage)) = is_some (stage_fields dev stage) ≡ true
 HasFields a = Unit {0}
 
-fields_or : (a b : Option Act) → HasFields a → HasFields b → HasFields (option_or a b)
-fields_or None b h k = k
-fields_or (Some a) b h k = h
-
-fields_clears : (o : Option ℕ) → HasFields (option_map act.Clears o)
-fields_clears None = tt
-fields_clears (Some dev) = tt
-
-fields_early : (v : Sight) (p : Plan) → HasFields (early_due v p)
-unfolding early_due
-fields_early v p =
-    fields_or _ _ (either HasFields (nat_lt p.opened 7) _ _ tt tt)
-    (fields_or _ _ (either HasFields (nat_lt p.restarted 2) _ _ tt tt) (either HasFields v.stopped _ _ tt (fields_clears v.faulty)))
-
-fields_step : (dev : ℕ) (stage : Stage) → HasFields (step_of dev stage)
-fields_step dev stage = by_fields (stage_fields dev stage) refl
-  where
-    by_fields : (o : Option H2dFields) → stage_fields dev stage ≡ o → HasFields (option_map (λ (f : H2dFields). act.Steps dev stage) o)
-    by_fields None is = tt
-    by_fields (Some f) is = ap is_some is
-
-fields_stage : (dev : ℕ) (o : Option Stage) → HasFields (match_some o None (step_of dev))
-fields_stage dev None = tt
-fields_stage dev (Some stage) = fields_step dev stage
-
-fields_lowest : (v : Sight) (p : Plan) (o : Option ℕ) → HasFields (match_some o None (stage_due v p))
-fields_lowest v p None = tt
-fields_lowest v p (Some dev) = fields_stage dev (stage_for v p dev)
-
-fields_path : (v : Sight) (p : Plan) (o : Option Path) → HasFields (match_some o (match_some (lowest_below (is_due v p) 15) None (stage_due v p)) path_due)
-fields_path v p None = fields_lowest v p (lowest_below (is_due v p) 15)
-fields_path v p (Some path) = either HasFields path.asked None (step_of path.dev path.stage) tt (fields_step path.dev path.stage)
-
-fields_device : (v : Sight) (p : Plan) → HasFields (device_due v p)
-unfolding device_due
-fields_device v p = fields_path v p p.path
-
-fields_entry : (slot : ℕ) (o : Option Entry) → HasFields (issue_of slot o)
-fields_entry slot None = tt
-fields_entry slot (Some e) = tt
-
-fields_request : (p : Plan) (entries : List (Option Entry)) → HasFields (request_due p entries)
-unfolding request_due
-fields_request p entries = by_slot (lowest_below (λ slot. may_issue p (entry_at entries slot)) 30)
-  where
-    by_slot : (o : Option ℕ) → HasFields (match_some o None (λ slot. issue_of slot (entry_at entries slot)))
-    by_slot None = tt
-    by_slot (Some slot) = fields_entry slot (entry_at entries slot)
-
-fields_order : (p : Plan) → HasFields (order_due p)
-fields_order p = either HasFields p.asked None _ tt (by_fields (Rattle.hba_driver.specs.Orders.order_fields p.order))
-  where
-    by_fields : (o : Option H2dFields) → HasFields (option_map (λ (f : H2dFields). act.Orders p.order) o)
-    by_fields None = tt
-    by_fields (Some f) = tt
-
-fields_allowed : (v : Sight) (p : Plan) (entries : List (Option Entry)) (a : Option Act) → HasFields a → HasFields (allowed p.mode v p entries a)
-fields_allowed v p entries a h = allowed_keeps HasFields tt p.mode v p entries a h
-
-fields_devices : (v : Sight) (p : Plan) (entries : List (Option Entry)) → HasFields (device_or_request v p entries)
-fields_devices v p entries = fields_or _ _ (fields_allowed v p entries (device_due v p) (fields_device v p)) (fields_allowed v p entries (request_due p entries) (fields_request p entries))
-
-fields_if : (b : Bool) (t u : Turn) → HasFields t.act → HasFields u.act → HasFields (if b then t else u).act
-fields_if true t u h k = h
-fields_if false t u h k = k
-
 pub fields_turn : (v : Sight) (p : Plan) (entries : List (Option Entry)) → HasFields (turn_of v p entries).act
-unfolding turn_of
 fields_turn v p entries =
-    fields_if (is_some (early_due v p)) _ _ (fields_early v p)
-    (fields_if (is_some (order_allowed v (control_seen v p) entries)) _ _ (fields_allowed v (control_seen v p) entries (order_due (control_seen v p)) (fields_order (control_seen v p)))
-    (fields_devices v (device_seen v (control_seen v p)) entries))
+    turn_by (λ t. HasFields t.act) v p entries (early_by HasFields tt v p (λ h. tt) (λ h. tt) (λ h. tt) (λ dev h. tt))
+    (order_allowed_by HasFields tt v (control_seen v p) entries (λ un fields. tt)) (late_by HasFields tt v (device_seen v (control_seen v p)) entries (λ dev stage way fields. fields) (λ slot e h. tt))

@@ -27,7 +27,7 @@ use Rattle.hba_driver.specs.Paths.{first_stage, next_stage, stage_fields}
 use Rattle.hba_driver.specs.Steady.{IsAskedOf, IsCalmAct, IsFine, IsSteadyPlan, detects}
 use Rattle.hba_driver.specs.Ticks.{from_reset, ordered, plan_after, recovering, unless}
 use Rattle.hba_driver.specs.Turns.{advanced, allowed, answered, control_news, control_seen, control_turn, detected, device_due, device_or_request, device_seen, early_due, fault_due, found_of, is_back, is_due, is_there, issue_of, may_issue, met, met_order, met_path, noted, opening_due, order_allowed, order_due, path_answered, path_due, path_met, path_to, request_due, restart_due, signed_order, stage_due, stage_for, step_of, turn_of, with_next}
-use Rattle.hba_driver.proofs.DueLemmas.{allowed_keeps}
+use Rattle.hba_driver.proofs.DueLemmas.{early_by, late_by, order_allowed_by, turn_by}
 
 -- ---- what goes on
 
@@ -311,20 +311,10 @@ device_keeps n signs v plan h =
 
 -- ---- the turn
 
-turn_if : (n : ℕ) (signs : Type 0) (b : Bool) (p : Plan) (t u : Turn) → PlanKeeps n signs p t.plan → PlanKeeps n signs p u.plan → PlanKeeps n signs p (if b then t else u).plan
-turn_if n signs true p t u h k = h
-turn_if n signs false p t u h k = k
-
-control_turn_keeps : (n : ℕ) (signs : Type 0) (v : Sight) (news : Bool) (plan : Plan) (entries : List (Option Entry)) → IsSteadyPlan n plan → PlanKeeps n signs plan (control_turn v news plan entries).plan
-control_turn_keeps n signs v news plan entries h =
-    turn_if n signs (is_some (order_allowed v plan entries)) plan _ _ (keeps_none n signs plan h) (device_keeps n signs v plan h)
-
 pub turn_keeps : (n : ℕ) (signs : Type 0) (v : Sight) (plan : Plan) (entries : List (Option Entry)) → IsSteadyPlan n plan → PlanKeeps n signs plan (turn_of v plan entries).plan
-unfolding turn_of
 turn_keeps n signs v plan entries h =
     let first = control_keeps n signs v plan h in
-    turn_if n signs (is_some (early_due v plan)) plan _ _ (keeps_none n signs plan h)
-    (keeps_then n signs plan (control_seen v plan) _ first (control_turn_keeps n signs v (control_news v plan) (control_seen v plan) entries first.steady))
+    turn_by (λ t. PlanKeeps n signs plan t.plan) v plan entries (keeps_none n signs plan h) first (keeps_then n signs plan (control_seen v plan) _ first (device_keeps n signs v (control_seen v plan) first.steady))
 
 -- ---- what is due
 
@@ -335,91 +325,13 @@ DueOf v plan (Some (act.Orders order)) = order ≡ plan.order
 DueOf v plan (Some (act.Steps dev stage)) = (plan.path ≡ Some (record { dev = dev; stage = stage; asked = false })) ⊎ (stage_for v plan dev ≡ Some stage)
 DueOf v plan (Some a) = Unit {0}
 
-of_if : (v : Sight) (b : Bool) (t u : Turn) → DueOf v t.plan t.act → DueOf v u.plan u.act → DueOf v (if b then t else u).plan (if b then t else u).act
-of_if v true t u h k = h
-of_if v false t u h k = k
-
-of_or : (v : Sight) (plan : Plan) (a b : Option Act) → DueOf v plan a → DueOf v plan b → DueOf v plan (option_or a b)
-of_or v plan None b h k = k
-of_or v plan (Some a) b h k = h
-
-of_open : (v : Sight) (plan : Plan) (b : Bool) → DueOf v plan (if b then Some (act.Opens plan.opened) else None)
-of_open v plan true = tt
-of_open v plan false = tt
-
-of_restart : (v : Sight) (plan : Plan) (b : Bool) → DueOf v plan (if b then Some (act.Restarts plan.restarted) else None)
-of_restart v plan true = tt
-of_restart v plan false = tt
-
-of_clears : (v : Sight) (plan : Plan) (o : Option ℕ) → DueOf v plan (option_map act.Clears o)
-of_clears v plan None = tt
-of_clears v plan (Some dev) = tt
-
-of_fault : (v : Sight) (plan : Plan) (b : Bool) → DueOf v plan (if b then Some act.Stops else option_map act.Clears v.faulty)
-of_fault v plan true = tt
-of_fault v plan false = of_clears v plan v.faulty
-
-of_early : (v : Sight) (plan : Plan) → DueOf v plan (early_due v plan)
-unfolding early_due
-of_early v plan = of_or v plan _ _ (of_open v plan (nat_lt plan.opened 7)) (of_or v plan _ _ (of_restart v plan (nat_lt plan.restarted 2)) (of_fault v plan v.stopped))
-
-of_map_order : (v : Sight) (plan : Plan) (fields : Option H2dFields) → DueOf v plan (option_map (λ f. act.Orders plan.order) fields)
-of_map_order v plan None = tt
-of_map_order v plan (Some f) = refl
-
-of_order : (v : Sight) (plan : Plan) (b : Bool) → DueOf v plan (if b then None else option_map (λ f. act.Orders plan.order) (order_fields plan.order))
-of_order v plan true = tt
-of_order v plan false = of_map_order v plan (order_fields plan.order)
-
-of_step : (v : Sight) (plan : Plan) (dev : ℕ) (stage : Stage) (fields : Option H2dFields) → (plan.path ≡ Some (record { dev = dev; stage = stage; asked = false })) ⊎ (stage_for v plan dev ≡ Some stage)
-    → DueOf v plan (option_map (λ f. act.Steps dev stage) fields)
-of_step v plan dev stage None h = tt
-of_step v plan dev stage (Some f) h = h
-
-of_stage : (v : Sight) (plan : Plan) (dev : ℕ) (o : Option Stage) → stage_for v plan dev ≡ o → DueOf v plan (match_some o None (step_of dev))
-of_stage v plan dev None h = tt
-of_stage v plan dev (Some stage) h = of_step v plan dev stage (stage_fields dev stage) (inr h)
-
-of_lowest : (v : Sight) (plan : Plan) (o : Option ℕ) → DueOf v plan (match_some o None (stage_due v plan))
-of_lowest v plan None = tt
-of_lowest v plan (Some dev) = of_stage v plan dev (stage_for v plan dev) refl
-
-free_path : (path : Path) → path.asked ≡ false → Some path ≡ Some (record path { asked = false })
-free_path path h = ap (λ (b : Bool). Some (record path { asked = b })) h
-
-of_path : (v : Sight) (plan : Plan) (path : Path) (b : Bool) → plan.path ≡ Some path → path.asked ≡ b → DueOf v plan (if b then None else step_of path.dev path.stage)
-of_path v plan path true here a = tt
-of_path v plan path false here a = of_step v plan path.dev path.stage (stage_fields path.dev path.stage) (inl (here ∙ free_path path a))
-
-of_slot : (v : Sight) (plan : Plan) (o : Option Path) → plan.path ≡ o → DueOf v plan (match_some o (match_some (lowest_below (is_due v plan) 15) None (stage_due v plan)) path_due)
-of_slot v plan None h = of_lowest v plan (lowest_below (is_due v plan) 15)
-of_slot v plan (Some path) h = of_path v plan path path.asked h refl
-
-of_entry : (v : Sight) (plan : Plan) (slot : ℕ) (x : Option Entry) → DueOf v plan (issue_of slot x)
-of_entry v plan slot None = tt
-of_entry v plan slot (Some e) = tt
-
-of_slots : (v : Sight) (plan : Plan) (entries : List (Option Entry)) (o : Option ℕ) → DueOf v plan (match_some o None (λ slot. issue_of slot (entry_at entries slot)))
-of_slots v plan entries None = tt
-of_slots v plan entries (Some slot) = of_entry v plan slot (entry_at entries slot)
-
-of_request : (v : Sight) (plan : Plan) (entries : List (Option Entry)) → DueOf v plan (request_due plan entries)
-unfolding request_due
-of_request v plan entries = of_slots v plan entries (lowest_below (λ slot. may_issue plan (entry_at entries slot)) 30)
-
-of_allowed : (v : Sight) (plan : Plan) (entries : List (Option Entry)) (a : Option Act) → DueOf v plan a → DueOf v plan (allowed plan.mode v plan entries a)
-of_allowed v plan entries a h = allowed_keeps (DueOf v plan) tt plan.mode v plan entries a h
-
 pub of_device : (v : Sight) (plan : Plan) (entries : List (Option Entry)) → DueOf v plan (device_or_request v plan entries)
-unfolding device_due
-of_device v plan entries = of_or v plan _ _ (of_allowed v plan entries (device_due v plan) (of_slot v plan plan.path refl)) (of_allowed v plan entries (request_due plan entries) (of_request v plan entries))
-
-of_control : (v : Sight) (news : Bool) (plan : Plan) (entries : List (Option Entry)) → DueOf v (control_turn v news plan entries).plan (control_turn v news plan entries).act
-of_control v news plan entries = of_if v (is_some (order_allowed v plan entries)) _ _ (of_allowed v plan entries (order_due plan) (of_order v plan plan.asked)) (of_device v (device_seen v plan) entries)
+of_device v plan entries = late_by (DueOf v plan) tt v plan entries (λ dev stage way fields. elim way [ inl free ↦ inr free.1.1 | inr on ↦ inl on ]) (λ slot e h. tt)
 
 pub of_turn : (v : Sight) (plan : Plan) (entries : List (Option Entry)) → DueOf v (turn_of v plan entries).plan (turn_of v plan entries).act
-unfolding turn_of
-of_turn v plan entries = of_if v (is_some (early_due v plan)) _ _ (of_early v plan) (of_control v (control_news v plan) (control_seen v plan) entries)
+of_turn v plan entries =
+    turn_by (λ t. DueOf v t.plan t.act) v plan entries (early_by (DueOf v plan) tt v plan (λ h. tt) (λ h. tt) (λ h. tt) (λ dev h. tt))
+    (order_allowed_by (DueOf v (control_seen v plan)) tt v (control_seen v plan) entries (λ un fields. refl)) (of_device v (device_seen v (control_seen v plan)) entries)
 
 -- ---- what an act leaves
 

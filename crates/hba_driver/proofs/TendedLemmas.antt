@@ -31,7 +31,7 @@ use Rattle.hba_driver.specs.Steady.{IsAskedOf, IsCalmAct, IsFine, IsSteadyPlan, 
 use Rattle.hba_driver.specs.Tended.{Awaits, Fine, Identifies, IsAskedOn, IsAsking, IsAtStage, IsBegun, IsReleasing, IsStepless, IsTendedBy, IsTendedPlan, IsUnworked, Logs, Releases, Spoilt, WorksOn}
 use Rattle.hba_driver.specs.Ticks.{from_reset, ordered, plan_after, recovering, unless}
 use Rattle.hba_driver.specs.Turns.{advanced, allowed, answered, control_news, control_seen, control_turn, detected, device_due, device_or_request, device_seen, device_turn, early_due, found_of, is_back, is_due, is_in_reset, is_out, issue_of, may_issue, met, met_order, met_path, met_stage, noted, order_allowed, order_due, path_answered, path_due, path_met, path_to, plain_turn, request_due, signed_order, stage_due, stage_for, turn_of, with_next}
-use Rattle.hba_driver.proofs.DueLemmas.{allowed_keeps, goes_control, goes_device}
+use Rattle.hba_driver.proofs.DueLemmas.{allowed_by, early_by, goes_control, goes_device, order_allowed_by, request_by, turn_by}
 use Rattle.hba_driver.proofs.SteadyLemmas.{DueOf, PlanKeeps, act_keeps, keeps_then, never, never_open, of_device, of_turn, set_same, turn_keeps, unless_here}
 
 -- ---- paths
@@ -213,53 +213,6 @@ abbrev Plainly : Plan → Option Act → Type 0
 Plainly plan (Some (act.Steps dev stage)) = ⊥
 Plainly plan (Some (act.Orders order)) = order ≡ plan.order
 Plainly plan a = Unit {0}
-
-plainly_or : (plan : Plan) (a b : Option Act) → Plainly plan a → Plainly plan b → Plainly plan (option_or a b)
-plainly_or plan None b h k = k
-plainly_or plan (Some a) b h k = h
-
-plainly_open : (plan : Plan) (b : Bool) → Plainly plan (if b then Some (act.Opens plan.opened) else None)
-plainly_open plan true = tt
-plainly_open plan false = tt
-
-plainly_restart : (plan : Plan) (b : Bool) → Plainly plan (if b then Some (act.Restarts plan.restarted) else None)
-plainly_restart plan true = tt
-plainly_restart plan false = tt
-
-plainly_clears : (plan : Plan) (o : Option ℕ) → Plainly plan (option_map act.Clears o)
-plainly_clears plan None = tt
-plainly_clears plan (Some dev) = tt
-
-plainly_fault : (v : Sight) (plan : Plan) (b : Bool) → Plainly plan (if b then Some act.Stops else option_map act.Clears v.faulty)
-plainly_fault v plan true = tt
-plainly_fault v plan false = plainly_clears plan v.faulty
-
-plainly_early : (v : Sight) (plan : Plan) → Plainly plan (early_due v plan)
-unfolding early_due
-plainly_early v plan = plainly_or plan _ _ (plainly_open plan (nat_lt plan.opened 7)) (plainly_or plan _ _ (plainly_restart plan (nat_lt plan.restarted 2)) (plainly_fault v plan v.stopped))
-
-plainly_map : (plan : Plan) (fields : Option H2dFields) → Plainly plan (option_map (λ f. act.Orders plan.order) fields)
-plainly_map plan None = tt
-plainly_map plan (Some f) = refl
-
-plainly_order : (plan : Plan) (b : Bool) → Plainly plan (if b then None else option_map (λ f. act.Orders plan.order) (order_fields plan.order))
-plainly_order plan true = tt
-plainly_order plan false = plainly_map plan (order_fields plan.order)
-
-plainly_entry : (plan : Plan) (slot : ℕ) (x : Option Entry) → Plainly plan (issue_of slot x)
-plainly_entry plan slot None = tt
-plainly_entry plan slot (Some e) = tt
-
-plainly_slots : (plan : Plan) (entries : List (Option Entry)) (o : Option ℕ) → Plainly plan (match_some o None (λ slot. issue_of slot (entry_at entries slot)))
-plainly_slots plan entries None = tt
-plainly_slots plan entries (Some slot) = plainly_entry plan slot (entry_at entries slot)
-
-plainly_request : (plan : Plan) (entries : List (Option Entry)) → Plainly plan (request_due plan entries)
-unfolding request_due
-plainly_request plan entries = plainly_slots plan entries (lowest_below (λ slot. may_issue plan (entry_at entries slot)) 30)
-
-plainly_allowed : (v : Sight) (plan : Plan) (entries : List (Option Entry)) (a : Option Act) → Plainly plan a → Plainly plan (allowed plan.mode v plan entries a)
-plainly_allowed v plan entries a h = allowed_keeps (Plainly plan) tt plan.mode v plan entries a h
 
 plainly_stepless : (plan : Plan) (a : Option Act) → Plainly plan a → IsStepless a
 plainly_stepless plan (Some (act.Steps dev stage)) h = h
@@ -553,10 +506,6 @@ reset_stage device signed stage is due =
 abbrev pub TurnTends : ℕ → Type 0 → Sight → TaskFile → Plan → Turn → Type 0
 TurnTends n signs v file p t = IsCalmAct n t.act → PlanTends n signs v t.act p (match_some t.act t.plan (λ x. plan_after x file t.plan))
 
-tends_if : (n : ℕ) (signs : Type 0) (v : Sight) (file : TaskFile) (p : Plan) (b : Bool) (t u : Turn) → TurnTends n signs v file p t → TurnTends n signs v file p u → TurnTends n signs v file p (if b then t else u)
-tends_if n signs v file p true t u h k = h
-tends_if n signs v file p false t u h k = k
-
 -- another name of what is due
 renamed : (n : ℕ) (signs : Type 0) (v : Sight) (file : TaskFile) (p q : Plan) (a b : Option Act) → a ≡ b → (IsCalmAct n b → PlanTends n signs v b p (match_some b q (λ x. plan_after x file q)))
     → IsCalmAct n a → PlanTends n signs v a p (match_some a q (λ x. plan_after x file q))
@@ -574,16 +523,13 @@ module _ (n : ℕ) (signs : Type 0) (v : Sight) (file : TaskFile) (p : Plan) (en
   plain_tends keep r a news leaves due calm =
       keep (match_some a r (λ x. plan_after x file r)) a (leaves_then n p r (match_some a r (λ x. plan_after x file r)) leaves (act_leaves n file r leaves.unsought a calm due)) (plainly_stepless r a due)
 
-  control_tends : Keeps → Looks → (r : Plan) (news : Bool) → r.mode ≡ Switching → Leaves n p r → TurnTends n signs v file p (control_turn v news r entries)
-  control_tends keep looks r news switching leaves =
-      tends_if n signs v file p (is_some (order_allowed v r entries)) (plain_turn r (order_allowed v r entries) news) _
-      (plain_tends keep r (order_allowed v r entries) news leaves (plainly_allowed v r entries (order_due r) (plainly_order r r.asked))) (looks r news switching leaves)
-
   whole_tends : p.mode ≡ Switching → IsUnsought n p → Keeps → Looks → TurnTends n signs v file p (turn_of v p entries)
-  unfolding turn_of
   whole_tends switching unsought keep looks =
-      tends_if n signs v file p (is_some (early_due v p)) (plain_turn p (early_due v p) false) _ (plain_tends keep p (early_due v p) false (leaves_same n p unsought) (plainly_early v p))
-      (control_tends keep looks (control_seen v p) (control_news v p) ((goes_control v p).mode ∙ switching) (control_leaves n v p unsought))
+      let control = control_leaves n v p unsought in
+      turn_by (TurnTends n signs v file p) v p entries
+      (plain_tends keep p (early_due v p) false (leaves_same n p unsought) (early_by (Plainly p) tt v p (λ h. tt) (λ h. tt) (λ h. tt) (λ dev h. tt)))
+      (plain_tends keep (control_seen v p) _ (control_news v p) control (order_allowed_by (Plainly (control_seen v p)) tt v (control_seen v p) entries (λ un fields. refl)))
+      (looks (control_seen v p) (control_news v p) ((goes_control v p).mode ∙ switching) control)
 
   -- the request that is due, if it may go
   abbrev request_of : Plan → Option Act
@@ -598,7 +544,7 @@ module _ (n : ℕ) (signs : Type 0) (v : Sight) (file : TaskFile) (p : Plan) (en
       → ((r : Plan) (a : Option Act) → Leaves n q r → IsStepless a → PlanTends n signs v a p r) → IsCalmAct n (device_or_request v q entries)
       → PlanTends n signs v (device_or_request v q entries) p (match_some (device_or_request v q entries) q (λ x. plan_after x file q))
   holding q unsought none f =
-      let plainly : Plainly q (request_of q) = plainly_allowed v q entries (request_due q entries) (plainly_request q entries) in
+      let plainly : Plainly q (request_of q) = allowed_by (Plainly q) tt q.mode v q entries (request_due q entries) (request_by (Plainly q) tt q entries (λ slot e h. tt)) in
       renamed n signs v file p q (device_or_request v q entries) (request_of q)
       (ap (λ (o : Option Act). option_or (allowed q.mode v q entries o) (request_of q)) none ∙ ap (λ (o : Option Act). option_or o (request_of q)) (none_allowed q.mode q))
       (λ calm. f (match_some (request_of q) q (λ x. plan_after x file q)) (request_of q) (act_leaves n file q unsought (request_of q) calm plainly) (plainly_stepless q (request_of q) plainly))
