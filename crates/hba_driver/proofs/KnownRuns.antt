@@ -40,7 +40,7 @@ use Rattle.hba_driver.proofs.ActLemmas.{here_act}
 use Rattle.hba_driver.proofs.AwaitLemmas.{IsAwaited, awaited_pushed, awaited_took, here_effects}
 use Rattle.hba_driver.proofs.DoneLemmas as done
 use Rattle.hba_driver.proofs.DrivenLemmas.{not_below}
-use Rattle.hba_driver.proofs.DueLemmas.{Due, Runs, goes_turn, runs_turn}
+use Rattle.hba_driver.proofs.DueLemmas.{Due, Runs, goes_turn, runs_turn, turn_by}
 use Rattle.hba_driver.proofs.EndingLemmas.{MayClear, MayEnd, may_end}
 use Rattle.hba_driver.proofs.FreshLemmas.{fresh_identify}
 use Rattle.hba_driver.proofs.KnownLemmas.{IsUnknown, NoneIssued, comes_back, is_logging, is_named, is_reading, is_trusted, path_control, unknown_tick}
@@ -95,16 +95,9 @@ path_back v (Some path) plan p here asked e = by_back (is_back v path) e
 path_seen : (v : Sight) (plan : Plan) (p : Path) → p.asked ≡ true → (device_seen v plan).path ≡ Some p → plan.path ≡ Some p
 path_seen v plan p asked e = path_back v plan.path plan p refl asked e
 
-turn_if : (b : Bool) (t u : Turn) (P : Option Path → Type 0) → (P t.plan.path) → (P u.plan.path) → P (if b then t else u).plan.path
-turn_if true t u P h k = h
-turn_if false t u P h k = k
-
 path_turn : (v : Sight) (plan : Plan) (entries : List (Option Entry)) (p : Path) → p.asked ≡ true → (turn_of v plan entries).plan.path ≡ Some p → plan.path ≡ Some p
-unfolding turn_of
 path_turn v plan entries p asked =
-    turn_if (is_some (early_due v plan)) _ _ (λ o. o ≡ Some p → plan.path ≡ Some p) (λ e. e)
-    (turn_if (is_some (order_allowed v (control_seen v plan) entries)) _ _ (λ o. o ≡ Some p → plan.path ≡ Some p) (λ e. sym (path_control v plan) ∙ e)
-    (λ e. sym (path_control v plan) ∙ path_seen v (control_seen v plan) p asked e))
+    turn_by (λ t. t.plan.path ≡ Some p → plan.path ≡ Some p) v plan entries (λ e. e) (λ e. sym (path_control v plan) ∙ e) (λ e. sym (path_control v plan) ∙ path_seen v (control_seen v plan) p asked e)
 
 -- a path that an act leaves was there before, and is not of a device that is cleared
 unless_was : (dev : ℕ) (o : Option Path) (p : Path) → unless dev o ≡ Some p → (o ≡ Some p) × (p.dev ≢ dev)

@@ -41,6 +41,7 @@ use Rattle.hba_driver.specs.Orders.{order_fields}
 use Rattle.hba_driver.specs.Paths.{next_stage, reads_page, stage_fields}
 use Rattle.hba_driver.specs.Ticks.{acted, after_tick, done_ended, due, effects_due, ordered, plan_after, seen, unless}
 use Rattle.hba_driver.specs.Turns.{advanced, answered, control_seen, device_seen, early_due, is_back, met_path, met_stage, noted, order_allowed, path_answered, path_to, turn_of}
+use Rattle.hba_driver.proofs.DueLemmas.{turn_by}
 use Rattle.hba_driver.proofs.EffectLemmas.{all_at}
 use Rattle.hba_driver.proofs.HistoryLemmas.{free_below}
 use Rattle.hba_driver.proofs.InsideLemmas.{as_long}
@@ -104,13 +105,9 @@ back_by : (o p q : Option Path) → p ≡ o → Back p q → Back o q
 back_by o p q same back x here out = sym same ∙ back x here out
 
 pub turn_back : (v : Sight) (plan : Plan) (entries : List (Option Entry)) → Back plan.path (turn_of v plan entries).plan.path
-unfolding turn_of
 turn_back v plan entries =
-    let P : Turn → Type 0 = λ (t : Turn). Back plan.path t.plan.path in
     let q : Plan = control_seen v plan in
-    let here : Back plan.path q.path = back_same plan.path q.path (control_path v plan) in
-    either P (is_some (early_due v plan)) _ _ (back_same plan.path plan.path refl)
-    (either P (is_some (order_allowed v q entries)) _ _ here (back_by plan.path q.path (device_seen v q).path (control_path v plan) (device_back v q)))
+    turn_by (λ t. Back plan.path t.plan.path) v plan entries (back_same plan.path plan.path refl) (back_same plan.path q.path (control_path v plan)) (back_by plan.path q.path (device_seen v q).path (control_path v plan) (device_back v q))
 
 unless_back : (dev : ℕ) (o : Option Path) → Back o (unless dev o)
 unless_back dev None = λ x here out. none_there x here
