@@ -301,7 +301,7 @@ goes_answered_by : (v : Sight) (o : Option Path) (plan : Plan) → plan.path ≡
 goes_answered_by v None plan here = goes_same v plan
 goes_answered_by v (Some path) plan here = goes_back v (has_bit v.issued 30) path plan here refl
 
-met_asked : (v : Sight) (path : Path) → path.asked ≡ true → met_path v path ≡ path
+pub met_asked : (v : Sight) (path : Path) → path.asked ≡ true → met_path v path ≡ path
 met_asked v path h = ap (λ (b : Bool). if b then path else record path { stage = Rattle.hba_driver.specs.Turns.met_stage v path.dev path.stage }) h
 
 met_back : (v : Sight) (o : Option Path) (x : Path) → option_map (met_path v) o ≡ Some x → x.asked ≡ true → o ≡ Some x

@@ -23,19 +23,14 @@ use Rattle.hba_driver.specs.Ticks.{after_tick, done_ended, due, from_reset, orde
 use Rattle.hba_driver.specs.Turns.{advanced, control_seen, device_seen, early_due, found_of, is_back, order_allowed, turn_of}
 use Rattle.hba_driver.proofs.PageLemmas.{poll_plan}
 use Rattle.hba_driver.proofs.DueLemmas.{turn_by}
-use Rattle.hba_driver.proofs.SteadyLemmas.{DueOf, of_turn}
+use Rattle.hba_driver.proofs.SteadyLemmas.{DueOf, detects_out, found_order, of_turn}
 use Rattle.hba_driver.proofs.SteadyTurns.{acted_plan}
-use Rattle.hba_driver.proofs.TendedLemmas.{IsUnsought, control_leaves, detects_out}
+use Rattle.hba_driver.proofs.TendedLemmas.{IsUnsought, control_leaves}
 
 -- ---- what is seen of slot 30
 
 abbrev is_sought : ℕ → Plan → Bool
 is_sought n plan = detects n plan.asked plan.order
-
-found_order : (n : ℕ) (v : Sight) (plan : Plan) (stage : Stage) (dev : ℕ) → is_sought n (found_of v stage dev plan) ≡ is_sought n plan
-unfolding found_of
-found_order n v plan Identify dev = refl
-found_order n v plan other dev = refl
 
 back_order : (n : ℕ) (v : Sight) (plan : Plan) (path : Path) (b : Bool) → is_sought n (if b then advanced v path plan else plan) ≡ is_sought n plan
 back_order n v plan path true = found_order n v plan path.stage path.dev
