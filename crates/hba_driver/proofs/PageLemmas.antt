@@ -42,7 +42,7 @@ use Rattle.hba_driver.specs.Paths.{next_stage, reads_page, stage_fields}
 use Rattle.hba_driver.specs.Ticks.{acted, after_tick, done_ended, due, effects_due, ordered, plan_after, seen, unless}
 use Rattle.hba_driver.specs.Turns.{advanced, answered, control_seen, device_seen, early_due, is_back, met_path, met_stage, noted, order_allowed, path_answered, path_to, turn_of}
 use Rattle.hba_driver.proofs.DueLemmas.{turn_by}
-use Rattle.hba_driver.proofs.EffectLemmas.{all_at}
+use Rattle.hba_driver.proofs.EffectLemmas.{issuing_pass, opens_pass, order_pass, restarts_pass}
 use Rattle.hba_driver.proofs.HistoryLemmas.{free_below}
 use Rattle.hba_driver.proofs.InsideLemmas.{as_long}
 use Rattle.hba_driver.proofs.ReadLemmas.{HasPage}
@@ -182,27 +182,13 @@ Elsewhere (Some (act.Steps dev stage)) = ⊥
 Elsewhere a = Unit {0}
 
 spares_issuing : (slot dev : ℕ) (queued : Bool) → list_all spares_page (issuing Switching slot dev queued) ≡ true
-spares_issuing slot dev true = refl
-spares_issuing slot dev false = refl
-
-spares_opens : (k : ℕ) → spares_page (opening_write Switching k) ≡ true
-unfolding opening_write
-spares_opens k = all_at spares_page (opening_writes Switching) k _ refl refl
-
-spares_restarts : (k : ℕ) → spares_page (restart_write k) ≡ true
-unfolding restart_write
-spares_restarts k = all_at spares_page restart_writes k _ refl refl
-
-spares_order : (order : Order) → list_all spares_page (order_effects Switching order) ≡ true
-unfolding order_fields order_effects
-spares_order ResetOn = refl
-spares_order other = refl
+spares_issuing slot dev queued = issuing_pass spares_page Switching slot dev queued (λ on. refl) refl refl
 
 spares_due : (a : Option Act) → Elsewhere a → list_all spares_page (effects_due Switching a) ≡ true
 unfolding effects_of
-spares_due (Some (act.Opens k)) other = rw (spares_opens k) refl
-spares_due (Some (act.Restarts k)) other = rw (spares_restarts k) refl
-spares_due (Some (act.Orders order)) other = spares_order order
+spares_due (Some (act.Opens k)) other = opens_pass spares_page Switching k refl refl
+spares_due (Some (act.Restarts k)) other = restarts_pass spares_page Switching k refl refl
+spares_due (Some (act.Orders order)) other = order_pass spares_page Switching order refl (λ port is. (refl, refl)) (λ f. refl) (spares_issuing 31 15 false)
 spares_due (Some (act.Steps dev stage)) other = absurd other
 spares_due (Some (act.Issues slot dev queued)) other = spares_issuing slot dev queued
 spares_due rest other = refl
