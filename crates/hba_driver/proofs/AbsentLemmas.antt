@@ -27,6 +27,7 @@ use Rattle.hba_driver.specs.Ticks.{after_tick, done_ended, from_reset, ordered, 
 use Rattle.hba_driver.specs.Turns.{advanced, answered, control_news, control_seen, control_turn, device_seen, early_due, found_of, is_back, is_out, met_order, noted, order_allowed, plain_turn, turn_of, with_next}
 use Rattle.hba_driver.proofs.DueLemmas.{turn_by}
 use Rattle.hba_driver.proofs.HistoryLemmas.{PollFacts, freed, poll_facts}
+use Rattle.hba_driver.proofs.SteadyLemmas.{control_beside, detect_or_other, equal_is}
 use Rattle.hba_driver.proofs.SteadyTurns.{acted_plan}
 
 -- the device was absent before, if it is now
@@ -50,26 +51,11 @@ set_other devices k n device other h = sym (get_or-set_other devices k n device 
 
 -- ---- slot 31
 
-module _ (n : ℕ) (v : Sight) (p : Plan) (sought : IsSoughtAbsent n p) where
-  noted_was : (order : Order) → p.order ≡ order → WasAbsent n p (with_next order (noted v order p))
-  unfolding noted
-  noted_was (Detect port) is h = elim (cases_eq port n) [
-    | inl same ↦ sought (subst (λ (o : Order). detects n p.asked o ≡ true) (sym is) (eq-eqb port n same))
-    | inr other ↦ set_other p.devices port n _ (λ e. other (sym e)) h
-  ]
-  noted_was ResetOn is h = h
-  noted_was other is h = h
-
-  answered_if : (b : Bool) → WasAbsent n p (if b then with_next p.order (noted v p.order p) else p)
-  answered_if true h = noted_was p.order refl h
-  answered_if false h = h
-
-  met_was : (q : Plan) (b : Bool) → device_at (if b then q else record q { order = met_order v q.order }) n ≡ Absent → device_at q n ≡ Absent
-  met_was q true h = h
-  met_was q false h = h
-
-  control_was : WasAbsent n p (control_seen v p)
-  control_was h = answered_if (p.asked && not (is_out v p)) (met_was (answered v p) (answered v p).asked h)
+control_was : (n : ℕ) (v : Sight) (p : Plan) → IsSoughtAbsent n p → WasAbsent n p (control_seen v p)
+control_was n v p sought h = elim (detect_or_other n p.order) [
+  | inl is ↦ sought (subst (λ (o : Order). detects n p.asked o ≡ true) (sym is) (equal_is n n refl))
+  | inr other ↦ sym (control_beside n v p other).device ∙ h
+]
 
 -- ---- slot 30
 

@@ -182,13 +182,13 @@ module _ (n : ℕ) (v : Sight) (plan : Plan) where
   met_if true is = beside_same n plan
   met_if false is = beside_path n plan _ refl refl (λ on. subst (λ (b : Bool). detects n b plan.order ≡ true) (sym is) (met_never plan.order (subst (λ (b : Bool). detects n b (met_order v plan.order) ≡ true) is on)))
 
-  met_beside : Beside n plan (met v plan)
+  pub met_beside : Beside n plan (met v plan)
   met_beside = met_if plan.asked refl
 
 pub control_beside : (n : ℕ) (v : Sight) (plan : Plan) → plan.order ≢ Detect n → Beside n plan (control_seen v plan)
 control_beside n v plan other = beside_then n plan (answered v plan) (control_seen v plan) (answered_beside n v plan other) (met_beside n v (answered v plan))
 
-detect_or_other : (n : ℕ) (o : Order) → (o ≡ Detect n) ⊎ (o ≢ Detect n)
+pub detect_or_other : (n : ℕ) (o : Order) → (o ≡ Detect n) ⊎ (o ≢ Detect n)
 detect_or_other n (Detect port) = elim (cases_eq port n) [
   | inl same ↦ inl (ap Detect same)
   | inr other ↦ inr (λ e. other (let same : port ≡ n = cc in same))
@@ -305,10 +305,9 @@ device_beside n v plan free =
 
 module _ (n : ℕ) (signs : Type 0) (v : Sight) (plan : Plan) (h : IsSteadyPlan n plan) where
   -- its IDENTIFY data came: it is ready or unusable
-  identified : (path : Path) → plan.path ≡ Some path → path.dev ≡ n → (stage : Stage) → path.stage ≡ stage → stage ≡ Identify
-      → PlanKeeps n signs plan (record (found_of v stage path.dev plan) { path = path_to path.dev (next_stage stage) })
+  identified : (path : Path) → plan.path ≡ Some path → path.dev ≡ n → PlanKeeps n signs plan (record (found_of v Identify path.dev plan) { path = path_to path.dev (next_stage Identify) })
   unfolding found_of next_stage
-  identified path here to Identify is at =
+  identified path here to =
       let was : device_at plan n ≡ Starting = (h.path path here to).1.1 in
       let device : Device = if v.usable then Ready else Unusable in
       let now : (device_at (with_device path.dev device plan) n ≡ device) ⊎ (device_at (with_device path.dev device plan) n ≡ Absent) =
@@ -326,26 +325,9 @@ module _ (n : ℕ) (signs : Type 0) (v : Sight) (plan : Plan) (h : IsSteadyPlan 
       fine_by : (b : Bool) → IsFine (if b then Ready else Unusable)
       fine_by true = tt
       fine_by false = tt
-  identified path here to (ReadLog file) is at = absurd (log_identify file at)
-    where
-      log_identify : (f : TaskFile) → ReadLog f ≡ Identify → ⊥
-      log_identify f e = cc
-  identified path here to AssertReset is at = absurd (assert_identify at)
-    where
-      assert_identify : AssertReset ≡ Identify → ⊥
-      assert_identify e = cc
-  identified path here to ReleaseReset is at = absurd (release_identify at)
-    where
-      release_identify : ReleaseReset ≡ Identify → ⊥
-      release_identify e = cc
-  identified path here to AwaitReset is at = absurd (await_identify at)
-    where
-      await_identify : AwaitReset ≡ Identify → ⊥
-      await_identify e = cc
-
   advanced_keeps : (path : Path) → plan.path ≡ Some path → PlanKeeps n signs plan (advanced v path plan)
   advanced_keeps path here = elim (cases_eq path.dev n) [
-    | inl to ↦ identified path here to path.stage refl (h.path path here to).0
+    | inl to ↦ subst (λ (s : Stage). PlanKeeps n signs plan (record (found_of v s path.dev plan) { path = path_to path.dev (next_stage s) })) (sym (h.path path here to).0) (identified path here to)
     | inr other ↦ keeps_as n signs plan (advanced v path plan) h (advanced_beside n v plan path here other)
   ]
 
@@ -402,29 +384,18 @@ unless_here port (Some path) x h = by_case (cases_eq path.dev port)
         let is : Some path ≡ Some x = sym (ap (λ (b : Bool). if b then None else Some path) (ne_eqb path.dev port other)) ∙ h in
         (is, λ same. other (ap (λ (p : Path). p.dev) (same_path path x is) ∙ same))
 
+none_stage : (s : Stage) {P : Type 0} → None ≡ Some s → P
+none_stage s e = cc
+
 -- a stage is due for a device that does not recover only if the device starts and has signed
 starts : (device : Device) (signed : Bool) (stage : Stage) → IsFine device → first_stage device signed ≡ Some stage → (device ≡ Starting) × ((signed ≡ true) × (stage ≡ Identify))
-starts Absent signed stage fine h = none_stage stage h
-  where
-    none_stage : (s : Stage) {P : Type 0} → None ≡ Some s → P
-    none_stage s e = cc
 starts Starting true stage fine h = (refl, (refl, is_stage stage h))
   where
     is_stage : (s : Stage) → Some Identify ≡ Some s → s ≡ Identify
     is_stage s e = cc
 starts Starting false stage fine h = none_stage stage h
-  where
-    none_stage : (s : Stage) {P : Type 0} → None ≡ Some s → P
-    none_stage s e = cc
-starts Ready signed stage fine h = none_stage stage h
-  where
-    none_stage : (s : Stage) {P : Type 0} → None ≡ Some s → P
-    none_stage s e = cc
-starts Unusable signed stage fine h = none_stage stage h
-  where
-    none_stage : (s : Stage) {P : Type 0} → None ≡ Some s → P
-    none_stage s e = cc
 starts (Recovering way) signed stage fine h = absurd fine
+starts other signed stage fine h = none_stage stage h
 
 -- no stage is due, and an order that is due is the plan's
 abbrev pub Plainly : Plan → Option Act → Type 0
