@@ -25,7 +25,9 @@ use Rattle.hba_driver.specs.Sights.{file_shown}
 use Rattle.hba_driver.specs.Steady.{IsCalmAct, IsSteadyTurn, detects}
 use Rattle.hba_driver.specs.Ticks.{after_tick, done_ended, from_reset, ordered, plan_after, recovering, seen, turn}
 use Rattle.hba_driver.specs.Turns.{advanced, answered, control_news, control_seen, control_turn, device_seen, early_due, found_of, is_back, is_out, met_order, noted, order_allowed, plain_turn, turn_of, with_next}
+use Rattle.hba_driver.proofs.DueLemmas.{turn_by}
 use Rattle.hba_driver.proofs.HistoryLemmas.{PollFacts, freed, poll_facts}
+use Rattle.hba_driver.proofs.SteadyLemmas.{control_beside, detect_or_other, equal_is}
 use Rattle.hba_driver.proofs.SteadyTurns.{acted_plan}
 
 -- the device was absent before, if it is now
@@ -49,26 +51,11 @@ set_other devices k n device other h = sym (get_or-set_other devices k n device 
 
 -- ---- slot 31
 
-module _ (n : ℕ) (v : Sight) (p : Plan) (sought : IsSoughtAbsent n p) where
-  noted_was : (order : Order) → p.order ≡ order → WasAbsent n p (with_next order (noted v order p))
-  unfolding noted
-  noted_was (Detect port) is h = elim (cases_eq port n) [
-    | inl same ↦ sought (subst (λ (o : Order). detects n p.asked o ≡ true) (sym is) (eq-eqb port n same))
-    | inr other ↦ set_other p.devices port n _ (λ e. other (sym e)) h
-  ]
-  noted_was ResetOn is h = h
-  noted_was other is h = h
-
-  answered_if : (b : Bool) → WasAbsent n p (if b then with_next p.order (noted v p.order p) else p)
-  answered_if true h = noted_was p.order refl h
-  answered_if false h = h
-
-  met_was : (q : Plan) (b : Bool) → device_at (if b then q else record q { order = met_order v q.order }) n ≡ Absent → device_at q n ≡ Absent
-  met_was q true h = h
-  met_was q false h = h
-
-  control_was : WasAbsent n p (control_seen v p)
-  control_was h = answered_if (p.asked && not (is_out v p)) (met_was (answered v p) (answered v p).asked h)
+control_was : (n : ℕ) (v : Sight) (p : Plan) → IsSoughtAbsent n p → WasAbsent n p (control_seen v p)
+control_was n v p sought h = elim (detect_or_other n p.order) [
+  | inl is ↦ sought (subst (λ (o : Order). detects n p.asked o ≡ true) (sym is) (equal_is n n refl))
+  | inr other ↦ sym (control_beside n v p other).device ∙ h
+]
 
 -- ---- slot 30
 
@@ -120,23 +107,13 @@ module _ (n : ℕ) (file : TaskFile) where
   abbrev TurnWas : Plan → Turn → Type 0
   TurnWas p t = IsCalmAct n t.act → WasAbsent n p (match_some t.act t.plan (λ x. plan_after x file t.plan))
 
-  turn_if : (p : Plan) (b : Bool) (t u : Turn) → TurnWas p t → TurnWas p u → TurnWas p (if b then t else u)
-  turn_if p true t u h k = h
-  turn_if p false t u h k = k
-
   plain_was : (p r : Plan) (a : Option Act) (news : Bool) → WasAbsent n p r → TurnWas p (plain_turn r a news)
   plain_was p r a news was calm h = was (act_was r a calm h)
 
-  control_turn_was : (v : Sight) (p r : Plan) (news : Bool) (entries : List (Option Entry)) → WasAbsent n p r → TurnWas p (control_turn v news r entries)
-  control_turn_was v p r news entries was =
-      turn_if p (is_some (order_allowed v r entries)) (plain_turn r (order_allowed v r entries) news) _ (plain_was p r (order_allowed v r entries) news was)
-      (λ calm h. was (device_was n v r (act_was (device_seen v r) _ calm h)))
-
   whole_was : (v : Sight) (p : Plan) (entries : List (Option Entry)) → IsSoughtAbsent n p → TurnWas p (turn_of v p entries)
-  unfolding turn_of
   whole_was v p entries sought =
-      turn_if p (is_some (early_due v p)) (plain_turn p (early_due v p) false) _ (plain_was p p (early_due v p) false (λ h. h))
-      (control_turn_was v p (control_seen v p) (control_news v p) entries (control_was n v p sought))
+      turn_by (TurnWas p) v p entries (plain_was p p (early_due v p) false (λ h. h)) (plain_was p (control_seen v p) _ (control_news v p) (control_was n v p sought))
+      (λ calm h. control_was n v p sought (device_was n v (control_seen v p) (act_was (device_seen v (control_seen v p)) _ calm h)))
 
 -- ---- a turn of the host
 

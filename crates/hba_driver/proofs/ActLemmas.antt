@@ -16,49 +16,23 @@ use Rattle.hba_driver.specs.Effects.{effects_of, issuing, opening_write, opening
 use Rattle.hba_driver.specs.Orders.{order_fields}
 use Rattle.hba_driver.specs.Sights.{px_sntf}
 use Rattle.hba_driver.proofs.AwaitLemmas.{keeps_here}
-use Rattle.hba_driver.proofs.EffectLemmas.{all_at}
+use Rattle.hba_driver.proofs.EffectLemmas.{issuing_pass, opens_pass, order_pass, restarts_pass}
 use Rattle.hba_driver.proofs.IssuingLemmas.{bit_other}
 
 -- ---- effects that issue nothing in slot 30
 
 here_issuing : (slot dev : ℕ) (queued : Bool) → slot ≢ 30 → list_all keeps_here (issuing Switching slot dev queued) ≡ true
 unfolding register_at
-here_issuing slot dev true other = ap (λ (b : Bool). not b && true) (bit_other slot 30 (λ same. other (sym same)))
-here_issuing slot dev false other = ap (λ (b : Bool). not b && true) (bit_other slot 30 (λ same. other (sym same)))
-
-here_sending : (slot dev : ℕ) (o : Option H2dFields) (buffer : Bool) → slot ≢ 30 → list_all keeps_here (match_some o [] (λ f. sending Switching slot dev f buffer)) ≡ true
-here_sending slot dev None buffer other = refl
-here_sending slot dev (Some f) buffer other = here_issuing slot dev false other
+here_issuing slot dev queued other = issuing_pass keeps_here Switching slot dev queued (λ on. refl) refl (ap not (bit_other slot 30 (λ same. other (sym same))))
 
 apart : ◌≢◌ {A = ℕ} 31 30
 apart same = absurd (omega (arith, same))
 
-here_command : (order : Order) → list_all keeps_here (order_command Switching order) ≡ true
-here_command order = here_sending 31 15 (order_fields order) false apart
-
-here_scan : keeps_here (effect.Writes px_sntf 0x8000) ≡ true
-unfolding register_at
-here_scan = refl
-
-here_order : (order : Order) → list_all keeps_here (order_effects Switching order) ≡ true
-unfolding order_effects
-here_order Scan = ap (λ (b : Bool). b && list_all keeps_here (order_command Switching Scan)) here_scan ∙ here_command Scan
-here_order (Clear port) = here_command (Clear port)
-here_order order = here_command order
-
-here_opening : (k : ℕ) → keeps_here (opening_write Switching k) ≡ true
-unfolding opening_write register_at
-here_opening k = all_at keeps_here (opening_writes Switching) k _ refl refl
-
-here_restart : (k : ℕ) → keeps_here (restart_write k) ≡ true
-unfolding restart_write register_at
-here_restart k = all_at keeps_here restart_writes k _ refl refl
-
 pub here_act : (a : Act) → ((dev : ℕ) (stage : Stage) → a ≡ act.Steps dev stage → ⊥) → ((slot dev : ℕ) (queued : Bool) → a ≡ act.Issues slot dev queued → slot ≢ 30) → list_all keeps_here (effects_of Switching a) ≡ true
 unfolding effects_of register_at
-here_act (act.Opens k) steps slots = ap (λ (b : Bool). b && true) (here_opening k)
-here_act (act.Restarts k) steps slots = ap (λ (b : Bool). b && true) (here_restart k)
-here_act (act.Orders order) steps slots = here_order order
+here_act (act.Opens k) steps slots = opens_pass keeps_here Switching k refl refl
+here_act (act.Restarts k) steps slots = restarts_pass keeps_here Switching k refl refl
+here_act (act.Orders order) steps slots = order_pass keeps_here Switching order refl (λ port is. (refl, refl)) (λ f. refl) (here_issuing 31 15 false apart)
 here_act (act.Steps dev stage) steps slots = absurd (steps dev stage refl)
 here_act (act.Issues slot dev queued) steps slots = here_issuing slot dev queued (slots slot dev queued refl)
 here_act other steps slots = refl

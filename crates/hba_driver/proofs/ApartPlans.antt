@@ -24,8 +24,9 @@ use Rattle.hba_driver.specs.Paths.{next_stage, stage_fields}
 use Rattle.hba_driver.specs.Tended.{IsUnworked}
 use Rattle.hba_driver.specs.Slot30.{Asks, Cleared, Clears, Faulty, IsCleared, IsPlan30, LogSent, Off, On, ReadsLog, Resets, Sets, Stage30, is_faulty, path_of}
 use Rattle.hba_driver.specs.Turns.{advanced, allowed, answered, control_seen, detected, device_due, device_or_request, device_seen, early_due, found_of, is_back, is_due, is_in_reset, is_out, is_there, issue_of, may_issue, met, met_order, met_path, met_stage, noted, order_allowed, order_due, path_answered, path_due, path_met, request_due, stage_due, stage_for, step_of, turn_of, with_next}
-use Rattle.hba_driver.proofs.DueLemmas.{allowed_keeps}
-use Rattle.hba_driver.proofs.SteadyLemmas.{none_path, path_to_dev, same_path, set_other}
+use Rattle.hba_driver.proofs.DueLemmas.{early_by, late_by, order_allowed_by, turn_by}
+use Rattle.hba_driver.proofs.KnownLemmas.{path_control}
+use Rattle.hba_driver.proofs.SteadyLemmas.{control_beside, detect_or_other, device_beside, met_beside}
 use Rattle.hba_driver.proofs.StopLemmas.{either}
 
 -- ---- slot 31 leaves a device that recovers, unless none is found at its port
@@ -33,9 +34,6 @@ use Rattle.hba_driver.proofs.StopLemmas.{either}
 pub record Leaves (n : ℕ) (p q : Plan) : Type 0 where
   pub device : device_at q n ≡ device_at p n
   pub path : q.path ≡ p.path
-
-beside : (n : ℕ) (p q : Plan) → q.devices ≡ p.devices → q.path ≡ p.path → Leaves n p q
-beside n p q devices path = record { device = ap (λ (ds : List Device). get_or ds n Absent) devices; path = path }
 
 -- setting an element of a list to what it is
 set_kept : (devices : List Device) (n : ℕ) → get_or (set devices n (get_or devices n Absent)) n Absent ≡ get_or devices n Absent
@@ -54,37 +52,19 @@ module _ (n : ℕ) (v : Sight) (plan : Plan) (way : Recovery) (recovers : device
       same : detected v.answer (device_at plan n) ≡ device_at plan n
       same = ap (detected v.answer) recovers ∙ ap (λ (b : Bool). if b then Recovering way else Absent) there ∙ sym recovers
 
-  answers_order : (order : Order) → plan.order ≡ order → (plan.asked && not (is_out v plan)) ≡ true → Leaves n plan (with_next order (noted v order plan))
+  answered_same : (b : Bool) → (plan.asked && not (is_out v plan)) ≡ b → plan.order ≡ Detect n → device_at (if b then with_next plan.order (noted v plan.order plan) else plan) n ≡ device_at plan n
   unfolding noted
-  answers_order (Detect port) is came = elim (cases_eq port n) [
-    | inl same ↦ record {
-      device = subst (λ (k : ℕ). device_at (with_device k (detected v.answer (device_at plan k)) plan) n ≡ device_at plan n) (sym same) (recovers_on (found (is ∙ ap Detect same) came));
-      path = refl;
-    }
-    | inr other ↦ record { device = set_other plan.devices port n (detected v.answer (device_at plan port)) (λ e. other (sym e)); path = refl }
+  answered_same true came is = ap (λ (o : Order). device_at (with_next o (noted v o plan)) n) is ∙ recovers_on (found is came)
+  answered_same false came is = refl
+
+  control_same : device_at (control_seen v plan) n ≡ device_at plan n
+  control_same = elim (detect_or_other n plan.order) [
+    | inl is ↦ (met_beside n v (answered v plan)).device ∙ answered_same (plan.asked && not (is_out v plan)) refl is
+    | inr other ↦ (control_beside n v plan other).device
   ]
-  answers_order ResetOn is came = beside n plan _ refl refl
-  answers_order other is came = beside n plan _ refl refl
 
-  answers_if : (b : Bool) → (plan.asked && not (is_out v plan)) ≡ b → Leaves n plan (if b then with_next plan.order (noted v plan.order plan) else plan)
-  answers_if true came = answers_order plan.order refl came
-  answers_if false came = beside n plan plan refl refl
-
-  answered_leaves : Leaves n plan (answered v plan)
-  answered_leaves = answers_if (plan.asked && not (is_out v plan)) refl
-
-met_leaves : (n : ℕ) (v : Sight) (plan : Plan) → Leaves n plan (met v plan)
-met_leaves n v plan = by_asked plan.asked
-  where
-    by_asked : (b : Bool) → Leaves n plan (if b then plan else record plan { order = met_order v plan.order })
-    by_asked true = beside n plan _ refl refl
-    by_asked false = beside n plan _ refl refl
-
-pub control_leaves : (n : ℕ) (v : Sight) (plan : Plan) (way : Recovery) → device_at plan n ≡ Recovering way → IsFound n v plan → Leaves n plan (control_seen v plan)
-control_leaves n v plan way recovers found =
-    let first : Leaves n plan (answered v plan) = answered_leaves n v plan way recovers found in
-    let second : Leaves n (answered v plan) (control_seen v plan) = met_leaves n v (answered v plan) in
-    record { device = second.device ∙ first.device; path = second.path ∙ first.path }
+  pub control_leaves : Leaves n plan (control_seen v plan)
+  control_leaves = record { device = control_same; path = path_control v plan }
 
 -- ---- slot 30
 
@@ -120,43 +100,8 @@ plan_as n Off p q device path (inl h) = inl (resets_as n ReleaseReset true p q d
 plan_as n Off p q device path (inr h) = inr (resets_as n AwaitReset false p q device path h)
 plan_as n other p q device path h = reads_as n p q device path h
 
--- what is found of another device, and of a reset
-found_device : (n : ℕ) (v : Sight) (plan : Plan) (stage : Stage) (dev : ℕ) → dev ≢ n → device_at (found_of v stage dev plan) n ≡ device_at plan n
-unfolding found_of
-found_device n v plan Identify dev other = set_other plan.devices dev n _ (λ e. other (sym e))
-found_device n v plan (ReadLog file) dev other = set_other plan.devices dev n _ (λ e. other (sym e))
-found_device n v plan rest dev other = refl
-
-met_dev : (v : Sight) (b : Bool) (path : Path) → (if b then path else record path { stage = met_stage v path.dev path.stage }).dev ≡ path.dev
-met_dev v true path = refl
-met_dev v false path = refl
-
+-- what is found of a reset
 module _ (n : ℕ) (v : Sight) (c : Plan) where
-  -- the path is another device's, or none
-  away_met : (o : Option Path) → ((x : Path) → o ≡ Some x → x.dev ≢ n) → (x : Path) → option_map (met_path v) o ≡ Some x → x.dev ≢ n
-  away_met None away x there to = none_path x there
-  away_met (Some path) away x there to = away path refl (sym (met_dev v path.asked path) ∙ ap (λ (p : Path). p.dev) (same_path (met_path v path) x there) ∙ to)
-
-  record Away (q : Plan) : Type 0 where
-    pub device : device_at q n ≡ device_at c n
-    pub away : IsUnworked n q
-
-  away_back : (path : Path) (b : Bool) → path.dev ≢ n → c.path ≡ Some path → Away (if b then advanced v path c else c)
-  away_back path false other here = record { device = refl; away = λ x there to. other (ap (λ (p : Path). p.dev) (same_path path x (sym here ∙ there)) ∙ to) }
-  away_back path true other here = record {
-    device = found_device n v c path.stage path.dev other;
-    away = λ x there to. other (sym (path_to_dev path.dev (next_stage path.stage) x there) ∙ to);
-  }
-
-  away_answered : (o : Option Path) → c.path ≡ o → IsUnworked n c → Away (match_some o c (λ path. if is_back v path then advanced v path c else c))
-  away_answered None here away = record { device = refl; away = away }
-  away_answered (Some path) here away = away_back path (is_back v path) (away path here) here
-
-  seen_away : IsUnworked n c → Away (device_seen v c)
-  seen_away away =
-      let a = away_answered c.path refl away in
-      record { device = a.device; away = away_met (path_answered v c).path a.away }
-
   -- the path is the device's
   seen_own : (path : Path) → c.path ≡ Some path → device_seen v c ≡ path_met v (if is_back v path then advanced v path c else c)
   seen_own path here = ap (λ (o : Option Path). path_met v (match_some o c (λ path. if is_back v path then advanced v path c else c))) here
@@ -223,7 +168,7 @@ plan_of n stage p q h is = plan_as n stage p q is.0 is.1 h
 
 pub seen_plan : (n : ℕ) (stage : Stage30) (v : Sight) (c : Plan) → is_faulty stage ≡ false → Shows n stage v → IsPlan30 n stage c → IsPlan30 n stage (device_seen v c)
 seen_plan n Faulty v c well shows h = absurd (true≢false well)
-seen_plan n Cleared v c well shows h = let a = seen_away n v c h.away in cleared_as n c (device_seen v c) a.device a.away h
+seen_plan n Cleared v c well shows h = let b = device_beside n v c h.away in cleared_as n c (device_seen v c) b.device (λ x there to. h.away x (b.back x to there) to) h
 seen_plan n Sets v c well shows h = plan_of n Sets c (device_seen v c) h (out_same n v c AssertReset shows h.path)
 seen_plan n On v c well shows (inl h) = asserted n v c (is_back v (record { dev = n; stage = AssertReset; asked = true })) refl h
 seen_plan n On v c well shows (inr h) = plan_of n On c (device_seen v c) (inr h) (free_same n v c ReleaseReset (release_met n v c) h.path)
@@ -234,18 +179,12 @@ seen_plan n other v c well shows h = plan_of n other c (device_seen v c) h (out_
 
 -- ---- the turn
 
-turn_if : (n : ℕ) (stage : Stage30) (b : Bool) (t u : Turn) → IsPlan30 n stage t.plan → IsPlan30 n stage u.plan → IsPlan30 n stage (if b then t else u).plan
-turn_if n stage true t u h k = h
-turn_if n stage false t u h k = k
-
 pub turn_plan : (n : ℕ) (stage : Stage30) (v : Sight) (p : Plan) (entries : List (Option Entry)) → is_faulty stage ≡ false → Shows n stage v → IsFound n v p → IsPlan30 n stage p → IsPlan30 n stage (turn_of v p entries).plan
-unfolding turn_of
 turn_plan n stage v p entries well shows found h =
     let r = recovers n stage p well h in
     let l : Leaves n p (control_seen v p) = control_leaves n v p r.0 r.1 found in
     let c : IsPlan30 n stage (control_seen v p) = plan_of n stage p (control_seen v p) h (l.device, l.path) in
-    turn_if n stage (is_some (early_due v p)) _ _ h
-    (turn_if n stage (is_some (order_allowed v (control_seen v p) entries)) _ _ c (seen_plan n stage v (control_seen v p) well shows c))
+    turn_by (λ t. IsPlan30 n stage t.plan) v p entries h c (seen_plan n stage v (control_seen v p) well shows c)
 
 -- ---- what a stage issues has fields
 
@@ -253,75 +192,7 @@ abbrev pub HasFields : Option Act → Type 0
 HasFields (Some (act.Steps dev stage)) = is_some (stage_fields dev stage) ≡ true
 HasFields a = Unit {0}
 
-fields_or : (a b : Option Act) → HasFields a → HasFields b → HasFields (option_or a b)
-fields_or None b h k = k
-fields_or (Some a) b h k = h
-
-fields_clears : (o : Option ℕ) → HasFields (option_map act.Clears o)
-fields_clears None = tt
-fields_clears (Some dev) = tt
-
-fields_early : (v : Sight) (p : Plan) → HasFields (early_due v p)
-unfolding early_due
-fields_early v p =
-    fields_or _ _ (either HasFields (nat_lt p.opened 7) _ _ tt tt)
-    (fields_or _ _ (either HasFields (nat_lt p.restarted 2) _ _ tt tt) (either HasFields v.stopped _ _ tt (fields_clears v.faulty)))
-
-fields_step : (dev : ℕ) (stage : Stage) → HasFields (step_of dev stage)
-fields_step dev stage = by_fields (stage_fields dev stage) refl
-  where
-    by_fields : (o : Option H2dFields) → stage_fields dev stage ≡ o → HasFields (option_map (λ (f : H2dFields). act.Steps dev stage) o)
-    by_fields None is = tt
-    by_fields (Some f) is = ap is_some is
-
-fields_stage : (dev : ℕ) (o : Option Stage) → HasFields (match_some o None (step_of dev))
-fields_stage dev None = tt
-fields_stage dev (Some stage) = fields_step dev stage
-
-fields_lowest : (v : Sight) (p : Plan) (o : Option ℕ) → HasFields (match_some o None (stage_due v p))
-fields_lowest v p None = tt
-fields_lowest v p (Some dev) = fields_stage dev (stage_for v p dev)
-
-fields_path : (v : Sight) (p : Plan) (o : Option Path) → HasFields (match_some o (match_some (lowest_below (is_due v p) 15) None (stage_due v p)) path_due)
-fields_path v p None = fields_lowest v p (lowest_below (is_due v p) 15)
-fields_path v p (Some path) = either HasFields path.asked None (step_of path.dev path.stage) tt (fields_step path.dev path.stage)
-
-fields_device : (v : Sight) (p : Plan) → HasFields (device_due v p)
-unfolding device_due
-fields_device v p = fields_path v p p.path
-
-fields_entry : (slot : ℕ) (o : Option Entry) → HasFields (issue_of slot o)
-fields_entry slot None = tt
-fields_entry slot (Some e) = tt
-
-fields_request : (p : Plan) (entries : List (Option Entry)) → HasFields (request_due p entries)
-unfolding request_due
-fields_request p entries = by_slot (lowest_below (λ slot. may_issue p (entry_at entries slot)) 30)
-  where
-    by_slot : (o : Option ℕ) → HasFields (match_some o None (λ slot. issue_of slot (entry_at entries slot)))
-    by_slot None = tt
-    by_slot (Some slot) = fields_entry slot (entry_at entries slot)
-
-fields_order : (p : Plan) → HasFields (order_due p)
-fields_order p = either HasFields p.asked None _ tt (by_fields (Rattle.hba_driver.specs.Orders.order_fields p.order))
-  where
-    by_fields : (o : Option H2dFields) → HasFields (option_map (λ (f : H2dFields). act.Orders p.order) o)
-    by_fields None = tt
-    by_fields (Some f) = tt
-
-fields_allowed : (v : Sight) (p : Plan) (entries : List (Option Entry)) (a : Option Act) → HasFields a → HasFields (allowed p.mode v p entries a)
-fields_allowed v p entries a h = allowed_keeps HasFields tt p.mode v p entries a h
-
-fields_devices : (v : Sight) (p : Plan) (entries : List (Option Entry)) → HasFields (device_or_request v p entries)
-fields_devices v p entries = fields_or _ _ (fields_allowed v p entries (device_due v p) (fields_device v p)) (fields_allowed v p entries (request_due p entries) (fields_request p entries))
-
-fields_if : (b : Bool) (t u : Turn) → HasFields t.act → HasFields u.act → HasFields (if b then t else u).act
-fields_if true t u h k = h
-fields_if false t u h k = k
-
 pub fields_turn : (v : Sight) (p : Plan) (entries : List (Option Entry)) → HasFields (turn_of v p entries).act
-unfolding turn_of
 fields_turn v p entries =
-    fields_if (is_some (early_due v p)) _ _ (fields_early v p)
-    (fields_if (is_some (order_allowed v (control_seen v p) entries)) _ _ (fields_allowed v (control_seen v p) entries (order_due (control_seen v p)) (fields_order (control_seen v p)))
-    (fields_devices v (device_seen v (control_seen v p)) entries))
+    turn_by (λ t. HasFields t.act) v p entries (early_by HasFields tt v p (λ h. tt) (λ h. tt) (λ h. tt) (λ dev h. tt))
+    (order_allowed_by HasFields tt v (control_seen v p) entries (λ un fields. tt)) (late_by HasFields tt v (device_seen v (control_seen v p)) entries (λ dev stage way fields. fields) (λ slot e h. tt))

@@ -168,15 +168,6 @@ port_small = omega arith
 calm_order : (n : ℕ) (order : Order) (old new : Port) (before after : Memory) (c : event.Host) → order ≢ Clear n → old.registers.switching ≡ true → (acts : ActsAll (order_effects Switching order) old before new after) → (h : event.Host)
     → Calm n 31 (events_of_effects (order_effects Switching order) old before new after acts) c h
 unfolding order_effects ActsAll events_of_effects register_at
-calm_order n ResetOn old new before after c other on acts h = calm_command n 31 15 (order_fields ResetOn) false old new before after c small port_small on acts h
-calm_order n ResetOff old new before after c other on acts h = calm_command n 31 15 (order_fields ResetOff) false old new before after c small port_small on acts h
-calm_order n AwaitSignature old new before after c other on acts h = calm_command n 31 15 (order_fields AwaitSignature) false old new before after c small port_small on acts h
-calm_order n CountPorts old new before after c other on acts h = calm_command n 31 15 (order_fields CountPorts) false old new before after c small port_small on acts h
-calm_order n SetMask old new before after c other on acts h = calm_command n 31 15 (order_fields SetMask) false old new before after c small port_small on acts h
-calm_order n Enable old new before after c other on acts h = calm_command n 31 15 (order_fields Enable) false old new before after c small port_small on acts h
-calm_order n (Open port) old new before after c other on acts h = calm_command n 31 15 (order_fields (Open port)) false old new before after c small port_small on acts h
-calm_order n (Detect port) old new before after c other on acts h = calm_command n 31 15 (order_fields (Detect port)) false old new before after c small port_small on acts h
-calm_order n Watch old new before after c other on acts h = calm_command n 31 15 (order_fields Watch) false old new before after c small port_small on acts h
 calm_order n Scan old new before after c other on acts h =
     let place = place_effect Switching (effect.Writes px_sntf 32768) old acts.0 before acts.1 refl acts.2 in
     let rest : (k : event.Host) → Calm n 31 (events_of_effects (match_some (order_fields Scan) [] (λ f. sending Switching 31 control_port f false)) acts.0 acts.1 new after acts.4) c k =
@@ -188,6 +179,7 @@ calm_order n (Clear port) old new before after c other on acts h =
     calm_then n 31 (event.Rewrote port (replicate 256 0)) last c mid (λ mid does. inl tt) (λ mid does.
     calm_command n 31 15 (order_fields (Clear port)) false acts.4.0 new acts.4.1 after c small port_small
     (ap (λ (p : Port). p.registers.switching) acts.4.2.0 ∙ (ap (λ r. r.switching) acts.2.0.registers ∙ on)) acts.4.4 mid))
+calm_order n order old new before after c other on acts h = calm_command n 31 15 (order_fields order) false old new before after c small port_small on acts h
 
 -- ---- the writes that open the port, and start it again
 

@@ -41,7 +41,7 @@ use Rattle.hba_driver.specs.Paths.{reads_page, stage_fields}
 use Rattle.hba_driver.specs.Ticks.{acted, after_tick, done_ended, effects, effects_due, from_reset, logged_ended, plan_after, recovering, seen, turn}
 use Rattle.hba_driver.specs.Turns.{early_due, plain_turn, turn_of}
 use Rattle.hba_driver.proofs.DueLemmas.{Due, PlanGoes, due_turn, goes_turn}
-use Rattle.hba_driver.proofs.EffectLemmas.{all_at}
+use Rattle.hba_driver.proofs.EffectLemmas.{issuing_pass, order_pass, restarts_pass, sending_pass}
 
 -- ---- a write is taken, or refused
 
@@ -188,21 +188,11 @@ en_clears CommandBased dev = ap not (en_off dev)
 
 calm_issuing : (mode : Mode) (slot dev : ℕ) (queued : Bool) → list_all (calm_effect mode) (issuing mode slot dev queued) ≡ true
 unfolding register_at
-calm_issuing Switching slot dev true = ap (λ (b : Bool). b && true) (en_chosen dev)
-calm_issuing Switching slot dev false = ap (λ (b : Bool). b && true) (en_chosen dev)
-calm_issuing CommandBased slot dev true = refl
-calm_issuing CommandBased slot dev false = refl
-
-calm_emptying : (mode : Mode) (dev : ℕ) (es : List Effect) → list_all (calm_effect mode) es ≡ true → list_all (calm_effect mode) (emptying mode dev ++ es) ≡ true
-calm_emptying Switching dev es h = h
-calm_emptying CommandBased dev es h = h
+calm_issuing mode slot dev queued = issuing_pass (calm_effect mode) mode slot dev queued (λ on. subst (λ (m : Mode). keeps_en m (256 * dev + 1) ≡ true) (sym on) (en_chosen dev)) refl refl
 
 calm_order : (mode : Mode) (order : Order) → list_all (calm_effect mode) (order_effects mode order) ≡ true
-unfolding order_fields order_effects register_at
-calm_order mode AwaitSignature = refl
-calm_order mode (Clear port) = calm_emptying mode port (order_command mode (Clear port)) (calm_issuing mode 31 15 false)
-calm_order mode Watch = refl
-calm_order mode other = calm_issuing mode 31 15 false
+unfolding register_at
+calm_order mode order = order_pass (calm_effect mode) mode order refl (λ port is. (refl, refl)) (λ f. refl) (calm_issuing mode 31 15 false)
 
 -- ---- what leaves ST
 
@@ -246,24 +236,11 @@ started_effects (e ∷ es) old new before after h acts =
 
 firm_issuing : (mode : Mode) (slot dev : ℕ) (queued : Bool) → list_all firm_effect (issuing mode slot dev queued) ≡ true
 unfolding register_at
-firm_issuing Switching slot dev true = refl
-firm_issuing Switching slot dev false = refl
-firm_issuing CommandBased slot dev true = refl
-firm_issuing CommandBased slot dev false = refl
-
-firm_sending : (mode : Mode) (slot dev : ℕ) (o : Option H2dFields) (buffer : Bool) → list_all firm_effect (match_some o [] (λ f. sending mode slot dev f buffer)) ≡ true
-firm_sending mode slot dev None buffer = refl
-firm_sending mode slot dev (Some f) buffer = firm_issuing mode slot dev false
-
-firm_emptying : (mode : Mode) (dev : ℕ) (es : List Effect) → list_all firm_effect es ≡ true → list_all firm_effect (emptying mode dev ++ es) ≡ true
-firm_emptying Switching dev es h = h
-firm_emptying CommandBased dev es h = h
+firm_issuing mode slot dev queued = issuing_pass firm_effect mode slot dev queued (λ on. refl) refl refl
 
 firm_order : (mode : Mode) (order : Order) → list_all firm_effect (order_effects mode order) ≡ true
-unfolding order_effects register_at
-firm_order mode Scan = firm_sending mode 31 15 (order_fields Scan) false
-firm_order mode (Clear port) = firm_emptying mode port (order_command mode (Clear port)) (firm_sending mode 31 15 (order_fields (Clear port)) false)
-firm_order mode order = firm_sending mode 31 15 (order_fields order) false
+unfolding register_at
+firm_order mode order = order_pass firm_effect mode order refl (λ port is. (refl, refl)) (λ f. refl) (firm_issuing mode 31 15 false)
 
 firm_clears : (mode : Mode) (dev : ℕ) → list_all firm_effect (effects_due mode (Some (act.Clears dev))) ≡ true
 unfolding effects_of register_at
@@ -364,14 +341,9 @@ restarted_cleared : (dev : ℕ) (file : TaskFile) (plan : Plan) → (plan_after 
 unfolding plan_after
 restarted_cleared dev file plan = restarted_if (nat_lt dev 15) (recovering dev file plan) (from_reset plan) plan.restarted refl refl
 
-calm_restart : (mode : Mode) (k : ℕ) → calm_effect mode (restart_write k) ≡ true
-unfolding restart_write register_at
-calm_restart mode k = all_at (calm_effect mode) restart_writes k _ refl refl
-
-calm_stage : (mode : Mode) (dev : ℕ) (stage : Stage) → list_all (calm_effect mode) (stage_effects mode dev stage) ≡ true
-unfolding stage_fields
-calm_stage mode dev AwaitReset = refl
-calm_stage mode dev other = calm_issuing mode 30 dev false
+calm_restart : (mode : Mode) (k : ℕ) → list_all (calm_effect mode) (restart_write k ∷ []) ≡ true
+unfolding register_at
+calm_restart mode k = restarts_pass (calm_effect mode) mode k refl refl
 
 calm_stops : (mode : Mode) → list_all (calm_effect mode) (effects_due mode (Some act.Stops)) ≡ true
 unfolding effects_of register_at
@@ -387,7 +359,7 @@ calm_due v d entries None least due = record { quiet = refl; stays = λ file. re
 calm_due v d entries (Some (act.Opens k)) least due = absurd (omega (arith, least, due.1))
 calm_due v d entries (Some act.Stops) least due = record { quiet = calm_stops d.plan.mode; stays = λ file. refl; keeps = λ file. refl; way = λ file. inr (inl refl) }
 calm_due v d entries (Some (act.Restarts k)) least due = record {
-  quiet = rw (calm_restart d.plan.mode k) refl;
+  quiet = calm_restart d.plan.mode k;
   stays = λ file. refl;
   keeps = λ file. refl;
   way = λ file. inr (inr (record { less = due.1; one = ap (λ (n : ℕ). restart_write n ∷ []) due.0; next = ap (λ (n : ℕ). n + 1) due.0 }));
@@ -405,10 +377,10 @@ calm_due v d entries (Some (act.Orders order)) least due = record {
   way = λ file. inl (record { firm_is = firm_order d.plan.mode order; same = restarted_ordered order file d.plan });
 }
 calm_due v d entries (Some (act.Steps dev stage)) least due = record {
-  quiet = calm_stage d.plan.mode dev stage;
+  quiet = sending_pass (calm_effect d.plan.mode) d.plan.mode 30 dev (stage_fields dev stage) (reads_page stage) (λ f. refl) (calm_issuing d.plan.mode 30 dev false);
   stays = λ file. refl;
   keeps = λ file. refl;
-  way = λ file. inl (record { firm_is = firm_sending d.plan.mode 30 dev (stage_fields dev stage) (reads_page stage); same = refl });
+  way = λ file. inl (record { firm_is = sending_pass firm_effect d.plan.mode 30 dev (stage_fields dev stage) (reads_page stage) (λ f. refl) (firm_issuing d.plan.mode 30 dev false); same = refl });
 }
 calm_due v d entries (Some (act.Issues slot dev queued)) least due = record {
   quiet = calm_issuing d.plan.mode slot dev queued;

@@ -51,124 +51,132 @@ Due v plan entries (Some (act.Orders order)) = plan.asked ≡ false
 Due v plan entries (Some (act.Steps dev stage)) = MayStep plan dev stage
 Due v plan entries (Some (act.Issues slot dev queued)) = (w : Waiting plan entries slot dev) × (is_queued w.entry.head.work ≡ queued)
 
-if_due : (v : Sight) (b : Bool) (t u : Turn) (entries : List (Option Entry)) → Due v t.plan entries t.act → Due v u.plan entries u.act → Due v (if b then t else u).plan entries (if b then t else u).act
-if_due v true t u entries h k = h
-if_due v false t u entries h k = k
+-- ---- what holds of each act that may be due holds of what is due
 
-due_or : (v : Sight) (a b : Option Act) (plan : Plan) (entries : List (Option Entry)) → Due v plan entries a → Due v plan entries b → Due v plan entries (option_or a b)
-due_or v None b plan entries h k = k
-due_or v (Some a) b plan entries h k = h
+-- why a stage is due: slot 30 is free, or a path that holds it goes on with this stage
+abbrev pub StepsBy : Sight → Plan → (dev : ℕ) → Stage → Type 0
+StepsBy v plan dev stage = ((plan.path ≡ None) × ((dev < 15) × (stage_for v plan dev ≡ Some stage))) ⊎ (plan.path ≡ Some (record { dev = dev; stage = stage; asked = false }))
 
--- ---- what comes before everything else
+-- why a request is due
+pub record IssuesBy (plan : Plan) (entries : List (Option Entry)) (slot : ℕ) (e : Entry) : Type 0 where
+  pub below : slot < 30
+  pub stands : entry_at entries slot ≡ Some e
+  pub may : may_issue plan (Some e) ≡ true
+
+module _ (P : Option Act → Type 0) (none : P None) where
+  pub or_by : (a b : Option Act) → P a → P b → P (option_or a b)
+  or_by None b h k = k
+  or_by (Some a) b h k = h
+
+  if_by : (b : Bool) (a : Option Act) → (b ≡ true → P a) → P (if b then a else None)
+  if_by true a h = h refl
+  if_by false a h = none
+
+  unless_by : (b : Bool) (a : Option Act) → (b ≡ false → P a) → P (if b then None else a)
+  unless_by true a h = none
+  unless_by false a h = h refl
+
+  -- what may go of it
+  pub allowed_by : (mode : Mode) (v : Sight) (plan : Plan) (entries : List (Option Entry)) (a : Option Act) → P a → P (allowed mode v plan entries a)
+  allowed_by Switching v plan entries a h = h
+  allowed_by CommandBased v plan entries None h = none
+  allowed_by CommandBased v plan entries (Some a) h = if_by (may_go_to v plan entries (device_of a)) (Some a) (λ goes. h)
+
+  -- what comes before everything else
+  pub early_by : (v : Sight) (plan : Plan) → (nat_lt plan.opened 7 ≡ true → P (Some (act.Opens plan.opened))) → (nat_lt plan.restarted 2 ≡ true → P (Some (act.Restarts plan.restarted)))
+      → (v.stopped ≡ true → P (Some act.Stops)) → ((dev : ℕ) → v.faulty ≡ Some dev → P (Some (act.Clears dev))) → P (early_due v plan)
+  unfolding early_due
+  early_by v plan opens restarts stops clears = or_by _ _ (if_by (nat_lt plan.opened 7) _ opens) (or_by _ _ (if_by (nat_lt plan.restarted 2) _ restarts) (by_stopped v.stopped refl))
+    where
+      by_faulty : (o : Option ℕ) → v.faulty ≡ o → P (option_map act.Clears o)
+      by_faulty None is = none
+      by_faulty (Some dev) is = clears dev is
+
+      by_stopped : (b : Bool) → v.stopped ≡ b → P (if b then Some act.Stops else option_map act.Clears v.faulty)
+      by_stopped true is = stops is
+      by_stopped false is = by_faulty v.faulty refl
+
+  -- slot 31
+  pub order_by : (plan : Plan) → (plan.asked ≡ false → is_some (order_fields plan.order) ≡ true → P (Some (act.Orders plan.order))) → P (order_due plan)
+  order_by plan orders = unless_by plan.asked _ (λ un. by_fields un (order_fields plan.order) refl)
+    where
+      by_fields : plan.asked ≡ false → (o : Option H2dFields) → order_fields plan.order ≡ o → P (option_map (λ f. act.Orders plan.order) o)
+      by_fields un None is = none
+      by_fields un (Some f) is = orders un (ap is_some is)
+
+  -- slot 30
+  module _ (v : Sight) (plan : Plan) (steps : (dev : ℕ) (stage : Stage) → StepsBy v plan dev stage → is_some (stage_fields dev stage) ≡ true → P (Some (act.Steps dev stage))) where
+    step_by : (dev : ℕ) (stage : Stage) → StepsBy v plan dev stage → P (step_of dev stage)
+    step_by dev stage way = by_fields (stage_fields dev stage) refl
+      where
+        by_fields : (o : Option H2dFields) → stage_fields dev stage ≡ o → P (option_map (λ f. act.Steps dev stage) o)
+        by_fields None is = none
+        by_fields (Some f) is = steps dev stage way (ap is_some is)
+
+    stage_by : (dev : ℕ) (o : Option Stage) → stage_for v plan dev ≡ o → plan.path ≡ None → dev < 15 → P (match_some o None (step_of dev))
+    stage_by dev None is free low = none
+    stage_by dev (Some stage) is free low = step_by dev stage (inl (free, (low, is)))
+
+    lowest_by : (o : Option ℕ) → lowest_below (is_due v plan) 15 ≡ o → plan.path ≡ None → P (match_some o None (stage_due v plan))
+    lowest_by None is free = none
+    lowest_by (Some dev) is free = stage_by dev (stage_for v plan dev) refl free (lowest_is (is_due v plan) 15 dev is).below
+
+    path_by : (o : Option Path) → plan.path ≡ o → P (match_some o (match_some (lowest_below (is_due v plan) 15) None (stage_due v plan)) path_due)
+    path_by None is = lowest_by (lowest_below (is_due v plan) 15) refl is
+    path_by (Some x) is = unless_by x.asked _ (λ un. step_by x.dev x.stage (inr (is ∙ ap (λ (b : Bool). Some (record x { asked = b })) un)))
+
+    pub device_by : P (device_due v plan)
+    unfolding device_due
+    device_by = path_by plan.path refl
+
+  -- the requests
+  module _ (plan : Plan) (entries : List (Option Entry)) (issues : (slot : ℕ) (e : Entry) → IssuesBy plan entries slot e → P (Some (act.Issues slot e.head.dev (is_queued e.head.work)))) where
+    entry_by : (slot : ℕ) (o : Option Entry) → entry_at entries slot ≡ o → slot < 30 → may_issue plan o ≡ true → P (issue_of slot o)
+    entry_by slot None is below may = none
+    entry_by slot (Some e) is below may = issues slot e (record { below = below; stands = is; may = may })
+
+    slot_by : (o : Option ℕ) → lowest_below (λ slot. may_issue plan (entry_at entries slot)) 30 ≡ o → P (match_some o None (λ slot. issue_of slot (entry_at entries slot)))
+    slot_by None is = none
+    slot_by (Some slot) is = let low = lowest_is (λ slot. may_issue plan (entry_at entries slot)) 30 slot is in entry_by slot (entry_at entries slot) refl low.below low.passes
+
+    pub request_by : P (request_due plan entries)
+    unfolding request_due
+    request_by = slot_by (lowest_below (λ slot. may_issue plan (entry_at entries slot)) 30) refl
+
+  pub order_allowed_by : (v : Sight) (plan : Plan) (entries : List (Option Entry)) → (plan.asked ≡ false → is_some (order_fields plan.order) ≡ true → P (Some (act.Orders plan.order))) → P (order_allowed v plan entries)
+  order_allowed_by v plan entries orders = allowed_by plan.mode v plan entries (order_due plan) (order_by plan orders)
+
+  pub late_by : (v : Sight) (plan : Plan) (entries : List (Option Entry)) → ((dev : ℕ) (stage : Stage) → StepsBy v plan dev stage → is_some (stage_fields dev stage) ≡ true → P (Some (act.Steps dev stage)))
+      → ((slot : ℕ) (e : Entry) → IssuesBy plan entries slot e → P (Some (act.Issues slot e.head.dev (is_queued e.head.work)))) → P (device_or_request v plan entries)
+  late_by v plan entries steps issues = or_by _ _ (allowed_by plan.mode v plan entries _ (device_by v plan steps)) (allowed_by plan.mode v plan entries _ (request_by plan entries issues))
+
+-- ---- what holds of the three turns that a turn may be holds of it
+
+turn_if : (P : Turn → Type 0) (b : Bool) (t u : Turn) → P t → P u → P (if b then t else u)
+turn_if P true t u h k = h
+turn_if P false t u h k = k
+
+pub turn_by : (P : Turn → Type 0) (v : Sight) (plan : Plan) (entries : List (Option Entry)) → P (plain_turn plan (early_due v plan) false)
+    → P (plain_turn (control_seen v plan) (order_allowed v (control_seen v plan) entries) (control_news v plan)) → P (device_turn v (control_news v plan) (control_seen v plan) entries) → P (turn_of v plan entries)
+unfolding turn_of
+turn_by P v plan entries early order device = turn_if P (is_some (early_due v plan)) _ _ early (turn_if P (is_some (order_allowed v (control_seen v plan) entries)) _ _ order device)
+
+-- ---- what is known of what is due
 
 less_of : (n m : ℕ) → nat_lt n m ≡ true → n < m
 less_of n m h = grind (arith, nat_tests)
-
-due_open : (v : Sight) (b : Bool) (plan : Plan) (entries : List (Option Entry)) → nat_lt plan.opened 7 ≡ b → Due v plan entries (if b then Some (act.Opens plan.opened) else None)
-due_open v true plan entries h = (refl, less_of plan.opened 7 h)
-due_open v false plan entries h = tt
-
-due_restart : (v : Sight) (b : Bool) (plan : Plan) (entries : List (Option Entry)) → nat_lt plan.restarted 2 ≡ b → Due v plan entries (if b then Some (act.Restarts plan.restarted) else None)
-due_restart v true plan entries h = (refl, less_of plan.restarted 2 h)
-due_restart v false plan entries h = tt
-
-due_clear : (v : Sight) (o : Option ℕ) (plan : Plan) (entries : List (Option Entry)) → v.faulty ≡ o → Due v plan entries (option_map act.Clears o)
-due_clear v None plan entries h = tt
-due_clear v (Some dev) plan entries h = h
-
-due_fault : (v : Sight) (b : Bool) (plan : Plan) (entries : List (Option Entry)) → v.stopped ≡ b → Due v plan entries (if b then Some act.Stops else option_map act.Clears v.faulty)
-due_fault v true plan entries h = h
-due_fault v false plan entries h = due_clear v v.faulty plan entries refl
-
-due_early : (v : Sight) (plan : Plan) (entries : List (Option Entry)) → Due v plan entries (early_due v plan)
-unfolding early_due
-due_early v plan entries =
-    due_or v _ _ plan entries (due_open v (nat_lt plan.opened 7) plan entries refl)
-    (due_or v _ _ plan entries (due_restart v (nat_lt plan.restarted 2) plan entries refl) (due_fault v v.stopped plan entries refl))
-
--- ---- slots 31 and 30, and the requests
-
-due_map_order : (v : Sight) (fields : Option H2dFields) (o : Order) (plan : Plan) (entries : List (Option Entry)) → plan.asked ≡ false → Due v plan entries (option_map (λ f. act.Orders o) fields)
-due_map_order v None o plan entries h = tt
-due_map_order v (Some f) o plan entries h = h
-
-due_order : (v : Sight) (b : Bool) (fields : Option H2dFields) (o : Order) (plan : Plan) (entries : List (Option Entry)) → plan.asked ≡ b → Due v plan entries (if b then None else option_map (λ f. act.Orders o) fields)
-due_order v true fields o plan entries h = tt
-due_order v false fields o plan entries h = due_map_order v fields o plan entries h
-
-due_step : (v : Sight) (fields : Option H2dFields) (dev : ℕ) (stage : Stage) (plan : Plan) (entries : List (Option Entry)) → MayStep plan dev stage → Due v plan entries (option_map (λ f. act.Steps dev stage) fields)
-due_step v None dev stage plan entries h = tt
-due_step v (Some f) dev stage plan entries h = h
-
-due_stage : (v : Sight) (o : Option Stage) (dev : ℕ) (plan : Plan) (entries : List (Option Entry)) → plan.path ≡ None → dev < 15 → Due v plan entries (match_some o None (step_of dev))
-due_stage v None dev plan entries h low = tt
-due_stage v (Some stage) dev plan entries h low = due_step v (stage_fields dev stage) dev stage plan entries (inl (h, low))
-
-due_lowest_stage : (v : Sight) (o : Option ℕ) (plan : Plan) (entries : List (Option Entry)) → plan.path ≡ None → ((dev : ℕ) → o ≡ Some dev → dev < 15) → Due v plan entries (match_some o None (stage_due v plan))
-due_lowest_stage v None plan entries h low = tt
-due_lowest_stage v (Some dev) plan entries h low = due_stage v (stage_for v plan dev) dev plan entries h (low dev refl)
-
-free_path : (path : Path) → path.asked ≡ false → Some path ≡ Some (record path { asked = false })
-free_path path h = ap (λ (b : Bool). Some (record path { asked = b })) h
-
-due_path : (v : Sight) (b : Bool) (path : Path) (plan : Plan) (entries : List (Option Entry)) → plan.path ≡ Some path → path.asked ≡ b → Due v plan entries (if b then None else step_of path.dev path.stage)
-due_path v true path plan entries h a = tt
-due_path v false path plan entries h a = due_step v (stage_fields path.dev path.stage) path.dev path.stage plan entries (inr (h ∙ free_path path a))
-
-due_slot : (v : Sight) (o : Option Path) (plan : Plan) (entries : List (Option Entry)) → plan.path ≡ o
-    → Due v plan entries (match_some o (match_some (lowest_below (is_due v plan) 15) None (stage_due v plan)) path_due)
-due_slot v None plan entries h = due_lowest_stage v (lowest_below (is_due v plan) 15) plan entries h (λ dev is. (lowest_is (is_due v plan) 15 dev is).below)
-due_slot v (Some path) plan entries h = due_path v path.asked path plan entries h refl
 
 first : (b c : Bool) → (b && c) ≡ true → b ≡ true
 first true c h = refl
 first false c h = absurd (false≢true h)
 
-due_entry : (v : Sight) (plan : Plan) (entries : List (Option Entry)) (s : ℕ) (x : Option Entry) → s < 30 → entry_at entries s ≡ x → may_issue plan x ≡ true → Due v plan entries (issue_of s x)
-due_entry v plan entries s None below here h = tt
-due_entry v plan entries s (Some e) below here h =
-    let w : Waiting plan entries s e.head.dev = record { below = below; entry = e; stands = here; may = h; waits_is = first (waits e.head) _ h; of_dev = refl } in
-    (w, refl)
-
-due_lowest : (v : Sight) (plan : Plan) (entries : List (Option Entry)) (o : Option ℕ) → ((s : ℕ) → o ≡ Some s → (s < 30) × (may_issue plan (entry_at entries s) ≡ true)) → Due v plan entries (match_some o None (λ slot. issue_of slot (entry_at entries slot)))
-due_lowest v plan entries None h = tt
-due_lowest v plan entries (Some s) h = due_entry v plan entries s (entry_at entries s) (h s refl).0 refl (h s refl).1
-
-due_request : (v : Sight) (plan : Plan) (entries : List (Option Entry)) → Due v plan entries (request_due plan entries)
-unfolding request_due
-due_request v plan entries =
-    due_lowest v plan entries (lowest_below (λ slot. may_issue plan (entry_at entries slot)) 30) (λ s is.
-    let low = lowest_is (λ slot. may_issue plan (entry_at entries slot)) 30 s is in
-    (low.below, low.passes))
-
--- what holds of an act, and of none, holds of what may go of it
-pub allowed_keeps : (P : Option Act → Type 0) → P None → (mode : Mode) (v : Sight) (plan : Plan) (entries : List (Option Entry)) (a : Option Act) → P a → P (allowed mode v plan entries a)
-allowed_keeps P none Switching v plan entries a h = h
-allowed_keeps P none CommandBased v plan entries None h = none
-allowed_keeps P none CommandBased v plan entries (Some a) h = by_test (may_go_to v plan entries (device_of a))
-  where
-    by_test : (b : Bool) → P (if b then Some a else None)
-    by_test true = h
-    by_test false = none
-
-due_device : (v : Sight) (plan : Plan) (entries : List (Option Entry)) → Due v plan entries (device_or_request v plan entries)
-unfolding device_due
-due_device v plan entries =
-    due_or v _ _ plan entries
-    (allowed_keeps (Due v plan entries) tt plan.mode v plan entries (device_due v plan) (due_slot v plan.path plan entries refl))
-    (allowed_keeps (Due v plan entries) tt plan.mode v plan entries (request_due plan entries) (due_request v plan entries))
-
-due_allowed : (v : Sight) (plan : Plan) (entries : List (Option Entry)) → Due v plan entries (order_allowed v plan entries)
-due_allowed v plan entries =
-    allowed_keeps (Due v plan entries) tt plan.mode v plan entries (order_due plan) (due_order v plan.asked (order_fields plan.order) plan.order plan entries refl)
-
-due_control : (v : Sight) (news : Bool) (plan : Plan) (entries : List (Option Entry)) → Due v (control_turn v news plan entries).plan entries (control_turn v news plan entries).act
-due_control v news plan entries =
-    if_due v (is_some (order_allowed v plan entries)) _ _ entries (due_allowed v plan entries) (due_device v (device_seen v plan) entries)
-
 pub due_turn : (v : Sight) (plan : Plan) (entries : List (Option Entry)) → Due v (turn_of v plan entries).plan entries (turn_of v plan entries).act
-unfolding turn_of
-due_turn v plan entries = if_due v (is_some (early_due v plan)) _ _ entries (due_early v plan entries) (due_control v (control_news v plan) (control_seen v plan) entries)
+due_turn v plan entries =
+    turn_by (λ t. Due v t.plan entries t.act) v plan entries
+    (early_by (Due v plan entries) tt v plan (λ h. (refl, less_of plan.opened 7 h)) (λ h. (refl, less_of plan.restarted 2 h)) (λ h. h) (λ dev h. h))
+    (order_allowed_by (Due v (control_seen v plan) entries) tt v (control_seen v plan) entries (λ un fields. un))
+    (late_by (Due v (device_seen v (control_seen v plan)) entries) tt v (device_seen v (control_seen v plan)) entries (λ dev stage way fields. elim way [ inl free ↦ inl (free.0, free.1.0) | inr on ↦ inr on ])
+    (λ slot e h. (record { below = h.below; entry = e; stands = h.stands; may = h.may; waits_is = first (waits e.head) _ h.may; of_dev = refl }, refl)))
 
 -- ---- what was seen of the plan
 
@@ -235,35 +243,17 @@ goes_met v plan =
 pub goes_control : (v : Sight) (plan : Plan) → PlanGoes v plan (control_seen v plan)
 goes_control v plan = goes_then v plan (answered v plan) (control_seen v plan) (goes_answered v plan) (goes_met v (answered v plan))
 
-length_found : (v : Sight) (stage : Stage) (dev : ℕ) (plan : Plan) → length (found_of v stage dev plan).devices ≡ length plan.devices
+alike_found : (v : Sight) (stage : Stage) (dev : ℕ) (plan : Plan) → Alike plan (found_of v stage dev plan)
 unfolding found_of
-length_found v Identify dev plan = length-set plan.devices dev _
-length_found v (ReadLog file) dev plan = length-set plan.devices dev _
-length_found v stage dev plan = refl
+alike_found v Identify dev plan = record { path = refl; devices = length-set plan.devices dev _; opened = refl; restarted = refl; mode = refl }
+alike_found v (ReadLog file) dev plan = record { path = refl; devices = length-set plan.devices dev _; opened = refl; restarted = refl; mode = refl }
+alike_found v stage dev plan = record { path = refl; devices = refl; opened = refl; restarted = refl; mode = refl }
 
 asked_found : (v : Sight) (stage : Stage) (dev : ℕ) (plan : Plan) → (found_of v stage dev plan).asked ≡ plan.asked
 unfolding found_of
 asked_found v Identify dev plan = refl
 asked_found v (ReadLog file) dev plan = refl
 asked_found v stage dev plan = refl
-
-opened_found : (v : Sight) (stage : Stage) (dev : ℕ) (plan : Plan) → (found_of v stage dev plan).opened ≡ plan.opened
-unfolding found_of
-opened_found v Identify dev plan = refl
-opened_found v (ReadLog file) dev plan = refl
-opened_found v stage dev plan = refl
-
-restarted_found : (v : Sight) (stage : Stage) (dev : ℕ) (plan : Plan) → (found_of v stage dev plan).restarted ≡ plan.restarted
-unfolding found_of
-restarted_found v Identify dev plan = refl
-restarted_found v (ReadLog file) dev plan = refl
-restarted_found v stage dev plan = refl
-
-mode_found : (v : Sight) (stage : Stage) (dev : ℕ) (plan : Plan) → (found_of v stage dev plan).mode ≡ plan.mode
-unfolding found_of
-mode_found v Identify dev plan = refl
-mode_found v (ReadLog file) dev plan = refl
-mode_found v stage dev plan = refl
 
 same_path : (x y : Path) → Some x ≡ Some y → x ≡ y
 same_path x y h = cc
@@ -293,23 +283,25 @@ goes_back v bit path plan here is = by_asked path.asked bit is refl
   where
     by_asked : (a bit : Bool) → has_bit v.issued 30 ≡ bit → path.asked ≡ a → PlanGoes v plan (if a && not bit then advanced v path plan else plan)
     by_asked true true is a = goes_same v plan
-    by_asked true false is a = record {
-      asked = λ b h. asked_found v path.stage path.dev plan ∙ h;
-      path = λ on x there ax. absurd (true≢false (sym on ∙ is));
-      back = λ x there ax. absurd (unasked path.dev (next_stage path.stage) x there ax);
-      devices = length_found v path.stage path.dev plan;
-      opened = opened_found v path.stage path.dev plan;
-      restarted = restarted_found v path.stage path.dev plan;
-      mode = mode_found v path.stage path.dev plan;
-      low = λ h. path_low path.dev (next_stage path.stage) (subst IsPath here h);
-    }
+    by_asked true false is a =
+        let same : Alike plan (found_of v path.stage path.dev plan) = alike_found v path.stage path.dev plan in
+        record {
+          asked = λ b h. asked_found v path.stage path.dev plan ∙ h;
+          path = λ on x there ax. absurd (true≢false (sym on ∙ is));
+          back = λ x there ax. absurd (unasked path.dev (next_stage path.stage) x there ax);
+          devices = same.devices;
+          opened = same.opened;
+          restarted = same.restarted;
+          mode = same.mode;
+          low = λ h. path_low path.dev (next_stage path.stage) (subst IsPath here h);
+        }
     by_asked false bit is a = goes_same v plan
 
 goes_answered_by : (v : Sight) (o : Option Path) (plan : Plan) → plan.path ≡ o → PlanGoes v plan (match_some o plan (λ path. if is_back v path then advanced v path plan else plan))
 goes_answered_by v None plan here = goes_same v plan
 goes_answered_by v (Some path) plan here = goes_back v (has_bit v.issued 30) path plan here refl
 
-met_asked : (v : Sight) (path : Path) → path.asked ≡ true → met_path v path ≡ path
+pub met_asked : (v : Sight) (path : Path) → path.asked ≡ true → met_path v path ≡ path
 met_asked v path h = ap (λ (b : Bool). if b then path else record path { stage = Rattle.hba_driver.specs.Turns.met_stage v path.dev path.stage }) h
 
 met_back : (v : Sight) (o : Option Path) (x : Path) → option_map (met_path v) o ≡ Some x → x.asked ≡ true → o ≡ Some x
@@ -338,19 +330,10 @@ goes_path_met v plan = record {
 pub goes_device : (v : Sight) (plan : Plan) → PlanGoes v plan (device_seen v plan)
 goes_device v plan = goes_then v plan (path_answered v plan) (device_seen v plan) (goes_answered_by v plan.path plan refl) (goes_path_met v (path_answered v plan))
 
-turn_if : (v : Sight) (b : Bool) (p : Plan) (t u : Turn) → PlanGoes v p t.plan → PlanGoes v p u.plan → PlanGoes v p (if b then t else u).plan
-turn_if v true p t u h k = h
-turn_if v false p t u h k = k
-
-goes_control_turn : (v : Sight) (news : Bool) (plan : Plan) (entries : List (Option Entry)) → PlanGoes v plan (control_turn v news plan entries).plan
-goes_control_turn v news plan entries =
-    turn_if v (is_some (order_allowed v plan entries)) plan _ _ (goes_same v plan) (goes_device v plan)
-
 pub goes_turn : (v : Sight) (plan : Plan) (entries : List (Option Entry)) → PlanGoes v plan (turn_of v plan entries).plan
-unfolding turn_of
 goes_turn v plan entries =
-    turn_if v (is_some (early_due v plan)) plan _ _ (goes_same v plan)
-    (goes_then v plan (control_seen v plan) _ (goes_control v plan) (goes_control_turn v (control_news v plan) (control_seen v plan) entries))
+    let first = goes_control v plan in
+    turn_by (λ t. PlanGoes v plan t.plan) v plan entries (goes_same v plan) first (goes_then v plan (control_seen v plan) _ first (goes_device v (control_seen v plan)))
 
 -- ---- what comes only once the port is open and runs
 
@@ -398,48 +381,14 @@ MayGo v plan entries (Some a) = may_go_to v plan entries (device_of a) ≡ true
 alone_goes : (mode : Mode) (v : Sight) (plan : Plan) (entries : List (Option Entry)) (a : Option Act) → mode ≡ CommandBased → MayGo v plan entries (allowed mode v plan entries a)
 alone_goes Switching v plan entries a is = cc
 alone_goes CommandBased v plan entries None is = tt
-alone_goes CommandBased v plan entries (Some a) is = by_test (may_go_to v plan entries (device_of a)) refl
-  where
-    by_test : (b : Bool) → may_go_to v plan entries (device_of a) ≡ b → MayGo v plan entries (if b then Some a else None)
-    by_test true goes = goes
-    by_test false goes = tt
-
-alone_or : (v : Sight) (plan : Plan) (entries : List (Option Entry)) (a b : Option Act) → MayGo v plan entries a → MayGo v plan entries b → MayGo v plan entries (option_or a b)
-alone_or v plan entries None b h k = k
-alone_or v plan entries (Some a) b h k = h
-
-alone_if : (v : Sight) (b : Bool) (t u : Turn) (entries : List (Option Entry)) → MayGo v t.plan entries t.act → MayGo v u.plan entries u.act → MayGo v (if b then t else u).plan entries (if b then t else u).act
-alone_if v true t u entries h k = h
-alone_if v false t u entries h k = k
+alone_goes CommandBased v plan entries (Some a) is = if_by (MayGo v plan entries) tt (may_go_to v plan entries (device_of a)) (Some a) (λ goes. goes)
 
 -- what comes before everything else issues no command
-alone_clears : (v : Sight) (plan : Plan) (entries : List (Option Entry)) (o : Option ℕ) → MayGo v plan entries (option_map act.Clears o)
-alone_clears v plan entries None = tt
-alone_clears v plan entries (Some dev) = refl
-
-alone_when : (v : Sight) (plan : Plan) (entries : List (Option Entry)) (b : Bool) (a : Act) (o : Option Act) → device_of a ≡ None → MayGo v plan entries o → MayGo v plan entries (if b then Some a else o)
-alone_when v plan entries true a o none h = ap (may_go_to v plan entries) none
-alone_when v plan entries false a o none h = h
-
-alone_early : (v : Sight) (plan : Plan) (entries : List (Option Entry)) → MayGo v plan entries (early_due v plan)
-unfolding early_due
-alone_early v plan entries =
-    alone_or v plan entries _ _ (alone_when v plan entries (nat_lt plan.opened 7) (act.Opens plan.opened) None refl tt)
-    (alone_or v plan entries _ _ (alone_when v plan entries (nat_lt plan.restarted 2) (act.Restarts plan.restarted) None refl tt)
-    (alone_when v plan entries v.stopped act.Stops (option_map act.Clears v.faulty) refl (alone_clears v plan entries v.faulty)))
-
-alone_device : (v : Sight) (plan : Plan) (entries : List (Option Entry)) → plan.mode ≡ CommandBased → MayGo v plan entries (device_or_request v plan entries)
-alone_device v plan entries is =
-    alone_or v plan entries _ _ (alone_goes plan.mode v plan entries (device_due v plan) is) (alone_goes plan.mode v plan entries (request_due plan entries) is)
-
-alone_control : (v : Sight) (news : Bool) (plan : Plan) (entries : List (Option Entry)) → plan.mode ≡ CommandBased
-    → MayGo v (control_turn v news plan entries).plan entries (control_turn v news plan entries).act
-alone_control v news plan entries is =
-    alone_if v (is_some (order_allowed v plan entries)) (plain_turn plan (order_allowed v plan entries) news) (device_turn v news plan entries) entries
-    (alone_goes plan.mode v plan entries (order_due plan) is) (alone_device v (device_seen v plan) entries ((goes_device v plan).mode ∙ is))
-
 pub turn_alone : (v : Sight) (plan : Plan) (entries : List (Option Entry)) → plan.mode ≡ CommandBased → MayGo v (turn_of v plan entries).plan entries (turn_of v plan entries).act
-unfolding turn_of
 turn_alone v plan entries is =
-    alone_if v (is_some (early_due v plan)) (plain_turn plan (early_due v plan) false) (control_turn v (control_news v plan) (control_seen v plan) entries) entries (alone_early v plan entries)
-    (alone_control v (control_news v plan) (control_seen v plan) entries ((goes_control v plan).mode ∙ is))
+    let control = (goes_control v plan).mode ∙ is in
+    let device = (goes_device v (control_seen v plan)).mode ∙ control in
+    turn_by (λ t. MayGo v t.plan entries t.act) v plan entries (early_by (MayGo v plan entries) tt v plan (λ h. refl) (λ h. refl) (λ h. refl) (λ dev h. refl))
+    (alone_goes (control_seen v plan).mode v (control_seen v plan) entries _ control)
+    (or_by (MayGo v (device_seen v (control_seen v plan)) entries) tt _ _ (alone_goes (device_seen v (control_seen v plan)).mode v (device_seen v (control_seen v plan)) entries _ device)
+    (alone_goes (device_seen v (control_seen v plan)).mode v (device_seen v (control_seen v plan)) entries _ device))

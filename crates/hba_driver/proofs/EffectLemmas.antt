@@ -1,12 +1,14 @@
 -- What an order that issues nothing does, and what no effect leaves.
-use Rattle.std.proofs.Common.{◌≡◌, ℕ, zero, suc, ◌<◌, Bool, true, false, ◌&&◌, nat_lt, List, [], ◌∷◌, get_or, refl, arith, None, ◌++◌}
-use Rattle.std.specs.Prelude.{◌^◌}
+use Rattle.std.proofs.Common.{◌≡◌, ℕ, zero, suc, ◌<◌, Bool, true, false, ◌&&◌, nat_lt, List, [], ◌∷◌, get_or, refl, arith, subst, Option, Some, None, ◌++◌}
+use Rattle.std.specs.Prelude.{◌^◌, ◌+◌, ◌*◌}
 use Rattle.std.specs.List.{list_all}
-use Rattle.std.proofs.lemmas.Bool.{false≢true}
+use Rattle.std.proofs.lemmas.Bool.{and_from, false≢true}
 use Rattle.std.proofs.lemmas.Bool.Decides.{nat_tests}
 use Rattle.hba_driver.specs.declared.effect.Effect.{Effect}
 use Rattle.hba_driver.specs.declared.effect.Effect.TheVariants as effect
+use Rattle.fis_view.specs.declared.build.H2dFields.{H2dFields}
 use Rattle.host_memory.specs.Memory.{Memory}
+use Rattle.slots.specs.Slots.{match_some}
 use Rattle.hba_fbs.specs.Views.{Port}
 use Rattle.hba_driver.specs.declared.mode.Mode.{Mode}
 use Rattle.hba_driver.specs.declared.mode.Mode.TheVariants.{Switching, CommandBased}
@@ -14,14 +16,14 @@ use Rattle.hba_driver.specs.declared.order.Order.{Order}
 use Rattle.hba_driver.specs.declared.order.Order.TheVariants.{ResetOn, ResetOff, AwaitSignature, CountPorts, SetMask, Enable, Open, Scan, Clear, Detect, Watch}
 use Rattle.hba_driver.specs.declared.path.Stage.{Stage}
 use Rattle.hba_driver.specs.declared.path.Stage.TheVariants.{Identify, ReadLog, AssertReset, ReleaseReset, AwaitReset}
-use Rattle.hba_driver.specs.Effects.{ActsAll, choosing, effects_of, emptying, is_effect, issuing, opening_write, opening_writes, order_command, order_effects, restart_write, restart_writes, stage_effects}
+use Rattle.hba_driver.specs.Effects.{ActsAll, choosing, effects_of, emptying, is_effect, issuing, opening_write, opening_writes, order_command, order_effects, restart_write, restart_writes, sending, stage_effects}
 use Rattle.hba_driver.specs.Drivers.{IsOrder}
 use Rattle.hba_driver.specs.Turns.{IsAct}
 use Rattle.hba_driver.specs.declared.turn.Act.{Act}
 use Rattle.hba_driver.specs.declared.turn.Act.TheVariants as act
 use Rattle.hba_driver.specs.Orders.{control_port, order_fields}
-use Rattle.hba_driver.specs.Paths.{stage_fields}
-use Rattle.hba_driver.specs.Sights.{px_ci, px_sact}
+use Rattle.hba_driver.specs.Paths.{reads_page, stage_fields}
+use Rattle.hba_driver.specs.Sights.{px_ci, px_cmd, px_fbs, px_sact, px_sntf}
 
 pub no_effects : (mode : Mode) (order : Order) → order_fields order ≡ None → order_effects mode order ≡ []
 unfolding order_fields order_effects
@@ -37,7 +39,7 @@ pub acts_none : (port : Port) (memory : Memory) → ActsAll [] port memory port 
 unfolding ActsAll
 acts_none port memory = (refl, refl)
 
--- ---- each effect is to a device and a slot that exist
+-- ---- a test of each effect
 
 first_holds : (a b : Bool) → (a && b) ≡ true → a ≡ true
 first_holds true b h = refl
@@ -52,54 +54,59 @@ all_at test [] k e h own = own
 all_at test (x ∷ es) zero e h own = first_holds (test x) (list_all test es) h
 all_at test (x ∷ es) (suc k) e h own = all_at test es k e (rest_holds (test x) (list_all test es) h) own
 
-opens_possible : (mode : Mode) (k : ℕ) → is_effect (opening_write mode k) ≡ true
-unfolding opening_write
-opens_possible mode k = all_at is_effect (opening_writes mode) k _ refl refl
+-- What holds of each effect holds of the effects of an act. Each part of an act is tried once.
+module _ (test : Effect → Bool) (mode : Mode) where
+  one_passes : (b : Bool) → b ≡ true → (b && true) ≡ true
+  one_passes true h = refl
+  one_passes false h = h
 
-restarts_possible : (k : ℕ) → is_effect (restart_write k) ≡ true
-unfolding restart_write
-restarts_possible k = all_at is_effect restart_writes k _ refl refl
+  pub opens_pass : (k : ℕ) → list_all test (opening_writes mode) ≡ true → test (effect.Writes px_cmd 0x20011) ≡ true → list_all test (opening_write mode k ∷ []) ≡ true
+  unfolding opening_write
+  opens_pass k all last = one_passes _ (all_at test (opening_writes mode) k _ all last)
 
-chosen_possible : (mode : Mode) (dev : ℕ) (es : List Effect) → list_all is_effect es ≡ true → list_all is_effect (choosing mode dev ++ es) ≡ true
-chosen_possible Switching dev es h = h
-chosen_possible CommandBased dev es h = h
+  pub restarts_pass : (k : ℕ) → list_all test restart_writes ≡ true → test (effect.Writes px_cmd 0x20011) ≡ true → list_all test (restart_write k ∷ []) ≡ true
+  unfolding restart_write
+  restarts_pass k all last = one_passes _ (all_at test restart_writes k _ all last)
 
-issuing_possible : (mode : Mode) (slot dev : ℕ) (queued : Bool) → list_all is_effect (issuing mode slot dev queued) ≡ true
-issuing_possible mode slot dev true = chosen_possible mode dev (effect.Writes px_sact (2 ^ slot) ∷ effect.Writes px_ci (2 ^ slot) ∷ []) refl
-issuing_possible mode slot dev false = chosen_possible mode dev (effect.Writes px_ci (2 ^ slot) ∷ []) refl
+  chosen_passes : (m : Mode) (dev : ℕ) (es : List Effect) → (m ≡ Switching → test (effect.Writes px_fbs (256 * dev + 1)) ≡ true) → list_all test es ≡ true → list_all test (choosing m dev ++ es) ≡ true
+  chosen_passes Switching dev es chooses h = and_from _ _ (chooses refl) h
+  chosen_passes CommandBased dev es chooses h = h
 
-stage_possible : (mode : Mode) (dev : ℕ) (stage : Stage) → list_all is_effect (stage_effects mode dev stage) ≡ true
-unfolding stage_fields
-stage_possible mode dev AwaitReset = refl
-stage_possible mode dev other = issuing_possible mode 30 dev false
+  pub issuing_pass : (slot dev : ℕ) (queued : Bool) → (mode ≡ Switching → test (effect.Writes px_fbs (256 * dev + 1)) ≡ true) → test (effect.Writes px_sact (2 ^ slot)) ≡ true → test (effect.Writes px_ci (2 ^ slot)) ≡ true
+      → list_all test (issuing mode slot dev queued) ≡ true
+  issuing_pass slot dev true chooses queues issues = chosen_passes mode dev _ chooses (and_from _ _ queues (one_passes _ issues))
+  issuing_pass slot dev false chooses queues issues = chosen_passes mode dev _ chooses (one_passes _ issues)
+
+  pub sending_pass : (slot dev : ℕ) (o : Option H2dFields) (buffer : Bool) → ((f : H2dFields) → test (effect.Commands slot f buffer) ≡ true) → list_all test (issuing mode slot dev false) ≡ true
+      → list_all test (match_some o [] (λ f. sending mode slot dev f buffer)) ≡ true
+  sending_pass slot dev None buffer commands issues = refl
+  sending_pass slot dev (Some f) buffer commands issues = and_from _ _ (commands f) issues
+
+  emptied_passes : (m : Mode) (dev : ℕ) (es : List Effect) → test (effect.Empties dev) ≡ true → list_all test es ≡ true → list_all test (emptying m dev ++ es) ≡ true
+  emptied_passes Switching dev es empties h = and_from _ _ empties h
+  emptied_passes CommandBased dev es empties h = h
+
+  pub order_pass : (order : Order) → test (effect.Writes px_sntf 0x8000) ≡ true → ((port : ℕ) → order ≡ Clear port → (test (effect.Flushes port) ≡ true) × (test (effect.Empties port) ≡ true))
+      → ((f : H2dFields) → test (effect.Commands 31 f false) ≡ true) → list_all test (issuing mode 31 control_port false) ≡ true → list_all test (order_effects mode order) ≡ true
+  unfolding order_effects
+  order_pass Scan scan clears commands issues = and_from _ _ scan (sending_pass 31 control_port (order_fields Scan) false commands issues)
+  order_pass (Clear port) scan clears commands issues =
+      and_from _ _ (clears port refl).0 (emptied_passes mode port _ (clears port refl).1 (sending_pass 31 control_port (order_fields (Clear port)) false commands issues))
+  order_pass order scan clears commands issues = sending_pass 31 control_port (order_fields order) false commands issues
+
+-- ---- each effect is to a device and a slot that exist
 
 below_is : (n m : ℕ) → n < 15 → nat_lt n 16 ≡ true
 below_is n m h = grind (arith, nat_tests)
 
-emptying_possible : (mode : Mode) (dev : ℕ) (es : List Effect) → nat_lt dev 16 ≡ true → list_all is_effect es ≡ true → list_all is_effect (emptying mode dev ++ es) ≡ true
-emptying_possible Switching dev es low h = rw low h
-emptying_possible CommandBased dev es low h = h
-
-order_possible : (mode : Mode) (order : Order) → IsOrder order → list_all is_effect (order_effects mode order) ≡ true
-unfolding order_fields order_effects
-order_possible mode ResetOn h = issuing_possible mode 31 control_port false
-order_possible mode ResetOff h = issuing_possible mode 31 control_port false
-order_possible mode AwaitSignature h = refl
-order_possible mode CountPorts h = issuing_possible mode 31 control_port false
-order_possible mode SetMask h = issuing_possible mode 31 control_port false
-order_possible mode Enable h = issuing_possible mode 31 control_port false
-order_possible mode (Open port) h = issuing_possible mode 31 control_port false
-order_possible mode Scan h = issuing_possible mode 31 control_port false
-order_possible mode (Clear port) h =
-    rw (below_is port 0 h) (emptying_possible mode port (order_command mode (Clear port)) (below_is port 0 h) (issuing_possible mode 31 control_port false))
-order_possible mode (Detect port) h = issuing_possible mode 31 control_port false
-order_possible mode Watch h = refl
+issuing_possible : (mode : Mode) (slot dev : ℕ) (queued : Bool) → list_all is_effect (issuing mode slot dev queued) ≡ true
+issuing_possible mode slot dev queued = issuing_pass is_effect mode slot dev queued (λ on. refl) refl refl
 
 pub act_possible : (mode : Mode) (a : Act) → IsAct a → list_all is_effect (effects_of mode a) ≡ true
 unfolding effects_of
-act_possible mode (act.Opens k) h = rw (opens_possible mode k) refl
-act_possible mode (act.Restarts k) h = rw (restarts_possible k) refl
-act_possible mode (act.Orders order) h = order_possible mode order h
-act_possible mode (act.Steps dev stage) h = stage_possible mode dev stage
+act_possible mode (act.Opens k) h = opens_pass is_effect mode k refl refl
+act_possible mode (act.Restarts k) h = restarts_pass is_effect mode k refl refl
+act_possible mode (act.Orders order) h = order_pass is_effect mode order refl (λ port is. let low = below_is port 0 (subst IsOrder is h) in (low, low)) (λ f. refl) (issuing_possible mode 31 control_port false)
+act_possible mode (act.Steps dev stage) h = sending_pass is_effect mode 30 dev (stage_fields dev stage) (reads_page stage) (λ f. refl) (issuing_possible mode 30 dev false)
 act_possible mode (act.Issues slot dev queued) h = issuing_possible mode slot dev queued
 act_possible mode other h = refl

@@ -23,6 +23,7 @@ use Rattle.hba_driver.specs.Faults.{ErrorsAreNamed, IsNamedBy}
 use Rattle.hba_driver.specs.Ticks.{after_tick, done_ended, is_aside_of, is_done, is_named, is_named_of, log_outcome, logged_ended, seen, turn}
 use Rattle.hba_driver.specs.Turns.{control_seen, early_due, is_back, logged_by, order_allowed, turn_of}
 use Rattle.hba_driver.proofs.DoneLemmas.{IsOwnEnd, acted_end, end_same, end_turned, seen_some, some_at}
+use Rattle.hba_driver.proofs.DueLemmas.{turn_by}
 use Rattle.hba_driver.proofs.LifeLemmas.{entry_of_rephased}
 
 -- ---- the phase of such an end
@@ -80,15 +81,10 @@ read_path : (v : Sight) (o : Option Path) (plan : Plan) (l : Logged) → plan.pa
 read_path v None plan l here h = no_log l h
 read_path v (Some path) plan l here h = read_back v (is_back v path) path plan l here refl h
 
-if_logged : (b : Bool) (t u : Turn) (l : Logged) {P : Type 0} → (t.logged ≡ Some l → P) → (u.logged ≡ Some l → P) → (if b then t else u).logged ≡ Some l → P
-if_logged true t u l f g h = f h
-if_logged false t u l f g h = g h
-
 read_turn : (v : Sight) (plan : Plan) (entries : List (Option Entry)) (l : Logged) → (turn_of v plan entries).logged ≡ Some l → IsRead v (control_seen v plan) l
-unfolding turn_of
 read_turn v plan entries l =
-    if_logged (is_some (early_due v plan)) _ _ l (λ h. no_log l h)
-    (if_logged (is_some (order_allowed v (control_seen v plan) entries)) _ _ l (λ h. no_log l h) (λ h. read_path v (control_seen v plan).path (control_seen v plan) l refl h))
+    turn_by (λ t. t.logged ≡ Some l → IsRead v (control_seen v plan) l) v plan entries (λ h. no_log l h) (λ h. no_log l h)
+    (λ h. read_path v (control_seen v plan).path (control_seen v plan) l refl h)
 
 -- ---- what a log ends
 

@@ -31,7 +31,7 @@ use Rattle.hba_driver.specs.Paths.{first_stage, next_stage, recovery, reset_if_t
 use Rattle.hba_driver.specs.Ticks.{acted, after_tick, done_ended, entries_after, from_reset, is_aside_of, is_done, is_named_of, is_open, is_open_of, log_outcome, logged_ended, ordered, plan_after, recovering, removed, seen, stage_ended, turn, unless}
 use Rattle.hba_driver.specs.Turns.{advanced, allowed, answered, control_seen, detected, device_due, device_or_request, device_seen, early_due, fault_due, found_of, found_there, is_back, is_due, is_in_reset, is_ready, is_there, issue_of, may_issue, met, met_order, order_allowed}
 use Rattle.hba_driver.specs.Turns.{met_path, met_stage, noted, opening_due, order_due, path_answered, path_due, path_to, request_due, restart_due, stage_due, stage_for, step_of, turn_of, with_next}
-use Rattle.hba_driver.proofs.DueLemmas.{Due, Waiting, allowed_keeps}
+use Rattle.hba_driver.proofs.DueLemmas.{Due, StepsBy, Waiting, early_by, late_by, order_allowed_by, turn_by}
 use Rattle.hba_driver.proofs.LifeLemmas.{due_seen, entry_of_rephased}
 use Rattle.hba_driver.proofs.RequestLemmas.{set_cases}
 
@@ -197,45 +197,6 @@ abbrev pub Fits : ℕ → Option Act → Type 0
 Fits n (Some (act.Steps dev stage)) = ((dev == n) && is_logging stage) ≡ false
 Fits n a = Unit {0}
 
-fits_or : (n : ℕ) (a b : Option Act) → Fits n a → Fits n b → Fits n (option_or a b)
-fits_or n None b h k = k
-fits_or n (Some a) b h k = h
-
-fits_clears : (n : ℕ) (o : Option ℕ) → Fits n (option_map act.Clears o)
-fits_clears n None = tt
-fits_clears n (Some dev) = tt
-
-fits_early : (n : ℕ) (v : Sight) (plan : Plan) → Fits n (early_due v plan)
-unfolding early_due
-fits_early n v plan = fits_or n (opening_due plan) _ (by_open (nat_lt plan.opened 7)) (fits_or n (restart_due plan) (fault_due v) (by_restart (nat_lt plan.restarted 2)) (by_fault v.stopped))
-  where
-    by_open : (b : Bool) → Fits n (if b then Some (act.Opens plan.opened) else None)
-    by_open true = tt
-    by_open false = tt
-
-    by_restart : (b : Bool) → Fits n (if b then Some (act.Restarts plan.restarted) else None)
-    by_restart true = tt
-    by_restart false = tt
-
-    by_fault : (b : Bool) → Fits n (if b then Some act.Stops else option_map act.Clears v.faulty)
-    by_fault true = tt
-    by_fault false = fits_clears n v.faulty
-
-fits_order : (n : ℕ) (plan : Plan) → Fits n (order_due plan)
-fits_order n plan = by_asked plan.asked (order_fields plan.order)
-  where
-    by_asked : (b : Bool) (fields : Option H2dFields) → Fits n (if b then None else option_map (λ f. act.Orders plan.order) fields)
-    by_asked true fields = tt
-    by_asked false None = tt
-    by_asked false (Some f) = tt
-
-fits_step : (n dev : ℕ) (stage : Stage) → ((dev == n) && is_logging stage) ≡ false → Fits n (step_of dev stage)
-fits_step n dev stage h = by_fields (stage_fields dev stage)
-  where
-    by_fields : (o : Option H2dFields) → Fits n (option_map (λ f. act.Steps dev stage) o)
-    by_fields None = tt
-    by_fields (Some f) = h
-
 -- a device that is not known begins with no log
 first_new : (d : Device) (signed : Bool) (stage : Stage) → is_trusted d ≡ false → first_stage d signed ≡ Some stage → is_logging stage ≡ false
 first_new Starting true stage h e = ap is_logging (sym (same_stage Identify stage e))
@@ -251,66 +212,24 @@ first_new (Recovering Reset) signed stage h e = ap is_logging (sym (same_stage A
 first_new Absent signed stage h e = absurd (cc)
 first_new other signed stage h e = absurd (cc)
 
-fits_stage : (n : ℕ) (v : Sight) (plan : Plan) (dev : ℕ) → IsNew n plan → Fits n (stage_due v plan dev)
-fits_stage n v plan dev h = by_stage (stage_for v plan dev) refl
+fits_step : (n : ℕ) (v : Sight) (plan : Plan) (dev : ℕ) (stage : Stage) → IsNew n plan → StepsBy v plan dev stage → ((dev == n) && is_logging stage) ≡ false
+fits_step n v plan dev stage h (inr on) = subst (λ (o : Option Path). is_reading n o ≡ false) on h.path
+fits_step n v plan dev stage h (inl free) = by_same (dev == n) refl
   where
-    logs_not : (stage : Stage) → stage_for v plan dev ≡ Some stage → (b : Bool) → (dev == n) ≡ b → (b && is_logging stage) ≡ false
-    logs_not stage is true same = first_new (device_at plan dev) _ stage (subst (λ (k : ℕ). is_trusted (device_at plan k) ≡ false) (sym (eqb-true dev n same)) h.device) is
-    logs_not stage is false same = refl
-
-    by_stage : (o : Option Stage) → stage_for v plan dev ≡ o → Fits n (match_some o None (step_of dev))
-    by_stage None is = tt
-    by_stage (Some stage) is = fits_step n dev stage (logs_not stage is (dev == n) refl)
-
-fits_slot : (n : ℕ) (v : Sight) (plan : Plan) → IsNew n plan → Fits n (device_due v plan)
-unfolding device_due
-fits_slot n v plan h = by_path plan.path h.path
-  where
-    by_lowest : (o : Option ℕ) → Fits n (match_some o None (stage_due v plan))
-    by_lowest None = tt
-    by_lowest (Some dev) = fits_stage n v plan dev h
-
-    by_asked : (path : Path) → is_reading n (Some path) ≡ false → (b : Bool) → Fits n (if b then None else step_of path.dev path.stage)
-    by_asked path reading true = tt
-    by_asked path reading false = fits_step n path.dev path.stage reading
-
-    by_path : (o : Option Path) → is_reading n o ≡ false → Fits n (match_some o (match_some (lowest_below (is_due v plan) 15) None (stage_due v plan)) path_due)
-    by_path None reading = by_lowest (lowest_below (is_due v plan) 15)
-    by_path (Some path) reading = by_asked path reading path.asked
-
-fits_request : (n : ℕ) (plan : Plan) (entries : List (Option Entry)) → Fits n (request_due plan entries)
-unfolding request_due
-fits_request n plan entries = by_lowest (lowest_below (λ slot. may_issue plan (entry_at entries slot)) 30)
-  where
-    by_entry : (slot : ℕ) (o : Option Entry) → Fits n (issue_of slot o)
-    by_entry slot None = tt
-    by_entry slot (Some e) = tt
-
-    by_lowest : (o : Option ℕ) → Fits n (match_some o None (λ slot. issue_of slot (entry_at entries slot)))
-    by_lowest None = tt
-    by_lowest (Some slot) = by_entry slot (entry_at entries slot)
-
-fits_allowed : (n : ℕ) (v : Sight) (plan : Plan) (entries : List (Option Entry)) (a : Option Act) → Fits n a → Fits n (allowed plan.mode v plan entries a)
-fits_allowed n v plan entries a h = allowed_keeps (Fits n) tt plan.mode v plan entries a h
-
-fits_device : (n : ℕ) (v : Sight) (plan : Plan) (entries : List (Option Entry)) → IsNew n plan → Fits n (device_or_request v plan entries)
-fits_device n v plan entries h = fits_or n _ _ (fits_allowed n v plan entries (device_due v plan) (fits_slot n v plan h)) (fits_allowed n v plan entries (request_due plan entries) (fits_request n plan entries))
+    by_same : (b : Bool) → (dev == n) ≡ b → (b && is_logging stage) ≡ false
+    by_same true same = first_new (device_at plan dev) _ stage (subst (λ (k : ℕ). is_trusted (device_at plan k) ≡ false) (sym (eqb-true dev n same)) h.device) free.1.1
+    by_same false same = refl
 
 -- what the turn knows and does
 record TurnNew (n : ℕ) (t : Turn) : Type 0 where
   plan : IsNew n t.plan
   act : Fits n t.act
 
-if_turn : (n : ℕ) (b : Bool) (t u : Turn) → TurnNew n t → TurnNew n u → TurnNew n (if b then t else u)
-if_turn n true t u h k = h
-if_turn n false t u h k = k
-
 new_turn : (n : ℕ) (v : Sight) (plan : Plan) (entries : List (Option Entry)) → comes_back v n plan.path ≡ false → IsNew n plan → TurnNew n (turn_of v plan entries)
-unfolding turn_of
 new_turn n v plan entries back h =
-    if_turn n (is_some (early_due v plan)) _ _ (record { plan = h; act = fits_early n v plan })
-    (if_turn n (is_some (order_allowed v (control_seen v plan) entries)) _ _ (record { plan = control; act = fits_allowed n v (control_seen v plan) entries (order_due (control_seen v plan)) (fits_order n (control_seen v plan)) })
-    (record { plan = device; act = fits_device n v (device_seen v (control_seen v plan)) entries device }))
+    turn_by (TurnNew n) v plan entries (record { plan = h; act = early_by (Fits n) tt v plan (λ h. tt) (λ h. tt) (λ h. tt) (λ dev h. tt) })
+    (record { plan = control; act = order_allowed_by (Fits n) tt v (control_seen v plan) entries (λ un fields. tt) })
+    (record { plan = device; act = late_by (Fits n) tt v (device_seen v (control_seen v plan)) entries (λ dev stage way fields. fits_step n v (device_seen v (control_seen v plan)) dev stage device way) (λ slot e h. tt) })
   where
     control : IsNew n (control_seen v plan)
     control = new_control n v plan h

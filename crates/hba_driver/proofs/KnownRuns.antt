@@ -69,43 +69,6 @@ some_path x y e = cc
 
 -- ---- the path of a tick
 
--- a path whose command is out was there before
-path_back : (v : Sight) (o : Option Path) (plan : Plan) (p : Path) → plan.path ≡ o → p.asked ≡ true
-    → option_map (met_path v) (match_some o plan (λ path. if is_back v path then advanced v path plan else plan)).path ≡ Some p → o ≡ Some p
-path_back v None plan p here asked e = absurd (none_some (sym (ap (option_map (met_path v)) here) ∙ e))
-  where
-    none_some : None ≡ Some p → ⊥
-    none_some e = absurd (cc)
-path_back v (Some path) plan p here asked e = by_back (is_back v path) e
-  where
-    by_asked : (x : Path) (b : Bool) → x.asked ≡ b → Some (if b then x else record x { stage = met_stage v x.dev x.stage }) ≡ Some p → Some x ≡ Some p
-    by_asked x true is e = e
-    by_asked x false is e =
-        let same = some_path (record x { stage = met_stage v x.dev x.stage }) p e in
-        absurd (true≢false (sym asked ∙ sym (ap (λ (y : Path). y.asked) same) ∙ is))
-
-    by_next : (s : Option Stage) → option_map (met_path v) (path_to path.dev s) ≡ Some p → Some path ≡ Some p
-    by_next None e = absurd (cc)
-    by_next (Some stage) e = absurd (true≢false (sym asked ∙ sym (ap (λ (y : Path). y.asked) (some_path _ p e))))
-
-    by_back : (b : Bool) → option_map (met_path v) (if b then advanced v path plan else plan).path ≡ Some p → Some path ≡ Some p
-    by_back true e = by_next (next_stage path.stage) e
-    by_back false e = by_asked path path.asked refl (sym (ap (option_map (met_path v)) here) ∙ e)
-
-path_seen : (v : Sight) (plan : Plan) (p : Path) → p.asked ≡ true → (device_seen v plan).path ≡ Some p → plan.path ≡ Some p
-path_seen v plan p asked e = path_back v plan.path plan p refl asked e
-
-turn_if : (b : Bool) (t u : Turn) (P : Option Path → Type 0) → (P t.plan.path) → (P u.plan.path) → P (if b then t else u).plan.path
-turn_if true t u P h k = h
-turn_if false t u P h k = k
-
-path_turn : (v : Sight) (plan : Plan) (entries : List (Option Entry)) (p : Path) → p.asked ≡ true → (turn_of v plan entries).plan.path ≡ Some p → plan.path ≡ Some p
-unfolding turn_of
-path_turn v plan entries p asked =
-    turn_if (is_some (early_due v plan)) _ _ (λ o. o ≡ Some p → plan.path ≡ Some p) (λ e. e)
-    (turn_if (is_some (order_allowed v (control_seen v plan) entries)) _ _ (λ o. o ≡ Some p → plan.path ≡ Some p) (λ e. sym (path_control v plan) ∙ e)
-    (λ e. sym (path_control v plan) ∙ path_seen v (control_seen v plan) p asked e))
-
 -- a path that an act leaves was there before, and is not of a device that is cleared
 unless_was : (dev : ℕ) (o : Option Path) (p : Path) → unless dev o ≡ Some p → (o ≡ Some p) × (p.dev ≢ dev)
 unless_was dev None p e = absurd (cc)
@@ -262,7 +225,7 @@ module _ (n : ℕ) (below : n < 15) (old new : Host) (w : IsOnWay old) where
   awaits_then h file acts p here dev named asked = by_act (turn v old.driver).act refl here acts
     where
       was : (turn v old.driver).plan.path ≡ Some p → IsAwaited n old.port
-      was e = h.awaits p (path_turn v old.driver.plan (done_ended v.issued old.driver.entries) p asked e) dev named asked
+      was e = h.awaits p ((goes_turn v old.driver.plan (done_ended v.issued old.driver.entries)).back p e asked) dev named asked
 
       low : p.dev < 15
       low = omega (arith, dev, below)

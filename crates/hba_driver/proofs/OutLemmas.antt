@@ -63,7 +63,7 @@ use Rattle.hba_driver.specs.Served.{IsServed}
 use Rattle.hba_driver.specs.Sights.{px_fbs, px_is}
 use Rattle.hba_driver.specs.Ticks.{effects_due}
 use Rattle.hba_driver.proofs.DrivenLemmas.{no_dec, tried_at}
-use Rattle.hba_driver.proofs.EffectLemmas.{all_at}
+use Rattle.hba_driver.proofs.EffectLemmas.{all_at, issuing_pass, order_pass, restarts_pass, sending_pass}
 use Rattle.hba_driver.proofs.EndingLemmas.{MayClear, MayEnd, is_accepted, may_then, only_cleared}
 use Rattle.hba_driver.proofs.StandLemmas.{both}
 use Rattle.hba_driver.proofs.TickingLemmas.{is_calm}
@@ -359,38 +359,15 @@ out_effects es old new before after slot dev calm other below acts table h =
 
 lasting_issuing : (mode : Mode) (slot dev : ℕ) (queued : Bool) → list_all lasting_effect (issuing mode slot dev queued) ≡ true
 unfolding register_at
-lasting_issuing Switching slot dev true = ap (λ (b : Bool). not b && true) (no_dec dev)
-lasting_issuing Switching slot dev false = ap (λ (b : Bool). not b && true) (no_dec dev)
-lasting_issuing CommandBased slot dev true = refl
-lasting_issuing CommandBased slot dev false = refl
-
-lasting_sending : (mode : Mode) (slot dev : ℕ) (o : Option H2dFields) (buffer : Bool) → list_all lasting_effect (match_some o [] (λ f. sending mode slot dev f buffer)) ≡ true
-lasting_sending mode slot dev None buffer = refl
-lasting_sending mode slot dev (Some f) buffer = lasting_issuing mode slot dev false
-
--- a row that is emptied, or not, by the mode
-lasting_clear : (mode : Mode) (port : ℕ) → list_all lasting_effect (order_effects mode (Clear port)) ≡ true
-unfolding order_effects register_at
-lasting_clear Switching port = lasting_sending Switching 31 15 (order_fields (Clear port)) false
-lasting_clear CommandBased port = lasting_sending CommandBased 31 15 (order_fields (Clear port)) false
-
-lasting_order : (mode : Mode) (order : Order) → list_all lasting_effect (order_effects mode order) ≡ true
-unfolding order_effects register_at
-lasting_order mode Scan = lasting_sending mode 31 15 (order_fields Scan) false
-lasting_order mode (Clear port) = lasting_clear mode port
-lasting_order mode order = lasting_sending mode 31 15 (order_fields order) false
-
-lasting_restart : (k : ℕ) → lasting_effect (restart_write k) ≡ true
-unfolding restart_write register_at
-lasting_restart k = all_at lasting_effect restart_writes k _ refl refl
+lasting_issuing mode slot dev queued = issuing_pass lasting_effect mode slot dev queued (λ on. ap not (no_dec dev)) refl refl
 
 pub lasting_act : (mode : Mode) (a : Option Act) → is_calm a ≡ true → ((k : ℕ) → a ≡ Some (act.Opens k) → ⊥) → list_all lasting_effect (effects_due mode a) ≡ true
-unfolding effects_of
+unfolding effects_of register_at
 lasting_act mode None calm opens = refl
 lasting_act mode (Some (act.Opens k)) calm opens = absurd (opens k refl)
-lasting_act mode (Some (act.Restarts k)) calm opens = rw (lasting_restart k) refl
-lasting_act mode (Some (act.Orders order)) calm opens = lasting_order mode order
-lasting_act mode (Some (act.Steps dev stage)) calm opens = lasting_sending mode 30 dev (stage_fields dev stage) (reads_page stage)
+lasting_act mode (Some (act.Restarts k)) calm opens = restarts_pass lasting_effect mode k refl refl
+lasting_act mode (Some (act.Orders order)) calm opens = order_pass lasting_effect mode order refl (λ port is. (refl, refl)) (λ f. refl) (lasting_issuing mode 31 15 false)
+lasting_act mode (Some (act.Steps dev stage)) calm opens = sending_pass lasting_effect mode 30 dev (stage_fields dev stage) (reads_page stage) (λ f. refl) (lasting_issuing mode 30 dev false)
 lasting_act mode (Some (act.Issues slot dev queued)) calm opens = lasting_issuing mode slot dev queued
 lasting_act mode other calm opens = absurd (false≢true calm)
 

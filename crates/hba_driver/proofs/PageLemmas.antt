@@ -41,7 +41,8 @@ use Rattle.hba_driver.specs.Orders.{order_fields}
 use Rattle.hba_driver.specs.Paths.{next_stage, reads_page, stage_fields}
 use Rattle.hba_driver.specs.Ticks.{acted, after_tick, done_ended, due, effects_due, ordered, plan_after, seen, unless}
 use Rattle.hba_driver.specs.Turns.{advanced, answered, control_seen, device_seen, early_due, is_back, met_path, met_stage, noted, order_allowed, path_answered, path_to, turn_of}
-use Rattle.hba_driver.proofs.EffectLemmas.{all_at}
+use Rattle.hba_driver.proofs.DueLemmas.{goes_turn}
+use Rattle.hba_driver.proofs.EffectLemmas.{issuing_pass, opens_pass, order_pass, restarts_pass}
 use Rattle.hba_driver.proofs.HistoryLemmas.{free_below}
 use Rattle.hba_driver.proofs.InsideLemmas.{as_long}
 use Rattle.hba_driver.proofs.ReadLemmas.{HasPage}
@@ -57,60 +58,11 @@ use Rattle.hba_driver.proofs.SwitchLemmas.{tick_acts, tick_possible}
 abbrev Back : Option Path → Option Path → Type 0
 Back old new = (x : Path) → new ≡ Some x → x.asked ≡ true → old ≡ Some x
 
-back_same : (o p : Option Path) → p ≡ o → Back o p
-back_same o p same x here out = sym same ∙ here
-
-noted_path : (v : Sight) (order : Order) (plan : Plan) → (noted v order plan).path ≡ plan.path
-unfolding noted
-noted_path v CountPorts plan = refl
-noted_path v Scan plan = refl
-noted_path v (Detect port) plan = refl
-noted_path v order plan = refl
-
-control_path : (v : Sight) (plan : Plan) → (control_seen v plan).path ≡ plan.path
-control_path v plan =
-    let P : Plan → Type 0 = λ (q : Plan). q.path ≡ plan.path in
-    let first : P (answered v plan) = either P (plan.asked && not (has_bit v.issued 31)) _ plan (noted_path v plan.order plan) refl in
-    either P (answered v plan).asked (answered v plan) _ first first
-
 none_there : (x : Path) {P : Type 0} → None ≡ Some x → P
 none_there x h = cc
 
-to_back : (o : Option Path) (dev : ℕ) (stage : Option Stage) → Back o (path_to dev stage)
-to_back o dev None x here out = let bad : None ≡ Some x = here in cc
-to_back o dev (Some stage) x here out =
-    let same : record { dev = dev; stage = stage; asked = false } ≡ x = cc in
-    absurd (false≢true (ap (λ (p : Path). p.asked) same ∙ out))
-
-answered_back : (v : Sight) (plan : Plan) (o : Option Path) → plan.path ≡ o → Back plan.path (match_some o plan (λ path. if is_back v path then advanced v path plan else plan)).path
-answered_back v plan None is = back_same plan.path plan.path refl
-answered_back v plan (Some path) is =
-    either (λ (q : Plan). Back plan.path q.path) (is_back v path) (advanced v path plan) plan (to_back plan.path path.dev (next_stage path.stage)) (back_same plan.path plan.path refl)
-
-met_one : (v : Sight) (path : Path) (b : Bool) → path.asked ≡ b → Back (Some path) (Some (if b then path else record path { stage = met_stage v path.dev path.stage }))
-met_one v path true is x here out = here
-met_one v path false is x here out =
-    let same : record path { stage = met_stage v path.dev path.stage } ≡ x = cc in
-    absurd (false≢true (sym is ∙ ap (λ (p : Path). p.asked) same ∙ out))
-
-met_back : (v : Sight) (o : Option Path) → Back o (option_map (met_path v) o)
-met_back v None = λ x here out. none_there x here
-met_back v (Some path) = met_one v path path.asked refl
-
-device_back : (v : Sight) (plan : Plan) → Back plan.path (device_seen v plan).path
-device_back v plan x here out = answered_back v plan plan.path refl x (met_back v (path_answered v plan).path x here out) out
-
-back_by : (o p q : Option Path) → p ≡ o → Back p q → Back o q
-back_by o p q same back x here out = sym same ∙ back x here out
-
 pub turn_back : (v : Sight) (plan : Plan) (entries : List (Option Entry)) → Back plan.path (turn_of v plan entries).plan.path
-unfolding turn_of
-turn_back v plan entries =
-    let P : Turn → Type 0 = λ (t : Turn). Back plan.path t.plan.path in
-    let q : Plan = control_seen v plan in
-    let here : Back plan.path q.path = back_same plan.path q.path (control_path v plan) in
-    either P (is_some (early_due v plan)) _ _ (back_same plan.path plan.path refl)
-    (either P (is_some (order_allowed v q entries)) _ _ here (back_by plan.path q.path (device_seen v q).path (control_path v plan) (device_back v q)))
+turn_back v plan entries = (goes_turn v plan entries).back
 
 unless_back : (dev : ℕ) (o : Option Path) → Back o (unless dev o)
 unless_back dev None = λ x here out. none_there x here
@@ -185,27 +137,13 @@ Elsewhere (Some (act.Steps dev stage)) = ⊥
 Elsewhere a = Unit {0}
 
 spares_issuing : (slot dev : ℕ) (queued : Bool) → list_all spares_page (issuing Switching slot dev queued) ≡ true
-spares_issuing slot dev true = refl
-spares_issuing slot dev false = refl
-
-spares_opens : (k : ℕ) → spares_page (opening_write Switching k) ≡ true
-unfolding opening_write
-spares_opens k = all_at spares_page (opening_writes Switching) k _ refl refl
-
-spares_restarts : (k : ℕ) → spares_page (restart_write k) ≡ true
-unfolding restart_write
-spares_restarts k = all_at spares_page restart_writes k _ refl refl
-
-spares_order : (order : Order) → list_all spares_page (order_effects Switching order) ≡ true
-unfolding order_fields order_effects
-spares_order ResetOn = refl
-spares_order other = refl
+spares_issuing slot dev queued = issuing_pass spares_page Switching slot dev queued (λ on. refl) refl refl
 
 spares_due : (a : Option Act) → Elsewhere a → list_all spares_page (effects_due Switching a) ≡ true
 unfolding effects_of
-spares_due (Some (act.Opens k)) other = rw (spares_opens k) refl
-spares_due (Some (act.Restarts k)) other = rw (spares_restarts k) refl
-spares_due (Some (act.Orders order)) other = spares_order order
+spares_due (Some (act.Opens k)) other = opens_pass spares_page Switching k refl refl
+spares_due (Some (act.Restarts k)) other = restarts_pass spares_page Switching k refl refl
+spares_due (Some (act.Orders order)) other = order_pass spares_page Switching order refl (λ port is. (refl, refl)) (λ f. refl) (spares_issuing 31 15 false)
 spares_due (Some (act.Steps dev stage)) other = absurd other
 spares_due (Some (act.Issues slot dev queued)) other = spares_issuing slot dev queued
 spares_due rest other = refl

@@ -20,6 +20,7 @@ use Rattle.hba_driver.specs.declared.turn.Turn.{Turn}
 use Rattle.hba_driver.specs.Drivers.{Driver, Entry}
 use Rattle.hba_driver.specs.Ticks.{acts, any_done, done_ended, due, is_done, logged_ended, seen, turn}
 use Rattle.hba_driver.specs.Turns.{advanced, awaits, awaits_reset, control_news, control_seen, control_turn, device_news, device_seen, early_due, is_back, is_in_reset, is_out, logged_by, met, met_order, met_path, met_stage, order_allowed, path_met, path_news, turn_of, watches}
+use Rattle.hba_driver.proofs.DueLemmas.{turn_by}
 use Rattle.hba_driver.proofs.ScanLemmas.{none_rephased}
 
 -- ---- slot 31
@@ -122,21 +123,11 @@ device_quiet v plan h = ap (path_met v) (answered_quiet v plan plan.path h) ∙ 
 abbrev Rests : Plan → Turn → Type 0
 Rests plan t = t.act ≡ None → t.news ≡ false → (t.plan ≡ plan) × (t.logged ≡ None)
 
-if_rests : (b : Bool) (plan : Plan) (t u : Turn) → (b ≡ true → Rests plan t) → (b ≡ false → Rests plan u) → Rests plan (if b then t else u)
-if_rests true plan t u f g = f refl
-if_rests false plan t u f g = g refl
-
-rest_control : (v : Sight) (plan : Plan) (entries : List (Option Entry)) → Rests plan (control_turn v (control_news v plan) (control_seen v plan) entries)
-rest_control v plan entries =
-    if_rests (is_some (order_allowed v (control_seen v plan) entries)) plan _ _
-    (λ some a n. absurd (false≢true (rw a at some)))
-    (λ none a n.
+rest_turn : (v : Sight) (plan : Plan) (entries : List (Option Entry)) → Rests plan (turn_of v plan entries)
+rest_turn v plan entries =
+    turn_by (Rests plan) v plan entries (λ a n. (refl, refl)) (λ a n. (control_quiet v plan n, refl)) (λ a n.
     let parts = or_parts (control_news v plan) (device_news v (control_seen v plan)) n in
     (device_quiet v (control_seen v plan) parts.1 ∙ control_quiet v plan parts.0, logged_quiet v (control_seen v plan).path parts.1))
-
-rest_turn : (v : Sight) (plan : Plan) (entries : List (Option Entry)) → Rests plan (turn_of v plan entries)
-unfolding turn_of
-rest_turn v plan entries = if_rests (is_some (early_due v plan)) plan _ _ (λ some a n. (refl, refl)) (λ none. rest_control v plan entries)
 
 rests : (v : Sight) (d : Driver) → length d.entries ≡ 30 → any_done v.issued d.entries ≡ false → (turn v d).act ≡ None → (turn v d).news ≡ false → seen v d ≡ d
 unfolding any_done

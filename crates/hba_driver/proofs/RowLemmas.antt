@@ -33,12 +33,12 @@ use Rattle.hba_driver.specs.Effects.{Acts, ActsAll, effects_of, is_effect, issui
 use Rattle.hba_driver.specs.Events.{IsSoundHost, opening_host}
 use Rattle.hba_driver.specs.HostTurns.{Does, Host, HostTurn, Took, Pushed, Ticked, Submitted, Polled, Put, sight_in}
 use Rattle.hba_driver.specs.Orders.{order_fields}
-use Rattle.hba_driver.specs.Paths.{stage_fields}
+use Rattle.hba_driver.specs.Paths.{reads_page, stage_fields}
 use Rattle.hba_driver.specs.Sights.{is_ata, last_d2h}
 use Rattle.hba_driver.specs.Steady.{HasSignature, IsCalmAct, IsFlushTick, IsRowTurn}
 use Rattle.hba_driver.specs.Submits.{next_slot}
 use Rattle.hba_driver.specs.Ticks.{due, effects_due}
-use Rattle.hba_driver.proofs.EffectLemmas.{all_at}
+use Rattle.hba_driver.proofs.EffectLemmas.{issuing_pass, opens_pass, order_pass, restarts_pass, sending_pass}
 use Rattle.hba_driver.proofs.HistoryLemmas.{free_below}
 use Rattle.hba_driver.proofs.ModeLemmas.{posts_own}
 use Rattle.hba_driver.proofs.RowMode.{started_mode}
@@ -112,29 +112,15 @@ row_acts n (e ∷ es) old new before after low spared is h long =
     let rest : Same (place n) 20 h.1.structure after.structure = row_acts n es h.0 new h.1 after low s.1 f.1 h.4 first.long in
     record { long = rest.long; agree = λ i below. first.agree i below ∙ rest.agree i below }
 
-and_true : (b : Bool) → b ≡ true → (b && true) ≡ true
-and_true b h = ap (λ (x : Bool). x && true) h
-
-spares_order : (n : ℕ) (order : Order) → order ≢ Clear n → list_all (spares n) (order_effects Switching order) ≡ true
-unfolding order_effects order_fields
-spares_order n (Clear port) other = ap (λ (b : Bool). not b && true) (ne_eqb port n (λ same. other (ap Clear same)))
-spares_order n rest other = refl
-
-spares_stage : (n dev : ℕ) (stage : Stage) → list_all (spares n) (stage_effects Switching dev stage) ≡ true
-unfolding stage_fields
-spares_stage n dev Identify = refl
-spares_stage n dev other = refl
-
 spares_issuing : (n slot dev : ℕ) (queued : Bool) → list_all (spares n) (issuing Switching slot dev queued) ≡ true
-spares_issuing n slot dev true = refl
-spares_issuing n slot dev false = refl
+spares_issuing n slot dev queued = issuing_pass (spares n) Switching slot dev queued (λ on. refl) refl refl
 
 spares_act : (n : ℕ) (a : Option Act) → IsCalmAct n a → list_all (spares n) (effects_due Switching a) ≡ true
-unfolding effects_of opening_write restart_write
-spares_act n (Some (act.Opens k)) calm = and_true _ (all_at (spares n) (opening_writes Switching) k _ refl refl)
-spares_act n (Some (act.Restarts k)) calm = and_true _ (all_at (spares n) restart_writes k _ refl refl)
-spares_act n (Some (act.Orders order)) calm = spares_order n order calm
-spares_act n (Some (act.Steps dev stage)) calm = spares_stage n dev stage
+unfolding effects_of
+spares_act n (Some (act.Opens k)) calm = opens_pass (spares n) Switching k refl refl
+spares_act n (Some (act.Restarts k)) calm = restarts_pass (spares n) Switching k refl refl
+spares_act n (Some (act.Orders order)) calm = order_pass (spares n) Switching order refl (λ port is. (refl, ap not (ne_eqb port n (λ same. calm (is ∙ ap Clear same))))) (λ f. refl) (spares_issuing n 31 15 false)
+spares_act n (Some (act.Steps dev stage)) calm = sending_pass (spares n) Switching 30 dev (stage_fields dev stage) (reads_page stage) (λ f. refl) (spares_issuing n 30 dev false)
 spares_act n (Some (act.Issues slot dev queued)) calm = spares_issuing n slot dev queued
 spares_act n other calm = refl
 

@@ -23,7 +23,7 @@ use Rattle.hba_driver.specs.Slot31.{is_off, is_on}
 use Rattle.hba_driver.specs.Ticks.{acted, after_tick, done_ended, due, from_reset, plan_after, recovering, seen}
 use Rattle.hba_driver.specs.Turns.{advanced, allowed, answered, control_news, control_seen, device_due, device_seen, device_turn, early_due, found_of, is_back, is_due, issue_of, may_issue, met, met_order, noted, order_due, path_due, plain_turn, request_due, stage_due, stage_for, step_of, turn_of, with_next}
 use Rattle.hba_driver.specs.Going.{leaves_port}
-use Rattle.hba_driver.proofs.DueLemmas.{allowed_keeps}
+use Rattle.hba_driver.proofs.DueLemmas.{early_by, late_by, order_allowed_by, turn_by}
 use Rattle.hba_driver.proofs.StopLemmas.{either}
 
 -- ---- the part of a plan that concerns slot 31
@@ -64,85 +64,11 @@ pub data IsSeen (v : Sight) (p : Plan) (a : Option Act) (q : Plan) : Type 0 wher
   Looked : IsOther a → control_in q ≡ control_in (control_seen v p) → IsSeen v p a q
   Ordered : (o : Order) → a ≡ Some (act.Orders o) → control_in q ≡ control_in (control_seen v p) → q.asked ≡ false → q.order ≡ o → is_some (order_fields o) ≡ true → IsSeen v p a q
 
-or_other : (a b : Option Act) → IsOther a → IsOther b → IsOther (option_or a b)
-or_other None b h k = k
-or_other (Some a) b h k = h
-
-map_other : (o : Option ℕ) → IsOther (option_map act.Clears o)
-map_other None = tt
-map_other (Some dev) = tt
-
-early_other : (v : Sight) (p : Plan) → IsOther (early_due v p)
-unfolding early_due
-early_other v p =
-    or_other _ _ (either IsOther (nat_lt p.opened 7) _ _ tt tt)
-    (or_other _ _ (either IsOther (nat_lt p.restarted 2) _ _ tt tt) (either IsOther v.stopped _ _ tt (map_other v.faulty)))
-
-step_other : (dev : ℕ) (stage : Stage) → IsOther (step_of dev stage)
-step_other dev stage = by_fields (stage_fields dev stage)
-  where
-    by_fields : (o : Option H2dFields) → IsOther (option_map (λ (f : H2dFields). act.Steps dev stage) o)
-    by_fields None = tt
-    by_fields (Some f) = tt
-
-stage_other : (dev : ℕ) (o : Option Stage) → IsOther (match_some o None (step_of dev))
-stage_other dev None = tt
-stage_other dev (Some stage) = step_other dev stage
-
-lowest_other : (v : Sight) (p : Plan) (o : Option ℕ) → IsOther (match_some o None (stage_due v p))
-lowest_other v p None = tt
-lowest_other v p (Some dev) = stage_other dev (stage_for v p dev)
-
-path_other : (v : Sight) (p : Plan) (o : Option Path) → IsOther (match_some o (match_some (lowest_below (is_due v p) 15) None (stage_due v p)) path_due)
-path_other v p None = lowest_other v p (lowest_below (is_due v p) 15)
-path_other v p (Some path) = either IsOther path.asked None (step_of path.dev path.stage) tt (step_other path.dev path.stage)
-
-device_other : (v : Sight) (p : Plan) → IsOther (device_due v p)
-unfolding device_due
-device_other v p = path_other v p p.path
-
-issue_other : (slot : ℕ) (o : Option Entry) → IsOther (issue_of slot o)
-issue_other slot None = tt
-issue_other slot (Some e) = tt
-
-request_other : (p : Plan) (entries : List (Option Entry)) → IsOther (request_due p entries)
-unfolding request_due
-request_other p entries = by_slot (lowest_below (λ slot. may_issue p (entry_at entries slot)) 30)
-  where
-    by_slot : (o : Option ℕ) → IsOther (match_some o None (λ slot. issue_of slot (entry_at entries slot)))
-    by_slot None = tt
-    by_slot (Some slot) = issue_other slot (entry_at entries slot)
-
-module _ (v : Sight) (p : Plan) (entries : List (Option Entry)) where
-  abbrev Seen : Turn → Type 0
-  Seen t = IsSeen v p t.act t.plan
-
-  abbrev c : Plan
-  c = control_seen v p
-
-  abbrev d : Plan
-  d = device_seen v c
-
-  other_allowed : (q : Plan) (a : Option Act) → IsOther a → IsOther (allowed q.mode v q entries a)
-  other_allowed q a h = allowed_keeps IsOther tt q.mode v q entries a h
-
-  devices_seen : Seen (device_turn v (control_news v p) c entries)
-  devices_seen = Looked (or_other _ _ (other_allowed d (device_due v d) (device_other v d)) (other_allowed d (request_due d entries) (request_other d entries))) (device_same v c)
-
-  -- what is due for slot 31, and what may go of it
-  abbrev SeenBy : Option Act → Type 0
-  SeenBy a = Seen (if is_some a then plain_turn c a (control_news v p) else device_turn v (control_news v p) c entries)
-
-  due_seen_by : (b : Bool) (o : Option H2dFields) → c.asked ≡ b → order_fields c.order ≡ o → SeenBy (if b then None else option_map (λ (f : H2dFields). act.Orders c.order) o)
-  due_seen_by true o asked fields = devices_seen
-  due_seen_by false None asked fields = devices_seen
-  due_seen_by false (Some f) asked fields = Ordered c.order refl refl asked refl (ap is_some fields)
-
-  pub turn_seen : IsSeen v p (turn_of v p entries).act (turn_of v p entries).plan
-  unfolding turn_of
-  turn_seen =
-      either Seen (is_some (early_due v p)) _ _ (Early (early_other v p) refl)
-      (allowed_keeps SeenBy devices_seen c.mode v c entries (order_due c) (due_seen_by c.asked (order_fields c.order) refl refl))
+pub turn_seen : (v : Sight) (p : Plan) (entries : List (Option Entry)) → IsSeen v p (turn_of v p entries).act (turn_of v p entries).plan
+turn_seen v p entries =
+    turn_by (λ t. IsSeen v p t.act t.plan) v p entries (Early (early_by IsOther tt v p (λ h. tt) (λ h. tt) (λ h. tt) (λ dev h. tt)) refl)
+    (order_allowed_by (λ a. IsSeen v p a (control_seen v p)) (Looked tt refl) v (control_seen v p) entries (λ un fields. Ordered (control_seen v p).order refl refl un refl fields))
+    (Looked (late_by IsOther tt v (device_seen v (control_seen v p)) entries (λ dev stage way fields. tt) (λ slot e h. tt)) (device_same v (control_seen v p)))
 
 -- ---- what an act leaves of it
 

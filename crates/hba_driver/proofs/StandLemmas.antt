@@ -38,10 +38,10 @@ use Rattle.hba_driver.specs.Effects.{Acts, ActsAll, effects_of, emptying, is_eff
 use Rattle.hba_driver.specs.HostTurns.{AreHosts, Does, DoesAll, Host, HostTurn, IsHost, Took, Pushed, Ticked, Submitted, Polled, Put, sight_in}
 use Rattle.hba_driver.specs.Laws.{CommandsStand, Stands, gives}
 use Rattle.hba_driver.specs.Orders.{order_fields}
-use Rattle.hba_driver.specs.Paths.{stage_fields}
+use Rattle.hba_driver.specs.Paths.{reads_page, stage_fields}
 use Rattle.hba_driver.specs.Submits.{next_slot}
 use Rattle.hba_driver.specs.Ticks.{due, effects, effects_due}
-use Rattle.hba_driver.proofs.EffectLemmas.{all_at}
+use Rattle.hba_driver.proofs.EffectLemmas.{issuing_pass, opens_pass, order_pass, restarts_pass, sending_pass}
 use Rattle.hba_driver.proofs.HistoryLemmas.{free_below, free_other, lives_turn, none_gives, requests_turn}
 use Rattle.hba_driver.proofs.RowMode.{heard_as}
 use Rattle.hba_driver.proofs.SubmitLemmas.{is_taken}
@@ -146,41 +146,14 @@ same_acts at count own (e ∷ es) old new before after is l h long =
 
 -- each act writes commands only into the slots 30 and 31
 late_issuing : (mode : Mode) (slot dev : ℕ) (queued : Bool) → list_all late (issuing mode slot dev queued) ≡ true
-late_issuing Switching slot dev true = refl
-late_issuing Switching slot dev false = refl
-late_issuing CommandBased slot dev true = refl
-late_issuing CommandBased slot dev false = refl
-
-late_emptying : (mode : Mode) (dev : ℕ) (es : List Effect) → list_all late es ≡ true → list_all late (emptying mode dev ++ es) ≡ true
-late_emptying Switching dev es h = h
-late_emptying CommandBased dev es h = h
-
-late_opens : (mode : Mode) (k : ℕ) → late (opening_write mode k) ≡ true
-unfolding opening_write
-late_opens mode k = all_at late (opening_writes mode) k _ refl refl
-
-late_restarts : (k : ℕ) → late (restart_write k) ≡ true
-unfolding restart_write
-late_restarts k = all_at late restart_writes k _ refl refl
-
-late_stage : (mode : Mode) (dev : ℕ) (stage : Stage) → list_all late (stage_effects mode dev stage) ≡ true
-unfolding stage_fields
-late_stage mode dev AwaitReset = refl
-late_stage mode dev other = late_issuing mode 30 dev false
-
-late_order : (mode : Mode) (order : Order) → list_all late (order_effects mode order) ≡ true
-unfolding order_fields order_effects
-late_order mode AwaitSignature = refl
-late_order mode (Clear port) = late_emptying mode port (order_command mode (Clear port)) (late_issuing mode 31 15 false)
-late_order mode Watch = refl
-late_order mode other = late_issuing mode 31 15 false
+late_issuing mode slot dev queued = issuing_pass late mode slot dev queued (λ on. refl) refl refl
 
 pub late_act : (mode : Mode) (a : Option Act) → list_all late (effects_due mode a) ≡ true
 unfolding effects_of
-late_act mode (Some (act.Opens k)) = rw (late_opens mode k) refl
-late_act mode (Some (act.Restarts k)) = rw (late_restarts k) refl
-late_act mode (Some (act.Orders order)) = late_order mode order
-late_act mode (Some (act.Steps dev stage)) = late_stage mode dev stage
+late_act mode (Some (act.Opens k)) = opens_pass late mode k refl refl
+late_act mode (Some (act.Restarts k)) = restarts_pass late mode k refl refl
+late_act mode (Some (act.Orders order)) = order_pass late mode order refl (λ port is. (refl, refl)) (λ f. refl) (late_issuing mode 31 15 false)
+late_act mode (Some (act.Steps dev stage)) = sending_pass late mode 30 dev (stage_fields dev stage) (reads_page stage) (λ f. refl) (late_issuing mode 30 dev false)
 late_act mode (Some (act.Issues slot dev queued)) = late_issuing mode slot dev queued
 late_act mode other = refl
 

@@ -27,7 +27,30 @@ use Rattle.hba_driver.specs.Paths.{first_stage, next_stage, stage_fields}
 use Rattle.hba_driver.specs.Steady.{IsAskedOf, IsCalmAct, IsFine, IsSteadyPlan, detects}
 use Rattle.hba_driver.specs.Ticks.{from_reset, ordered, plan_after, recovering, unless}
 use Rattle.hba_driver.specs.Turns.{advanced, allowed, answered, control_news, control_seen, control_turn, detected, device_due, device_or_request, device_seen, early_due, fault_due, found_of, is_back, is_due, is_there, issue_of, may_issue, met, met_order, met_path, noted, opening_due, order_allowed, order_due, path_answered, path_due, path_met, path_to, request_due, restart_due, signed_order, stage_due, stage_for, step_of, turn_of, with_next}
-use Rattle.hba_driver.proofs.DueLemmas.{allowed_keeps}
+use Rattle.hba_driver.proofs.DueLemmas.{early_by, met_asked, late_by, order_allowed_by, turn_by}
+
+-- ---- what does not concern the device
+
+-- The device and its path are as they were. It is looked for only if it was before.
+pub record Beside (n : ℕ) (p q : Plan) : Type 0 where
+  pub device : device_at q n ≡ device_at p n
+  pub path : (x : Path) → x.dev ≡ n → p.path ≡ Some x → q.path ≡ Some x
+  pub back : (x : Path) → x.dev ≡ n → q.path ≡ Some x → p.path ≡ Some x
+  pub order : detects n q.asked q.order ≡ true → detects n p.asked p.order ≡ true
+
+pub beside_same : (n : ℕ) (p : Plan) → Beside n p p
+beside_same n p = record { device = refl; path = λ x to here. here; back = λ x to here. here; order = λ on. on }
+
+pub beside_then : (n : ℕ) (p q r : Plan) → Beside n p q → Beside n q r → Beside n p r
+beside_then n p q r h k = record {
+  device = k.device ∙ h.device;
+  path = λ x to here. k.path x to (h.path x to here);
+  back = λ x to here. h.back x to (k.back x to here);
+  order = λ on. h.order (k.order on);
+}
+
+beside_path : (n : ℕ) (p q : Plan) → device_at q n ≡ device_at p n → q.path ≡ p.path → (detects n q.asked q.order ≡ true → detects n p.asked p.order ≡ true) → Beside n p q
+beside_path n p q device path order = record { device = device; path = λ x to here. path ∙ here; back = λ x to here. sym path ∙ here; order = order }
 
 -- ---- what goes on
 
@@ -63,6 +86,9 @@ keeps_beside n signs p q h same path order = record {
     | inr there ↦ inl (inr (there.0, (path there.0 there.1.0 there.1.1, there.1.1)))
   ];
 }
+
+keeps_as : (n : ℕ) (signs : Type 0) (p q : Plan) → IsSteadyPlan n p → Beside n p q → PlanKeeps n signs p q
+keeps_as n signs p q h b = keeps_beside n signs p q h b.device (λ x here to. b.back x to here) b.order
 
 -- ---- devices that are set
 
@@ -112,66 +138,26 @@ never_open n ports from h = by_test (nat_lt from ports) h
     by_test true k = false≢true k
     by_test false k = false≢true k
 
--- if the search for a device is answered, the device was absent
-module _ (n : ℕ) (signs : Type 0) (v : Sight) (plan : Plan) (h : IsSteadyPlan n plan) where
-  detected_here : (port : ℕ) → plan.order ≡ Detect port → port ≡ n → PlanKeeps n signs plan (with_next (Detect port) (noted v (Detect port) plan))
+pub equal_is : (x y : ℕ) → x ≡ y → (x == y) ≡ true
+equal_is x y e = grind (arith, nat_tests)
+
+module _ (n : ℕ) (v : Sight) (plan : Plan) where
+  answers_beside : (order : Order) → plan.order ≡ order → plan.asked ≡ true → order ≢ Detect n → Beside n plan (with_next order (noted v order plan))
   unfolding noted next_order
-  detected_here port is same =
-      let none : device_at plan n ≡ Absent = h.order (subst (λ (o : Order). detects n plan.asked o ≡ true) (sym is) (equal_is port n same)) in
-      let now : (device_at (with_device port (detected v.answer (device_at plan port)) plan) n ≡ Starting) ⊎ (device_at (with_device port (detected v.answer (device_at plan port)) plan) n ≡ Absent) =
-      subst (λ (k : ℕ). (device_at (with_device k (detected v.answer (device_at plan k)) plan) n ≡ Starting) ⊎ (device_at (with_device k (detected v.answer (device_at plan k)) plan) n ≡ Absent)) (sym same)
-      (set_cases_at plan.devices n v.answer (device_at plan n) none) in
-      record {
-        steady = record {
-          fine = elim now [ inl s ↦ subst IsFine (sym s) tt | inr a ↦ subst IsFine (sym a) tt ];
-          path = λ x here to. absurd (absent_starting (device_at plan n) none (h.path x here to).1.1);
-          order = λ on. absurd (never n plan.found (port + 1) on);
-        };
-        ready = λ r. absurd (absent_ready (device_at plan n) none r);
-        asks = λ a. elim a [
-          | inl r ↦ elim now [ inl s ↦ absurd (starting_ready _ s r) | inr b ↦ absurd (absent_ready _ b r) ]
-          | inr there ↦ inl (inr there)
-        ];
-      }
-    where
-      equal_is : (x y : ℕ) → x ≡ y → (x == y) ≡ true
-      equal_is x y e = grind (arith, nat_tests)
+  answers_beside Enable is out other = beside_path n plan _ refl refl (λ on. absurd (never_open n plan.ports 0 on))
+  answers_beside (Open port) is out other = beside_path n plan _ refl refl (λ on. absurd (never_open n plan.ports (port + 1) on))
+  answers_beside Scan is out other = beside_path n plan _ refl refl (λ on. absurd (never n v.answer 0 on))
+  answers_beside (Clear port) is out other = beside_path n plan _ refl refl (λ on. subst (λ (o : Order). detects n plan.asked o ≡ true) (sym is) (subst (λ (b : Bool). detects n b (Clear port) ≡ true) (sym out) on))
+  answers_beside (Detect port) is out other = beside_path n plan _ (set_other plan.devices port n (detected v.answer (device_at plan port)) (λ e. other (ap Detect (sym e)))) refl (λ on. absurd (never n plan.found (port + 1) on))
+  answers_beside rest is out other = beside_path n plan (with_next rest (noted v rest plan)) refl refl (λ on. absurd (false≢true on))
 
-      set_cases_at : (devices : List Device) (n answer : ℕ) (was : Device) → was ≡ Absent
-          → (get_or (set devices n (detected answer was)) n Absent ≡ Starting) ⊎ (get_or (set devices n (detected answer was)) n Absent ≡ Absent)
-      set_cases_at devices n answer was absent = elim (set_same devices n (detected answer was)) [
-        | inl is ↦ elim (detected_cases answer was absent) [ inl s ↦ inl (is ∙ s) | inr a ↦ inr (is ∙ a) ]
-        | inr past ↦ inr past
-      ]
+  answered_if : plan.order ≢ Detect n → (a out : Bool) → plan.asked ≡ a → Beside n plan (if a && not out then with_next plan.order (noted v plan.order plan) else plan)
+  answered_if other true false on = answers_beside plan.order refl on other
+  answered_if other true true on = beside_same n plan
+  answered_if other false out on = beside_same n plan
 
-  beside : (next : Plan) → next.devices ≡ plan.devices → next.path ≡ plan.path → (detects n next.asked next.order ≡ true → detects n plan.asked plan.order ≡ true) → PlanKeeps n signs plan next
-  beside next devices path order =
-      keeps_beside n signs plan next h (ap (λ (ds : List Device). get_or ds n Absent) devices) (λ x here to. sym path ∙ here) order
-
-  answers_order : (order : Order) → plan.order ≡ order → plan.asked ≡ true → PlanKeeps n signs plan (with_next order (noted v order plan))
-  unfolding noted next_order
-  answers_order ResetOn is out = beside _ refl refl (λ on. absurd (false≢true on))
-  answers_order ResetOff is out = beside _ refl refl (λ on. absurd (false≢true on))
-  answers_order AwaitSignature is out = beside _ refl refl (λ on. absurd (false≢true on))
-  answers_order CountPorts is out = beside _ refl refl (λ on. absurd (false≢true on))
-  answers_order SetMask is out = beside _ refl refl (λ on. absurd (false≢true on))
-  answers_order Enable is out = beside _ refl refl (λ on. absurd (never_open n plan.ports 0 on))
-  answers_order (Open port) is out = beside _ refl refl (λ on. absurd (never_open n plan.ports (port + 1) on))
-  answers_order Scan is out = beside _ refl refl (λ on. absurd (never n v.answer 0 on))
-  answers_order (Clear port) is out = beside _ refl refl (λ on. subst (λ (o : Order). detects n plan.asked o ≡ true) (sym is) (subst (λ (b : Bool). detects n b (Clear port) ≡ true) (sym out) on))
-  answers_order (Detect port) is out = elim (cases_eq port n) [
-    | inl same ↦ detected_here port is same
-    | inr other ↦ keeps_beside n signs plan _ h (set_other plan.devices port n (detected v.answer (device_at plan port)) (λ e. other (sym e))) (λ x here to. here) (λ on. absurd (never n plan.found (port + 1) on))
-  ]
-  answers_order Watch is out = beside _ refl refl (λ on. absurd (false≢true on))
-
-  answers_if : (a out : Bool) → plan.asked ≡ a → PlanKeeps n signs plan (if a && not out then with_next plan.order (noted v plan.order plan) else plan)
-  answers_if true false on = answers_order plan.order refl on
-  answers_if true true on = keeps_none n signs plan h
-  answers_if false out on = keeps_none n signs plan h
-
-  pub answered_keeps : PlanKeeps n signs plan (answered v plan)
-  answered_keeps = answers_if plan.asked (Rattle.hba_driver.specs.Turns.is_out v plan) refl
+  answered_beside : plan.order ≢ Detect n → Beside n plan (answered v plan)
+  answered_beside other = answered_if other plan.asked (Rattle.hba_driver.specs.Turns.is_out v plan) refl
 
   signed_never : detects n false (signed_order v) ≡ true → ⊥
   signed_never on = by_test v.resetting (v.answer == 0x96690101) on
@@ -192,17 +178,62 @@ module _ (n : ℕ) (signs : Type 0) (v : Sight) (plan : Plan) (h : IsSteadyPlan 
   met_never ResetOn on = on
   met_never other on = on
 
-  met_if : (a : Bool) → plan.asked ≡ a → PlanKeeps n signs plan (if a then plan else record plan { order = met_order v plan.order })
-  met_if true is = keeps_none n signs plan h
-  met_if false is = beside _ refl refl (λ on. subst (λ (b : Bool). detects n b plan.order ≡ true) (sym is) (met_never plan.order (subst (λ (b : Bool). detects n b (met_order v plan.order) ≡ true) is on)))
+  met_if : (a : Bool) → plan.asked ≡ a → Beside n plan (if a then plan else record plan { order = met_order v plan.order })
+  met_if true is = beside_same n plan
+  met_if false is = beside_path n plan _ refl refl (λ on. subst (λ (b : Bool). detects n b plan.order ≡ true) (sym is) (met_never plan.order (subst (λ (b : Bool). detects n b (met_order v plan.order) ≡ true) is on)))
 
-  pub met_keeps : PlanKeeps n signs plan (met v plan)
-  met_keeps = met_if plan.asked refl
+  pub met_beside : Beside n plan (met v plan)
+  met_beside = met_if plan.asked refl
+
+pub control_beside : (n : ℕ) (v : Sight) (plan : Plan) → plan.order ≢ Detect n → Beside n plan (control_seen v plan)
+control_beside n v plan other = beside_then n plan (answered v plan) (control_seen v plan) (answered_beside n v plan other) (met_beside n v (answered v plan))
+
+pub detect_or_other : (n : ℕ) (o : Order) → (o ≡ Detect n) ⊎ (o ≢ Detect n)
+detect_or_other n (Detect port) = elim (cases_eq port n) [
+  | inl same ↦ inl (ap Detect same)
+  | inr other ↦ inr (λ e. other (let same : port ≡ n = cc in same))
+]
+detect_or_other n o = inr (λ e. cc)
+
+-- if the search for a device is answered, the device was absent
+module _ (n : ℕ) (signs : Type 0) (v : Sight) (plan : Plan) (h : IsSteadyPlan n plan) where
+  detected_here : plan.order ≡ Detect n → PlanKeeps n signs plan (with_next (Detect n) (noted v (Detect n) plan))
+  unfolding noted next_order
+  detected_here is =
+      let none : device_at plan n ≡ Absent = h.order (subst (λ (o : Order). detects n plan.asked o ≡ true) (sym is) (equal_is n n refl)) in
+      let now : (device_at (with_device n (detected v.answer (device_at plan n)) plan) n ≡ Starting) ⊎ (device_at (with_device n (detected v.answer (device_at plan n)) plan) n ≡ Absent) =
+      set_cases_at plan.devices n v.answer (device_at plan n) none in
+      record {
+        steady = record {
+          fine = elim now [ inl s ↦ subst IsFine (sym s) tt | inr a ↦ subst IsFine (sym a) tt ];
+          path = λ x here to. absurd (absent_starting (device_at plan n) none (h.path x here to).1.1);
+          order = λ on. absurd (never n plan.found (n + 1) on);
+        };
+        ready = λ r. absurd (absent_ready (device_at plan n) none r);
+        asks = λ a. elim a [
+          | inl r ↦ elim now [ inl s ↦ absurd (starting_ready _ s r) | inr b ↦ absurd (absent_ready _ b r) ]
+          | inr there ↦ inl (inr there)
+        ];
+      }
+    where
+      set_cases_at : (devices : List Device) (n answer : ℕ) (was : Device) → was ≡ Absent
+          → (get_or (set devices n (detected answer was)) n Absent ≡ Starting) ⊎ (get_or (set devices n (detected answer was)) n Absent ≡ Absent)
+      set_cases_at devices n answer was absent = elim (set_same devices n (detected answer was)) [
+        | inl is ↦ elim (detected_cases answer was absent) [ inl s ↦ inl (is ∙ s) | inr a ↦ inr (is ∙ a) ]
+        | inr past ↦ inr past
+      ]
+
+  sought_if : (b : Bool) → plan.order ≡ Detect n → PlanKeeps n signs plan (if b then with_next plan.order (noted v plan.order plan) else plan)
+  sought_if true is = subst (λ (o : Order). PlanKeeps n signs plan (with_next o (noted v o plan))) (sym is) (detected_here is)
+  sought_if false is = keeps_none n signs plan h
+
+  answered_keeps : PlanKeeps n signs plan (answered v plan)
+  answered_keeps = elim (detect_or_other n plan.order) [ inl is ↦ sought_if (plan.asked && not (Rattle.hba_driver.specs.Turns.is_out v plan)) is | inr other ↦ keeps_as n signs plan _ h (answered_beside n v plan other) ]
 
 control_keeps : (n : ℕ) (signs : Type 0) (v : Sight) (plan : Plan) → IsSteadyPlan n plan → PlanKeeps n signs plan (control_seen v plan)
 control_keeps n signs v plan h =
     let first = answered_keeps n signs v plan h in
-    keeps_then n signs plan (answered v plan) (control_seen v plan) first (met_keeps n signs v (answered v plan) first.steady)
+    keeps_then n signs plan (answered v plan) (control_seen v plan) first (keeps_as n signs (answered v plan) _ first.steady (met_beside n v (answered v plan)))
 
 -- ---- slot 30
 
@@ -218,12 +249,65 @@ path_to_dev dev (Some s) x h =
     let next : Path = record { dev = dev; stage = s; asked = false } in
     ap (λ (p : Path). p.dev) (sym (same_path next x h))
 
+-- what is found of another device
+module _ (n : ℕ) (v : Sight) (plan : Plan) where
+  found_device : (stage : Stage) (dev : ℕ) → dev ≢ n → device_at (found_of v stage dev plan) n ≡ device_at plan n
+  unfolding found_of
+  found_device Identify dev other = set_other plan.devices dev n _ (λ e. other (sym e))
+  found_device (ReadLog file) dev other = set_other plan.devices dev n _ (λ e. other (sym e))
+  found_device rest dev other = refl
+
+  pub found_order : (stage : Stage) (dev : ℕ) → detects n (found_of v stage dev plan).asked (found_of v stage dev plan).order ≡ detects n plan.asked plan.order
+  unfolding found_of
+  found_order Identify dev = refl
+  found_order other dev = refl
+
+  advanced_beside : (path : Path) → plan.path ≡ Some path → path.dev ≢ n → Beside n plan (advanced v path plan)
+  advanced_beside path here other = record {
+    device = found_device path.stage path.dev other;
+    path = λ x to there. absurd (other (ap (λ (p : Path). p.dev) (same_path path x (sym here ∙ there)) ∙ to));
+    back = λ x to there. absurd (other (sym (path_to_dev path.dev (next_stage path.stage) x there) ∙ to));
+    order = λ on. sym (found_order path.stage path.dev) ∙ on;
+  }
+
+  -- a path of the device whose command is out stays
+  path_met_beside : ((x : Path) → plan.path ≡ Some x → x.dev ≡ n → x.asked ≡ true) → Beside n plan (path_met v plan)
+  path_met_beside out = record {
+    device = refl;
+    path = λ x to here. ap (option_map (met_path v)) here ∙ ap Some (met_asked v x (out x here to));
+    back = λ x to there. met_same plan.path refl x there to;
+    order = λ on. on;
+  }
+    where
+      met_dev : (b : Bool) (path : Path) → (if b then path else record path { stage = Rattle.hba_driver.specs.Turns.met_stage v path.dev path.stage }).dev ≡ path.dev
+      met_dev true path = refl
+      met_dev false path = refl
+
+      met_same : (o : Option Path) → plan.path ≡ o → (x : Path) → option_map (met_path v) o ≡ Some x → x.dev ≡ n → o ≡ Some x
+      met_same None here x there to = none_path x there
+      met_same (Some path) here x there to =
+          let is : met_path v path ≡ x = same_path (met_path v path) x there in
+          ap Some (sym (met_asked v path (out path here (sym (met_dev path.asked path) ∙ ap (λ (p : Path). p.dev) is ∙ to))) ∙ is)
+
+  back_beside : ((x : Path) → plan.path ≡ Some x → x.dev ≢ n) → (o : Option Path) → plan.path ≡ o → Beside n plan (match_some o plan (λ path. if is_back v path then advanced v path plan else plan))
+  back_beside free None here = beside_same n plan
+  back_beside free (Some path) here = by_back (is_back v path)
+    where
+      by_back : (b : Bool) → Beside n plan (if b then advanced v path plan else plan)
+      by_back true = advanced_beside path here (free path here)
+      by_back false = beside_same n plan
+
+-- slot 30 works on another device, or on none
+pub device_beside : (n : ℕ) (v : Sight) (plan : Plan) → ((x : Path) → plan.path ≡ Some x → x.dev ≢ n) → Beside n plan (device_seen v plan)
+device_beside n v plan free =
+    let first : Beside n plan (path_answered v plan) = back_beside n v plan free plan.path refl in
+    beside_then n plan (path_answered v plan) (device_seen v plan) first (path_met_beside n v (path_answered v plan) (λ x here to. absurd (free x (first.back x to here) to)))
+
 module _ (n : ℕ) (signs : Type 0) (v : Sight) (plan : Plan) (h : IsSteadyPlan n plan) where
   -- its IDENTIFY data came: it is ready or unusable
-  identified : (path : Path) → plan.path ≡ Some path → path.dev ≡ n → (stage : Stage) → path.stage ≡ stage → stage ≡ Identify
-      → PlanKeeps n signs plan (record (found_of v stage path.dev plan) { path = path_to path.dev (next_stage stage) })
+  identified : (path : Path) → plan.path ≡ Some path → path.dev ≡ n → PlanKeeps n signs plan (record (found_of v Identify path.dev plan) { path = path_to path.dev (next_stage Identify) })
   unfolding found_of next_stage
-  identified path here to Identify is at =
+  identified path here to =
       let was : device_at plan n ≡ Starting = (h.path path here to).1.1 in
       let device : Device = if v.usable then Ready else Unusable in
       let now : (device_at (with_device path.dev device plan) n ≡ device) ⊎ (device_at (with_device path.dev device plan) n ≡ Absent) =
@@ -241,42 +325,10 @@ module _ (n : ℕ) (signs : Type 0) (v : Sight) (plan : Plan) (h : IsSteadyPlan 
       fine_by : (b : Bool) → IsFine (if b then Ready else Unusable)
       fine_by true = tt
       fine_by false = tt
-  identified path here to (ReadLog file) is at = absurd (log_identify file at)
-    where
-      log_identify : (f : TaskFile) → ReadLog f ≡ Identify → ⊥
-      log_identify f e = cc
-  identified path here to AssertReset is at = absurd (assert_identify at)
-    where
-      assert_identify : AssertReset ≡ Identify → ⊥
-      assert_identify e = cc
-  identified path here to ReleaseReset is at = absurd (release_identify at)
-    where
-      release_identify : ReleaseReset ≡ Identify → ⊥
-      release_identify e = cc
-  identified path here to AwaitReset is at = absurd (await_identify at)
-    where
-      await_identify : AwaitReset ≡ Identify → ⊥
-      await_identify e = cc
-
-  -- what is found of another device
-  found_device : (stage : Stage) (dev : ℕ) → dev ≢ n → device_at (found_of v stage dev plan) n ≡ device_at plan n
-  unfolding found_of
-  found_device Identify dev other = set_other plan.devices dev n _ (λ e. other (sym e))
-  found_device (ReadLog file) dev other = set_other plan.devices dev n _ (λ e. other (sym e))
-  found_device rest dev other = refl
-
-  found_order : (stage : Stage) (dev : ℕ) → detects n (found_of v stage dev plan).asked (found_of v stage dev plan).order ≡ detects n plan.asked plan.order
-  unfolding found_of
-  found_order Identify dev = refl
-  found_order other dev = refl
-
   advanced_keeps : (path : Path) → plan.path ≡ Some path → PlanKeeps n signs plan (advanced v path plan)
   advanced_keeps path here = elim (cases_eq path.dev n) [
-    | inl to ↦ identified path here to path.stage refl (h.path path here to).0
-    | inr other ↦
-        keeps_beside n signs plan (advanced v path plan) h (found_device path.stage path.dev other)
-        (λ x there k. absurd (other (sym (path_to_dev path.dev (next_stage path.stage) x there) ∙ k)))
-        (λ on. sym (found_order path.stage path.dev) ∙ on)
+    | inl to ↦ subst (λ (s : Stage). PlanKeeps n signs plan (record (found_of v s path.dev plan) { path = path_to path.dev (next_stage s) })) (sym (h.path path here to).0) (identified path here to)
+    | inr other ↦ keeps_as n signs plan (advanced v path plan) h (advanced_beside n v plan path here other)
   ]
 
   back_keeps : (b : Bool) (path : Path) → plan.path ≡ Some path → PlanKeeps n signs plan (if b then advanced v path plan else plan)
@@ -287,44 +339,18 @@ module _ (n : ℕ) (signs : Type 0) (v : Sight) (plan : Plan) (h : IsSteadyPlan 
   answered_by None here = keeps_none n signs plan h
   answered_by (Some path) here = back_keeps (is_back v path) path here
 
-  met_same : (o : Option Path) → plan.path ≡ o → (x : Path) → option_map (met_path v) o ≡ Some x → x.dev ≡ n → o ≡ Some x
-  met_same None here x there to = none_path x there
-  met_same (Some path) here x there to =
-      let is : met_path v path ≡ x = same_path (met_path v path) x there in
-      let dev : path.dev ≡ n = sym (met_dev path.asked path) ∙ ap (λ (p : Path). p.dev) is ∙ to in
-      ap Some (sym (ap (λ (b : Bool). if b then path else record path { stage = Rattle.hba_driver.specs.Turns.met_stage v path.dev path.stage }) (h.path path here dev).1.0) ∙ is)
-    where
-      met_dev : (b : Bool) (path : Path) → (if b then path else record path { stage = Rattle.hba_driver.specs.Turns.met_stage v path.dev path.stage }).dev ≡ path.dev
-      met_dev true path = refl
-      met_dev false path = refl
-
-  pub path_met_keeps : PlanKeeps n signs plan (path_met v plan)
-  path_met_keeps = keeps_beside n signs plan (path_met v plan) h refl (λ x there to. met_same plan.path refl x there to) (λ on. on)
-
-  pub path_answered_keeps : PlanKeeps n signs plan (path_answered v plan)
-  path_answered_keeps = answered_by plan.path refl
-
 device_keeps : (n : ℕ) (signs : Type 0) (v : Sight) (plan : Plan) → IsSteadyPlan n plan → PlanKeeps n signs plan (device_seen v plan)
 device_keeps n signs v plan h =
-    let first = path_answered_keeps n signs v plan h in
-    keeps_then n signs plan (path_answered v plan) (device_seen v plan) first (path_met_keeps n signs v (path_answered v plan) first.steady)
+    let first = answered_by n signs v plan h plan.path refl in
+    keeps_then n signs plan (path_answered v plan) (device_seen v plan) first
+    (keeps_as n signs (path_answered v plan) _ first.steady (path_met_beside n v (path_answered v plan) (λ x here to. (first.steady.path x here to).1.0)))
 
 -- ---- the turn
 
-turn_if : (n : ℕ) (signs : Type 0) (b : Bool) (p : Plan) (t u : Turn) → PlanKeeps n signs p t.plan → PlanKeeps n signs p u.plan → PlanKeeps n signs p (if b then t else u).plan
-turn_if n signs true p t u h k = h
-turn_if n signs false p t u h k = k
-
-control_turn_keeps : (n : ℕ) (signs : Type 0) (v : Sight) (news : Bool) (plan : Plan) (entries : List (Option Entry)) → IsSteadyPlan n plan → PlanKeeps n signs plan (control_turn v news plan entries).plan
-control_turn_keeps n signs v news plan entries h =
-    turn_if n signs (is_some (order_allowed v plan entries)) plan _ _ (keeps_none n signs plan h) (device_keeps n signs v plan h)
-
 pub turn_keeps : (n : ℕ) (signs : Type 0) (v : Sight) (plan : Plan) (entries : List (Option Entry)) → IsSteadyPlan n plan → PlanKeeps n signs plan (turn_of v plan entries).plan
-unfolding turn_of
 turn_keeps n signs v plan entries h =
     let first = control_keeps n signs v plan h in
-    turn_if n signs (is_some (early_due v plan)) plan _ _ (keeps_none n signs plan h)
-    (keeps_then n signs plan (control_seen v plan) _ first (control_turn_keeps n signs v (control_news v plan) (control_seen v plan) entries first.steady))
+    turn_by (λ t. PlanKeeps n signs plan t.plan) v plan entries (keeps_none n signs plan h) first (keeps_then n signs plan (control_seen v plan) _ first (device_keeps n signs v (control_seen v plan) first.steady))
 
 -- ---- what is due
 
@@ -335,91 +361,13 @@ DueOf v plan (Some (act.Orders order)) = order ≡ plan.order
 DueOf v plan (Some (act.Steps dev stage)) = (plan.path ≡ Some (record { dev = dev; stage = stage; asked = false })) ⊎ (stage_for v plan dev ≡ Some stage)
 DueOf v plan (Some a) = Unit {0}
 
-of_if : (v : Sight) (b : Bool) (t u : Turn) → DueOf v t.plan t.act → DueOf v u.plan u.act → DueOf v (if b then t else u).plan (if b then t else u).act
-of_if v true t u h k = h
-of_if v false t u h k = k
-
-of_or : (v : Sight) (plan : Plan) (a b : Option Act) → DueOf v plan a → DueOf v plan b → DueOf v plan (option_or a b)
-of_or v plan None b h k = k
-of_or v plan (Some a) b h k = h
-
-of_open : (v : Sight) (plan : Plan) (b : Bool) → DueOf v plan (if b then Some (act.Opens plan.opened) else None)
-of_open v plan true = tt
-of_open v plan false = tt
-
-of_restart : (v : Sight) (plan : Plan) (b : Bool) → DueOf v plan (if b then Some (act.Restarts plan.restarted) else None)
-of_restart v plan true = tt
-of_restart v plan false = tt
-
-of_clears : (v : Sight) (plan : Plan) (o : Option ℕ) → DueOf v plan (option_map act.Clears o)
-of_clears v plan None = tt
-of_clears v plan (Some dev) = tt
-
-of_fault : (v : Sight) (plan : Plan) (b : Bool) → DueOf v plan (if b then Some act.Stops else option_map act.Clears v.faulty)
-of_fault v plan true = tt
-of_fault v plan false = of_clears v plan v.faulty
-
-of_early : (v : Sight) (plan : Plan) → DueOf v plan (early_due v plan)
-unfolding early_due
-of_early v plan = of_or v plan _ _ (of_open v plan (nat_lt plan.opened 7)) (of_or v plan _ _ (of_restart v plan (nat_lt plan.restarted 2)) (of_fault v plan v.stopped))
-
-of_map_order : (v : Sight) (plan : Plan) (fields : Option H2dFields) → DueOf v plan (option_map (λ f. act.Orders plan.order) fields)
-of_map_order v plan None = tt
-of_map_order v plan (Some f) = refl
-
-of_order : (v : Sight) (plan : Plan) (b : Bool) → DueOf v plan (if b then None else option_map (λ f. act.Orders plan.order) (order_fields plan.order))
-of_order v plan true = tt
-of_order v plan false = of_map_order v plan (order_fields plan.order)
-
-of_step : (v : Sight) (plan : Plan) (dev : ℕ) (stage : Stage) (fields : Option H2dFields) → (plan.path ≡ Some (record { dev = dev; stage = stage; asked = false })) ⊎ (stage_for v plan dev ≡ Some stage)
-    → DueOf v plan (option_map (λ f. act.Steps dev stage) fields)
-of_step v plan dev stage None h = tt
-of_step v plan dev stage (Some f) h = h
-
-of_stage : (v : Sight) (plan : Plan) (dev : ℕ) (o : Option Stage) → stage_for v plan dev ≡ o → DueOf v plan (match_some o None (step_of dev))
-of_stage v plan dev None h = tt
-of_stage v plan dev (Some stage) h = of_step v plan dev stage (stage_fields dev stage) (inr h)
-
-of_lowest : (v : Sight) (plan : Plan) (o : Option ℕ) → DueOf v plan (match_some o None (stage_due v plan))
-of_lowest v plan None = tt
-of_lowest v plan (Some dev) = of_stage v plan dev (stage_for v plan dev) refl
-
-free_path : (path : Path) → path.asked ≡ false → Some path ≡ Some (record path { asked = false })
-free_path path h = ap (λ (b : Bool). Some (record path { asked = b })) h
-
-of_path : (v : Sight) (plan : Plan) (path : Path) (b : Bool) → plan.path ≡ Some path → path.asked ≡ b → DueOf v plan (if b then None else step_of path.dev path.stage)
-of_path v plan path true here a = tt
-of_path v plan path false here a = of_step v plan path.dev path.stage (stage_fields path.dev path.stage) (inl (here ∙ free_path path a))
-
-of_slot : (v : Sight) (plan : Plan) (o : Option Path) → plan.path ≡ o → DueOf v plan (match_some o (match_some (lowest_below (is_due v plan) 15) None (stage_due v plan)) path_due)
-of_slot v plan None h = of_lowest v plan (lowest_below (is_due v plan) 15)
-of_slot v plan (Some path) h = of_path v plan path path.asked h refl
-
-of_entry : (v : Sight) (plan : Plan) (slot : ℕ) (x : Option Entry) → DueOf v plan (issue_of slot x)
-of_entry v plan slot None = tt
-of_entry v plan slot (Some e) = tt
-
-of_slots : (v : Sight) (plan : Plan) (entries : List (Option Entry)) (o : Option ℕ) → DueOf v plan (match_some o None (λ slot. issue_of slot (entry_at entries slot)))
-of_slots v plan entries None = tt
-of_slots v plan entries (Some slot) = of_entry v plan slot (entry_at entries slot)
-
-of_request : (v : Sight) (plan : Plan) (entries : List (Option Entry)) → DueOf v plan (request_due plan entries)
-unfolding request_due
-of_request v plan entries = of_slots v plan entries (lowest_below (λ slot. may_issue plan (entry_at entries slot)) 30)
-
-of_allowed : (v : Sight) (plan : Plan) (entries : List (Option Entry)) (a : Option Act) → DueOf v plan a → DueOf v plan (allowed plan.mode v plan entries a)
-of_allowed v plan entries a h = allowed_keeps (DueOf v plan) tt plan.mode v plan entries a h
-
 pub of_device : (v : Sight) (plan : Plan) (entries : List (Option Entry)) → DueOf v plan (device_or_request v plan entries)
-unfolding device_due
-of_device v plan entries = of_or v plan _ _ (of_allowed v plan entries (device_due v plan) (of_slot v plan plan.path refl)) (of_allowed v plan entries (request_due plan entries) (of_request v plan entries))
-
-of_control : (v : Sight) (news : Bool) (plan : Plan) (entries : List (Option Entry)) → DueOf v (control_turn v news plan entries).plan (control_turn v news plan entries).act
-of_control v news plan entries = of_if v (is_some (order_allowed v plan entries)) _ _ (of_allowed v plan entries (order_due plan) (of_order v plan plan.asked)) (of_device v (device_seen v plan) entries)
+of_device v plan entries = late_by (DueOf v plan) tt v plan entries (λ dev stage way fields. elim way [ inl free ↦ inr free.1.1 | inr on ↦ inl on ]) (λ slot e h. tt)
 
 pub of_turn : (v : Sight) (plan : Plan) (entries : List (Option Entry)) → DueOf v (turn_of v plan entries).plan (turn_of v plan entries).act
-unfolding turn_of
-of_turn v plan entries = of_if v (is_some (early_due v plan)) _ _ (of_early v plan) (of_control v (control_news v plan) (control_seen v plan) entries)
+of_turn v plan entries =
+    turn_by (λ t. DueOf v t.plan t.act) v plan entries (early_by (DueOf v plan) tt v plan (λ h. tt) (λ h. tt) (λ h. tt) (λ dev h. tt))
+    (order_allowed_by (DueOf v (control_seen v plan)) tt v (control_seen v plan) entries (λ un fields. refl)) (of_device v (device_seen v (control_seen v plan)) entries)
 
 -- ---- what an act leaves
 
@@ -436,62 +384,71 @@ unless_here port (Some path) x h = by_case (cases_eq path.dev port)
         let is : Some path ≡ Some x = sym (ap (λ (b : Bool). if b then None else Some path) (ne_eqb path.dev port other)) ∙ h in
         (is, λ same. other (ap (λ (p : Path). p.dev) (same_path path x is) ∙ same))
 
+none_stage : (s : Stage) {P : Type 0} → None ≡ Some s → P
+none_stage s e = cc
+
 -- a stage is due for a device that does not recover only if the device starts and has signed
 starts : (device : Device) (signed : Bool) (stage : Stage) → IsFine device → first_stage device signed ≡ Some stage → (device ≡ Starting) × ((signed ≡ true) × (stage ≡ Identify))
-starts Absent signed stage fine h = none_stage stage h
-  where
-    none_stage : (s : Stage) {P : Type 0} → None ≡ Some s → P
-    none_stage s e = cc
 starts Starting true stage fine h = (refl, (refl, is_stage stage h))
   where
     is_stage : (s : Stage) → Some Identify ≡ Some s → s ≡ Identify
     is_stage s e = cc
 starts Starting false stage fine h = none_stage stage h
-  where
-    none_stage : (s : Stage) {P : Type 0} → None ≡ Some s → P
-    none_stage s e = cc
-starts Ready signed stage fine h = none_stage stage h
-  where
-    none_stage : (s : Stage) {P : Type 0} → None ≡ Some s → P
-    none_stage s e = cc
-starts Unusable signed stage fine h = none_stage stage h
-  where
-    none_stage : (s : Stage) {P : Type 0} → None ≡ Some s → P
-    none_stage s e = cc
 starts (Recovering way) signed stage fine h = absurd fine
+starts other signed stage fine h = none_stage stage h
 
-module _ (n : ℕ) (signs : Type 0) (v : Sight) (file : TaskFile) (plan : Plan) (h : IsSteadyPlan n plan) where
-  -- another device recovers
-  aside : (dev : ℕ) → n ≢ dev → PlanKeeps n signs plan (recovering dev file plan)
-  aside dev other =
-      keeps_beside n signs plan (recovering dev file plan) h (set_other plan.devices dev n _ other) (λ x there to. (unless_here dev plan.path x there).0) (λ on. on)
+-- no stage is due, and an order that is due is the plan's
+abbrev pub Plainly : Plan → Option Act → Type 0
+Plainly plan (Some (act.Steps dev stage)) = ⊥
+Plainly plan (Some (act.Orders order)) = order ≡ plan.order
+Plainly plan a = Unit {0}
 
-  cleared_if : (b : Bool) (dev : ℕ) → n ≢ dev → PlanKeeps n signs plan (if b then recovering dev file plan else from_reset plan)
-  cleared_if true dev other = aside dev other
-  cleared_if false dev other = keeps_beside n signs plan (from_reset plan) h refl (λ x there to. there) (λ on. absurd (false≢true on))
+-- an order that is out
+pub detects_out : (n : ℕ) (asked : Bool) (order : Order) → order ≢ Clear n → detects n true order ≡ true → detects n asked order ≡ true
+detects_out n asked (Clear port) other on = absurd (other (ap Clear (equal_of port n on)))
+  where
+    equal_of : (a b : ℕ) → (true && (a == b)) ≡ true → a ≡ b
+    equal_of a b e = grind (arith, nat_tests)
+detects_out n asked (Detect port) other on = on
+detects_out n asked rest other on = on
 
-  -- an order that is out
-  detects_out : (asked : Bool) (order : Order) → order ≢ Clear n → detects n true order ≡ true → detects n asked order ≡ true
-  detects_out asked (Clear port) other on = absurd (other (ap Clear (equal_of port n on)))
-    where
-      equal_of : (a b : ℕ) → (true && (a == b)) ≡ true → a ≡ b
-      equal_of a b e = grind (arith, nat_tests)
-  detects_out asked (Detect port) other on = on
-  detects_out asked rest other on = on
+-- the path of another device is given up
+unless_stays : (dev : ℕ) (o : Option Path) (x : Path) → x.dev ≢ dev → o ≡ Some x → unless dev o ≡ Some x
+unless_stays dev None x other h = none_path x h
+unless_stays dev (Some path) x other h = ap (λ (b : Bool). if b then None else Some path) (ne_eqb path.dev dev (λ e. other (sym (ap (λ (p : Path). p.dev) (same_path path x h)) ∙ e))) ∙ h
+
+module _ (n : ℕ) (file : TaskFile) (plan : Plan) where
+  -- another device recovers, or is flushed
+  aside : (dev : ℕ) (device : Device) (q : Plan) → n ≢ dev → q.devices ≡ set plan.devices dev device → q.path ≡ unless dev plan.path → (detects n q.asked q.order ≡ true → detects n plan.asked plan.order ≡ true) → Beside n plan q
+  aside dev device q other devices path order = record {
+    device = ap (λ (ds : List Device). get_or ds n Absent) devices ∙ set_other plan.devices dev n device other;
+    path = λ x to here. path ∙ unless_stays dev plan.path x (λ e. other (sym to ∙ e)) here;
+    back = λ x to here. (unless_here dev plan.path x (sym path ∙ here)).0;
+    order = order;
+  }
+
+  cleared_if : (b : Bool) (dev : ℕ) → n ≢ dev → Beside n plan (if b then recovering dev file plan else from_reset plan)
+  cleared_if true dev other = aside dev _ (recovering dev file plan) other refl refl (λ on. on)
+  cleared_if false dev other = beside_path n plan (from_reset plan) refl refl (λ on. absurd (false≢true on))
 
   out : (order : Order) → order ≢ Clear n → order ≡ plan.order → detects n true plan.order ≡ true → detects n plan.asked plan.order ≡ true
-  out order other is on = detects_out plan.asked plan.order (λ e. other (is ∙ e)) on
+  out order other is on = detects_out n plan.asked plan.order (λ e. other (is ∙ e)) on
 
-  plainly : (order : Order) → order ≢ Clear n → order ≡ plan.order → PlanKeeps n signs plan (record plan { asked = true })
-  plainly order other is = keeps_beside n signs plan (record plan { asked = true }) h refl (λ x there to. there) (λ on. out order other is on)
+  ordered_beside : (order : Order) → order ≢ Clear n → order ≡ plan.order → Beside n plan (ordered order plan)
+  ordered_beside (Clear port) other is = aside port Absent (ordered (Clear port) plan) (λ e. other (ap Clear (sym e))) refl refl (out (Clear port) other is)
+  ordered_beside rest other is = beside_path n plan (ordered rest plan) refl refl (out rest other is)
 
-  ordered_keeps : (order : Order) → order ≢ Clear n → order ≡ plan.order → PlanKeeps n signs plan (ordered order plan)
-  ordered_keeps (Clear port) other is =
-      keeps_beside n signs plan (ordered (Clear port) plan) h (set_other plan.devices port n Absent (λ e. other (ap Clear (sym e)))) (λ x there to. (unless_here port plan.path x there).0)
-      (λ on. out (Clear port) other is on)
-  ordered_keeps ResetOn other is = plainly ResetOn other is
-  ordered_keeps rest other is = plainly rest other is
+  pub act_beside : (a : Option Act) → IsCalmAct n a → Plainly plan a → Beside n plan (match_some a plan (λ x. plan_after x file plan))
+  unfolding plan_after
+  act_beside (Some act.Stops) calm due = absurd calm
+  act_beside (Some (act.Clears dev)) calm due = cleared_if (nat_lt dev 15) dev calm
+  act_beside (Some (act.Orders order)) calm due = ordered_beside order calm due
+  act_beside (Some (act.Steps dev stage)) calm due = absurd due
+  act_beside (Some (act.Opens k)) calm due = beside_path n plan _ refl refl (λ on. on)
+  act_beside (Some (act.Restarts k)) calm due = beside_path n plan _ refl refl (λ on. on)
+  act_beside other calm due = beside_same n plan
 
+module _ (n : ℕ) (signs : Type 0) (v : Sight) (file : TaskFile) (plan : Plan) (h : IsSteadyPlan n plan) where
   -- slot 30 begins to work on a device
   stepped : (dev : ℕ) (stage : Stage) → Plan
   stepped dev stage = record plan { path = Some (record { dev = dev; stage = stage; asked = true }) }
@@ -530,10 +487,5 @@ module _ (n : ℕ) (signs : Type 0) (v : Sight) (file : TaskFile) (plan : Plan) 
 
   pub act_keeps : (a : Option Act) → (Rattle.std.specs.Prelude.slice_index_or v.signed n false ≡ true → signs) → IsCalmAct n a → DueOf v plan a → PlanKeeps n signs plan (match_some a plan (λ x. plan_after x file plan))
   unfolding plan_after
-  act_keeps (Some (act.Opens k)) signed calm due = keeps_beside n signs plan _ h refl (λ x there to. there) (λ on. on)
-  act_keeps (Some act.Stops) signed calm due = absurd calm
-  act_keeps (Some (act.Restarts k)) signed calm due = keeps_beside n signs plan _ h refl (λ x there to. there) (λ on. on)
-  act_keeps (Some (act.Clears dev)) signed calm due = cleared_if (nat_lt dev 15) dev calm
-  act_keeps (Some (act.Orders order)) signed calm due = ordered_keeps order calm due
   act_keeps (Some (act.Steps dev stage)) signed calm due = step_keeps dev stage signed due
-  act_keeps other signed calm due = keeps_none n signs plan h
+  act_keeps other signed calm due = keeps_as n signs plan _ h (act_beside n file plan other calm due)

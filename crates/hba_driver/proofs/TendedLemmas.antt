@@ -31,8 +31,8 @@ use Rattle.hba_driver.specs.Steady.{IsAskedOf, IsCalmAct, IsFine, IsSteadyPlan, 
 use Rattle.hba_driver.specs.Tended.{Awaits, Fine, Identifies, IsAskedOn, IsAsking, IsAtStage, IsBegun, IsReleasing, IsStepless, IsTendedBy, IsTendedPlan, IsUnworked, Logs, Releases, Spoilt, WorksOn}
 use Rattle.hba_driver.specs.Ticks.{from_reset, ordered, plan_after, recovering, unless}
 use Rattle.hba_driver.specs.Turns.{advanced, allowed, answered, control_news, control_seen, control_turn, detected, device_due, device_or_request, device_seen, device_turn, early_due, found_of, is_back, is_due, is_in_reset, is_out, issue_of, may_issue, met, met_order, met_path, met_stage, noted, order_allowed, order_due, path_answered, path_due, path_met, path_to, plain_turn, request_due, signed_order, stage_due, stage_for, turn_of, with_next}
-use Rattle.hba_driver.proofs.DueLemmas.{allowed_keeps, goes_control, goes_device}
-use Rattle.hba_driver.proofs.SteadyLemmas.{DueOf, PlanKeeps, act_keeps, keeps_then, never, never_open, of_device, of_turn, set_same, turn_keeps, unless_here}
+use Rattle.hba_driver.proofs.DueLemmas.{allowed_by, early_by, goes_control, goes_device, order_allowed_by, request_by, turn_by}
+use Rattle.hba_driver.proofs.SteadyLemmas.{Beside, DueOf, Plainly, PlanKeeps, act_beside, act_keeps, beside_same, control_beside, device_beside, equal_is, keeps_then, of_device, of_turn, set_same, turn_keeps}
 
 -- ---- paths
 
@@ -123,206 +123,28 @@ pub record Leaves (n : ℕ) (p q : Plan) : Type 0 where
   pub back : (x : Path) → x.dev ≡ n → q.path ≡ Some x → p.path ≡ Some x
   pub unsought : IsUnsought n q
 
-leaves_same : (n : ℕ) (p : Plan) → IsUnsought n p → Leaves n p p
-leaves_same n p h = record { device = refl; path = λ x to here. here; back = λ x to here. here; unsought = h }
+leaves_of : (n : ℕ) (p q : Plan) → IsUnsought n p → Beside n p q → Leaves n p q
+leaves_of n p q h b = record { device = b.device; path = b.path; back = b.back; unsought = λ on. h (b.order on) }
 
-leaves_then : (n : ℕ) (p q r : Plan) → Leaves n p q → Leaves n q r → Leaves n p r
+leaves_then : (n : ℕ) (p q r : Plan) → Leaves n p q → Beside n q r → Leaves n p r
 leaves_then n p q r h k = record {
   device = k.device ∙ h.device;
   path = λ x to here. k.path x to (h.path x to here);
   back = λ x to here. h.back x to (k.back x to here);
-  unsought = k.unsought;
+  unsought = λ on. h.unsought (k.order on);
 }
 
-leaves_path : (n : ℕ) (p q : Plan) → device_at q n ≡ device_at p n → q.path ≡ p.path → IsUnsought n q → Leaves n p q
-leaves_path n p q device path h = record { device = device; path = λ x to here. path ∙ here; back = λ x to here. sym path ∙ here; unsought = h }
-
-leaves_if : (n : ℕ) (b : Bool) (p q r : Plan) → Leaves n p q → Leaves n p r → Leaves n p (if b then q else r)
-leaves_if n true p q r h k = h
-leaves_if n false p q r h k = k
-
--- ---- slot 31
-
-signed_never : (n : ℕ) (v : Sight) → detects n false (signed_order v) ≡ true → ⊥
-signed_never n v on = by_test v.resetting (v.answer == 0x96690101) on
-  where
-    by_test : (b c : Bool) → detects n false (if b then AwaitSignature else if c then CountPorts else ResetOn) ≡ true → ⊥
-    by_test true c k = false≢true k
-    by_test false true k = false≢true k
-    by_test false false k = false≢true k
-
-met_never : (n : ℕ) (v : Sight) (order : Order) → detects n false (met_order v order) ≡ true → detects n false order ≡ true
-unfolding met_order
-met_never n v AwaitSignature on = absurd (signed_never n v on)
-met_never n v Watch on = by_test v.notified on
-  where
-    by_test : (b : Bool) → detects n false (if b then Scan else Watch) ≡ true → detects n false Watch ≡ true
-    by_test true k = k
-    by_test false k = k
-met_never n v ResetOn on = on
-met_never n v other on = on
-
-module _ (n : ℕ) (v : Sight) (plan : Plan) (h : IsUnsought n plan) where
-  answers_order : (order : Order) → plan.order ≡ order → plan.asked ≡ true → Leaves n plan (with_next order (noted v order plan))
-  unfolding noted next_order
-  answers_order ResetOn is out = leaves_path n plan _ refl refl (λ on. false≢true on)
-  answers_order ResetOff is out = leaves_path n plan _ refl refl (λ on. false≢true on)
-  answers_order AwaitSignature is out = leaves_path n plan _ refl refl (λ on. false≢true on)
-  answers_order CountPorts is out = leaves_path n plan _ refl refl (λ on. false≢true on)
-  answers_order SetMask is out = leaves_path n plan _ refl refl (λ on. false≢true on)
-  answers_order Enable is out = leaves_path n plan _ refl refl (λ on. never_open n plan.ports 0 on)
-  answers_order (Open port) is out = leaves_path n plan _ refl refl (λ on. never_open n plan.ports (port + 1) on)
-  answers_order Scan is out = leaves_path n plan _ refl refl (λ on. never n v.answer 0 on)
-  answers_order (Clear port) is out = leaves_path n plan _ refl refl (λ on. h (subst (λ (o : Order). detects n plan.asked o ≡ true) (sym is) (subst (λ (b : Bool). detects n b (Clear port) ≡ true) (sym out) on)))
-  answers_order (Detect port) is out =
-      leaves_path n plan _ (get_or-set_other plan.devices port n (detected v.answer (device_at plan port)) Absent other) refl (λ on. never n plan.found (port + 1) on)
-    where
-      equal_is : (x y : ℕ) → x ≡ y → (x == y) ≡ true
-      equal_is x y e = grind (arith, nat_tests)
-
-      other : n ≢ port
-      other same = h (subst (λ (o : Order). detects n plan.asked o ≡ true) (sym is) (equal_is port n (sym same)))
-  answers_order Watch is out = leaves_path n plan _ refl refl (λ on. false≢true on)
-
-  answers_if : (a out : Bool) → plan.asked ≡ a → Leaves n plan (if a && not out then with_next plan.order (noted v plan.order plan) else plan)
-  answers_if true false on = answers_order plan.order refl on
-  answers_if true true on = leaves_same n plan h
-  answers_if false out on = leaves_same n plan h
-
-  answered_leaves : Leaves n plan (answered v plan)
-  answered_leaves = answers_if plan.asked (is_out v plan) refl
-
-  met_if : (a : Bool) → plan.asked ≡ a → Leaves n plan (if a then plan else record plan { order = met_order v plan.order })
-  met_if true is = leaves_same n plan h
-  met_if false is =
-      leaves_path n plan (record plan { order = met_order v plan.order }) refl refl
-      (λ on. h (subst (λ (b : Bool). detects n b plan.order ≡ true) (sym is) (met_never n v plan.order (subst (λ (b : Bool). detects n b (met_order v plan.order) ≡ true) is on))))
-
-  met_leaves : Leaves n plan (met v plan)
-  met_leaves = met_if plan.asked refl
-
 pub control_leaves : (n : ℕ) (v : Sight) (plan : Plan) → IsUnsought n plan → Leaves n plan (control_seen v plan)
-control_leaves n v plan h =
-    let first : Leaves n plan (answered v plan) = answered_leaves n v plan h in
-    leaves_then n plan (answered v plan) (control_seen v plan) first (met_leaves n v (answered v plan) first.unsought)
+control_leaves n v plan h = leaves_of n plan (control_seen v plan) h (control_beside n v plan (λ is. h (subst (λ (o : Order). detects n plan.asked o ≡ true) (sym is) (equal_is n n refl))))
 
 -- ---- acts that do not concern slot 30
-
--- no stage is due, and an order that is due is the plan's
-abbrev Plainly : Plan → Option Act → Type 0
-Plainly plan (Some (act.Steps dev stage)) = ⊥
-Plainly plan (Some (act.Orders order)) = order ≡ plan.order
-Plainly plan a = Unit {0}
-
-plainly_or : (plan : Plan) (a b : Option Act) → Plainly plan a → Plainly plan b → Plainly plan (option_or a b)
-plainly_or plan None b h k = k
-plainly_or plan (Some a) b h k = h
-
-plainly_open : (plan : Plan) (b : Bool) → Plainly plan (if b then Some (act.Opens plan.opened) else None)
-plainly_open plan true = tt
-plainly_open plan false = tt
-
-plainly_restart : (plan : Plan) (b : Bool) → Plainly plan (if b then Some (act.Restarts plan.restarted) else None)
-plainly_restart plan true = tt
-plainly_restart plan false = tt
-
-plainly_clears : (plan : Plan) (o : Option ℕ) → Plainly plan (option_map act.Clears o)
-plainly_clears plan None = tt
-plainly_clears plan (Some dev) = tt
-
-plainly_fault : (v : Sight) (plan : Plan) (b : Bool) → Plainly plan (if b then Some act.Stops else option_map act.Clears v.faulty)
-plainly_fault v plan true = tt
-plainly_fault v plan false = plainly_clears plan v.faulty
-
-plainly_early : (v : Sight) (plan : Plan) → Plainly plan (early_due v plan)
-unfolding early_due
-plainly_early v plan = plainly_or plan _ _ (plainly_open plan (nat_lt plan.opened 7)) (plainly_or plan _ _ (plainly_restart plan (nat_lt plan.restarted 2)) (plainly_fault v plan v.stopped))
-
-plainly_map : (plan : Plan) (fields : Option H2dFields) → Plainly plan (option_map (λ f. act.Orders plan.order) fields)
-plainly_map plan None = tt
-plainly_map plan (Some f) = refl
-
-plainly_order : (plan : Plan) (b : Bool) → Plainly plan (if b then None else option_map (λ f. act.Orders plan.order) (order_fields plan.order))
-plainly_order plan true = tt
-plainly_order plan false = plainly_map plan (order_fields plan.order)
-
-plainly_entry : (plan : Plan) (slot : ℕ) (x : Option Entry) → Plainly plan (issue_of slot x)
-plainly_entry plan slot None = tt
-plainly_entry plan slot (Some e) = tt
-
-plainly_slots : (plan : Plan) (entries : List (Option Entry)) (o : Option ℕ) → Plainly plan (match_some o None (λ slot. issue_of slot (entry_at entries slot)))
-plainly_slots plan entries None = tt
-plainly_slots plan entries (Some slot) = plainly_entry plan slot (entry_at entries slot)
-
-plainly_request : (plan : Plan) (entries : List (Option Entry)) → Plainly plan (request_due plan entries)
-unfolding request_due
-plainly_request plan entries = plainly_slots plan entries (lowest_below (λ slot. may_issue plan (entry_at entries slot)) 30)
-
-plainly_allowed : (v : Sight) (plan : Plan) (entries : List (Option Entry)) (a : Option Act) → Plainly plan a → Plainly plan (allowed plan.mode v plan entries a)
-plainly_allowed v plan entries a h = allowed_keeps (Plainly plan) tt plan.mode v plan entries a h
 
 plainly_stepless : (plan : Plan) (a : Option Act) → Plainly plan a → IsStepless a
 plainly_stepless plan (Some (act.Steps dev stage)) h = h
 plainly_stepless plan other h = tt
 
--- an order that is out
-pub detects_out : (n : ℕ) (asked : Bool) (order : Order) → order ≢ Clear n → detects n true order ≡ true → detects n asked order ≡ true
-detects_out n asked (Clear port) other on = absurd (other (ap Clear (equal_of port n on)))
-  where
-    equal_of : (a b : ℕ) → (true && (a == b)) ≡ true → a ≡ b
-    equal_of a b e = grind (arith, nat_tests)
-detects_out n asked (Detect port) other on = on
-detects_out n asked rest other on = on
-
--- the path of another device is given up
-unless_stays : (dev : ℕ) (o : Option Path) (x : Path) → x.dev ≢ dev → o ≡ Some x → unless dev o ≡ Some x
-unless_stays dev None x other h = none_path x h
-unless_stays dev (Some path) x other h =
-    let is : path ≡ x = same_path path x h in
-    ap (λ (b : Bool). if b then None else Some path) (test path.dev dev (λ e. other (sym (ap (λ (p : Path). p.dev) is) ∙ e))) ∙ h
-  where
-    test : (a b : ℕ) → a ≢ b → (a == b) ≡ false
-    test a b e = grind (arith, nat_tests)
-
-module _ (n : ℕ) (file : TaskFile) (plan : Plan) (h : IsUnsought n plan) where
-  -- another device recovers
-  aside : (dev : ℕ) → n ≢ dev → Leaves n plan (recovering dev file plan)
-  aside dev other = record {
-    device = get_or-set_other plan.devices dev n _ Absent other;
-    path = λ x to here. unless_stays dev plan.path x (λ e. other (sym to ∙ e)) here;
-    back = λ x to here. (unless_here dev plan.path x here).0;
-    unsought = h;
-  }
-
-  cleared_if : (b : Bool) (dev : ℕ) → n ≢ dev → Leaves n plan (if b then recovering dev file plan else from_reset plan)
-  cleared_if true dev other = aside dev other
-  cleared_if false dev other = leaves_path n plan (from_reset plan) refl refl (λ on. false≢true on)
-
-  out : (order : Order) → order ≢ Clear n → order ≡ plan.order → detects n true plan.order ≡ true → ⊥
-  out order other is on = h (detects_out n plan.asked plan.order (λ e. other (is ∙ e)) on)
-
-  plainly : (order : Order) → order ≢ Clear n → order ≡ plan.order → Leaves n plan (record plan { asked = true })
-  plainly order other is = leaves_path n plan (record plan { asked = true }) refl refl (λ on. out order other is on)
-
-  ordered_leaves : (order : Order) → order ≢ Clear n → order ≡ plan.order → Leaves n plan (ordered order plan)
-  ordered_leaves (Clear port) other is = record {
-    device = get_or-set_other plan.devices port n Absent Absent (λ e. other (ap Clear (sym e)));
-    path = λ x to here. unless_stays port plan.path x (λ e. other (ap Clear (sym e ∙ to))) here;
-    back = λ x to here. (unless_here port plan.path x here).0;
-    unsought = λ on. out (Clear port) other is on;
-  }
-  ordered_leaves ResetOn other is = plainly ResetOn other is
-  ordered_leaves rest other is = plainly rest other is
-
-  act_leaves : (a : Option Act) → IsCalmAct n a → Plainly plan a → Leaves n plan (match_some a plan (λ x. plan_after x file plan))
-  unfolding plan_after
-  act_leaves (Some (act.Opens k)) calm due = leaves_path n plan _ refl refl h
-  act_leaves (Some act.Stops) calm due = absurd calm
-  act_leaves (Some (act.Restarts k)) calm due = leaves_path n plan _ refl refl h
-  act_leaves (Some (act.Clears dev)) calm due = cleared_if (nat_lt dev 15) dev calm
-  act_leaves (Some (act.Orders order)) calm due = ordered_leaves order calm due
-  act_leaves (Some (act.Steps dev stage)) calm due = absurd due
-  act_leaves other calm due = leaves_same n plan h
+act_leaves : (n : ℕ) (file : TaskFile) (plan : Plan) → IsUnsought n plan → (a : Option Act) → IsCalmAct n a → Plainly plan a → Leaves n plan (match_some a plan (λ x. plan_after x file plan))
+act_leaves n file plan h a calm due = leaves_of n plan _ h (act_beside n file plan a calm due)
 
 -- ---- what becomes of the device
 
@@ -482,53 +304,16 @@ logs_seen n v plan before file device unsought works =
 
 -- ---- slot 30 works on another device, or on none
 
-found_device : (n : ℕ) (v : Sight) (plan : Plan) (stage : Stage) (dev : ℕ) → dev ≢ n → device_at (found_of v stage dev plan) n ≡ device_at plan n
-unfolding found_of
-found_device n v plan Identify dev other = get_or-set_other plan.devices dev n _ Absent (λ e. other (sym e))
-found_device n v plan (ReadLog file) dev other = get_or-set_other plan.devices dev n _ Absent (λ e. other (sym e))
-found_device n v plan rest dev other = refl
-
-found_order : (n : ℕ) (v : Sight) (plan : Plan) (stage : Stage) (dev : ℕ) → detects n (found_of v stage dev plan).asked (found_of v stage dev plan).order ≡ detects n plan.asked plan.order
-unfolding found_of
-found_order n v plan Identify dev = refl
-found_order n v plan other dev = refl
-
-path_to_dev : (dev : ℕ) (stage : Option Stage) (x : Path) → path_to dev stage ≡ Some x → x.dev ≡ dev
-path_to_dev dev None x h = none_path x h
-path_to_dev dev (Some s) x h = ap (λ (p : Path). p.dev) (sym (same_path (path_at dev s false) x h))
-
-met_dev : (v : Sight) (b : Bool) (path : Path) → (if b then path else record path { stage = met_stage v path.dev path.stage }).dev ≡ path.dev
-met_dev v true path = refl
-met_dev v false path = refl
-
-met_unworked : (n : ℕ) (v : Sight) (o : Option Path) → ((x : Path) → o ≡ Some x → x.dev ≢ n) → (x : Path) → option_map (met_path v) o ≡ Some x → x.dev ≢ n
-met_unworked n v None free x there to = none_path x there
-met_unworked n v (Some y) free x there to =
-    free y refl (sym (met_dev v y.asked y) ∙ ap (λ (p : Path). p.dev) (same_path (met_path v y) x there) ∙ to)
-
 -- the device is to be reset, and slot 30 does not work on it
 record IsLeft (n : ℕ) (q : Plan) : Type 0 where
   pub device : device_at q n ≡ Recovering Reset
   pub unsought : IsUnsought n q
   pub free : IsUnworked n q
 
-left_met : (n : ℕ) (v : Sight) (plan : Plan) → IsLeft n plan → IsLeft n (path_met v plan)
-left_met n v plan h = record { device = h.device; unsought = h.unsought; free = met_unworked n v plan.path h.free }
-
 left_seen : (n : ℕ) (v : Sight) (plan : Plan) → IsLeft n plan → IsLeft n (device_seen v plan)
-left_seen n v plan h = left_met n v (path_answered v plan) (by_path plan.path refl)
-  where
-    by_back : (b : Bool) (y : Path) → plan.path ≡ Some y → IsLeft n (if b then advanced v y plan else plan)
-    by_back false y here = h
-    by_back true y here = record {
-      device = found_device n v plan y.stage y.dev (h.free y here) ∙ h.device;
-      unsought = λ on. h.unsought (sym (found_order n v plan y.stage y.dev) ∙ on);
-      free = λ x there to. h.free y here (sym (path_to_dev y.dev (next_stage y.stage) x there) ∙ to);
-    }
-
-    by_path : (o : Option Path) → plan.path ≡ o → IsLeft n (match_some o plan (λ path. if is_back v path then advanced v path plan else plan))
-    by_path None here = h
-    by_path (Some y) here = by_back (is_back v y) y here
+left_seen n v plan h =
+    let b : Beside n plan (device_seen v plan) = device_beside n v plan h.free in
+    record { device = b.device ∙ h.device; unsought = λ on. h.unsought (b.order on); free = λ x here to. h.free x (b.back x to here) to }
 
 -- ---- what is due by slot 30
 
@@ -553,10 +338,6 @@ reset_stage device signed stage is due =
 abbrev pub TurnTends : ℕ → Type 0 → Sight → TaskFile → Plan → Turn → Type 0
 TurnTends n signs v file p t = IsCalmAct n t.act → PlanTends n signs v t.act p (match_some t.act t.plan (λ x. plan_after x file t.plan))
 
-tends_if : (n : ℕ) (signs : Type 0) (v : Sight) (file : TaskFile) (p : Plan) (b : Bool) (t u : Turn) → TurnTends n signs v file p t → TurnTends n signs v file p u → TurnTends n signs v file p (if b then t else u)
-tends_if n signs v file p true t u h k = h
-tends_if n signs v file p false t u h k = k
-
 -- another name of what is due
 renamed : (n : ℕ) (signs : Type 0) (v : Sight) (file : TaskFile) (p q : Plan) (a b : Option Act) → a ≡ b → (IsCalmAct n b → PlanTends n signs v b p (match_some b q (λ x. plan_after x file q)))
     → IsCalmAct n a → PlanTends n signs v a p (match_some a q (λ x. plan_after x file q))
@@ -572,18 +353,15 @@ module _ (n : ℕ) (signs : Type 0) (v : Sight) (file : TaskFile) (p : Plan) (en
 
   plain_tends : Keeps → (r : Plan) (a : Option Act) (news : Bool) → Leaves n p r → Plainly r a → TurnTends n signs v file p (plain_turn r a news)
   plain_tends keep r a news leaves due calm =
-      keep (match_some a r (λ x. plan_after x file r)) a (leaves_then n p r (match_some a r (λ x. plan_after x file r)) leaves (act_leaves n file r leaves.unsought a calm due)) (plainly_stepless r a due)
-
-  control_tends : Keeps → Looks → (r : Plan) (news : Bool) → r.mode ≡ Switching → Leaves n p r → TurnTends n signs v file p (control_turn v news r entries)
-  control_tends keep looks r news switching leaves =
-      tends_if n signs v file p (is_some (order_allowed v r entries)) (plain_turn r (order_allowed v r entries) news) _
-      (plain_tends keep r (order_allowed v r entries) news leaves (plainly_allowed v r entries (order_due r) (plainly_order r r.asked))) (looks r news switching leaves)
+      keep (match_some a r (λ x. plan_after x file r)) a (leaves_then n p r (match_some a r (λ x. plan_after x file r)) leaves (act_beside n file r a calm due)) (plainly_stepless r a due)
 
   whole_tends : p.mode ≡ Switching → IsUnsought n p → Keeps → Looks → TurnTends n signs v file p (turn_of v p entries)
-  unfolding turn_of
   whole_tends switching unsought keep looks =
-      tends_if n signs v file p (is_some (early_due v p)) (plain_turn p (early_due v p) false) _ (plain_tends keep p (early_due v p) false (leaves_same n p unsought) (plainly_early v p))
-      (control_tends keep looks (control_seen v p) (control_news v p) ((goes_control v p).mode ∙ switching) (control_leaves n v p unsought))
+      let control = control_leaves n v p unsought in
+      turn_by (TurnTends n signs v file p) v p entries
+      (plain_tends keep p (early_due v p) false (leaves_of n p p unsought (beside_same n p)) (early_by (Plainly p) tt v p (λ h. tt) (λ h. tt) (λ h. tt) (λ dev h. tt)))
+      (plain_tends keep (control_seen v p) _ (control_news v p) control (order_allowed_by (Plainly (control_seen v p)) tt v (control_seen v p) entries (λ un fields. refl)))
+      (looks (control_seen v p) (control_news v p) ((goes_control v p).mode ∙ switching) control)
 
   -- the request that is due, if it may go
   abbrev request_of : Plan → Option Act
@@ -598,7 +376,7 @@ module _ (n : ℕ) (signs : Type 0) (v : Sight) (file : TaskFile) (p : Plan) (en
       → ((r : Plan) (a : Option Act) → Leaves n q r → IsStepless a → PlanTends n signs v a p r) → IsCalmAct n (device_or_request v q entries)
       → PlanTends n signs v (device_or_request v q entries) p (match_some (device_or_request v q entries) q (λ x. plan_after x file q))
   holding q unsought none f =
-      let plainly : Plainly q (request_of q) = plainly_allowed v q entries (request_due q entries) (plainly_request q entries) in
+      let plainly : Plainly q (request_of q) = allowed_by (Plainly q) tt q.mode v q entries (request_due q entries) (request_by (Plainly q) tt q entries (λ slot e h. tt)) in
       renamed n signs v file p q (device_or_request v q entries) (request_of q)
       (ap (λ (o : Option Act). option_or (allowed q.mode v q entries o) (request_of q)) none ∙ ap (λ (o : Option Act). option_or o (request_of q)) (none_allowed q.mode q))
       (λ calm. f (match_some (request_of q) q (λ x. plan_after x file q)) (request_of q) (act_leaves n file q unsought (request_of q) calm plainly) (plainly_stepless q (request_of q) plainly))

@@ -22,19 +22,15 @@ use Rattle.hba_driver.specs.Steady.{IsFlushTick, detects}
 use Rattle.hba_driver.specs.Ticks.{after_tick, done_ended, due, from_reset, ordered, plan_after, recovering, seen, turn}
 use Rattle.hba_driver.specs.Turns.{advanced, control_seen, device_seen, early_due, found_of, is_back, order_allowed, turn_of}
 use Rattle.hba_driver.proofs.PageLemmas.{poll_plan}
-use Rattle.hba_driver.proofs.SteadyLemmas.{DueOf, of_turn}
+use Rattle.hba_driver.proofs.DueLemmas.{turn_by}
+use Rattle.hba_driver.proofs.SteadyLemmas.{DueOf, detects_out, found_order, of_turn}
 use Rattle.hba_driver.proofs.SteadyTurns.{acted_plan}
-use Rattle.hba_driver.proofs.TendedLemmas.{IsUnsought, control_leaves, detects_out}
+use Rattle.hba_driver.proofs.TendedLemmas.{IsUnsought, control_leaves}
 
 -- ---- what is seen of slot 30
 
 abbrev is_sought : ℕ → Plan → Bool
 is_sought n plan = detects n plan.asked plan.order
-
-found_order : (n : ℕ) (v : Sight) (plan : Plan) (stage : Stage) (dev : ℕ) → is_sought n (found_of v stage dev plan) ≡ is_sought n plan
-unfolding found_of
-found_order n v plan Identify dev = refl
-found_order n v plan other dev = refl
 
 back_order : (n : ℕ) (v : Sight) (plan : Plan) (path : Path) (b : Bool) → is_sought n (if b then advanced v path plan else plan) ≡ is_sought n plan
 back_order n v plan path true = found_order n v plan path.stage path.dev
@@ -49,16 +45,10 @@ device_unsought n v plan h on = h (sym (path_order n v plan plan.path) ∙ on)
 
 -- ---- the turn
 
-turn_if : (n : ℕ) (b : Bool) (t u : Turn) → IsUnsought n t.plan → IsUnsought n u.plan → IsUnsought n (if b then t else u).plan
-turn_if n true t u h k = h
-turn_if n false t u h k = k
-
 turn_unsought : (n : ℕ) (v : Sight) (p : Plan) (entries : List (Option Entry)) → IsUnsought n p → IsUnsought n (turn_of v p entries).plan
-unfolding turn_of
 turn_unsought n v p entries h =
     let c : IsUnsought n (control_seen v p) = (control_leaves n v p h).unsought in
-    turn_if n (is_some (early_due v p)) _ _ h
-    (turn_if n (is_some (order_allowed v (control_seen v p) entries)) _ _ c (device_unsought n v (control_seen v p) c))
+    turn_by (λ t. IsUnsought n t.plan) v p entries h c (device_unsought n v (control_seen v p) c)
 
 -- ---- the act
 
