@@ -34,14 +34,12 @@ use Rattle.hba_fbs.specs.Views.{DeviceView, view_of}
 use Rattle.disk_model.specs.declared.plan.DiskPlan.{DiskPlan}
 use Rattle.disk_model.specs.declared.request.Command.{Command}
 use Rattle.disk_model.specs.Anew.{IsLinkedOn, StayWritten}
-use Rattle.disk_model.specs.Anew as link
-use Rattle.disk_model.specs.Disks.{opening}
 use Rattle.disk_model.specs.Ends.{EndsAgree, reports}
-use Rattle.disk_model.specs.Histories.{Happening, Received, Sent}
+use Rattle.disk_model.specs.Histories.{Happening, Plugged}
 use Rattle.disk_model.specs.Ledger.{IsSize, Ledger, Written, ledger}
 use Rattle.disk_model.specs.Runs.{IsDiskRun}
-use Rattle.disk_model.proofs.AnewLemmas.{ends_agree_anew}
-use Rattle.disk_model.proofs.LawLemmas.{last_may}
+use Rattle.disk_model.proofs.AnewLemmas.{ends_agree_anew, linked_since_new}
+use Rattle.disk_model.proofs.LaterLemmas.{later_tells_of_all}
 use Rattle.disk_model.proofs.WrittenLemmas.{writes_stay}
 use Rattle.hba_laws.specs.Delivering.{completes_now, event_heard, event_taken}
 use Rattle.hba_laws.specs.History as event
@@ -51,29 +49,14 @@ use Rattle.hba_laws.specs.Sound.{IsHost}
 use Rattle.hba_laws.proofs.DoneLemmas.{done_is_completed}
 use Rattle.disk_ends.specs.Anew.{HonestStays, NextIsRightAnew, ReportsHonestlyAnew}
 use Rattle.disk_ends.specs.Honest.{IsOnMedium}
-use Rattle.disk_ends.specs.Joined.{IsJoined}
+use Rattle.disk_ends.specs.Joined.{IsJoined, ReportsHonestly}
 use Rattle.disk_ends.proofs.HonestLemmas.{done_where, next_where}
 use Rattle.disk_ends.proofs.MarkedLemmas.{IsMarkedBits, bits_of_marked}
-use Rattle.disk_ends.proofs.SizeLemmas.{AllShort, more_short, sent_short}
+use Rattle.disk_ends.proofs.SizeLemmas.{up_short}
 use Rattle.disk_ends.proofs.TogetherLemmas.{no_answer, no_end, not_pio}
 use Rattle.disk_ends.specs.Same.{SlotCommand}
 
 -- ## What comes
-
-up_short : (plan : DiskPlan) (sectors : ℕ) (base disk host : List Happening) (down stale up : List (List ℕ)) → IsSize plan sectors
-    → IsDiskRun plan sectors disk → IsLinkedOn base disk host down stale up → AllShort up
-up_short plan sectors base disk host down stale up size run (link.begins s clear) = tt
-up_short plan sectors base disk host down stale up size run (link.gives d h below s above bytes linked) =
-    up_short plan sectors base d h below s above size run linked
-up_short plan sectors base disk host down stale up size run (link.comes d h before after s above bytes linked) =
-    up_short plan sectors base d h (before ++ bytes ∷ after) s above size (last_may plan sectors (opening sectors) d (Received bytes) run).0 linked
-up_short plan sectors base disk host down stale up size run (link.sends d h below s above bytes fine linked) =
-    more_short above bytes (up_short plan sectors base d h below s above size (last_may plan sectors (opening sectors) d (Sent bytes) run).0 linked)
-    (sent_short plan sectors d bytes size run)
-up_short plan sectors base disk host down stale up size run (link.drops d h below s above bytes linked) =
-    up_short plan sectors base d h below (bytes ∷ s) above size run linked
-up_short plan sectors base disk host down stale up size run (link.takes d h below above bytes linked) =
-    (up_short plan sectors base d h below [] (bytes ∷ above) size run linked).1
 
 pub next_anew : NextIsRightAnew
 next_anew plan sectors base disk given down up bytes size run linked careful = record {
@@ -265,6 +248,12 @@ reports_anew plan sectors base disk given down up bytes size run linked careful 
     let bits : IsOfBits bytes s past t =
     of_bits n host new bytes report commands past (ledger given) sound below plain framed from_n takes joined s t lt here queued set in
     done_where sectors disk given down up bytes bytes ends (next_where sectors disk given down up bytes ends) bits.is commands past joined.same s t here queued bits.done
+
+-- a disk that is new began with its plugging
+pub reports_honestly : ReportsHonestly
+reports_honestly plan sectors disk given down up bytes size run linked careful n host new report commands past sound below plain framed from_n well =
+    reports_anew plan sectors (Plugged ∷ []) disk given down up bytes size run (linked_since_new disk given down (bytes ∷ up) linked)
+    (later_tells_of_all [] disk given down (bytes ∷ up) linked careful).careful n host new report commands past sound below plain framed from_n well.takes
 
 -- ## What was done stays done
 

@@ -1,5 +1,6 @@
 -- A host whose port refuses nothing of a disk is careful from where both began anew, and joined with the disk's ledger.
 use Rattle.std.proofs.Common.{◌≡◌, ℕ, ◌<◌, true, List, [], ◌∷◌, ◌++◌, append_assoc, refl, sym, ap, subst, ◌∙◌, Option, Some, None, arith}
+use Rattle.std.specs.Prelude.{is_some}
 use Rattle.std.specs.Option.{option_map}
 use Rattle.std.proofs.lemmas.Bool.{true≢false}
 use Rattle.std.proofs.lemmas.List.{append-nil}
@@ -13,11 +14,11 @@ use Rattle.hba_fbs.specs.declared.status.Block.{Block}
 use Rattle.hba_fbs.specs.Taking.{port_of}
 use Rattle.hba_fbs.specs.Views.{DeviceView, view_of}
 use Rattle.disk_model.specs.Anew.{IsCarefulSince, IsClear, OwesOnly}
-use Rattle.disk_model.specs.Ends.{FitsAll}
+use Rattle.disk_model.specs.Ends.{Fits, FitsAll}
 use Rattle.disk_model.specs.Histories.{Happening, Plugged, Received, Sent}
 use Rattle.disk_model.specs.Ledger.{Ledger, ShowsPage, Signs, Wanted, empty, ledger, ledger_after, listens}
 use Rattle.disk_model.proofs.AnewLemmas.{after_more, begins_anew}
-use Rattle.hba_laws.specs.Agreement.{Agrees, IsHistoryOf, end_of, work_of_issue, work_of_transfer}
+use Rattle.hba_laws.specs.Agreement.{Agrees, ContextAgrees, IsHistoryOf, end_of, work_of_issue, work_of_transfer}
 use Rattle.hba_laws.specs.History as event
 use Rattle.hba_laws.specs.History.{History, Transfer, issued}
 use Rattle.hba_laws.specs.Hosts.{Host}
@@ -29,7 +30,6 @@ use Rattle.disk_ends.specs.Joined.{IsAskedBy, IsJoined, JoinsGiven, SentAgrees}
 use Rattle.disk_ends.specs.Together.{AtMostOne, IsWaitedUnset, NoneQueued, Replies, Shows, is_sent, told}
 use Rattle.disk_ends.specs.Marked.{IsHeardAlike}
 use Rattle.disk_ends.proofs.HeardLemmas.{IsThere, there_by}
-use Rattle.disk_ends.proofs.HostedLemmas.{FitsOne, fits_more, ledger_more, no_context}
 use Rattle.disk_ends.proofs.IssueJoins.{joins_issues}
 use Rattle.disk_ends.proofs.JoinLemmas.{joins_frames}
 use Rattle.disk_ends.proofs.MarkedLemmas.{marks_tell_nothing}
@@ -101,6 +101,28 @@ unfolding FitsAll
 careful_base base = record { since = []; is = sym (append-nil base); fits = tt }
 
 -- ## One happening more
+
+ledger_more : (l : Ledger) (given : List Happening) (e : Happening) → ledger_after l (given ++ e ∷ []) ≡ listens (ledger_after l given) e
+unfolding ledger_after
+ledger_more l [] e = refl
+ledger_more l (x ∷ given) e = ledger_more (listens l x) given e
+
+-- it comes up, or it goes down and fits
+abbrev pub FitsOne : Ledger → Happening → Type 0
+FitsOne l (Received bytes) = Fits l (seen bytes)
+FitsOne l other = Unit {0}
+
+fits_last : (l : Ledger) (e : Happening) → FitsOne l e → FitsAll l (e ∷ [])
+unfolding FitsAll
+fits_last l (Received bytes) fits = (fits, tt)
+fits_last l other fits = tt
+
+fits_more : (l : Ledger) (given : List Happening) (e : Happening) → FitsAll l given → FitsOne (ledger_after l given) e → FitsAll l (given ++ e ∷ [])
+unfolding FitsAll ledger_after
+fits_more l [] e all one = fits_last l e one
+fits_more l (Received bytes ∷ given) e all one = (all.0, fits_more (listens l (Received bytes)) given e all.1 one)
+fits_more l (Sent bytes ∷ given) e all one = fits_more (listens l (Sent bytes)) given e all one
+fits_more l (Plugged ∷ given) e all one = fits_more (listens l Plugged) given e all one
 
 pub careful_more : (base given : List Happening) (e : Happening) → IsCarefulSince base given → FitsOne (ledger given) e
     → IsCarefulSince base (given ++ e ∷ [])
@@ -181,6 +203,12 @@ pub hosted_on_is_kept : HostedOnIsKept
 hosted_on_is_kept n base host given commands past below hosted = kept n base below host given commands past hosted
 
 -- ## Since the disk was new
+
+pub no_context : (n : ℕ) (host : Host) (past : History) → IsHistoryOf n host past → ((s : ℕ) → own_issue (view_of n host.port).slots s ≡ None)
+    → (c : Context) → (view_of n host.port).slots.context ≡ Some c → ⊥
+no_context n host past history none c now =
+    let agrees : ContextAgrees _ c _ past = history.agrees.context_agrees c now in
+    true≢false (sym agrees.of_issue ∙ ap is_some (none c.slot))
 
 none_at : (o : Option Context) → ((c : Context) → o ≡ Some c → ⊥) → o ≡ None
 none_at None never = refl
