@@ -328,17 +328,8 @@ goes_on_wrote : (n : ℕ) (host new : Host) (register : Register) (value : ℕ) 
 goes_on_wrote n host new Cmd value past below does alone aside = cmd_test n host new value past (falls host.port.registers value) below refl does aside
 goes_on_wrote n host new Ci value past below does alone aside = ci_aside n host new value past below does alone aside
 goes_on_wrote n host new Fbs value past below does alone aside = fbs_test n host new value past (cleared_by host.port.errors value) below refl does aside
-goes_on_wrote n host new Clb value past below does alone aside = elsewhere_by n host new Clb value past below does tt (keeps_halt Clb host.port value (λ e. cc e)) aside
-goes_on_wrote n host new Clbu value past below does alone aside = elsewhere_by n host new Clbu value past below does tt (keeps_halt Clbu host.port value (λ e. cc e)) aside
-goes_on_wrote n host new Fb value past below does alone aside = elsewhere_by n host new Fb value past below does tt (keeps_halt Fb host.port value (λ e. cc e)) aside
-goes_on_wrote n host new Fbu value past below does alone aside = elsewhere_by n host new Fbu value past below does tt (keeps_halt Fbu host.port value (λ e. cc e)) aside
-goes_on_wrote n host new Is value past below does alone aside = elsewhere_by n host new Is value past below does tt (keeps_halt Is host.port value (λ e. cc e)) aside
-goes_on_wrote n host new Ie value past below does alone aside = elsewhere_by n host new Ie value past below does tt (keeps_halt Ie host.port value (λ e. cc e)) aside
-goes_on_wrote n host new Tfd value past below does alone aside = elsewhere_by n host new Tfd value past below does tt (keeps_halt Tfd host.port value (λ e. cc e)) aside
-goes_on_wrote n host new Sig value past below does alone aside = elsewhere_by n host new Sig value past below does tt (keeps_halt Sig host.port value (λ e. cc e)) aside
-goes_on_wrote n host new Serr value past below does alone aside = elsewhere_by n host new Serr value past below does tt (keeps_halt Serr host.port value (λ e. cc e)) aside
-goes_on_wrote n host new Sact value past below does alone aside = elsewhere_by n host new Sact value past below does tt (keeps_halt Sact host.port value (λ e. cc e)) aside
-goes_on_wrote n host new Sntf value past below does alone aside = elsewhere_by n host new Sntf value past below does tt (keeps_halt Sntf host.port value (λ e. cc e)) aside
+goes_on_wrote n host new other value past below does alone aside =
+    elsewhere_by n host new other value past below does tt (keeps_halt other host.port value (λ e. cc e)) aside
 
 -- ## A frame goes out
 

@@ -111,21 +111,24 @@ module _ (base disk host : List Happening) (stale up : List (List ℕ)) (bytes :
 
 -- ## What comes next
 
--- it was sent up to the moment that is followed, and still is once it is taken
-record IsBefore (base disk host : List Happening) (down up : List (List ℕ)) (bytes : List ℕ) : Type 0 where
-  followed : List Happening
-  later : List Happening
-  before : List (List ℕ)
-  below : List (List ℕ)
-  disk_is : disk ≡ followed ++ later
-  linked : IsLinkedOn base followed host below [] (bytes ∷ before)
-  taken : IsFollowed base disk (host ++ Sent bytes ∷ []) down [] up
+-- it was sent up to a moment up to which both are linked; this holds once it is taken
+pub record IsBefore (base disk host : List Happening) (bytes : List ℕ) (Taken : Type 0) : Type 0 where
+  pub followed : List Happening
+  pub later : List Happening
+  pub before : List (List ℕ)
+  pub below : List (List ℕ)
+  pub disk_is : disk ≡ followed ++ later
+  pub linked : IsLinkedOn base followed host below [] (bytes ∷ before)
+  pub taken : Taken
 
 pub same_first : (x y : List ℕ) (xs ys : List (List ℕ)) → x ∷ xs ≡ y ∷ ys → (y ≡ x) × (xs ≡ ys)
 same_first x y xs ys e = (let a : y ≡ x = cc e in a, let b : xs ≡ ys = cc e in b)
 
 module _ (base disk host : List Happening) (down up : List (List ℕ)) (bytes : List ℕ) where
-  next_by : IsFollowedBy base disk host down [] (bytes ∷ up) → (reports (seen bytes) ≡ true) ⊎ IsBefore base disk host down up bytes
+  abbrev IsTaken : Type 0
+  IsTaken = IsFollowed base disk (host ++ Sent bytes ∷ []) down [] up
+
+  next_by : IsFollowedBy base disk host down [] (bytes ∷ up) → (reports (seen bytes) ≡ true) ⊎ IsBefore base disk host bytes IsTaken
   next_by (Linked linked) = inr (record {
     followed = disk;
     later = [];
@@ -153,7 +156,7 @@ module _ (base disk host : List Happening) (down up : List (List ℕ)) (bytes : 
             (link.takes followed host below before bytes mine);
       })
 
-  next : IsFollowed base disk host down [] (bytes ∷ up) → (reports (seen bytes) ≡ true) ⊎ IsBefore base disk host down up bytes
+  next : IsFollowed base disk host down [] (bytes ∷ up) → (reports (seen bytes) ≡ true) ⊎ IsBefore base disk host bytes IsTaken
   next f = next_by (by base disk host [] down (bytes ∷ up) f)
 
   pub takes_on : IsFollowed base disk host down [] (bytes ∷ up)

@@ -18,7 +18,7 @@ use Rattle.disk_model.specs.Anew as anew
 use Rattle.disk_model.specs.Ends.{AreRight, Fits, FitsAll, FitsData, FitsRequest, IsRight, PageAsked, reports}
 use Rattle.disk_model.specs.Histories.{Happening, Plugged, Received, Sent}
 use Rattle.disk_model.specs.Laws.{ActivatesRight, SetsUpRight, ShowsFirst, StartsOne}
-use Rattle.disk_model.specs.Ledger.{IsSize, Ledger, Moving, Names, Reply, Signs, ledger, ledger_after, listens, listens_up}
+use Rattle.disk_model.specs.Ledger.{IsSize, Ledger, Moving, Names, Reply, Signs, Wanted, ledger, ledger_after, listens, listens_up}
 use Rattle.disk_model.specs.Requests.{request_of}
 use Rattle.disk_model.specs.Runs.{IsDiskRun}
 use Rattle.disk_model.proofs.AnewLemmas.{after_more, ends_agree_anew}
@@ -27,13 +27,13 @@ use Rattle.disk_ends.specs.Files.{IsOfDisk}
 use Rattle.disk_ends.specs.Line.{EachReply, IsFailed, IsLoose, IsNoSignature, IsSigning, IsUnsigned, IsWatchedWell, LinesBegin, NoneSigns, PluggingLeavesReset, ToSign, Unsigned}
 use Rattle.disk_ends.specs.Watched.{Erred, Fine, IsErred, IsErredSince, IsLastError, IsWatched, IsWatchedTo}
 use Rattle.disk_ends.proofs.AnewJoins.{careful_more}
-use Rattle.disk_ends.proofs.FollowedLemmas.{run_to, same_first}
+use Rattle.disk_ends.proofs.FollowedLemmas.{IsBefore, run_to}
 use Rattle.disk_ends.proofs.LineLemmas.{no_end, none_signs_push, unsigned_by}
 use Rattle.disk_ends.proofs.PlainLemmas.{ResetsNot, erred_now, fits_no_reset, stays_gone, stays_received, stays_up}
 use Rattle.disk_ends.proofs.SentLemmas.{of_disk}
-use Rattle.disk_ends.proofs.WatchedLemmas.{next_fails, takes_on}
+use Rattle.disk_ends.proofs.WatchedLemmas.{next_watched, takes_on}
 
--- ## While the signature is to come
+-- ## While only an answer is to come
 
 pub not_waited : (k : Ledger) (r : Request) → FitsRequest k r → k.awaited ≡ []
 not_waited k (Reset on) fits = absurd fits
@@ -41,12 +41,12 @@ not_waited k (Queue c) fits = fits.1
 not_waited k other fits = fits.awaited
 
 -- nothing may be given
-gives_none : (k : Ledger) (r : Result Fis FisFault) → OwesOnly k (Signs ∷ []) [] → Fits k r → ⊥
-gives_none k (Ok (view.RegH2D f)) owes fits =
-    let bad : Signs ∷ [] ≡ [] = sym owes.awaited ∙ not_waited k (request_of f) fits.1 in
+pub gives_none : (k : Ledger) (reply : Reply) (wanted : List Wanted) (r : Result Fis FisFault) → OwesOnly k (reply ∷ []) wanted → Fits k r → ⊥
+gives_none k reply wanted (Ok (view.RegH2D f)) owes fits =
+    let bad : reply ∷ [] ≡ [] = sym owes.awaited ∙ not_waited k (request_of f) fits.1 in
     cc bad
-gives_none k (Ok (view.Payload f)) owes fits = subst (λ (v : Option Moving). FitsData v (drop 4 f)) owes.clear.moving fits
-gives_none k other owes fits = absurd fits
+gives_none k reply wanted (Ok (view.Payload f)) owes fits = subst (λ (v : Option Moving). FitsData v (drop 4 f)) owes.clear.moving fits
+gives_none k reply wanted other owes fits = absurd fits
 
 -- a DMA Setup may not come
 pub no_setup : (k : Ledger) (f : List ℕ) → k.moving ≡ None → k.outstanding ≡ [] → SetsUpRight k k.moving f → ⊥
@@ -54,7 +54,7 @@ no_setup k f none empty right =
     let first : SetsUpRight k None f = subst (λ (v : Option Moving). SetsUpRight k v f) none right in
     subst (λ (cs : List Command). StartsOne (find (λ c. c.tag == field Setup BufferId f) cs) f) empty first
 
--- and what comes is the signature
+-- and where that is the signature it comes
 signs_then : (k : Ledger) (r : Result Fis FisFault) → OwesOnly k (Signs ∷ []) [] → IsOfDisk r → IsRight k r → IsUnsigned (listens_up k r)
 signs_then k (Ok (view.RegD2H f)) owes mine right = subst (λ (xs : List Reply). EachReply IsNoSignature (drop 1 xs)) (sym owes.awaited) tt
 signs_then k (Ok (view.SetBits f)) owes mine right =
@@ -137,7 +137,7 @@ begins_hearing base (Unsigned none) = record { owing = Signed none; resets = tt;
 gives_heard : (base host : List Happening) (bytes : List ℕ) → IsSigning (ledger base) → Fits (ledger host) (seen bytes)
     → (host ≡ base) ⊎ IsUnsigned (ledger host) → IsUnsigned (ledger (host ++ Received bytes ∷ []))
 gives_heard base host bytes (ToSign owes) fits (inl is) =
-    absurd (gives_none (ledger base) (seen bytes) owes (subst (λ (h : List Happening). Fits (ledger h) (seen bytes)) is fits))
+    absurd (gives_none (ledger base) Signs [] (seen bytes) owes (subst (λ (h : List Happening). Fits (ledger h) (seen bytes)) is fits))
 gives_heard base host bytes (Unsigned none) fits (inl is) =
     (stays_received host bytes (fits_no_reset (ledger host) (seen bytes) fits)).unsigned (subst (λ (h : List Happening). IsUnsigned (ledger h)) (sym is) none)
 gives_heard base host bytes signing fits (inr none) = (stays_received host bytes (fits_no_reset (ledger host) (seen bytes) fits)).unsigned none
@@ -155,7 +155,7 @@ gives_owing : (base disk host : List Happening) (down up : List (List ℕ)) (byt
     → IsOwing base disk host down up → IsOwing base disk (host ++ Received bytes ∷ []) (down ++ bytes ∷ []) up
 gives_owing base disk host down up bytes fits (Signed none) = Signed none
 gives_owing base disk host down up bytes fits (Waiting owes disk_is host_is down_is up_is) =
-    absurd (gives_none (ledger base) (seen bytes) owes (subst (λ (h : List Happening). Fits (ledger h) (seen bytes)) host_is fits))
+    absurd (gives_none (ledger base) Signs [] (seen bytes) owes (subst (λ (h : List Happening). Fits (ledger h) (seen bytes)) host_is fits))
 
 comes_owing : (base disk host : List Happening) (front back up : List (List ℕ)) (bytes : List ℕ) → ResetsNot (seen bytes)
     → IsOwing base disk host (front ++ bytes ∷ back) up → IsOwing base (disk ++ Received bytes ∷ []) host (front ++ back) up
@@ -309,48 +309,16 @@ module _ (plan : DiskPlan) (sectors : ℕ) (base disk given : List Happening) (d
     | inr on ↦ heard_after on
   ]
 
-  mine_erred : (followed later : List Happening) (error : List ℕ) (below before : List (List ℕ)) → disk ≡ followed ++ Sent error ∷ later
-      → bytes ∷ up ≡ before ++ error ∷ [] → reports (seen error) ≡ true → IsLinkedOn base followed given below [] before → reports (seen bytes) ≡ false
-      → IsOfDisk (seen bytes)
-  mine_erred followed later error below [] disk_is up_is fails linked fine =
-      let first = same_first bytes error up [] up_is in
-      absurd (true≢false (sym (subst (λ (x : List ℕ). reports (seen x) ≡ true) first.0 fails) ∙ fine))
-  mine_erred followed later error below (b ∷ before) disk_is up_is fails linked fine =
-      let first = same_first bytes b up (before ++ error ∷ []) up_is in
-      let run = run_to plan sectors disk followed (Sent error ∷ later) disk_is w.run in
-      let was : IsHearing base followed given below (b ∷ before) =
-      hearing plan sectors w.size base w.signing followed given below [] (b ∷ before) linked run w.careful in
-      subst (λ (x : List ℕ). IsOfDisk (seen x)) first.0 was.mine.0
-
-  mine_to : IsWatchedTo base disk given down [] (bytes ∷ up) → reports (seen bytes) ≡ false → IsOfDisk (seen bytes)
-  mine_to (Fine linked) fine =
-      let was : IsHearing base disk given down (bytes ∷ up) =
-      hearing plan sectors w.size base w.signing disk given down [] (bytes ∷ up) linked w.run w.careful in
-      was.mine.0
-  mine_to (Erred followed later error below before disk_is up_is fails linked erred) fine =
-      mine_erred followed later error below before disk_is up_is fails linked fine
-
   -- what comes next is of a disk
   pub next_of_disk : reports (seen bytes) ≡ false → IsOfDisk (seen bytes)
-  next_of_disk fine = let watched : IsWatched base disk given down [] (bytes ∷ up) = w.watched in mine_to watched.to_error fine
-
-  next_erred : (followed later : List Happening) (error : List ℕ) (below before : List (List ℕ)) → disk ≡ followed ++ Sent error ∷ later
-      → bytes ∷ up ≡ before ++ error ∷ [] → reports (seen error) ≡ true → IsLinkedOn base followed given below [] before → IsErredSince followed disk
-      → IsLastError base disk down up bytes ⊎ (reports (seen bytes) ≡ false)
-  next_erred followed later error below [] disk_is up_is fails linked erred =
-      inl (next_fails base disk given down up bytes w.watched error up_is fails erred.now)
-  next_erred followed later error below (b ∷ before) disk_is up_is fails linked erred =
-      let first = same_first bytes b up (before ++ error ∷ []) up_is in
-      let run = run_to plan sectors disk followed (Sent error ∷ later) disk_is w.run in
-      let right : IsRight (ledger given) (seen b) = right_next plan sectors w.size base w.signing followed given below before b linked run w.careful in
-      inr (subst (λ (x : List ℕ). reports (seen x) ≡ false) first.0 right.fine)
-
-  next_to : IsWatchedTo base disk given down [] (bytes ∷ up) → IsLastError base disk down up bytes ⊎ (reports (seen bytes) ≡ false)
-  next_to (Fine linked) =
-      let right : IsRight (ledger given) (seen bytes) = right_next plan sectors w.size base w.signing disk given down up bytes linked w.run w.careful in
-      inr right.fine
-  next_to (Erred followed later error below before disk_is up_is fails linked erred) =
-      next_erred followed later error below before disk_is up_is fails linked erred
+  next_of_disk fine = elim (next_watched base disk given down up bytes w.watched) [
+    | inl last ↦ absurd (true≢false (sym last.fails ∙ fine))
+    | inr b ↦
+        let was : IsHearing base b.followed given b.below (bytes ∷ b.before) =
+        hearing plan sectors w.size base w.signing b.followed given b.below [] (bytes ∷ b.before) b.linked
+        (run_to plan sectors disk b.followed b.later b.disk_is w.run) w.careful in
+        was.mine.0
+  ]
 
   failed_on : IsLastError base disk down up bytes → IsFailed (ledger disk) down up
   failed_on last = record { erred = last.erred; plain = last.plain; silent = last.last }
@@ -368,12 +336,14 @@ module _ (plan : DiskPlan) (sectors : ℕ) (base disk given : List Happening) (d
   ]
 
   next_on : ((reports (seen bytes) ≡ true) × IsFailed (ledger disk) down up) ⊎ ((reports (seen bytes) ≡ false) × IsLoose (ledger disk) down up)
-  next_on =
-      let watched : IsWatched base disk given down [] (bytes ∷ up) = w.watched in
-      elim (next_to watched.to_error) [
-        | inl last ↦ inl (last.fails, failed_on last)
-        | inr fine ↦ inr (fine, next_fine fine)
-      ]
+  next_on = elim (next_watched base disk given down up bytes w.watched) [
+    | inl last ↦ inl (last.fails, failed_on last)
+    | inr b ↦
+        let right : IsRight (ledger given) (seen bytes) =
+        right_next plan sectors w.size base w.signing b.followed given b.below b.before bytes b.linked
+        (run_to plan sectors disk b.followed b.later b.disk_is w.run) w.careful in
+        inr (right.fine, next_fine right.fine)
+  ]
 
 pub lines_begin : LinesBegin
 lines_begin = record {

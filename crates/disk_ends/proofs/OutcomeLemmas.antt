@@ -33,22 +33,15 @@ use Rattle.disk_ends.specs.Phases.{AreWatching}
 use Rattle.disk_ends.proofs.AnewJoins.{hosted_on_is_kept}
 use Rattle.disk_ends.proofs.AsideLemmas.{aside_is_kept}
 use Rattle.disk_ends.proofs.FileLaws.{files_stay_fine}
-use Rattle.disk_ends.proofs.LooseLemmas.{lines_begin, not_base, not_waited}
+use Rattle.disk_ends.proofs.LooseLemmas.{gives_none, lines_begin, not_base}
 use Rattle.disk_ends.proofs.PhaseLemmas.{error_faults, none_is}
 use Rattle.disk_ends.proofs.WatchingLemmas.{watches_what_is_fine}
 use Rattle.disk_ends.specs.Same.{SlotCommand}
 
 -- ## Nothing is given
 
-given_none : (k : Ledger) (reply : Reply) (wanted : List Wanted) (r : Result Fis FisFault) → OwesOnly k (reply ∷ []) wanted → Fits k r → ⊥
-given_none k reply wanted (Ok (view.RegH2D f)) owes fits =
-    let bad : reply ∷ [] ≡ [] = sym owes.awaited ∙ not_waited k (request_of f) fits.1 in
-    cc bad
-given_none k reply wanted (Ok (view.Payload f)) owes fits = subst (λ (v : Option Moving). FitsData v (drop 4 f)) owes.clear.moving fits
-given_none k reply wanted other owes fits = absurd fits
-
 pub nothing_is_given : NothingIsGiven
-nothing_is_given k reply wanted bytes owes fits = given_none k reply wanted (seen bytes) owes fits
+nothing_is_given k reply wanted bytes owes fits = gives_none k reply wanted (seen bytes) owes fits
 
 -- ## Where both began
 
