@@ -14,10 +14,11 @@ use Rattle.hba_fbs.specs.declared.status.Block.{Block}
 use Rattle.hba_fbs.specs.Taking.{port_of}
 use Rattle.hba_fbs.specs.Views.{DeviceView, view_of}
 use Rattle.disk_model.specs.Anew.{IsCarefulSince, IsClear, OwesOnly}
-use Rattle.disk_model.specs.Ends.{Fits, FitsAll}
+use Rattle.disk_model.specs.Ends.{FitsAll}
 use Rattle.disk_model.specs.Histories.{Happening, Plugged, Received, Sent}
 use Rattle.disk_model.specs.Ledger.{Ledger, ShowsPage, Signs, Wanted, empty, ledger, ledger_after, listens}
 use Rattle.disk_model.proofs.AnewLemmas.{after_more, begins_anew}
+use Rattle.disk_model.proofs.EndsLemmas.{FitsOne, ledger_push}
 use Rattle.hba_laws.specs.Agreement.{Agrees, ContextAgrees, IsHistoryOf, end_of, work_of_issue, work_of_transfer}
 use Rattle.hba_laws.specs.History as event
 use Rattle.hba_laws.specs.History.{History, Transfer, issued}
@@ -30,28 +31,15 @@ use Rattle.disk_ends.specs.Joined.{IsAskedBy, IsJoined, JoinsGiven, SentAgrees}
 use Rattle.disk_ends.specs.Together.{AtMostOne, IsWaitedUnset, NoneQueued, Replies, Shows, is_sent, told}
 use Rattle.disk_ends.specs.Marked.{IsHeardAlike}
 use Rattle.disk_ends.proofs.HeardLemmas.{IsThere, there_by}
-use Rattle.disk_ends.proofs.IssueJoins.{joins_issues}
+use Rattle.disk_ends.proofs.IssueJoins.{joins_issues, keeps_joined}
 use Rattle.disk_ends.proofs.JoinLemmas.{joins_frames}
 use Rattle.disk_ends.proofs.MarkedLemmas.{marks_tell_nothing}
 use Rattle.disk_ends.proofs.OrderJoins.{joins_commands, joins_data, joins_others}
 use Rattle.disk_ends.proofs.SignsLemmas.{joins_signs}
-use Rattle.disk_ends.proofs.TogetherLemmas.{idle_free}
+use Rattle.disk_ends.proofs.TogetherLemmas.{opens_the_same}
 use Rattle.disk_ends.specs.Same.{SlotCommand}
 
 -- ## Where they begin
-
-pub opens_the_same : OpensTheSame
-opens_the_same commands past k tags none clear talk sent =
-    let idle : IsIdle k = record { outstanding = clear.outstanding; unanswered = clear.unanswered; moving = clear.moving } in
-    record {
-      fine = clear.failed;
-      tags = tags;
-      live = λ s t there queued. absurd (true≢false (sym queued ∙ subst NoneQueued there (none s)));
-      free = λ s unqueued. idle_free s k idle;
-      unsent = λ s unsent. idle_free s k idle;
-      untouched = λ s t there unsent. absurd (true≢false (sym (sent s t there) ∙ unsent));
-      talk = talk;
-    }
 
 module _ (n : ℕ) (host : Host) (commands : ℕ → SlotCommand) (past : History) (k : Ledger) (o : IsOpening n host commands past k) where
   there : (s : ℕ) (t : Transfer) → issued s past ≡ Some t → IsThere (view_of n host.port).slots s t
@@ -79,38 +67,11 @@ module _ (n : ℕ) (host : Host) (commands : ℕ → SlotCommand) (past : Histor
     active = λ c now set. let bad : None ≡ Some c = sym o.unset ∙ now in cc bad;
   }
 
--- what leaves the slots leaves all that is joined
-keeps_joined : (n : ℕ) (host new : Host) (commands : ℕ → SlotCommand) (past : History) (k : Ledger) → KeepsSlots n host new
-    → IsJoined n commands host past k → IsJoined n commands new past k
-keeps_joined n host new commands past k keeps joined = record {
-  history = record {
-    issued = λ s. joined.history.issued s ∙ ap (λ (own : DeviceSlots). option_map work_of_issue (own_issue own s)) (sym keeps.slots);
-    agrees =
-        subst (λ (own : DeviceSlots). Agrees (own_issue own) own.context (option_map end_of (view_of n new.port).state.block) past) (sym keeps.slots)
-        (subst (λ (block : Option Block). Agrees (own_issue (view_of n host.port).slots) (view_of n host.port).slots.context (option_map end_of block) past)
-        (sym keeps.block) joined.history.agrees);
-  };
-  same = joined.same;
-  sent = subst (λ (own : DeviceSlots). SentAgrees own past) (sym keeps.slots) joined.sent;
-  short = joined.short;
-  active = subst (λ (own : DeviceSlots). (c : Context) → own.context ≡ Some c → c.activated ≡ true → IsAskedBy c k) (sym keeps.slots) joined.active;
-}
-
 careful_base : (base : List Happening) → IsCarefulSince base base
 unfolding FitsAll
 careful_base base = record { since = []; is = sym (append-nil base); fits = tt }
 
 -- ## One happening more
-
-ledger_more : (l : Ledger) (given : List Happening) (e : Happening) → ledger_after l (given ++ e ∷ []) ≡ listens (ledger_after l given) e
-unfolding ledger_after
-ledger_more l [] e = refl
-ledger_more l (x ∷ given) e = ledger_more (listens l x) given e
-
--- it comes up, or it goes down and fits
-abbrev pub FitsOne : Ledger → Happening → Type 0
-FitsOne l (Received bytes) = Fits l (seen bytes)
-FitsOne l other = Unit {0}
 
 fits_last : (l : Ledger) (e : Happening) → FitsOne l e → FitsAll l (e ∷ [])
 unfolding FitsAll
@@ -140,7 +101,7 @@ module _ (n : ℕ) (base : List Happening) where
       → IsKeptOn n base new (given ++ e ∷ []) commands past
   kept_more new given e commands past careful fits joined = record {
     careful = careful_more base given e careful fits;
-    joined = subst (IsJoined n commands new past) (sym (ledger_more empty given e)) joined;
+    joined = subst (IsJoined n commands new past) (sym (ledger_push given e)) joined;
   }
 
   kept_given : (new : Host) (frame : Stamped) (given : List Happening) (e : event.Event) (commands : ℕ → SlotCommand) (past : History)

@@ -154,9 +154,6 @@ first_stands s us first none =
     let parts = or_parts (s == s) (has s first.rest) (sym (ap (has s) first.is) ∙ none) in
     true≢false (sym (eq-eqb s s refl) ∙ parts.0)
 
-tails : (u t : ℕ) (us ts : List ℕ) → u ∷ us ≡ t ∷ ts → us ≡ ts
-tails u t us ts e = cc e
-
 heads : (u t : ℕ) (us ts : List ℕ) → u ∷ us ≡ t ∷ ts → u ≡ t
 heads u t us ts e = cc e
 

@@ -35,7 +35,7 @@ use Rattle.disk_ends.proofs.FollowedLemmas.{next_or_fails}
 use Rattle.disk_ends.proofs.LooseLemmas.{next_of_disk}
 use Rattle.disk_ends.proofs.MarkedFiles.{disk_marked}
 use Rattle.disk_ends.proofs.MarkedLemmas.{marks_tell_nothing}
-use Rattle.disk_ends.proofs.PhaseLemmas.{heard_if}
+use Rattle.disk_ends.proofs.HeardLemmas.{heard_if}
 use Rattle.disk_ends.proofs.PlainLemmas.{each_push, leaves_taken, leaves_up}
 use Rattle.disk_ends.proofs.WatchedLemmas.{watches_on}
 

@@ -50,7 +50,7 @@ use Rattle.disk_ends.specs.Same.{InLife, IsMovingAt, SlotCommand}
 use Rattle.disk_ends.specs.Together.{NoneQueued, Same, is_sent, told}
 use Rattle.disk_ends.specs.Heard.{IsToldSo}
 use Rattle.disk_ends.specs.Joined.{IsAskedBy, JoinsFrames}
-use Rattle.disk_ends.proofs.HeardLemmas.{IsThere, heard_as_told, not_ignored, there_by}
+use Rattle.disk_ends.proofs.HeardLemmas.{IsThere, heard_as_told, heard_if, setup_tag, there_by}
 use Rattle.disk_ends.proofs.MoveLemmas.{own_life}
 use Rattle.disk_ends.proofs.ShortLemmas.{short_up}
 use Rattle.disk_ends.proofs.TogetherLemmas.{same_goes_on, set_up_beside}
@@ -430,21 +430,6 @@ module _ (dev : ℕ) (v : DeviceView) (sound : Bool) (frame : List ℕ) (command
           let it : activated a ≡ c = let e : Some (activated a) ≡ Some c = sym after ∙ now in cc e in
           subst (λ (x : Context). IsAskedBy x (activates k k.moving)) it (asks_now commands v past k current a history same is once is_o)
 
-  tag_below : (s : ℕ) (o : Option Transfer) → issued s past ≡ o → (IsFree k s → ⊥) → s < 32
-  tag_below s None none busy = absurd (busy (same.free s (subst (λ (x : Option Transfer). NoneQueued x) (sym none) tt)))
-  tag_below s (Some t) here busy =
-      let at : IsThere v.slots s t =
-      there_by v.slots s t (own_issue v.slots s) refl (sym (ap (option_map work_of_transfer) here) ∙ history.issued s) in
-      own_below dev s v.slots at.issue is at.there
-
-  setup_tag : (f : List ℕ) → IsRight k (Ok (view.DmaSetup f)) → tag_of f ≡ field Setup table.BufferId f
-  setup_tag f right =
-      let busy : IsFree k (field Setup table.BufferId f) → ⊥ =
-      λ free. true≢false (sym (eq-eqb (field Setup table.BufferId f) (field Setup table.BufferId f) refl)
-      ∙ set_up_beside k k.moving (find (λ q. q.tag == field Setup table.BufferId f) k.outstanding) f (field Setup table.BufferId f) refl refl right free) in
-      let lt : field Setup table.BufferId f < 32 = tag_below (field Setup table.BufferId f) (issued (field Setup table.BufferId f) past) refl busy in
-      omega (arith, lt)
-
   -- the context of a DMA Setup
   abbrev context_of : List ℕ → Context
   context_of f = dma_context (tag_of f) (field Setup table.Offset f) (field Setup table.Count f) (field Setup table.D f == 1) (field Setup table.A f == 1)
@@ -474,7 +459,7 @@ module _ (dev : ℕ) (v : DeviceView) (sound : Bool) (frame : List ℕ) (command
       ap (λ (m : Option Moving). sets_up k m (field Setup table.BufferId f) at count) moving ∙ ap (starts_moving k at count) found in
       subst (λ (b : Bool). IsAskedBy (context_of f) (with_auto b (sets_up k k.moving (field Setup table.BufferId f) at count))) (sym auto)
       (auto_asks (context_of f) (sets_up k k.moving (field Setup table.BufferId f) at count) now (ap (λ (x : Ledger). x.moving) up)
-      (sym (setup_tag f right ∙ next.tag)) (write_of_auto (field Setup table.A f) (field Setup table.D f) q.write next.direction auto) refl)
+      (sym (setup_tag dev v commands past k is history same f right ∙ next.tag)) (write_of_auto (field Setup table.A f) (field Setup table.D f) q.write next.direction auto) refl)
   auto_asked f (Some w) o moving found right auto =
       let at = field Setup table.Offset f in
       let count = field Setup table.Count f in
@@ -489,7 +474,7 @@ module _ (dev : ℕ) (v : DeviceView) (sound : Bool) (frame : List ℕ) (command
       subst (λ (b : Bool). IsAskedBy (context_of f) (with_auto b (sets_up k k.moving (field Setup table.BufferId f) at count))) (sym auto)
       (auto_asks (context_of f) (sets_up k k.moving (field Setup table.BufferId f) at count) now
       (ap (λ (m : Option Moving). (sets_up k m (field Setup table.BufferId f) at count).moving) moving)
-      (sym (setup_tag f right ∙ next.tag)) (write_of_auto (field Setup table.A f) (field Setup table.D f) w.command.write next.direction auto) refl)
+      (sym (setup_tag dev v commands past k is history same f right ∙ next.tag)) (write_of_auto (field Setup table.A f) (field Setup table.D f) w.command.write next.direction auto) refl)
 
   asks_setup : (f : List ℕ) (o : Option SetupError) (auto : Bool) → is_auto f ≡ auto → IsRight k (Ok (view.DmaSetup f))
       → Asks (Ok (view.DmaSetup f)) (set_up o v.state None (happening.SetUp (context_of f)))
@@ -548,7 +533,7 @@ joins_frames host new frame report commands past k sound framed below well right
     heard_as_told host new frame report commands past k sound below well joined.history joined.same right in
     let takes : TakesFrame host frame report new = well.takes in
     let heard_it : ignores (port_of frame) host.port frame ≡ false =
-    not_ignored host new frame report (ignores (port_of frame) host.port frame) refl well in
+    heard_if host new frame report (ignores (port_of frame) host.port frame) refl well.takes well.heard in
     let h : Heard = heard_now host.port host.memory (port_of frame) (admitted (port_of frame) (seen frame)) in
     let slots_is : (view_of (port_of frame) new.port).slots ≡ moved
     (heard_now host.port host.memory (port_of frame) (admitted (port_of frame) (seen frame))).happening (view_of (port_of frame) host.port).slots =

@@ -46,22 +46,6 @@ nothing_is_given k reply wanted bytes owes fits = gives_none k reply wanted (see
 -- ## Where both began
 
 module _ (n : ℕ) (base : List Happening) (below : n < 15) where
-  began_clear : (host : Host) (given : List Happening) (commands : ℕ → SlotCommand) (past : History) → IsHostedOn n base host given commands past
-      → IsClear (ledger base)
-  began_clear host given commands past (anew.opens h c p opening) = opening.clear
-  began_clear host given commands past (anew.stays old new g c p same hosted) = began_clear old g c p hosted
-  began_clear host given commands past (anew.signs old new bytes report g c p sound plain framed from_n well right hosted) =
-      began_clear old g c p hosted
-  began_clear host given commands past (anew.hears old new bytes report g c p sound plain framed from_n well right short hosted) =
-      began_clear old g c p hosted
-  began_clear host given commands past (anew.issues old new value g c next p sound chosen does tags names counted hosted) = began_clear old g c p hosted
-  began_clear host given commands past (anew.sends old new frame slot command f t g c p sound framed does out here queued cfis request signed hosted) =
-      began_clear old g c p hosted
-  began_clear host given commands past
-      (anew.asks old new frame slot command f t g c p sound framed does out here not_queued control cfis one none signed hosted) =
-      began_clear old g c p hosted
-  began_clear host given commands past (anew.gives old new frame offset len command g c p sound framed does out hosted) = began_clear old g c p hosted
-
   -- more than the base is not the base
   pub not_yet : (old : Host) (g : List Happening) (c : ℕ → SlotCommand) (p : History) (e : Happening) → IsHostedOn n base old g c p → g ++ e ∷ [] ≡ base → ⊥
   not_yet old g c p e hosted same =
@@ -80,25 +64,31 @@ module _ (n : ℕ) (base : List Happening) (below : n < 15) where
       issued_by true = unset
       issued_by false = unset
 
-  -- no setup stands there
+  -- where both began the ledger is clear, and no setup stands at the port until something more is told
+  began : (host : Host) (given : List Happening) (commands : ℕ → SlotCommand) (past : History) → IsHostedOn n base host given commands past
+      → IsClear (ledger base) × (given ≡ base → (view_of n host.port).slots.context ≡ None)
+  began host given commands past (anew.opens h c p opening) = (opening.clear, λ same. opening.unset)
+  began host given commands past (anew.stays old new g c p keeps hosted) =
+      let b = began old g c p hosted in
+      (b.0, λ same. ap (λ (own : DeviceSlots). own.context) keeps.slots ∙ b.1 same)
+  began host given commands past (anew.issues old new value g c next p sound chosen does tags names counted hosted) =
+      let b = began old g c p hosted in
+      (b.0, λ same. issued_unset old new value does (b.1 same))
+  began host given commands past (anew.signs old new bytes report g c p sound plain framed from_n well right hosted) =
+      ((began old g c p hosted).0, λ same. absurd (not_yet old g c p (Sent bytes) hosted same))
+  began host given commands past (anew.hears old new bytes report g c p sound plain framed from_n well right short hosted) =
+      ((began old g c p hosted).0, λ same. absurd (not_yet old g c p (Sent bytes) hosted same))
+  began host given commands past (anew.sends old new frame slot command f t g c p sound framed does out here queued cfis request signed hosted) =
+      ((began old g c p hosted).0, λ same. absurd (not_yet old g c p (Received (marked frame.bytes 0)) hosted same))
+  began host given commands past
+      (anew.asks old new frame slot command f t g c p sound framed does out here not_queued control cfis one none signed hosted) =
+      ((began old g c p hosted).0, λ same. absurd (not_yet old g c p (Received (marked frame.bytes 0)) hosted same))
+  began host given commands past (anew.gives old new frame offset len command g c p sound framed does out hosted) =
+      ((began old g c p hosted).0, λ same. absurd (not_yet old g c p (Received (marked frame.bytes 0)) hosted same))
+
   pub began_unset : (host : Host) (given : List Happening) (commands : ℕ → SlotCommand) (past : History) → IsHostedOn n base host given commands past
       → given ≡ base → (view_of n host.port).slots.context ≡ None
-  began_unset host given commands past (anew.opens h c p opening) same = opening.unset
-  began_unset host given commands past (anew.stays old new g c p keeps hosted) same =
-      ap (λ (own : DeviceSlots). own.context) keeps.slots ∙ began_unset old g c p hosted same
-  began_unset host given commands past (anew.signs old new bytes report g c p sound plain framed from_n well right hosted) same =
-      absurd (not_yet old g c p (Sent bytes) hosted same)
-  began_unset host given commands past (anew.hears old new bytes report g c p sound plain framed from_n well right short hosted) same =
-      absurd (not_yet old g c p (Sent bytes) hosted same)
-  began_unset host given commands past (anew.issues old new value g c next p sound chosen does tags names counted hosted) same =
-      issued_unset old new value does (began_unset old g c p hosted same)
-  began_unset host given commands past (anew.sends old new frame slot command f t g c p sound framed does out here queued cfis request signed hosted) same =
-      absurd (not_yet old g c p (Received (marked frame.bytes 0)) hosted same)
-  began_unset host given commands past
-      (anew.asks old new frame slot command f t g c p sound framed does out here not_queued control cfis one none signed hosted) same =
-      absurd (not_yet old g c p (Received (marked frame.bytes 0)) hosted same)
-  began_unset host given commands past (anew.gives old new frame offset len command g c p sound framed does out hosted) same =
-      absurd (not_yet old g c p (Received (marked frame.bytes 0)) hosted same)
+  began_unset host given commands past hosted same = (began host given commands past hosted).1 same
 
 -- ## The outcome
 
@@ -128,7 +118,7 @@ module _ (plan : DiskPlan) (sectors : ℕ) (base disk given : List Happening) (d
       inl (laws.stays plan sectors base disk given down up bytes n host report new (next_heard fine) file)
   file_by fine (inl same) =
       let laws : FilesStayFine = files_stay_fine in
-      let clear : IsClear (ledger base) = began_clear n base x.below host given commands past x.hosted in
+      let clear : IsClear (ledger base) = (began n base x.below host given commands past x.hosted).0 in
       elim (laws.first plan sectors base disk given down up bytes n host report new (next_heard fine) clear same
       (began_unset n base x.below host given commands past x.hosted same)) [
         | inl file ↦ inl file

@@ -43,7 +43,7 @@ use Rattle.disk_ends.specs.Together.{told}
 use Rattle.disk_ends.proofs.AnewJoins.{hosted_on_is_kept}
 use Rattle.disk_ends.proofs.AsideLemmas.{aside_is_kept}
 use Rattle.disk_ends.proofs.FollowedLemmas.{followed_is_honest, next_or_fails, takes_on}
-use Rattle.disk_ends.proofs.HeardLemmas.{heard_as_told}
+use Rattle.disk_ends.proofs.HeardLemmas.{heard_as_told, heard_if}
 use Rattle.disk_ends.proofs.MarkedLemmas.{bits_by, marks_tell_nothing}
 use Rattle.disk_ends.proofs.SignsLemmas.{signature_is_none}
 use Rattle.disk_ends.specs.Same.{SlotCommand}
@@ -90,13 +90,6 @@ error_heard dev v sound f is =
     let mask : ℕ = field Bits SActive f in
     ap (λ (b : Bool). (if b then faulty (with_bits v.state status error) cause.TaskFile
     else named (completed mask v.slots) (with_bits v.state status error) mask).fault) is
-
-pub heard_if : (host new : Host) (frame : List ℕ) (report : TakeReport) (b : Bool) → ignores (port_of frame) host.port frame ≡ b
-    → TakesFrame host frame report new → report.ignored ≡ false → b ≡ false
-heard_if host new frame report false is takes heard = refl
-heard_if host new frame report true is takes heard =
-    let said = (takes.ignored is).reports in
-    absurd (true≢false (sym (ap (λ (r : TakeReport). r.ignored) said) ∙ heard))
 
 pub error_faults : (n : ℕ) (host new : Host) (bytes : List ℕ) (report : TakeReport) → n < 16 → IsFrame bytes → TakesFrame host (marked bytes n) report new
     → report.ignored ≡ false → reports (seen bytes) ≡ true → is_some report.fault ≡ true

@@ -24,6 +24,7 @@ use Rattle.disk_model.proofs.CrossLemmas.{after_bytes, alone, asks_fits, bits_up
 use Rattle.disk_model.proofs.EntersLemmas.{up_leaves}
 use Rattle.hba_laws.specs.History.{Answered, Carried, History, Issued, Named, Sent, SetUp, Transfer, completes, is_at, is_set_up, issued, unless, waiting_in}
 use Rattle.disk_ends.specs.Same.{InLife, SlotCommand}
+use Rattle.disk_ends.specs.Anew.{OpensTheSame}
 use Rattle.disk_ends.specs.Answers.{IsAlone, IsIdle}
 use Rattle.disk_ends.specs.Together.{AsksOne, InTalk, IsHeard, IsUntouched, IsWaited, NoneQueued, NothingWaits, QueuesOne, Replies, Same, SameGoesOn, is_sent, told, with_command}
 use Rattle.disk_ends.proofs.AnswerLemmas.{IsBeside, answers_keep, asks_beside, free_beside, names_keep, others_keep}
@@ -145,18 +146,26 @@ idle_free s k idle = record {
   moving = subst (MovesOther s) (sym idle.moving) tt;
 }
 
+pub opens_the_same : OpensTheSame
+opens_the_same commands past k tags none clear talk sent =
+    let idle : IsIdle k = record { outstanding = clear.outstanding; unanswered = clear.unanswered; moving = clear.moving } in
+    record {
+      fine = clear.failed;
+      tags = tags;
+      live = λ s t there queued. absurd (true≢false (sym queued ∙ subst NoneQueued there (none s)));
+      free = λ s unqueued. idle_free s k idle;
+      unsent = λ s unsent. idle_free s k idle;
+      untouched = λ s t there unsent. absurd (true≢false (sym (sent s t there) ∙ unsent));
+      talk = talk;
+    }
+
 opens_same : (commands : ℕ → SlotCommand) (past : History) (k : Ledger) → ((s : ℕ) → (commands s).command.tag ≡ s) → ((s : ℕ) → issued s past ≡ None)
     → k.failed ≡ false → IsIdle k → k.awaited ≡ Signs ∷ [] → k.pages ≡ []
     → Same commands past k
-opens_same commands past k tags nothing fine idle signs none = record {
-  fine = fine;
-  tags = tags;
-  live = λ s t there queued. absurd (none_some t (sym (nothing s) ∙ there));
-  free = λ s unqueued. idle_free s k idle;
-  unsent = λ s sent. idle_free s k idle;
-  untouched = λ s t there sent. absurd (none_some t (sym (nothing s) ∙ there));
-  talk = Replies Signs idle signs tt none;
-}
+opens_same commands past k tags nothing fine idle signs none =
+    opens_the_same commands past k tags (λ s. subst NoneQueued (sym (nothing s)) tt)
+    (record { failed = fine; outstanding = idle.outstanding; unanswered = idle.unanswered; moving = idle.moving }) (Replies Signs idle signs tt none)
+    (λ s t there. absurd (none_some t (sym (nothing s) ∙ there)))
 
 -- ## A command is issued
 
