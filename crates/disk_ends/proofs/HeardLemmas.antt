@@ -51,7 +51,7 @@ use Rattle.hba_laws.proofs.StepLemmas.{whole_is}
 use Rattle.hba_laws.proofs.ViewLemmas.{IsOwn, is_own, own_below}
 use Rattle.disk_ends.specs.Together.{IsHeard, NoneQueued, Same, told}
 use Rattle.disk_ends.specs.Heard.{HeardAsTold, IsTakenWell}
-use Rattle.disk_ends.proofs.TogetherLemmas.{set_up_beside}
+use Rattle.disk_ends.proofs.TogetherLemmas.{set_up_now}
 use Rattle.disk_ends.specs.Same.{SlotCommand}
 
 -- ## Events as lists
@@ -203,7 +203,7 @@ module _ (dev : ℕ) (v : DeviceView) (commands : ℕ → SlotCommand) (past : H
   setup_tag f right =
       let busy : IsFree k (field Setup BufferId f) → ⊥ =
       λ free. true≢false (sym (eq-eqb (field Setup BufferId f) (field Setup BufferId f) refl)
-      ∙ set_up_beside k k.moving (find (λ q. q.tag == field Setup BufferId f) k.outstanding) f (field Setup BufferId f) refl refl right free) in
+      ∙ (set_up_now k f right).beside (field Setup BufferId f) free) in
       let lt : field Setup BufferId f < 32 = below (field Setup BufferId f) (issued (field Setup BufferId f) past) refl busy in
       omega (arith, lt)
 

@@ -53,7 +53,7 @@ use Rattle.disk_ends.specs.Joined.{IsAskedBy, JoinsFrames}
 use Rattle.disk_ends.proofs.HeardLemmas.{IsThere, heard_as_told, heard_if, setup_tag, there_by}
 use Rattle.disk_ends.proofs.MoveLemmas.{own_life}
 use Rattle.disk_ends.proofs.ShortLemmas.{short_up}
-use Rattle.disk_ends.proofs.TogetherLemmas.{same_goes_on, set_up_beside}
+use Rattle.disk_ends.proofs.TogetherLemmas.{same_goes_on, set_up_now}
 
 -- ## What was sent stays so
 
@@ -434,47 +434,13 @@ module _ (dev : ℕ) (v : DeviceView) (sound : Bool) (frame : List ℕ) (command
   abbrev context_of : List ℕ → Context
   context_of f = dma_context (tag_of f) (field Setup table.Offset f) (field Setup table.Count f) (field Setup table.D f == 1) (field Setup table.A f == 1)
 
-  auto_asked : (f : List ℕ) (m : Option Moving) (o : Option Command) → k.moving ≡ m
-      → find (λ q. q.tag == field Setup table.BufferId f) k.outstanding ≡ o → IsRight k (Ok (view.DmaSetup f)) → is_auto f ≡ true
-      → IsAskedBy (context_of f) (listens_up k (Ok (view.DmaSetup f)))
-  auto_asked f None None moving found right auto =
-      let first : SetsUpRight k None f = subst (λ (m : Option Moving). SetsUpRight k m f) moving right.moves in
-      absurd (subst (λ (q : Option Command). StartsOne q f) found first)
-  auto_asked f None (Some q) moving found right auto =
-      let at = field Setup table.Offset f in
-      let count = field Setup table.Count f in
-      let first : SetsUpRight k None f = subst (λ (m : Option Moving). SetsUpRight k m f) moving right.moves in
-      let next : SetsUpNext q 0 [] f = subst (λ (q : Option Command). StartsOne q f) found first in
-      let now : Moving = record {
-        command = q;
-        before = k.writes;
-        bytes = replicate (512 * q.count) 0;
-        moved = 0;
-        setups = record { at = at; count = count } ∷ [];
-        offset = at;
-        count = count;
-        active = false;
-      } in
-      let up : sets_up k k.moving (field Setup table.BufferId f) at count ≡ starts_moving k at count (Some q) =
-      ap (λ (m : Option Moving). sets_up k m (field Setup table.BufferId f) at count) moving ∙ ap (starts_moving k at count) found in
-      subst (λ (b : Bool). IsAskedBy (context_of f) (with_auto b (sets_up k k.moving (field Setup table.BufferId f) at count))) (sym auto)
-      (auto_asks (context_of f) (sets_up k k.moving (field Setup table.BufferId f) at count) now (ap (λ (x : Ledger). x.moving) up)
-      (sym (setup_tag dev v commands past k is history same f right ∙ next.tag)) (write_of_auto (field Setup table.A f) (field Setup table.D f) q.write next.direction auto) refl)
-  auto_asked f (Some w) o moving found right auto =
-      let at = field Setup table.Offset f in
-      let count = field Setup table.Count f in
-      let right_now : SetsUpRight k (Some w) f = subst (λ (m : Option Moving). SetsUpRight k m f) moving right.moves in
-      let next : SetsUpNext w.command w.moved w.setups f = right_now.1 in
-      let now : Moving = record w {
-        setups = w.setups ++ record { at = at; count = count } ∷ [];
-        offset = at;
-        count = count;
-        active = false;
-      } in
-      subst (λ (b : Bool). IsAskedBy (context_of f) (with_auto b (sets_up k k.moving (field Setup table.BufferId f) at count))) (sym auto)
-      (auto_asks (context_of f) (sets_up k k.moving (field Setup table.BufferId f) at count) now
-      (ap (λ (m : Option Moving). (sets_up k m (field Setup table.BufferId f) at count).moving) moving)
-      (sym (setup_tag dev v commands past k is history same f right ∙ next.tag)) (write_of_auto (field Setup table.A f) (field Setup table.D f) w.command.write next.direction auto) refl)
+  auto_asked : (f : List ℕ) → IsRight k (Ok (view.DmaSetup f)) → is_auto f ≡ true → IsAskedBy (context_of f) (listens_up k (Ok (view.DmaSetup f)))
+  auto_asked f right auto =
+      let x : Ledger = sets_up k k.moving (field Setup table.BufferId f) (field Setup table.Offset f) (field Setup table.Count f) in
+      let u = set_up_now k f right in
+      subst (λ (b : Bool). IsAskedBy (context_of f) (with_auto b x)) (sym auto)
+      (auto_asks (context_of f) x u.current u.moving (sym (setup_tag dev v commands past k is history same f right ∙ u.tag))
+      (write_of_auto (field Setup table.A f) (field Setup table.D f) u.current.command.write u.direction auto) u.count)
 
   asks_setup : (f : List ℕ) (o : Option SetupError) (auto : Bool) → is_auto f ≡ auto → IsRight k (Ok (view.DmaSetup f))
       → Asks (Ok (view.DmaSetup f)) (set_up o v.state None (happening.SetUp (context_of f)))
@@ -485,7 +451,7 @@ module _ (dev : ℕ) (v : DeviceView) (sound : Bool) (frame : List ℕ) (command
   asks_setup f None true is_auto_so right c now set =
       let it : context_of f ≡ c = let e : Some (context_of f) ≡ Some c = now in cc e in
       subst (λ (x : Context). IsAskedBy x (listens_up k (Ok (view.DmaSetup f)))) it
-      (auto_asked f k.moving (find (λ q. q.tag == field Setup table.BufferId f) k.outstanding) refl refl right is_auto_so)
+      (auto_asked f right is_auto_so)
 
   asks_fis : (fis : Fis) → IsRight k (Ok fis) → Asks (Ok fis) (heard_fis v.slots v.state sound fis)
   unfolding heard_fis

@@ -1,6 +1,7 @@
 -- Both views of a disk go on to say the same.
 use Rattle.std.proofs.Common.{◌≡◌, ◌==◌, ◌&&◌, eqb, ℕ, ◌+◌, ◌*◌, Bool, true, false, List, [], ◌∷◌, ◌++◌, refl, sym, ap, subst, ◌∙◌, inl, inr, Option, Some, None, Ok, Err, Result, ◌≤◌, length, arith}
 use Rattle.std.specs.Prelude.{◌≢◌, not, if◌then◌else◌, drop, find, replicate}
+use Rattle.std.specs.Int.{from_bool}
 use Rattle.std.specs.List.{list_any}
 use Rattle.std.proofs.lemmas.Bool.{and_parts, cases_Bool, eq-eqb, eqb-true, or_parts, true≢false}
 use Rattle.std.proofs.lemmas.List.Sums.{sum_by-append}
@@ -400,51 +401,86 @@ named_last moved at count setups is =
     sum_by-append (λ (x : Stretch). x.count) setups _ ∙ (omega arith) in
     ap (λ (n : ℕ). n + count) is ∙ sym all
 
-takes_setup : (commands : ℕ → SlotCommand) (f : List ℕ) (past : History) (k : Ledger) (m : Option Moving) (o : Option Command) → k.moving ≡ m
-    → find (λ q. q.tag == field Setup BufferId f) k.outstanding ≡ o
-    → IsRight k (Ok (view.DmaSetup f)) → is_at (field Setup BufferId f) (waiting_in past) ≡ false → (s : ℕ) → (commands s).command.tag ≡ s
-    → InLife s (commands s) past k → InLife s (commands s) (told (Ok (view.DmaSetup f)) ++ past) (listens_up k (Ok (view.DmaSetup f)))
-takes_setup commands f past k None None moving found right answered_yet s tag life =
+-- what a DMA Setup that is right leaves: its data moves, nothing else changes, and its tag is not free
+pub record IsSetUp (k : Ledger) (f : List ℕ) (x : Ledger) : Type 0 where
+  pub current : Moving
+  pub moving : x.moving ≡ Some current
+  pub tag : field Setup BufferId f ≡ current.command.tag
+  pub direction : field Setup table.D f ≡ from_bool (not current.command.write)
+  pub count : field Setup table.Count f ≡ current.count
+  pub in_turn : current.moved + current.count ≡ bytes_named current.setups
+  pub awaited : x.awaited ≡ k.awaited
+  pub pages : x.pages ≡ k.pages
+  pub failed : x.failed ≡ k.failed
+  pub beside : (s : ℕ) → IsFree k s → eqb (field Setup BufferId f) s ≡ false
+  pub live : (s : ℕ) (c : SlotCommand) (past : History) → is_at (field Setup BufferId f) (waiting_in past) ≡ false → c.command.tag ≡ s
+      → InLife s c past k → InLife s c (told (Ok (view.DmaSetup f)) ++ past) x
+
+set_up_by : (k : Ledger) (f : List ℕ) (m : Option Moving) (o : Option Command) → k.moving ≡ m
+    → find (λ q. q.tag == field Setup BufferId f) k.outstanding ≡ o → IsRight k (Ok (view.DmaSetup f))
+    → IsSetUp k f (sets_up k k.moving (field Setup BufferId f) (field Setup Offset f) (field Setup table.Count f))
+set_up_by k f None None moving found right =
     let first : SetsUpRight k None f = subst (λ (v : Option Moving). SetsUpRight k v f) moving right.moves in
     absurd (subst (λ (q : Option Command). StartsOne q f) found first)
-takes_setup commands f past k None (Some q) moving found right answered_yet s tag life =
+set_up_by k f None (Some q) moving found right =
     let at = field Setup Offset f in
     let count = field Setup table.Count f in
     let first : SetsUpRight k None f = subst (λ (v : Option Moving). SetsUpRight k v f) moving right.moves in
     let next : SetsUpNext q 0 [] f = subst (λ (q : Option Command). StartsOne q f) found first in
     let up : sets_up k k.moving (field Setup BufferId f) at count ≡ starts_moving k at count (Some q) =
     ap (λ (v : Option Moving). sets_up k v (field Setup BufferId f) at count) moving ∙ ap (starts_moving k at count) found in
-    let now : Moving = record {
-      command = q;
-      before = k.writes;
-      bytes = replicate (512 * q.count) 0;
-      moved = 0;
-      setups = record { at = at; count = count } ∷ [];
-      offset = at;
-      count = count;
-      active = false;
-    } in
-    subst (λ (x : Ledger). InLife s (commands s) (told (Ok (view.DmaSetup f)) ++ past) (with_auto (is_auto f) x)) (sym up)
-    (auto_life (is_auto f) s (commands s) now (told (Ok (view.DmaSetup f)) ++ past) (starts_moving k at count (Some q)) refl tag
-    (named_last 0 at count [] next.in_turn)
-    (setups_start s (field Setup BufferId f) at count (field Setup table.D f == 1) (commands s) q past k moving found answered_yet next.inside life))
-takes_setup commands f past k (Some v) o moving found right answered_yet s tag life =
+    subst (IsSetUp k f) (sym up) (record {
+      current = record {
+        command = q;
+        before = k.writes;
+        bytes = replicate (512 * q.count) 0;
+        moved = 0;
+        setups = record { at = at; count = count } ∷ [];
+        offset = at;
+        count = count;
+        active = false;
+      };
+      moving = refl;
+      tag = next.tag;
+      direction = next.direction;
+      count = refl;
+      in_turn = named_last 0 at count [] next.in_turn;
+      awaited = refl;
+      pages = refl;
+      failed = refl;
+      beside = λ s free.
+          ap (λ (n : ℕ). eqb n s) next.tag
+          ∙ found_not (λ (x : Command). x.tag == field Setup BufferId f) (λ (x : Command). x.tag == s) k.outstanding q found free.outstanding;
+      live = λ s c past answered_yet tag life.
+          setups_start s (field Setup BufferId f) at count (field Setup table.D f == 1) c q past k moving found answered_yet next.inside life;
+    })
+set_up_by k f (Some v) o moving found right =
     let at = field Setup Offset f in
     let count = field Setup table.Count f in
     let next : SetsUpRight k (Some v) f = subst (λ (m : Option Moving). SetsUpRight k m f) moving right.moves in
     let rest : SetsUpNext v.command v.moved v.setups f = next.1 in
-    let now : Moving = record v {
-      setups = v.setups ++ record { at = at; count = count } ∷ [];
-      offset = at;
-      count = count;
-      active = false;
-    } in
-    let moves_now : (sets_up k k.moving v.command.tag at count).moving ≡ Some now =
-    ap (λ (m : Option Moving). (sets_up k m v.command.tag at count).moving) moving in
-    subst (λ (n : ℕ). InLife s (commands s) (SetUp n at count (field Setup table.D f == 1) ∷ past) (with_auto (is_auto f) (sets_up k k.moving n at count))) (sym rest.tag)
-    (auto_life (is_auto f) s (commands s) now (SetUp v.command.tag at count (field Setup table.D f == 1) ∷ past) (sets_up k k.moving v.command.tag at count)
-    moves_now tag (named_last v.moved at count v.setups rest.in_turn)
-    (setups_go_on s at count (field Setup table.D f == 1) (commands s) v past k moving tag rest.inside life))
+    let up : sets_up k k.moving (field Setup BufferId f) at count ≡ sets_up k (Some v) (field Setup BufferId f) at count =
+    ap (λ (m : Option Moving). sets_up k m (field Setup BufferId f) at count) moving in
+    subst (IsSetUp k f) (sym up) (record {
+      current = record v { setups = v.setups ++ record { at = at; count = count } ∷ []; offset = at; count = count; active = false };
+      moving = refl;
+      tag = rest.tag;
+      direction = rest.direction;
+      count = refl;
+      in_turn = named_last v.moved at count v.setups rest.in_turn;
+      awaited = refl;
+      pages = refl;
+      failed = refl;
+      beside = λ s free. ap (λ (n : ℕ). eqb n s) rest.tag ∙ subst (MovesOther s) moving free.moving;
+      live = λ s c past answered_yet tag life.
+          subst (λ (n : ℕ). InLife s c (SetUp n at count (field Setup table.D f == 1) ∷ past) (sets_up k (Some v) n at count)) (sym rest.tag)
+          (subst (λ (m : Option Moving). InLife s c (SetUp v.command.tag at count (field Setup table.D f == 1) ∷ past) (sets_up k m v.command.tag at count))
+          moving (setups_go_on s at count (field Setup table.D f == 1) c v past k moving tag rest.inside life));
+    })
+
+pub set_up_now : (k : Ledger) (f : List ℕ) → IsRight k (Ok (view.DmaSetup f))
+    → IsSetUp k f (sets_up k k.moving (field Setup BufferId f) (field Setup Offset f) (field Setup table.Count f))
+set_up_now k f right = set_up_by k f k.moving (find (λ q. q.tag == field Setup BufferId f) k.outstanding) refl refl right
 
 active_answers : (x : Ledger) (m : Option Moving)
     → ((activates x m).awaited ≡ x.awaited) × ((activates x m).pages ≡ x.pages) × ((activates x m).failed ≡ x.failed)
@@ -455,28 +491,6 @@ auto_answers : (b : Bool) (x : Ledger)
     → ((with_auto b x).awaited ≡ x.awaited) × ((with_auto b x).pages ≡ x.pages) × ((with_auto b x).failed ≡ x.failed)
 auto_answers true x = active_answers x x.moving
 auto_answers false x = (refl, refl, refl)
-
-set_up_answers : (k : Ledger) (m : Option Moving) (o : Option Command) (f : List ℕ) → k.moving ≡ m
-    → find (λ q. q.tag == field Setup BufferId f) k.outstanding ≡ o → IsRight k (Ok (view.DmaSetup f))
-    → ((listens_up k (Ok (view.DmaSetup f))).awaited ≡ k.awaited) × ((listens_up k (Ok (view.DmaSetup f))).pages ≡ k.pages) ×
-    ((listens_up k (Ok (view.DmaSetup f))).failed ≡ k.failed)
-set_up_answers k None None f moving found right =
-    let first : SetsUpRight k None f = subst (λ (v : Option Moving). SetsUpRight k v f) moving right.moves in
-    absurd (subst (λ (q : Option Command). StartsOne q f) found first)
-set_up_answers k None (Some q) f moving found right =
-    let at = field Setup Offset f in
-    let count = field Setup table.Count f in
-    let up : sets_up k k.moving (field Setup BufferId f) at count ≡ starts_moving k at count (Some q) =
-    ap (λ (v : Option Moving). sets_up k v (field Setup BufferId f) at count) moving ∙ ap (starts_moving k at count) found in
-    let auto = auto_answers (is_auto f) (sets_up k k.moving (field Setup BufferId f) at count) in
-    (auto.0 ∙ ap (λ (x : Ledger). x.awaited) up, auto.1 ∙ ap (λ (x : Ledger). x.pages) up, auto.2 ∙ ap (λ (x : Ledger). x.failed) up)
-set_up_answers k (Some v) o f moving found right =
-    let at = field Setup Offset f in
-    let count = field Setup table.Count f in
-    let up : sets_up k k.moving (field Setup BufferId f) at count ≡ sets_up k (Some v) (field Setup BufferId f) at count =
-    ap (λ (m : Option Moving). sets_up k m (field Setup BufferId f) at count) moving in
-    let auto = auto_answers (is_auto f) (sets_up k k.moving (field Setup BufferId f) at count) in
-    (auto.0 ∙ ap (λ (x : Ledger). x.awaited) up, auto.1 ∙ ap (λ (x : Ledger). x.pages) up, auto.2 ∙ ap (λ (x : Ledger). x.failed) up)
 
 -- a FIS that completes nothing that is queued
 up_same : (commands : ℕ → SlotCommand) (fis : Result Fis FisFault) (past later : History) (k : Ledger) (test : ℕ → Transfer → Bool) → IsRight k fis
@@ -498,23 +512,6 @@ up_same commands fis past later k test right issued_is never sent_is untouched f
       talk = talk;
     }) same
 
--- the tag of a DMA Setup is not free
-pub set_up_beside : (k : Ledger) (m : Option Moving) (o : Option Command) (f : List ℕ) (s : ℕ) → k.moving ≡ m
-    → find (λ q. q.tag == field Setup BufferId f) k.outstanding ≡ o → IsRight k (Ok (view.DmaSetup f)) → IsFree k s
-    → eqb (field Setup BufferId f) s ≡ false
-set_up_beside k None None f s moving found right free =
-    let first : SetsUpRight k None f = subst (λ (v : Option Moving). SetsUpRight k v f) moving right.moves in
-    absurd (subst (λ (q : Option Command). StartsOne q f) found first)
-set_up_beside k None (Some q) f s moving found right free =
-    let first : SetsUpRight k None f = subst (λ (v : Option Moving). SetsUpRight k v f) moving right.moves in
-    let next : SetsUpNext q 0 [] f = subst (λ (q : Option Command). StartsOne q f) found first in
-    ap (λ (n : ℕ). eqb n s) next.tag
-    ∙ found_not (λ (x : Command). x.tag == field Setup BufferId f) (λ (x : Command). x.tag == s) k.outstanding q found free.outstanding
-set_up_beside k (Some v) o f s moving found right free =
-    let next : SetsUpRight k (Some v) f = subst (λ (m : Option Moving). SetsUpRight k m f) moving right.moves in
-    let rest : SetsUpNext v.command v.moved v.setups f = next.1 in
-    ap (λ (n : ℕ). eqb n s) rest.tag ∙ subst (MovesOther s) moving free.moving
-
 -- a queued command that waits goes on to do so where data moves
 waits_on : (past later : History) (e : ℕ → Transfer → Bool) → waiting_in later ≡ waiting_in past
     → ((s : ℕ) → issued s later ≡ Stays (issued s past) (e s)) → ((s : ℕ) (t : Transfer) → is_queued t.work.kind ≡ true → e s t ≡ true → ⊥)
@@ -530,19 +527,17 @@ takes_set_up : (commands : ℕ → SlotCommand) (f : List ℕ) (past : History) 
     → is_at (field Setup BufferId f) (waiting_in past) ≡ false → Same commands past k
     → Same commands (told (Ok (view.DmaSetup f)) ++ past) (listens_up k (Ok (view.DmaSetup f)))
 takes_set_up commands f past k right answered_yet same =
-    let x : Ledger = listens_up k (Ok (view.DmaSetup f)) in
-    let is = set_up_answers k k.moving (find (λ q. q.tag == field Setup BufferId f) k.outstanding) f refl refl right in
+    let x : Ledger = sets_up k k.moving (field Setup BufferId f) (field Setup Offset f) (field Setup table.Count f) in
+    let u : IsSetUp k f (sets_up k k.moving (field Setup BufferId f) (field Setup Offset f) (field Setup table.Count f)) = set_up_now k f right in
+    let auto = auto_answers (is_auto f) x in
     up_same commands (Ok (view.DmaSetup f)) past (told (Ok (view.DmaSetup f)) ++ past) k (λ s t. false) right (λ s. refl)
     (λ s t queued ended. true≢false (sym ended)) (λ s. refl)
-    (λ s free u. record {
-      quiet = u.quiet;
-      unset = set_up_beside k k.moving
-          (find (λ q. q.tag == field Setup BufferId f) k.outstanding) f s refl refl right free;
-    })
-    (λ fine. is.2 ∙ fine)
-    (λ s life. takes_setup commands f past k k.moving (find (λ q. q.tag == field Setup BufferId f) k.outstanding) refl refl right answered_yet s
-    (same.tags s) life)
-    (talk_stays past (told (Ok (view.DmaSetup f)) ++ past) k (listens_up k (Ok (view.DmaSetup f))) is.0 is.1 (idle_sets_up f k right.moves)
+    (λ s free untouched. record { quiet = untouched.quiet; unset = u.beside s free })
+    (λ fine. auto.2 ∙ u.failed ∙ fine)
+    (λ s life. auto_life (is_auto f) s (commands s) u.current (told (Ok (view.DmaSetup f)) ++ past) x u.moving (same.tags s) u.in_turn
+    (u.live s (commands s) past answered_yet (same.tags s) life))
+    (talk_stays past (told (Ok (view.DmaSetup f)) ++ past) k (listens_up k (Ok (view.DmaSetup f))) (auto.0 ∙ u.awaited) (auto.1 ∙ u.pages)
+    (idle_sets_up f k right.moves)
     (waits_on past (told (Ok (view.DmaSetup f)) ++ past) (λ s t. false) refl (λ s. refl) (λ s t queued ended. true≢false (sym ended)))) same
 
 activates_by : (commands : ℕ → SlotCommand) (f : List ℕ) (past : History) (k : Ledger) (m : Option Moving) → k.moving ≡ m
