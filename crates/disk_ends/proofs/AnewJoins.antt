@@ -113,6 +113,19 @@ module _ (n : ℕ) (base : List Happening) where
       kept_more new given (Received (marked frame.bytes 0)) commands (e ∷ past) careful (a.fits j.fits)
       (subst (IsJoined n commands new (e ∷ past)) (sym a.down) j.joined)
 
+  kept_taken : n < 15 → (old new : Host) (bytes : List ℕ) (given : List Happening) (commands : ℕ → SlotCommand) (past later : History)
+      → IsFrame bytes → port_of (marked bytes n) ≡ n → IsKeptOn n base old given commands past
+      → (IsHeardAlike (ledger given) bytes (marked bytes n) → IsJoined (port_of (marked bytes n)) commands old past (ledger given)
+      → IsJoined (port_of (marked bytes n)) commands new later (listens (ledger given) (Sent (marked bytes n))))
+      → IsKeptOn n base new (given ++ Sent bytes ∷ []) commands later
+  kept_taken below old new bytes given commands past later plain from_n before next =
+      let small : n < 16 = omega (arith, below) in
+      let a : IsHeardAlike (ledger given) bytes (marked bytes n) = marks_tell_nothing (ledger given) bytes n plain small in
+      let its = next a (subst (λ (m : ℕ). IsJoined m commands old past (ledger given)) (sym from_n) before.joined) in
+      kept_more new given (Sent bytes) commands later before.careful tt
+      (subst (IsJoined n commands new later) a.up
+      (subst (λ (m : ℕ). IsJoined m commands new later (listens (ledger given) (Sent (marked bytes n)))) from_n its))
+
   kept : n < 15 → (host : Host) (given : List Happening) (commands : ℕ → SlotCommand) (past : History) → IsHostedOn n base host given commands past
       → IsKeptOn n base host given commands past
   kept below host given commands past (anew.opens h c p opening) =
@@ -121,28 +134,12 @@ module _ (n : ℕ) (base : List Happening) where
       let before : IsKeptOn n base old g c p = kept below old g c p hosted in
       record { careful = before.careful; joined = keeps_joined n old new c p (ledger g) same before.joined }
   kept below host given commands past (anew.signs old new bytes report g c p sound plain framed from_n well right hosted) =
-      let before : IsKeptOn n base old g c p = kept below old g c p hosted in
-      let small : n < 16 = omega (arith, below) in
-      let a : IsHeardAlike (ledger g) bytes (marked bytes n) = marks_tell_nothing (ledger g) bytes n plain small in
-      let joined : IsJoined (port_of (marked bytes n)) c old p (ledger g) =
-      subst (λ (m : ℕ). IsJoined m c old p (ledger g)) (sym from_n) before.joined in
-      let next = joins_signs old new (marked bytes n) report c p (ledger g) well (a.right right) joined in
-      let mine : IsJoined n c new p (listens (ledger g) (Sent (marked bytes n))) =
-      subst (λ (m : ℕ). IsJoined m c new p (listens (ledger g) (Sent (marked bytes n)))) from_n next in
-      kept_more new g (Sent bytes) c p before.careful tt (subst (IsJoined n c new p) a.up mine)
+      kept_taken below old new bytes g c p p plain from_n (kept below old g c p hosted)
+      (λ a joined. joins_signs old new (marked bytes n) report c p (ledger g) well (a.right right) joined)
   kept below host given commands past (anew.hears old new bytes report g c p sound plain framed from_n well right short hosted) =
-      let before : IsKeptOn n base old g c p = kept below old g c p hosted in
       let lt : port_of (marked bytes n) < 15 = subst (λ (m : ℕ). m < 15) (sym from_n) below in
-      let small : n < 16 = omega (arith, below) in
-      let a : IsHeardAlike (ledger g) bytes (marked bytes n) = marks_tell_nothing (ledger g) bytes n plain small in
-      let joined : IsJoined (port_of (marked bytes n)) c old p (ledger g) =
-      subst (λ (m : ℕ). IsJoined m c old p (ledger g)) (sym from_n) before.joined in
-      let next : IsJoined (port_of (marked bytes n)) c new (told (seen (marked bytes n)) ++ p) (listens (ledger g) (Sent (marked bytes n))) =
-      joins_frames old new (marked bytes n) report c p (ledger g) sound framed lt well (a.right right) (a.short short) joined in
-      let mine : IsJoined n c new (told (seen (marked bytes n)) ++ p) (listens (ledger g) (Sent (marked bytes n))) =
-      subst (λ (m : ℕ). IsJoined m c new (told (seen (marked bytes n)) ++ p) (listens (ledger g) (Sent (marked bytes n)))) from_n next in
-      kept_more new g (Sent bytes) c (told (seen (marked bytes n)) ++ p) before.careful tt
-      (subst (IsJoined n c new (told (seen (marked bytes n)) ++ p)) a.up mine)
+      kept_taken below old new bytes g c p (told (seen (marked bytes n)) ++ p) plain from_n (kept below old g c p hosted)
+      (λ a joined. joins_frames old new (marked bytes n) report c p (ledger g) sound framed lt well (a.right right) (a.short short) joined)
   kept below host given commands past (anew.issues old new value g c next p sound chosen does tags names counted hosted) =
       let before : IsKeptOn n base old g c p = kept below old g c p hosted in
       record { careful = before.careful; joined = joins_issues n value old new c next p (ledger g) sound below chosen does tags names counted before.joined }

@@ -53,6 +53,11 @@ module _ (k : Ledger) (old new : List ℕ) (port : ℕ) (m : IsMarked port old n
     fits : Fits k r → Fits k s
     short : IsShort r → IsShort s
 
+  -- what goes up only
+  only_up : (r s : Result Fis FisFault) → listens_up k s ≡ listens_up k r → listens_down k s ≡ listens_down k r → (IsRight k r → IsRight k s)
+      → (Fits k r → ⊥) → IsShort s → IsAlike r s
+  only_up r s up down right none short = record { up = up; down = down; right = right; fits = λ fits. absurd (none fits); short = λ few. short }
+
   alike_h2d : IsAlike (Ok (view.RegH2D old)) (Ok (view.RegH2D new))
   alike_h2d = record {
     up = refl;
@@ -79,13 +84,9 @@ module _ (k : Ledger) (old new : List ℕ) (port : ℕ) (m : IsMarked port old n
   same_answer other answers = absurd answers
 
   alike_d2h : IsAlike (Ok (view.RegD2H old)) (Ok (view.RegD2H new))
-  alike_d2h = record {
-    up = refl;
-    down = refl;
-    right = λ right. record { moves = tt; answers = tt; replies = same_answer k.awaited right.replies; asked = tt; fine = refl };
-    fits = λ fits. absurd fits;
-    short = λ few. tt;
-  }
+  alike_d2h =
+      only_up (Ok (view.RegD2H old)) (Ok (view.RegD2H new)) refl refl
+      (λ right. record { moves = tt; answers = tt; replies = same_answer k.awaited right.replies; asked = tt; fine = refl }) (λ fits. fits) tt
 
   same_show : (xs : List Reply) → ShowsFirst xs old → ShowsFirst xs new
   same_show [] shows = absurd shows
@@ -97,13 +98,9 @@ module _ (k : Ledger) (old new : List ℕ) (port : ℕ) (m : IsMarked port old n
       (same_register Pio 1 0x58 0 0 shows.0, m.fields Pio table.D (λ e. cc e) ∙ shows.1, m.fields Pio table.Transfer (λ e. cc e) ∙ shows.2)
 
   alike_pio : IsAlike (Ok (view.PioSetup old)) (Ok (view.PioSetup new))
-  alike_pio = record {
-    up = refl;
-    down = refl;
-    right = λ right. record { moves = tt; answers = tt; replies = same_show k.awaited right.replies; asked = tt; fine = refl };
-    fits = λ fits. absurd fits;
-    short = λ few. tt;
-  }
+  alike_pio =
+      only_up (Ok (view.PioSetup old)) (Ok (view.PioSetup new)) refl refl
+      (λ right. record { moves = tt; answers = tt; replies = same_show k.awaited right.replies; asked = tt; fine = refl }) (λ fits. fits) tt
 
   alike_bits : IsAlike (Ok (view.SetBits old)) (Ok (view.SetBits new))
   alike_bits = record {
@@ -170,13 +167,9 @@ module _ (k : Ledger) (old new : List ℕ) (port : ℕ) (m : IsMarked port old n
       }
 
   alike_activate : IsAlike (Ok (view.DmaActivate old)) (Ok (view.DmaActivate new))
-  alike_activate = record {
-    up = refl;
-    down = refl;
-    right = λ right. record { moves = right.moves; answers = tt; replies = tt; asked = tt; fine = refl };
-    fits = λ fits. absurd fits;
-    short = λ few. tt;
-  }
+  alike_activate =
+      only_up (Ok (view.DmaActivate old)) (Ok (view.DmaActivate new)) refl refl
+      (λ right. record { moves = right.moves; answers = tt; replies = tt; asked = tt; fine = refl }) (λ fits. fits) tt
 
   alike_data : IsAlike (Ok (view.Payload old)) (Ok (view.Payload new))
   alike_data = record {
@@ -196,13 +189,9 @@ module _ (k : Ledger) (old new : List ℕ) (port : ℕ) (m : IsMarked port old n
   }
 
   alike_other : IsAlike (Ok (view.Unknown old)) (Ok (view.Unknown new))
-  alike_other = record {
-    up = refl;
-    down = refl;
-    right = λ right. record { moves = tt; answers = tt; replies = tt; asked = tt; fine = refl };
-    fits = λ fits. absurd fits;
-    short = λ few. tt;
-  }
+  alike_other =
+      only_up (Ok (view.Unknown old)) (Ok (view.Unknown new)) refl refl
+      (λ right. record { moves = tt; answers = tt; replies = tt; asked = tt; fine = refl }) (λ fits. fits) tt
 
   alike_kind : (kind : Kind) → IsAlike (Ok (view_as kind old)) (Ok (view_as kind new))
   alike_kind H2d = alike_h2d
@@ -216,13 +205,8 @@ module _ (k : Ledger) (old new : List ℕ) (port : ℕ) (m : IsMarked port old n
 
   heard_alike : IsHeardAlike k old new
   heard_alike =
-      let bad : IsAlike (Err WrongLength) (Err WrongLength) = record {
-        up = refl;
-        down = refl;
-        right = λ right. record { moves = tt; answers = tt; replies = tt; asked = tt; fine = refl };
-        fits = λ fits. absurd fits;
-        short = λ few. tt;
-      } in
+      let bad : IsAlike (Err WrongLength) (Err WrongLength) =
+      only_up (Err WrongLength) (Err WrongLength) refl refl (λ right. record { moves = tt; answers = tt; replies = tt; asked = tt; fine = refl }) (λ fits. fits) tt in
       let a : IsAlike (seen old) (seen new) = by_kinds old new port m IsAlike alike_kind bad in
       record { up = a.up; down = a.down; right = a.right; fits = a.fits; short = a.short }
 
