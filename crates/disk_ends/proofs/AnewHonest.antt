@@ -31,13 +31,10 @@ use Rattle.hba_fbs.specs.Status.{after_reset, is_busy, is_error, with_bits, with
 use Rattle.hba_fbs.specs.Taking.{admitted, heard, heard_now, ignores, port_of}
 use Rattle.hba_fbs.specs.Tables.{is_sound}
 use Rattle.hba_fbs.specs.Views.{DeviceView, view_of}
-use Rattle.disk_model.specs.declared.plan.DiskPlan.{DiskPlan}
-use Rattle.disk_model.specs.declared.request.Command.{Command}
-use Rattle.disk_model.specs.Anew.{IsLinkedOn, StayWritten}
+use Rattle.disk_model.specs.Anew.{StayWritten}
 use Rattle.disk_model.specs.Ends.{EndsAgree, reports}
 use Rattle.disk_model.specs.Histories.{Happening, Plugged}
-use Rattle.disk_model.specs.Ledger.{IsSize, Ledger, Written, ledger}
-use Rattle.disk_model.specs.Runs.{IsDiskRun}
+use Rattle.disk_model.specs.Ledger.{Ledger, Written, ledger}
 use Rattle.disk_model.proofs.AnewLemmas.{ends_agree_anew, linked_since_new}
 use Rattle.disk_model.proofs.LaterLemmas.{later_tells_of_all}
 use Rattle.disk_model.proofs.WrittenLemmas.{writes_stay}

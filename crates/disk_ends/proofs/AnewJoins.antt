@@ -6,11 +6,10 @@ use Rattle.std.proofs.lemmas.Bool.{true≢false}
 use Rattle.std.proofs.lemmas.List.{append-nil}
 use Rattle.fis_view.specs.Frames.{IsFrame, Stamped, marked}
 use Rattle.fis_view.specs.Seen.{seen}
-use Rattle.slots.specs.Slots.{DeviceSlots, Issue, own_issue}
+use Rattle.slots.specs.Slots.{Issue, own_issue}
 use Rattle.slots.specs.Work.{is_queued}
 use Rattle.slots.specs.declared.table.Context.{Context}
 use Rattle.slots.specs.declared.work.Work.{Work}
-use Rattle.hba_fbs.specs.declared.status.Block.{Block}
 use Rattle.hba_fbs.specs.Taking.{port_of}
 use Rattle.hba_fbs.specs.Views.{DeviceView, view_of}
 use Rattle.disk_model.specs.Anew.{IsCarefulSince, IsClear, OwesOnly}
@@ -19,15 +18,14 @@ use Rattle.disk_model.specs.Histories.{Happening, Plugged, Received, Sent}
 use Rattle.disk_model.specs.Ledger.{Ledger, ShowsPage, Signs, Wanted, empty, ledger, ledger_after, listens}
 use Rattle.disk_model.proofs.AnewLemmas.{after_more, begins_anew}
 use Rattle.disk_model.proofs.EndsLemmas.{FitsOne, ledger_push}
-use Rattle.hba_laws.specs.Agreement.{Agrees, ContextAgrees, IsHistoryOf, end_of, work_of_issue, work_of_transfer}
+use Rattle.hba_laws.specs.Agreement.{ContextAgrees, IsHistoryOf, work_of_transfer}
 use Rattle.hba_laws.specs.History as event
 use Rattle.hba_laws.specs.History.{History, Transfer, issued}
 use Rattle.hba_laws.specs.Hosts.{Host}
-use Rattle.disk_ends.specs.Answers.{IsIdle}
 use Rattle.disk_ends.specs.Anew.{HostedOnIsKept, HostedSinceNew, IsAwaited, IsHostedOn, IsKeptOn, IsOpening, KeepsSlots, OpensAfter, OpensTheSame}
 use Rattle.disk_ends.specs.Anew as anew
 use Rattle.disk_ends.specs.Hosted as since_new
-use Rattle.disk_ends.specs.Joined.{IsAskedBy, IsJoined, JoinsGiven, SentAgrees}
+use Rattle.disk_ends.specs.Joined.{IsJoined, JoinsGiven, SentAgrees}
 use Rattle.disk_ends.specs.Together.{AtMostOne, IsWaitedUnset, NoneQueued, Replies, Shows, is_sent, told}
 use Rattle.disk_ends.specs.Marked.{IsHeardAlike}
 use Rattle.disk_ends.proofs.HeardLemmas.{IsThere, there_by}

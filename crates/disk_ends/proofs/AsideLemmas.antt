@@ -18,7 +18,7 @@ use Rattle.hba_fbs.specs.declared.hearing.Happening.{Happening}
 use Rattle.hba_fbs.specs.declared.hearing.Happening.TheVariants as happening
 use Rattle.hba_fbs.specs.declared.hearing.Heard.{Heard}
 use Rattle.hba_fbs.specs.declared.register.Register.{Register}
-use Rattle.hba_fbs.specs.declared.register.Register.TheVariants.{Ci, Clb, Clbu, Cmd, Fb, Fbs, Fbu, Ie, Is, Sact, Serr, Sig, Sntf, Tfd}
+use Rattle.hba_fbs.specs.declared.register.Register.TheVariants.{Ci, Cmd, Fbs}
 use Rattle.hba_fbs.specs.declared.report.TakeReport.{TakeReport}
 use Rattle.hba_fbs.specs.declared.status.Block.{Block}
 use Rattle.hba_fbs.specs.Bits.{dec}

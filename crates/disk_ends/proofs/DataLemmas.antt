@@ -11,7 +11,7 @@ use Rattle.disk_model.specs.Ledger.{Ledger, Moving, ReadOut, Written, ends, send
 use Rattle.disk_model.proofs.CrossLemmas.{after_bytes, but_free, data_down, goes_by, has_more, is_all, with_bytes}
 use Rattle.disk_model.proofs.PlaceLemmas.{length-put}
 use Rattle.hba_laws.specs.History.{Carried, History, filled, filled_from, is_at, is_set_up, next_number, waiting_in}
-use Rattle.disk_ends.specs.Same.{InLife, IsEndedBy, IsLastOf, IsMovingAt, IsMovingSince, Moves, Open, ReadEnded, SlotCommand, Stand, StandsOnce, Unsent, Unset, WriteEnded}
+use Rattle.disk_ends.specs.Same.{InLife, IsEndedBy, IsLastOf, IsMovingAt, Moves, Open, ReadEnded, SlotCommand, Stand, StandsOnce, Unsent, Unset, WriteEnded}
 use Rattle.disk_ends.proofs.MoveLemmas.{IsMoved, not_own, other_life, own_life, unset_other}
 use Rattle.disk_ends.proofs.SameLemmas.{data_fills}
 use Rattle.disk_ends.specs.Steps.{DataDown, DataUp}

@@ -4,7 +4,7 @@ use Rattle.std.specs.Prelude.{if◌then◌else◌}
 use Rattle.std.proofs.lemmas.Bool.{ne_eqb}
 use Rattle.fis_view.specs.Frames.{Stamped}
 use Rattle.hba_fbs.specs.declared.register.Register.{Register}
-use Rattle.hba_fbs.specs.declared.register.Register.TheVariants.{Ci, Clb, Clbu, Cmd, Fb, Fbs, Fbu, Ie, Is, Sact, Serr, Sig, Sntf, Tfd}
+use Rattle.hba_fbs.specs.declared.register.Register.TheVariants.{Ci, Clb, Cmd, Fbs}
 use Rattle.hba_fbs.specs.declared.report.TakeReport.{TakeReport}
 use Rattle.hba_fbs.specs.Issuing.{aimed, asked, view_issued}
 use Rattle.hba_fbs.specs.Sending.{Data, Gives, Nothing, Order, Outgoing, Unreadable, outgoing}
@@ -14,7 +14,7 @@ use Rattle.hba_fbs.specs.Writing.{cleared_by, is_device, view_after}
 use Rattle.hba_laws.specs.Client.{By, Stops, own}
 use Rattle.hba_laws.specs.Delivering.{by_device, event_taken, touched_by_clear, touched_by_out, touched_by_write}
 use Rattle.hba_laws.specs.History.{Emptied, Event}
-use Rattle.hba_laws.specs.Hosts.{Flushed, Gave, Host, Put, Rewrote, Stored, TakesFrame, Took, Wrote}
+use Rattle.hba_laws.specs.Hosts.{Flushed, Gave, Host, Stored, TakesFrame, Took, Wrote}
 use Rattle.hba_laws.proofs.IssueLemmas.{other_below}
 use Rattle.disk_ends.specs.Elsewhere.{IsForOther, OthersLeaveDevice, WritesElsewhere}
 

@@ -33,7 +33,7 @@ use Rattle.hba_fbs.specs.Views.{DeviceView}
 use Rattle.disk_model.specs.Anew.{IsClear}
 use Rattle.disk_model.specs.Ends.{IsRight}
 use Rattle.disk_model.specs.Laws.{ActivatesRight, AnswersFirst, ShowsFirst}
-use Rattle.disk_model.specs.Ledger.{Accepts, Finishes, Ledger, Refuses, Reply, ShowsPage, Signs}
+use Rattle.disk_model.specs.Ledger.{Ledger, Refuses, Reply, ShowsPage}
 use Rattle.disk_ends.specs.Files.{EndsFine, IsFineBlock, IsFineFile, IsNoRefusal, IsOfDisk, IsUnrefused}
 use Rattle.disk_ends.specs.Line.{EachReply}
 use Rattle.disk_ends.proofs.LooseLemmas.{no_setup}

@@ -1,6 +1,6 @@
 -- What a FIS of a disk is to its device's history at a host port that reports nothing wrong.
 use Rattle.std.proofs.Common.{◌≡◌, ◌==◌, ◌&&◌, eqb, ℕ, ◌-◌, ◌<◌, Bool, true, false, List, [], ◌∷◌, drop, length, refl, sym, ap, subst, ◌∙◌, Option, Some, None, Ok, Err, Result, arith}
-use Rattle.std.specs.Prelude.{not, nat_lt, if◌then◌else◌, find}
+use Rattle.std.specs.Prelude.{not, nat_lt, if◌then◌else◌}
 use Rattle.std.specs.Option.{option_map}
 use Rattle.std.proofs.lemmas.Bool.{and_from, and_parts, eq-eqb, eqb-true, true≢false}
 use Rattle.std.proofs.lemmas.Nat.Bits.{bit_at-zero}
@@ -39,7 +39,7 @@ use Rattle.hba_fbs.specs.Tables.{is_sound}
 use Rattle.hba_fbs.specs.Views.{DeviceView, view_of}
 use Rattle.disk_model.specs.Ends.{IsFree, IsRight}
 use Rattle.disk_model.specs.Laws.{AnswersFirst}
-use Rattle.disk_model.specs.Ledger.{Accepts, Finishes, Ledger, Refuses, Reply, ShowsPage, Signs}
+use Rattle.disk_model.specs.Ledger.{Ledger, Reply, ShowsPage}
 use Rattle.hba_laws.specs.Agreement.{IsTold, IssueAgrees, work_of_issue, work_of_transfer}
 use Rattle.hba_laws.specs.Client.{own}
 use Rattle.hba_laws.specs.Delivering.{by_device, event_heard}

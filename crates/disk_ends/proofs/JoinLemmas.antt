@@ -1,6 +1,6 @@
 -- The host port, a device's history and the ledger go on to agree at each FIS that the port hears or gives.
-use Rattle.std.proofs.Common.{◌≡◌, ◌==◌, eqb, ℕ, ◌+◌, ◌-◌, ◌*◌, ◌<◌, Bool, true, false, List, [], ◌∷◌, ◌++◌, drop, get_or, length, set, refl, sym, ap, subst, ◌∙◌, inl, inr, Option, Some, None, Ok, Err, Result, arith, get_or-set_same, get_or-set_other}
-use Rattle.std.specs.Prelude.{MatchOption, find, is_ok, is_some, not, nat_lt, replicate, if◌then◌else◌}
+use Rattle.std.proofs.Common.{◌≡◌, ◌==◌, eqb, ℕ, ◌+◌, ◌-◌, ◌<◌, Bool, true, false, List, ◌++◌, drop, get_or, length, set, refl, sym, ap, subst, ◌∙◌, inl, inr, Option, Some, None, Ok, Err, Result, arith, get_or-set_same, get_or-set_other}
+use Rattle.std.specs.Prelude.{MatchOption, is_ok, is_some, not, nat_lt, if◌then◌else◌}
 use Rattle.std.specs.Option.{option_map}
 use Rattle.std.proofs.lemmas.Bool.{cases_eq, cases_lt, eq-eqb, eqb-true, true≢false}
 use Rattle.std.proofs.lemmas.List.{get_or_past, length-set}
@@ -33,9 +33,8 @@ use Rattle.hba_fbs.specs.Tables.{is_sound}
 use Rattle.hba_fbs.specs.Taking.{admitted, heard, heard_now, ignores, port_of}
 use Rattle.hba_fbs.specs.Views.{DeviceView, view_of}
 use Rattle.disk_model.specs.Ends.{IsFree, IsRight, MovesOther}
-use Rattle.disk_model.specs.Laws.{ActivatesRight, AsksOnce, CarriesNext, CarriesRight, SetsUpNext, SetsUpRight, StartsOne, bytes_named}
-use Rattle.disk_model.specs.Ledger.{Ledger, Moving, activates, answered, is_auto, listens_up, sets_up, starts_moving, with_auto}
-use Rattle.disk_model.specs.declared.request.Command.{Command}
+use Rattle.disk_model.specs.Laws.{ActivatesRight, AsksOnce, CarriesNext, CarriesRight, SetsUpRight, bytes_named}
+use Rattle.disk_model.specs.Ledger.{Ledger, Moving, activates, answered, is_auto, listens_up, sets_up, with_auto}
 use Rattle.disk_model.proofs.CrossLemmas.{bits_up}
 use Rattle.disk_model.proofs.ShowsLemmas.{write_of_auto}
 use Rattle.hba_laws.specs.Agreement.{ContextAgrees, IsHistoryOf, IsTold, end_of, IssueAgrees, SetupAgrees, is_for, work_of_transfer}
@@ -45,7 +44,7 @@ use Rattle.hba_laws.specs.History.{Event, History, Transfer, carried, is_at, is_
 use Rattle.hba_laws.specs.Hosts.{TakesFrame, Took}
 use Rattle.hba_laws.proofs.AgreeLemmas.{unless_some}
 use Rattle.hba_laws.proofs.EventLemmas.{step}
-use Rattle.hba_laws.proofs.ViewLemmas.{IsOwn, is_own, own_below, own_freed}
+use Rattle.hba_laws.proofs.ViewLemmas.{IsOwn, is_own, own_freed}
 use Rattle.disk_ends.specs.Same.{InLife, IsMovingAt, SlotCommand}
 use Rattle.disk_ends.specs.Together.{NoneQueued, Same, is_sent, told}
 use Rattle.disk_ends.specs.Heard.{IsToldSo}

@@ -1,5 +1,5 @@
 -- What is awaited of a disk that is watched, and the line to it when it is set aside.
-use Rattle.std.proofs.Common.{◌≡◌, ◌≢◌, ◌==◌, ℕ, true, false, List, [], ◌∷◌, ◌++◌, append_assoc, drop, refl, sym, ap, subst, ◌∙◌, inl, inr, Option, None, Ok, Err, Result}
+use Rattle.std.proofs.Common.{◌≡◌, ◌≢◌, ◌==◌, ℕ, true, false, List, [], ◌∷◌, ◌++◌, append_assoc, drop, refl, sym, ap, subst, ◌∙◌, inl, inr, Option, None, Ok, Result}
 use Rattle.std.specs.Prelude.{◌⊎◌, find}
 use Rattle.std.proofs.lemmas.Bool.{true≢false}
 use Rattle.std.proofs.lemmas.List.{append_cancel_left, append-nil}
@@ -12,7 +12,7 @@ use Rattle.hba_fbs.specs.Posting.{signs}
 use Rattle.disk_model.specs.declared.plan.DiskPlan.{DiskPlan}
 use Rattle.disk_model.specs.declared.request.Command.{Command}
 use Rattle.disk_model.specs.declared.request.Request.{Request}
-use Rattle.disk_model.specs.declared.request.Request.TheVariants.{Reset, Queue, ReadErrorLog, Identify, Flush, Other}
+use Rattle.disk_model.specs.declared.request.Request.TheVariants.{Reset, Queue}
 use Rattle.disk_model.specs.Anew.{IsCarefulSince, IsLinkedOn, OwesOnly}
 use Rattle.disk_model.specs.Anew as anew
 use Rattle.disk_model.specs.Ends.{AreRight, Fits, FitsAll, FitsData, FitsRequest, IsRight, PageAsked, reports}
@@ -25,9 +25,9 @@ use Rattle.disk_model.proofs.AnewLemmas.{after_more, ends_agree_anew}
 use Rattle.disk_model.proofs.EndsLemmas.{FitsOne, careful_last, ledger_push, run_before, sent_right}
 use Rattle.disk_ends.specs.Files.{IsOfDisk}
 use Rattle.disk_ends.specs.Line.{EachReply, IsFailed, IsLoose, IsNoSignature, IsSigning, IsUnsigned, IsWatchedWell, LinesBegin, NoneSigns, PluggingLeavesReset, ToSign, Unsigned}
-use Rattle.disk_ends.specs.Watched.{Erred, Fine, IsErred, IsErredSince, IsLastError, IsWatched, IsWatchedTo}
+use Rattle.disk_ends.specs.Watched.{Erred, Fine, IsErred, IsLastError, IsWatched, IsWatchedTo}
 use Rattle.disk_ends.proofs.AnewJoins.{careful_more}
-use Rattle.disk_ends.proofs.FollowedLemmas.{IsBefore, run_to}
+use Rattle.disk_ends.proofs.FollowedLemmas.{run_to}
 use Rattle.disk_ends.proofs.LineLemmas.{no_end, none_signs_push, unsigned_by}
 use Rattle.disk_ends.proofs.PlainLemmas.{ResetsNot, erred_now, fits_no_reset, stays_gone, stays_received, stays_up}
 use Rattle.disk_ends.proofs.SentLemmas.{of_disk}

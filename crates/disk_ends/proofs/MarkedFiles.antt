@@ -1,21 +1,18 @@
 -- A FIS that is marked with a port is of a disk, signs, reports and asks where it did before.
-use Rattle.std.proofs.Common.{◌≡◌, ◌==◌, ◌%◌, ℕ, ◌<◌, Bool, true, false, List, length, refl, sym, ap, subst, ◌∙◌, Ok, Err, Result}
-use Rattle.std.specs.Prelude.{if◌then◌else◌}
+use Rattle.std.proofs.Common.{◌≡◌, ℕ, ◌<◌, List, refl, sym, subst, ◌∙◌, Ok, Result}
 use Rattle.fis_view.specs.Frames.{IsFrame, marked}
 use Rattle.fis_view.specs.Marks.{IsMarked}
 use Rattle.fis_view.specs.Table.{Activate, Bits, D2h, EStatus, H2d, Kind, Other, Pio, Setup, field}
 use Rattle.fis_view.specs.Table as table
-use Rattle.fis_view.specs.Seen.{kind_of, may_have, seen, view_as}
+use Rattle.fis_view.specs.Seen.{seen, view_as}
 use Rattle.fis_view.specs.declared.view.Fis.{Fis}
 use Rattle.fis_view.specs.declared.view.Fis.TheVariants as view
 use Rattle.fis_view.specs.declared.view.FisFault.{FisFault}
-use Rattle.fis_view.specs.declared.view.FisFault.TheVariants.{WrongLength}
 use Rattle.fis_view.proofs.MarkLemmas.{is_marked}
 use Rattle.hba_fbs.specs.Posting.{is_signature, signs}
 use Rattle.disk_model.specs.declared.request.Request.{Request}
 use Rattle.disk_model.specs.Anew.{IsRequest}
 use Rattle.disk_model.specs.Ends.{reports}
-use Rattle.disk_model.specs.Ledger.{has_error}
 use Rattle.disk_model.specs.Requests.{request_of}
 use Rattle.disk_ends.specs.Files.{IsOfDisk}
 use Rattle.disk_ends.specs.Line.{IsAskedAlike, MarksAskNothing}

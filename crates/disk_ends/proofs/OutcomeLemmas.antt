@@ -1,12 +1,9 @@
 -- What becomes of a host and of a disk that it watches, at each FIS of the disk.
-use Rattle.std.proofs.Common.{◌≡◌, ◌==◌, ℕ, ◌<◌, Bool, true, false, List, [], ◌∷◌, ◌++◌, drop, refl, sym, ap, subst, ◌∙◌, inl, inr, Option, None, Ok, Err, Result, arith}
+use Rattle.std.proofs.Common.{◌≡◌, ◌==◌, ℕ, ◌<◌, Bool, true, false, List, [], ◌∷◌, ◌++◌, refl, sym, ap, ◌∙◌, inl, inr, None, arith}
 use Rattle.std.specs.Prelude.{◌⊎◌, if◌then◌else◌, is_some}
 use Rattle.std.proofs.lemmas.Bool.{true≢false}
 use Rattle.fis_view.specs.Frames.{marked}
 use Rattle.fis_view.specs.Seen.{seen}
-use Rattle.fis_view.specs.declared.view.Fis.{Fis}
-use Rattle.fis_view.specs.declared.view.Fis.TheVariants as view
-use Rattle.fis_view.specs.declared.view.FisFault.{FisFault}
 use Rattle.slots.specs.Slots.{DeviceSlots}
 use Rattle.hba_fbs.specs.declared.register.Register.TheVariants.{Ci}
 use Rattle.hba_fbs.specs.declared.report.TakeReport.{TakeReport}
@@ -14,11 +11,10 @@ use Rattle.hba_fbs.specs.Issuing.{aimed, view_issued}
 use Rattle.hba_fbs.specs.Views.{DeviceView, view_of}
 use Rattle.hba_fbs.specs.Writing.{view_after}
 use Rattle.disk_model.specs.declared.plan.DiskPlan.{DiskPlan}
-use Rattle.disk_model.specs.Anew.{IsClear, OwesOnly}
-use Rattle.disk_model.specs.Ends.{Fits, FitsData, reports}
+use Rattle.disk_model.specs.Anew.{IsClear}
+use Rattle.disk_model.specs.Ends.{reports}
 use Rattle.disk_model.specs.Histories.{Happening, Received, Sent}
-use Rattle.disk_model.specs.Ledger.{Ledger, Moving, Reply, Wanted, ledger}
-use Rattle.disk_model.specs.Requests.{request_of}
+use Rattle.disk_model.specs.Ledger.{ledger}
 use Rattle.hba_laws.specs.Client.{own}
 use Rattle.hba_laws.specs.Delivering.{touched}
 use Rattle.hba_laws.specs.History.{History}

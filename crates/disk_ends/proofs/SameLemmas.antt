@@ -15,7 +15,7 @@ use Rattle.disk_model.specs.Ledger.{Ledger, Moving, starts_moving}
 use Rattle.disk_model.proofs.CrossLemmas.{opened, opens_free}
 use Rattle.disk_model.proofs.PutLemmas.{lie_where_put}
 use Rattle.hba_laws.specs.History.{Carried, History, Issued, Sent, SetUp, Setup, Transfer, carried, filled, filled_from, is_at, is_set_up, last_setup, next_number, none_filled, unless, waiting_in}
-use Rattle.disk_ends.specs.Same.{CommandsKeep, DataFills, InLife, IsEndedBy, IsLastOf, IsMovingAt, IsMovingSince, IssuesKeep, Moves, Open, ReadEnded, SetupsStart, SlotCommand, Stand, StandsOnce, Unsent, WriteEnded}
+use Rattle.disk_ends.specs.Same.{CommandsKeep, DataFills, InLife, IsEndedBy, IsLastOf, IsMovingAt, IssuesKeep, Moves, Open, ReadEnded, SetupsStart, SlotCommand, Stand, StandsOnce, Unsent, WriteEnded}
 
 -- ## Lists
 

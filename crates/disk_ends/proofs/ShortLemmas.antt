@@ -1,15 +1,13 @@
 -- No DMA Setup whose data moves names more bytes than a Data FIS holds.
-use Rattle.std.proofs.Common.{◌≡◌, ◌==◌, ℕ, ◌≤◌, Bool, true, false, List, drop, refl, sym, ap, subst, ◌∙◌, Option, Some, None, Ok, Err, Result}
-use Rattle.std.specs.Prelude.{find}
+use Rattle.std.proofs.Common.{◌≡◌, ℕ, ◌≤◌, Bool, true, false, List, drop, refl, sym, ap, subst, ◌∙◌, Option, Some, None, Ok, Result}
 use Rattle.fis_view.specs.Table.{BufferId, Offset, Setup, field}
 use Rattle.fis_view.specs.Table as table
 use Rattle.fis_view.specs.declared.view.Fis.{Fis}
 use Rattle.fis_view.specs.declared.view.Fis.TheVariants as view
 use Rattle.fis_view.specs.declared.view.FisFault.{FisFault}
-use Rattle.disk_model.specs.declared.request.Command.{Command}
 use Rattle.disk_model.specs.Ends.{IsAskedFor, IsRight}
-use Rattle.disk_model.specs.Laws.{ActivatesRight, CarriesNext, CarriesRight, SetsUpRight, StartsOne}
-use Rattle.disk_model.specs.Ledger.{Ledger, Moving, activates, is_auto, listens_up, sends_data, sets_up, starts_moving, takes_data, with_auto}
+use Rattle.disk_model.specs.Laws.{ActivatesRight, CarriesNext, CarriesRight}
+use Rattle.disk_model.specs.Ledger.{Ledger, Moving, activates, is_auto, listens_up, sends_data, sets_up, takes_data, with_auto}
 use Rattle.disk_model.proofs.CrossLemmas.{after_bytes, bits_up, data_down, goes_by, is_all, with_bytes}
 use Rattle.disk_ends.specs.Joined.{AreShort, IsShort}
 use Rattle.disk_ends.proofs.TogetherLemmas.{set_up_now}

@@ -7,7 +7,7 @@ use Rattle.fis_view.specs.Seen.{seen}
 use Rattle.disk_model.specs.declared.plan.DiskPlan.{DiskPlan}
 use Rattle.disk_model.specs.declared.request.Command.{Command}
 use Rattle.disk_model.specs.declared.answer.Answer.{Answer}
-use Rattle.disk_model.specs.declared.answer.Answer.TheVariants.{Accepted, Ended, Finished, PageData, PageFollows, Refused, Signature}
+use Rattle.disk_model.specs.declared.answer.Answer.TheVariants.{PageData}
 use Rattle.disk_model.specs.declared.answer.Fault.{Fault}
 use Rattle.disk_model.specs.Chunks.{chunk_count, chunk_from, chunk_setup, chunks, fault_of}
 use Rattle.disk_model.specs.Disks.{Moment, Started, Writing, opening, pick_turn, picked, read_turn, turn, write_turn}

@@ -1,5 +1,5 @@
 -- Both views of a disk go on to say the same.
-use Rattle.std.proofs.Common.{◌≡◌, ◌==◌, ◌&&◌, eqb, ℕ, ◌+◌, ◌*◌, Bool, true, false, List, [], ◌∷◌, ◌++◌, refl, sym, ap, subst, ◌∙◌, inl, inr, Option, Some, None, Ok, Err, Result, ◌≤◌, length, arith}
+use Rattle.std.proofs.Common.{◌≡◌, ◌==◌, ◌&&◌, eqb, ℕ, ◌+◌, ◌*◌, Bool, true, false, List, [], ◌∷◌, ◌++◌, refl, sym, ap, subst, ◌∙◌, inl, inr, Option, Some, None, Ok, Result, ◌≤◌, length, arith}
 use Rattle.std.specs.Prelude.{◌≢◌, not, if◌then◌else◌, drop, find, replicate}
 use Rattle.std.specs.Int.{from_bool}
 use Rattle.std.specs.List.{list_any}
@@ -13,7 +13,7 @@ use Rattle.fis_view.specs.declared.view.FisFault.{FisFault}
 use Rattle.slots.specs.Slots.{has_bit, is_pio}
 use Rattle.slots.specs.Work.{is_queued}
 use Rattle.slots.specs.declared.work.Kind.{Kind}
-use Rattle.slots.specs.declared.work.Kind.TheVariants.{QueuedRead, QueuedWrite, PioIn, NoData, Control}
+use Rattle.slots.specs.declared.work.Kind.TheVariants.{QueuedRead, QueuedWrite}
 use Rattle.disk_model.specs.declared.request.Command.{Command}
 use Rattle.disk_model.specs.declared.request.Request.{Request}
 use Rattle.disk_model.specs.declared.request.Request.TheVariants.{Queue}
