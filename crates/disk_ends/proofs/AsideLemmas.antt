@@ -38,7 +38,7 @@ use Rattle.hba_laws.proofs.IssueLemmas.{history_below, other_below, own_below_is
 use Rattle.disk_ends.specs.Aside.{AreUnqueued, AsideIsKept, Faulty, Halted, IsAside, IssuesNoneQueued, SetsAside, Spared, WritesAside, WritesNoneQueued}
 use Rattle.disk_ends.specs.Elsewhere.{IsElsewhere}
 use Rattle.disk_ends.specs.Together.{NoneQueued}
-use Rattle.disk_ends.proofs.ElsewhereLemmas.{others_leave_device}
+use Rattle.disk_ends.proofs.ElsewhereLemmas.{others_leave_device, view_sends}
 
 -- ## Events that issue nothing
 
@@ -333,21 +333,12 @@ goes_on_wrote n host new other value past below does alone aside =
 
 -- ## A frame goes out
 
-sent_fault : (n dev : ℕ) (host new : Host) (bytes : List ℕ) (view : DeviceView) (frame : Stamped) → Sends host.port dev bytes view frame new.port
-    → view.fault ≡ (view_of dev host.port).fault → (view_of n new.port).fault ≡ (view_of n host.port).fault
-sent_fault n dev host new bytes view frame sends same = elim (cases_eq n dev) [
-  | inl is ↦
-      ap (λ (m : ℕ). (view_of m new.port).fault) is ∙ ap (λ (v : DeviceView). v.fault) sends.own ∙ same
-      ∙ ap (λ (m : ℕ). (view_of m host.port).fault) (sym is)
-  | inr other ↦ ap (λ (v : DeviceView). v.fault) (sends.others n other)
-]
-
 sent_aside : (n dev : ℕ) (host new : Host) (bytes : List ℕ) (view : DeviceView) (frame : Stamped) (e : Event) (past : History)
     → Sends host.port dev bytes view frame new.port → view.fault ≡ (view_of dev host.port).fault → IssuesNothing e → IsAside n host past
     → IsAside n new (own n (By dev e ∷ []) ++ past)
 sent_aside n dev host new bytes view frame e past sends same plain (Halted is) = Halted (same_errors host new sends.errors is)
 sent_aside n dev host new bytes view frame e past sends same plain (Faulty is) =
-    Faulty (ap is_some (sent_fault n dev host new bytes view frame sends same) ∙ is)
+    Faulty (view_sends (λ v. is_some v.fault ≡ true) n dev host new bytes view frame sends (λ was. ap is_some same ∙ was) is)
 sent_aside n dev host new bytes view frame e past sends same plain (Spared none) = Spared (own_one n dev e past plain none)
 
 order_plain : (b : Bool) (slot : ℕ) → IssuesNothing (if b then SentControl slot else Sent slot)

@@ -161,7 +161,7 @@ module _ (base disk host : List Happening) (down up : List (List ℕ)) (bytes : 
 
   pub takes_on : IsFollowed base disk host down [] (bytes ∷ up)
       → (reports (seen bytes) ≡ true) ⊎ IsFollowed base disk (host ++ Sent bytes ∷ []) down [] up
-  takes_on f = elim (next f) [ | inl fails ↦ inl fails | inr b ↦ inr b.taken ]
+  takes_on f = elim (next f) [ inl fails ↦ inl fails | inr b ↦ inr b.taken ]
 
 pub follows_on : FollowsOn
 follows_on = record {

@@ -1,5 +1,5 @@
 -- What a FIS of a disk is to its device's history at a host port that reports nothing wrong.
-use Rattle.std.proofs.Common.{◌≡◌, ◌==◌, ◌&&◌, eqb, ℕ, ◌-◌, ◌<◌, Bool, true, false, List, [], ◌∷◌, drop, length, refl, sym, ap, subst, ◌∙◌, Option, Some, None, Ok, Err, Result, arith}
+use Rattle.std.proofs.Common.{◌≡◌, ◌==◌, ◌%◌, ◌/◌, ◌&&◌, eqb, ℕ, ◌-◌, ◌<◌, Bool, true, false, List, [], ◌∷◌, drop, length, refl, sym, ap, subst, ◌∙◌, Option, Some, None, Ok, Err, Result, arith}
 use Rattle.std.specs.Prelude.{not, nat_lt, if◌then◌else◌}
 use Rattle.std.specs.Option.{option_map}
 use Rattle.std.proofs.lemmas.Bool.{and_from, and_parts, eq-eqb, eqb-true, true≢false}
@@ -63,6 +63,12 @@ list_of (Some e) = e ∷ []
 pub own_list : (dev : ℕ) (o : Option Event) → own dev (by_device dev o) ≡ list_of o
 own_list dev None = refl
 own_list dev (Some e) = ap (λ (b : Bool). if b then e ∷ [] else []) (eq-eqb dev dev refl)
+
+-- Status.ERR
+pub error_is : (status : ℕ) → is_error status ≡ (status % 2 == 1)
+error_is status =
+    let same : status / 1 ≡ status = omega arith in
+    ap (λ (x : ℕ). x % 2 == 1) same
 
 -- what a FIS is heard as, where nothing is wrong with it
 abbrev ToldAs : Heard → List ℕ → History → Type 0

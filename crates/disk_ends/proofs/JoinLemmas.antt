@@ -243,8 +243,20 @@ moved_before own (happening.Carried wrote finishes) quiet c now set =
 
 -- ---- a FIS that is no DMA Activate, nor a DMA Setup with auto-activate, asks for none
 
-quiet_register : (own : DeviceSlots) (state : DeviceState) (status error : ℕ) (resetting e busy : Bool)
-    → NotActivated (if resetting then quietly (after_reset state status error) happening.Nothing
+-- the happening sets up, names and asks for no tag
+abbrev pub NamesNoTag : Happening → Type 0
+NamesNoTag (happening.SetUp c) = ⊥
+NamesNoTag happening.Activated = ⊥
+NamesNoTag (happening.Named mask) = ⊥
+NamesNoTag other = Unit {0}
+
+asks_none : (h : Happening) → NamesNoTag h → NotActivated h
+asks_none (happening.SetUp c) plain = absurd plain
+asks_none happening.Activated plain = absurd plain
+asks_none other plain = tt
+
+pub quiet_register : (own : DeviceSlots) (state : DeviceState) (status error : ℕ) (resetting e busy : Bool)
+    → NamesNoTag (if resetting then quietly (after_reset state status error) happening.Nothing
     else (if e then faulty (with_file state status error) cause.TaskFile
     else (if busy then quietly (with_file state status error) happening.Nothing else hear.answered (answer_of own)
     (with_file state status error)))).happening
@@ -259,29 +271,29 @@ quiet_bits : (own : DeviceSlots) (state : DeviceState) (status error mask : ℕ)
 quiet_bits own state status error mask true = tt
 quiet_bits own state status error mask false = tt
 
-quiet_pio : (state : DeviceState) (status error count : ℕ) (to_host : Bool) (block : Block) (e : Bool) (o : Option SetupError)
-    → NotActivated (if e then faulty (with_file state status error) cause.TaskFile else set_up o (with_file state status error) (Some block)
+pub quiet_pio : (state : DeviceState) (status error count : ℕ) (to_host : Bool) (block : Block) (e : Bool) (o : Option SetupError)
+    → NamesNoTag (if e then faulty (with_file state status error) cause.TaskFile else set_up o (with_file state status error) (Some block)
     (happening.PioSetUp count to_host)).happening
 quiet_pio state status error count to_host block true o = tt
 quiet_pio state status error count to_host block false None = tt
 quiet_pio state status error count to_host block false (Some e) = tt
 
 quiet_bytes : (own : DeviceSlots) (state : DeviceState) (wrote : Wrote) (block : Option Block) (last : Bool)
-    → NotActivated (heard_bytes own state wrote block last).happening
+    → NamesNoTag (heard_bytes own state wrote block last).happening
 quiet_bytes own state wrote None last = tt
 quiet_bytes own state wrote (Some block) true = tt
 quiet_bytes own state wrote (Some block) false = tt
 
 quiet_data_of : (after : DeviceSlots) (state : DeviceState) (wrote : Wrote) (to_host sound over last : Bool)
-    → NotActivated (if not to_host then faulty state cause.Stray else
+    → NamesNoTag (if not to_host then faulty state cause.Stray else
     (if not sound then bus_failed state else (if over then overflowed state else heard_bytes after state wrote state.block last))).happening
 quiet_data_of after state wrote false sound over last = tt
 quiet_data_of after state wrote true false over last = tt
 quiet_data_of after state wrote true true true last = tt
 quiet_data_of after state wrote true true false last = quiet_bytes after state wrote state.block last
 
-quiet_data : (own : DeviceSlots) (state : DeviceState) (sound : Bool) (count : ℕ) (o : Option Context)
-    → NotActivated (match_some o (faulty state cause.Stray) (heard_data_of own state sound count)).happening
+pub quiet_data : (own : DeviceSlots) (state : DeviceState) (sound : Bool) (count : ℕ) (o : Option Context)
+    → NamesNoTag (match_some o (faulty state cause.Stray) (heard_data_of own state sound count)).happening
 quiet_data own state sound count None = tt
 quiet_data own state sound count (Some c) =
     quiet_data_of (after_arrive own count) state (record { slot = c.slot; offset = c.next; len = count }) c.to_host sound (nat_lt c.left count)
@@ -413,6 +425,9 @@ module _ (dev : ℕ) (v : DeviceView) (sound : Bool) (frame : List ℕ) (command
   asks_quietly : (r : Result Fis FisFault) (h : Heard) → IsRight k r → NotActivated h.happening → Asks r h
   asks_quietly r h right quiet c now set = asked_up c k (active c (moved_before v.slots h.happening quiet c now set) set) r right
 
+  asks_plainly : (r : Result Fis FisFault) (h : Heard) → IsRight k r → NamesNoTag h.happening → Asks r h
+  asks_plainly r h right plain = asks_quietly r h right (asks_none h.happening plain)
+
   asks_activate : (f : List ℕ) (b : Bool) → may_activate v.slots.context ≡ b → IsRight k (Ok (view.DmaActivate f))
       → Asks (Ok (view.DmaActivate f)) (if b then quietly v.state happening.Activated else faulty v.state cause.Stray)
   asks_activate f false may right c now set = asks_quietly (Ok (view.DmaActivate f)) (faulty v.state cause.Stray) right tt c now set
@@ -456,7 +471,7 @@ module _ (dev : ℕ) (v : DeviceView) (sound : Bool) (frame : List ℕ) (command
   unfolding heard_fis
   asks_fis (view.RegH2D f) right = asks_quietly (Ok (view.RegH2D f)) (quietly v.state happening.Nothing) right tt
   asks_fis (view.RegD2H f) right =
-      asks_quietly (Ok (view.RegD2H f))
+      asks_plainly (Ok (view.RegD2H f))
       (hear.signing f (hear.heard_register v.slots v.state (field table.D2h table.Status f) (field table.D2h table.Error f))) right
       (quiet_register v.slots v.state (field table.D2h table.Status f) (field table.D2h table.Error f) v.state.resetting
       (is_error (field table.D2h table.Status f)) (is_busy (field table.D2h table.Status f)))
@@ -471,14 +486,14 @@ module _ (dev : ℕ) (v : DeviceView) (sound : Bool) (frame : List ℕ) (command
       asks_setup f (setup_fault (own_issue v.slots (tag_of f)) (field Setup table.Offset f) (field Setup table.Count f) (field Setup table.D f == 1))
       (is_auto f) refl right
   asks_fis (view.PioSetup f) right =
-      asks_quietly (Ok (view.PioSetup f))
+      asks_plainly (Ok (view.PioSetup f))
       (hear.heard_pio v.slots v.state (field table.Pio table.Status f) (field table.Pio table.Error f) (field table.Pio table.Transfer f)
       (field table.Pio table.D f == 1) (hear.block_of f)) right
       (quiet_pio v.state (field table.Pio table.Status f) (field table.Pio table.Error f) (field table.Pio table.Transfer f)
       (field table.Pio table.D f == 1) (hear.block_of f)
       (is_error (field table.Pio table.Status f)) (pio_fault (pio_issue v.slots) (field table.Pio table.Transfer f) (field table.Pio table.D f == 1)))
   asks_fis (view.Payload f) right =
-      asks_quietly (Ok (view.Payload f)) (heard_data v.slots v.state sound (length f - 4)) right
+      asks_plainly (Ok (view.Payload f)) (heard_data v.slots v.state sound (length f - 4)) right
       (quiet_data v.slots v.state sound (length f - 4) v.slots.context)
   asks_fis (view.Unknown f) right = asks_quietly (Ok (view.Unknown f)) (quietly v.state happening.Nothing) right tt
 

@@ -45,9 +45,9 @@ none_signs_push (b ∷ up) bytes quiet one = (quiet.0, none_signs_push up bytes 
 
 -- ## Lists
 
-pub no_end : (front : List (List ℕ)) (bytes : List ℕ) (back : List (List ℕ)) → front ++ bytes ∷ back ≡ [] → ⊥
-no_end [] bytes back e = cc e
-no_end (b ∷ front) bytes back e = cc e
+pub no_end : {X : Type 0} (front : List X) (x : X) (back : List X) → front ++ x ∷ back ≡ [] → ⊥
+no_end [] x back e = cc e
+no_end (y ∷ front) x back e = cc e
 
 -- one of those that come down comes, and those ahead of it never do
 plain_behind : (front : List (List ℕ)) (bytes : List ℕ) (back : List (List ℕ)) → ArePlain (front ++ bytes ∷ back)

@@ -32,6 +32,7 @@ use Rattle.disk_ends.proofs.LineLemmas.{no_end, none_signs_push, unsigned_by}
 use Rattle.disk_ends.proofs.PlainLemmas.{ResetsNot, erred_now, fits_no_reset, stays_gone, stays_received, stays_up}
 use Rattle.disk_ends.proofs.SentLemmas.{of_disk}
 use Rattle.disk_ends.proofs.WatchedLemmas.{next_watched, takes_on}
+use Rattle.disk_ends.proofs.SizeLemmas.{AreEach, each_more, up_each}
 
 -- ## While only an answer is to come
 
@@ -97,12 +98,7 @@ careful_before base host since e is careful =
 -- ## At both ends
 
 abbrev ResetNone : List (List ℕ) → Type 0
-ResetNone [] = Unit {0}
-ResetNone (bytes ∷ later) = ResetsNot (seen bytes) × ResetNone later
-
-reset_none_push : (down : List (List ℕ)) (bytes : List ℕ) → ResetNone down → ResetsNot (seen bytes) → ResetNone (down ++ bytes ∷ [])
-reset_none_push [] bytes none one = (one, tt)
-reset_none_push (b ∷ down) bytes none one = (none.0, reset_none_push down bytes none.1 one)
+ResetNone down = AreEach (λ bytes. ResetsNot (seen bytes)) down
 
 reset_none_split : (front : List (List ℕ)) (bytes : List ℕ) (back : List (List ℕ)) → ResetNone (front ++ bytes ∷ back)
     → ResetsNot (seen bytes) × ResetNone (front ++ back)
@@ -110,14 +106,6 @@ reset_none_split [] bytes back none = none
 reset_none_split (b ∷ front) bytes back none =
     let rest = reset_none_split front bytes back none.1 in
     (rest.0, (none.0, rest.1))
-
-abbrev AreOfDisk : List (List ℕ) → Type 0
-AreOfDisk [] = Unit {0}
-AreOfDisk (bytes ∷ later) = IsOfDisk (seen bytes) × AreOfDisk later
-
-of_disk_push : (up : List (List ℕ)) (bytes : List ℕ) → AreOfDisk up → IsOfDisk (seen bytes) → AreOfDisk (up ++ bytes ∷ [])
-of_disk_push [] bytes all one = (one, tt)
-of_disk_push (b ∷ up) bytes all one = (all.0, of_disk_push up bytes all.1 one)
 
 -- The disk owes no signature any more; or nothing happened since both began, and it is to sign.
 data IsOwing (base disk host : List Happening) (down up : List (List ℕ)) : Type 0 where
@@ -127,12 +115,11 @@ data IsOwing (base disk host : List Happening) (down up : List (List ℕ)) : Typ
 record IsHearing (base disk host : List Happening) (down up : List (List ℕ)) : Type 0 where
   owing : IsOwing base disk host down up
   resets : ResetNone down
-  mine : AreOfDisk up
   heard : (host ≡ base) ⊎ IsUnsigned (ledger host)
 
 begins_hearing : (base : List Happening) → IsSigning (ledger base) → IsHearing base base base [] []
-begins_hearing base (ToSign owes) = record { owing = Waiting owes refl refl refl refl; resets = tt; mine = tt; heard = inl refl }
-begins_hearing base (Unsigned none) = record { owing = Signed none; resets = tt; mine = tt; heard = inl refl }
+begins_hearing base (ToSign owes) = record { owing = Waiting owes refl refl refl refl; resets = tt; heard = inl refl }
+begins_hearing base (Unsigned none) = record { owing = Signed none; resets = tt; heard = inl refl }
 
 gives_heard : (base host : List Happening) (bytes : List ℕ) → IsSigning (ledger base) → Fits (ledger host) (seen bytes)
     → (host ≡ base) ⊎ IsUnsigned (ledger host) → IsUnsigned (ledger (host ++ Received bytes ∷ []))
@@ -181,6 +168,11 @@ module _ (plan : DiskPlan) (sectors : ℕ) (size : IsSize plan sectors) (base : 
   right_next disk host down up bytes linked run careful =
       (ends_agree_anew plan sectors base disk host down [] (bytes ∷ up) size run linked careful).right.0
 
+  comes_of_disk : (disk host : List Happening) (down stale up : List (List ℕ)) (bytes : List ℕ) → IsLinkedOn base disk host down stale (bytes ∷ up)
+      → IsDiskRun plan sectors disk → IsOfDisk (seen bytes)
+  comes_of_disk disk host down stale up bytes linked run =
+      (up_each plan sectors base (λ b. IsOfDisk (seen b)) (λ h b may. of_disk plan sectors h b size may) disk host down stale (bytes ∷ up) run linked).0
+
   hearing : (disk host : List Happening) (down stale up : List (List ℕ)) → IsLinkedOn base disk host down stale up → IsDiskRun plan sectors disk
       → IsCarefulSince base host → IsHearing base disk host down up
   hearing disk host down stale up (anew.begins s clear) run careful = begins_hearing base signing
@@ -190,22 +182,20 @@ module _ (plan : DiskPlan) (sectors : ℕ) (size : IsSize plan sectors) (base : 
       let was : IsHearing base d h below above = hearing d h below s above linked run last.0 in
       record {
         owing = gives_owing base d h below above bytes last.1 was.owing;
-        resets = reset_none_push below bytes was.resets (fits_no_reset (ledger h) (seen bytes) last.1);
-        mine = was.mine;
+        resets = each_more (λ b. ResetsNot (seen b)) below bytes was.resets (fits_no_reset (ledger h) (seen bytes) last.1);
         heard = inr (gives_heard base h bytes signing last.1 was.heard);
       }
   hearing disk host down stale up (anew.comes d h front back s above bytes linked) run careful =
       let before = run_before plan sectors size d (Received bytes) run in
       let was : IsHearing base d h (front ++ bytes ∷ back) above = hearing d h (front ++ bytes ∷ back) s above linked before careful in
       let parts = reset_none_split front bytes back was.resets in
-      record { owing = comes_owing base d h front back above bytes parts.0 was.owing; resets = parts.1; mine = was.mine; heard = was.heard }
+      record { owing = comes_owing base d h front back above bytes parts.0 was.owing; resets = parts.1; heard = was.heard }
   hearing disk host down stale up (anew.sends d h below s above bytes fine linked) run careful =
       let was : IsHearing base d h below above = hearing d h below s above linked (run_before plan sectors size d (Sent bytes) run) careful in
       let one = of_disk plan sectors d bytes size run in
       record {
         owing = sends_owing base d h below above bytes one (sent_right plan sectors size d bytes run fine) was.owing;
         resets = was.resets;
-        mine = of_disk_push above bytes was.mine one;
         heard = was.heard;
       }
   hearing disk host down stale up (anew.drops d h below s above bytes linked) run careful = hearing d h below (bytes ∷ s) above linked run careful
@@ -216,8 +206,7 @@ module _ (plan : DiskPlan) (sectors : ℕ) (size : IsSize plan sectors) (base : 
       record {
         owing = takes_owing base d h below above bytes was.owing;
         resets = was.resets;
-        mine = was.mine.1;
-        heard = inr (takes_heard base h bytes signing was.mine.0 (right_next d h below above bytes linked run last.0) was.heard);
+        heard = inr (takes_heard base h bytes signing (comes_of_disk d h below [] above bytes linked run) (right_next d h below above bytes linked run last.0) was.heard);
       }
 
 -- ## The line
@@ -280,16 +269,12 @@ signed_by base given (ToSign owes) asked (inl same) = absurd (asked (ap (λ (h :
 signed_by base given (Unsigned none) asked (inl same) = subst (λ (h : List Happening). IsUnsigned (ledger h)) (sym same) none
 signed_by base given signing asked (inr none) = none
 
-no_more : (given : List Happening) (e : Happening) → given ++ e ∷ [] ≡ [] → ⊥
-no_more [] e is = cc is
-no_more (x ∷ given) e is = cc is
-
 -- what goes on from the base is not the base
 pub not_base : (base given since : List Happening) (e : Happening) → given ≡ base ++ since → given ++ e ∷ [] ≡ base → ⊥
 not_base base given since e is same =
     let more : base ++ (since ++ e ∷ []) ≡ base ++ [] =
     sym (append_assoc base since (e ∷ [])) ∙ ap (λ (xs : List Happening). xs ++ e ∷ []) (sym is) ∙ same ∙ sym (append-nil base) in
-    no_more since e (append_cancel_left base (since ++ e ∷ []) [] more)
+    no_end since e [] (append_cancel_left base (since ++ e ∷ []) [] more)
 
 module _ (plan : DiskPlan) (sectors : ℕ) (base disk given : List Happening) (down up : List (List ℕ)) (bytes : List ℕ)
     (w : IsWatchedWell plan sectors base disk given down (bytes ∷ up)) where
@@ -314,10 +299,8 @@ module _ (plan : DiskPlan) (sectors : ℕ) (base disk given : List Happening) (d
   next_of_disk fine = elim (next_watched base disk given down up bytes w.watched) [
     | inl last ↦ absurd (true≢false (sym last.fails ∙ fine))
     | inr b ↦
-        let was : IsHearing base b.followed given b.below (bytes ∷ b.before) =
-        hearing plan sectors w.size base w.signing b.followed given b.below [] (bytes ∷ b.before) b.linked
-        (run_to plan sectors disk b.followed b.later b.disk_is w.run) w.careful in
-        was.mine.0
+        comes_of_disk plan sectors w.size base w.signing b.followed given b.below [] b.before bytes b.linked
+        (run_to plan sectors disk b.followed b.later b.disk_is w.run)
   ]
 
   failed_on : IsLastError base disk down up bytes → IsFailed (ledger disk) down up

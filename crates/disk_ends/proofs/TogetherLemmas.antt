@@ -21,7 +21,7 @@ use Rattle.disk_model.specs.declared.request.Request.TheVariants as asked
 use Rattle.disk_model.specs.Ends.{FitsData, FitsRequest, IsFree, IsRight, MovesOther, PageAsked, Rests, has}
 use Rattle.disk_model.specs.Laws.{ActivatesRight, AsksOnce, CarriesNext, CarriesRight, SetsUpNext, SetsUpRight, StartsOne, bytes_named}
 use Rattle.disk_model.specs.Ledger.{Ledger, Moving, Signs, Stretch, activates, answers, asks, ends, is_auto, listens_up, sends_data, sets_up, starts_moving, takes_data, with_auto}
-use Rattle.disk_model.proofs.CrossLemmas.{after_bytes, alone, asks_fits, bits_up, but_free, data_down, found_not, goes_by, has_more, is_all, opened, opens_free, with_bytes}
+use Rattle.disk_model.proofs.CrossLemmas.{after_bytes, alone, asks_fits, bits_up, data_down, found_not, goes_by, is_all, opened, opens_free, with_bytes}
 use Rattle.disk_model.proofs.EntersLemmas.{up_leaves}
 use Rattle.hba_laws.specs.History.{Answered, Carried, History, Issued, Named, Sent, SetUp, Transfer, completes, is_at, is_set_up, issued, unless, waiting_in}
 use Rattle.disk_ends.specs.Same.{InLife, SlotCommand}
@@ -29,7 +29,7 @@ use Rattle.disk_ends.specs.Anew.{OpensTheSame}
 use Rattle.disk_ends.specs.Answers.{IsAlone, IsIdle}
 use Rattle.disk_ends.specs.Together.{AsksOne, InTalk, IsHeard, IsUntouched, IsWaited, NoneQueued, NothingWaits, QueuesOne, Replies, Same, SameGoesOn, is_sent, told, with_command}
 use Rattle.disk_ends.proofs.AnswerLemmas.{IsBeside, answers_keep, asks_beside, free_beside, names_keep, others_keep}
-use Rattle.disk_ends.proofs.DataLemmas.{data_comes_down, data_up}
+use Rattle.disk_ends.proofs.DataLemmas.{data_comes_down, data_up, goes_beside, still_free}
 use Rattle.disk_ends.proofs.MoveLemmas.{activates_keep, setups_go_on}
 use Rattle.disk_ends.proofs.SameLemmas.{commands_keep, free_more, issues_keep, setups_start, still_not_at}
 use Rattle.disk_ends.proofs.TalkLemmas.{IsQuiet, Stays, idle_activates, idle_moves, idle_names, idle_sets_up, page_idle, quiet, shows_idle, talk_asks, talk_issues, talk_page, talk_queues, talk_register, talk_shown, talk_stays, waited_on}
@@ -127,16 +127,7 @@ free_up k fis s right free =
 
 free_ends : (s : ℕ) (k : Ledger) (w : Moving) (b write : Bool) → eqb w.command.tag s ≡ false → IsFree k s → IsFree (after_bytes k w b write) s
 free_ends s k w false write other free = record { outstanding = free.outstanding; unanswered = free.unanswered; moving = other }
-free_ends s k w true true other free = record {
-  outstanding = but_free s w.command.tag k.outstanding free.outstanding;
-  unanswered = has_more s w.command.tag k.unanswered free.unanswered other;
-  moving = tt;
-}
-free_ends s k w true false other free = record {
-  outstanding = but_free s w.command.tag k.outstanding free.outstanding;
-  unanswered = has_more s w.command.tag k.unanswered free.unanswered other;
-  moving = tt;
-}
+free_ends s k w true write other free = still_free s w.command.tag k (ends k w write) other (goes_beside k w write) free
 
 -- ## The plugging
 
