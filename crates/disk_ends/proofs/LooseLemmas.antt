@@ -36,7 +36,7 @@ use Rattle.disk_ends.proofs.SizeLemmas.{AreEach, each_more, up_each}
 
 -- ## While only an answer is to come
 
-pub not_waited : (k : Ledger) (r : Request) → FitsRequest k r → k.awaited ≡ []
+not_waited : (k : Ledger) (r : Request) → FitsRequest k r → k.awaited ≡ []
 not_waited k (Reset on) fits = absurd fits
 not_waited k (Queue c) fits = fits.1
 not_waited k other fits = fits.awaited

@@ -131,7 +131,7 @@ free_ends s k w true write other free = still_free s w.command.tag k (ends k w w
 
 -- ## The plugging
 
-pub idle_free : (s : ℕ) (k : Ledger) → IsIdle k → IsFree k s
+idle_free : (s : ℕ) (k : Ledger) → IsIdle k → IsFree k s
 idle_free s k idle = record {
   outstanding = ap (list_any (λ (q : Command). q.tag == s)) idle.outstanding;
   unanswered = ap (has s) idle.unanswered;
