@@ -1,6 +1,6 @@
 -- What comes from a disk, and what is done, from where both ends began anew.
-use Rattle.std.proofs.Common.{◌≡◌, ◌==◌, ◌%◌, ◌/◌, ℕ, zero, suc, ◌-◌, ◌<◌, Bool, true, false, List, [], ◌∷◌, ◌++◌, drop, length, refl, sym, ap, subst, ◌∙◌, Option, Some, None, Ok, Err, Result, arith}
-use Rattle.std.specs.Prelude.{not, nat_lt, slice_get, if◌then◌else◌}
+use Rattle.std.proofs.Common.{◌≡◌, ◌==◌, ℕ, ◌-◌, ◌<◌, Bool, true, false, List, [], ◌∷◌, ◌++◌, drop, length, refl, sym, ap, subst, ◌∙◌, Option, Some, None, Ok, Err, Result, arith}
+use Rattle.std.specs.Prelude.{slice_get, if◌then◌else◌}
 use Rattle.std.proofs.lemmas.Bool.{true≢false}
 use Rattle.fis_view.specs.Frames.{IsFrame, marked}
 use Rattle.fis_view.specs.Table.{Bits, D2h, Pio, SActive, Setup, Status, field}
@@ -11,39 +11,33 @@ use Rattle.fis_view.specs.declared.view.Fis.TheVariants as view
 use Rattle.fis_view.specs.declared.view.FisFault.{FisFault}
 use Rattle.fis_view.proofs.MarkLemmas.{is_marked}
 use Rattle.port_errors.specs.declared.cause.DeviceCause.TheVariants as cause
-use Rattle.slots.specs.Commands.{answer_of, completed}
-use Rattle.slots.specs.Data.{after_arrive, may_activate}
+use Rattle.slots.specs.Commands.{completed}
+use Rattle.slots.specs.Data.{may_activate}
 use Rattle.slots.specs.Setup.{dma_context, pio_fault, pio_issue, setup_fault}
 use Rattle.slots.specs.Slots.{DeviceSlots, has_bit, is_pio, match_some, own_issue}
 use Rattle.slots.specs.Work.{is_queued}
-use Rattle.slots.specs.declared.answer.Answered.{Answered}
 use Rattle.slots.specs.declared.answer.Answered.TheVariants as answer
 use Rattle.slots.specs.declared.answer.SetupError.{SetupError}
 use Rattle.slots.specs.declared.table.Context.{Context}
+use Rattle.hba_fbs.specs.declared.hearing.Happening as hearing
 use Rattle.hba_fbs.specs.declared.hearing.Happening.TheVariants as happening
 use Rattle.hba_fbs.specs.declared.hearing.Heard.{Heard}
 use Rattle.hba_fbs.specs.declared.report.TakeReport.{TakeReport}
-use Rattle.hba_fbs.specs.declared.report.Wrote.{Wrote}
 use Rattle.hba_fbs.specs.declared.state.DeviceState.{DeviceState}
 use Rattle.hba_fbs.specs.declared.status.Block.{Block}
-use Rattle.hba_fbs.specs.Hearing.{answered, block_of, bus_failed, faulty, heard_bytes, heard_data_of, heard_fis, is_admitted, named, overflowed, quietly, set_up, tag_of}
-use Rattle.hba_fbs.specs.Status.{after_reset, is_busy, is_error, with_bits, with_file}
+use Rattle.hba_fbs.specs.Hearing.{block_of, faulty, heard_data, heard_fis, heard_pio, heard_register, is_admitted, named, quietly, set_up, tag_of}
+use Rattle.hba_fbs.specs.Status.{is_busy, is_error, with_bits}
 use Rattle.hba_fbs.specs.Taking.{admitted, heard, heard_now, ignores, port_of}
 use Rattle.hba_fbs.specs.Tables.{is_sound}
 use Rattle.hba_fbs.specs.Views.{DeviceView, view_of}
-use Rattle.disk_model.specs.declared.plan.DiskPlan.{DiskPlan}
-use Rattle.disk_model.specs.declared.request.Command.{Command}
-use Rattle.disk_model.specs.Anew.{IsLinkedOn, StayWritten}
-use Rattle.disk_model.specs.Anew as link
-use Rattle.disk_model.specs.Disks.{opening}
+use Rattle.disk_model.specs.Anew.{StayWritten}
 use Rattle.disk_model.specs.Ends.{EndsAgree, reports}
-use Rattle.disk_model.specs.Histories.{Happening, Received, Sent}
-use Rattle.disk_model.specs.Ledger.{IsSize, Ledger, Written, ledger}
-use Rattle.disk_model.specs.Runs.{IsDiskRun}
-use Rattle.disk_model.proofs.AnewLemmas.{ends_agree_anew}
-use Rattle.disk_model.proofs.LawLemmas.{last_may}
+use Rattle.disk_model.specs.Histories.{Happening, Plugged}
+use Rattle.disk_model.specs.Ledger.{Ledger, Written, ledger}
+use Rattle.disk_model.proofs.AnewLemmas.{ends_agree_anew, linked_since_new}
+use Rattle.disk_model.proofs.LaterLemmas.{later_tells_of_all}
 use Rattle.disk_model.proofs.WrittenLemmas.{writes_stay}
-use Rattle.hba_laws.specs.Delivering.{completes_now, event_heard, event_taken}
+use Rattle.hba_laws.specs.Delivering.{completes_now, event_heard, event_of, event_taken}
 use Rattle.hba_laws.specs.History as event
 use Rattle.hba_laws.specs.History.{Event, History, Named, Transfer, completes, is_at, issued, waiting_in}
 use Rattle.hba_laws.specs.Hosts.{Host, TakesFrame}
@@ -51,35 +45,23 @@ use Rattle.hba_laws.specs.Sound.{IsHost}
 use Rattle.hba_laws.proofs.DoneLemmas.{done_is_completed}
 use Rattle.disk_ends.specs.Anew.{HonestStays, NextIsRightAnew, ReportsHonestlyAnew}
 use Rattle.disk_ends.specs.Honest.{IsOnMedium}
-use Rattle.disk_ends.specs.Joined.{IsJoined}
+use Rattle.disk_ends.specs.Joined.{IsJoined, ReportsHonestly}
 use Rattle.disk_ends.proofs.HonestLemmas.{done_where, next_where}
+use Rattle.disk_ends.proofs.JoinLemmas.{NamesNoTag, quiet_data, quiet_pio, quiet_register}
 use Rattle.disk_ends.proofs.MarkedLemmas.{IsMarkedBits, bits_of_marked}
-use Rattle.disk_ends.proofs.SizeLemmas.{AllShort, more_short, sent_short}
+use Rattle.disk_ends.proofs.SizeLemmas.{comes_short}
 use Rattle.disk_ends.proofs.TogetherLemmas.{no_answer, no_end, not_pio}
 use Rattle.disk_ends.specs.Same.{SlotCommand}
+use Rattle.disk_ends.proofs.DataLemmas.{get_more}
+use Rattle.disk_ends.proofs.HeardLemmas.{error_is}
 
 -- ## What comes
-
-up_short : (plan : DiskPlan) (sectors : ℕ) (base disk host : List Happening) (down stale up : List (List ℕ)) → IsSize plan sectors
-    → IsDiskRun plan sectors disk → IsLinkedOn base disk host down stale up → AllShort up
-up_short plan sectors base disk host down stale up size run (link.begins s clear) = tt
-up_short plan sectors base disk host down stale up size run (link.gives d h below s above bytes linked) =
-    up_short plan sectors base d h below s above size run linked
-up_short plan sectors base disk host down stale up size run (link.comes d h before after s above bytes linked) =
-    up_short plan sectors base d h (before ++ bytes ∷ after) s above size (last_may plan sectors (opening sectors) d (Received bytes) run).0 linked
-up_short plan sectors base disk host down stale up size run (link.sends d h below s above bytes fine linked) =
-    more_short above bytes (up_short plan sectors base d h below s above size (last_may plan sectors (opening sectors) d (Sent bytes) run).0 linked)
-    (sent_short plan sectors d bytes size run)
-up_short plan sectors base disk host down stale up size run (link.drops d h below s above bytes linked) =
-    up_short plan sectors base d h below (bytes ∷ s) above size run linked
-up_short plan sectors base disk host down stale up size run (link.takes d h below above bytes linked) =
-    (up_short plan sectors base d h below [] (bytes ∷ above) size run linked).1
 
 pub next_anew : NextIsRightAnew
 next_anew plan sectors base disk given down up bytes size run linked careful = record {
   right =
       next_where sectors disk given down up bytes (ends_agree_anew plan sectors base disk given down [] (bytes ∷ up) size run linked careful);
-  short = (up_short plan sectors base disk given down [] (bytes ∷ up) size run linked).0;
+  short = comes_short plan sectors base disk given down [] up bytes size run linked;
 }
 
 -- ## What names slots
@@ -94,57 +76,27 @@ record IsByBits (r : Result Fis FisFault) (mask : ℕ) : Type 0 where
 abbrev NamesNone : Heard → List ℕ → Type 0
 NamesNone h payload = (mask : ℕ) → event_heard h payload ≡ Some (Named mask) → ⊥
 
-none_answered : (a : Answered) (state : DeviceState) (payload : List ℕ) → NamesNone (answered a state) payload
-none_answered answer.Nobody state payload mask is = cc is
-none_answered other state payload mask is = cc is
+none_by : (h : hearing.Happening) (block : Option Block) (payload : List ℕ) (mask : ℕ) → NamesNoTag h → event_of h block payload ≡ Some (Named mask) → ⊥
+none_by happening.Nothing block payload mask plain is = cc is
+none_by (happening.Answered answer.Nobody) block payload mask plain is = cc is
+none_by (happening.Answered other) block payload mask plain is = cc is
+none_by (happening.PioSetUp count to_host) None payload mask plain is = cc is
+none_by (happening.PioSetUp count to_host) (Some b) payload mask plain is = cc is
+none_by (happening.Carried wrote finishes) block payload mask plain is = cc is
+none_by other block payload mask plain is = absurd plain
 
-none_register : (own : DeviceSlots) (state : DeviceState) (status error : ℕ) (payload : List ℕ) (resetting e busy : Bool)
-    → NamesNone (if resetting then quietly (after_reset state status error) happening.Nothing
-    else (if e then faulty (with_file state status error) cause.TaskFile
-    else (if busy then quietly (with_file state status error) happening.Nothing else answered (answer_of own)
-    (with_file state status error)))) payload
-none_register own state status error payload true e busy mask is = cc is
-none_register own state status error payload false true busy mask is = cc is
-none_register own state status error payload false false true mask is = cc is
-none_register own state status error payload false false false mask is = none_answered (answer_of own) (with_file state status error) payload mask is
+none_named : (h : Heard) (payload : List ℕ) → NamesNoTag h.happening → NamesNone h payload
+none_named h payload plain mask is = none_by h.happening h.state.block payload mask plain is
 
 none_setup : (state : DeviceState) (c : Context) (payload : List ℕ) (o : Option SetupError)
     → NamesNone (set_up o state None (happening.SetUp c)) payload
 none_setup state c payload None mask is = cc is
 none_setup state c payload (Some e) mask is = cc is
 
-none_pio : (state : DeviceState) (status error count : ℕ) (to_host : Bool) (block : Block) (payload : List ℕ) (e : Bool) (o : Option SetupError)
-    → NamesNone (if e then faulty (with_file state status error) cause.TaskFile else set_up o (with_file state status error) (Some block)
-    (happening.PioSetUp count to_host)) payload
-none_pio state status error count to_host block payload true o mask is = cc is
-none_pio state status error count to_host block payload false None mask is = cc is
-none_pio state status error count to_host block payload false (Some e) mask is = cc is
-
 none_activate : (state : DeviceState) (payload : List ℕ) (b : Bool)
     → NamesNone (if b then quietly state happening.Activated else faulty state cause.Stray) payload
 none_activate state payload true mask is = cc is
 none_activate state payload false mask is = cc is
-
-none_bytes : (own : DeviceSlots) (state : DeviceState) (wrote : Wrote) (payload : List ℕ) (block : Option Block) (last : Bool)
-    → NamesNone (heard_bytes own state wrote block last) payload
-none_bytes own state wrote payload None last mask is = cc is
-none_bytes own state wrote payload (Some block) true mask is = cc is
-none_bytes own state wrote payload (Some block) false mask is = cc is
-
-none_data_of : (after : DeviceSlots) (state : DeviceState) (wrote : Wrote) (payload : List ℕ) (to_host sound over last : Bool)
-    → NamesNone (if not to_host then faulty state cause.Stray else
-    (if not sound then bus_failed state else (if over then overflowed state else heard_bytes after state wrote state.block last))) payload
-none_data_of after state wrote payload false sound over last mask is = cc is
-none_data_of after state wrote payload true false over last mask is = cc is
-none_data_of after state wrote payload true true true last mask is = cc is
-none_data_of after state wrote payload true true false last mask is = none_bytes after state wrote payload state.block last mask is
-
-none_data : (own : DeviceSlots) (state : DeviceState) (sound : Bool) (count : ℕ) (payload : List ℕ) (o : Option Context)
-    → NamesNone (match_some o (faulty state cause.Stray) (heard_data_of own state sound count)) payload
-none_data own state sound count payload None mask is = cc is
-none_data own state sound count payload (Some c) mask is =
-    none_data_of (after_arrive own count) state (record { slot = c.slot; offset = c.next; len = count }) payload c.to_host sound
-    (nat_lt c.left count) (c.left == count) mask is
 
 bits_name : (own : DeviceSlots) (state : DeviceState) (f payload : List ℕ) (mask : ℕ) (e : Bool)
     → event_heard (if e then faulty (with_bits state (field Bits Status f) (field Bits table.Error f)) cause.TaskFile
@@ -158,8 +110,9 @@ by_fis : (v : DeviceView) (sound : Bool) (payload : List ℕ) (mask : ℕ) (fis 
 unfolding heard_fis
 by_fis v sound payload mask (view.RegH2D f) is = cc is
 by_fis v sound payload mask (view.RegD2H f) is =
-    absurd (none_register v.slots v.state (field D2h Status f) (field D2h table.Error f) payload v.state.resetting (is_error (field D2h Status f))
-    (is_busy (field D2h Status f)) mask is)
+    absurd (none_named (heard_register v.slots v.state (field D2h Status f) (field D2h table.Error f)) payload
+    (quiet_register v.slots v.state (field D2h Status f) (field D2h table.Error f) v.state.resetting (is_error (field D2h Status f))
+    (is_busy (field D2h Status f))) mask is)
 by_fis v sound payload mask (view.SetBits f) is =
     let names = bits_name v.slots v.state f payload mask (is_error (field Bits Status f)) is in
     record { frame = f; is = refl; named_is = names.0; fine = names.1 }
@@ -168,9 +121,12 @@ by_fis v sound payload mask (view.DmaSetup f) is =
     absurd (none_setup v.state (dma_context (tag_of f) (field Setup table.Offset f) (field Setup table.Count f) (field Setup table.D f == 1) (field Setup table.A f == 1)) payload
     (setup_fault (own_issue v.slots (tag_of f)) (field Setup table.Offset f) (field Setup table.Count f) (field Setup table.D f == 1)) mask is)
 by_fis v sound payload mask (view.PioSetup f) is =
-    absurd (none_pio v.state (field Pio Status f) (field Pio table.Error f) (field Pio table.Transfer f) (field Pio table.D f == 1) (block_of f) payload
-    (is_error (field Pio Status f)) (pio_fault (pio_issue v.slots) (field Pio table.Transfer f) (field Pio table.D f == 1)) mask is)
-by_fis v sound payload mask (view.Payload f) is = absurd (none_data v.slots v.state sound (length f - 4) payload v.slots.context mask is)
+    absurd (none_named (heard_pio v.slots v.state (field Pio Status f) (field Pio table.Error f) (field Pio table.Transfer f) (field Pio table.D f == 1)
+    (block_of f)) payload
+    (quiet_pio v.state (field Pio Status f) (field Pio table.Error f) (field Pio table.Transfer f) (field Pio table.D f == 1) (block_of f)
+    (is_error (field Pio Status f)) (pio_fault (pio_issue v.slots) (field Pio table.Transfer f) (field Pio table.D f == 1))) mask is)
+by_fis v sound payload mask (view.Payload f) is =
+    absurd (none_named (heard_data v.slots v.state sound (length f - 4)) payload (quiet_data v.slots v.state sound (length f - 4) v.slots.context) mask is)
 by_fis v sound payload mask (view.Unknown f) is = cc is
 
 by_test : (dev : ℕ) (v : DeviceView) (sound : Bool) (payload : List ℕ) (mask : ℕ) (fis : Fis) (b : Bool)
@@ -217,11 +173,6 @@ pub record IsOfBits (bytes : List ℕ) (s : ℕ) (past : History) (t : Transfer)
   pub done : completes s (Named (field Bits SActive bytes)) past t.work ≡ true
   pub fine : reports (seen bytes) ≡ false
 
-no_error : (status : ℕ) → is_error status ≡ false → (status % 2 == 1) ≡ false
-no_error status fine =
-    let same : status / 1 ≡ status = omega arith in
-    ap (λ (x : ℕ). x % 2 == 1) (sym same) ∙ fine
-
 pub of_bits : (n : ℕ) (host new : Host) (bytes : List ℕ) (report : TakeReport) (commands : ℕ → SlotCommand) (past : History) (k : Ledger) → IsHost host → n < 15
     → IsFrame bytes → IsFrame (marked bytes n) → port_of (marked bytes n) ≡ n → TakesFrame host (marked bytes n) report new
     → IsJoined n commands host past k → (s : ℕ) (t : Transfer) → s < 32 → issued s past ≡ Some t → is_queued t.work.kind ≡ true
@@ -247,7 +198,7 @@ of_bits n host new bytes report commands past k sound below plain framed from_n 
     record {
       is = bits.is;
       done = subst (λ (mask : ℕ). completes s (Named mask) past t.work ≡ true) sactive one.done;
-      fine = ap reports bits.is ∙ no_error (field Bits Status bytes) (subst (λ (x : ℕ). is_error x ≡ false) status b.fine);
+      fine = ap reports bits.is ∙ sym (error_is (field Bits Status bytes)) ∙ subst (λ (x : ℕ). is_error x ≡ false) status b.fine;
     }
 
 -- a FIS of which that is reported has no error
@@ -266,12 +217,13 @@ reports_anew plan sectors base disk given down up bytes size run linked careful 
     of_bits n host new bytes report commands past (ledger given) sound below plain framed from_n takes joined s t lt here queued set in
     done_where sectors disk given down up bytes bytes ends (next_where sectors disk given down up bytes ends) bits.is commands past joined.same s t here queued bits.done
 
--- ## What was done stays done
+-- a disk that is new began with its plugging
+pub reports_honestly : ReportsHonestly
+reports_honestly plan sectors disk given down up bytes size run linked careful n host new report commands past sound below plain framed from_n well =
+    reports_anew plan sectors (Plugged ∷ []) disk given down up bytes size run (linked_since_new disk given down (bytes ∷ up) linked)
+    (later_tells_of_all [] disk given down (bytes ∷ up) linked careful).careful n host new report commands past sound below plain framed from_n well.takes
 
-before_more : {X : Type 0} (xs ys : List X) (i : ℕ) (x : X) → slice_get xs i ≡ Some x → slice_get (xs ++ ys) i ≡ Some x
-before_more [] ys i x there = cc there
-before_more (y ∷ xs) ys zero x there = there
-before_more (y ∷ xs) ys (suc i) x there = before_more xs ys i x there
+-- ## What was done stays done
 
 stays_on : (c : SlotCommand) (bytes : ℕ → Option ℕ) (len : ℕ) (disk more : List Happening) → IsOnMedium c bytes len (ledger disk)
     → IsOnMedium c bytes len (ledger (disk ++ more))
@@ -282,7 +234,7 @@ stays_on c bytes len disk more m =
       at = m.at;
       written = m.written;
       since = m.since;
-      entered = ap (λ (ws : List Written). slice_get ws m.at) w.same ∙ before_more k.writes w.later m.at m.written m.entered;
+      entered = ap (λ (ws : List Written). slice_get ws m.at) w.same ∙ get_more k.writes w.later m.at m.written m.entered;
       tag = m.tag;
       place = m.place;
       long = m.long;

@@ -1,15 +1,15 @@
 -- A host whose port refuses nothing of a disk is careful from where both began anew, and joined with the disk's ledger.
 use Rattle.std.proofs.Common.{◌≡◌, ℕ, ◌<◌, true, List, [], ◌∷◌, ◌++◌, append_assoc, refl, sym, ap, subst, ◌∙◌, Option, Some, None, arith}
+use Rattle.std.specs.Prelude.{is_some}
 use Rattle.std.specs.Option.{option_map}
 use Rattle.std.proofs.lemmas.Bool.{true≢false}
 use Rattle.std.proofs.lemmas.List.{append-nil}
 use Rattle.fis_view.specs.Frames.{IsFrame, Stamped, marked}
 use Rattle.fis_view.specs.Seen.{seen}
-use Rattle.slots.specs.Slots.{DeviceSlots, Issue, own_issue}
+use Rattle.slots.specs.Slots.{Issue, own_issue}
 use Rattle.slots.specs.Work.{is_queued}
 use Rattle.slots.specs.declared.table.Context.{Context}
 use Rattle.slots.specs.declared.work.Work.{Work}
-use Rattle.hba_fbs.specs.declared.status.Block.{Block}
 use Rattle.hba_fbs.specs.Taking.{port_of}
 use Rattle.hba_fbs.specs.Views.{DeviceView, view_of}
 use Rattle.disk_model.specs.Anew.{IsCarefulSince, IsClear, OwesOnly}
@@ -17,41 +17,27 @@ use Rattle.disk_model.specs.Ends.{FitsAll}
 use Rattle.disk_model.specs.Histories.{Happening, Plugged, Received, Sent}
 use Rattle.disk_model.specs.Ledger.{Ledger, ShowsPage, Signs, Wanted, empty, ledger, ledger_after, listens}
 use Rattle.disk_model.proofs.AnewLemmas.{after_more, begins_anew}
-use Rattle.hba_laws.specs.Agreement.{Agrees, IsHistoryOf, end_of, work_of_issue, work_of_transfer}
+use Rattle.disk_model.proofs.EndsLemmas.{FitsOne, ledger_push}
+use Rattle.hba_laws.specs.Agreement.{ContextAgrees, IsHistoryOf, work_of_transfer}
 use Rattle.hba_laws.specs.History as event
 use Rattle.hba_laws.specs.History.{History, Transfer, issued}
 use Rattle.hba_laws.specs.Hosts.{Host}
-use Rattle.disk_ends.specs.Answers.{IsIdle}
 use Rattle.disk_ends.specs.Anew.{HostedOnIsKept, HostedSinceNew, IsAwaited, IsHostedOn, IsKeptOn, IsOpening, KeepsSlots, OpensAfter, OpensTheSame}
 use Rattle.disk_ends.specs.Anew as anew
 use Rattle.disk_ends.specs.Hosted as since_new
-use Rattle.disk_ends.specs.Joined.{IsAskedBy, IsJoined, JoinsGiven, SentAgrees}
+use Rattle.disk_ends.specs.Joined.{IsJoined, JoinsGiven, SentAgrees}
 use Rattle.disk_ends.specs.Together.{AtMostOne, IsWaitedUnset, NoneQueued, Replies, Shows, is_sent, told}
 use Rattle.disk_ends.specs.Marked.{IsHeardAlike}
 use Rattle.disk_ends.proofs.HeardLemmas.{IsThere, there_by}
-use Rattle.disk_ends.proofs.HostedLemmas.{FitsOne, fits_more, ledger_more, no_context}
-use Rattle.disk_ends.proofs.IssueJoins.{joins_issues}
+use Rattle.disk_ends.proofs.IssueJoins.{joins_issues, keeps_joined}
 use Rattle.disk_ends.proofs.JoinLemmas.{joins_frames}
 use Rattle.disk_ends.proofs.MarkedLemmas.{marks_tell_nothing}
 use Rattle.disk_ends.proofs.OrderJoins.{joins_commands, joins_data, joins_others}
 use Rattle.disk_ends.proofs.SignsLemmas.{joins_signs}
-use Rattle.disk_ends.proofs.TogetherLemmas.{idle_free}
+use Rattle.disk_ends.proofs.TogetherLemmas.{opens_the_same}
 use Rattle.disk_ends.specs.Same.{SlotCommand}
 
 -- ## Where they begin
-
-pub opens_the_same : OpensTheSame
-opens_the_same commands past k tags none clear talk sent =
-    let idle : IsIdle k = record { outstanding = clear.outstanding; unanswered = clear.unanswered; moving = clear.moving } in
-    record {
-      fine = clear.failed;
-      tags = tags;
-      live = λ s t there queued. absurd (true≢false (sym queued ∙ subst NoneQueued there (none s)));
-      free = λ s unqueued. idle_free s k idle;
-      unsent = λ s unsent. idle_free s k idle;
-      untouched = λ s t there unsent. absurd (true≢false (sym (sent s t there) ∙ unsent));
-      talk = talk;
-    }
 
 module _ (n : ℕ) (host : Host) (commands : ℕ → SlotCommand) (past : History) (k : Ledger) (o : IsOpening n host commands past k) where
   there : (s : ℕ) (t : Transfer) → issued s past ≡ Some t → IsThere (view_of n host.port).slots s t
@@ -79,28 +65,23 @@ module _ (n : ℕ) (host : Host) (commands : ℕ → SlotCommand) (past : Histor
     active = λ c now set. let bad : None ≡ Some c = sym o.unset ∙ now in cc bad;
   }
 
--- what leaves the slots leaves all that is joined
-keeps_joined : (n : ℕ) (host new : Host) (commands : ℕ → SlotCommand) (past : History) (k : Ledger) → KeepsSlots n host new
-    → IsJoined n commands host past k → IsJoined n commands new past k
-keeps_joined n host new commands past k keeps joined = record {
-  history = record {
-    issued = λ s. joined.history.issued s ∙ ap (λ (own : DeviceSlots). option_map work_of_issue (own_issue own s)) (sym keeps.slots);
-    agrees =
-        subst (λ (own : DeviceSlots). Agrees (own_issue own) own.context (option_map end_of (view_of n new.port).state.block) past) (sym keeps.slots)
-        (subst (λ (block : Option Block). Agrees (own_issue (view_of n host.port).slots) (view_of n host.port).slots.context (option_map end_of block) past)
-        (sym keeps.block) joined.history.agrees);
-  };
-  same = joined.same;
-  sent = subst (λ (own : DeviceSlots). SentAgrees own past) (sym keeps.slots) joined.sent;
-  short = joined.short;
-  active = subst (λ (own : DeviceSlots). (c : Context) → own.context ≡ Some c → c.activated ≡ true → IsAskedBy c k) (sym keeps.slots) joined.active;
-}
-
 careful_base : (base : List Happening) → IsCarefulSince base base
 unfolding FitsAll
 careful_base base = record { since = []; is = sym (append-nil base); fits = tt }
 
 -- ## One happening more
+
+fits_last : (l : Ledger) (e : Happening) → FitsOne l e → FitsAll l (e ∷ [])
+unfolding FitsAll
+fits_last l (Received bytes) fits = (fits, tt)
+fits_last l other fits = tt
+
+fits_more : (l : Ledger) (given : List Happening) (e : Happening) → FitsAll l given → FitsOne (ledger_after l given) e → FitsAll l (given ++ e ∷ [])
+unfolding FitsAll ledger_after
+fits_more l [] e all one = fits_last l e one
+fits_more l (Received bytes ∷ given) e all one = (all.0, fits_more (listens l (Received bytes)) given e all.1 one)
+fits_more l (Sent bytes ∷ given) e all one = fits_more (listens l (Sent bytes)) given e all one
+fits_more l (Plugged ∷ given) e all one = fits_more (listens l Plugged) given e all one
 
 pub careful_more : (base given : List Happening) (e : Happening) → IsCarefulSince base given → FitsOne (ledger given) e
     → IsCarefulSince base (given ++ e ∷ [])
@@ -118,7 +99,7 @@ module _ (n : ℕ) (base : List Happening) where
       → IsKeptOn n base new (given ++ e ∷ []) commands past
   kept_more new given e commands past careful fits joined = record {
     careful = careful_more base given e careful fits;
-    joined = subst (IsJoined n commands new past) (sym (ledger_more empty given e)) joined;
+    joined = subst (IsJoined n commands new past) (sym (ledger_push given e)) joined;
   }
 
   kept_given : (new : Host) (frame : Stamped) (given : List Happening) (e : event.Event) (commands : ℕ → SlotCommand) (past : History)
@@ -130,6 +111,19 @@ module _ (n : ℕ) (base : List Happening) where
       kept_more new given (Received (marked frame.bytes 0)) commands (e ∷ past) careful (a.fits j.fits)
       (subst (IsJoined n commands new (e ∷ past)) (sym a.down) j.joined)
 
+  kept_taken : n < 15 → (old new : Host) (bytes : List ℕ) (given : List Happening) (commands : ℕ → SlotCommand) (past later : History)
+      → IsFrame bytes → port_of (marked bytes n) ≡ n → IsKeptOn n base old given commands past
+      → (IsHeardAlike (ledger given) bytes (marked bytes n) → IsJoined (port_of (marked bytes n)) commands old past (ledger given)
+      → IsJoined (port_of (marked bytes n)) commands new later (listens (ledger given) (Sent (marked bytes n))))
+      → IsKeptOn n base new (given ++ Sent bytes ∷ []) commands later
+  kept_taken below old new bytes given commands past later plain from_n before next =
+      let small : n < 16 = omega (arith, below) in
+      let a : IsHeardAlike (ledger given) bytes (marked bytes n) = marks_tell_nothing (ledger given) bytes n plain small in
+      let its = next a (subst (λ (m : ℕ). IsJoined m commands old past (ledger given)) (sym from_n) before.joined) in
+      kept_more new given (Sent bytes) commands later before.careful tt
+      (subst (IsJoined n commands new later) a.up
+      (subst (λ (m : ℕ). IsJoined m commands new later (listens (ledger given) (Sent (marked bytes n)))) from_n its))
+
   kept : n < 15 → (host : Host) (given : List Happening) (commands : ℕ → SlotCommand) (past : History) → IsHostedOn n base host given commands past
       → IsKeptOn n base host given commands past
   kept below host given commands past (anew.opens h c p opening) =
@@ -138,28 +132,12 @@ module _ (n : ℕ) (base : List Happening) where
       let before : IsKeptOn n base old g c p = kept below old g c p hosted in
       record { careful = before.careful; joined = keeps_joined n old new c p (ledger g) same before.joined }
   kept below host given commands past (anew.signs old new bytes report g c p sound plain framed from_n well right hosted) =
-      let before : IsKeptOn n base old g c p = kept below old g c p hosted in
-      let small : n < 16 = omega (arith, below) in
-      let a : IsHeardAlike (ledger g) bytes (marked bytes n) = marks_tell_nothing (ledger g) bytes n plain small in
-      let joined : IsJoined (port_of (marked bytes n)) c old p (ledger g) =
-      subst (λ (m : ℕ). IsJoined m c old p (ledger g)) (sym from_n) before.joined in
-      let next = joins_signs old new (marked bytes n) report c p (ledger g) well (a.right right) joined in
-      let mine : IsJoined n c new p (listens (ledger g) (Sent (marked bytes n))) =
-      subst (λ (m : ℕ). IsJoined m c new p (listens (ledger g) (Sent (marked bytes n)))) from_n next in
-      kept_more new g (Sent bytes) c p before.careful tt (subst (IsJoined n c new p) a.up mine)
+      kept_taken below old new bytes g c p p plain from_n (kept below old g c p hosted)
+      (λ a joined. joins_signs old new (marked bytes n) report c p (ledger g) well (a.right right) joined)
   kept below host given commands past (anew.hears old new bytes report g c p sound plain framed from_n well right short hosted) =
-      let before : IsKeptOn n base old g c p = kept below old g c p hosted in
       let lt : port_of (marked bytes n) < 15 = subst (λ (m : ℕ). m < 15) (sym from_n) below in
-      let small : n < 16 = omega (arith, below) in
-      let a : IsHeardAlike (ledger g) bytes (marked bytes n) = marks_tell_nothing (ledger g) bytes n plain small in
-      let joined : IsJoined (port_of (marked bytes n)) c old p (ledger g) =
-      subst (λ (m : ℕ). IsJoined m c old p (ledger g)) (sym from_n) before.joined in
-      let next : IsJoined (port_of (marked bytes n)) c new (told (seen (marked bytes n)) ++ p) (listens (ledger g) (Sent (marked bytes n))) =
-      joins_frames old new (marked bytes n) report c p (ledger g) sound framed lt well (a.right right) (a.short short) joined in
-      let mine : IsJoined n c new (told (seen (marked bytes n)) ++ p) (listens (ledger g) (Sent (marked bytes n))) =
-      subst (λ (m : ℕ). IsJoined m c new (told (seen (marked bytes n)) ++ p) (listens (ledger g) (Sent (marked bytes n)))) from_n next in
-      kept_more new g (Sent bytes) c (told (seen (marked bytes n)) ++ p) before.careful tt
-      (subst (IsJoined n c new (told (seen (marked bytes n)) ++ p)) a.up mine)
+      kept_taken below old new bytes g c p (told (seen (marked bytes n)) ++ p) plain from_n (kept below old g c p hosted)
+      (λ a joined. joins_frames old new (marked bytes n) report c p (ledger g) sound framed lt well (a.right right) (a.short short) joined)
   kept below host given commands past (anew.issues old new value g c next p sound chosen does tags names counted hosted) =
       let before : IsKeptOn n base old g c p = kept below old g c p hosted in
       record { careful = before.careful; joined = joins_issues n value old new c next p (ledger g) sound below chosen does tags names counted before.joined }
@@ -181,6 +159,12 @@ pub hosted_on_is_kept : HostedOnIsKept
 hosted_on_is_kept n base host given commands past below hosted = kept n base below host given commands past hosted
 
 -- ## Since the disk was new
+
+pub no_context : (n : ℕ) (host : Host) (past : History) → IsHistoryOf n host past → ((s : ℕ) → own_issue (view_of n host.port).slots s ≡ None)
+    → (c : Context) → (view_of n host.port).slots.context ≡ Some c → ⊥
+no_context n host past history none c now =
+    let agrees : ContextAgrees _ c _ past = history.agrees.context_agrees c now in
+    true≢false (sym agrees.of_issue ∙ ap is_some (none c.slot))
 
 none_at : (o : Option Context) → ((c : Context) → o ≡ Some c → ⊥) → o ≡ None
 none_at None never = refl

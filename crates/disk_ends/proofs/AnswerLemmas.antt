@@ -13,9 +13,9 @@ use Rattle.disk_model.specs.Ends.{FitsRequest, IsFree, MovesOther, has}
 use Rattle.disk_model.specs.Ledger.{Ledger, Moving, Names, ReadOut, Written, answered, answers, asks, sends_data}
 use Rattle.disk_model.proofs.CrossLemmas.{alone, asks_fits, has_left}
 use Rattle.hba_laws.specs.History.{Answered, Carried, History, Named, PioSetUp, Sent, filled, filled_from, is_at, is_set_up, next_number, none_filled, waiting_in}
-use Rattle.disk_ends.specs.Same.{InLife, IsEndedBy, IsLastOf, Moves, Open, ReadEnded, SlotCommand, StandsOnce, Unsent, Unset, WriteEnded}
+use Rattle.disk_ends.specs.Same.{InLife, IsEndedBy, Moves, Open, ReadEnded, SlotCommand, StandsOnce, Unsent, Unset, WriteEnded}
 use Rattle.disk_ends.specs.Answers.{AnswersKeep, ByRead, ByWrite, HasEnded, IsAlone, IsIdle, NamesKeep, OthersKeep}
-use Rattle.disk_ends.proofs.SameLemmas.{same_life}
+use Rattle.disk_ends.proofs.SameLemmas.{moving_as, same_life}
 
 -- ## A ledger that says the same of queued commands
 
@@ -154,9 +154,6 @@ first_stands s us first none =
     let parts = or_parts (s == s) (has s first.rest) (sym (ap (has s) first.is) ∙ none) in
     true≢false (sym (eq-eqb s s refl) ∙ parts.0)
 
-tails : (u t : ℕ) (us ts : List ℕ) → u ∷ us ≡ t ∷ ts → us ≡ ts
-tails u t us ts e = cc e
-
 heads : (u t : ℕ) (us ts : List ℕ) → u ∷ us ≡ t ∷ ts → u ≡ t
 heads u t us ts e = cc e
 
@@ -189,45 +186,27 @@ left_by s mask us (a ∷ ahead) behind is not_ahead not_behind names unset = rec
 once_left : (s mask : ℕ) (us : List ℕ) → StandsOnce s us → Names us mask → has_bit mask s ≡ false → StandsOnce s (drop 1 us)
 once_left s mask us once names unset = left_by s mask us once.ahead once.behind once.is once.not_ahead once.not_behind names unset
 
-name_ends : (s mask : ℕ) (c : SlotCommand) (past : History) (k : Ledger) → Names k.unanswered mask → has_bit mask s ≡ true → InLife s c past k
-    → HasEnded s c past k
-name_ends s mask c past k names set (Unsent free quiet unset none counted) =
-    absurd (first_stands s k.unanswered (named_first s mask k.unanswered names set) free.unanswered)
-name_ends s mask c past k names set (Open found yet other unset none counted) =
-    absurd (first_stands s k.unanswered (named_first s mask k.unanswered names set) yet)
-name_ends s mask c past k names set (Moves v moving same yet m counted) = absurd (first_stands s k.unanswered (named_first s mask k.unanswered names set) yet)
-name_ends s mask c past k names set (ReadEnded at r e quiet there same stands counted) = ByRead at r there same stands counted
-name_ends s mask c past k names set (WriteEnded at w e quiet there same stands counted) = ByWrite at w there same stands counted
+-- a command that is named ended, was answered, and leaves its tag free
+record IsNamedLast (s error : ℕ) (c : SlotCommand) (past : History) (k : Ledger) : Type 0 where
+  ended : HasEnded s c past k
+  quiet : is_at s (waiting_in past) ≡ false
+  free : IsFree (answers k error false) s
 
-name_quiet : (s mask : ℕ) (c : SlotCommand) (past : History) (k : Ledger) → Names k.unanswered mask → has_bit mask s ≡ true → InLife s c past k
-    → is_at s (waiting_in past) ≡ false
-name_quiet s mask c past k names set (Unsent free quiet unset none counted) = quiet
-name_quiet s mask c past k names set (Open found yet other unset none counted) =
-    absurd (first_stands s k.unanswered (named_first s mask k.unanswered names set) yet)
-name_quiet s mask c past k names set (Moves v moving same yet m counted) = m.quiet
-name_quiet s mask c past k names set (ReadEnded at r e quiet there same stands counted) = quiet
-name_quiet s mask c past k names set (WriteEnded at w e quiet there same stands counted) = quiet
+module _ (s mask error : ℕ) (c : SlotCommand) (past : History) (k : Ledger) (names : Names k.unanswered mask) (set : has_bit mask s ≡ true) where
+  first : StandsFirst s k.unanswered
+  first = named_first s mask k.unanswered names set
 
-free_ended : (s mask error : ℕ) (b : Bool) (k : Ledger) → Names k.unanswered mask → has_bit mask s ≡ true → IsEndedBy s b k
-    → IsFree (answers k error false) s
-free_ended s mask error b k names set e =
-    record {
-      outstanding = e.outstanding;
-      unanswered = gone s k.unanswered
-          (named_first s mask k.unanswered names set) e.unanswered;
-      moving = e.moving;
-    }
+  named_free : (b : Bool) → IsEndedBy s b k → IsFree (answers k error false) s
+  named_free b e = record { outstanding = e.outstanding; unanswered = gone s k.unanswered first e.unanswered; moving = e.moving }
 
-name_frees : (s mask error : ℕ) (c : SlotCommand) (past : History) (k : Ledger) → Names k.unanswered mask → has_bit mask s ≡ true → InLife s c past k
-    → IsFree (answers k error false) s
-name_frees s mask error c past k names set (Unsent free quiet unset none counted) =
-    absurd (first_stands s k.unanswered (named_first s mask k.unanswered names set) free.unanswered)
-name_frees s mask error c past k names set (Open found yet other unset none counted) =
-    absurd (first_stands s k.unanswered (named_first s mask k.unanswered names set) yet)
-name_frees s mask error c past k names set (Moves v moving same yet m counted) =
-    absurd (first_stands s k.unanswered (named_first s mask k.unanswered names set) yet)
-name_frees s mask error c past k names set (ReadEnded at r e quiet there same stands counted) = free_ended s mask error (is_set_up s past) k names set e
-name_frees s mask error c past k names set (WriteEnded at w e quiet there same stands counted) = free_ended s mask error (is_set_up s past) k names set e
+  named_last : InLife s c past k → IsNamedLast s error c past k
+  named_last (Unsent free quiet unset none counted) = absurd (first_stands s k.unanswered first free.unanswered)
+  named_last (Open found yet other unset none counted) = absurd (first_stands s k.unanswered first yet)
+  named_last (Moves v moving same yet m counted) = absurd (first_stands s k.unanswered first yet)
+  named_last (ReadEnded at r e quiet there same stands counted) =
+      record { ended = ByRead at r there same stands counted; quiet = quiet; free = named_free (is_set_up s past) e }
+  named_last (WriteEnded at w e quiet there same stands counted) =
+      record { ended = ByWrite at w there same stands counted; quiet = quiet; free = named_free (is_set_up s past) e }
 
 ended_left : (s mask error : ℕ) (b : Bool) (k : Ledger) → Names k.unanswered mask → has_bit mask s ≡ false → IsEndedBy s b k
     → IsEndedBy s b (answers k error false)
@@ -240,22 +219,17 @@ name_other s mask error c past k names other (Unsent free quiet unset none count
     Unsent (record { outstanding = free.outstanding; unanswered = has_left s k.unanswered free.unanswered; moving = free.moving }) quiet unset none counted
 name_other s mask error c past k names other (Open found yet beside unset none counted) = Open found (has_left s k.unanswered yet) beside unset none counted
 name_other s mask error c past k names other (Moves v moving same yet m counted) =
-    let n : IsLastOf v past = m.names in
-    Moves v moving same (has_left s k.unanswered yet)
-    (record {
-      long = m.long;
-      quiet = m.quiet;
-      set_up = m.set_up;
-      inside = m.inside;
-      names = record { setup = n.setup; last = n.last; offset = n.offset; count = n.count };
-      fresh = m.fresh;
-      asked = m.asked;
-      stands = m.stands;
-    }) (record { before = counted.before; now = counted.now })
+    Moves v moving same (has_left s k.unanswered yet) (moving_as s v past (Named mask ∷ past) (λ quiet. quiet) refl refl refl refl m)
+    (record { before = counted.before; now = counted.now })
 name_other s mask error c past k names other (ReadEnded at r e quiet there same stands counted) =
     ReadEnded at r (ended_left s mask error (is_set_up s past) k names other e) quiet there same stands counted
 name_other s mask error c past k names other (WriteEnded at w e quiet there same stands counted) =
     WriteEnded at w (ended_left s mask error (is_set_up s past) k names other e) quiet there same stands counted
 
 pub names_keep : NamesKeep
-names_keep = record { own = name_ends; answered = name_quiet; free = name_frees; other = name_other }
+names_keep = record {
+  own = λ s mask c past k names set life. (named_last s mask 0 c past k names set life).ended;
+  answered = λ s mask c past k names set life. (named_last s mask 0 c past k names set life).quiet;
+  free = λ s mask error c past k names set life. (named_last s mask error c past k names set life).free;
+  other = name_other;
+}

@@ -18,7 +18,7 @@ use Rattle.hba_fbs.specs.declared.hearing.Happening.{Happening}
 use Rattle.hba_fbs.specs.declared.hearing.Happening.TheVariants as happening
 use Rattle.hba_fbs.specs.declared.hearing.Heard.{Heard}
 use Rattle.hba_fbs.specs.declared.register.Register.{Register}
-use Rattle.hba_fbs.specs.declared.register.Register.TheVariants.{Ci, Clb, Clbu, Cmd, Fb, Fbs, Fbu, Ie, Is, Sact, Serr, Sig, Sntf, Tfd}
+use Rattle.hba_fbs.specs.declared.register.Register.TheVariants.{Ci, Cmd, Fbs}
 use Rattle.hba_fbs.specs.declared.report.TakeReport.{TakeReport}
 use Rattle.hba_fbs.specs.declared.status.Block.{Block}
 use Rattle.hba_fbs.specs.Bits.{dec}
@@ -38,7 +38,7 @@ use Rattle.hba_laws.proofs.IssueLemmas.{history_below, other_below, own_below_is
 use Rattle.disk_ends.specs.Aside.{AreUnqueued, AsideIsKept, Faulty, Halted, IsAside, IssuesNoneQueued, SetsAside, Spared, WritesAside, WritesNoneQueued}
 use Rattle.disk_ends.specs.Elsewhere.{IsElsewhere}
 use Rattle.disk_ends.specs.Together.{NoneQueued}
-use Rattle.disk_ends.proofs.ElsewhereLemmas.{others_leave_device}
+use Rattle.disk_ends.proofs.ElsewhereLemmas.{others_leave_device, view_sends}
 
 -- ## Events that issue nothing
 
@@ -328,35 +328,17 @@ goes_on_wrote : (n : ℕ) (host new : Host) (register : Register) (value : ℕ) 
 goes_on_wrote n host new Cmd value past below does alone aside = cmd_test n host new value past (falls host.port.registers value) below refl does aside
 goes_on_wrote n host new Ci value past below does alone aside = ci_aside n host new value past below does alone aside
 goes_on_wrote n host new Fbs value past below does alone aside = fbs_test n host new value past (cleared_by host.port.errors value) below refl does aside
-goes_on_wrote n host new Clb value past below does alone aside = elsewhere_by n host new Clb value past below does tt (keeps_halt Clb host.port value (λ e. cc e)) aside
-goes_on_wrote n host new Clbu value past below does alone aside = elsewhere_by n host new Clbu value past below does tt (keeps_halt Clbu host.port value (λ e. cc e)) aside
-goes_on_wrote n host new Fb value past below does alone aside = elsewhere_by n host new Fb value past below does tt (keeps_halt Fb host.port value (λ e. cc e)) aside
-goes_on_wrote n host new Fbu value past below does alone aside = elsewhere_by n host new Fbu value past below does tt (keeps_halt Fbu host.port value (λ e. cc e)) aside
-goes_on_wrote n host new Is value past below does alone aside = elsewhere_by n host new Is value past below does tt (keeps_halt Is host.port value (λ e. cc e)) aside
-goes_on_wrote n host new Ie value past below does alone aside = elsewhere_by n host new Ie value past below does tt (keeps_halt Ie host.port value (λ e. cc e)) aside
-goes_on_wrote n host new Tfd value past below does alone aside = elsewhere_by n host new Tfd value past below does tt (keeps_halt Tfd host.port value (λ e. cc e)) aside
-goes_on_wrote n host new Sig value past below does alone aside = elsewhere_by n host new Sig value past below does tt (keeps_halt Sig host.port value (λ e. cc e)) aside
-goes_on_wrote n host new Serr value past below does alone aside = elsewhere_by n host new Serr value past below does tt (keeps_halt Serr host.port value (λ e. cc e)) aside
-goes_on_wrote n host new Sact value past below does alone aside = elsewhere_by n host new Sact value past below does tt (keeps_halt Sact host.port value (λ e. cc e)) aside
-goes_on_wrote n host new Sntf value past below does alone aside = elsewhere_by n host new Sntf value past below does tt (keeps_halt Sntf host.port value (λ e. cc e)) aside
+goes_on_wrote n host new other value past below does alone aside =
+    elsewhere_by n host new other value past below does tt (keeps_halt other host.port value (λ e. cc e)) aside
 
 -- ## A frame goes out
-
-sent_fault : (n dev : ℕ) (host new : Host) (bytes : List ℕ) (view : DeviceView) (frame : Stamped) → Sends host.port dev bytes view frame new.port
-    → view.fault ≡ (view_of dev host.port).fault → (view_of n new.port).fault ≡ (view_of n host.port).fault
-sent_fault n dev host new bytes view frame sends same = elim (cases_eq n dev) [
-  | inl is ↦
-      ap (λ (m : ℕ). (view_of m new.port).fault) is ∙ ap (λ (v : DeviceView). v.fault) sends.own ∙ same
-      ∙ ap (λ (m : ℕ). (view_of m host.port).fault) (sym is)
-  | inr other ↦ ap (λ (v : DeviceView). v.fault) (sends.others n other)
-]
 
 sent_aside : (n dev : ℕ) (host new : Host) (bytes : List ℕ) (view : DeviceView) (frame : Stamped) (e : Event) (past : History)
     → Sends host.port dev bytes view frame new.port → view.fault ≡ (view_of dev host.port).fault → IssuesNothing e → IsAside n host past
     → IsAside n new (own n (By dev e ∷ []) ++ past)
 sent_aside n dev host new bytes view frame e past sends same plain (Halted is) = Halted (same_errors host new sends.errors is)
 sent_aside n dev host new bytes view frame e past sends same plain (Faulty is) =
-    Faulty (ap is_some (sent_fault n dev host new bytes view frame sends same) ∙ is)
+    Faulty (view_sends (λ v. is_some v.fault ≡ true) n dev host new bytes view frame sends (λ was. ap is_some same ∙ was) is)
 sent_aside n dev host new bytes view frame e past sends same plain (Spared none) = Spared (own_one n dev e past plain none)
 
 order_plain : (b : Bool) (slot : ℕ) → IssuesNothing (if b then SentControl slot else Sent slot)

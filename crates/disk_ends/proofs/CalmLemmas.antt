@@ -1,39 +1,42 @@
 -- Events that are none of a device's, or issue commands for it, keep what a host has of it.
-use Rattle.std.proofs.Common.{ℕ, ◌<◌, List, [], ◌∷◌, ◌++◌, sym, subst, inl, inr, arith}
-use Rattle.hba_fbs.specs.declared.register.Register.TheVariants.{Ci, Clb, Clbu, Cmd, Fb, Fbs, Fbu, Ie, Is, Sact, Serr, Sig, Sntf, Tfd}
-use Rattle.disk_model.specs.Histories.{Happening}
-use Rattle.disk_model.specs.Ledger.{ledger}
+use Rattle.std.proofs.Common.{◌≡◌, ℕ, ◌<◌, [], ◌∷◌, ◌++◌, sym, subst, inl, inr, arith}
+use Rattle.hba_fbs.specs.declared.register.Register.TheVariants.{Ci}
+use Rattle.hba_fbs.specs.Views.{view_of}
+use Rattle.disk_model.specs.Ledger.{Ledger, ledger}
 use Rattle.hba_laws.specs.Client.{own}
 use Rattle.hba_laws.specs.Delivering.{touched}
 use Rattle.hba_laws.specs.History.{History}
-use Rattle.hba_laws.specs.Hosts.{Does, Flushed, Gave, Host, HostEvent, Put, Rewrote, Stored, Took, Wrote}
-use Rattle.hba_laws.specs.Sound.{IsHost}
-use Rattle.disk_ends.specs.Calm.{CalmRunsKeep, IsCalm, IssuesFor}
+use Rattle.hba_laws.specs.Hosts.{Does, Host, HostEvent, Wrote}
+use Rattle.disk_ends.specs.Calm.{CalmRunsKeep, IsCalm, IssuesFor, WritesIssues}
 use Rattle.disk_ends.specs.Elsewhere.{LeavesDevice}
-use Rattle.disk_ends.specs.Hosted.{IsHosted, issues, stays}
+use Rattle.disk_ends.specs.Hosted.{IsHosted}
+use Rattle.disk_ends.specs.Hosted as since_new
 use Rattle.disk_ends.proofs.ElsewhereLemmas.{others_leave_device}
 use Rattle.disk_ends.specs.Same.{SlotCommand}
 
-issued_for : (n : ℕ) (old new : Host) (event : HostEvent) (given : List Happening) (commands next : ℕ → SlotCommand) (past : History) → IsHost old
-    → Does old event new → IssuesFor n (ledger given) old commands event next → IsHosted n old given commands past
-    → IsHosted n new given next (own n (touched old event) ++ past)
-issued_for n old new (Wrote Ci value) given commands next past sound does i hosted = issues old new value given commands next past sound i.0 does i.1 i.2 i.3 hosted
-issued_for n old new other given commands next past sound does i hosted = absurd i
+-- what a host has of a device stays at such an event, if it does where the view stays and where commands are issued
+module _ (n : ℕ) (k : Ledger) (old new : Host) (commands next : ℕ → SlotCommand) (past : History) (Has : Host → (ℕ → SlotCommand) → History → Type 0)
+    (stays : view_of n new.port ≡ view_of n old.port → Has new commands past)
+    (issues : (value : ℕ) → Does old (Wrote Ci value) new → WritesIssues n k old commands Ci value next
+    → Has new next (own n (touched old (Wrote Ci value)) ++ past)) where
+  issued_for : (event : HostEvent) → Does old event new → IssuesFor n k old commands event next → Has new next (own n (touched old event) ++ past)
+  issued_for (Wrote Ci value) does i = issues value does i
+  issued_for other does i = absurd i
 
-calm_one : (n : ℕ) (old new : Host) (event : HostEvent) (given : List Happening) (commands next : ℕ → SlotCommand) (past : History) → n < 15 → IsHost old
-    → Does old event new → IsCalm n (ledger given) old commands event next → IsHosted n old given commands past
-    → IsHosted n new given next (own n (touched old event) ++ past)
-calm_one n old new event given commands next past below sound does (inl away) hosted =
-    let small : n < 16 = omega (arith, below) in
-    let left : LeavesDevice n old event new = others_leave_device n old new event small does away.0 in
-    let same : IsHosted n new given next past = subst (λ (f : ℕ → SlotCommand). IsHosted n new given f past) (sym away.1) (stays old new given commands past left.view hosted) in
-    subst (λ (h : History). IsHosted n new given next (h ++ past)) (sym left.history) same
-calm_one n old new event given commands next past below sound does (inr here) hosted =
-    issued_for n old new event given commands next past sound does here hosted
+  pub calm_one : (event : HostEvent) → n < 15 → Does old event new → IsCalm n k old commands event next → Has new next (own n (touched old event) ++ past)
+  calm_one event below does (inr here) = issued_for event does here
+  calm_one event below does (inl away) =
+      let small : n < 16 = omega (arith, below) in
+      let left : LeavesDevice n old event new = others_leave_device n old new event small does away.0 in
+      subst (λ (f : ℕ → SlotCommand). Has new f (own n (touched old event) ++ past)) (sym away.1)
+      (subst (λ (h : History). Has new commands (h ++ past)) (sym left.history) (stays left.view))
 
 pub calm_runs_keep : CalmRunsKeep
 calm_runs_keep n old new [] run given commands next past below hosts calm hosted =
     subst (λ (h : Host). IsHosted n h given next past) (sym run) (subst (λ (f : ℕ → SlotCommand). IsHosted n old given f past) (sym calm) hosted)
 calm_runs_keep n old new (event ∷ events) run given commands next past below hosts calm hosted =
-    let one : IsHosted n run.0 given calm.0 (own n (touched old event) ++ past) = calm_one n old run.0 event given commands calm.0 past below hosts.0 run.1 calm.1 hosted in
+    let one : IsHosted n run.0 given calm.0 (own n (touched old event) ++ past) =
+    calm_one n (ledger given) old run.0 commands calm.0 past (λ h f p. IsHosted n h given f p)
+    (λ same. since_new.stays old run.0 given commands past same hosted)
+    (λ value does i. since_new.issues old run.0 value given commands calm.0 past hosts.0 i.0 does i.1 i.2 i.3 hosted) event below run.1 calm.1 in
     calm_runs_keep n run.0 new events run.2 given calm.0 next (own n (touched old event) ++ past) below hosts.1 calm.2 one

@@ -5,13 +5,13 @@ use Rattle.std.specs.List.{list_any}
 use Rattle.std.proofs.lemmas.Bool.{cases_Bool, eq-eqb, eqb-true, or_from}
 use Rattle.disk_model.specs.declared.request.Command.{Command}
 use Rattle.disk_model.specs.Chunks.{put}
-use Rattle.disk_model.specs.Ends.{MovesOther, has}
+use Rattle.disk_model.specs.Ends.{IsFree, MovesOther, has}
 use Rattle.disk_model.specs.Laws.{bytes_named}
 use Rattle.disk_model.specs.Ledger.{Ledger, Moving, ReadOut, Written, ends, sends_data, takes_data}
 use Rattle.disk_model.proofs.CrossLemmas.{after_bytes, but_free, data_down, goes_by, has_more, is_all, with_bytes}
 use Rattle.disk_model.proofs.PlaceLemmas.{length-put}
 use Rattle.hba_laws.specs.History.{Carried, History, filled, filled_from, is_at, is_set_up, next_number, waiting_in}
-use Rattle.disk_ends.specs.Same.{InLife, IsEndedBy, IsLastOf, IsMovingAt, IsMovingSince, Moves, Open, ReadEnded, SlotCommand, Stand, StandsOnce, Unsent, Unset, WriteEnded}
+use Rattle.disk_ends.specs.Same.{InLife, IsEndedBy, IsLastOf, IsMovingAt, Moves, Open, ReadEnded, SlotCommand, Stand, StandsOnce, Unsent, Unset, WriteEnded}
 use Rattle.disk_ends.proofs.MoveLemmas.{IsMoved, not_own, other_life, own_life, unset_other}
 use Rattle.disk_ends.proofs.SameLemmas.{data_fills}
 use Rattle.disk_ends.specs.Steps.{DataDown, DataUp}
@@ -19,7 +19,7 @@ use Rattle.disk_ends.specs.Steps.{DataDown, DataUp}
 -- ## Lists
 
 -- what stands in a list stands in a longer one
-get_more : {X : Type 0} (xs ys : List X) (i : ℕ) (x : X) → slice_get xs i ≡ Some x → slice_get (xs ++ ys) i ≡ Some x
+pub get_more : {X : Type 0} (xs ys : List X) (i : ℕ) (x : X) → slice_get xs i ≡ Some x → slice_get (xs ++ ys) i ≡ Some x
 get_more [] ys i x e = cc e
 get_more (z ∷ xs) ys zero x e = e
 get_more (z ∷ xs) ys (suc i) x e = get_more xs ys i x e
@@ -81,13 +81,13 @@ found_kept s other (q ∷ cs) c differs found =
 -- ## Another command ends
 
 -- what an end leaves of the rest
-record EndsBeside (tag : ℕ) (k x : Ledger) : Type 0 where
-  outstanding : x.outstanding ≡ filter (λ q. not (q.tag == tag)) k.outstanding
-  unanswered : x.unanswered ≡ k.unanswered ++ tag ∷ []
-  moving : x.moving ≡ None
-  grows : length k.writes ≤ length x.writes
-  reads : (at : ℕ) (r : ReadOut) → slice_get k.reads at ≡ Some r → slice_get x.reads at ≡ Some r
-  writes : (at : ℕ) (w : Written) → slice_get k.writes at ≡ Some w → slice_get x.writes at ≡ Some w
+pub record EndsBeside (tag : ℕ) (k x : Ledger) : Type 0 where
+  pub outstanding : x.outstanding ≡ filter (λ q. not (q.tag == tag)) k.outstanding
+  pub unanswered : x.unanswered ≡ k.unanswered ++ tag ∷ []
+  pub moving : x.moving ≡ None
+  pub grows : length k.writes ≤ length x.writes
+  pub reads : (at : ℕ) (r : ReadOut) → slice_get k.reads at ≡ Some r → slice_get x.reads at ≡ Some r
+  pub writes : (at : ℕ) (w : Written) → slice_get k.writes at ≡ Some w → slice_get x.writes at ≡ Some w
 
 counted_on : (since : ℕ) (old new : List Written) → length old ≤ length new → since ≤ length old → since ≤ length new
 counted_on since old new grows counted = omega (arith, grows, counted)
@@ -100,16 +100,19 @@ still_ended s b tag k x other goes e = record {
   unset = subst (λ (m : Option Moving). Unset m b) (sym goes.moving) tt;
 }
 
+pub still_free : (s tag : ℕ) (k x : Ledger) → eqb tag s ≡ false → EndsBeside tag k x → IsFree k s → IsFree x s
+still_free s tag k x other goes free = record {
+  outstanding = ap (list_any (λ (q : Command). q.tag == s)) goes.outstanding ∙ but_free s tag k.outstanding free.outstanding;
+  unanswered = ap (has s) goes.unanswered ∙ has_more s tag k.unanswered free.unanswered other;
+  moving = subst (MovesOther s) (sym goes.moving) tt;
+}
+
 ends_beside : (s : ℕ) (c : SlotCommand) (v : Moving) (past later : History) (k x : Ledger) → k.moving ≡ Some v → eqb v.command.tag s ≡ false → c.command.tag ≡ s
     → EndsBeside v.command.tag k x
     → waiting_in later ≡ waiting_in past → is_set_up s later ≡ is_set_up s past → filled s later ≡ filled s past → InLife s c past k
     → InLife s c later x
 ends_beside s c v past later k x moving other tag goes waits set fills (Unsent free quiet unset none counted) =
-    Unsent (record {
-      outstanding = ap (list_any (λ (q : Command). q.tag == s)) goes.outstanding ∙ but_free s v.command.tag k.outstanding free.outstanding;
-      unanswered = ap (has s) goes.unanswered ∙ has_more s v.command.tag k.unanswered free.unanswered other;
-      moving = subst (MovesOther s) (sym goes.moving) tt;
-    }) (ap (is_at s) waits ∙ quiet) (set ∙ unset) (fills ∙ none) (counted_on c.since k.writes x.writes goes.grows counted)
+    Unsent (still_free s v.command.tag k x other goes free) (ap (is_at s) waits ∙ quiet) (set ∙ unset) (fills ∙ none) (counted_on c.since k.writes x.writes goes.grows counted)
 ends_beside s c v past later k x moving other tag goes waits set fills (Open found yet beside unset none counted) =
     Open (ap (find (λ (p : Command). p.tag == s)) goes.outstanding ∙ found_kept s v.command.tag k.outstanding c.command other found)
     (ap (has s) goes.unanswered ∙ has_more s v.command.tag k.unanswered yet other)
@@ -125,7 +128,7 @@ ends_beside s c v past later k x moving other tag goes waits set fills (WriteEnd
     (ap (is_at s) waits ∙ quiet) (goes.writes at w there) same
     (subst (λ (f : ℕ → Option ℕ). Stand f w.bytes) (sym fills) stands) counted
 
-goes_beside : (k : Ledger) (w : Moving) (write : Bool) → EndsBeside w.command.tag k (ends k w write)
+pub goes_beside : (k : Ledger) (w : Moving) (write : Bool) → EndsBeside w.command.tag k (ends k w write)
 goes_beside k w true = record { outstanding = refl; unanswered = refl; moving = refl; grows = length_more k.writes _; reads = λ at r e. e; writes = λ at x e. get_more k.writes _ at x e }
 goes_beside k w false = record { outstanding = refl; unanswered = refl; moving = refl; grows = omega arith; reads = λ at r e. get_more k.reads _ at r e; writes = λ at x e. e }
 
@@ -133,20 +136,16 @@ goes_beside k w false = record { outstanding = refl; unanswered = refl; moving =
 
 ends_own : (s : ℕ) (b : Bool) (k : Ledger) (w : Moving) (write : Bool) → w.command.tag ≡ s → has s k.unanswered ≡ false
     → IsEndedBy s b (ends k w write)
-ends_own s b k w true own yet = record {
-  unanswered = once_last s w.command.tag k.unanswered own yet;
-  outstanding =
-      subst (λ (t : ℕ). list_any (λ c. c.tag == s) (filter (λ q. not (q.tag == t)) k.outstanding) ≡ false) (sym own) (but_none s k.outstanding);
-  moving = tt;
-  unset = tt;
-}
-ends_own s b k w false own yet = record {
-  unanswered = once_last s w.command.tag k.unanswered own yet;
-  outstanding =
-      subst (λ (t : ℕ). list_any (λ c. c.tag == s) (filter (λ q. not (q.tag == t)) k.outstanding) ≡ false) (sym own) (but_none s k.outstanding);
-  moving = tt;
-  unset = tt;
-}
+ends_own s b k w write own yet =
+    let goes : EndsBeside w.command.tag k (ends k w write) = goes_beside k w write in
+    record {
+      unanswered = subst (StandsOnce s) (sym goes.unanswered) (once_last s w.command.tag k.unanswered own yet);
+      outstanding =
+          ap (list_any (λ (q : Command). q.tag == s)) goes.outstanding
+          ∙ subst (λ (t : ℕ). list_any (λ c. c.tag == s) (filter (λ q. not (q.tag == t)) k.outstanding) ≡ false) (sym own) (but_none s k.outstanding);
+      moving = subst (MovesOther s) (sym goes.moving) tt;
+      unset = subst (λ (m : Option Moving). Unset m b) (sym goes.moving) tt;
+    }
 
 -- ## Data
 

@@ -1,20 +1,20 @@
 -- What is none of a device's leaves its view, and is no event of its history.
-use Rattle.std.proofs.Common.{◌≡◌, ◌≢◌, ℕ, Bool, true, false, List, [], ◌∷◌, refl, sym, ap, ◌∙◌, Option, Some, None}
+use Rattle.std.proofs.Common.{◌≡◌, ◌≢◌, ℕ, Bool, true, false, List, [], ◌∷◌, refl, sym, ap, subst, ◌∙◌, inl, inr, Option, Some, None}
 use Rattle.std.specs.Prelude.{if◌then◌else◌}
-use Rattle.std.proofs.lemmas.Bool.{ne_eqb}
+use Rattle.std.proofs.lemmas.Bool.{cases_eq, ne_eqb}
 use Rattle.fis_view.specs.Frames.{Stamped}
 use Rattle.hba_fbs.specs.declared.register.Register.{Register}
-use Rattle.hba_fbs.specs.declared.register.Register.TheVariants.{Ci, Clb, Clbu, Cmd, Fb, Fbs, Fbu, Ie, Is, Sact, Serr, Sig, Sntf, Tfd}
+use Rattle.hba_fbs.specs.declared.register.Register.TheVariants.{Ci, Clb, Cmd, Fbs}
 use Rattle.hba_fbs.specs.declared.report.TakeReport.{TakeReport}
 use Rattle.hba_fbs.specs.Issuing.{aimed, asked, view_issued}
-use Rattle.hba_fbs.specs.Sending.{Data, Gives, Nothing, Order, Outgoing, Unreadable, outgoing}
+use Rattle.hba_fbs.specs.Sending.{Data, Gives, Nothing, Order, Outgoing, Sends, Unreadable, outgoing}
 use Rattle.hba_fbs.specs.Taking.{ignores, port_of}
-use Rattle.hba_fbs.specs.Views.{Port, stopped_view, view_of}
+use Rattle.hba_fbs.specs.Views.{DeviceView, Port, stopped_view, view_of}
 use Rattle.hba_fbs.specs.Writing.{cleared_by, is_device, view_after}
 use Rattle.hba_laws.specs.Client.{By, Stops, own}
 use Rattle.hba_laws.specs.Delivering.{by_device, event_taken, touched_by_clear, touched_by_out, touched_by_write}
 use Rattle.hba_laws.specs.History.{Emptied, Event}
-use Rattle.hba_laws.specs.Hosts.{Flushed, Gave, Host, Put, Rewrote, Stored, TakesFrame, Took, Wrote}
+use Rattle.hba_laws.specs.Hosts.{Flushed, Gave, Host, Stored, TakesFrame, Took, Wrote}
 use Rattle.hba_laws.proofs.IssueLemmas.{other_below}
 use Rattle.disk_ends.specs.Elsewhere.{IsForOther, OthersLeaveDevice, WritesElsewhere}
 
@@ -69,6 +69,15 @@ given_elsewhere n old new (Unreadable dev) frame gives other = absurd other
 given_elsewhere n old new (Data dev offset len command) (Some f) gives other = (gives.others n other, other_one n dev _ other)
 given_elsewhere n old new (Order dev slot command) (Some f) gives other = (gives.others n other, other_one n dev _ other)
 given_elsewhere n old new rest None gives other = absurd gives
+
+-- what goes out to a device changes its view alone
+pub view_sends : (P : DeviceView → Type 0) (n dev : ℕ) (host new : Host) (bytes : List ℕ) (view : DeviceView) (frame : Stamped)
+    → Sends host.port dev bytes view frame new.port → (P (view_of dev host.port) → P view) → P (view_of n host.port) → P (view_of n new.port)
+view_sends P n dev host new bytes view frame sends step was = elim (cases_eq n dev) [
+  | inl is ↦
+      subst (λ (m : ℕ). P (view_of m new.port)) (sym is) (subst P (sym sends.own) (step (subst (λ (m : ℕ). P (view_of m host.port)) is was)))
+  | inr other ↦ subst P (sym (sends.others n other)) was
+]
 
 -- ## All of them
 

@@ -1,5 +1,5 @@
 -- The task file of a disk that is watched, at each FIS that comes from it and at what goes to it.
-use Rattle.std.proofs.Common.{◌≡◌, ℕ, ◌<◌, true, false, List, [], ◌∷◌, drop, refl, sym, ap, subst, ◌∙◌, inl, inr, None, Ok, Err, Result, arith}
+use Rattle.std.proofs.Common.{◌≡◌, ℕ, ◌<◌, true, false, List, [], ◌∷◌, drop, refl, sym, ap, subst, ◌∙◌, inl, inr, None, Ok, Result, arith}
 use Rattle.std.specs.Prelude.{◌⊎◌, is_some}
 use Rattle.std.proofs.lemmas.Bool.{true≢false}
 use Rattle.std.proofs.lemmas.List.{append_cancel_left}
@@ -15,7 +15,7 @@ use Rattle.hba_fbs.specs.Taking.{admitted, device_cause, heard_now, heard_report
 use Rattle.hba_fbs.specs.Views.{DeviceView, view_of}
 use Rattle.disk_model.specs.declared.plan.DiskPlan.{DiskPlan}
 use Rattle.disk_model.specs.declared.request.Request.{Request}
-use Rattle.disk_model.specs.declared.request.Request.TheVariants.{Reset, Queue, ReadErrorLog, Identify, Flush, Other}
+use Rattle.disk_model.specs.declared.request.Request.TheVariants.{Queue, Identify, Flush}
 use Rattle.disk_model.specs.Anew.{IsClear}
 use Rattle.disk_model.specs.Ends.{Fits, FitsAll, IsRight}
 use Rattle.disk_model.specs.Histories.{Happening, Plugged, Received, Sent}
@@ -35,7 +35,7 @@ use Rattle.disk_ends.proofs.FollowedLemmas.{next_or_fails}
 use Rattle.disk_ends.proofs.LooseLemmas.{next_of_disk}
 use Rattle.disk_ends.proofs.MarkedFiles.{disk_marked}
 use Rattle.disk_ends.proofs.MarkedLemmas.{marks_tell_nothing}
-use Rattle.disk_ends.proofs.PhaseLemmas.{heard_if}
+use Rattle.disk_ends.proofs.HeardLemmas.{heard_if}
 use Rattle.disk_ends.proofs.PlainLemmas.{each_push, leaves_taken, leaves_up}
 use Rattle.disk_ends.proofs.WatchedLemmas.{watches_on}
 

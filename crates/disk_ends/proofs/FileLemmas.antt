@@ -1,5 +1,5 @@
 -- The task file that a host port has of an honest disk.
-use Rattle.std.proofs.Common.{◌≡◌, ◌==◌, ◌%◌, ◌/◌, ◌-◌, eqb, max, min, nat_lt, bit_or, bit_and, ℕ, zero, suc, ◌<◌, Bool, true, false, List, [], ◌∷◌, length, refl, sym, ap, subst, ◌∙◌, inl, inr, Option, Some, None, Ok, Err, Result, arith}
+use Rattle.std.proofs.Common.{◌≡◌, ◌==◌, ◌-◌, eqb, max, min, nat_lt, bit_or, bit_and, ℕ, zero, suc, ◌<◌, Bool, true, false, List, [], ◌∷◌, length, refl, sym, ap, subst, ◌∙◌, inl, inr, Option, Some, None, Ok, Err, Result, arith}
 use Rattle.std.specs.Prelude.{◌⊎◌, if◌then◌else◌, is_some, not}
 use Rattle.std.specs.Int.{bit_at}
 use Rattle.std.proofs.lemmas.Bool.{eqb-true}
@@ -33,17 +33,13 @@ use Rattle.hba_fbs.specs.Views.{DeviceView}
 use Rattle.disk_model.specs.Anew.{IsClear}
 use Rattle.disk_model.specs.Ends.{IsRight}
 use Rattle.disk_model.specs.Laws.{ActivatesRight, AnswersFirst, ShowsFirst}
-use Rattle.disk_model.specs.Ledger.{Accepts, Finishes, Ledger, Refuses, Reply, ShowsPage, Signs}
+use Rattle.disk_model.specs.Ledger.{Ledger, Refuses, Reply, ShowsPage}
 use Rattle.disk_ends.specs.Files.{EndsFine, IsFineBlock, IsFineFile, IsNoRefusal, IsOfDisk, IsUnrefused}
 use Rattle.disk_ends.specs.Line.{EachReply}
 use Rattle.disk_ends.proofs.LooseLemmas.{no_setup}
+use Rattle.disk_ends.proofs.HeardLemmas.{error_is}
 
 -- ## Status.ERR
-
-error_none : (status : ℕ) → (status % 2 == 1) ≡ false → is_error status ≡ false
-error_none status is =
-    let same : status / 1 ≡ status = omega arith in
-    ap (λ (x : ℕ). x % 2 == 1) same ∙ is
 
 pub bit_none : (x : ℕ) → x < 2 → eqb x 1 ≡ false → x ≡ 0
 bit_none zero below is = refl
@@ -185,7 +181,7 @@ module _ (v : DeviceView) where
       signing_fine f (hear.heard_register v.slots v.state (field D2h Status f) (field D2h table.Error f))
       (register_heard (field D2h Status f) (field D2h table.Error f) (answer_status k.awaited f none right.replies) fine.ends)
   fis_heard k sound (view.SetBits f) none right mine fine =
-      bits_heard (field Bits Status f) (field Bits table.Error f) (field Bits SActive f) (error_none (field Bits Status f) right.fine) fine.ends
+      bits_heard (field Bits Status f) (field Bits table.Error f) (field Bits SActive f) (error_is (field Bits Status f) ∙ right.fine) fine.ends
   fis_heard k sound (view.DmaActivate f) none right mine fine = activated_by v.slots.context refl fine
   fis_heard k sound (view.DmaSetup f) none right mine fine = setup_by _ _ fine
   fis_heard k sound (view.PioSetup f) none right mine fine =
@@ -212,7 +208,7 @@ module _ (v : DeviceView) where
       inl (signing_fine f (hear.heard_register v.slots v.state (field D2h Status f) (field D2h table.Error f))
       (register_heard (field D2h Status f) (field D2h table.Error f) (answer_status k.awaited f none right.replies) (inl unset)))
   first_fis k sound (view.SetBits f) none clear right mine unset =
-      inl (bits_heard (field Bits Status f) (field Bits table.Error f) (field Bits SActive f) (error_none (field Bits Status f) right.fine) (inl unset))
+      inl (bits_heard (field Bits Status f) (field Bits table.Error f) (field Bits SActive f) (error_is (field Bits Status f) ∙ right.fine) (inl unset))
   first_fis k sound (view.DmaActivate f) none clear right mine unset = absurd (subst ActivatesRight clear.moving right.moves)
   first_fis k sound (view.DmaSetup f) none clear right mine unset = absurd (no_setup k f clear.moving clear.outstanding right.moves)
   first_fis k sound (view.PioSetup f) none clear right mine unset =

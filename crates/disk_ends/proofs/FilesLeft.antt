@@ -1,8 +1,7 @@
 -- What a host port gives a device, and issues for it, leaves its task file without an error.
-use Rattle.std.proofs.Common.{◌≡◌, ◌==◌, eqb, max, ℕ, ◌<◌, Bool, true, false, List, refl, sym, ap, subst, ◌∙◌, inl, inr, Option, Some, None, arith}
+use Rattle.std.proofs.Common.{◌≡◌, ◌==◌, eqb, max, ℕ, ◌<◌, Bool, true, false, refl, sym, ap, subst, ◌∙◌, inl, inr, Option, Some, None, arith}
 use Rattle.std.specs.Prelude.{◌⊎◌, ◌||◌, if◌then◌else◌, bit_or}
 use Rattle.std.specs.Int.{bit_at}
-use Rattle.std.proofs.lemmas.Bool.{cases_eq}
 use Rattle.std.proofs.lemmas.Nat.Bits.{bit_at-lt, bit_at_or}
 use Rattle.fis_view.specs.Frames.{Stamped}
 use Rattle.slots.specs.Commands.{after_sent, is_slot, with_sent}
@@ -13,13 +12,14 @@ use Rattle.hba_commands.specs.declared.command.Command.{Command}
 use Rattle.hba_fbs.specs.declared.register.Register.TheVariants.{Ci}
 use Rattle.hba_fbs.specs.declared.state.DeviceState.{DeviceState}
 use Rattle.hba_fbs.specs.Issuing.{aimed, view_issued}
-use Rattle.hba_fbs.specs.Sending.{Data, Gives, Nothing, Order, Outgoing, Sends, Unreadable, outgoing, resets, state_sent, view_fed, view_sent}
+use Rattle.hba_fbs.specs.Sending.{Data, Gives, Nothing, Order, Outgoing, Unreadable, outgoing, resets, state_sent, view_fed, view_sent}
 use Rattle.hba_fbs.specs.Status.{is_error}
 use Rattle.hba_fbs.specs.Views.{DeviceView, Port, view_of}
 use Rattle.hba_fbs.specs.Writing.{view_after}
 use Rattle.hba_laws.specs.Hosts.{Does, Host, Wrote}
 use Rattle.disk_ends.specs.Files.{FilesAreLeft, IsFineBlock, IsFineFile}
 use Rattle.disk_ends.proofs.FileLemmas.{bit_none}
+use Rattle.disk_ends.proofs.ElsewhereLemmas.{view_sends}
 
 -- BSY is set
 busy_none : (status : ℕ) → is_error status ≡ false → is_error (bit_or status 128) ≡ false
@@ -68,15 +68,6 @@ module _ (v : DeviceView) (fine : IsFineFile v) where
   fed_fine : IsFineFile (view_fed v)
   fed_fine = record { status = fine.status; ends = ends_by (after_payload v.slots) v.state refl (fed_unset v.slots.context refl) }
 
-sent_file : (n dev : ℕ) (host new : Host) (bytes : List ℕ) (view : DeviceView) (frame : Stamped) → Sends host.port dev bytes view frame new.port
-    → (IsFineFile (view_of dev host.port) → IsFineFile view) → IsFineFile (view_of n host.port) → IsFineFile (view_of n new.port)
-sent_file n dev host new bytes view frame sends step fine = elim (cases_eq n dev) [
-  | inl is ↦
-      subst (λ (m : ℕ). IsFineFile (view_of m new.port)) (sym is)
-      (subst IsFineFile (sym sends.own) (step (subst (λ (m : ℕ). IsFineFile (view_of m host.port)) is fine)))
-  | inr other ↦ subst IsFineFile (sym (sends.others n other)) fine
-]
-
 gives_file : (n : ℕ) (host new : Host) (out : Outgoing) (frame : Option Stamped) → Gives out host.port host.memory frame new.port
     → IsFineFile (view_of n host.port) → IsFineFile (view_of n new.port)
 gives_file n host new Nothing frame gives fine = subst (λ (p : Port). IsFineFile (view_of n p)) (sym gives.1) fine
@@ -84,10 +75,10 @@ gives_file n host new (Unreadable dev) frame gives fine =
     subst (λ (p : Port). IsFineFile (view_of n p)) (sym gives.1) (record { status = fine.status; ends = fine.ends })
 gives_file n host new (Data dev offset len command) None gives fine = absurd gives
 gives_file n host new (Data dev offset len command) (Some f) gives fine =
-    sent_file n dev host new _ (view_fed (view_of dev host.port)) f gives (λ was. fed_fine (view_of dev host.port) was) fine
+    view_sends IsFineFile n dev host new _ (view_fed (view_of dev host.port)) f gives (λ was. fed_fine (view_of dev host.port) was) fine
 gives_file n host new (Order dev slot command) None gives fine = absurd gives
 gives_file n host new (Order dev slot command) (Some f) gives fine =
-    sent_file n dev host new command.cfis (view_sent (view_of dev host.port) slot command) f gives
+    view_sends IsFineFile n dev host new command.cfis (view_sent (view_of dev host.port) slot command) f gives
     (λ was. sent_fine (view_of dev host.port) was slot command) fine
 
 issued_by : (v issued : DeviceView) (b : Bool) → issued.state ≡ v.state → issued.slots.context ≡ v.slots.context → IsFineFile v

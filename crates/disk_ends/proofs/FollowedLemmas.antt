@@ -41,196 +41,138 @@ follows_linked base disk host down stale up linked = record {
   past = Now down;
 }
 
-module _ (base disk host : List Happening) (stale up : List (List ℕ)) (bytes : List ℕ) where
-  gives_by : (followed later : List Happening) (down before beyond below : List (List ℕ)) → disk ≡ followed ++ later → up ≡ before ++ beyond
-      → IsLinkedOn base followed host below stale before → IsPast later beyond down below
-      → IsFollowed base disk (host ++ Received bytes ∷ []) (down ++ bytes ∷ []) stale up
-  gives_by followed later down before beyond below disk_is up_is linked (Now d) = record {
-    followed = followed;
-    later = [];
-    before = before;
-    beyond = [];
-    below = d ++ bytes ∷ [];
-    disk_is = disk_is;
-    up_is = up_is;
-    linked = link.gives followed host d stale before bytes linked;
-    past = Now (d ++ bytes ∷ []);
-  }
-  gives_by followed later down before beyond below disk_is up_is linked (Failed error more rest d b is) = record {
-    followed = followed;
-    later = Sent error ∷ more;
-    before = before;
-    beyond = error ∷ rest;
-    below = b ++ bytes ∷ [];
-    disk_is = disk_is;
-    up_is = up_is;
-    linked = link.gives followed host b stale before bytes linked;
-    past = Failed error more rest (d ++ bytes ∷ []) (b ++ bytes ∷ []) is;
-  }
-
-  -- one happening more at the disk's end
-  disk_more : (followed later : List Happening) (e : Happening) → disk ≡ followed ++ later → disk ++ e ∷ [] ≡ followed ++ (later ++ e ∷ [])
-  disk_more followed later e is = ap (λ (xs : List Happening). xs ++ e ∷ []) is ∙ append_assoc followed later (e ∷ [])
-
-  disk_now : (followed : List Happening) (e : Happening) → disk ≡ followed ++ [] → disk ++ e ∷ [] ≡ (followed ++ e ∷ []) ++ []
-  disk_now followed e is = ap (λ (xs : List Happening). xs ++ e ∷ []) (is ∙ append-nil followed) ∙ sym (append-nil (followed ++ e ∷ []))
-
-  comes_by : (front back : List (List ℕ)) (followed later : List Happening) (down before beyond below : List (List ℕ)) → disk ≡ followed ++ later
-      → up ≡ before ++ beyond → IsLinkedOn base followed host below stale before → down ≡ front ++ bytes ∷ back → IsPast later beyond down below
-      → IsFollowed base (disk ++ Received bytes ∷ []) host (front ++ back) stale up
-  comes_by front back followed later down before beyond below disk_is up_is linked is (Now d) = record {
-    followed = followed ++ Received bytes ∷ [];
-    later = [];
-    before = before;
-    beyond = [];
-    below = front ++ back;
-    disk_is = disk_now followed (Received bytes) disk_is;
-    up_is = up_is;
-    linked =
-        link.comes followed host front back stale before bytes
-        (subst (λ (xs : List (List ℕ)). IsLinkedOn base followed host xs stale before) is linked);
-    past = Now (front ++ back);
-  }
-  comes_by front back followed later down before beyond below disk_is up_is linked is (Failed error more rest d b fails) = record {
-    followed = followed;
-    later = Sent error ∷ (more ++ Received bytes ∷ []);
-    before = before;
-    beyond = error ∷ rest;
-    below = b;
-    disk_is = disk_more followed (Sent error ∷ more) (Received bytes) disk_is;
-    up_is = up_is;
-    linked = linked;
-    past = Failed error (more ++ Received bytes ∷ []) rest (front ++ back) b fails;
-  }
-
-  up_more : (before beyond : List (List ℕ)) → up ≡ before ++ beyond → up ++ bytes ∷ [] ≡ before ++ (beyond ++ bytes ∷ [])
-  up_more before beyond is = ap (λ (xs : List (List ℕ)). xs ++ bytes ∷ []) is ∙ append_assoc before beyond (bytes ∷ [])
-
-  up_now : (before : List (List ℕ)) → up ≡ before ++ [] → up ++ bytes ∷ [] ≡ (before ++ bytes ∷ []) ++ []
-  up_now before is = ap (λ (xs : List (List ℕ)). xs ++ bytes ∷ []) (is ∙ append-nil before) ∙ sym (append-nil (before ++ bytes ∷ []))
-
-  sends_by : (followed later : List Happening) (down before beyond below : List (List ℕ)) (b : Bool) → reports (seen bytes) ≡ b → disk ≡ followed ++ later
-      → up ≡ before ++ beyond → IsLinkedOn base followed host below stale before → IsPast later beyond down below
-      → IsFollowed base (disk ++ Sent bytes ∷ []) host down stale (up ++ bytes ∷ [])
-  sends_by followed later down before beyond below false fine disk_is up_is linked (Now d) = record {
-    followed = followed ++ Sent bytes ∷ [];
-    later = [];
-    before = before ++ bytes ∷ [];
-    beyond = [];
-    below = d;
-    disk_is = disk_now followed (Sent bytes) disk_is;
-    up_is = up_now before up_is;
-    linked = link.sends followed host d stale before bytes fine linked;
-    past = Now d;
-  }
-  sends_by followed later down before beyond below true fails disk_is up_is linked (Now d) = record {
-    followed = followed;
-    later = Sent bytes ∷ [];
-    before = before;
-    beyond = bytes ∷ [];
-    below = d;
-    disk_is = disk_more followed [] (Sent bytes) disk_is;
-    up_is = up_more before [] up_is;
-    linked = linked;
-    past = Failed bytes [] [] d d fails;
-  }
-  sends_by followed later down before beyond below b is disk_is up_is linked (Failed error more rest d under fails) = record {
-    followed = followed;
-    later = Sent error ∷ (more ++ Sent bytes ∷ []);
-    before = before;
-    beyond = error ∷ (rest ++ bytes ∷ []);
-    below = under;
-    disk_is = disk_more followed (Sent error ∷ more) (Sent bytes) disk_is;
-    up_is = up_more before (error ∷ rest) up_is;
-    linked = linked;
-    past = Failed error (more ++ Sent bytes ∷ []) (rest ++ bytes ∷ []) d under fails;
-  }
-
-drops_on : (base disk host : List Happening) (down stale up : List (List ℕ)) (bytes : List ℕ) → IsFollowed base disk host down (bytes ∷ stale) up
-    → IsFollowed base disk host down stale up
-drops_on base disk host down stale up bytes f = record {
-  followed = f.followed;
-  later = f.later;
-  before = f.before;
-  beyond = f.beyond;
-  below = f.below;
-  disk_is = f.disk_is;
-  up_is = f.up_is;
-  linked = link.drops f.followed host f.below stale f.before bytes f.linked;
-  past = f.past;
+-- an error comes up behind what was sent before it
+pub follows_failed : (base disk host : List Happening) (down stale up : List (List ℕ)) (followed more : List Happening) (error : List ℕ)
+    (before rest below : List (List ℕ)) → disk ≡ followed ++ Sent error ∷ more → up ≡ before ++ error ∷ rest → reports (seen error) ≡ true
+    → IsLinkedOn base followed host below stale before → IsFollowed base disk host down stale up
+follows_failed base disk host down stale up followed more error before rest below disk_is up_is fails linked = record {
+  followed = followed;
+  later = Sent error ∷ more;
+  before = before;
+  beyond = error ∷ rest;
+  below = below;
+  disk_is = disk_is;
+  up_is = up_is;
+  linked = linked;
+  past = Failed error more rest down below fails;
 }
+
+-- there is no other way
+data IsFollowedBy (base disk host : List Happening) (down stale up : List (List ℕ)) : Type 0 where
+  Linked : IsLinkedOn base disk host down stale up → IsFollowedBy base disk host down stale up
+  Erred : (followed more : List Happening) (error : List ℕ) (before rest below : List (List ℕ)) → disk ≡ followed ++ Sent error ∷ more
+      → up ≡ before ++ error ∷ rest → reports (seen error) ≡ true → IsLinkedOn base followed host below stale before
+      → IsFollowedBy base disk host down stale up
+
+module _ (base disk host : List Happening) (stale : List (List ℕ)) where
+  by_past : (down up : List (List ℕ)) (followed later : List Happening) (before beyond below : List (List ℕ)) → disk ≡ followed ++ later
+      → up ≡ before ++ beyond → IsLinkedOn base followed host below stale before → IsPast later beyond down below
+      → IsFollowedBy base disk host down stale up
+  by_past down up followed later before beyond below disk_is up_is linked (Now d) =
+      Linked (subst (λ (xs : List (List ℕ)). IsLinkedOn base disk host d stale xs) (sym (up_is ∙ append-nil before))
+      (subst (λ (h : List Happening). IsLinkedOn base h host d stale before) (sym (disk_is ∙ append-nil followed)) linked))
+  by_past down up followed later before beyond below disk_is up_is linked (Failed error more rest d b fails) =
+      Erred followed more error before rest b disk_is up_is fails linked
+
+  by : (down up : List (List ℕ)) → IsFollowed base disk host down stale up → IsFollowedBy base disk host down stale up
+  by down up f = by_past down up f.followed f.later f.before f.beyond f.below f.disk_is f.up_is f.linked f.past
+
+pub one_more : {X : Type 0} (front whole back : List X) (x : X) → whole ≡ front ++ back → whole ++ x ∷ [] ≡ front ++ (back ++ x ∷ [])
+one_more front whole back x is = ap (λ xs. xs ++ x ∷ []) is ∙ append_assoc front back (x ∷ [])
+
+module _ (base disk host : List Happening) (stale up : List (List ℕ)) (bytes : List ℕ) where
+  gives_by : (down : List (List ℕ)) → IsFollowedBy base disk host down stale up
+      → IsFollowed base disk (host ++ Received bytes ∷ []) (down ++ bytes ∷ []) stale up
+  gives_by down (Linked linked) = follows_linked base disk _ _ stale up (link.gives disk host down stale up bytes linked)
+  gives_by down (Erred followed more error before rest below disk_is up_is fails linked) =
+      follows_failed base disk _ _ stale up followed more error before rest (below ++ bytes ∷ []) disk_is up_is fails
+      (link.gives followed host below stale before bytes linked)
+
+  comes_by : (front back : List (List ℕ)) → IsFollowedBy base disk host (front ++ bytes ∷ back) stale up
+      → IsFollowed base (disk ++ Received bytes ∷ []) host (front ++ back) stale up
+  comes_by front back (Linked linked) = follows_linked base _ host _ stale up (link.comes disk host front back stale up bytes linked)
+  comes_by front back (Erred followed more error before rest below disk_is up_is fails linked) =
+      follows_failed base _ host _ stale up followed (more ++ Received bytes ∷ []) error before rest below
+      (one_more followed disk (Sent error ∷ more) (Received bytes) disk_is) up_is fails linked
+
+  sends_by : (down : List (List ℕ)) (b : Bool) → reports (seen bytes) ≡ b → IsFollowedBy base disk host down stale up
+      → IsFollowed base (disk ++ Sent bytes ∷ []) host down stale (up ++ bytes ∷ [])
+  sends_by down false fine (Linked linked) = follows_linked base _ host down stale _ (link.sends disk host down stale up bytes fine linked)
+  sends_by down true fails (Linked linked) = follows_failed base _ host down stale _ disk [] bytes up [] down refl refl fails linked
+  sends_by down b is (Erred followed more error before rest below disk_is up_is fails linked) =
+      follows_failed base _ host down stale _ followed (more ++ Sent bytes ∷ []) error before (rest ++ bytes ∷ []) below
+      (one_more followed disk (Sent error ∷ more) (Sent bytes) disk_is) (one_more before up (error ∷ rest) bytes up_is) fails linked
+
+  drops_by : (down : List (List ℕ)) → IsFollowedBy base disk host down (bytes ∷ stale) up → IsFollowed base disk host down stale up
+  drops_by down (Linked linked) = follows_linked base disk host down stale up (link.drops disk host down stale up bytes linked)
+  drops_by down (Erred followed more error before rest below disk_is up_is fails linked) =
+      follows_failed base disk host down stale up followed more error before rest below disk_is up_is fails
+      (link.drops followed host below stale before bytes linked)
 
 -- ## What comes next
 
--- it is an error, or it was sent up to the moment that is followed
-record IsBefore (base disk host : List Happening) (down up : List (List ℕ)) (bytes : List ℕ) : Type 0 where
-  followed : List Happening
-  later : List Happening
-  before : List (List ℕ)
-  beyond : List (List ℕ)
-  below : List (List ℕ)
-  disk_is : disk ≡ followed ++ later
-  up_is : up ≡ before ++ beyond
-  linked : IsLinkedOn base followed host below [] (bytes ∷ before)
-  past : IsPast later beyond down below
+-- it was sent up to a moment up to which both are linked; this holds once it is taken
+pub record IsBefore (base disk host : List Happening) (bytes : List ℕ) (Taken : Type 0) : Type 0 where
+  pub followed : List Happening
+  pub later : List Happening
+  pub before : List (List ℕ)
+  pub below : List (List ℕ)
+  pub disk_is : disk ≡ followed ++ later
+  pub linked : IsLinkedOn base followed host below [] (bytes ∷ before)
+  pub taken : Taken
 
 pub same_first : (x y : List ℕ) (xs ys : List (List ℕ)) → x ∷ xs ≡ y ∷ ys → (y ≡ x) × (xs ≡ ys)
 same_first x y xs ys e = (let a : y ≡ x = cc e in a, let b : xs ≡ ys = cc e in b)
 
-next_by : (base disk host : List Happening) (down up : List (List ℕ)) (bytes : List ℕ) (followed later : List Happening)
-    (before beyond below : List (List ℕ)) → disk ≡ followed ++ later → bytes ∷ up ≡ before ++ beyond → IsLinkedOn base followed host below [] before
-    → IsPast later beyond down below → (reports (seen bytes) ≡ true) ⊎ IsBefore base disk host down up bytes
-next_by base disk host down up bytes followed later (b ∷ before) beyond below disk_is up_is linked past =
-    let first = same_first bytes b up (before ++ beyond) up_is in
-    inr (record {
-      followed = followed;
-      later = later;
-      before = before;
-      beyond = beyond;
-      below = below;
-      disk_is = disk_is;
-      up_is = first.1;
-      linked = subst (λ (x : List ℕ). IsLinkedOn base followed host below [] (x ∷ before)) first.0 linked;
-      past = past;
-    })
-next_by base disk host down up bytes followed later [] beyond below disk_is up_is linked (Now d) = cc up_is
-next_by base disk host down up bytes followed later [] beyond below disk_is up_is linked (Failed error more rest d b fails) =
-    inl (subst (λ (x : List ℕ). reports (seen x) ≡ true) (same_first bytes error up rest up_is).0 fails)
+module _ (base disk host : List Happening) (down up : List (List ℕ)) (bytes : List ℕ) where
+  abbrev IsTaken : Type 0
+  IsTaken = IsFollowed base disk (host ++ Sent bytes ∷ []) down [] up
 
-next : (base disk host : List Happening) (down up : List (List ℕ)) (bytes : List ℕ) → IsFollowed base disk host down [] (bytes ∷ up)
-    → (reports (seen bytes) ≡ true) ⊎ IsBefore base disk host down up bytes
-next base disk host down up bytes f = next_by base disk host down up bytes f.followed f.later f.before f.beyond f.below f.disk_is f.up_is f.linked f.past
-
-pub takes_on : (base disk host : List Happening) (down up : List (List ℕ)) (bytes : List ℕ) → IsFollowed base disk host down [] (bytes ∷ up)
-    → (reports (seen bytes) ≡ true) ⊎ IsFollowed base disk (host ++ Sent bytes ∷ []) down [] up
-takes_on base disk host down up bytes f = elim (next base disk host down up bytes f) [
-  | inl fails ↦ inl fails
-  | inr b ↦ inr (record {
-    followed = b.followed;
-    later = b.later;
-    before = b.before;
-    beyond = b.beyond;
-    below = b.below;
-    disk_is = b.disk_is;
-    up_is = b.up_is;
-    linked = link.takes b.followed host b.below b.before bytes b.linked;
-    past = b.past;
+  next_by : IsFollowedBy base disk host down [] (bytes ∷ up) → (reports (seen bytes) ≡ true) ⊎ IsBefore base disk host bytes IsTaken
+  next_by (Linked linked) = inr (record {
+    followed = disk;
+    later = [];
+    before = up;
+    below = down;
+    disk_is = sym (append-nil disk);
+    linked = linked;
+    taken = follows_linked base disk _ down [] up (link.takes disk host down up bytes linked);
   })
-]
+  next_by (Erred followed more error [] rest below disk_is up_is fails linked) =
+      inl (subst (λ (x : List ℕ). reports (seen x) ≡ true) (same_first bytes error up rest up_is).0 fails)
+  next_by (Erred followed more error (b ∷ before) rest below disk_is up_is fails linked) =
+      let first = same_first bytes b up (before ++ error ∷ rest) up_is in
+      let mine : IsLinkedOn base followed host below [] (bytes ∷ before) =
+      subst (λ (x : List ℕ). IsLinkedOn base followed host below [] (x ∷ before)) first.0 linked in
+      inr (record {
+        followed = followed;
+        later = Sent error ∷ more;
+        before = before;
+        below = below;
+        disk_is = disk_is;
+        linked = mine;
+        taken =
+            follows_failed base disk _ down [] up followed more error before rest below disk_is first.1 fails
+            (link.takes followed host below before bytes mine);
+      })
+
+  next : IsFollowed base disk host down [] (bytes ∷ up) → (reports (seen bytes) ≡ true) ⊎ IsBefore base disk host bytes IsTaken
+  next f = next_by (by base disk host [] down (bytes ∷ up) f)
+
+  pub takes_on : IsFollowed base disk host down [] (bytes ∷ up)
+      → (reports (seen bytes) ≡ true) ⊎ IsFollowed base disk (host ++ Sent bytes ∷ []) down [] up
+  takes_on f = elim (next f) [ inl fails ↦ inl fails | inr b ↦ inr b.taken ]
 
 pub follows_on : FollowsOn
 follows_on = record {
   linked = follows_linked;
   begins = λ base stale clear. follows_linked base base base [] stale [] (link.begins stale clear);
-  gives = λ base disk host down stale up bytes f.
-      gives_by base disk host stale up bytes f.followed f.later down f.before f.beyond f.below f.disk_is f.up_is f.linked f.past;
+  gives = λ base disk host down stale up bytes f. gives_by base disk host stale up bytes down (by base disk host stale down up f);
   comes = λ base disk host front back stale up bytes f.
-      comes_by base disk host stale up bytes front back f.followed f.later (front ++ bytes ∷ back) f.before f.beyond f.below f.disk_is f.up_is
-      f.linked refl f.past;
+      comes_by base disk host stale up bytes front back (by base disk host stale (front ++ bytes ∷ back) up f);
   sends = λ base disk host down stale up bytes f.
-      sends_by base disk host stale up bytes f.followed f.later down f.before f.beyond f.below (reports (seen bytes)) refl f.disk_is f.up_is f.linked
-      f.past;
-  drops = drops_on;
+      sends_by base disk host stale up bytes down (reports (seen bytes)) refl (by base disk host stale down up f);
+  drops = λ base disk host down stale up bytes f. drops_by base disk host stale up bytes down (by base disk host (bytes ∷ stale) down up f);
   takes = takes_on;
 }
 

@@ -1,6 +1,6 @@
 -- What a FIS of a disk is to its device's history at a host port that reports nothing wrong.
-use Rattle.std.proofs.Common.{◌≡◌, ◌==◌, ◌&&◌, eqb, ℕ, ◌-◌, ◌<◌, Bool, true, false, List, [], ◌∷◌, drop, length, refl, sym, ap, subst, ◌∙◌, Option, Some, None, Ok, Err, Result, arith}
-use Rattle.std.specs.Prelude.{not, nat_lt, if◌then◌else◌, find}
+use Rattle.std.proofs.Common.{◌≡◌, ◌==◌, ◌%◌, ◌/◌, ◌&&◌, eqb, ℕ, ◌-◌, ◌<◌, Bool, true, false, List, [], ◌∷◌, drop, length, refl, sym, ap, subst, ◌∙◌, Option, Some, None, Ok, Err, Result, arith}
+use Rattle.std.specs.Prelude.{not, nat_lt, if◌then◌else◌}
 use Rattle.std.specs.Option.{option_map}
 use Rattle.std.proofs.lemmas.Bool.{and_from, and_parts, eq-eqb, eqb-true, true≢false}
 use Rattle.std.proofs.lemmas.Nat.Bits.{bit_at-zero}
@@ -39,7 +39,7 @@ use Rattle.hba_fbs.specs.Tables.{is_sound}
 use Rattle.hba_fbs.specs.Views.{DeviceView, view_of}
 use Rattle.disk_model.specs.Ends.{IsFree, IsRight}
 use Rattle.disk_model.specs.Laws.{AnswersFirst}
-use Rattle.disk_model.specs.Ledger.{Accepts, Finishes, Ledger, Refuses, Reply, ShowsPage, Signs}
+use Rattle.disk_model.specs.Ledger.{Ledger, Reply, ShowsPage}
 use Rattle.hba_laws.specs.Agreement.{IsTold, IssueAgrees, work_of_issue, work_of_transfer}
 use Rattle.hba_laws.specs.Client.{own}
 use Rattle.hba_laws.specs.Delivering.{by_device, event_heard}
@@ -51,7 +51,7 @@ use Rattle.hba_laws.proofs.StepLemmas.{whole_is}
 use Rattle.hba_laws.proofs.ViewLemmas.{IsOwn, is_own, own_below}
 use Rattle.disk_ends.specs.Together.{IsHeard, NoneQueued, Same, told}
 use Rattle.disk_ends.specs.Heard.{HeardAsTold, IsTakenWell}
-use Rattle.disk_ends.proofs.TogetherLemmas.{set_up_beside}
+use Rattle.disk_ends.proofs.TogetherLemmas.{set_up_now}
 use Rattle.disk_ends.specs.Same.{SlotCommand}
 
 -- ## Events as lists
@@ -63,6 +63,12 @@ list_of (Some e) = e ∷ []
 pub own_list : (dev : ℕ) (o : Option Event) → own dev (by_device dev o) ≡ list_of o
 own_list dev None = refl
 own_list dev (Some e) = ap (λ (b : Bool). if b then e ∷ [] else []) (eq-eqb dev dev refl)
+
+-- Status.ERR
+pub error_is : (status : ℕ) → is_error status ≡ (status % 2 == 1)
+error_is status =
+    let same : status / 1 ≡ status = omega arith in
+    ap (λ (x : ℕ). x % 2 == 1) same
 
 -- what a FIS is heard as, where nothing is wrong with it
 abbrev ToldAs : Heard → List ℕ → History → Type 0
@@ -190,9 +196,8 @@ pub there_by : (own : DeviceSlots) (s : ℕ) (t : Transfer) (o : Option Issue) �
 there_by own s t None is same = absurd (none_issue t same)
 there_by own s t (Some i) is same = record { issue = i; there = is; work = let e : Some t.work ≡ Some i.work = same in cc e }
 
-module _ (dev : ℕ) (v : DeviceView) (sound : Bool) (frame : List ℕ) (commands : ℕ
-    → SlotCommand) (past : History) (k : Ledger) (is : IsOwn dev v.slots) (history : IsTold v past) (same : Same commands past k)
-    (steady : v.state.resetting ≡ false) where
+module _ (dev : ℕ) (v : DeviceView) (commands : ℕ → SlotCommand) (past : History) (k : Ledger) (is : IsOwn dev v.slots) (history : IsTold v past)
+    (same : Same commands past k) where
   issue_there : (s : ℕ) (t : Transfer) → issued s past ≡ Some t → IsThere v.slots s t
   issue_there s t here = there_by v.slots s t (own_issue v.slots s) refl (sym (ap (option_map work_of_transfer) here) ∙ history.issued s)
 
@@ -200,6 +205,17 @@ module _ (dev : ℕ) (v : DeviceView) (sound : Bool) (frame : List ℕ) (command
   below s None none busy = absurd (busy (same.free s (subst (λ (x : Option Transfer). NoneQueued x) (sym none) tt)))
   below s (Some t) here busy = let at : IsThere v.slots s t = issue_there s t here in own_below dev s v.slots at.issue is at.there
 
+  pub setup_tag : (f : List ℕ) → IsRight k (Ok (view.DmaSetup f)) → tag_of f ≡ field Setup BufferId f
+  setup_tag f right =
+      let busy : IsFree k (field Setup BufferId f) → ⊥ =
+      λ free. true≢false (sym (eq-eqb (field Setup BufferId f) (field Setup BufferId f) refl)
+      ∙ (set_up_now k f right).beside (field Setup BufferId f) free) in
+      let lt : field Setup BufferId f < 32 = below (field Setup BufferId f) (issued (field Setup BufferId f) past) refl busy in
+      omega (arith, lt)
+
+module _ (dev : ℕ) (v : DeviceView) (sound : Bool) (frame : List ℕ) (commands : ℕ
+    → SlotCommand) (past : History) (k : Ledger) (is : IsOwn dev v.slots) (history : IsTold v past) (same : Same commands past k)
+    (steady : v.state.resetting ≡ false) where
   -- a queued command that is named is whole
   whole : (s : ℕ) (i : Issue) (mask : ℕ) (b : Bool) → own_issue v.slots s ≡ Some i → is_whole_issue i ≡ b → is_queued i.work.kind ≡ true
       → has_bit mask s ≡ true → (completed mask v.slots).short ≡ 0 → b ≡ true
@@ -216,7 +232,7 @@ module _ (dev : ℕ) (v : DeviceView) (sound : Bool) (frame : List ℕ) (command
   names_whole : (mask : ℕ) → (completed mask v.slots).short ≡ 0 → (s : ℕ) (t : Transfer) → issued s past ≡ Some t → is_queued t.work.kind ≡ true
       → has_bit mask s ≡ true → completes s (event.Named mask) past t.work ≡ true
   names_whole mask none s t here queued named =
-      let at : IsThere v.slots s t = issue_there s t here in
+      let at : IsThere v.slots s t = issue_there dev v commands past k is history same s t here in
       let kind : is_queued at.issue.work.kind ≡ true = ap (λ (w : Work). is_queued w.kind) (sym at.work) ∙ queued in
       let agrees : IssueAgrees s at.issue v.slots.context past = history.agrees.issues_agree s at.issue at.there in
       let all : is_whole_issue at.issue ≡ true = whole s at.issue mask (is_whole_issue at.issue) at.there refl kind named none in
@@ -241,12 +257,7 @@ module _ (dev : ℕ) (v : DeviceView) (sound : Bool) (frame : List ℕ) (command
   tells_setup : (f : List ℕ) → IsRight k (Ok (view.DmaSetup f)) → Tells (Ok (view.DmaSetup f)) (heard_fis v.slots v.state sound (view.DmaSetup f))
   unfolding heard_fis
   tells_setup f right fine =
-      let tag = field Setup BufferId f in
-      let busy : IsFree k (field Setup BufferId f) → ⊥ =
-      λ free. true≢false (sym (eq-eqb (field Setup BufferId f) (field Setup BufferId f) refl)
-      ∙ set_up_beside k k.moving (find (λ q. q.tag == field Setup BufferId f) k.outstanding) f (field Setup BufferId f) refl refl right free) in
-      let lt : field Setup BufferId f < 32 = below (field Setup BufferId f) (issued (field Setup BufferId f) past) refl busy in
-      let at : tag_of f ≡ field Setup BufferId f = omega (arith, lt) in
+      let at : tag_of f ≡ field Setup BufferId f = setup_tag dev v commands past k is history same f right in
       let to_host = field Setup table.D f == 1 in
       let c : Context = dma_context (tag_of f) (field Setup Offset f) (field Setup table.Count f) (field Setup table.D f == 1) (field Setup table.A f == 1) in
       let o : Option SetupError =
@@ -312,13 +323,12 @@ no_fault None device port = refl
 no_fault (Some (fault.Device c)) device port = cc device
 no_fault (Some (fault.Port c)) device port = cc port
 
-pub not_ignored : (host new : Host) (frame : List ℕ) (report : TakeReport) (b : Bool) → ignores (port_of frame) host.port frame ≡ b
-    → IsTakenWell host frame report new → b ≡ false
-not_ignored host new frame report false is well = refl
-not_ignored host new frame report true is well =
-    let takes : TakesFrame host frame report new = well.takes in
-    let reports = (takes.ignored is).reports in
-    absurd (true≢false (sym (ap (λ (r : TakeReport). r.ignored) reports) ∙ well.heard))
+pub heard_if : (host new : Host) (frame : List ℕ) (report : TakeReport) (b : Bool) → ignores (port_of frame) host.port frame ≡ b
+    → TakesFrame host frame report new → report.ignored ≡ false → b ≡ false
+heard_if host new frame report false is takes heard = refl
+heard_if host new frame report true is takes heard =
+    let said = (takes.ignored is).reports in
+    absurd (true≢false (sym (ap (λ (r : TakeReport). r.ignored) said) ∙ heard))
 
 pub heard_fine : (host new : Host) (frame : List ℕ) (report : TakeReport) → ignores (port_of frame) host.port frame ≡ false
     → IsTakenWell host frame report new
@@ -336,7 +346,7 @@ heard_as_told host new frame report commands past k sound below_it well history 
     let v : DeviceView = view_of (port_of frame) host.port in
     let h : Heard = heard_now host.port host.memory (port_of frame) (admitted (port_of frame) (seen frame)) in
     let heard_it : ignores (port_of frame) host.port frame ≡ false =
-    not_ignored host new frame report (ignores (port_of frame) host.port frame) refl well in
+    heard_if host new frame report (ignores (port_of frame) host.port frame) refl well.takes well.heard in
     let both =
     tells (port_of frame) v (is_sound host.memory host.port.commands v.slots) frame commands past k
     (is_own (port_of frame) host.port.slots sound.slots) history same well.steady (seen frame) refl right

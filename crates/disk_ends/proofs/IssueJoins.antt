@@ -5,25 +5,27 @@ use Rattle.std.specs.Option.{option_map}
 use Rattle.std.proofs.lemmas.Bool.{cases_Bool, cases_lt, eq-eqb, eqb-true, le-ltb, lt-ltb, true≢false}
 use Rattle.host_memory.specs.Memory.{Memory}
 use Rattle.hba_commands.specs.declared.command.Command as issued_command
-use Rattle.slots.specs.Slots.{Issue, new_issue, own_issue, owned_by}
+use Rattle.slots.specs.Slots.{DeviceSlots, Issue, new_issue, own_issue, owned_by}
 use Rattle.slots.specs.declared.table.Context.{Context}
 use Rattle.hba_fbs.specs.declared.register.Register.TheVariants.{Ci}
 use Rattle.hba_fbs.specs.Issuing.{aimed, asked, issue_with, issued_slots, view_issued}
 use Rattle.hba_fbs.specs.Views.{DeviceView, Port, view_of}
+use Rattle.hba_fbs.specs.declared.status.Block.{Block}
 use Rattle.hba_fbs.specs.Writing.{view_after}
 use Rattle.disk_model.specs.Ledger.{Ledger}
-use Rattle.hba_laws.specs.Agreement.{IsTold, work_of_issue, work_of_transfer}
+use Rattle.hba_laws.specs.Agreement.{Agrees, end_of, work_of_issue, work_of_transfer}
 use Rattle.hba_laws.specs.Client.{own}
 use Rattle.hba_laws.specs.Delivering.{issued_below, touched}
 use Rattle.hba_laws.specs.History.{History, Issued, Transfer, issued}
-use Rattle.hba_laws.specs.Hosts.{Wrote}
+use Rattle.hba_laws.specs.Hosts.{Host, Wrote}
 use Rattle.hba_laws.proofs.EventLemmas.{step}
 use Rattle.hba_laws.proofs.IssueLemmas.{asked_free, history_below, own_below_is, transfer_of, with_issued}
 use Rattle.hba_laws.proofs.ViewLemmas.{IsOwn, ext, is_own, issue_below, own_below, own_issued}
 use Rattle.slots.proofs.TableLemmas.{own_at}
+use Rattle.disk_ends.specs.Anew.{KeepsSlots}
 use Rattle.disk_ends.specs.Same.{InLife, SlotCommand}
 use Rattle.disk_ends.specs.Together.{Same, is_sent, with_command}
-use Rattle.disk_ends.specs.Joined.{AreCounted, IsAskedBy, JoinsIssues, SentAgrees, StaysJoined}
+use Rattle.disk_ends.specs.Joined.{AreCounted, IsAskedBy, IsJoined, JoinsIssues, SentAgrees, StaysJoined}
 use Rattle.disk_ends.proofs.HeardLemmas.{there_by}
 use Rattle.disk_ends.proofs.TogetherLemmas.{same_goes_on}
 
@@ -196,11 +198,24 @@ joins_issues n value host new commands next past k sound below chosen does tags 
       active = λ c now set. joined.active c (sym (ap (λ (w : DeviceView). w.slots.context) view_is) ∙ now) set;
     }
 
-pub stays_joined : StaysJoined
-stays_joined n host new commands past k same joined = record {
-  history = subst (λ (v : DeviceView). IsTold v past) (sym same) joined.history;
+-- what leaves the slots leaves all that is joined
+pub keeps_joined : (n : ℕ) (host new : Host) (commands : ℕ → SlotCommand) (past : History) (k : Ledger) → KeepsSlots n host new
+    → IsJoined n commands host past k → IsJoined n commands new past k
+keeps_joined n host new commands past k keeps joined = record {
+  history = record {
+    issued = λ s. joined.history.issued s ∙ ap (λ (own : DeviceSlots). option_map work_of_issue (own_issue own s)) (sym keeps.slots);
+    agrees =
+        subst (λ (own : DeviceSlots). Agrees (own_issue own) own.context (option_map end_of (view_of n new.port).state.block) past) (sym keeps.slots)
+        (subst (λ (block : Option Block). Agrees (own_issue (view_of n host.port).slots) (view_of n host.port).slots.context (option_map end_of block) past)
+        (sym keeps.block) joined.history.agrees);
+  };
   same = joined.same;
-  sent = subst (λ (v : DeviceView). SentAgrees v.slots past) (sym same) joined.sent;
+  sent = subst (λ (own : DeviceSlots). SentAgrees own past) (sym keeps.slots) joined.sent;
   short = joined.short;
-  active = subst (λ (v : DeviceView). (c : Context) → v.slots.context ≡ Some c → c.activated ≡ true → IsAskedBy c k) (sym same) joined.active;
+  active = subst (λ (own : DeviceSlots). (c : Context) → own.context ≡ Some c → c.activated ≡ true → IsAskedBy c k) (sym keeps.slots) joined.active;
 }
+
+pub stays_joined : StaysJoined
+stays_joined n host new commands past k same joined =
+    keeps_joined n host new commands past k
+    (record { slots = ap (λ (v : DeviceView). v.slots) same; block = ap (λ (v : DeviceView). v.state.block) same }) joined

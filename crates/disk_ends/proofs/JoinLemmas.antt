@@ -1,6 +1,6 @@
 -- The host port, a device's history and the ledger go on to agree at each FIS that the port hears or gives.
-use Rattle.std.proofs.Common.{◌≡◌, ◌==◌, eqb, ℕ, ◌+◌, ◌-◌, ◌*◌, ◌<◌, Bool, true, false, List, [], ◌∷◌, ◌++◌, drop, get_or, length, set, refl, sym, ap, subst, ◌∙◌, inl, inr, Option, Some, None, Ok, Err, Result, arith, get_or-set_same, get_or-set_other}
-use Rattle.std.specs.Prelude.{MatchOption, find, is_ok, is_some, not, nat_lt, replicate, if◌then◌else◌}
+use Rattle.std.proofs.Common.{◌≡◌, ◌==◌, eqb, ℕ, ◌+◌, ◌-◌, ◌<◌, Bool, true, false, List, ◌++◌, drop, get_or, length, set, refl, sym, ap, subst, ◌∙◌, inl, inr, Option, Some, None, Ok, Err, Result, arith, get_or-set_same, get_or-set_other}
+use Rattle.std.specs.Prelude.{MatchOption, is_ok, is_some, not, nat_lt, if◌then◌else◌}
 use Rattle.std.specs.Option.{option_map}
 use Rattle.std.proofs.lemmas.Bool.{cases_eq, cases_lt, eq-eqb, eqb-true, true≢false}
 use Rattle.std.proofs.lemmas.List.{get_or_past, length-set}
@@ -33,9 +33,8 @@ use Rattle.hba_fbs.specs.Tables.{is_sound}
 use Rattle.hba_fbs.specs.Taking.{admitted, heard, heard_now, ignores, port_of}
 use Rattle.hba_fbs.specs.Views.{DeviceView, view_of}
 use Rattle.disk_model.specs.Ends.{IsFree, IsRight, MovesOther}
-use Rattle.disk_model.specs.Laws.{ActivatesRight, AsksOnce, CarriesNext, CarriesRight, SetsUpNext, SetsUpRight, StartsOne, bytes_named}
-use Rattle.disk_model.specs.Ledger.{Ledger, Moving, activates, answered, is_auto, listens_up, sets_up, starts_moving, with_auto}
-use Rattle.disk_model.specs.declared.request.Command.{Command}
+use Rattle.disk_model.specs.Laws.{ActivatesRight, AsksOnce, CarriesNext, CarriesRight, SetsUpRight, bytes_named}
+use Rattle.disk_model.specs.Ledger.{Ledger, Moving, activates, answered, is_auto, listens_up, sets_up, with_auto}
 use Rattle.disk_model.proofs.CrossLemmas.{bits_up}
 use Rattle.disk_model.proofs.ShowsLemmas.{write_of_auto}
 use Rattle.hba_laws.specs.Agreement.{ContextAgrees, IsHistoryOf, IsTold, end_of, IssueAgrees, SetupAgrees, is_for, work_of_transfer}
@@ -45,15 +44,15 @@ use Rattle.hba_laws.specs.History.{Event, History, Transfer, carried, is_at, is_
 use Rattle.hba_laws.specs.Hosts.{TakesFrame, Took}
 use Rattle.hba_laws.proofs.AgreeLemmas.{unless_some}
 use Rattle.hba_laws.proofs.EventLemmas.{step}
-use Rattle.hba_laws.proofs.ViewLemmas.{IsOwn, is_own, own_below, own_freed}
+use Rattle.hba_laws.proofs.ViewLemmas.{IsOwn, is_own, own_freed}
 use Rattle.disk_ends.specs.Same.{InLife, IsMovingAt, SlotCommand}
 use Rattle.disk_ends.specs.Together.{NoneQueued, Same, is_sent, told}
 use Rattle.disk_ends.specs.Heard.{IsToldSo}
 use Rattle.disk_ends.specs.Joined.{IsAskedBy, JoinsFrames}
-use Rattle.disk_ends.proofs.HeardLemmas.{IsThere, heard_as_told, not_ignored, there_by}
+use Rattle.disk_ends.proofs.HeardLemmas.{IsThere, heard_as_told, heard_if, setup_tag, there_by}
 use Rattle.disk_ends.proofs.MoveLemmas.{own_life}
 use Rattle.disk_ends.proofs.ShortLemmas.{short_up}
-use Rattle.disk_ends.proofs.TogetherLemmas.{same_goes_on, set_up_beside}
+use Rattle.disk_ends.proofs.TogetherLemmas.{same_goes_on, set_up_now}
 
 -- ## What was sent stays so
 
@@ -244,8 +243,20 @@ moved_before own (happening.Carried wrote finishes) quiet c now set =
 
 -- ---- a FIS that is no DMA Activate, nor a DMA Setup with auto-activate, asks for none
 
-quiet_register : (own : DeviceSlots) (state : DeviceState) (status error : ℕ) (resetting e busy : Bool)
-    → NotActivated (if resetting then quietly (after_reset state status error) happening.Nothing
+-- the happening sets up, names and asks for no tag
+abbrev pub NamesNoTag : Happening → Type 0
+NamesNoTag (happening.SetUp c) = ⊥
+NamesNoTag happening.Activated = ⊥
+NamesNoTag (happening.Named mask) = ⊥
+NamesNoTag other = Unit {0}
+
+asks_none : (h : Happening) → NamesNoTag h → NotActivated h
+asks_none (happening.SetUp c) plain = absurd plain
+asks_none happening.Activated plain = absurd plain
+asks_none other plain = tt
+
+pub quiet_register : (own : DeviceSlots) (state : DeviceState) (status error : ℕ) (resetting e busy : Bool)
+    → NamesNoTag (if resetting then quietly (after_reset state status error) happening.Nothing
     else (if e then faulty (with_file state status error) cause.TaskFile
     else (if busy then quietly (with_file state status error) happening.Nothing else hear.answered (answer_of own)
     (with_file state status error)))).happening
@@ -260,29 +271,29 @@ quiet_bits : (own : DeviceSlots) (state : DeviceState) (status error mask : ℕ)
 quiet_bits own state status error mask true = tt
 quiet_bits own state status error mask false = tt
 
-quiet_pio : (state : DeviceState) (status error count : ℕ) (to_host : Bool) (block : Block) (e : Bool) (o : Option SetupError)
-    → NotActivated (if e then faulty (with_file state status error) cause.TaskFile else set_up o (with_file state status error) (Some block)
+pub quiet_pio : (state : DeviceState) (status error count : ℕ) (to_host : Bool) (block : Block) (e : Bool) (o : Option SetupError)
+    → NamesNoTag (if e then faulty (with_file state status error) cause.TaskFile else set_up o (with_file state status error) (Some block)
     (happening.PioSetUp count to_host)).happening
 quiet_pio state status error count to_host block true o = tt
 quiet_pio state status error count to_host block false None = tt
 quiet_pio state status error count to_host block false (Some e) = tt
 
 quiet_bytes : (own : DeviceSlots) (state : DeviceState) (wrote : Wrote) (block : Option Block) (last : Bool)
-    → NotActivated (heard_bytes own state wrote block last).happening
+    → NamesNoTag (heard_bytes own state wrote block last).happening
 quiet_bytes own state wrote None last = tt
 quiet_bytes own state wrote (Some block) true = tt
 quiet_bytes own state wrote (Some block) false = tt
 
 quiet_data_of : (after : DeviceSlots) (state : DeviceState) (wrote : Wrote) (to_host sound over last : Bool)
-    → NotActivated (if not to_host then faulty state cause.Stray else
+    → NamesNoTag (if not to_host then faulty state cause.Stray else
     (if not sound then bus_failed state else (if over then overflowed state else heard_bytes after state wrote state.block last))).happening
 quiet_data_of after state wrote false sound over last = tt
 quiet_data_of after state wrote true false over last = tt
 quiet_data_of after state wrote true true true last = tt
 quiet_data_of after state wrote true true false last = quiet_bytes after state wrote state.block last
 
-quiet_data : (own : DeviceSlots) (state : DeviceState) (sound : Bool) (count : ℕ) (o : Option Context)
-    → NotActivated (match_some o (faulty state cause.Stray) (heard_data_of own state sound count)).happening
+pub quiet_data : (own : DeviceSlots) (state : DeviceState) (sound : Bool) (count : ℕ) (o : Option Context)
+    → NamesNoTag (match_some o (faulty state cause.Stray) (heard_data_of own state sound count)).happening
 quiet_data own state sound count None = tt
 quiet_data own state sound count (Some c) =
     quiet_data_of (after_arrive own count) state (record { slot = c.slot; offset = c.next; len = count }) c.to_host sound (nat_lt c.left count)
@@ -414,6 +425,9 @@ module _ (dev : ℕ) (v : DeviceView) (sound : Bool) (frame : List ℕ) (command
   asks_quietly : (r : Result Fis FisFault) (h : Heard) → IsRight k r → NotActivated h.happening → Asks r h
   asks_quietly r h right quiet c now set = asked_up c k (active c (moved_before v.slots h.happening quiet c now set) set) r right
 
+  asks_plainly : (r : Result Fis FisFault) (h : Heard) → IsRight k r → NamesNoTag h.happening → Asks r h
+  asks_plainly r h right plain = asks_quietly r h right (asks_none h.happening plain)
+
   asks_activate : (f : List ℕ) (b : Bool) → may_activate v.slots.context ≡ b → IsRight k (Ok (view.DmaActivate f))
       → Asks (Ok (view.DmaActivate f)) (if b then quietly v.state happening.Activated else faulty v.state cause.Stray)
   asks_activate f false may right c now set = asks_quietly (Ok (view.DmaActivate f)) (faulty v.state cause.Stray) right tt c now set
@@ -430,66 +444,17 @@ module _ (dev : ℕ) (v : DeviceView) (sound : Bool) (frame : List ℕ) (command
           let it : activated a ≡ c = let e : Some (activated a) ≡ Some c = sym after ∙ now in cc e in
           subst (λ (x : Context). IsAskedBy x (activates k k.moving)) it (asks_now commands v past k current a history same is once is_o)
 
-  tag_below : (s : ℕ) (o : Option Transfer) → issued s past ≡ o → (IsFree k s → ⊥) → s < 32
-  tag_below s None none busy = absurd (busy (same.free s (subst (λ (x : Option Transfer). NoneQueued x) (sym none) tt)))
-  tag_below s (Some t) here busy =
-      let at : IsThere v.slots s t =
-      there_by v.slots s t (own_issue v.slots s) refl (sym (ap (option_map work_of_transfer) here) ∙ history.issued s) in
-      own_below dev s v.slots at.issue is at.there
-
-  setup_tag : (f : List ℕ) → IsRight k (Ok (view.DmaSetup f)) → tag_of f ≡ field Setup table.BufferId f
-  setup_tag f right =
-      let busy : IsFree k (field Setup table.BufferId f) → ⊥ =
-      λ free. true≢false (sym (eq-eqb (field Setup table.BufferId f) (field Setup table.BufferId f) refl)
-      ∙ set_up_beside k k.moving (find (λ q. q.tag == field Setup table.BufferId f) k.outstanding) f (field Setup table.BufferId f) refl refl right free) in
-      let lt : field Setup table.BufferId f < 32 = tag_below (field Setup table.BufferId f) (issued (field Setup table.BufferId f) past) refl busy in
-      omega (arith, lt)
-
   -- the context of a DMA Setup
   abbrev context_of : List ℕ → Context
   context_of f = dma_context (tag_of f) (field Setup table.Offset f) (field Setup table.Count f) (field Setup table.D f == 1) (field Setup table.A f == 1)
 
-  auto_asked : (f : List ℕ) (m : Option Moving) (o : Option Command) → k.moving ≡ m
-      → find (λ q. q.tag == field Setup table.BufferId f) k.outstanding ≡ o → IsRight k (Ok (view.DmaSetup f)) → is_auto f ≡ true
-      → IsAskedBy (context_of f) (listens_up k (Ok (view.DmaSetup f)))
-  auto_asked f None None moving found right auto =
-      let first : SetsUpRight k None f = subst (λ (m : Option Moving). SetsUpRight k m f) moving right.moves in
-      absurd (subst (λ (q : Option Command). StartsOne q f) found first)
-  auto_asked f None (Some q) moving found right auto =
-      let at = field Setup table.Offset f in
-      let count = field Setup table.Count f in
-      let first : SetsUpRight k None f = subst (λ (m : Option Moving). SetsUpRight k m f) moving right.moves in
-      let next : SetsUpNext q 0 [] f = subst (λ (q : Option Command). StartsOne q f) found first in
-      let now : Moving = record {
-        command = q;
-        before = k.writes;
-        bytes = replicate (512 * q.count) 0;
-        moved = 0;
-        setups = record { at = at; count = count } ∷ [];
-        offset = at;
-        count = count;
-        active = false;
-      } in
-      let up : sets_up k k.moving (field Setup table.BufferId f) at count ≡ starts_moving k at count (Some q) =
-      ap (λ (m : Option Moving). sets_up k m (field Setup table.BufferId f) at count) moving ∙ ap (starts_moving k at count) found in
-      subst (λ (b : Bool). IsAskedBy (context_of f) (with_auto b (sets_up k k.moving (field Setup table.BufferId f) at count))) (sym auto)
-      (auto_asks (context_of f) (sets_up k k.moving (field Setup table.BufferId f) at count) now (ap (λ (x : Ledger). x.moving) up)
-      (sym (setup_tag f right ∙ next.tag)) (write_of_auto (field Setup table.A f) (field Setup table.D f) q.write next.direction auto) refl)
-  auto_asked f (Some w) o moving found right auto =
-      let at = field Setup table.Offset f in
-      let count = field Setup table.Count f in
-      let right_now : SetsUpRight k (Some w) f = subst (λ (m : Option Moving). SetsUpRight k m f) moving right.moves in
-      let next : SetsUpNext w.command w.moved w.setups f = right_now.1 in
-      let now : Moving = record w {
-        setups = w.setups ++ record { at = at; count = count } ∷ [];
-        offset = at;
-        count = count;
-        active = false;
-      } in
-      subst (λ (b : Bool). IsAskedBy (context_of f) (with_auto b (sets_up k k.moving (field Setup table.BufferId f) at count))) (sym auto)
-      (auto_asks (context_of f) (sets_up k k.moving (field Setup table.BufferId f) at count) now
-      (ap (λ (m : Option Moving). (sets_up k m (field Setup table.BufferId f) at count).moving) moving)
-      (sym (setup_tag f right ∙ next.tag)) (write_of_auto (field Setup table.A f) (field Setup table.D f) w.command.write next.direction auto) refl)
+  auto_asked : (f : List ℕ) → IsRight k (Ok (view.DmaSetup f)) → is_auto f ≡ true → IsAskedBy (context_of f) (listens_up k (Ok (view.DmaSetup f)))
+  auto_asked f right auto =
+      let x : Ledger = sets_up k k.moving (field Setup table.BufferId f) (field Setup table.Offset f) (field Setup table.Count f) in
+      let u = set_up_now k f right in
+      subst (λ (b : Bool). IsAskedBy (context_of f) (with_auto b x)) (sym auto)
+      (auto_asks (context_of f) x u.current u.moving (sym (setup_tag dev v commands past k is history same f right ∙ u.tag))
+      (write_of_auto (field Setup table.A f) (field Setup table.D f) u.current.command.write u.direction auto) u.count)
 
   asks_setup : (f : List ℕ) (o : Option SetupError) (auto : Bool) → is_auto f ≡ auto → IsRight k (Ok (view.DmaSetup f))
       → Asks (Ok (view.DmaSetup f)) (set_up o v.state None (happening.SetUp (context_of f)))
@@ -500,13 +465,13 @@ module _ (dev : ℕ) (v : DeviceView) (sound : Bool) (frame : List ℕ) (command
   asks_setup f None true is_auto_so right c now set =
       let it : context_of f ≡ c = let e : Some (context_of f) ≡ Some c = now in cc e in
       subst (λ (x : Context). IsAskedBy x (listens_up k (Ok (view.DmaSetup f)))) it
-      (auto_asked f k.moving (find (λ q. q.tag == field Setup table.BufferId f) k.outstanding) refl refl right is_auto_so)
+      (auto_asked f right is_auto_so)
 
   asks_fis : (fis : Fis) → IsRight k (Ok fis) → Asks (Ok fis) (heard_fis v.slots v.state sound fis)
   unfolding heard_fis
   asks_fis (view.RegH2D f) right = asks_quietly (Ok (view.RegH2D f)) (quietly v.state happening.Nothing) right tt
   asks_fis (view.RegD2H f) right =
-      asks_quietly (Ok (view.RegD2H f))
+      asks_plainly (Ok (view.RegD2H f))
       (hear.signing f (hear.heard_register v.slots v.state (field table.D2h table.Status f) (field table.D2h table.Error f))) right
       (quiet_register v.slots v.state (field table.D2h table.Status f) (field table.D2h table.Error f) v.state.resetting
       (is_error (field table.D2h table.Status f)) (is_busy (field table.D2h table.Status f)))
@@ -521,14 +486,14 @@ module _ (dev : ℕ) (v : DeviceView) (sound : Bool) (frame : List ℕ) (command
       asks_setup f (setup_fault (own_issue v.slots (tag_of f)) (field Setup table.Offset f) (field Setup table.Count f) (field Setup table.D f == 1))
       (is_auto f) refl right
   asks_fis (view.PioSetup f) right =
-      asks_quietly (Ok (view.PioSetup f))
+      asks_plainly (Ok (view.PioSetup f))
       (hear.heard_pio v.slots v.state (field table.Pio table.Status f) (field table.Pio table.Error f) (field table.Pio table.Transfer f)
       (field table.Pio table.D f == 1) (hear.block_of f)) right
       (quiet_pio v.state (field table.Pio table.Status f) (field table.Pio table.Error f) (field table.Pio table.Transfer f)
       (field table.Pio table.D f == 1) (hear.block_of f)
       (is_error (field table.Pio table.Status f)) (pio_fault (pio_issue v.slots) (field table.Pio table.Transfer f) (field table.Pio table.D f == 1)))
   asks_fis (view.Payload f) right =
-      asks_quietly (Ok (view.Payload f)) (heard_data v.slots v.state sound (length f - 4)) right
+      asks_plainly (Ok (view.Payload f)) (heard_data v.slots v.state sound (length f - 4)) right
       (quiet_data v.slots v.state sound (length f - 4) v.slots.context)
   asks_fis (view.Unknown f) right = asks_quietly (Ok (view.Unknown f)) (quietly v.state happening.Nothing) right tt
 
@@ -548,7 +513,7 @@ joins_frames host new frame report commands past k sound framed below well right
     heard_as_told host new frame report commands past k sound below well joined.history joined.same right in
     let takes : TakesFrame host frame report new = well.takes in
     let heard_it : ignores (port_of frame) host.port frame ≡ false =
-    not_ignored host new frame report (ignores (port_of frame) host.port frame) refl well in
+    heard_if host new frame report (ignores (port_of frame) host.port frame) refl well.takes well.heard in
     let h : Heard = heard_now host.port host.memory (port_of frame) (admitted (port_of frame) (seen frame)) in
     let slots_is : (view_of (port_of frame) new.port).slots ≡ moved
     (heard_now host.port host.memory (port_of frame) (admitted (port_of frame) (seen frame))).happening (view_of (port_of frame) host.port).slots =

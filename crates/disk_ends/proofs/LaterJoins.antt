@@ -2,7 +2,6 @@
 use Rattle.std.proofs.Common.{◌≡◌, ℕ, ◌+◌, ◌≤◌, List, [], ◌∷◌, ◌++◌, length, length-append, sym, ap, subst, ◌∙◌, arith}
 use Rattle.fis_view.specs.Table.{Bits, SActive, field}
 use Rattle.fis_view.specs.Seen.{seen}
-use Rattle.disk_model.specs.declared.request.Command.{Command}
 use Rattle.disk_model.specs.Anew.{IsLinkedOn}
 use Rattle.disk_model.specs.Ends.{AreEntered, EndsAgree, IsBits, IsRight}
 use Rattle.disk_model.specs.Histories.{Happening, Plugged}

@@ -13,7 +13,6 @@ pub mod HostedLemmas
 pub mod SizeLemmas
 pub mod OrderJoins
 pub mod MarkedLemmas
-pub mod ReportLemmas
 pub mod ElsewhereLemmas
 pub mod CalmLemmas
 pub mod SignsLemmas

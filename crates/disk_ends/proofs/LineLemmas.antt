@@ -1,5 +1,5 @@
 -- The link of a disk that is set aside, at each happening at either end.
-use Rattle.std.proofs.Common.{◌≡◌, ℕ, Bool, true, false, List, [], ◌∷◌, ◌++◌, append_assoc, refl, sym, ap, subst, ◌∙◌, inl, inr, None, Ok, Err, Result}
+use Rattle.std.proofs.Common.{◌≡◌, ℕ, Bool, true, false, List, [], ◌∷◌, ◌++◌, append_assoc, refl, sym, ap, subst, ◌∙◌, inl, inr, None, Ok, Result}
 use Rattle.std.specs.Prelude.{◌⊎◌, ◌&&◌, not, if◌then◌else◌}
 use Rattle.fis_view.specs.Seen.{seen}
 use Rattle.fis_view.specs.declared.view.Fis.{Fis}
@@ -19,7 +19,7 @@ use Rattle.disk_model.specs.Runs.{IsDiskRun}
 use Rattle.disk_model.proofs.AnewLemmas.{resting_is_silent}
 use Rattle.disk_model.proofs.AnswerLaws.{answers_right}
 use Rattle.disk_model.proofs.EndsLemmas.{ledger_push}
-use Rattle.disk_ends.specs.Line.{Asked, Both, BothBegin, ComesTo, EachReply, Failed, GoesUp, Held, IsAsked, IsBoth, IsFailed, IsHeld, IsLoose, IsNoSignature, IsReleasing, IsResting, IsTaken, IsUnsigned, Line, LinesGoOn, Loose, NoneSigns, OnLine, Releasing, Resting, StandsAt}
+use Rattle.disk_ends.specs.Line.{Speaks, Asked, Both, BothBegin, ComesTo, EachReply, Failed, GoesUp, Held, IsAsked, IsBoth, IsFailed, IsHeld, IsLoose, IsNoSignature, IsReleasing, IsResting, IsTaken, IsUnsigned, Line, LinesGoOn, Loose, NoneSigns, OnLine, Releasing, Resting, StandsAt}
 use Rattle.disk_ends.specs.Watched.{ArePlain, IsErred, IsPlain}
 use Rattle.disk_ends.proofs.FollowedLemmas.{same_first}
 use Rattle.disk_ends.proofs.PlainLemmas.{Stays, plain_no_reset, stays_gone, stays_received, unheard_now}
@@ -45,9 +45,9 @@ none_signs_push (b ∷ up) bytes quiet one = (quiet.0, none_signs_push up bytes 
 
 -- ## Lists
 
-pub no_end : (front : List (List ℕ)) (bytes : List ℕ) (back : List (List ℕ)) → front ++ bytes ∷ back ≡ [] → ⊥
-no_end [] bytes back e = cc e
-no_end (b ∷ front) bytes back e = cc e
+pub no_end : {X : Type 0} (front : List X) (x : X) (back : List X) → front ++ x ∷ back ≡ [] → ⊥
+no_end [] x back e = cc e
+no_end (y ∷ front) x back e = cc e
 
 -- one of those that come down comes, and those ahead of it never do
 plain_behind : (front : List (List ℕ)) (bytes : List ℕ) (back : List (List ℕ)) → ArePlain (front ++ bytes ∷ back)
@@ -284,6 +284,15 @@ comes_by Releasing disk front back up bytes order o = releasing_comes disk front
 
 -- ## One goes up
 
+-- what comes up leaves the line as it is on the way down
+module _ (k x : Ledger) (down up next : List (List ℕ)) (unsigned : IsUnsigned x) (quiet : NoneSigns next) where
+  up_on : (line : Line) → Speaks line → OnLine line k down up → OnLine line x down next
+  up_on Loose speaks o = record { unsigned = unsigned; plain = o.plain; quiet = quiet }
+  up_on Held speaks o = record { unsigned = unsigned; ahead = o.ahead; on = o.on; is = o.is; plain = o.plain; sets = o.sets; quiet = quiet }
+  up_on Both speaks o =
+      record { unsigned = unsigned; ahead = o.ahead; on = o.on; off = o.off; is = o.is; plain = o.plain; sets = o.sets; clears = o.clears; quiet = quiet }
+  up_on other speaks o = absurd speaks
+
 module _ (plan : DiskPlan) (sectors : ℕ) (disk : List Happening) (down up : List (List ℕ)) (bytes : List ℕ) (size : IsSize plan sectors)
     (run : IsDiskRun plan sectors (disk ++ Sent bytes ∷ [])) where
   rests_not : Rests (ledger disk) → ⊥
@@ -292,97 +301,42 @@ module _ (plan : DiskPlan) (sectors : ℕ) (disk : List Happening) (down up : Li
   not_signed : IsUnsigned (ledger disk) → signs (seen bytes) ≡ false
   not_signed none = unsigned_by (ledger disk) (seen bytes) (answers_right plan sectors disk bytes size run) none
 
+  goes_up : (line : Line) → Speaks line → IsUnsigned (ledger disk) → NoneSigns up → OnLine line (ledger disk) down up
+      → GoesUp line (ledger disk) (ledger (disk ++ Sent bytes ∷ [])) down up bytes
+  goes_up line speaks none quiet o =
+      let stays : Stays (ledger disk) (ledger (disk ++ Sent bytes ∷ [])) = stays_gone disk bytes in
+      let one = not_signed none in
+      record {
+        speaks = speaks;
+        unsigned = one;
+        stands = record {
+          held = stays.resetting;
+          on =
+              up_on (ledger disk) (ledger (disk ++ Sent bytes ∷ [])) down up (up ++ bytes ∷ []) (stays.unsigned none)
+              (none_signs_push up bytes quiet one) line speaks o;
+        };
+      }
+
   sends_by : (line : Line) → OnLine line (ledger disk) down up → GoesUp line (ledger disk) (ledger (disk ++ Sent bytes ∷ [])) down up bytes
   sends_by Failed o = absurd (rests_not o.erred.rests)
   sends_by Asked o = absurd (rests_not o.erred.rests)
   sends_by Resting o = absurd (rests_not o.rests)
   sends_by Releasing o = absurd (rests_not o.rests)
-  sends_by Loose o =
-      let stays : Stays (ledger disk) (ledger (disk ++ Sent bytes ∷ [])) = stays_gone disk bytes in
-      let one = not_signed o.unsigned in
-      record {
-        speaks = tt;
-        unsigned = one;
-        stands = record {
-          held = stays.resetting;
-          on = record {
-            unsigned = stays.unsigned o.unsigned;
-            plain = o.plain;
-            quiet = none_signs_push up bytes o.quiet one;
-          };
-        };
-      }
-  sends_by Held o =
-      let stays : Stays (ledger disk) (ledger (disk ++ Sent bytes ∷ [])) = stays_gone disk bytes in
-      let one = not_signed o.unsigned in
-      record {
-        speaks = tt;
-        unsigned = one;
-        stands = record {
-          held = stays.resetting;
-          on = record {
-            unsigned = stays.unsigned o.unsigned;
-            ahead = o.ahead;
-            on = o.on;
-            is = o.is;
-            plain = o.plain;
-            sets = o.sets;
-            quiet = none_signs_push up bytes o.quiet one;
-          };
-        };
-      }
-  sends_by Both o =
-      let stays : Stays (ledger disk) (ledger (disk ++ Sent bytes ∷ [])) = stays_gone disk bytes in
-      let one = not_signed o.unsigned in
-      record {
-        speaks = tt;
-        unsigned = one;
-        stands = record {
-          held = stays.resetting;
-          on = record {
-            unsigned = stays.unsigned o.unsigned;
-            ahead = o.ahead;
-            on = o.on;
-            off = o.off;
-            is = o.is;
-            plain = o.plain;
-            sets = o.sets;
-            clears = o.clears;
-            quiet = none_signs_push up bytes o.quiet one;
-          };
-        };
-      }
+  sends_by Loose o = goes_up Loose tt o.unsigned o.quiet o
+  sends_by Held o = goes_up Held tt o.unsigned o.quiet o
+  sends_by Both o = goes_up Both tt o.unsigned o.quiet o
 
 -- ## The host takes one
 
 takes_by : (line : Line) (k : Ledger) (down up : List (List ℕ)) (bytes : List ℕ) → OnLine line k down (bytes ∷ up) → IsTaken line k down up bytes
 takes_by Failed k down up bytes o = cc o.silent
 takes_by Asked k down up bytes o = cc o.silent
-takes_by Loose k down up bytes o = record {
-  spoken = tt;
-  unsigned = o.quiet.0;
-  on = record { unsigned = o.unsigned; plain = o.plain; quiet = o.quiet.1 };
-}
-takes_by Held k down up bytes o = record {
-  spoken = tt;
-  unsigned = o.quiet.0;
-  on = record { unsigned = o.unsigned; ahead = o.ahead; on = o.on; is = o.is; plain = o.plain; sets = o.sets; quiet = o.quiet.1 };
-}
-takes_by Both k down up bytes o = record {
-  spoken = tt;
-  unsigned = o.quiet.0;
-  on = record {
-    unsigned = o.unsigned;
-    ahead = o.ahead;
-    on = o.on;
-    off = o.off;
-    is = o.is;
-    plain = o.plain;
-    sets = o.sets;
-    clears = o.clears;
-    quiet = o.quiet.1;
-  };
-}
+takes_by Loose k down up bytes o =
+    record { spoken = tt; unsigned = o.quiet.0; on = up_on k k down (bytes ∷ up) up o.unsigned o.quiet.1 Loose tt o }
+takes_by Held k down up bytes o =
+    record { spoken = tt; unsigned = o.quiet.0; on = up_on k k down (bytes ∷ up) up o.unsigned o.quiet.1 Held tt o }
+takes_by Both k down up bytes o =
+    record { spoken = tt; unsigned = o.quiet.0; on = up_on k k down (bytes ∷ up) up o.unsigned o.quiet.1 Both tt o }
 takes_by Resting k down up bytes o = record {
   spoken = tt;
   unsigned = o.quiet.0;

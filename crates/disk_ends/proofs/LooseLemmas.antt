@@ -1,5 +1,5 @@
 -- What is awaited of a disk that is watched, and the line to it when it is set aside.
-use Rattle.std.proofs.Common.{◌≡◌, ◌≢◌, ◌==◌, ℕ, true, false, List, [], ◌∷◌, ◌++◌, append_assoc, drop, refl, sym, ap, subst, ◌∙◌, inl, inr, Option, None, Ok, Err, Result}
+use Rattle.std.proofs.Common.{◌≡◌, ◌≢◌, ◌==◌, ℕ, true, false, List, [], ◌∷◌, ◌++◌, append_assoc, drop, refl, sym, ap, subst, ◌∙◌, inl, inr, Option, None, Ok, Result}
 use Rattle.std.specs.Prelude.{◌⊎◌, find}
 use Rattle.std.proofs.lemmas.Bool.{true≢false}
 use Rattle.std.proofs.lemmas.List.{append_cancel_left, append-nil}
@@ -12,41 +12,42 @@ use Rattle.hba_fbs.specs.Posting.{signs}
 use Rattle.disk_model.specs.declared.plan.DiskPlan.{DiskPlan}
 use Rattle.disk_model.specs.declared.request.Command.{Command}
 use Rattle.disk_model.specs.declared.request.Request.{Request}
-use Rattle.disk_model.specs.declared.request.Request.TheVariants.{Reset, Queue, ReadErrorLog, Identify, Flush, Other}
+use Rattle.disk_model.specs.declared.request.Request.TheVariants.{Reset, Queue}
 use Rattle.disk_model.specs.Anew.{IsCarefulSince, IsLinkedOn, OwesOnly}
 use Rattle.disk_model.specs.Anew as anew
 use Rattle.disk_model.specs.Ends.{AreRight, Fits, FitsAll, FitsData, FitsRequest, IsRight, PageAsked, reports}
 use Rattle.disk_model.specs.Histories.{Happening, Plugged, Received, Sent}
 use Rattle.disk_model.specs.Laws.{ActivatesRight, SetsUpRight, ShowsFirst, StartsOne}
-use Rattle.disk_model.specs.Ledger.{IsSize, Ledger, Moving, Names, Reply, Signs, ledger, ledger_after, listens, listens_up}
+use Rattle.disk_model.specs.Ledger.{IsSize, Ledger, Moving, Names, Reply, Signs, Wanted, ledger, ledger_after, listens, listens_up}
 use Rattle.disk_model.specs.Requests.{request_of}
 use Rattle.disk_model.specs.Runs.{IsDiskRun}
 use Rattle.disk_model.proofs.AnewLemmas.{after_more, ends_agree_anew}
 use Rattle.disk_model.proofs.EndsLemmas.{FitsOne, careful_last, ledger_push, run_before, sent_right}
 use Rattle.disk_ends.specs.Files.{IsOfDisk}
 use Rattle.disk_ends.specs.Line.{EachReply, IsFailed, IsLoose, IsNoSignature, IsSigning, IsUnsigned, IsWatchedWell, LinesBegin, NoneSigns, PluggingLeavesReset, ToSign, Unsigned}
-use Rattle.disk_ends.specs.Watched.{Erred, Fine, IsErred, IsErredSince, IsLastError, IsWatched, IsWatchedTo}
+use Rattle.disk_ends.specs.Watched.{Erred, Fine, IsErred, IsLastError, IsWatched, IsWatchedTo}
 use Rattle.disk_ends.proofs.AnewJoins.{careful_more}
-use Rattle.disk_ends.proofs.FollowedLemmas.{run_to, same_first}
+use Rattle.disk_ends.proofs.FollowedLemmas.{run_to}
 use Rattle.disk_ends.proofs.LineLemmas.{no_end, none_signs_push, unsigned_by}
 use Rattle.disk_ends.proofs.PlainLemmas.{ResetsNot, erred_now, fits_no_reset, stays_gone, stays_received, stays_up}
 use Rattle.disk_ends.proofs.SentLemmas.{of_disk}
-use Rattle.disk_ends.proofs.WatchedLemmas.{next_fails, takes_on}
+use Rattle.disk_ends.proofs.WatchedLemmas.{next_watched, takes_on}
+use Rattle.disk_ends.proofs.SizeLemmas.{AreEach, each_more, up_each}
 
--- ## While the signature is to come
+-- ## While only an answer is to come
 
-pub not_waited : (k : Ledger) (r : Request) → FitsRequest k r → k.awaited ≡ []
+not_waited : (k : Ledger) (r : Request) → FitsRequest k r → k.awaited ≡ []
 not_waited k (Reset on) fits = absurd fits
 not_waited k (Queue c) fits = fits.1
 not_waited k other fits = fits.awaited
 
 -- nothing may be given
-gives_none : (k : Ledger) (r : Result Fis FisFault) → OwesOnly k (Signs ∷ []) [] → Fits k r → ⊥
-gives_none k (Ok (view.RegH2D f)) owes fits =
-    let bad : Signs ∷ [] ≡ [] = sym owes.awaited ∙ not_waited k (request_of f) fits.1 in
+pub gives_none : (k : Ledger) (reply : Reply) (wanted : List Wanted) (r : Result Fis FisFault) → OwesOnly k (reply ∷ []) wanted → Fits k r → ⊥
+gives_none k reply wanted (Ok (view.RegH2D f)) owes fits =
+    let bad : reply ∷ [] ≡ [] = sym owes.awaited ∙ not_waited k (request_of f) fits.1 in
     cc bad
-gives_none k (Ok (view.Payload f)) owes fits = subst (λ (v : Option Moving). FitsData v (drop 4 f)) owes.clear.moving fits
-gives_none k other owes fits = absurd fits
+gives_none k reply wanted (Ok (view.Payload f)) owes fits = subst (λ (v : Option Moving). FitsData v (drop 4 f)) owes.clear.moving fits
+gives_none k reply wanted other owes fits = absurd fits
 
 -- a DMA Setup may not come
 pub no_setup : (k : Ledger) (f : List ℕ) → k.moving ≡ None → k.outstanding ≡ [] → SetsUpRight k k.moving f → ⊥
@@ -54,7 +55,7 @@ no_setup k f none empty right =
     let first : SetsUpRight k None f = subst (λ (v : Option Moving). SetsUpRight k v f) none right in
     subst (λ (cs : List Command). StartsOne (find (λ c. c.tag == field Setup BufferId f) cs) f) empty first
 
--- and what comes is the signature
+-- and where that is the signature it comes
 signs_then : (k : Ledger) (r : Result Fis FisFault) → OwesOnly k (Signs ∷ []) [] → IsOfDisk r → IsRight k r → IsUnsigned (listens_up k r)
 signs_then k (Ok (view.RegD2H f)) owes mine right = subst (λ (xs : List Reply). EachReply IsNoSignature (drop 1 xs)) (sym owes.awaited) tt
 signs_then k (Ok (view.SetBits f)) owes mine right =
@@ -97,12 +98,7 @@ careful_before base host since e is careful =
 -- ## At both ends
 
 abbrev ResetNone : List (List ℕ) → Type 0
-ResetNone [] = Unit {0}
-ResetNone (bytes ∷ later) = ResetsNot (seen bytes) × ResetNone later
-
-reset_none_push : (down : List (List ℕ)) (bytes : List ℕ) → ResetNone down → ResetsNot (seen bytes) → ResetNone (down ++ bytes ∷ [])
-reset_none_push [] bytes none one = (one, tt)
-reset_none_push (b ∷ down) bytes none one = (none.0, reset_none_push down bytes none.1 one)
+ResetNone down = AreEach (λ bytes. ResetsNot (seen bytes)) down
 
 reset_none_split : (front : List (List ℕ)) (bytes : List ℕ) (back : List (List ℕ)) → ResetNone (front ++ bytes ∷ back)
     → ResetsNot (seen bytes) × ResetNone (front ++ back)
@@ -110,14 +106,6 @@ reset_none_split [] bytes back none = none
 reset_none_split (b ∷ front) bytes back none =
     let rest = reset_none_split front bytes back none.1 in
     (rest.0, (none.0, rest.1))
-
-abbrev AreOfDisk : List (List ℕ) → Type 0
-AreOfDisk [] = Unit {0}
-AreOfDisk (bytes ∷ later) = IsOfDisk (seen bytes) × AreOfDisk later
-
-of_disk_push : (up : List (List ℕ)) (bytes : List ℕ) → AreOfDisk up → IsOfDisk (seen bytes) → AreOfDisk (up ++ bytes ∷ [])
-of_disk_push [] bytes all one = (one, tt)
-of_disk_push (b ∷ up) bytes all one = (all.0, of_disk_push up bytes all.1 one)
 
 -- The disk owes no signature any more; or nothing happened since both began, and it is to sign.
 data IsOwing (base disk host : List Happening) (down up : List (List ℕ)) : Type 0 where
@@ -127,17 +115,16 @@ data IsOwing (base disk host : List Happening) (down up : List (List ℕ)) : Typ
 record IsHearing (base disk host : List Happening) (down up : List (List ℕ)) : Type 0 where
   owing : IsOwing base disk host down up
   resets : ResetNone down
-  mine : AreOfDisk up
   heard : (host ≡ base) ⊎ IsUnsigned (ledger host)
 
 begins_hearing : (base : List Happening) → IsSigning (ledger base) → IsHearing base base base [] []
-begins_hearing base (ToSign owes) = record { owing = Waiting owes refl refl refl refl; resets = tt; mine = tt; heard = inl refl }
-begins_hearing base (Unsigned none) = record { owing = Signed none; resets = tt; mine = tt; heard = inl refl }
+begins_hearing base (ToSign owes) = record { owing = Waiting owes refl refl refl refl; resets = tt; heard = inl refl }
+begins_hearing base (Unsigned none) = record { owing = Signed none; resets = tt; heard = inl refl }
 
 gives_heard : (base host : List Happening) (bytes : List ℕ) → IsSigning (ledger base) → Fits (ledger host) (seen bytes)
     → (host ≡ base) ⊎ IsUnsigned (ledger host) → IsUnsigned (ledger (host ++ Received bytes ∷ []))
 gives_heard base host bytes (ToSign owes) fits (inl is) =
-    absurd (gives_none (ledger base) (seen bytes) owes (subst (λ (h : List Happening). Fits (ledger h) (seen bytes)) is fits))
+    absurd (gives_none (ledger base) Signs [] (seen bytes) owes (subst (λ (h : List Happening). Fits (ledger h) (seen bytes)) is fits))
 gives_heard base host bytes (Unsigned none) fits (inl is) =
     (stays_received host bytes (fits_no_reset (ledger host) (seen bytes) fits)).unsigned (subst (λ (h : List Happening). IsUnsigned (ledger h)) (sym is) none)
 gives_heard base host bytes signing fits (inr none) = (stays_received host bytes (fits_no_reset (ledger host) (seen bytes) fits)).unsigned none
@@ -155,7 +142,7 @@ gives_owing : (base disk host : List Happening) (down up : List (List ℕ)) (byt
     → IsOwing base disk host down up → IsOwing base disk (host ++ Received bytes ∷ []) (down ++ bytes ∷ []) up
 gives_owing base disk host down up bytes fits (Signed none) = Signed none
 gives_owing base disk host down up bytes fits (Waiting owes disk_is host_is down_is up_is) =
-    absurd (gives_none (ledger base) (seen bytes) owes (subst (λ (h : List Happening). Fits (ledger h) (seen bytes)) host_is fits))
+    absurd (gives_none (ledger base) Signs [] (seen bytes) owes (subst (λ (h : List Happening). Fits (ledger h) (seen bytes)) host_is fits))
 
 comes_owing : (base disk host : List Happening) (front back up : List (List ℕ)) (bytes : List ℕ) → ResetsNot (seen bytes)
     → IsOwing base disk host (front ++ bytes ∷ back) up → IsOwing base (disk ++ Received bytes ∷ []) host (front ++ back) up
@@ -181,6 +168,11 @@ module _ (plan : DiskPlan) (sectors : ℕ) (size : IsSize plan sectors) (base : 
   right_next disk host down up bytes linked run careful =
       (ends_agree_anew plan sectors base disk host down [] (bytes ∷ up) size run linked careful).right.0
 
+  comes_of_disk : (disk host : List Happening) (down stale up : List (List ℕ)) (bytes : List ℕ) → IsLinkedOn base disk host down stale (bytes ∷ up)
+      → IsDiskRun plan sectors disk → IsOfDisk (seen bytes)
+  comes_of_disk disk host down stale up bytes linked run =
+      (up_each plan sectors base (λ b. IsOfDisk (seen b)) (λ h b may. of_disk plan sectors h b size may) disk host down stale (bytes ∷ up) run linked).0
+
   hearing : (disk host : List Happening) (down stale up : List (List ℕ)) → IsLinkedOn base disk host down stale up → IsDiskRun plan sectors disk
       → IsCarefulSince base host → IsHearing base disk host down up
   hearing disk host down stale up (anew.begins s clear) run careful = begins_hearing base signing
@@ -190,22 +182,20 @@ module _ (plan : DiskPlan) (sectors : ℕ) (size : IsSize plan sectors) (base : 
       let was : IsHearing base d h below above = hearing d h below s above linked run last.0 in
       record {
         owing = gives_owing base d h below above bytes last.1 was.owing;
-        resets = reset_none_push below bytes was.resets (fits_no_reset (ledger h) (seen bytes) last.1);
-        mine = was.mine;
+        resets = each_more (λ b. ResetsNot (seen b)) below bytes was.resets (fits_no_reset (ledger h) (seen bytes) last.1);
         heard = inr (gives_heard base h bytes signing last.1 was.heard);
       }
   hearing disk host down stale up (anew.comes d h front back s above bytes linked) run careful =
       let before = run_before plan sectors size d (Received bytes) run in
       let was : IsHearing base d h (front ++ bytes ∷ back) above = hearing d h (front ++ bytes ∷ back) s above linked before careful in
       let parts = reset_none_split front bytes back was.resets in
-      record { owing = comes_owing base d h front back above bytes parts.0 was.owing; resets = parts.1; mine = was.mine; heard = was.heard }
+      record { owing = comes_owing base d h front back above bytes parts.0 was.owing; resets = parts.1; heard = was.heard }
   hearing disk host down stale up (anew.sends d h below s above bytes fine linked) run careful =
       let was : IsHearing base d h below above = hearing d h below s above linked (run_before plan sectors size d (Sent bytes) run) careful in
       let one = of_disk plan sectors d bytes size run in
       record {
         owing = sends_owing base d h below above bytes one (sent_right plan sectors size d bytes run fine) was.owing;
         resets = was.resets;
-        mine = of_disk_push above bytes was.mine one;
         heard = was.heard;
       }
   hearing disk host down stale up (anew.drops d h below s above bytes linked) run careful = hearing d h below (bytes ∷ s) above linked run careful
@@ -216,8 +206,7 @@ module _ (plan : DiskPlan) (sectors : ℕ) (size : IsSize plan sectors) (base : 
       record {
         owing = takes_owing base d h below above bytes was.owing;
         resets = was.resets;
-        mine = was.mine.1;
-        heard = inr (takes_heard base h bytes signing was.mine.0 (right_next d h below above bytes linked run last.0) was.heard);
+        heard = inr (takes_heard base h bytes signing (comes_of_disk d h below [] above bytes linked run) (right_next d h below above bytes linked run last.0) was.heard);
       }
 
 -- ## The line
@@ -280,16 +269,12 @@ signed_by base given (ToSign owes) asked (inl same) = absurd (asked (ap (λ (h :
 signed_by base given (Unsigned none) asked (inl same) = subst (λ (h : List Happening). IsUnsigned (ledger h)) (sym same) none
 signed_by base given signing asked (inr none) = none
 
-no_more : (given : List Happening) (e : Happening) → given ++ e ∷ [] ≡ [] → ⊥
-no_more [] e is = cc is
-no_more (x ∷ given) e is = cc is
-
 -- what goes on from the base is not the base
 pub not_base : (base given since : List Happening) (e : Happening) → given ≡ base ++ since → given ++ e ∷ [] ≡ base → ⊥
 not_base base given since e is same =
     let more : base ++ (since ++ e ∷ []) ≡ base ++ [] =
     sym (append_assoc base since (e ∷ [])) ∙ ap (λ (xs : List Happening). xs ++ e ∷ []) (sym is) ∙ same ∙ sym (append-nil base) in
-    no_more since e (append_cancel_left base (since ++ e ∷ []) [] more)
+    no_end since e [] (append_cancel_left base (since ++ e ∷ []) [] more)
 
 module _ (plan : DiskPlan) (sectors : ℕ) (base disk given : List Happening) (down up : List (List ℕ)) (bytes : List ℕ)
     (w : IsWatchedWell plan sectors base disk given down (bytes ∷ up)) where
@@ -309,48 +294,14 @@ module _ (plan : DiskPlan) (sectors : ℕ) (base disk given : List Happening) (d
     | inr on ↦ heard_after on
   ]
 
-  mine_erred : (followed later : List Happening) (error : List ℕ) (below before : List (List ℕ)) → disk ≡ followed ++ Sent error ∷ later
-      → bytes ∷ up ≡ before ++ error ∷ [] → reports (seen error) ≡ true → IsLinkedOn base followed given below [] before → reports (seen bytes) ≡ false
-      → IsOfDisk (seen bytes)
-  mine_erred followed later error below [] disk_is up_is fails linked fine =
-      let first = same_first bytes error up [] up_is in
-      absurd (true≢false (sym (subst (λ (x : List ℕ). reports (seen x) ≡ true) first.0 fails) ∙ fine))
-  mine_erred followed later error below (b ∷ before) disk_is up_is fails linked fine =
-      let first = same_first bytes b up (before ++ error ∷ []) up_is in
-      let run = run_to plan sectors disk followed (Sent error ∷ later) disk_is w.run in
-      let was : IsHearing base followed given below (b ∷ before) =
-      hearing plan sectors w.size base w.signing followed given below [] (b ∷ before) linked run w.careful in
-      subst (λ (x : List ℕ). IsOfDisk (seen x)) first.0 was.mine.0
-
-  mine_to : IsWatchedTo base disk given down [] (bytes ∷ up) → reports (seen bytes) ≡ false → IsOfDisk (seen bytes)
-  mine_to (Fine linked) fine =
-      let was : IsHearing base disk given down (bytes ∷ up) =
-      hearing plan sectors w.size base w.signing disk given down [] (bytes ∷ up) linked w.run w.careful in
-      was.mine.0
-  mine_to (Erred followed later error below before disk_is up_is fails linked erred) fine =
-      mine_erred followed later error below before disk_is up_is fails linked fine
-
   -- what comes next is of a disk
   pub next_of_disk : reports (seen bytes) ≡ false → IsOfDisk (seen bytes)
-  next_of_disk fine = let watched : IsWatched base disk given down [] (bytes ∷ up) = w.watched in mine_to watched.to_error fine
-
-  next_erred : (followed later : List Happening) (error : List ℕ) (below before : List (List ℕ)) → disk ≡ followed ++ Sent error ∷ later
-      → bytes ∷ up ≡ before ++ error ∷ [] → reports (seen error) ≡ true → IsLinkedOn base followed given below [] before → IsErredSince followed disk
-      → IsLastError base disk down up bytes ⊎ (reports (seen bytes) ≡ false)
-  next_erred followed later error below [] disk_is up_is fails linked erred =
-      inl (next_fails base disk given down up bytes w.watched error up_is fails erred.now)
-  next_erred followed later error below (b ∷ before) disk_is up_is fails linked erred =
-      let first = same_first bytes b up (before ++ error ∷ []) up_is in
-      let run = run_to plan sectors disk followed (Sent error ∷ later) disk_is w.run in
-      let right : IsRight (ledger given) (seen b) = right_next plan sectors w.size base w.signing followed given below before b linked run w.careful in
-      inr (subst (λ (x : List ℕ). reports (seen x) ≡ false) first.0 right.fine)
-
-  next_to : IsWatchedTo base disk given down [] (bytes ∷ up) → IsLastError base disk down up bytes ⊎ (reports (seen bytes) ≡ false)
-  next_to (Fine linked) =
-      let right : IsRight (ledger given) (seen bytes) = right_next plan sectors w.size base w.signing disk given down up bytes linked w.run w.careful in
-      inr right.fine
-  next_to (Erred followed later error below before disk_is up_is fails linked erred) =
-      next_erred followed later error below before disk_is up_is fails linked erred
+  next_of_disk fine = elim (next_watched base disk given down up bytes w.watched) [
+    | inl last ↦ absurd (true≢false (sym last.fails ∙ fine))
+    | inr b ↦
+        comes_of_disk plan sectors w.size base w.signing b.followed given b.below [] b.before bytes b.linked
+        (run_to plan sectors disk b.followed b.later b.disk_is w.run)
+  ]
 
   failed_on : IsLastError base disk down up bytes → IsFailed (ledger disk) down up
   failed_on last = record { erred = last.erred; plain = last.plain; silent = last.last }
@@ -368,12 +319,14 @@ module _ (plan : DiskPlan) (sectors : ℕ) (base disk given : List Happening) (d
   ]
 
   next_on : ((reports (seen bytes) ≡ true) × IsFailed (ledger disk) down up) ⊎ ((reports (seen bytes) ≡ false) × IsLoose (ledger disk) down up)
-  next_on =
-      let watched : IsWatched base disk given down [] (bytes ∷ up) = w.watched in
-      elim (next_to watched.to_error) [
-        | inl last ↦ inl (last.fails, failed_on last)
-        | inr fine ↦ inr (fine, next_fine fine)
-      ]
+  next_on = elim (next_watched base disk given down up bytes w.watched) [
+    | inl last ↦ inl (last.fails, failed_on last)
+    | inr b ↦
+        let right : IsRight (ledger given) (seen bytes) =
+        right_next plan sectors w.size base w.signing b.followed given b.below b.before bytes b.linked
+        (run_to plan sectors disk b.followed b.later b.disk_is w.run) w.careful in
+        inr (right.fine, next_fine right.fine)
+  ]
 
 pub lines_begin : LinesBegin
 lines_begin = record {

@@ -1,25 +1,23 @@
 -- A FIS that is marked with a port is of a disk, signs, reports and asks where it did before.
-use Rattle.std.proofs.Common.{◌≡◌, ◌==◌, ◌%◌, ℕ, ◌<◌, Bool, true, false, List, length, refl, sym, ap, subst, ◌∙◌, Ok, Err, Result}
-use Rattle.std.specs.Prelude.{if◌then◌else◌}
+use Rattle.std.proofs.Common.{◌≡◌, ℕ, ◌<◌, List, refl, sym, subst, ◌∙◌, Ok, Result}
 use Rattle.fis_view.specs.Frames.{IsFrame, marked}
 use Rattle.fis_view.specs.Marks.{IsMarked}
 use Rattle.fis_view.specs.Table.{Activate, Bits, D2h, EStatus, H2d, Kind, Other, Pio, Setup, field}
 use Rattle.fis_view.specs.Table as table
-use Rattle.fis_view.specs.Seen.{kind_of, may_have, seen, view_as}
+use Rattle.fis_view.specs.Seen.{seen, view_as}
 use Rattle.fis_view.specs.declared.view.Fis.{Fis}
 use Rattle.fis_view.specs.declared.view.Fis.TheVariants as view
 use Rattle.fis_view.specs.declared.view.FisFault.{FisFault}
-use Rattle.fis_view.specs.declared.view.FisFault.TheVariants.{WrongLength}
 use Rattle.fis_view.proofs.MarkLemmas.{is_marked}
 use Rattle.hba_fbs.specs.Posting.{is_signature, signs}
 use Rattle.disk_model.specs.declared.request.Request.{Request}
 use Rattle.disk_model.specs.Anew.{IsRequest}
 use Rattle.disk_model.specs.Ends.{reports}
-use Rattle.disk_model.specs.Ledger.{has_error}
 use Rattle.disk_model.specs.Requests.{request_of}
 use Rattle.disk_ends.specs.Files.{IsOfDisk}
 use Rattle.disk_ends.specs.Line.{IsAskedAlike, MarksAskNothing}
 use Rattle.disk_ends.specs.Watched.{IsPlain, IsPlainRequest}
+use Rattle.disk_ends.proofs.MarkedLemmas.{by_kinds, same_error, same_request}
 
 -- a command that asks for this
 abbrev IsAsking : Request → Result Fis FisFault → Type 0
@@ -49,26 +47,13 @@ module _ (old new : List ℕ) (port : ℕ) (m : IsMarked port old new) where
       let lba = m.fields D2h table.Lba (λ e. cc e) in
       rw (error, status, count, lba) refl
 
-  same_request : request_of new ≡ request_of old
-  same_request =
-      let c = m.fields H2d table.C (λ e. cc e) in
-      let command = m.fields H2d table.Command (λ e. cc e) in
-      let control = m.fields H2d table.Control (λ e. cc e) in
-      let lba = m.fields H2d table.Lba (λ e. cc e) in
-      let count = m.fields H2d table.Count (λ e. cc e) in
-      let features = m.fields H2d table.Features (λ e. cc e) in
-      rw (c, command, control, lba, count, features) refl
-
-  same_error : has_error new ≡ has_error old
-  same_error = ap (λ (n : ℕ). n % 2 == 1) (m.fields Bits table.Status (λ e. cc e))
-
   same_kind : (kind : Kind) → IsSame (Ok (view_as kind old)) (Ok (view_as kind new))
   same_kind H2d = record {
     disk = λ mine. mine;
     signature = refl;
     error = refl;
-    plain = λ plain. subst IsPlainRequest (sym same_request) plain;
-    asked = λ q asks. same_request ∙ asks;
+    plain = λ plain. subst IsPlainRequest (sym (same_request old new port m)) plain;
+    asked = λ q asks. same_request old new port m ∙ asks;
   }
   same_kind D2h = record { disk = λ mine. mine; signature = same_signature; error = refl; plain = λ plain. plain; asked = λ q asks. asks }
   same_kind Activate = record { disk = λ mine. mine; signature = refl; error = refl; plain = λ plain. plain; asked = λ q asks. asks }
@@ -81,30 +66,13 @@ module _ (old new : List ℕ) (port : ℕ) (m : IsMarked port old new) where
     plain = λ plain. plain;
     asked = λ q asks. asks;
   }
-  same_kind Bits = record { disk = λ mine. mine; signature = refl; error = same_error; plain = λ plain. plain; asked = λ q asks. asks }
+  same_kind Bits = record { disk = λ mine. mine; signature = refl; error = same_error old new port m; plain = λ plain. plain; asked = λ q asks. asks }
   same_kind Other = record { disk = λ mine. mine; signature = refl; error = refl; plain = λ plain. plain; asked = λ q asks. asks }
-
-  same_by : (b : Bool) (kind : Kind)
-      → IsSame (if b then Ok (view_as kind old) else Err WrongLength) (if b then Ok (view_as kind new) else Err WrongLength)
-  same_by true kind = same_kind kind
-  same_by false kind = record { disk = λ mine. mine; signature = refl; error = refl; plain = λ plain. plain; asked = λ q asks. asks }
-
-  seen_is : seen old ≡ (if may_have (kind_of old) (length old) then Ok (view_as (kind_of old) old) else Err WrongLength)
-  unfolding seen
-  seen_is = refl
 
   same_seen : IsSame (seen old) (seen new)
   same_seen =
-      let s : IsSame (if may_have (kind_of old) (length old) then Ok (view_as (kind_of old) old) else Err WrongLength)
-      (if may_have (kind_of old) (length old) then Ok (view_as (kind_of old) new) else Err WrongLength) =
-      same_by (may_have (kind_of old) (length old)) (kind_of old) in
-      record {
-        disk = λ mine. subst IsOfDisk (sym m.view) (s.disk (subst IsOfDisk seen_is mine));
-        signature = ap signs m.view ∙ s.signature ∙ sym (ap signs seen_is);
-        error = ap reports m.view ∙ s.error ∙ sym (ap reports seen_is);
-        plain = λ plain. subst IsPlain (sym m.view) (s.plain (subst IsPlain seen_is plain));
-        asked = λ q asks. subst (IsAsking q) (sym m.view) (s.asked q (subst (IsAsking q) seen_is asks));
-      }
+      by_kinds old new port m IsSame same_kind
+      (record { disk = λ mine. mine; signature = refl; error = refl; plain = λ plain. plain; asked = λ q asks. asks })
 
   asked_alike : IsAskedAlike old new
   asked_alike = record {

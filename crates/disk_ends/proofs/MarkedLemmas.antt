@@ -20,15 +20,8 @@ use Rattle.disk_model.specs.Requests.{request_of}
 use Rattle.disk_ends.specs.Joined.{IsShort}
 use Rattle.disk_ends.specs.Marked.{IsHeardAlike, MarksTellNothing}
 
-module _ (k : Ledger) (old new : List ℕ) (port : ℕ) (m : IsMarked port old new) where
-  record IsAlike (r s : Result Fis FisFault) : Type 0 where
-    up : listens_up k s ≡ listens_up k r
-    down : listens_down k s ≡ listens_down k r
-    right : IsRight k r → IsRight k s
-    fits : Fits k r → Fits k s
-    short : IsShort r → IsShort s
-
-  same_request : request_of new ≡ request_of old
+module _ (old new : List ℕ) (port : ℕ) (m : IsMarked port old new) where
+  pub same_request : request_of new ≡ request_of old
   same_request =
       let c = m.fields H2d C (λ e. cc e) in
       let command = m.fields H2d table.Command (λ e. cc e) in
@@ -38,12 +31,39 @@ module _ (k : Ledger) (old new : List ℕ) (port : ℕ) (m : IsMarked port old n
       let features = m.fields H2d table.Features (λ e. cc e) in
       rw (c, command, control, lba, count, features) refl
 
+  pub same_error : has_error new ≡ has_error old
+  same_error = ap (λ (n : ℕ). n % 2 == 1) (m.fields Bits table.Status (λ e. cc e))
+
+  -- what holds of both frames as each kind, and where they have no view, holds of what is seen
+  pub by_kinds : (P : Result Fis FisFault → Result Fis FisFault → Type 0) → ((kind : Kind) → P (Ok (view_as kind old)) (Ok (view_as kind new)))
+      → P (Err WrongLength) (Err WrongLength) → P (seen old) (seen new)
+  unfolding seen
+  by_kinds P each bad = subst (P (seen old)) (sym m.view) (by_test (may_have (kind_of old) (length old)))
+    where
+      by_test : (b : Bool)
+          → P (if b then Ok (view_as (kind_of old) old) else Err WrongLength) (if b then Ok (view_as (kind_of old) new) else Err WrongLength)
+      by_test true = each (kind_of old)
+      by_test false = bad
+
+module _ (k : Ledger) (old new : List ℕ) (port : ℕ) (m : IsMarked port old new) where
+  record IsAlike (r s : Result Fis FisFault) : Type 0 where
+    up : listens_up k s ≡ listens_up k r
+    down : listens_down k s ≡ listens_down k r
+    right : IsRight k r → IsRight k s
+    fits : Fits k r → Fits k s
+    short : IsShort r → IsShort s
+
+  -- what goes up only
+  only_up : (r s : Result Fis FisFault) → listens_up k s ≡ listens_up k r → listens_down k s ≡ listens_down k r → (IsRight k r → IsRight k s)
+      → (Fits k r → ⊥) → IsShort s → IsAlike r s
+  only_up r s up down right none short = record { up = up; down = down; right = right; fits = λ fits. absurd (none fits); short = λ few. short }
+
   alike_h2d : IsAlike (Ok (view.RegH2D old)) (Ok (view.RegH2D new))
   alike_h2d = record {
     up = refl;
-    down = ap (λ (r : Request). asks k r k.failed) same_request;
+    down = ap (λ (r : Request). asks k r k.failed) (same_request old new port m);
     right = λ right. record { moves = tt; answers = tt; replies = tt; asked = tt; fine = refl };
-    fits = λ fits. (fits.0, subst (FitsRequest k) (sym same_request) fits.1);
+    fits = λ fits. (fits.0, subst (FitsRequest k) (sym (same_request old new port m)) fits.1);
     short = λ few. tt;
   }
 
@@ -64,13 +84,9 @@ module _ (k : Ledger) (old new : List ℕ) (port : ℕ) (m : IsMarked port old n
   same_answer other answers = absurd answers
 
   alike_d2h : IsAlike (Ok (view.RegD2H old)) (Ok (view.RegD2H new))
-  alike_d2h = record {
-    up = refl;
-    down = refl;
-    right = λ right. record { moves = tt; answers = tt; replies = same_answer k.awaited right.replies; asked = tt; fine = refl };
-    fits = λ fits. absurd fits;
-    short = λ few. tt;
-  }
+  alike_d2h =
+      only_up (Ok (view.RegD2H old)) (Ok (view.RegD2H new)) refl refl
+      (λ right. record { moves = tt; answers = tt; replies = same_answer k.awaited right.replies; asked = tt; fine = refl }) (λ fits. fits) tt
 
   same_show : (xs : List Reply) → ShowsFirst xs old → ShowsFirst xs new
   same_show [] shows = absurd shows
@@ -82,29 +98,22 @@ module _ (k : Ledger) (old new : List ℕ) (port : ℕ) (m : IsMarked port old n
       (same_register Pio 1 0x58 0 0 shows.0, m.fields Pio table.D (λ e. cc e) ∙ shows.1, m.fields Pio table.Transfer (λ e. cc e) ∙ shows.2)
 
   alike_pio : IsAlike (Ok (view.PioSetup old)) (Ok (view.PioSetup new))
-  alike_pio = record {
-    up = refl;
-    down = refl;
-    right = λ right. record { moves = tt; answers = tt; replies = same_show k.awaited right.replies; asked = tt; fine = refl };
-    fits = λ fits. absurd fits;
-    short = λ few. tt;
-  }
-
-  same_error : has_error new ≡ has_error old
-  same_error = ap (λ (n : ℕ). n % 2 == 1) (m.fields Bits table.Status (λ e. cc e))
+  alike_pio =
+      only_up (Ok (view.PioSetup old)) (Ok (view.PioSetup new)) refl refl
+      (λ right. record { moves = tt; answers = tt; replies = same_show k.awaited right.replies; asked = tt; fine = refl }) (λ fits. fits) tt
 
   alike_bits : IsAlike (Ok (view.SetBits old)) (Ok (view.SetBits new))
   alike_bits = record {
     up =
-        ap (λ (b : Bool). answers k (field Bits table.Error new) b) same_error
+        ap (λ (b : Bool). answers k (field Bits table.Error new) b) (same_error old new port m)
         ∙ ap (λ (n : ℕ). answers k n (has_error old)) (m.fields Bits table.Error (λ e. cc e));
     down = refl;
     right = λ right. record {
       moves = tt;
-      answers = λ fine. subst (Names k.unanswered) (sym (m.fields Bits SActive (λ e. cc e))) (right.answers (sym same_error ∙ fine));
+      answers = λ fine. subst (Names k.unanswered) (sym (m.fields Bits SActive (λ e. cc e))) (right.answers (sym (same_error old new port m) ∙ fine));
       replies = tt;
       asked = tt;
-      fine = same_error ∙ right.fine;
+      fine = (same_error old new port m) ∙ right.fine;
     };
     fits = λ fits. absurd fits;
     short = λ few. tt;
@@ -158,13 +167,9 @@ module _ (k : Ledger) (old new : List ℕ) (port : ℕ) (m : IsMarked port old n
       }
 
   alike_activate : IsAlike (Ok (view.DmaActivate old)) (Ok (view.DmaActivate new))
-  alike_activate = record {
-    up = refl;
-    down = refl;
-    right = λ right. record { moves = right.moves; answers = tt; replies = tt; asked = tt; fine = refl };
-    fits = λ fits. absurd fits;
-    short = λ few. tt;
-  }
+  alike_activate =
+      only_up (Ok (view.DmaActivate old)) (Ok (view.DmaActivate new)) refl refl
+      (λ right. record { moves = right.moves; answers = tt; replies = tt; asked = tt; fine = refl }) (λ fits. fits) tt
 
   alike_data : IsAlike (Ok (view.Payload old)) (Ok (view.Payload new))
   alike_data = record {
@@ -184,13 +189,9 @@ module _ (k : Ledger) (old new : List ℕ) (port : ℕ) (m : IsMarked port old n
   }
 
   alike_other : IsAlike (Ok (view.Unknown old)) (Ok (view.Unknown new))
-  alike_other = record {
-    up = refl;
-    down = refl;
-    right = λ right. record { moves = tt; answers = tt; replies = tt; asked = tt; fine = refl };
-    fits = λ fits. absurd fits;
-    short = λ few. tt;
-  }
+  alike_other =
+      only_up (Ok (view.Unknown old)) (Ok (view.Unknown new)) refl refl
+      (λ right. record { moves = tt; answers = tt; replies = tt; asked = tt; fine = refl }) (λ fits. fits) tt
 
   alike_kind : (kind : Kind) → IsAlike (Ok (view_as kind old)) (Ok (view_as kind new))
   alike_kind H2d = alike_h2d
@@ -202,34 +203,12 @@ module _ (k : Ledger) (old new : List ℕ) (port : ℕ) (m : IsMarked port old n
   alike_kind Bits = alike_bits
   alike_kind Other = alike_other
 
-  alike_by : (b : Bool) (kind : Kind)
-      → IsAlike (if b then Ok (view_as kind old) else Err WrongLength) (if b then Ok (view_as kind new) else Err WrongLength)
-  alike_by true kind = alike_kind kind
-  alike_by false kind = record {
-    up = refl;
-    down = refl;
-    right = λ right. record { moves = tt; answers = tt; replies = tt; asked = tt; fine = refl };
-    fits = λ fits. absurd fits;
-    short = λ few. tt;
-  }
-
-  seen_old : seen old ≡ (if may_have (kind_of old) (length old) then Ok (view_as (kind_of old) old) else Err WrongLength)
-  unfolding seen
-  seen_old = refl
-
   heard_alike : IsHeardAlike k old new
   heard_alike =
-      let b : Bool = may_have (kind_of old) (length old) in
-      let a : IsAlike (if may_have (kind_of old) (length old) then Ok (view_as (kind_of old) old) else Err WrongLength)
-      (if may_have (kind_of old) (length old) then Ok (view_as (kind_of old) new) else Err WrongLength) =
-      alike_by (may_have (kind_of old) (length old)) (kind_of old) in
-      record {
-        up = ap (listens_up k) m.view ∙ a.up ∙ sym (ap (listens_up k) seen_old);
-        down = ap (listens_down k) m.view ∙ a.down ∙ sym (ap (listens_down k) seen_old);
-        right = λ right. subst (IsRight k) (sym m.view) (a.right (subst (IsRight k) seen_old right));
-        fits = λ fits. subst (Fits k) (sym m.view) (a.fits (subst (Fits k) seen_old fits));
-        short = λ few. subst IsShort (sym m.view) (a.short (subst IsShort seen_old few));
-      }
+      let bad : IsAlike (Err WrongLength) (Err WrongLength) =
+      only_up (Err WrongLength) (Err WrongLength) refl refl (λ right. record { moves = tt; answers = tt; replies = tt; asked = tt; fine = refl }) (λ fits. fits) tt in
+      let a : IsAlike (seen old) (seen new) = by_kinds old new port m IsAlike alike_kind bad in
+      record { up = a.up; down = a.down; right = a.right; fits = a.fits; short = a.short }
 
 pub marks_tell_nothing : MarksTellNothing
 marks_tell_nothing k bytes port frame below = heard_alike k bytes (marked bytes port) port (is_marked bytes port frame below)

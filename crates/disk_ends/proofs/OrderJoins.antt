@@ -16,7 +16,7 @@ use Rattle.slots.specs.Slots.{DeviceSlots, Issue, freed, holds, is_control, issu
 use Rattle.slots.specs.Work.{is_queued}
 use Rattle.slots.specs.declared.table.Context.{Context}
 use Rattle.slots.specs.declared.work.Kind.{Kind}
-use Rattle.slots.specs.declared.work.Kind.TheVariants.{Control, NoData, PioIn, QueuedRead, QueuedWrite}
+use Rattle.slots.specs.declared.work.Kind.TheVariants.{QueuedRead, QueuedWrite}
 use Rattle.slots.specs.declared.work.Work.{Work}
 use Rattle.hba_commands.specs.declared.command.Command as issued_command
 use Rattle.hba_fbs.specs.Sending.{Data, Gives, Order, Outgoing, data_fis, gathered, outgoing}

@@ -1,12 +1,9 @@
 -- What becomes of a host and of a disk that it watches, at each FIS of the disk.
-use Rattle.std.proofs.Common.{◌≡◌, ◌==◌, ℕ, ◌<◌, Bool, true, false, List, [], ◌∷◌, ◌++◌, drop, refl, sym, ap, subst, ◌∙◌, inl, inr, Option, None, Ok, Err, Result, arith}
+use Rattle.std.proofs.Common.{◌≡◌, ◌==◌, ℕ, ◌<◌, Bool, true, false, List, [], ◌∷◌, ◌++◌, refl, sym, ap, ◌∙◌, inl, inr, None, arith}
 use Rattle.std.specs.Prelude.{◌⊎◌, if◌then◌else◌, is_some}
 use Rattle.std.proofs.lemmas.Bool.{true≢false}
 use Rattle.fis_view.specs.Frames.{marked}
 use Rattle.fis_view.specs.Seen.{seen}
-use Rattle.fis_view.specs.declared.view.Fis.{Fis}
-use Rattle.fis_view.specs.declared.view.Fis.TheVariants as view
-use Rattle.fis_view.specs.declared.view.FisFault.{FisFault}
 use Rattle.slots.specs.Slots.{DeviceSlots}
 use Rattle.hba_fbs.specs.declared.register.Register.TheVariants.{Ci}
 use Rattle.hba_fbs.specs.declared.report.TakeReport.{TakeReport}
@@ -14,11 +11,10 @@ use Rattle.hba_fbs.specs.Issuing.{aimed, view_issued}
 use Rattle.hba_fbs.specs.Views.{DeviceView, view_of}
 use Rattle.hba_fbs.specs.Writing.{view_after}
 use Rattle.disk_model.specs.declared.plan.DiskPlan.{DiskPlan}
-use Rattle.disk_model.specs.Anew.{IsClear, OwesOnly}
-use Rattle.disk_model.specs.Ends.{Fits, FitsData, reports}
+use Rattle.disk_model.specs.Anew.{IsClear}
+use Rattle.disk_model.specs.Ends.{reports}
 use Rattle.disk_model.specs.Histories.{Happening, Received, Sent}
-use Rattle.disk_model.specs.Ledger.{Ledger, Moving, Reply, Wanted, ledger}
-use Rattle.disk_model.specs.Requests.{request_of}
+use Rattle.disk_model.specs.Ledger.{ledger}
 use Rattle.hba_laws.specs.Client.{own}
 use Rattle.hba_laws.specs.Delivering.{touched}
 use Rattle.hba_laws.specs.History.{History}
@@ -33,42 +29,19 @@ use Rattle.disk_ends.specs.Phases.{AreWatching}
 use Rattle.disk_ends.proofs.AnewJoins.{hosted_on_is_kept}
 use Rattle.disk_ends.proofs.AsideLemmas.{aside_is_kept}
 use Rattle.disk_ends.proofs.FileLaws.{files_stay_fine}
-use Rattle.disk_ends.proofs.LooseLemmas.{lines_begin, not_base, not_waited}
+use Rattle.disk_ends.proofs.LooseLemmas.{gives_none, lines_begin, not_base}
 use Rattle.disk_ends.proofs.PhaseLemmas.{error_faults, none_is}
 use Rattle.disk_ends.proofs.WatchingLemmas.{watches_what_is_fine}
 use Rattle.disk_ends.specs.Same.{SlotCommand}
 
 -- ## Nothing is given
 
-given_none : (k : Ledger) (reply : Reply) (wanted : List Wanted) (r : Result Fis FisFault) → OwesOnly k (reply ∷ []) wanted → Fits k r → ⊥
-given_none k reply wanted (Ok (view.RegH2D f)) owes fits =
-    let bad : reply ∷ [] ≡ [] = sym owes.awaited ∙ not_waited k (request_of f) fits.1 in
-    cc bad
-given_none k reply wanted (Ok (view.Payload f)) owes fits = subst (λ (v : Option Moving). FitsData v (drop 4 f)) owes.clear.moving fits
-given_none k reply wanted other owes fits = absurd fits
-
 pub nothing_is_given : NothingIsGiven
-nothing_is_given k reply wanted bytes owes fits = given_none k reply wanted (seen bytes) owes fits
+nothing_is_given k reply wanted bytes owes fits = gives_none k reply wanted (seen bytes) owes fits
 
 -- ## Where both began
 
 module _ (n : ℕ) (base : List Happening) (below : n < 15) where
-  began_clear : (host : Host) (given : List Happening) (commands : ℕ → SlotCommand) (past : History) → IsHostedOn n base host given commands past
-      → IsClear (ledger base)
-  began_clear host given commands past (anew.opens h c p opening) = opening.clear
-  began_clear host given commands past (anew.stays old new g c p same hosted) = began_clear old g c p hosted
-  began_clear host given commands past (anew.signs old new bytes report g c p sound plain framed from_n well right hosted) =
-      began_clear old g c p hosted
-  began_clear host given commands past (anew.hears old new bytes report g c p sound plain framed from_n well right short hosted) =
-      began_clear old g c p hosted
-  began_clear host given commands past (anew.issues old new value g c next p sound chosen does tags names counted hosted) = began_clear old g c p hosted
-  began_clear host given commands past (anew.sends old new frame slot command f t g c p sound framed does out here queued cfis request signed hosted) =
-      began_clear old g c p hosted
-  began_clear host given commands past
-      (anew.asks old new frame slot command f t g c p sound framed does out here not_queued control cfis one none signed hosted) =
-      began_clear old g c p hosted
-  began_clear host given commands past (anew.gives old new frame offset len command g c p sound framed does out hosted) = began_clear old g c p hosted
-
   -- more than the base is not the base
   pub not_yet : (old : Host) (g : List Happening) (c : ℕ → SlotCommand) (p : History) (e : Happening) → IsHostedOn n base old g c p → g ++ e ∷ [] ≡ base → ⊥
   not_yet old g c p e hosted same =
@@ -87,25 +60,31 @@ module _ (n : ℕ) (base : List Happening) (below : n < 15) where
       issued_by true = unset
       issued_by false = unset
 
-  -- no setup stands there
+  -- where both began the ledger is clear, and no setup stands at the port until something more is told
+  began : (host : Host) (given : List Happening) (commands : ℕ → SlotCommand) (past : History) → IsHostedOn n base host given commands past
+      → IsClear (ledger base) × (given ≡ base → (view_of n host.port).slots.context ≡ None)
+  began host given commands past (anew.opens h c p opening) = (opening.clear, λ same. opening.unset)
+  began host given commands past (anew.stays old new g c p keeps hosted) =
+      let b = began old g c p hosted in
+      (b.0, λ same. ap (λ (own : DeviceSlots). own.context) keeps.slots ∙ b.1 same)
+  began host given commands past (anew.issues old new value g c next p sound chosen does tags names counted hosted) =
+      let b = began old g c p hosted in
+      (b.0, λ same. issued_unset old new value does (b.1 same))
+  began host given commands past (anew.signs old new bytes report g c p sound plain framed from_n well right hosted) =
+      ((began old g c p hosted).0, λ same. absurd (not_yet old g c p (Sent bytes) hosted same))
+  began host given commands past (anew.hears old new bytes report g c p sound plain framed from_n well right short hosted) =
+      ((began old g c p hosted).0, λ same. absurd (not_yet old g c p (Sent bytes) hosted same))
+  began host given commands past (anew.sends old new frame slot command f t g c p sound framed does out here queued cfis request signed hosted) =
+      ((began old g c p hosted).0, λ same. absurd (not_yet old g c p (Received (marked frame.bytes 0)) hosted same))
+  began host given commands past
+      (anew.asks old new frame slot command f t g c p sound framed does out here not_queued control cfis one none signed hosted) =
+      ((began old g c p hosted).0, λ same. absurd (not_yet old g c p (Received (marked frame.bytes 0)) hosted same))
+  began host given commands past (anew.gives old new frame offset len command g c p sound framed does out hosted) =
+      ((began old g c p hosted).0, λ same. absurd (not_yet old g c p (Received (marked frame.bytes 0)) hosted same))
+
   pub began_unset : (host : Host) (given : List Happening) (commands : ℕ → SlotCommand) (past : History) → IsHostedOn n base host given commands past
       → given ≡ base → (view_of n host.port).slots.context ≡ None
-  began_unset host given commands past (anew.opens h c p opening) same = opening.unset
-  began_unset host given commands past (anew.stays old new g c p keeps hosted) same =
-      ap (λ (own : DeviceSlots). own.context) keeps.slots ∙ began_unset old g c p hosted same
-  began_unset host given commands past (anew.signs old new bytes report g c p sound plain framed from_n well right hosted) same =
-      absurd (not_yet old g c p (Sent bytes) hosted same)
-  began_unset host given commands past (anew.hears old new bytes report g c p sound plain framed from_n well right short hosted) same =
-      absurd (not_yet old g c p (Sent bytes) hosted same)
-  began_unset host given commands past (anew.issues old new value g c next p sound chosen does tags names counted hosted) same =
-      issued_unset old new value does (began_unset old g c p hosted same)
-  began_unset host given commands past (anew.sends old new frame slot command f t g c p sound framed does out here queued cfis request signed hosted) same =
-      absurd (not_yet old g c p (Received (marked frame.bytes 0)) hosted same)
-  began_unset host given commands past
-      (anew.asks old new frame slot command f t g c p sound framed does out here not_queued control cfis one none signed hosted) same =
-      absurd (not_yet old g c p (Received (marked frame.bytes 0)) hosted same)
-  began_unset host given commands past (anew.gives old new frame offset len command g c p sound framed does out hosted) same =
-      absurd (not_yet old g c p (Received (marked frame.bytes 0)) hosted same)
+  began_unset host given commands past hosted same = (began host given commands past hosted).1 same
 
 -- ## The outcome
 
@@ -135,7 +114,7 @@ module _ (plan : DiskPlan) (sectors : ℕ) (base disk given : List Happening) (d
       inl (laws.stays plan sectors base disk given down up bytes n host report new (next_heard fine) file)
   file_by fine (inl same) =
       let laws : FilesStayFine = files_stay_fine in
-      let clear : IsClear (ledger base) = began_clear n base x.below host given commands past x.hosted in
+      let clear : IsClear (ledger base) = (began n base x.below host given commands past x.hosted).0 in
       elim (laws.first plan sectors base disk given down up bytes n host report new (next_heard fine) clear same
       (began_unset n base x.below host given commands past x.hosted same)) [
         | inl file ↦ inl file

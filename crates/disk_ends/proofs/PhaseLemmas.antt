@@ -1,5 +1,5 @@
 -- What is done in each phase, and what the host makes of what comes next.
-use Rattle.std.proofs.Common.{◌≡◌, ◌==◌, ◌%◌, ◌/◌, ◌∙◌, ℕ, ◌<◌, Bool, true, false, List, [], ◌∷◌, ◌++◌, refl, sym, ap, subst, length, inl, inr, Option, Some, None, Ok, Err, Result, arith}
+use Rattle.std.proofs.Common.{◌≡◌, ◌∙◌, ℕ, ◌<◌, Bool, true, false, List, [], ◌∷◌, ◌++◌, refl, sym, ap, subst, length, inl, inr, Option, Some, None, Ok, Result, arith}
 use Rattle.std.specs.Prelude.{◌⊎◌, is_some, if◌then◌else◌}
 use Rattle.std.proofs.lemmas.Bool.{true≢false}
 use Rattle.fis_view.specs.Frames.{IsFrame, marked}
@@ -43,7 +43,7 @@ use Rattle.disk_ends.specs.Together.{told}
 use Rattle.disk_ends.proofs.AnewJoins.{hosted_on_is_kept}
 use Rattle.disk_ends.proofs.AsideLemmas.{aside_is_kept}
 use Rattle.disk_ends.proofs.FollowedLemmas.{followed_is_honest, next_or_fails, takes_on}
-use Rattle.disk_ends.proofs.HeardLemmas.{heard_as_told}
+use Rattle.disk_ends.proofs.HeardLemmas.{error_is, heard_as_told, heard_if}
 use Rattle.disk_ends.proofs.MarkedLemmas.{bits_by, marks_tell_nothing}
 use Rattle.disk_ends.proofs.SignsLemmas.{signature_is_none}
 use Rattle.disk_ends.specs.Same.{SlotCommand}
@@ -76,11 +76,6 @@ marked_bits port old g frame below is =
     let parts = bits_by (kind_of old) (may_have (kind_of old) (length old)) (marked old port) old g is in
     (m.view ∙ parts.0, parts.1)
 
-error_set : (status : ℕ) → (status % 2 == 1) ≡ true → is_error status ≡ true
-error_set status is =
-    let same : status / 1 ≡ status = omega arith in
-    ap (λ (x : ℕ). x % 2 == 1) same ∙ is
-
 error_heard : (dev : ℕ) (v : DeviceView) (sound : Bool) (f : List ℕ) → is_error (field Bits Status f) ≡ true
     → (heard dev v sound (admitted dev (Ok (view.SetBits f)))).fault ≡ Some (fault.Device cause.TaskFile)
 unfolding heard_fis
@@ -90,13 +85,6 @@ error_heard dev v sound f is =
     let mask : ℕ = field Bits SActive f in
     ap (λ (b : Bool). (if b then faulty (with_bits v.state status error) cause.TaskFile
     else named (completed mask v.slots) (with_bits v.state status error) mask).fault) is
-
-pub heard_if : (host new : Host) (frame : List ℕ) (report : TakeReport) (b : Bool) → ignores (port_of frame) host.port frame ≡ b
-    → TakesFrame host frame report new → report.ignored ≡ false → b ≡ false
-heard_if host new frame report false is takes heard = refl
-heard_if host new frame report true is takes heard =
-    let said = (takes.ignored is).reports in
-    absurd (true≢false (sym (ap (λ (r : TakeReport). r.ignored) said) ∙ heard))
 
 pub error_faults : (n : ℕ) (host new : Host) (bytes : List ℕ) (report : TakeReport) → n < 16 → IsFrame bytes → TakesFrame host (marked bytes n) report new
     → report.ignored ≡ false → reports (seen bytes) ≡ true → is_some report.fault ≡ true
@@ -110,7 +98,7 @@ error_faults n host new bytes report below plain takes heard_it fails =
     let m = marked_bits n bytes e.frame plain below e.is in
     let status : field Bits Status (marked bytes n) ≡ field Bits Status bytes = (is_marked bytes n plain below).fields Bits Status (λ x. cc x) in
     let set : is_error (field Bits Status (marked bytes n)) ≡ true =
-    ap is_error status ∙ error_set (field Bits Status bytes) (subst (λ (f : List ℕ). has_error f ≡ true) m.1 e.error) in
+    ap is_error status ∙ error_is (field Bits Status bytes) ∙ subst (λ (f : List ℕ). has_error f ≡ true) m.1 e.error in
     let not_ignored : ignores (port_of (marked bytes n)) host.port (marked bytes n) ≡ false =
     heard_if host new (marked bytes n) report (ignores (port_of (marked bytes n)) host.port (marked bytes n)) refl takes heard_it in
     let bad : (heard_now host.port host.memory (port_of (marked bytes n)) (admitted (port_of (marked bytes n)) (seen (marked bytes n)))).fault ≡ Some (fault.Device cause.TaskFile) =

@@ -15,7 +15,7 @@ use Rattle.disk_model.specs.Ledger.{Ledger, Moving, starts_moving}
 use Rattle.disk_model.proofs.CrossLemmas.{opened, opens_free}
 use Rattle.disk_model.proofs.PutLemmas.{lie_where_put}
 use Rattle.hba_laws.specs.History.{Carried, History, Issued, Sent, SetUp, Setup, Transfer, carried, filled, filled_from, is_at, is_set_up, last_setup, next_number, none_filled, unless, waiting_in}
-use Rattle.disk_ends.specs.Same.{CommandsKeep, DataFills, InLife, IsEndedBy, IsLastOf, IsMovingAt, IsMovingSince, IssuesKeep, Moves, Open, ReadEnded, SetupsStart, SlotCommand, Stand, StandsOnce, Unsent, WriteEnded}
+use Rattle.disk_ends.specs.Same.{CommandsKeep, DataFills, InLife, IsEndedBy, IsLastOf, IsMovingAt, IssuesKeep, Moves, Open, ReadEnded, SetupsStart, SlotCommand, Stand, StandsOnce, Unsent, WriteEnded}
 
 -- ## Lists
 
@@ -59,7 +59,7 @@ found_last s cs c none is =
 names_as : (v : Moving) (past later : History) → last_setup later ≡ last_setup past → IsLastOf v past → IsLastOf v later
 names_as v past later same names = record { setup = names.setup; last = same ∙ names.last; offset = names.offset; count = names.count }
 
-moving_as : (s : ℕ) (v : Moving) (past later : History) → (is_at s (waiting_in past) ≡ false → is_at s (waiting_in later) ≡ false)
+pub moving_as : (s : ℕ) (v : Moving) (past later : History) → (is_at s (waiting_in past) ≡ false → is_at s (waiting_in later) ≡ false)
     → is_set_up s later ≡ is_set_up s past → filled s later ≡ filled s past → last_setup later ≡ last_setup past → carried later ≡ carried past
     → IsMovingAt s v past → IsMovingAt s v later
 moving_as s v past later waits set fills last since m = record {
@@ -118,9 +118,10 @@ issues_keep = record { own = issue_own; other = issue_other }
 -- ## A command goes out
 
 -- where the tag is free nothing came of the command
-record IsFresh (s : ℕ) (past : History) : Type 0 where
+record IsFresh (s since : ℕ) (past : History) (k : Ledger) : Type 0 where
   unset : is_set_up s past ≡ false
   none : filled s past ≡ none_filled
+  counted : since ≤ length k.writes
 
 stands_there : (s : ℕ) (us ahead behind : List ℕ) → us ≡ ahead ++ s ∷ behind → has s us ≡ true
 stands_there s us ahead behind is =
@@ -136,17 +137,18 @@ not_moving : (s : ℕ) (c : Command) (v : Moving) (m : Option Moving) → m ≡ 
 not_moving s c v m moving same tag other =
     true≢false (sym (eq-eqb v.command.tag s (ap (λ (q : Command). q.tag) same ∙ tag)) ∙ subst (MovesOther s) moving other)
 
-fresh_life : (s : ℕ) (c : SlotCommand) (past : History) (k : Ledger) → c.command.tag ≡ s → IsFree k s → InLife s c past k → IsFresh s past
-fresh_life s c past k tag free (Unsent f quiet unset none counted) = record { unset = unset; none = none }
-fresh_life s c past k tag free (Open found yet other unset none counted) = record { unset = unset; none = none }
+fresh_life : (s : ℕ) (c : SlotCommand) (past : History) (k : Ledger) → c.command.tag ≡ s → IsFree k s → InLife s c past k
+    → IsFresh s c.since past k
+fresh_life s c past k tag free (Unsent f quiet unset none counted) = record { unset = unset; none = none; counted = counted }
+fresh_life s c past k tag free (Open found yet other unset none counted) = record { unset = unset; none = none; counted = counted }
 fresh_life s c past k tag free (Moves v moving same yet m counted) = absurd (not_moving s c.command v k.moving moving same tag free.moving)
 fresh_life s c past k tag free (ReadEnded at r e quiet there same stands counted) = absurd (not_none s k.unanswered e.unanswered free.unanswered)
 fresh_life s c past k tag free (WriteEnded at w e quiet there same stands counted) = absurd (not_none s k.unanswered e.unanswered free.unanswered)
 
-sent_own : (s : ℕ) (c : SlotCommand) (past : History) (k : Ledger) → c.command.tag ≡ s → IsFree k s → IsFresh s past → c.since ≤ length k.writes
+sent_own : (s : ℕ) (c : SlotCommand) (past : History) (k : Ledger) → c.command.tag ≡ s → IsFree k s → IsFresh s c.since past k
     → InLife s c (Sent s ∷ past) (opened k c.command)
-sent_own s c past k tag free fresh counted =
-    Open (found_last s k.outstanding c.command free.outstanding tag) free.unanswered free.moving fresh.unset fresh.none counted
+sent_own s c past k tag free fresh =
+    Open (found_last s k.outstanding c.command free.outstanding tag) free.unanswered free.moving fresh.unset fresh.none fresh.counted
 
 ended_beside : (s : ℕ) (b : Bool) (k : Ledger) (other : Command) → eqb other.tag s ≡ false → IsEndedBy s b k → IsEndedBy s b (opened k other)
 ended_beside s b k other differs e = record {
@@ -169,21 +171,13 @@ sent_other s c other past k differs (ReadEnded at r e quiet there same stands co
 sent_other s c other past k differs (WriteEnded at w e quiet there same stands counted) =
     WriteEnded at w (ended_beside s (is_set_up s past) k other differs e) differs there same stands counted
 
--- the writes that it was counted by are there
-counted_life : (s : ℕ) (c : SlotCommand) (past : History) (k : Ledger) → c.command.tag ≡ s → IsFree k s → InLife s c past k → c.since ≤ length k.writes
-counted_life s c past k tag free (Unsent f quiet unset none counted) = counted
-counted_life s c past k tag free (Open found yet other unset none counted) = counted
-counted_life s c past k tag free (Moves v moving same yet m counted) = counted.now
-counted_life s c past k tag free (ReadEnded at r e quiet there same stands counted) = absurd (not_none s k.unanswered e.unanswered free.unanswered)
-counted_life s c past k tag free (WriteEnded at w e quiet there same stands counted) = absurd (not_none s k.unanswered e.unanswered free.unanswered)
-
 pub commands_keep : CommandsKeep
 commands_keep = record {
   own = λ s c past k tag failed free life.
       let here : list_any (λ q. q.tag == c.command.tag) k.outstanding ≡ false =
       subst (λ (t : ℕ). list_any (λ q. q.tag == t) k.outstanding ≡ false) (sym tag) free.outstanding in
       subst (λ (l : Ledger). InLife s c (Sent s ∷ past) l) (sym (opens_free k c.command failed here))
-      (sent_own s c past k tag free (fresh_life s c past k tag free life) (counted_life s c past k tag free life));
+      (sent_own s c past k tag free (fresh_life s c past k tag free life));
   other = λ s c other past k differs failed free life.
       subst (λ (l : Ledger). InLife s c (Sent other.tag ∷ past) l) (sym (opens_free k other failed free.outstanding))
       (sent_other s c other past k differs life);

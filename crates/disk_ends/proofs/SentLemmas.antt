@@ -1,11 +1,11 @@
 -- The FISes that a disk sends.
-use Rattle.std.proofs.Common.{◌≡◌, ℕ, Bool, List}
+use Rattle.std.proofs.Common.{◌≡◌, ℕ, List}
 use Rattle.fis_view.specs.Table.{EStatus, Pio, field, places}
 use Rattle.fis_view.specs.Built.{cut}
 use Rattle.fis_view.specs.Seen.{seen}
 use Rattle.disk_model.specs.declared.answer.Answer.{Answer}
-use Rattle.disk_model.specs.declared.answer.Answer.TheVariants.{Signature, Accepted, Finished, Refused, Ended, PageFollows, PageData}
-use Rattle.disk_model.specs.Sendings.{Sending, Register, SetsBits, SetsUp, Activates, SetsUpPio, Carries, Shows, answer_sent, page_follows}
+use Rattle.disk_model.specs.declared.answer.Answer.TheVariants.{PageFollows, PageData}
+use Rattle.disk_model.specs.Sendings.{Sending, SetsUp, Activates, Carries, Shows, answer_sent, page_follows}
 use Rattle.disk_model.proofs.TurnCases.{IsTransfer, sent_by}
 use Rattle.disk_model.specs.declared.plan.DiskPlan.{DiskPlan}
 use Rattle.disk_ends.specs.Files.{DisksSendTheirs, IsOfDisk}

@@ -1,17 +1,16 @@
 -- No DMA Setup whose data moves names more bytes than a Data FIS holds.
-use Rattle.std.proofs.Common.{◌≡◌, ◌==◌, ℕ, ◌≤◌, Bool, true, false, List, drop, refl, sym, ap, subst, ◌∙◌, Option, Some, None, Ok, Err, Result}
-use Rattle.std.specs.Prelude.{find}
+use Rattle.std.proofs.Common.{◌≡◌, ℕ, ◌≤◌, Bool, true, false, List, drop, refl, sym, ap, subst, ◌∙◌, Option, Some, None, Ok, Result}
 use Rattle.fis_view.specs.Table.{BufferId, Offset, Setup, field}
 use Rattle.fis_view.specs.Table as table
 use Rattle.fis_view.specs.declared.view.Fis.{Fis}
 use Rattle.fis_view.specs.declared.view.Fis.TheVariants as view
 use Rattle.fis_view.specs.declared.view.FisFault.{FisFault}
-use Rattle.disk_model.specs.declared.request.Command.{Command}
 use Rattle.disk_model.specs.Ends.{IsAskedFor, IsRight}
-use Rattle.disk_model.specs.Laws.{ActivatesRight, CarriesNext, CarriesRight, SetsUpRight, StartsOne}
-use Rattle.disk_model.specs.Ledger.{Ledger, Moving, activates, is_auto, listens_up, sends_data, sets_up, starts_moving, takes_data, with_auto}
+use Rattle.disk_model.specs.Laws.{ActivatesRight, CarriesNext, CarriesRight}
+use Rattle.disk_model.specs.Ledger.{Ledger, Moving, activates, is_auto, listens_up, sends_data, sets_up, takes_data, with_auto}
 use Rattle.disk_model.proofs.CrossLemmas.{after_bytes, bits_up, data_down, goes_by, is_all, with_bytes}
 use Rattle.disk_ends.specs.Joined.{AreShort, IsShort}
+use Rattle.disk_ends.proofs.TogetherLemmas.{set_up_now}
 
 same_count : (a v : Moving) → Some a ≡ Some v → a.count ≡ v.count
 same_count a v e = let is : a ≡ v = cc e in ap (λ (x : Moving). x.count) is
@@ -22,26 +21,11 @@ short_bytes k w bytes true true was short v now = cc now
 short_bytes k w bytes true false was short v now = cc now
 short_bytes k w bytes false write was short v now = subst (λ (n : ℕ). n ≤ 8192) (same_count (with_bytes w bytes) v now) (short w was)
 
-short_setup : (k : Ledger) (f : List ℕ) (m : Option Moving) (o : Option Command) → k.moving ≡ m
-    → find (λ q. q.tag == field Setup BufferId f) k.outstanding ≡ o → IsRight k (Ok (view.DmaSetup f)) → field Setup table.Count f ≤ 8192
+short_setup : (k : Ledger) (f : List ℕ) → IsRight k (Ok (view.DmaSetup f)) → field Setup table.Count f ≤ 8192
     → AreShort (sets_up k k.moving (field Setup BufferId f) (field Setup Offset f) (field Setup table.Count f))
-short_setup k f None None moving found right few v now =
-    let first : SetsUpRight k None f = subst (λ (x : Option Moving). SetsUpRight k x f) moving right.moves in
-    absurd (subst (λ (q : Option Command). StartsOne q f) found first)
-short_setup k f None (Some q) moving found right few v now =
-    let at = field Setup Offset f in
-    let count = field Setup table.Count f in
-    let up : sets_up k k.moving (field Setup BufferId f) at count ≡ starts_moving k at count (Some q) =
-    ap (λ (x : Option Moving). sets_up k x (field Setup BufferId f) at count) moving ∙ ap (starts_moving k at count) found in
-    let here = sym (ap (λ (x : Ledger). x.moving) up) ∙ now in
-    subst (λ (n : ℕ). n ≤ 8192) (same_count _ v here) few
-short_setup k f (Some w) o moving found right few v now =
-    let at = field Setup Offset f in
-    let count = field Setup table.Count f in
-    let up : sets_up k k.moving (field Setup BufferId f) at count ≡ sets_up k (Some w) (field Setup BufferId f) at count =
-    ap (λ (x : Option Moving). sets_up k x (field Setup BufferId f) at count) moving in
-    let here = sym (ap (λ (x : Ledger). x.moving) up) ∙ now in
-    subst (λ (n : ℕ). n ≤ 8192) (same_count _ v here) few
+short_setup k f right few v now =
+    let u = set_up_now k f right in
+    subst (λ (n : ℕ). n ≤ 8192) (u.count ∙ same_count u.current v (sym u.moving ∙ now)) few
 
 short_active : (x : Ledger) (m : Option Moving) → x.moving ≡ m → AreShort x → AreShort (activates x m)
 short_active x None moving short v now = short v now
@@ -76,7 +60,7 @@ short_up k (Ok (view.SetBits f)) right few short = λ v now. short v (sym (ap (�
 short_up k (Ok (view.DmaActivate f)) right few short = short_activate k k.moving refl right.moves short
 short_up k (Ok (view.DmaSetup f)) right few short =
     short_auto (is_auto f) (sets_up k k.moving (field Setup BufferId f) (field Setup Offset f) (field Setup table.Count f))
-    (short_setup k f k.moving (find (λ q. q.tag == field Setup BufferId f) k.outstanding) refl refl right few)
+    (short_setup k f right few)
 short_up k (Ok (view.Payload f)) right few short = short_data k (drop 4 f) k.moving refl right.moves short
 short_up k other right few short = short
 

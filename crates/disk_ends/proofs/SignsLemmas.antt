@@ -1,5 +1,5 @@
 -- The signature that ends a device's software reset.
-use Rattle.std.proofs.Common.{◌≡◌, ◌==◌, ◌&&◌, ◌||◌, eqb, ℕ, ◌%◌, Bool, true, false, List, [], ◌∷◌, drop, refl, sym, ap, subst, ◌∙◌, None, Ok, Err, Result}
+use Rattle.std.proofs.Common.{◌≡◌, ◌==◌, ◌&&◌, ◌||◌, eqb, ℕ, ◌%◌, Bool, true, false, List, [], ◌∷◌, drop, refl, sym, ap, subst, ◌∙◌, None, Ok, Result}
 use Rattle.std.specs.Prelude.{not, is_some, if◌then◌else◌}
 use Rattle.std.proofs.lemmas.Bool.{and_parts, or_parts, true≢false}
 use Rattle.fis_view.specs.Table.{D2h, Status, Error, field}
@@ -30,7 +30,7 @@ use Rattle.disk_ends.specs.Anew.{IsSignedWell, SignatureIsNone}
 use Rattle.disk_ends.specs.Joined.{IsJoined}
 use Rattle.disk_ends.specs.Together.{AtMostAccepts, InTalk, Pages, Queues, Replies, Same, Shows}
 use Rattle.disk_ends.proofs.AnswerLemmas.{IsBeside, free_beside, life_beside}
-use Rattle.disk_ends.proofs.HeardLemmas.{list_of, own_list}
+use Rattle.disk_ends.proofs.HeardLemmas.{heard_if, list_of, own_list}
 use Rattle.disk_ends.proofs.JoinLemmas.{asked_same}
 use Rattle.disk_ends.specs.Same.{SlotCommand}
 
@@ -52,17 +52,10 @@ not_test false false false d unset on = cc on
 not_test true b c d unset on = cc unset
 not_test false true c d unset on = cc unset
 
-heard_it : (host new : Host) (frame : List ℕ) (report : TakeReport) (b : Bool) → ignores (port_of frame) host.port frame ≡ b
-    → IsSignedWell host frame report new → b ≡ false
-heard_it host new frame report false is well = refl
-heard_it host new frame report true is well =
-    let takes : TakesFrame host frame report new = well.takes in
-    let reports = (takes.ignored is).reports in
-    absurd (true≢false (sym (ap (λ (r : TakeReport). r.ignored) reports) ∙ well.heard))
-
 pub not_ignored : (host new : Host) (frame : List ℕ) (report : TakeReport) → IsSignedWell host frame report new
     → ignores (port_of frame) host.port frame ≡ false
-not_ignored host new frame report well = heard_it host new frame report (ignores (port_of frame) host.port frame) refl well
+not_ignored host new frame report well =
+    heard_if host new frame report (ignores (port_of frame) host.port frame) refl well.takes well.heard
 
 pub signed : (host new : Host) (frame : List ℕ) (report : TakeReport) → IsSignedWell host frame report new → IsSigned (seen frame)
 signed host new frame report well =

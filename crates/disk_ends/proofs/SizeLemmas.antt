@@ -7,16 +7,18 @@ use Rattle.fis_view.specs.Seen.{seen}
 use Rattle.disk_model.specs.declared.plan.DiskPlan.{DiskPlan}
 use Rattle.disk_model.specs.declared.request.Command.{Command}
 use Rattle.disk_model.specs.declared.answer.Answer.{Answer}
-use Rattle.disk_model.specs.declared.answer.Answer.TheVariants.{Accepted, Ended, Finished, PageData, PageFollows, Refused, Signature}
+use Rattle.disk_model.specs.declared.answer.Answer.TheVariants.{PageData}
 use Rattle.disk_model.specs.declared.answer.Fault.{Fault}
 use Rattle.disk_model.specs.Chunks.{chunk_count, chunk_from, chunk_setup, chunks, fault_of}
 use Rattle.disk_model.specs.Disks.{Moment, Started, Writing, opening, pick_turn, picked, read_turn, turn, write_turn}
-use Rattle.disk_model.specs.Ends.{IsLinked, begins, comes, gives, sends, takes}
-use Rattle.disk_model.specs.Histories.{Happening, Received, Sent}
+use Rattle.disk_model.specs.Anew.{IsLinkedOn}
+use Rattle.disk_model.specs.Anew as link
+use Rattle.disk_model.specs.Histories.{Happening, Plugged, Received, Sent}
 use Rattle.disk_model.specs.Ledger.{IsSize, Moving, ledger}
 use Rattle.disk_model.specs.Runs.{IsDiskRun, IsTurn, moment}
 use Rattle.disk_model.specs.Sendings.{Sending, Shows, answer_sent}
 use Rattle.disk_model.proofs.AgreeLemmas.{Asked, Fresh, IsReading, IsWriting, Moves, SetUp, Stage, at}
+use Rattle.disk_model.proofs.AnewLemmas.{linked_since_new}
 use Rattle.disk_model.proofs.FaultLemmas.{can_be_done}
 use Rattle.disk_model.proofs.GeometryLemmas.{ChunkPart, chunk_part, some_chunks}
 use Rattle.disk_model.proofs.LawLemmas.{agrees, begun_by, last_may, same_turn, sized_by}
@@ -118,7 +120,7 @@ chunk_high plan sectors size =
     let most = and_parts (nat_le 1 sectors && nat_le sectors 65536 && nat_le 512 plan.chunk) (nat_le plan.chunk 8192) all.0 in
     leb-true plan.chunk 8192 most.1
 
-pub sent_short : (plan : DiskPlan) (sectors : ℕ) (h : List Happening) (b : List ℕ) → IsSize plan sectors → IsDiskRun plan sectors (h ++ Sent b ∷ [])
+sent_short : (plan : DiskPlan) (sectors : ℕ) (h : List Happening) (b : List ℕ) → IsSize plan sectors → IsDiskRun plan sectors (h ++ Sent b ∷ [])
     → IsShort (seen b)
 sent_short plan sectors h b size run =
     let parts = last_may plan sectors (opening sectors) h (Sent b) run in
@@ -129,25 +131,34 @@ sent_short plan sectors h b size run =
 
 -- ## What is on its way up
 
-abbrev pub AllShort : List (List ℕ) → Type 0
-AllShort [] = Unit {0}
-AllShort (b ∷ up) = IsShort (seen b) × AllShort up
+-- each of these FISes is such a one
+abbrev pub AreEach : (List ℕ → Type 0) → List (List ℕ) → Type 0
+AreEach P [] = Unit {0}
+AreEach P (b ∷ up) = P b × AreEach P up
 
-pub more_short : (up : List (List ℕ)) (b : List ℕ) → AllShort up → IsShort (seen b) → AllShort (up ++ b ∷ [])
-more_short [] b all one = (one, tt)
-more_short (x ∷ up) b all one = (all.0, more_short up b all.1 one)
+pub each_more : (P : List ℕ → Type 0) (up : List (List ℕ)) (b : List ℕ) → AreEach P up → P b → AreEach P (up ++ b ∷ [])
+each_more P [] b all one = (one, tt)
+each_more P (x ∷ up) b all one = (all.0, each_more P up b all.1 one)
 
-up_short : (plan : DiskPlan) (sectors : ℕ) (disk host : List Happening) (down up : List (List ℕ)) → IsSize plan sectors → IsDiskRun plan sectors disk
-    → IsLinked disk host down up → AllShort up
-up_short plan sectors disk host down up size run begins = tt
-up_short plan sectors disk host down up size run (gives d h below above bytes linked) = up_short plan sectors d h below above size run linked
-up_short plan sectors disk host down up size run (comes d h before after above bytes linked) =
-    up_short plan sectors d h (before ++ bytes ∷ after) above size (last_may plan sectors (opening sectors) d (Received bytes) run).0 linked
-up_short plan sectors disk host down up size run (sends d h below above bytes fine linked) =
-    more_short above bytes (up_short plan sectors d h below above size (last_may plan sectors (opening sectors) d (Sent bytes) run).0 linked)
-    (sent_short plan sectors d bytes size run)
-up_short plan sectors disk host down up size run (takes d h below above bytes linked) =
-    (up_short plan sectors d h below (bytes ∷ above) size run linked).1
+-- what each FIS is that the disk sends each is that comes up
+module _ (plan : DiskPlan) (sectors : ℕ) (base : List Happening) (P : List ℕ → Type 0)
+    (each : (h : List Happening) (b : List ℕ) → IsDiskRun plan sectors (h ++ Sent b ∷ []) → P b) where
+  pub up_each : (disk host : List Happening) (down stale up : List (List ℕ)) → IsDiskRun plan sectors disk → IsLinkedOn base disk host down stale up
+      → AreEach P up
+  up_each disk host down stale up run (link.begins s clear) = tt
+  up_each disk host down stale up run (link.gives d h below s above bytes linked) = up_each d h below s above run linked
+  up_each disk host down stale up run (link.comes d h before after s above bytes linked) =
+      up_each d h (before ++ bytes ∷ after) s above (last_may plan sectors (opening sectors) d (Received bytes) run).0 linked
+  up_each disk host down stale up run (link.sends d h below s above bytes fine linked) =
+      each_more P above bytes (up_each d h below s above (last_may plan sectors (opening sectors) d (Sent bytes) run).0 linked) (each d bytes run)
+  up_each disk host down stale up run (link.drops d h below s above bytes linked) = up_each d h below (bytes ∷ s) above run linked
+  up_each disk host down stale up run (link.takes d h below above bytes linked) = (up_each d h below [] (bytes ∷ above) run linked).1
+
+pub comes_short : (plan : DiskPlan) (sectors : ℕ) (base disk host : List Happening) (down stale up : List (List ℕ)) (bytes : List ℕ)
+    → IsSize plan sectors → IsDiskRun plan sectors disk → IsLinkedOn base disk host down stale (bytes ∷ up) → IsShort (seen bytes)
+comes_short plan sectors base disk host down stale up bytes size run linked =
+    (up_each plan sectors base (λ b. IsShort (seen b)) (λ h b may. sent_short plan sectors h b size may) disk host down stale (bytes ∷ up) run linked).0
 
 pub next_short : NextIsShort
-next_short plan sectors disk given down up bytes size run linked = (up_short plan sectors disk given down (bytes ∷ up) size run linked).0
+next_short plan sectors disk given down up bytes size run linked =
+    comes_short plan sectors (Plugged ∷ []) disk given down [] up bytes size run (linked_since_new disk given down (bytes ∷ up) linked)

@@ -1,6 +1,7 @@
 -- Both views of a disk go on to say the same.
-use Rattle.std.proofs.Common.{◌≡◌, ◌==◌, ◌&&◌, eqb, ℕ, ◌+◌, ◌*◌, Bool, true, false, List, [], ◌∷◌, ◌++◌, refl, sym, ap, subst, ◌∙◌, inl, inr, Option, Some, None, Ok, Err, Result, ◌≤◌, length, arith}
+use Rattle.std.proofs.Common.{◌≡◌, ◌==◌, ◌&&◌, eqb, ℕ, ◌+◌, ◌*◌, Bool, true, false, List, [], ◌∷◌, ◌++◌, refl, sym, ap, subst, ◌∙◌, inl, inr, Option, Some, None, Ok, Result, ◌≤◌, length, arith}
 use Rattle.std.specs.Prelude.{◌≢◌, not, if◌then◌else◌, drop, find, replicate}
+use Rattle.std.specs.Int.{from_bool}
 use Rattle.std.specs.List.{list_any}
 use Rattle.std.proofs.lemmas.Bool.{and_parts, cases_Bool, eq-eqb, eqb-true, or_parts, true≢false}
 use Rattle.std.proofs.lemmas.List.Sums.{sum_by-append}
@@ -12,7 +13,7 @@ use Rattle.fis_view.specs.declared.view.FisFault.{FisFault}
 use Rattle.slots.specs.Slots.{has_bit, is_pio}
 use Rattle.slots.specs.Work.{is_queued}
 use Rattle.slots.specs.declared.work.Kind.{Kind}
-use Rattle.slots.specs.declared.work.Kind.TheVariants.{QueuedRead, QueuedWrite, PioIn, NoData, Control}
+use Rattle.slots.specs.declared.work.Kind.TheVariants.{QueuedRead, QueuedWrite}
 use Rattle.disk_model.specs.declared.request.Command.{Command}
 use Rattle.disk_model.specs.declared.request.Request.{Request}
 use Rattle.disk_model.specs.declared.request.Request.TheVariants.{Queue}
@@ -20,14 +21,15 @@ use Rattle.disk_model.specs.declared.request.Request.TheVariants as asked
 use Rattle.disk_model.specs.Ends.{FitsData, FitsRequest, IsFree, IsRight, MovesOther, PageAsked, Rests, has}
 use Rattle.disk_model.specs.Laws.{ActivatesRight, AsksOnce, CarriesNext, CarriesRight, SetsUpNext, SetsUpRight, StartsOne, bytes_named}
 use Rattle.disk_model.specs.Ledger.{Ledger, Moving, Signs, Stretch, activates, answers, asks, ends, is_auto, listens_up, sends_data, sets_up, starts_moving, takes_data, with_auto}
-use Rattle.disk_model.proofs.CrossLemmas.{after_bytes, alone, asks_fits, bits_up, but_free, data_down, found_not, goes_by, has_more, is_all, opened, opens_free, with_bytes}
+use Rattle.disk_model.proofs.CrossLemmas.{after_bytes, alone, asks_fits, bits_up, data_down, found_not, goes_by, is_all, opened, opens_free, with_bytes}
 use Rattle.disk_model.proofs.EntersLemmas.{up_leaves}
 use Rattle.hba_laws.specs.History.{Answered, Carried, History, Issued, Named, Sent, SetUp, Transfer, completes, is_at, is_set_up, issued, unless, waiting_in}
 use Rattle.disk_ends.specs.Same.{InLife, SlotCommand}
+use Rattle.disk_ends.specs.Anew.{OpensTheSame}
 use Rattle.disk_ends.specs.Answers.{IsAlone, IsIdle}
 use Rattle.disk_ends.specs.Together.{AsksOne, InTalk, IsHeard, IsUntouched, IsWaited, NoneQueued, NothingWaits, QueuesOne, Replies, Same, SameGoesOn, is_sent, told, with_command}
 use Rattle.disk_ends.proofs.AnswerLemmas.{IsBeside, answers_keep, asks_beside, free_beside, names_keep, others_keep}
-use Rattle.disk_ends.proofs.DataLemmas.{data_comes_down, data_up}
+use Rattle.disk_ends.proofs.DataLemmas.{data_comes_down, data_up, goes_beside, still_free}
 use Rattle.disk_ends.proofs.MoveLemmas.{activates_keep, setups_go_on}
 use Rattle.disk_ends.proofs.SameLemmas.{commands_keep, free_more, issues_keep, setups_start, still_not_at}
 use Rattle.disk_ends.proofs.TalkLemmas.{IsQuiet, Stays, idle_activates, idle_moves, idle_names, idle_sets_up, page_idle, quiet, shows_idle, talk_asks, talk_issues, talk_page, talk_queues, talk_register, talk_shown, talk_stays, waited_on}
@@ -125,38 +127,37 @@ free_up k fis s right free =
 
 free_ends : (s : ℕ) (k : Ledger) (w : Moving) (b write : Bool) → eqb w.command.tag s ≡ false → IsFree k s → IsFree (after_bytes k w b write) s
 free_ends s k w false write other free = record { outstanding = free.outstanding; unanswered = free.unanswered; moving = other }
-free_ends s k w true true other free = record {
-  outstanding = but_free s w.command.tag k.outstanding free.outstanding;
-  unanswered = has_more s w.command.tag k.unanswered free.unanswered other;
-  moving = tt;
-}
-free_ends s k w true false other free = record {
-  outstanding = but_free s w.command.tag k.outstanding free.outstanding;
-  unanswered = has_more s w.command.tag k.unanswered free.unanswered other;
-  moving = tt;
-}
+free_ends s k w true write other free = still_free s w.command.tag k (ends k w write) other (goes_beside k w write) free
 
 -- ## The plugging
 
-pub idle_free : (s : ℕ) (k : Ledger) → IsIdle k → IsFree k s
+idle_free : (s : ℕ) (k : Ledger) → IsIdle k → IsFree k s
 idle_free s k idle = record {
   outstanding = ap (list_any (λ (q : Command). q.tag == s)) idle.outstanding;
   unanswered = ap (has s) idle.unanswered;
   moving = subst (MovesOther s) (sym idle.moving) tt;
 }
 
+pub opens_the_same : OpensTheSame
+opens_the_same commands past k tags none clear talk sent =
+    let idle : IsIdle k = record { outstanding = clear.outstanding; unanswered = clear.unanswered; moving = clear.moving } in
+    record {
+      fine = clear.failed;
+      tags = tags;
+      live = λ s t there queued. absurd (true≢false (sym queued ∙ subst NoneQueued there (none s)));
+      free = λ s unqueued. idle_free s k idle;
+      unsent = λ s unsent. idle_free s k idle;
+      untouched = λ s t there unsent. absurd (true≢false (sym (sent s t there) ∙ unsent));
+      talk = talk;
+    }
+
 opens_same : (commands : ℕ → SlotCommand) (past : History) (k : Ledger) → ((s : ℕ) → (commands s).command.tag ≡ s) → ((s : ℕ) → issued s past ≡ None)
     → k.failed ≡ false → IsIdle k → k.awaited ≡ Signs ∷ [] → k.pages ≡ []
     → Same commands past k
-opens_same commands past k tags nothing fine idle signs none = record {
-  fine = fine;
-  tags = tags;
-  live = λ s t there queued. absurd (none_some t (sym (nothing s) ∙ there));
-  free = λ s unqueued. idle_free s k idle;
-  unsent = λ s sent. idle_free s k idle;
-  untouched = λ s t there sent. absurd (none_some t (sym (nothing s) ∙ there));
-  talk = Replies Signs idle signs tt none;
-}
+opens_same commands past k tags nothing fine idle signs none =
+    opens_the_same commands past k tags (λ s. subst NoneQueued (sym (nothing s)) tt)
+    (record { failed = fine; outstanding = idle.outstanding; unanswered = idle.unanswered; moving = idle.moving }) (Replies Signs idle signs tt none)
+    (λ s t there. absurd (none_some t (sym (nothing s) ∙ there)))
 
 -- ## A command is issued
 
@@ -391,51 +392,86 @@ named_last moved at count setups is =
     sum_by-append (λ (x : Stretch). x.count) setups _ ∙ (omega arith) in
     ap (λ (n : ℕ). n + count) is ∙ sym all
 
-takes_setup : (commands : ℕ → SlotCommand) (f : List ℕ) (past : History) (k : Ledger) (m : Option Moving) (o : Option Command) → k.moving ≡ m
-    → find (λ q. q.tag == field Setup BufferId f) k.outstanding ≡ o
-    → IsRight k (Ok (view.DmaSetup f)) → is_at (field Setup BufferId f) (waiting_in past) ≡ false → (s : ℕ) → (commands s).command.tag ≡ s
-    → InLife s (commands s) past k → InLife s (commands s) (told (Ok (view.DmaSetup f)) ++ past) (listens_up k (Ok (view.DmaSetup f)))
-takes_setup commands f past k None None moving found right answered_yet s tag life =
+-- what a DMA Setup that is right leaves: its data moves, nothing else changes, and its tag is not free
+pub record IsSetUp (k : Ledger) (f : List ℕ) (x : Ledger) : Type 0 where
+  pub current : Moving
+  pub moving : x.moving ≡ Some current
+  pub tag : field Setup BufferId f ≡ current.command.tag
+  pub direction : field Setup table.D f ≡ from_bool (not current.command.write)
+  pub count : field Setup table.Count f ≡ current.count
+  pub in_turn : current.moved + current.count ≡ bytes_named current.setups
+  pub awaited : x.awaited ≡ k.awaited
+  pub pages : x.pages ≡ k.pages
+  pub failed : x.failed ≡ k.failed
+  pub beside : (s : ℕ) → IsFree k s → eqb (field Setup BufferId f) s ≡ false
+  pub live : (s : ℕ) (c : SlotCommand) (past : History) → is_at (field Setup BufferId f) (waiting_in past) ≡ false → c.command.tag ≡ s
+      → InLife s c past k → InLife s c (told (Ok (view.DmaSetup f)) ++ past) x
+
+set_up_by : (k : Ledger) (f : List ℕ) (m : Option Moving) (o : Option Command) → k.moving ≡ m
+    → find (λ q. q.tag == field Setup BufferId f) k.outstanding ≡ o → IsRight k (Ok (view.DmaSetup f))
+    → IsSetUp k f (sets_up k k.moving (field Setup BufferId f) (field Setup Offset f) (field Setup table.Count f))
+set_up_by k f None None moving found right =
     let first : SetsUpRight k None f = subst (λ (v : Option Moving). SetsUpRight k v f) moving right.moves in
     absurd (subst (λ (q : Option Command). StartsOne q f) found first)
-takes_setup commands f past k None (Some q) moving found right answered_yet s tag life =
+set_up_by k f None (Some q) moving found right =
     let at = field Setup Offset f in
     let count = field Setup table.Count f in
     let first : SetsUpRight k None f = subst (λ (v : Option Moving). SetsUpRight k v f) moving right.moves in
     let next : SetsUpNext q 0 [] f = subst (λ (q : Option Command). StartsOne q f) found first in
     let up : sets_up k k.moving (field Setup BufferId f) at count ≡ starts_moving k at count (Some q) =
     ap (λ (v : Option Moving). sets_up k v (field Setup BufferId f) at count) moving ∙ ap (starts_moving k at count) found in
-    let now : Moving = record {
-      command = q;
-      before = k.writes;
-      bytes = replicate (512 * q.count) 0;
-      moved = 0;
-      setups = record { at = at; count = count } ∷ [];
-      offset = at;
-      count = count;
-      active = false;
-    } in
-    subst (λ (x : Ledger). InLife s (commands s) (told (Ok (view.DmaSetup f)) ++ past) (with_auto (is_auto f) x)) (sym up)
-    (auto_life (is_auto f) s (commands s) now (told (Ok (view.DmaSetup f)) ++ past) (starts_moving k at count (Some q)) refl tag
-    (named_last 0 at count [] next.in_turn)
-    (setups_start s (field Setup BufferId f) at count (field Setup table.D f == 1) (commands s) q past k moving found answered_yet next.inside life))
-takes_setup commands f past k (Some v) o moving found right answered_yet s tag life =
+    subst (IsSetUp k f) (sym up) (record {
+      current = record {
+        command = q;
+        before = k.writes;
+        bytes = replicate (512 * q.count) 0;
+        moved = 0;
+        setups = record { at = at; count = count } ∷ [];
+        offset = at;
+        count = count;
+        active = false;
+      };
+      moving = refl;
+      tag = next.tag;
+      direction = next.direction;
+      count = refl;
+      in_turn = named_last 0 at count [] next.in_turn;
+      awaited = refl;
+      pages = refl;
+      failed = refl;
+      beside = λ s free.
+          ap (λ (n : ℕ). eqb n s) next.tag
+          ∙ found_not (λ (x : Command). x.tag == field Setup BufferId f) (λ (x : Command). x.tag == s) k.outstanding q found free.outstanding;
+      live = λ s c past answered_yet tag life.
+          setups_start s (field Setup BufferId f) at count (field Setup table.D f == 1) c q past k moving found answered_yet next.inside life;
+    })
+set_up_by k f (Some v) o moving found right =
     let at = field Setup Offset f in
     let count = field Setup table.Count f in
     let next : SetsUpRight k (Some v) f = subst (λ (m : Option Moving). SetsUpRight k m f) moving right.moves in
     let rest : SetsUpNext v.command v.moved v.setups f = next.1 in
-    let now : Moving = record v {
-      setups = v.setups ++ record { at = at; count = count } ∷ [];
-      offset = at;
-      count = count;
-      active = false;
-    } in
-    let moves_now : (sets_up k k.moving v.command.tag at count).moving ≡ Some now =
-    ap (λ (m : Option Moving). (sets_up k m v.command.tag at count).moving) moving in
-    subst (λ (n : ℕ). InLife s (commands s) (SetUp n at count (field Setup table.D f == 1) ∷ past) (with_auto (is_auto f) (sets_up k k.moving n at count))) (sym rest.tag)
-    (auto_life (is_auto f) s (commands s) now (SetUp v.command.tag at count (field Setup table.D f == 1) ∷ past) (sets_up k k.moving v.command.tag at count)
-    moves_now tag (named_last v.moved at count v.setups rest.in_turn)
-    (setups_go_on s at count (field Setup table.D f == 1) (commands s) v past k moving tag rest.inside life))
+    let up : sets_up k k.moving (field Setup BufferId f) at count ≡ sets_up k (Some v) (field Setup BufferId f) at count =
+    ap (λ (m : Option Moving). sets_up k m (field Setup BufferId f) at count) moving in
+    subst (IsSetUp k f) (sym up) (record {
+      current = record v { setups = v.setups ++ record { at = at; count = count } ∷ []; offset = at; count = count; active = false };
+      moving = refl;
+      tag = rest.tag;
+      direction = rest.direction;
+      count = refl;
+      in_turn = named_last v.moved at count v.setups rest.in_turn;
+      awaited = refl;
+      pages = refl;
+      failed = refl;
+      beside = λ s free. ap (λ (n : ℕ). eqb n s) rest.tag ∙ subst (MovesOther s) moving free.moving;
+      live = λ s c past answered_yet tag life.
+          subst (λ (n : ℕ). InLife s c (SetUp n at count (field Setup table.D f == 1) ∷ past) (sets_up k (Some v) n at count)) (sym rest.tag)
+          (subst (λ (m : Option Moving). InLife s c (SetUp v.command.tag at count (field Setup table.D f == 1) ∷ past) (sets_up k m v.command.tag at count))
+          moving (setups_go_on s at count (field Setup table.D f == 1) c v past k moving tag rest.inside life));
+    })
+
+pub set_up_now : (k : Ledger) (f : List ℕ) → IsRight k (Ok (view.DmaSetup f))
+    → IsSetUp k f (sets_up k k.moving (field Setup BufferId f) (field Setup Offset f) (field Setup table.Count f))
+set_up_now k f right = set_up_by k f k.moving (find (λ q. q.tag == field Setup BufferId f) k.outstanding) refl refl right
 
 active_answers : (x : Ledger) (m : Option Moving)
     → ((activates x m).awaited ≡ x.awaited) × ((activates x m).pages ≡ x.pages) × ((activates x m).failed ≡ x.failed)
@@ -446,28 +482,6 @@ auto_answers : (b : Bool) (x : Ledger)
     → ((with_auto b x).awaited ≡ x.awaited) × ((with_auto b x).pages ≡ x.pages) × ((with_auto b x).failed ≡ x.failed)
 auto_answers true x = active_answers x x.moving
 auto_answers false x = (refl, refl, refl)
-
-set_up_answers : (k : Ledger) (m : Option Moving) (o : Option Command) (f : List ℕ) → k.moving ≡ m
-    → find (λ q. q.tag == field Setup BufferId f) k.outstanding ≡ o → IsRight k (Ok (view.DmaSetup f))
-    → ((listens_up k (Ok (view.DmaSetup f))).awaited ≡ k.awaited) × ((listens_up k (Ok (view.DmaSetup f))).pages ≡ k.pages) ×
-    ((listens_up k (Ok (view.DmaSetup f))).failed ≡ k.failed)
-set_up_answers k None None f moving found right =
-    let first : SetsUpRight k None f = subst (λ (v : Option Moving). SetsUpRight k v f) moving right.moves in
-    absurd (subst (λ (q : Option Command). StartsOne q f) found first)
-set_up_answers k None (Some q) f moving found right =
-    let at = field Setup Offset f in
-    let count = field Setup table.Count f in
-    let up : sets_up k k.moving (field Setup BufferId f) at count ≡ starts_moving k at count (Some q) =
-    ap (λ (v : Option Moving). sets_up k v (field Setup BufferId f) at count) moving ∙ ap (starts_moving k at count) found in
-    let auto = auto_answers (is_auto f) (sets_up k k.moving (field Setup BufferId f) at count) in
-    (auto.0 ∙ ap (λ (x : Ledger). x.awaited) up, auto.1 ∙ ap (λ (x : Ledger). x.pages) up, auto.2 ∙ ap (λ (x : Ledger). x.failed) up)
-set_up_answers k (Some v) o f moving found right =
-    let at = field Setup Offset f in
-    let count = field Setup table.Count f in
-    let up : sets_up k k.moving (field Setup BufferId f) at count ≡ sets_up k (Some v) (field Setup BufferId f) at count =
-    ap (λ (m : Option Moving). sets_up k m (field Setup BufferId f) at count) moving in
-    let auto = auto_answers (is_auto f) (sets_up k k.moving (field Setup BufferId f) at count) in
-    (auto.0 ∙ ap (λ (x : Ledger). x.awaited) up, auto.1 ∙ ap (λ (x : Ledger). x.pages) up, auto.2 ∙ ap (λ (x : Ledger). x.failed) up)
 
 -- a FIS that completes nothing that is queued
 up_same : (commands : ℕ → SlotCommand) (fis : Result Fis FisFault) (past later : History) (k : Ledger) (test : ℕ → Transfer → Bool) → IsRight k fis
@@ -489,23 +503,6 @@ up_same commands fis past later k test right issued_is never sent_is untouched f
       talk = talk;
     }) same
 
--- the tag of a DMA Setup is not free
-pub set_up_beside : (k : Ledger) (m : Option Moving) (o : Option Command) (f : List ℕ) (s : ℕ) → k.moving ≡ m
-    → find (λ q. q.tag == field Setup BufferId f) k.outstanding ≡ o → IsRight k (Ok (view.DmaSetup f)) → IsFree k s
-    → eqb (field Setup BufferId f) s ≡ false
-set_up_beside k None None f s moving found right free =
-    let first : SetsUpRight k None f = subst (λ (v : Option Moving). SetsUpRight k v f) moving right.moves in
-    absurd (subst (λ (q : Option Command). StartsOne q f) found first)
-set_up_beside k None (Some q) f s moving found right free =
-    let first : SetsUpRight k None f = subst (λ (v : Option Moving). SetsUpRight k v f) moving right.moves in
-    let next : SetsUpNext q 0 [] f = subst (λ (q : Option Command). StartsOne q f) found first in
-    ap (λ (n : ℕ). eqb n s) next.tag
-    ∙ found_not (λ (x : Command). x.tag == field Setup BufferId f) (λ (x : Command). x.tag == s) k.outstanding q found free.outstanding
-set_up_beside k (Some v) o f s moving found right free =
-    let next : SetsUpRight k (Some v) f = subst (λ (m : Option Moving). SetsUpRight k m f) moving right.moves in
-    let rest : SetsUpNext v.command v.moved v.setups f = next.1 in
-    ap (λ (n : ℕ). eqb n s) rest.tag ∙ subst (MovesOther s) moving free.moving
-
 -- a queued command that waits goes on to do so where data moves
 waits_on : (past later : History) (e : ℕ → Transfer → Bool) → waiting_in later ≡ waiting_in past
     → ((s : ℕ) → issued s later ≡ Stays (issued s past) (e s)) → ((s : ℕ) (t : Transfer) → is_queued t.work.kind ≡ true → e s t ≡ true → ⊥)
@@ -521,19 +518,17 @@ takes_set_up : (commands : ℕ → SlotCommand) (f : List ℕ) (past : History) 
     → is_at (field Setup BufferId f) (waiting_in past) ≡ false → Same commands past k
     → Same commands (told (Ok (view.DmaSetup f)) ++ past) (listens_up k (Ok (view.DmaSetup f)))
 takes_set_up commands f past k right answered_yet same =
-    let x : Ledger = listens_up k (Ok (view.DmaSetup f)) in
-    let is = set_up_answers k k.moving (find (λ q. q.tag == field Setup BufferId f) k.outstanding) f refl refl right in
+    let x : Ledger = sets_up k k.moving (field Setup BufferId f) (field Setup Offset f) (field Setup table.Count f) in
+    let u : IsSetUp k f (sets_up k k.moving (field Setup BufferId f) (field Setup Offset f) (field Setup table.Count f)) = set_up_now k f right in
+    let auto = auto_answers (is_auto f) x in
     up_same commands (Ok (view.DmaSetup f)) past (told (Ok (view.DmaSetup f)) ++ past) k (λ s t. false) right (λ s. refl)
     (λ s t queued ended. true≢false (sym ended)) (λ s. refl)
-    (λ s free u. record {
-      quiet = u.quiet;
-      unset = set_up_beside k k.moving
-          (find (λ q. q.tag == field Setup BufferId f) k.outstanding) f s refl refl right free;
-    })
-    (λ fine. is.2 ∙ fine)
-    (λ s life. takes_setup commands f past k k.moving (find (λ q. q.tag == field Setup BufferId f) k.outstanding) refl refl right answered_yet s
-    (same.tags s) life)
-    (talk_stays past (told (Ok (view.DmaSetup f)) ++ past) k (listens_up k (Ok (view.DmaSetup f))) is.0 is.1 (idle_sets_up f k right.moves)
+    (λ s free untouched. record { quiet = untouched.quiet; unset = u.beside s free })
+    (λ fine. auto.2 ∙ u.failed ∙ fine)
+    (λ s life. auto_life (is_auto f) s (commands s) u.current (told (Ok (view.DmaSetup f)) ++ past) x u.moving (same.tags s) u.in_turn
+    (u.live s (commands s) past answered_yet (same.tags s) life))
+    (talk_stays past (told (Ok (view.DmaSetup f)) ++ past) k (listens_up k (Ok (view.DmaSetup f))) (auto.0 ∙ u.awaited) (auto.1 ∙ u.pages)
+    (idle_sets_up f k right.moves)
     (waits_on past (told (Ok (view.DmaSetup f)) ++ past) (λ s t. false) refl (λ s. refl) (λ s t queued ended. true≢false (sym ended)))) same
 
 activates_by : (commands : ℕ → SlotCommand) (f : List ℕ) (past : History) (k : Ledger) (m : Option Moving) → k.moving ≡ m

@@ -1,5 +1,5 @@
 -- A disk that is watched, at each happening at either end.
-use Rattle.std.proofs.Common.{◌≡◌, ◌≤◌, ◌+◌, ℕ, Bool, length, length-append, arith, true, false, List, [], ◌∷◌, ◌++◌, append_assoc, refl, sym, ap, subst, ◌∙◌, inl, inr}
+use Rattle.std.proofs.Common.{◌≡◌, ◌≤◌, ◌+◌, ℕ, Bool, length, length-append, arith, true, false, List, [], ◌∷◌, ◌++◌, refl, sym, ap, subst, ◌∙◌, inl, inr}
 use Rattle.std.specs.Prelude.{◌⊎◌}
 use Rattle.std.proofs.lemmas.List.{append-nil}
 use Rattle.fis_view.specs.Seen.{seen}
@@ -14,9 +14,8 @@ use Rattle.disk_model.specs.Runs.{IsDiskRun}
 use Rattle.disk_model.proofs.AnewLemmas.{ends_agree_anew, resting_is_silent}
 use Rattle.disk_model.proofs.FrontLemmas.{host_is_ahead}
 use Rattle.disk_ends.specs.Followed.{IsFollowed}
-use Rattle.disk_ends.specs.Followed as past
 use Rattle.disk_ends.specs.Watched.{ArePlain, Erred, Fine, GavePlain, IsErred, IsErredSince, IsLastError, IsPlain, IsPlainSince, IsWatched, IsWatchedTo, WatchedIsAhead, WatchesOn}
-use Rattle.disk_ends.proofs.FollowedLemmas.{follows_linked, run_to, same_first}
+use Rattle.disk_ends.proofs.FollowedLemmas.{IsBefore, follows_failed, follows_linked, one_more, run_to, same_first}
 use Rattle.disk_ends.proofs.PlainLemmas.{Stays, erred_now, erred_writes, plain_no_reset, stays_gone, stays_received, unheard_now}
 
 -- ## Lists
@@ -45,9 +44,6 @@ gave_sent (Received b ∷ since) bytes gave = (gave.0, gave_sent since bytes gav
 gave_sent (Sent b ∷ since) bytes gave = gave_sent since bytes gave
 gave_sent (Plugged ∷ since) bytes gave = gave_sent since bytes gave
 
-one_more : (base host since : List Happening) (e : Happening) → host ≡ base ++ since → host ++ e ∷ [] ≡ base ++ (since ++ e ∷ [])
-one_more base host since e is = ap (λ (xs : List Happening). xs ++ e ∷ []) is ∙ append_assoc base since (e ∷ [])
-
 since_given : (base host : List Happening) (bytes : List ℕ) → IsPlain (seen bytes) → IsPlainSince base host
     → IsPlainSince base (host ++ Received bytes ∷ [])
 since_given base host bytes plain gave = record {
@@ -68,17 +64,8 @@ since_taken base host bytes gave = record {
 follows_to : (base disk host : List Happening) (down stale up : List (List ℕ)) → IsWatchedTo base disk host down stale up
     → IsFollowed base disk host down stale up
 follows_to base disk host down stale up (Fine linked) = follows_linked base disk host down stale up linked
-follows_to base disk host down stale up (Erred followed later error below before disk_is up_is fails linked erred) = record {
-  followed = followed;
-  later = Sent error ∷ later;
-  before = before;
-  beyond = error ∷ [];
-  below = below;
-  disk_is = disk_is;
-  up_is = up_is;
-  linked = linked;
-  past = past.Failed error later [] down below fails;
-}
+follows_to base disk host down stale up (Erred followed later error below before disk_is up_is fails linked erred) =
+    follows_failed base disk host down stale up followed later error before [] below disk_is up_is fails linked
 
 -- ## Each event
 
@@ -106,15 +93,11 @@ module _ (base disk host : List Happening) (stale up : List (List ℕ)) (bytes :
     held = w.held;
   }
 
-  disk_more : (followed later : List Happening) (error : List ℕ) → disk ≡ followed ++ Sent error ∷ later
-      → disk ++ Received bytes ∷ [] ≡ followed ++ Sent error ∷ (later ++ Received bytes ∷ [])
-  disk_more followed later error is = one_more followed disk (Sent error ∷ later) (Received bytes) is
-
   comes_to : (front back : List (List ℕ)) → IsPlain (seen bytes) → IsWatchedTo base disk host (front ++ bytes ∷ back) stale up
       → IsWatchedTo base (disk ++ Received bytes ∷ []) host (front ++ back) stale up
   comes_to front back plain (Fine linked) = Fine (link.comes disk host front back stale up bytes linked)
   comes_to front back plain (Erred followed later error below before disk_is up_is fails linked erred) =
-      Erred followed (later ++ Received bytes ∷ []) error below before (disk_more followed later error disk_is) up_is fails linked
+      Erred followed (later ++ Received bytes ∷ []) error below before (one_more followed disk (Sent error ∷ later) (Received bytes) disk_is) up_is fails linked
       (let same : ledger (disk ++ Received bytes ∷ []) ≡ ledger disk = unheard_now disk bytes erred.now plain in
       record { now = subst IsErred (sym same) erred.now; writes = ap (λ (k : Ledger). k.writes) same ∙ erred.writes })
 
@@ -156,36 +139,56 @@ drops_on base disk host down stale up bytes w =
 -- ## What comes next
 
 module _ (base disk host : List Happening) (down up : List (List ℕ)) (bytes : List ℕ) (w : IsWatched base disk host down [] (bytes ∷ up)) where
-  pub next_fails : (error : List ℕ) → bytes ∷ up ≡ error ∷ [] → reports (seen error) ≡ true → IsErred (ledger disk) → IsLastError base disk down up bytes
-  next_fails error up_is fails erred =
-      let first = same_first bytes error up [] up_is in
-      record {
-        fails = subst (λ (x : List ℕ). reports (seen x) ≡ true) first.0 fails;
-        erred = erred;
-        plain = w.plain;
-        last = first.1;
-        held = w.held;
-      }
+  abbrev IsTaken : Type 0
+  IsTaken = IsWatchedTo base disk (host ++ Sent bytes ∷ []) down [] up
 
   takes_erred : (followed later : List Happening) (error : List ℕ) (below before : List (List ℕ)) → disk ≡ followed ++ Sent error ∷ later
       → bytes ∷ up ≡ before ++ error ∷ [] → reports (seen error) ≡ true → IsLinkedOn base followed host below [] before → IsErredSince followed disk
-      → IsLastError base disk down up bytes ⊎ IsWatchedTo base disk (host ++ Sent bytes ∷ []) down [] up
-  takes_erred followed later error below [] disk_is up_is fails linked erred = inl (next_fails error up_is fails erred.now)
+      → IsLastError base disk down up bytes ⊎ IsBefore base disk host bytes IsTaken
+  takes_erred followed later error below [] disk_is up_is fails linked erred =
+      let first = same_first bytes error up [] up_is in
+      inl (record {
+        fails = subst (λ (x : List ℕ). reports (seen x) ≡ true) first.0 fails;
+        erred = erred.now;
+        plain = w.plain;
+        last = first.1;
+        held = w.held;
+      })
   takes_erred followed later error below (b ∷ before) disk_is up_is fails linked erred =
       let first = same_first bytes b up (before ++ error ∷ []) up_is in
       let mine : IsLinkedOn base followed host below [] (bytes ∷ before) =
       subst (λ (x : List ℕ). IsLinkedOn base followed host below [] (x ∷ before)) first.0 linked in
-      inr (Erred followed later error below before disk_is first.1 fails (link.takes followed host below before bytes mine) erred)
+      inr (record {
+        followed = followed;
+        later = Sent error ∷ later;
+        before = before;
+        below = below;
+        disk_is = disk_is;
+        linked = mine;
+        taken = Erred followed later error below before disk_is first.1 fails (link.takes followed host below before bytes mine) erred;
+      })
 
-  takes_to : IsWatchedTo base disk host down [] (bytes ∷ up) → IsLastError base disk down up bytes ⊎ IsWatchedTo base disk (host ++ Sent bytes ∷ []) down [] up
-  takes_to (Fine linked) = inr (Fine (link.takes disk host down up bytes linked))
+  takes_to : IsWatchedTo base disk host down [] (bytes ∷ up) → IsLastError base disk down up bytes ⊎ IsBefore base disk host bytes IsTaken
+  takes_to (Fine linked) = inr (record {
+    followed = disk;
+    later = [];
+    before = up;
+    below = down;
+    disk_is = sym (append-nil disk);
+    linked = linked;
+    taken = Fine (link.takes disk host down up bytes linked);
+  })
   takes_to (Erred followed later error below before disk_is up_is fails linked erred) =
       takes_erred followed later error below before disk_is up_is fails linked erred
 
+  -- it is the error, or was sent before it
+  pub next_watched : IsLastError base disk down up bytes ⊎ IsBefore base disk host bytes IsTaken
+  next_watched = takes_to w.to_error
+
   pub takes_on : IsLastError base disk down up bytes ⊎ IsWatched base disk (host ++ Sent bytes ∷ []) down [] up
-  takes_on = elim (takes_to w.to_error) [
+  takes_on = elim next_watched [
     | inl last ↦ inl last
-    | inr on ↦ inr (record { to_error = on; plain = w.plain; gave = since_taken base host bytes w.gave; held = w.held })
+    | inr b ↦ inr (record { to_error = b.taken; plain = w.plain; gave = since_taken base host bytes w.gave; held = w.held })
   ]
 
 -- ## What is told of writes
