@@ -108,7 +108,6 @@ bits_name own state f payload mask false is = let same : mask ≡ field Bits SAc
 by_fis : (v : DeviceView) (sound : Bool) (payload : List ℕ) (mask : ℕ) (fis : Fis)
     → event_heard (heard_fis v.slots v.state sound fis) payload ≡ Some (Named mask) → IsByBits (Ok fis) mask
 unfolding heard_fis
-by_fis v sound payload mask (view.RegH2D f) is = cc is
 by_fis v sound payload mask (view.RegD2H f) is =
     absurd (none_named (heard_register v.slots v.state (field D2h Status f) (field D2h table.Error f)) payload
     (quiet_register v.slots v.state (field D2h Status f) (field D2h table.Error f) v.state.resetting (is_error (field D2h Status f))
@@ -127,7 +126,7 @@ by_fis v sound payload mask (view.PioSetup f) is =
     (is_error (field Pio Status f)) (pio_fault (pio_issue v.slots) (field Pio table.Transfer f) (field Pio table.D f == 1))) mask is)
 by_fis v sound payload mask (view.Payload f) is =
     absurd (none_named (heard_data v.slots v.state sound (length f - 4)) payload (quiet_data v.slots v.state sound (length f - 4) v.slots.context) mask is)
-by_fis v sound payload mask (view.Unknown f) is = cc is
+by_fis v sound payload mask other is = cc is
 
 by_test : (dev : ℕ) (v : DeviceView) (sound : Bool) (payload : List ℕ) (mask : ℕ) (fis : Fis) (b : Bool)
     → event_heard (heard dev v sound (if b then Some fis else None)) payload ≡ Some (Named mask) → IsByBits (Ok fis) mask

@@ -56,16 +56,13 @@ after_none (Some t) test none = unless_none (test t) (Some t) none
 
 one_more : (e : Event) (past : History) → IssuesNothing e → AreUnqueued past → AreUnqueued (e ∷ past)
 one_more (Issued slot t) past plain none s = absurd plain
-one_more (Sent slot) past plain none s = after_none (issued s past) (λ t. completes s (Sent slot) past t.work) (none s)
 one_more (SentControl slot) past plain none s = unless_none (slot == s) (issued s past) (none s)
 one_more (SetUp tag offset count to_host) past plain none s =
     after_none (issued s past) (λ t. completes s (SetUp tag offset count to_host) past t.work) (none s)
 one_more (PioSetUp count to_host ends) past plain none s =
     after_none (issued s past) (λ t. completes s (PioSetUp count to_host ends) past t.work) (none s)
-one_more (Carried bytes) past plain none s = after_none (issued s past) (λ t. completes s (Carried bytes) past t.work) (none s)
-one_more Answered past plain none s = after_none (issued s past) (λ t. completes s Answered past t.work) (none s)
-one_more (Named mask) past plain none s = after_none (issued s past) (λ t. completes s (Named mask) past t.work) (none s)
 one_more Emptied past plain none s = tt
+one_more other past plain none s = after_none (issued s past) (λ t. completes s other past t.work) (none s)
 
 emptied : (past : History) → AreUnqueued (Emptied ∷ past)
 emptied past s = tt
@@ -354,13 +351,12 @@ goes_on_gave n host new Nothing frame past gives aside = by_aside aside
     by_aside (Faulty is) = Faulty (ap (λ (p : Port). is_some (view_of n p).fault) gives.1 ∙ is)
     by_aside (Spared none) = Spared none
 goes_on_gave n host new (Unreadable dev) frame past gives aside = Halted (ap (λ (p : Port). is_some p.errors.port) gives.1)
-goes_on_gave n host new (Data dev offset len command) None past gives aside = absurd gives
 goes_on_gave n host new (Data dev offset len command) (Some f) past gives aside =
     sent_aside n dev host new _ (view_fed (view_of dev host.port)) f (Carried _) past gives refl tt aside
-goes_on_gave n host new (Order dev slot command) None past gives aside = absurd gives
 goes_on_gave n host new (Order dev slot command) (Some f) past gives aside =
     sent_aside n dev host new command.cfis (view_sent (view_of dev host.port) slot command) f (event_sent host.port.slots slot) past gives refl
     (order_plain (holds is_control_issue (issue_at host.port.slots slot)) slot) aside
+goes_on_gave n host new other None past gives aside = absurd gives
 
 -- ## All events
 
@@ -392,9 +388,8 @@ halts errors dev other is = cc is
 halts_in : (on : Bool) (errors : Errors) (dev : ℕ) (o : Option Fault) → is_some (port_cause o) ≡ true
     → is_some (errors_in on errors dev o).port ≡ true
 halts_in true errors dev o is = halts errors dev o is
-halts_in false errors dev None is = cc is
-halts_in false errors dev (Some (fault.Device c)) is = cc is
 halts_in false errors dev (Some (fault.Port c)) is = refl
+halts_in false errors dev other is = cc is
 
 took_fault : (host new : Host) (frame : List ℕ) (report : TakeReport) (b : Bool) → ignores (port_of frame) host.port frame ≡ b
     → TakesFrame host frame report new → is_some report.fault ≡ true → is_some (view_of (port_of frame) new.port).fault ≡ true

@@ -217,8 +217,7 @@ module _ (v : DeviceView) where
   first_fis k sound (view.Payload f) none clear right mine unset =
       inr (ap (λ (o : Option Context). is_some (device_cause (match_some o (hear.faulty v.state cause.Stray)
       (hear.heard_data_of v.slots v.state sound (length f - 4))).fault)) unset)
-  first_fis k sound (view.RegH2D f) none clear right mine unset = absurd mine
-  first_fis k sound (view.Unknown f) none clear right mine unset = absurd mine
+  first_fis k sound other none clear right mine unset = absurd mine
 
   first_if : (dev : ℕ) (sound : Bool) (fis : Fis) (b : Bool) → (dev == 15) ≡ false
       → IsFineHeard v (heard_fis v.slots v.state sound fis) ⊎ (is_some (device_cause (heard_fis v.slots v.state sound fis).fault) ≡ true)

@@ -73,13 +73,12 @@ gives_file : (n : ℕ) (host new : Host) (out : Outgoing) (frame : Option Stampe
 gives_file n host new Nothing frame gives fine = subst (λ (p : Port). IsFineFile (view_of n p)) (sym gives.1) fine
 gives_file n host new (Unreadable dev) frame gives fine =
     subst (λ (p : Port). IsFineFile (view_of n p)) (sym gives.1) (record { status = fine.status; ends = fine.ends })
-gives_file n host new (Data dev offset len command) None gives fine = absurd gives
 gives_file n host new (Data dev offset len command) (Some f) gives fine =
     view_sends IsFineFile n dev host new _ (view_fed (view_of dev host.port)) f gives (λ was. fed_fine (view_of dev host.port) was) fine
-gives_file n host new (Order dev slot command) None gives fine = absurd gives
 gives_file n host new (Order dev slot command) (Some f) gives fine =
     view_sends IsFineFile n dev host new command.cfis (view_sent (view_of dev host.port) slot command) f gives
     (λ was. sent_fine (view_of dev host.port) was slot command) fine
+gives_file n host new other None gives fine = absurd gives
 
 issued_by : (v issued : DeviceView) (b : Bool) → issued.state ≡ v.state → issued.slots.context ≡ v.slots.context → IsFineFile v
     → IsFineFile (if b then issued else v)

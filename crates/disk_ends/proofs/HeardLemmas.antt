@@ -286,7 +286,6 @@ module _ (dev : ℕ) (v : DeviceView) (sound : Bool) (frame : List ℕ) (command
 
   tells_fis : (fis : Fis) → seen frame ≡ Ok fis → IsRight k (Ok fis) → Tells (Ok fis) (heard_fis v.slots v.state sound fis)
   unfolding heard_fis
-  tells_fis (view.RegH2D f) here right = λ fine. (refl, tt)
   tells_fis (view.RegD2H f) here right = λ fine. (
     told_register v.slots v.state (field D2h Status f) (field D2h table.Error f) (drop 4 frame) v.state.resetting (is_error (field D2h Status f))
         (is_busy (field D2h Status f)) steady (not_busy k.awaited f right.replies) fine,
@@ -306,7 +305,7 @@ module _ (dev : ℕ) (v : DeviceView) (sound : Bool) (frame : List ℕ) (command
         ∙ ap (λ (g : List ℕ). event.Carried (drop 4 g) ∷ []) (sym (payload_is frame f here)),
     tt,
   )
-  tells_fis (view.Unknown f) here right = λ fine. (refl, tt)
+  tells_fis other here right = λ fine. (refl, tt)
 
   tells_test : (fis : Fis) (b : Bool) → seen frame ≡ Ok fis → IsRight k (Ok fis) → Tells (Ok fis) (heard dev v sound (if b then Some fis else None))
   tells_test fis true here right = tells_fis fis here right

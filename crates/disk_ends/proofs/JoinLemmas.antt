@@ -469,7 +469,6 @@ module _ (dev : ℕ) (v : DeviceView) (sound : Bool) (frame : List ℕ) (command
 
   asks_fis : (fis : Fis) → IsRight k (Ok fis) → Asks (Ok fis) (heard_fis v.slots v.state sound fis)
   unfolding heard_fis
-  asks_fis (view.RegH2D f) right = asks_quietly (Ok (view.RegH2D f)) (quietly v.state happening.Nothing) right tt
   asks_fis (view.RegD2H f) right =
       asks_plainly (Ok (view.RegD2H f))
       (hear.signing f (hear.heard_register v.slots v.state (field table.D2h table.Status f) (field table.D2h table.Error f))) right
@@ -495,7 +494,7 @@ module _ (dev : ℕ) (v : DeviceView) (sound : Bool) (frame : List ℕ) (command
   asks_fis (view.Payload f) right =
       asks_plainly (Ok (view.Payload f)) (heard_data v.slots v.state sound (length f - 4)) right
       (quiet_data v.slots v.state sound (length f - 4) v.slots.context)
-  asks_fis (view.Unknown f) right = asks_quietly (Ok (view.Unknown f)) (quietly v.state happening.Nothing) right tt
+  asks_fis other right = asks_quietly (Ok other) (quietly v.state happening.Nothing) right tt
 
   asks_test : (fis : Fis) (b : Bool) → IsRight k (Ok fis) → Asks (Ok fis) (heard dev v sound (if b then Some fis else None))
   asks_test fis true right = asks_fis fis right

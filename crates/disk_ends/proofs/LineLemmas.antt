@@ -322,15 +322,11 @@ module _ (plan : DiskPlan) (sectors : ℕ) (disk : List Happening) (down up : Li
   sends_by Asked o = absurd (rests_not o.erred.rests)
   sends_by Resting o = absurd (rests_not o.rests)
   sends_by Releasing o = absurd (rests_not o.rests)
-  sends_by Loose o = goes_up Loose tt o.unsigned o.quiet o
-  sends_by Held o = goes_up Held tt o.unsigned o.quiet o
-  sends_by Both o = goes_up Both tt o.unsigned o.quiet o
+  sends_by other o = goes_up other tt o.unsigned o.quiet o
 
 -- ## The host takes one
 
 takes_by : (line : Line) (k : Ledger) (down up : List (List ℕ)) (bytes : List ℕ) → OnLine line k down (bytes ∷ up) → IsTaken line k down up bytes
-takes_by Failed k down up bytes o = cc o.silent
-takes_by Asked k down up bytes o = cc o.silent
 takes_by Loose k down up bytes o =
     record { spoken = tt; unsigned = o.quiet.0; on = up_on k k down (bytes ∷ up) up o.unsigned o.quiet.1 Loose tt o }
 takes_by Held k down up bytes o =
@@ -347,6 +343,7 @@ takes_by Releasing k down up bytes o = record {
   unsigned = o.quiet.0;
   on = record { rests = o.rests; inside = o.inside; held = o.held; off = o.off; is = o.is; clears = o.clears; quiet = o.quiet.1 };
 }
+takes_by other k down up bytes o = cc o.silent
 
 -- ## The host gives one
 

@@ -56,9 +56,6 @@ module _ (old new : List ℕ) (port : ℕ) (m : IsMarked port old new) where
     asked = λ q asks. same_request old new port m ∙ asks;
   }
   same_kind D2h = record { disk = λ mine. mine; signature = same_signature; error = refl; plain = λ plain. plain; asked = λ q asks. asks }
-  same_kind Activate = record { disk = λ mine. mine; signature = refl; error = refl; plain = λ plain. plain; asked = λ q asks. asks }
-  same_kind Setup = record { disk = λ mine. mine; signature = refl; error = refl; plain = λ plain. plain; asked = λ q asks. asks }
-  same_kind table.Data = record { disk = λ mine. mine; signature = refl; error = refl; plain = λ plain. plain; asked = λ q asks. asks }
   same_kind Pio = record {
     disk = λ mine. m.fields Pio EStatus (λ e. cc e) ∙ mine;
     signature = refl;
@@ -67,7 +64,7 @@ module _ (old new : List ℕ) (port : ℕ) (m : IsMarked port old new) where
     asked = λ q asks. asks;
   }
   same_kind Bits = record { disk = λ mine. mine; signature = refl; error = same_error old new port m; plain = λ plain. plain; asked = λ q asks. asks }
-  same_kind Other = record { disk = λ mine. mine; signature = refl; error = refl; plain = λ plain. plain; asked = λ q asks. asks }
+  same_kind other = record { disk = λ mine. mine; signature = refl; error = refl; plain = λ plain. plain; asked = λ q asks. asks }
 
   same_seen : IsSame (seen old) (seen new)
   same_seen =

@@ -89,13 +89,9 @@ module _ (k : Ledger) (old new : List ℕ) (port : ℕ) (m : IsMarked port old n
       (λ right. record { moves = tt; answers = tt; replies = same_answer k.awaited right.replies; asked = tt; fine = refl }) (λ fits. fits) tt
 
   same_show : (xs : List Reply) → ShowsFirst xs old → ShowsFirst xs new
-  same_show [] shows = absurd shows
-  same_show (Signs ∷ xs) shows = absurd shows
-  same_show (Accepts ∷ xs) shows = absurd shows
-  same_show (Finishes ∷ xs) shows = absurd shows
-  same_show (Refuses ∷ xs) shows = absurd shows
   same_show (ShowsPage ∷ xs) shows =
       (same_register Pio 1 0x58 0 0 shows.0, m.fields Pio table.D (λ e. cc e) ∙ shows.1, m.fields Pio table.Transfer (λ e. cc e) ∙ shows.2)
+  same_show other shows = absurd shows
 
   alike_pio : IsAlike (Ok (view.PioSetup old)) (Ok (view.PioSetup new))
   alike_pio =
@@ -223,13 +219,7 @@ pub bits_by : (kind : Kind) (b : Bool) (old new g : List ℕ) → (if b then Ok 
     → ((if b then Ok (view_as kind old) else Err WrongLength) ≡ Ok (view.SetBits old)) × (g ≡ new)
 bits_by kind false old new g e = absurd (cc e)
 bits_by Bits true old new g e = let same : new ≡ g = cc e in (refl, sym same)
-bits_by H2d true old new g e = absurd (cc e)
-bits_by D2h true old new g e = absurd (cc e)
-bits_by Activate true old new g e = absurd (cc e)
-bits_by Setup true old new g e = absurd (cc e)
-bits_by table.Data true old new g e = absurd (cc e)
-bits_by Pio true old new g e = absurd (cc e)
-bits_by Other true old new g e = absurd (cc e)
+bits_by other true old new g e = absurd (cc e)
 
 pub bits_of_marked : (port : ℕ) (old g : List ℕ) → IsFrame old → port < 16 → seen (marked old port) ≡ Ok (view.SetBits g)
     → IsMarkedBits old (marked old port) g
