@@ -463,14 +463,8 @@ module _ (old : Host) (acted_so : Bool) (new : Host) (does : Does old (Ticked ac
   begun_slot = by_act (due (sight_in old) old.driver) refl
     where
       by_act : (o : Option Act) → due (sight_in old) old.driver ≡ o → s ≡ slot_of o → ⊥
-      by_act None due_is at = omega (arith, at, low)
-      by_act (Some act.Stops) due_is at = omega (arith, at, low)
-      by_act (Some (act.Clears dev)) due_is at = omega (arith, at, low)
-      by_act (Some (act.Orders o)) due_is at = omega (arith, at, low)
-      by_act (Some (act.Opens k)) due_is at = omega (arith, at, low)
-      by_act (Some (act.Restarts k)) due_is at = omega (arith, at, low)
-      by_act (Some (act.Steps dev stage)) due_is at = omega (arith, at, low)
       by_act (Some (act.Issues slot dev queued)) due_is at =
           let its : holds waits (entry_at (seen (sight_in old) old.driver).entries slot) ≡ true =
           waits_if_may (turn (sight_in old) old.driver).plan (entry_at (seen (sight_in old) old.driver).entries slot) (ticks_serve.ready (sight_in old) old.driver slot dev queued due_is) in
           seen_begun (subst (λ (k : ℕ). holds waits (entry_at (seen (sight_in old) old.driver).entries k) ≡ true) (sym at) its)
+      by_act other due_is at = omega (arith, at, low)
