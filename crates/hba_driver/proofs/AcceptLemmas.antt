@@ -153,7 +153,7 @@ no_issue s i h = elim (cases_lt s 32) [
     none_some h = cc
 
 -- a flush issues nothing
-flushed_before : (old new : Port) (dev n s : ℕ) (i : Issue) → Flushes old dev new → IsIssuedAt new n s i → IsIssuedAt old n s i
+pub flushed_before : (old new : Port) (dev n s : ℕ) (i : Issue) → Flushes old dev new → IsIssuedAt new n s i → IsIssuedAt old n s i
 flushed_before old new dev n s i h here = elim (cases_eq n dev) [
   | inl same ↦ no_issue s i (ap (λ (v : DeviceView). own_issue v.slots s) (sym h.own) ∙ subst (λ (k : ℕ). IsIssuedAt new k s i) same here)
   | inr other ↦ ap (λ (v : DeviceView). own_issue v.slots s) (sym (h.others n other)) ∙ here

@@ -43,6 +43,7 @@ use Rattle.hba_driver.specs.Effects.{Acts, ActsAll, IsRuled, clearing, is_effect
 use Rattle.hba_driver.specs.Orders.{order_fields}
 use Rattle.hba_driver.specs.Slot31.{IsLow}
 use Rattle.hba_driver.specs.Sights.{px_ci, px_fbs, px_is, px_sact, px_sntf}
+use Rattle.hba_driver.proofs.AcceptLemmas.{flushed_before}
 use Rattle.hba_driver.proofs.DrivenLemmas.{no_dec, refusal_is, tried_at}
 use Rattle.hba_driver.proofs.EndingLemmas.{clear_taken, is_accepted, only_cleared}
 use Rattle.hba_driver.proofs.EventLemmas.{Good, beside, beside_same, good_effect, sized_effect, sound_beside}
@@ -460,22 +461,6 @@ sending31 fields old new before after proper up none free r acts =
     ci31 fields a.0 a.4.0 a.1 a.4.1 ready unarmed chosen.runs a.4.2 a.3.table a.4.3 (subst (λ (m : Memory). IsBuilt H2d (h2d_given fields) (cfis_at m.structure (table_of 31))) (sym a.2.1) w.cfis) in
     let end : Issues31 fields a.0 a.1 new after = subst (λ (p : Port). Issues31 fields a.0 a.1 p after) (sym a.4.4.0) (subst (Issues31 fields a.0 a.1 a.4.0) (sym a.4.4.1) last) in
     issues_from fields old acts.0 new before acts.1 after stored (issues_from fields acts.0 a.0 new acts.1 a.1 after chosen end)
-
-no_issue : (s : ℕ) (i : Issue) {P : Type 0} → own_issue no_own_slots s ≡ Some i → P
-no_issue s i h = elim (cases_lt s 32) [
-  | inl less ↦ none_some (sym (get_or-replicate 32 s None None less) ∙ h)
-  | inr least ↦ none_some (sym (get_or_past (replicate 32 None) s None (rw (length-replicate {A = Option Issue} 32 None) least)) ∙ h)
-]
-  where
-    none_some : {Q : Type 0} → None ≡ Some i → Q
-    none_some h = cc
-
--- a flush issues nothing
-flushed_before : (old new : Port) (dev n s : ℕ) (i : Issue) → Flushes old dev new → IsIssuedAt new n s i → IsIssuedAt old n s i
-flushed_before old new dev n s i h here = elim (cases_eq n dev) [
-  | inl same ↦ no_issue s i (ap (λ (v : DeviceView). own_issue v.slots s) (sym h.own) ∙ subst (λ (k : ℕ). IsIssuedAt new k s i) same here)
-  | inr other ↦ ap (λ (v : DeviceView). own_issue v.slots s) (sym (h.others n other)) ∙ here
-]
 
 -- the tick's effects for an order
 pub order31 : (order : Order) (fields : H2dFields) (old new : Port) (before after : Memory) → order_fields order ≡ Some fields → IsLow order → IsUp old.registers → old.registers.armed ≡ 0 → issue_at old.slots 31 ≡ None

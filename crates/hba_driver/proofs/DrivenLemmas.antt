@@ -307,7 +307,7 @@ unfolding plan_after
 opened_ordered (Clear port) file plan = refl
 opened_ordered order file plan = refl
 
-restarted_ordered : (order : Order) (file : TaskFile) (plan : Plan) → (plan_after (act.Orders order) file plan).restarted ≡ plan.restarted
+pub restarted_ordered : (order : Order) (file : TaskFile) (plan : Plan) → (plan_after (act.Orders order) file plan).restarted ≡ plan.restarted
 unfolding plan_after
 restarted_ordered (Clear port) file plan = refl
 restarted_ordered order file plan = refl
@@ -337,7 +337,7 @@ restarted_if : (b : Bool) (p q : Plan) (n : ℕ) → p.restarted ≡ n → q.res
 restarted_if true p q n h k = h
 restarted_if false p q n h k = k
 
-restarted_cleared : (dev : ℕ) (file : TaskFile) (plan : Plan) → (plan_after (act.Clears dev) file plan).restarted ≡ plan.restarted
+pub restarted_cleared : (dev : ℕ) (file : TaskFile) (plan : Plan) → (plan_after (act.Clears dev) file plan).restarted ≡ plan.restarted
 unfolding plan_after
 restarted_cleared dev file plan = restarted_if (nat_lt dev 15) (recovering dev file plan) (from_reset plan) plan.restarted refl refl
 

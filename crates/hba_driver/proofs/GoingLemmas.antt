@@ -55,7 +55,7 @@ use Rattle.hba_driver.specs.Submits.{after_poll, lowest_ended}
 use Rattle.hba_driver.specs.Ticks.{acted, after_tick, due, effects, from_reset, ordered, plan_after, recovering, seen, turn}
 use Rattle.hba_driver.specs.Going.{AreOfControl, GoesOn, IsOfControl, NothingStops, PortsGoOn, leaves_port}
 use Rattle.hba_driver.proofs.AcceptLemmas.{IsOnWay, way_opens, way_turn}
-use Rattle.hba_driver.proofs.DrivenLemmas.{tried_at}
+use Rattle.hba_driver.proofs.DrivenLemmas.{restarted_cleared, restarted_ordered, tried_at}
 use Rattle.hba_driver.proofs.DueLemmas.{Due, goes_turn}
 use Rattle.hba_driver.proofs.LifeLemmas.{due_seen}
 use Rattle.hba_driver.proofs.PageLemmas.{page_turn}
@@ -204,18 +204,11 @@ never_stops h s is = ap (λ (v : Sight). v.stopped) (sight_is h s) ∙ never_sto
 -- an act that leaves the port does not have to start it again
 acted_restarted : (a : Option Act) (file : TaskFile) (d : Driver) → ((b : Act) → a ≡ Some b → leaves_port b) → (acted a file d).plan.restarted ≡ d.plan.restarted
 unfolding plan_after
-acted_restarted None file d leaves = refl
-acted_restarted (Some (act.Opens k)) file d leaves = refl
 acted_restarted (Some act.Stops) file d leaves = absurd (leaves act.Stops refl)
 acted_restarted (Some (act.Restarts k)) file d leaves = absurd (leaves (act.Restarts k) refl)
-acted_restarted (Some (act.Clears dev)) file d leaves = either (λ (p : Plan). p.restarted ≡ d.plan.restarted) (nat_lt dev 15) (recovering dev file d.plan) (from_reset d.plan) refl refl
-acted_restarted (Some (act.Orders order)) file d leaves = by_order order
-  where
-    by_order : (o : own_order.Order) → (ordered o d.plan).restarted ≡ d.plan.restarted
-    by_order (Clear port) = refl
-    by_order o = refl
-acted_restarted (Some (act.Steps dev stage)) file d leaves = refl
-acted_restarted (Some (act.Issues slot dev queued)) file d leaves = refl
+acted_restarted (Some (act.Clears dev)) file d leaves = restarted_cleared dev file d.plan
+acted_restarted (Some (act.Orders order)) file d leaves = restarted_ordered order file d.plan
+acted_restarted other file d leaves = refl
 
 module _ (h : Host) (s : IsSoundHost h) (calm : IsCalm h.port) (up : h.driver.plan.restarted ≡ 2) where
   seen_up : (seen (sight_in h) h.driver).plan.restarted ≡ 2

@@ -358,15 +358,11 @@ ends_back other q o h k = refl
 
 -- what gives a request later gives it now
 gives_back : (s : ℕ) (e f : Entry) → GoesOn e f → (t : HostTurn) → gives s f t ≡ true → gives s e t ≡ true
-gives_back s e f on (Took frame report) h = h
-gives_back s e f on (Pushed frame) h = h
-gives_back s e f on (Ticked a) h = h
-gives_back s e f on (Submitted dev request ticket) h = h
 gives_back s e f on (Polled c) h =
     let parts = three_parts (c.ticket.0 == f.head.ticket) (c.slot == s) (ends_as f.head.phase c.outcome) h in
     let ticket : (c.ticket.0 == e.head.ticket) ≡ true = sym (ap (λ (x : Entry). c.ticket.0 == x.head.ticket) on.same) ∙ parts.0 in
     all_three (c.ticket.0 == e.head.ticket) (c.slot == s) (ends_as e.head.phase c.outcome) ticket parts.1 (ends_back e.head.phase f.head.phase c.outcome on.goes parts.2)
-gives_back s e f on (Put at bytes) h = h
+gives_back s e f on other h = h
 
 or_right : (a b : Bool) → b ≡ true → (a || b) ≡ true
 or_right true b h = refl
@@ -447,15 +443,9 @@ issue_slot v file d slot dev queued r is (Some e) here wait = inr (record {
 
 issue_act : (v : Sight) (file : TaskFile) (d : Driver) → AreRequests d.given d.entries → (a : Option Act) → (turn v d).act ≡ a → May (turn v d).plan (seen v d).entries a
     → AtMostOne v file d (issued_by_act a (seen v d).entries)
-issue_act v file d r None is may = inl refl
-issue_act v file d r (Some (act.Opens k)) is may = inl refl
-issue_act v file d r (Some act.Stops) is may = inl refl
-issue_act v file d r (Some (act.Restarts k)) is may = inl refl
-issue_act v file d r (Some (act.Clears dev)) is may = inl refl
-issue_act v file d r (Some (act.Orders order)) is may = inl refl
-issue_act v file d r (Some (act.Steps dev stage)) is may = inl refl
 issue_act v file d r (Some (act.Issues slot dev queued)) is may =
     issue_slot v file d slot dev queued r is (entry_at (seen v d).entries slot) refl (waits_if_may (turn v d).plan (entry_at (seen v d).entries slot) may)
+issue_act v file d r other is may = inl refl
 
 issue_tick : (v : Sight) (file : TaskFile) (d : Driver) → AreRequests d.given d.entries → AtMostOne v file d (issued_in_tick v d)
 issue_tick v file d r = issue_act v file d r (turn v d).act refl (may_turn v d)

@@ -238,40 +238,25 @@ pub waits_if_may : (plan : Plan) (o : Option Entry) → may_issue plan o ≡ tru
 waits_if_may plan None h = absurd (false≢true h)
 waits_if_may plan (Some e) h = first (waits e.head) _ h
 
--- what a log ended did not wait
-may_due : (v : Sight) (log : ErrorLog) (l : Option Logged) (plan : Plan) (entries : List (Option Entry)) (a : Option Act) → Due v plan entries a → May plan (logged_ended log l entries) a
-may_due v log l plan entries None due = tt
-may_due v log l plan entries (Some (act.Opens k)) due = tt
-may_due v log l plan entries (Some act.Stops) due = tt
-may_due v log l plan entries (Some (act.Restarts k)) due = tt
-may_due v log l plan entries (Some (act.Clears dev)) due = tt
-may_due v log l plan entries (Some (act.Orders order)) due = tt
-may_due v log l plan entries (Some (act.Steps dev stage)) due = tt
-may_due v log l plan entries (Some (act.Issues slot dev queued)) due =
-    let there : may_issue plan (entry_at entries slot) ≡ true = ap (may_issue plan) due.0.stands ∙ due.0.may in
-    ap (may_issue plan) (waiting_stays log l entries slot (waits_if_may plan (entry_at entries slot) there)) ∙ there
+may_due : (v : Sight) (plan : Plan) (entries : List (Option Entry)) (a : Option Act) → Due v plan entries a → May plan entries a
+may_due v plan entries (Some (act.Issues slot dev queued)) due = ap (may_issue plan) due.0.stands ∙ due.0.may
+may_due v plan entries other due = tt
 
 -- what is due, by what a tick has seen
 due_logged : (v : Sight) (log : ErrorLog) (l : Option Logged) (plan : Plan) (entries : List (Option Entry)) (a : Option Act) → Due v plan entries a → Due v plan (logged_ended log l entries) a
-due_logged v log l plan entries None due = due
-due_logged v log l plan entries (Some (act.Opens k)) due = due
-due_logged v log l plan entries (Some act.Stops) due = due
-due_logged v log l plan entries (Some (act.Restarts k)) due = due
-due_logged v log l plan entries (Some (act.Clears dev)) due = due
-due_logged v log l plan entries (Some (act.Orders order)) due = due
-due_logged v log l plan entries (Some (act.Steps dev stage)) due = due
 due_logged v log l plan entries (Some (act.Issues slot dev queued)) due =
     let w : Waiting plan entries slot dev = due.0 in
     let wait : holds waits (entry_at entries slot) ≡ true = ap (holds waits) w.stands ∙ w.waits_is in
     let later : Waiting plan (logged_ended log l entries) slot dev =
     record { below = w.below; entry = w.entry; stands = waiting_stays log l entries slot wait ∙ w.stands; may = w.may; waits_is = w.waits_is; of_dev = w.of_dev } in
     (later, due.1)
+due_logged v log l plan entries other due = due
 
 pub due_seen : (v : Sight) (d : Driver) → Due v (seen v d).plan (seen v d).entries (turn v d).act
 due_seen v d = due_logged v v.log (turn v d).logged (turn v d).plan (done_ended v.issued d.entries) (turn v d).act (due_turn v d.plan (done_ended v.issued d.entries))
 
 pub may_turn : (v : Sight) (d : Driver) → May (turn v d).plan (seen v d).entries (turn v d).act
-may_turn v d = may_due v v.log (turn v d).logged (turn v d).plan (done_ended v.issued d.entries) (turn v d).act (due_turn v d.plan (done_ended v.issued d.entries))
+may_turn v d = may_due v (seen v d).plan (seen v d).entries (turn v d).act (due_seen v d)
 
 -- ---- a tick
 

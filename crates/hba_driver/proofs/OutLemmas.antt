@@ -278,23 +278,13 @@ kept_accept Ci old new memory value dev s i below free accepts calm table here =
     by_target : (b : Bool) → own_issue (if b then view_issued old.registers memory value (view_of dev old) else view_of dev old).slots s ≡ Some i
     by_target true = issued_kept old memory value dev s i free table here
     by_target false = here
-kept_accept Clb old new memory value dev s i below free accepts calm table here = ap (λ (v : DeviceView). own_issue v.slots s) (accepts.views dev below) ∙ here
-kept_accept Clbu old new memory value dev s i below free accepts calm table here = ap (λ (v : DeviceView). own_issue v.slots s) (accepts.views dev below) ∙ here
-kept_accept Fb old new memory value dev s i below free accepts calm table here = ap (λ (v : DeviceView). own_issue v.slots s) (accepts.views dev below) ∙ here
-kept_accept Fbu old new memory value dev s i below free accepts calm table here = ap (λ (v : DeviceView). own_issue v.slots s) (accepts.views dev below) ∙ here
-kept_accept Is old new memory value dev s i below free accepts calm table here = ap (λ (v : DeviceView). own_issue v.slots s) (accepts.views dev below) ∙ here
-kept_accept Ie old new memory value dev s i below free accepts calm table here = ap (λ (v : DeviceView). own_issue v.slots s) (accepts.views dev below) ∙ here
-kept_accept Tfd old new memory value dev s i below free accepts calm table here = ap (λ (v : DeviceView). own_issue v.slots s) (accepts.views dev below) ∙ here
-kept_accept Sig old new memory value dev s i below free accepts calm table here = ap (λ (v : DeviceView). own_issue v.slots s) (accepts.views dev below) ∙ here
-kept_accept Serr old new memory value dev s i below free accepts calm table here = ap (λ (v : DeviceView). own_issue v.slots s) (accepts.views dev below) ∙ here
-kept_accept Sact old new memory value dev s i below free accepts calm table here = ap (λ (v : DeviceView). own_issue v.slots s) (accepts.views dev below) ∙ here
-kept_accept Sntf old new memory value dev s i below free accepts calm table here = ap (λ (v : DeviceView). own_issue v.slots s) (accepts.views dev below) ∙ here
 kept_accept Fbs old new memory value dev s i below free accepts calm table here =
     ap (λ (v : DeviceView). own_issue v.slots s) (accepts.views dev below ∙ none_cleared (has_bit value dec) calm) ∙ here
   where
     none_cleared : (b : Bool) → not b ≡ true → view_cleared dev (if b then cleared_device old.errors else None) (view_of dev old) ≡ view_of dev old
     none_cleared true h = absurd (false≢true h)
     none_cleared false h = refl
+kept_accept other old new memory value dev s i below free accepts calm table here = ap (λ (v : DeviceView). own_issue v.slots s) (accepts.views dev below) ∙ here
 
 kept_write : (o : Option Register) (offset value : ℕ) (old new : Port) (memory : Memory) (dev s : ℕ) (i : Issue) → register_at offset ≡ o → MatchOption o (Unit {0}) (λ r. NoFall r old.registers value) → dev < 16
     → Tries old memory offset value new → IsTable old.slots → IsIssuedAt old dev s i → IsIssuedAt new dev s i

@@ -190,10 +190,7 @@ pub data Moves (v : Sight) (p r : Plan) (a : Option Act) : Type 0 where
 
 acted_other : (a : Option Act) (file : TaskFile) (d : Driver) → IsOther a → (control_in (acted a file d).plan ≡ control_in d.plan) ⊎ ((acted a file d).plan.order ≡ ResetOn)
 unfolding plan_after
-acted_other None file d other = inl refl
-acted_other (Some (act.Opens k)) file d other = inl refl
 acted_other (Some act.Stops) file d other = inr refl
-acted_other (Some (act.Restarts k)) file d other = inl refl
 acted_other (Some (act.Clears dev)) file d other =
     either (λ (q : Plan). (control_in q ≡ control_in d.plan) ⊎ (q.order ≡ ResetOn)) (nat_lt dev 15) (recovering dev file d.plan) (from_reset d.plan) (inl refl) (inr refl)
 acted_other (Some (act.Orders order)) file d other = absurd other

@@ -97,19 +97,12 @@ by_flush false c none h = absurd (false≢true (sym none ∙ h))
 
 clears : (mode : Mode) (dev : ℕ) (order : Order) → list_any (flushes dev) (order_effects mode order) ≡ true → order ≡ Clear dev
 unfolding order_effects order_fields
-clears mode dev ResetOn h = none_cleared mode dev h
-clears mode dev ResetOff h = none_cleared mode dev h
 clears mode dev AwaitSignature h = absurd (false≢true h)
-clears mode dev CountPorts h = none_cleared mode dev h
-clears mode dev SetMask h = none_cleared mode dev h
-clears mode dev Enable h = none_cleared mode dev h
-clears mode dev (Open port) h = none_cleared mode dev h
-clears mode dev Scan h = none_cleared mode dev h
 clears mode dev (Clear port) h =
     ap Clear (equal_of port dev
     (by_flush (port == dev) _ (rest_none mode dev port (order_command mode (Clear port)) (issues_none mode dev 31 15 false)) h))
-clears mode dev (Detect port) h = none_cleared mode dev h
 clears mode dev Watch h = absurd (false≢true h)
+clears mode dev order h = none_cleared mode dev h
 
 pub act_clears : (mode : Mode) (dev : ℕ) (a : Option Act) → list_any (flushes dev) (effects_due mode a) ≡ true → a ≡ Some (act.Orders (Clear dev))
 unfolding effects_of

@@ -79,10 +79,7 @@ pub record IsAllowed (a : Option Act) : Type 0 where
 
 acted_same : (a : Option Act) (file : TaskFile) (d : Driver) → IsOther a → IsAllowed a → control_in (acted a file d).plan ≡ control_in d.plan
 unfolding plan_after
-acted_same None file d other may = refl
-acted_same (Some (act.Opens k)) file d other may = refl
 acted_same (Some act.Stops) file d other may = absurd (may.leaves act.Stops refl)
-acted_same (Some (act.Restarts k)) file d other may = refl
 acted_same (Some (act.Clears dev)) file d other may =
     ap (λ (b : Bool). control_in (if b then recovering dev file d.plan else from_reset d.plan)) (lt-ltb dev 15 (may.clears dev refl))
 acted_same (Some (act.Orders order)) file d other may = absurd other

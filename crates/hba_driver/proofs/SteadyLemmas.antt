@@ -444,9 +444,7 @@ module _ (n : ℕ) (file : TaskFile) (plan : Plan) where
   act_beside (Some (act.Clears dev)) calm due = cleared_if (nat_lt dev 15) dev calm
   act_beside (Some (act.Orders order)) calm due = ordered_beside order calm due
   act_beside (Some (act.Steps dev stage)) calm due = absurd due
-  act_beside (Some (act.Opens k)) calm due = beside_path n plan _ refl refl (λ on. on)
-  act_beside (Some (act.Restarts k)) calm due = beside_path n plan _ refl refl (λ on. on)
-  act_beside other calm due = beside_same n plan
+  act_beside other calm due = beside_path n plan (match_some other plan (λ x. plan_after x file plan)) refl refl (λ on. on)
 
 module _ (n : ℕ) (signs : Type 0) (v : Sight) (file : TaskFile) (plan : Plan) (h : IsSteadyPlan n plan) where
   -- slot 30 begins to work on a device

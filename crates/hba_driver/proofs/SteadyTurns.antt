@@ -65,85 +65,6 @@ unended_in other h = refl
 pub issued_unended : (e : Entry) → is_issued e.head ≡ true → has_ended e.head ≡ false
 issued_unended e h = unended_in e.head.phase h
 
-record WasOpen (n s : ℕ) (old : List (Option Entry)) (f : Entry) : Type 0 where
-  pub entry : Entry
-  pub is : IsOpenAt n s old entry
-  pub work : f.head.work ≡ entry.head.work
-
-open_back : (n s : ℕ) (old new : List (Option Entry)) (f : Entry) → Keeps (entry_at old s) (entry_at new s) → IsOpenAt n s new f → WasOpen n s old f
-open_back n s old new f keeps there =
-    let b = back_of (entry_at old s) (entry_at new s) keeps f there.stands in
-    record {
-      entry = b.0;
-      is = record {
-        stands = b.1;
-        of_dev = sym (ap (λ (x : Entry). x.head.dev) b.2.same) ∙ there.of_dev;
-        unended = ended_before b.0.head.phase f.head.phase b.2.goes there.unended;
-      };
-      work = ap (λ (x : Entry). x.head.work) b.2.same;
-    }
-
-requests_keep : (n : ℕ) (p q : Plan) (old new : List (Option Entry)) → (device_at p n ≡ Ready → device_at q n ≡ Ready) → ((s : ℕ) → Keeps (entry_at old s) (entry_at new s)) → AreSteady n p old → AreSteady n q new
-requests_keep n p q old new ready keeps h = record {
-  ready = λ s f there. let b = open_back n s old new f (keeps s) there in ready (h.ready s b.entry b.is);
-  alone = λ s r e f there other flush.
-      let b = open_back n s old new e (keeps s) there in
-      let c = open_back n r old new f (keeps r) other in
-      h.alone s r b.entry c.entry b.is c.is (sym (ap is_flush b.work) ∙ flush);
-}
-
--- ---- a tick
-
-pub acted_plan : (a : Option Act) (file : TaskFile) (d : Driver) → (acted a file d).plan ≡ match_some a d.plan (λ x. plan_after x file d.plan)
-acted_plan None file d = refl
-acted_plan (Some a) file d = refl
-
-pub signed_by : (n : ℕ) (mode : Mode) (port : Port) (memory : Memory) → mode ≡ Switching → slice_index_or (sight_of mode port memory).signed n false ≡ true → is_ata (seen_in (last_d2h memory.structure n)) ≡ true
-unfolding sight_of
-signed_by n CommandBased port memory on h = absurd (cc)
-signed_by n Switching port memory on h = elim (cases_lt n 16) [
-  | inl below ↦ sym (get_or-map-range_with_len (λ dev. is_ata (seen_in (last_d2h memory.structure dev))) 0 16 n n false below (omega arith)) ∙ h
-  | inr past ↦
-      let long = length-map-range_with_len (λ dev. is_ata (seen_in (last_d2h memory.structure dev))) 0 16 in
-      absurd (false≢true (sym (get_or_past (map (λ dev. is_ata (seen_in (last_d2h memory.structure dev))) (range_with_len 0 16)) n false (omega (arith, long, past))) ∙ h))
-]
-
--- its signature stands in its row, if the driver uses FIS-based switching
-abbrev pub Signs : ℕ → Host → Type 0
-Signs n old = IsSwitching old → HasSignature n old
-
-tick_plan : (n : ℕ) (old : Host) (file : TaskFile) → IsCalmTick n old → IsSteadyPlan n old.driver.plan → PlanKeeps n (Signs n old) old.driver.plan (after_tick (sight_in old) file old.driver).plan
-unfolding after_tick
-tick_plan n old file calm h =
-    let v : Sight = sight_in old in
-    let first = turn_keeps n (Signs n old) v old.driver.plan (done_ended v.issued old.driver.entries) h in
-    let second = act_keeps n (Signs n old) v file (turn v old.driver).plan first.steady (turn v old.driver).act (λ bit on. signed_by n old.driver.plan.mode old.port old.memory on bit) calm (of_turn v old.driver.plan (done_ended v.issued old.driver.entries)) in
-    let whole = keeps_then n (Signs n old) old.driver.plan (turn v old.driver).plan _ first second in
-    subst (λ (p : Plan). PlanKeeps n (Signs n old) old.driver.plan p) (sym (acted_plan (turn v old.driver).act file (seen v old.driver))) whole
-
--- what a turn leaves of the driver
-pub record DriverKeeps (n : ℕ) (signs : Type 0) (d e : Driver) : Type 0 where
-  pub steady : IsSteady n e
-  pub asks : IsAskedOf n e.plan → IsAskedOf n d.plan ⊎ signs
-
-keeps_same : (n : ℕ) (signs : Type 0) (d e : Driver) → e ≡ d → IsSteady n d → DriverKeeps n signs d e
-keeps_same n signs d e is h = subst (λ (x : Driver). DriverKeeps n signs d x) (sym is) (record { steady = h; asks = λ a. inl a })
-
-tick_keeps : (n : ℕ) (old : Host) (a : Bool) (new : Host) → Does old (Ticked a) new → IsCalmTick n old → IsSteady n old.driver → DriverKeeps n (Signs n old) old.driver new.driver
-tick_keeps n old a new does calm h =
-    let v : Sight = sight_in old in
-    let plan = tick_plan n old (file_shown new.port) calm h.plan in
-    let after : Driver = after_tick v (file_shown new.port) old.driver in
-    subst (λ (x : Driver). DriverKeeps n (Signs n old) old.driver x) (sym does.driver) (record {
-      steady = record {
-        plan = plan.steady;
-        requests = requests_keep n old.driver.plan after.plan old.driver.entries after.entries plan.ready (λ s. keeps_tick v (file_shown new.port) old.driver s) h.requests;
-      };
-      asks = plan.asks;
-    })
-
--- ---- a request is taken
-
 second_none : (a b : Option SubmitError) → option_or a b ≡ None → b ≡ None
 second_none None b h = h
 second_none (Some e) b h = cc
@@ -205,68 +126,168 @@ no_flush d dev s request e free there =
     and_assoc true false c h = refl
     and_assoc false b c h = refl
 
-module _ (n : ℕ) (d : Driver) (memory : Memory) (dev : ℕ) (request : Request) (accepted : submit_refusal d memory dev request ≡ None) (h : IsSteady n d) where
-  fresh : Entry
-  fresh = new_entry (d.given + 1) dev request
+-- ---- requests of a kind: those that are open, or that are live
 
-  cases : (s : ℕ) (e : Entry) → IsOpenAt n s (after_submit d dev request).entries e → ((s ≡ next_slot d) × (fresh ≡ e)) ⊎ IsOpenAt n s d.entries e
-  unfolding fresh
-  cases s e there = elim (set_cases d.entries (next_slot d) (Some fresh) s e there.stands) [
-    | inl at ↦ inl (at.0, some_inj fresh e at.1)
-    | inr beside ↦ inr (record { stands = beside.1; of_dev = there.of_dev; unended = there.unended })
-  ]
+-- they stand only while the device is ready, and a Flush alone
+pub record Alone (n : ℕ) (At : ℕ → List (Option Entry) → Entry → Type 0) (plan : Plan) (entries : List (Option Entry)) : Type 0 where
+  pub ready : (s : ℕ) (e : Entry) → At s entries e → device_at plan n ≡ Ready
+  pub alone : (s r : ℕ) (e f : Entry) → At s entries e → At r entries f → is_flush e.head.work ≡ true → s ≡ r
 
-  to_dev : (e : Entry) → fresh ≡ e → e.head.dev ≡ n → dev ≡ n
-  unfolding fresh
-  to_dev e is of_dev = ap (λ (x : Entry). x.head.dev) is ∙ of_dev
+-- such a request is open, and what it was before was such a request
+pub record IsKind (n : ℕ) (At : ℕ → List (Option Entry) → Entry → Type 0) : Type 0 where
+  pub stands : (s : ℕ) (entries : List (Option Entry)) (e : Entry) → At s entries e → IsOpenAt n s entries e
+  pub again : (s : ℕ) (old new : List (Option Entry)) (e : Entry) → entry_at old s ≡ Some e → At s new e → At s old e
+  pub back : (s : ℕ) (old new : List (Option Entry)) (e f : Entry) → entry_at old s ≡ Some e → GoesOn e f → At s new f → At s old e
 
-  to_work : (e : Entry) → fresh ≡ e → e.head.work ≡ request.work
-  unfolding fresh
-  to_work e is = sym (ap (λ (x : Entry). x.head.work) is)
+module _ (n : ℕ) (At : ℕ → List (Option Entry) → Entry → Type 0) (kind : IsKind n At) where
+  record Was (s : ℕ) (old : List (Option Entry)) (f : Entry) : Type 0 where
+    pub entry : Entry
+    pub is : At s old entry
+    pub work : f.head.work ≡ entry.head.work
 
-  beside : (s : ℕ) (e f : Entry) → fresh ≡ f → f.head.dev ≡ n → IsOpenAt n s d.entries e → (is_flush request.work ≡ false) × (is_flush e.head.work ≡ false)
-  beside s e f is of_dev there =
-      no_flush d dev s request e (not_blocked d memory dev request accepted) (subst (λ (k : ℕ). IsOpenAt k s d.entries e) (sym (to_dev f is of_dev)) there)
+  was : (s : ℕ) (old new : List (Option Entry)) (f : Entry) → Keeps (entry_at old s) (entry_at new s) → At s new f → Was s old f
+  was s old new f keeps there =
+      let b = back_of (entry_at old s) (entry_at new s) keeps f (kind.stands s new f there).stands in
+      record { entry = b.0; is = kind.back s old new b.0 f b.1 b.2 there; work = ap (λ (x : Entry). x.head.work) b.2.same }
 
-  submit_steady : IsSteady n (after_submit d dev request)
-  submit_steady = record {
-    plan = h.plan;
-    requests = record {
+  pub alone_keep : (p q : Plan) (old new : List (Option Entry)) → (device_at p n ≡ Ready → device_at q n ≡ Ready) → ((s : ℕ) → Keeps (entry_at old s) (entry_at new s)) → Alone n At p old → Alone n At q new
+  alone_keep p q old new ready keeps h = record {
+    ready = λ s f there. let b = was s old new f (keeps s) there in ready (h.ready s b.entry b.is);
+    alone = λ s r e f there other flush.
+        let b = was s old new e (keeps s) there in
+        let c = was r old new f (keeps r) other in
+        h.alone s r b.entry c.entry b.is c.is (sym (ap is_flush b.work) ∙ flush);
+  }
+
+  pub alone_fewer : (plan : Plan) (old new : List (Option Entry)) → ((s : ℕ) (e : Entry) → entry_at new s ≡ Some e → entry_at old s ≡ Some e) → Alone n At plan old → Alone n At plan new
+  alone_fewer plan old new stood h = record {
+    ready = λ s e there. h.ready s e (before s e there);
+    alone = λ s r e f there other flush. h.alone s r e f (before s e there) (before r f other) flush;
+  }
+    where
+      before : (s : ℕ) (e : Entry) → At s new e → At s old e
+      before s e there = kind.again s old new e (stood s e (kind.stands s new e there).stands) there
+
+  module _ (d : Driver) (memory : Memory) (dev : ℕ) (request : Request) (accepted : submit_refusal d memory dev request ≡ None) where
+    fresh : Entry
+    fresh = new_entry (d.given + 1) dev request
+
+    cases : (s : ℕ) (e : Entry) → At s (after_submit d dev request).entries e → ((s ≡ next_slot d) × (fresh ≡ e)) ⊎ At s d.entries e
+    unfolding fresh
+    cases s e there = elim (set_cases d.entries (next_slot d) (Some fresh) s e (kind.stands s (after_submit d dev request).entries e there).stands) [
+      | inl at ↦ inl (at.0, some_inj fresh e at.1)
+      | inr beside ↦ inr (kind.again s d.entries (after_submit d dev request).entries e beside.1 there)
+    ]
+
+    to_dev : (s : ℕ) (e : Entry) → fresh ≡ e → At s (after_submit d dev request).entries e → dev ≡ n
+    unfolding fresh
+    to_dev s e is there = ap (λ (x : Entry). x.head.dev) is ∙ (kind.stands s (after_submit d dev request).entries e there).of_dev
+
+    to_work : (e : Entry) → fresh ≡ e → e.head.work ≡ request.work
+    unfolding fresh
+    to_work e is = sym (ap (λ (x : Entry). x.head.work) is)
+
+    beside : (s r : ℕ) (e f : Entry) → fresh ≡ f → At r (after_submit d dev request).entries f → At s d.entries e → (is_flush request.work ≡ false) × (is_flush e.head.work ≡ false)
+    beside s r e f is new there =
+        no_flush d dev s request e (not_blocked d memory dev request accepted) (subst (λ (k : ℕ). IsOpenAt k s d.entries e) (sym (to_dev r f is new)) (kind.stands s d.entries e there))
+
+    pub alone_submit : Alone n At d.plan d.entries → Alone n At d.plan (after_submit d dev request).entries
+    alone_submit h = record {
       ready = λ s e there. elim (cases s e there) [
-        | inl new ↦ subst (λ (k : ℕ). device_at d.plan k ≡ Ready) (to_dev e new.1 there.of_dev) (is_ready_dev d memory dev request accepted)
-        | inr was ↦ h.requests.ready s e was
+        | inl new ↦ subst (λ (k : ℕ). device_at d.plan k ≡ Ready) (to_dev s e new.1 there) (is_ready_dev d memory dev request accepted)
+        | inr was ↦ h.ready s e was
       ];
       alone = λ s r e f there other flush. elim (cases s e there) [
         | inl new ↦ elim (cases r f other) [
           | inl also ↦ new.0 ∙ sym also.0
-          | inr was ↦ absurd (false≢true (sym (beside r f e new.1 there.of_dev was).0 ∙ sym (ap is_flush (to_work e new.1)) ∙ flush))
+          | inr was ↦ absurd (false≢true (sym (beside r s f e new.1 there was).0 ∙ sym (ap is_flush (to_work e new.1)) ∙ flush))
         ]
         | inr was ↦ elim (cases r f other) [
-          | inl new ↦ absurd (false≢true (sym (beside s e f new.1 other.of_dev was).1 ∙ flush))
-          | inr too ↦ h.requests.alone s r e f was too flush
+          | inl new ↦ absurd (false≢true (sym (beside s r e f new.1 other was).1 ∙ flush))
+          | inr too ↦ h.alone s r e f was too flush
         ]
       ];
-    };
-  }
+    }
 
--- ---- a request is polled
+pub fewer_by : (entries : List (Option Entry)) (place s : ℕ) (e : Entry) → entry_at (set entries place None) s ≡ Some e → entry_at entries s ≡ Some e
+fewer_by entries place s e there = elim (set_cases entries place None s e there) [ inl at ↦ none_some e at.1 | inr beside ↦ beside.1 ]
 
-fewer : (n : ℕ) (d : Driver) (entries : List (Option Entry)) → ((s : ℕ) (e : Entry) → entry_at entries s ≡ Some e → entry_at d.entries s ≡ Some e) → IsSteady n d → IsSteady n (record d { entries = entries })
-fewer n d entries was h = record {
-  plan = h.plan;
-  requests = record {
-    ready = λ s e there. h.requests.ready s e (record { stands = was s e there.stands; of_dev = there.of_dev; unended = there.unended });
-    alone = λ s r e f there other flush.
-        h.requests.alone s r e f (record { stands = was s e there.stands; of_dev = there.of_dev; unended = there.unended }) (record { stands = was r f other.stands; of_dev = other.of_dev; unended = other.unended }) flush;
-  };
+-- those that are open
+open_kind : (n : ℕ) → IsKind n (IsOpenAt n)
+open_kind n = record {
+  stands = λ s entries e h. h;
+  again = λ s old new e here h. record { stands = here; of_dev = h.of_dev; unended = h.unended };
+  back = λ s old new e f here on h. record { stands = here; of_dev = sym (ap (λ (x : Entry). x.head.dev) on.same) ∙ h.of_dev; unended = ended_before e.head.phase f.head.phase on.goes h.unended };
 }
+
+steady_alone : (n : ℕ) (plan : Plan) (entries : List (Option Entry)) → AreSteady n plan entries → Alone n (IsOpenAt n) plan entries
+steady_alone n plan entries h = record { ready = h.ready; alone = h.alone }
+
+alone_steady : (n : ℕ) (plan : Plan) (entries : List (Option Entry)) → Alone n (IsOpenAt n) plan entries → AreSteady n plan entries
+alone_steady n plan entries h = record { ready = h.ready; alone = h.alone }
+
+-- ---- a tick
+
+pub acted_plan : (a : Option Act) (file : TaskFile) (d : Driver) → (acted a file d).plan ≡ match_some a d.plan (λ x. plan_after x file d.plan)
+acted_plan None file d = refl
+acted_plan (Some a) file d = refl
+
+pub signed_by : (n : ℕ) (mode : Mode) (port : Port) (memory : Memory) → mode ≡ Switching → slice_index_or (sight_of mode port memory).signed n false ≡ true → is_ata (seen_in (last_d2h memory.structure n)) ≡ true
+unfolding sight_of
+signed_by n CommandBased port memory on h = absurd (cc)
+signed_by n Switching port memory on h = elim (cases_lt n 16) [
+  | inl below ↦ sym (get_or-map-range_with_len (λ dev. is_ata (seen_in (last_d2h memory.structure dev))) 0 16 n n false below (omega arith)) ∙ h
+  | inr past ↦
+      let long = length-map-range_with_len (λ dev. is_ata (seen_in (last_d2h memory.structure dev))) 0 16 in
+      absurd (false≢true (sym (get_or_past (map (λ dev. is_ata (seen_in (last_d2h memory.structure dev))) (range_with_len 0 16)) n false (omega (arith, long, past))) ∙ h))
+]
+
+-- its signature stands in its row, if the driver uses FIS-based switching
+abbrev pub Signs : ℕ → Host → Type 0
+Signs n old = IsSwitching old → HasSignature n old
+
+tick_plan : (n : ℕ) (old : Host) (file : TaskFile) → IsCalmTick n old → IsSteadyPlan n old.driver.plan → PlanKeeps n (Signs n old) old.driver.plan (after_tick (sight_in old) file old.driver).plan
+unfolding after_tick
+tick_plan n old file calm h =
+    let v : Sight = sight_in old in
+    let first = turn_keeps n (Signs n old) v old.driver.plan (done_ended v.issued old.driver.entries) h in
+    let second = act_keeps n (Signs n old) v file (turn v old.driver).plan first.steady (turn v old.driver).act (λ bit on. signed_by n old.driver.plan.mode old.port old.memory on bit) calm (of_turn v old.driver.plan (done_ended v.issued old.driver.entries)) in
+    let whole = keeps_then n (Signs n old) old.driver.plan (turn v old.driver).plan _ first second in
+    subst (λ (p : Plan). PlanKeeps n (Signs n old) old.driver.plan p) (sym (acted_plan (turn v old.driver).act file (seen v old.driver))) whole
+
+-- what a turn leaves of the driver
+pub record DriverKeeps (n : ℕ) (signs : Type 0) (d e : Driver) : Type 0 where
+  pub steady : IsSteady n e
+  pub asks : IsAskedOf n e.plan → IsAskedOf n d.plan ⊎ signs
+
+keeps_same : (n : ℕ) (signs : Type 0) (d e : Driver) → e ≡ d → IsSteady n d → DriverKeeps n signs d e
+keeps_same n signs d e is h = subst (λ (x : Driver). DriverKeeps n signs d x) (sym is) (record { steady = h; asks = λ a. inl a })
+
+tick_keeps : (n : ℕ) (old : Host) (a : Bool) (new : Host) → Does old (Ticked a) new → IsCalmTick n old → IsSteady n old.driver → DriverKeeps n (Signs n old) old.driver new.driver
+tick_keeps n old a new does calm h =
+    let v : Sight = sight_in old in
+    let plan = tick_plan n old (file_shown new.port) calm h.plan in
+    let after : Driver = after_tick v (file_shown new.port) old.driver in
+    subst (λ (x : Driver). DriverKeeps n (Signs n old) old.driver x) (sym does.driver) (record {
+      steady = record {
+        plan = plan.steady;
+        requests = alone_steady n after.plan after.entries
+          (alone_keep n (IsOpenAt n) (open_kind n) old.driver.plan after.plan old.driver.entries after.entries plan.ready (λ s. keeps_tick v (file_shown new.port) old.driver s) (steady_alone n old.driver.plan old.driver.entries h.requests));
+      };
+      asks = plan.asks;
+    })
+
+-- ---- a request is taken, or polled
+
+submit_steady : (n : ℕ) (d : Driver) (memory : Memory) (dev : ℕ) (request : Request) → submit_refusal d memory dev request ≡ None → IsSteady n d → IsSteady n (after_submit d dev request)
+submit_steady n d memory dev request accepted h =
+    record { plan = h.plan; requests = alone_steady n d.plan _ (alone_submit n (IsOpenAt n) (open_kind n) d memory dev request accepted (steady_alone n d.plan d.entries h.requests)) }
 
 poll_keeps : (n : ℕ) (old : Host) (c : Completion) (new : Host) → Does old (Polled c) new → IsSteady n old.driver → DriverKeeps n (Signs n old) old.driver new.driver
 poll_keeps n old c new does h =
     let f : PollFacts old.driver c = poll_facts old.driver c does.polled in
-    let left : List (Option Entry) = set old.driver.entries f.place None in
-    let steady : IsSteady n (record old.driver { entries = left }) =
-    fewer n old.driver left (λ s e there. elim (set_cases old.driver.entries f.place None s e there) [ inl at ↦ none_some e at.1 | inr beside ↦ beside.1 ]) h in
+    let steady : IsSteady n (record old.driver { entries = set old.driver.entries f.place None }) =
+    record { plan = h.plan; requests = alone_steady n old.driver.plan _ (alone_fewer n (IsOpenAt n) (open_kind n) old.driver.plan old.driver.entries _ (fewer_by old.driver.entries f.place) (steady_alone n old.driver.plan old.driver.entries h.requests)) } in
     subst (λ (x : Driver). DriverKeeps n (Signs n old) old.driver x) (sym (does.driver ∙ freed old.driver c f)) (record { steady = steady; asks = λ a. inl a })
 
 -- ---- each turn
@@ -442,14 +463,8 @@ module _ (old : Host) (acted_so : Bool) (new : Host) (does : Does old (Ticked ac
   begun_slot = by_act (due (sight_in old) old.driver) refl
     where
       by_act : (o : Option Act) → due (sight_in old) old.driver ≡ o → s ≡ slot_of o → ⊥
-      by_act None due_is at = omega (arith, at, low)
-      by_act (Some act.Stops) due_is at = omega (arith, at, low)
-      by_act (Some (act.Clears dev)) due_is at = omega (arith, at, low)
-      by_act (Some (act.Orders o)) due_is at = omega (arith, at, low)
-      by_act (Some (act.Opens k)) due_is at = omega (arith, at, low)
-      by_act (Some (act.Restarts k)) due_is at = omega (arith, at, low)
-      by_act (Some (act.Steps dev stage)) due_is at = omega (arith, at, low)
       by_act (Some (act.Issues slot dev queued)) due_is at =
           let its : holds waits (entry_at (seen (sight_in old) old.driver).entries slot) ≡ true =
           waits_if_may (turn (sight_in old) old.driver).plan (entry_at (seen (sight_in old) old.driver).entries slot) (ticks_serve.ready (sight_in old) old.driver slot dev queued due_is) in
           seen_begun (subst (λ (k : ℕ). holds waits (entry_at (seen (sight_in old) old.driver).entries k) ≡ true) (sym at) its)
+      by_act other due_is at = omega (arith, at, low)

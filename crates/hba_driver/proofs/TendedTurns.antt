@@ -37,7 +37,7 @@ use Rattle.hba_driver.proofs.HistoryLemmas.{PollFacts, back_of, freed, poll_fact
 use Rattle.hba_driver.proofs.LifeLemmas.{keeps_tick}
 use Rattle.hba_driver.proofs.RequestLemmas.{set_cases}
 use Rattle.hba_driver.proofs.FlushLemmas.{flush_unreset}
-use Rattle.hba_driver.proofs.SteadyTurns.{acted_plan, flush_steady, is_ready_dev, no_flush, not_blocked, opens_steady, signed_by}
+use Rattle.hba_driver.proofs.SteadyTurns.{Alone, IsKind, acted_plan, alone_fewer, alone_keep, alone_submit, fewer_by, flush_steady, opens_steady, signed_by}
 use Rattle.hba_driver.proofs.TendedLemmas.{PlanTends, recovering_ready, turn_tends}
 
 -- ---- requests that go on
@@ -64,32 +64,18 @@ lived_before Aside q goes h = absurd (false≢true (sym goes ∙ h))
 lived_before (Ended o) q goes h = sym (ap (λ (x : Phase). waits_in x || is_issued_in x) goes) ∙ h
 lived_before other q goes h = refl
 
-record WasLive (n s : ℕ) (old : List (Option Entry)) (f : Entry) : Type 0 where
-  pub entry : Entry
-  pub is : IsLiveAt n s old entry
-  pub work : f.head.work ≡ entry.head.work
-
-live_back : (n s : ℕ) (old new : List (Option Entry)) (f : Entry) → Keeps (entry_at old s) (entry_at new s) → IsLiveAt n s new f → WasLive n s old f
-live_back n s old new f keeps there =
-    let b = back_of (entry_at old s) (entry_at new s) keeps f there.stands in
-    record {
-      entry = b.0;
-      is = record {
-        stands = b.1;
-        of_dev = sym (ap (λ (x : Entry). x.head.dev) b.2.same) ∙ there.of_dev;
-        lives = lived_before b.0.head.phase f.head.phase b.2.goes there.lives;
-      };
-      work = ap (λ (x : Entry). x.head.work) b.2.same;
-    }
-
-requests_keep : (n : ℕ) (p q : Plan) (old new : List (Option Entry)) → (device_at p n ≡ Ready → device_at q n ≡ Ready) → ((s : ℕ) → Keeps (entry_at old s) (entry_at new s)) → AreTended n p old → AreTended n q new
-requests_keep n p q old new ready keeps h = record {
-  ready = λ s f there. let b = live_back n s old new f (keeps s) there in ready (h.ready s b.entry b.is);
-  alone = λ s r e f there other flush.
-      let b = live_back n s old new e (keeps s) there in
-      let c = live_back n r old new f (keeps r) other in
-      h.alone s r b.entry c.entry b.is c.is (sym (ap is_flush b.work) ∙ flush);
+live_kind : (n : ℕ) → IsKind n (IsLiveAt n)
+live_kind n = record {
+  stands = λ s entries e h. live_open n s entries e h;
+  again = λ s old new e here h. record { stands = here; of_dev = h.of_dev; lives = h.lives };
+  back = λ s old new e f here on h. record { stands = here; of_dev = sym (ap (λ (x : Entry). x.head.dev) on.same) ∙ h.of_dev; lives = lived_before e.head.phase f.head.phase on.goes h.lives };
 }
+
+tended_alone : (n : ℕ) (plan : Plan) (entries : List (Option Entry)) → AreTended n plan entries → Alone n (IsLiveAt n) plan entries
+tended_alone n plan entries h = record { ready = h.ready; alone = h.alone }
+
+alone_tended : (n : ℕ) (plan : Plan) (entries : List (Option Entry)) → Alone n (IsLiveAt n) plan entries → AreTended n plan entries
+alone_tended n plan entries h = record { ready = h.ready; alone = h.alone }
 
 -- ---- a device with which nothing has failed since its flush
 
@@ -134,8 +120,9 @@ tick_tends n old a new below does on calm h =
     let after : Driver = after_tick v (file_shown new.port) old.driver in
     let plan = subst (λ (x : Driver). PlanTends n (HasSignature n old) (sight_in old) (due (sight_in old) old.driver) old.driver.plan x.plan) (sym does.driver) (tick_plan n old (file_shown new.port) on calm h.plan) in
     let requests : AreTended n new.driver.plan new.driver.entries =
-    requests_keep n old.driver.plan new.driver.plan old.driver.entries new.driver.entries plan.ready
-    (λ s. subst (λ (x : Driver). Keeps (entry_at old.driver.entries s) (entry_at x.entries s)) (sym does.driver) (keeps_tick v (file_shown new.port) old.driver s)) h.requests in
+    alone_tended n new.driver.plan new.driver.entries
+    (alone_keep n (IsLiveAt n) (live_kind n) old.driver.plan new.driver.plan old.driver.entries new.driver.entries plan.ready
+    (λ s. subst (λ (x : Driver). Keeps (entry_at old.driver.entries s) (entry_at x.entries s)) (sym does.driver) (keeps_tick v (file_shown new.port) old.driver s)) (tended_alone n old.driver.plan old.driver.entries h.requests)) in
     let shown : is_in_reset (sight_in old) n ≡ (view_of n old.port).state.resetting = in_reset_is n old.driver.plan.mode old.port old.memory below in
     record {
       next = elim plan.next [
@@ -181,66 +168,15 @@ plan_stays n old t new same stepless h = record {
 driver_stays : (n : ℕ) (old new : Host) → new.driver ≡ old.driver → IsTended n old.driver → IsTended n new.driver
 driver_stays n old new is h = subst (λ (x : Driver). IsTended n x) (sym is) h
 
-module _ (n : ℕ) (d : Driver) (memory : Memory) (dev : ℕ) (request : Request) (accepted : submit_refusal d memory dev request ≡ None) (h : IsTended n d) where
-  abbrev fresh : Entry
-  fresh = new_entry (d.given + 1) dev request
-
-  cases : (s : ℕ) (e : Entry) → IsLiveAt n s (after_submit d dev request).entries e → ((s ≡ next_slot d) × (fresh ≡ e)) ⊎ IsLiveAt n s d.entries e
-  cases s e there = elim (set_cases d.entries (next_slot d) (Some fresh) s e there.stands) [
-    | inl at ↦ inl (at.0, some_inj fresh e at.1)
-    | inr beside ↦ inr (record { stands = beside.1; of_dev = there.of_dev; lives = there.lives })
-  ]
-
-  to_dev : (e : Entry) → fresh ≡ e → e.head.dev ≡ n → dev ≡ n
-  to_dev e is of_dev = ap (λ (x : Entry). x.head.dev) is ∙ of_dev
-
-  to_work : (e : Entry) → fresh ≡ e → e.head.work ≡ request.work
-  to_work e is = sym (ap (λ (x : Entry). x.head.work) is)
-
-  beside : (s : ℕ) (e f : Entry) → fresh ≡ f → f.head.dev ≡ n → IsLiveAt n s d.entries e → (is_flush request.work ≡ false) × (is_flush e.head.work ≡ false)
-  beside s e f is of_dev there =
-      no_flush d dev s request e (not_blocked d memory dev request accepted) (subst (λ (k : ℕ). IsOpenAt k s d.entries e) (sym (to_dev f is of_dev)) (live_open n s d.entries e there))
-
-  submit_tended : IsTended n (after_submit d dev request)
-  submit_tended = record {
-    plan = h.plan;
-    requests = record {
-      ready = λ s e there. elim (cases s e there) [
-        | inl new ↦ subst (λ (k : ℕ). device_at d.plan k ≡ Ready) (to_dev e new.1 there.of_dev) (is_ready_dev d memory dev request accepted)
-        | inr was ↦ h.requests.ready s e was
-      ];
-      alone = λ s r e f there other flush. elim (cases s e there) [
-        | inl new ↦ elim (cases r f other) [
-          | inl also ↦ new.0 ∙ sym also.0
-          | inr was ↦ absurd (false≢true (sym (beside r f e new.1 there.of_dev was).0 ∙ sym (ap is_flush (to_work e new.1)) ∙ flush))
-        ]
-        | inr was ↦ elim (cases r f other) [
-          | inl new ↦ absurd (false≢true (sym (beside s e f new.1 other.of_dev was).1 ∙ flush))
-          | inr too ↦ h.requests.alone s r e f was too flush
-        ]
-      ];
-    };
-  }
-
-none_some : (e : Entry) {P : Type 0} → None ≡ Some e → P
-none_some e h = cc
-
-fewer : (n : ℕ) (d : Driver) (entries : List (Option Entry)) → ((s : ℕ) (e : Entry) → entry_at entries s ≡ Some e → entry_at d.entries s ≡ Some e) → IsTended n d → IsTended n (record d { entries = entries })
-fewer n d entries was h = record {
-  plan = h.plan;
-  requests = record {
-    ready = λ s e there. h.requests.ready s e (record { stands = was s e there.stands; of_dev = there.of_dev; lives = there.lives });
-    alone = λ s r e f there other flush.
-        h.requests.alone s r e f (record { stands = was s e there.stands; of_dev = there.of_dev; lives = there.lives }) (record { stands = was r f other.stands; of_dev = other.of_dev; lives = other.lives }) flush;
-  };
-}
+submit_tended : (n : ℕ) (d : Driver) (memory : Memory) (dev : ℕ) (request : Request) → submit_refusal d memory dev request ≡ None → IsTended n d → IsTended n (after_submit d dev request)
+submit_tended n d memory dev request accepted h =
+    record { plan = h.plan; requests = alone_tended n d.plan _ (alone_submit n (IsLiveAt n) (live_kind n) d memory dev request accepted (tended_alone n d.plan d.entries h.requests)) }
 
 poll_tends : (n : ℕ) (old : Host) (c : Completion) (new : Host) → Does old (Polled c) new → IsTended n old.driver → TendsOn n old (Polled c) new
 poll_tends n old c new does h =
     let f : PollFacts old.driver c = poll_facts old.driver c does.polled in
-    let left : List (Option Entry) = set old.driver.entries f.place None in
-    let tended : IsTended n (record old.driver { entries = left }) =
-    fewer n old.driver left (λ s e there. elim (set_cases old.driver.entries f.place None s e there) [ inl at ↦ none_some e at.1 | inr beside ↦ beside.1 ]) h in
+    let tended : IsTended n (record old.driver { entries = set old.driver.entries f.place None }) =
+    record { plan = h.plan; requests = alone_tended n old.driver.plan _ (alone_fewer n (IsLiveAt n) (live_kind n) old.driver.plan old.driver.entries _ (fewer_by old.driver.entries f.place) (tended_alone n old.driver.plan old.driver.entries h.requests)) } in
     plan_stays n old (Polled c) new (ap (λ (x : Driver). x.plan) (does.driver ∙ freed old.driver c f)) (λ there. tt)
     (subst (λ (x : Driver). IsTended n x) (sym (does.driver ∙ freed old.driver c f)) tended)
 
