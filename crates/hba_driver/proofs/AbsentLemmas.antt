@@ -126,14 +126,12 @@ same_was : (n : ℕ) (old new : Host) → new.driver.plan ≡ old.driver.plan �
 same_was n old new same h = sym (ap (λ (p : Plan). device_at p n) same) ∙ h
 
 pub turn_was : (n : ℕ) (old : Host) (t : HostTurn) (new : Host) → Does old t new → IsSteadyTurn n old t → IsSoughtAbsent n old.driver.plan → WasAbsent n old.driver.plan new.driver.plan
-turn_was n old (Took frame report) new does calm sought absent = same_was n old new (ap (λ (x : Driver). x.plan) does.driver) absent
-turn_was n old (Pushed frame) new does calm sought absent = same_was n old new (ap (λ (x : Driver). x.plan) does.driver) absent
 turn_was n old (Ticked a) new does calm sought absent = tick_was n old (file_shown new.port) calm sought (sym (ap (λ (x : Driver). device_at x.plan n) does.driver) ∙ absent)
 turn_was n old (Submitted dev request ticket) new does calm sought absent = same_was n old new (ap (λ (x : Driver). x.plan) does.taken.driver) absent
 turn_was n old (Polled c) new does calm sought absent =
     let f : PollFacts old.driver c = poll_facts old.driver c does.polled in
     same_was n old new (ap (λ (x : Driver). x.plan) (does.driver ∙ freed old.driver c f)) absent
-turn_was n old (Put at bytes) new does calm sought absent = same_was n old new (ap (λ (x : Driver). x.plan) does.driver) absent
+turn_was n old other new does calm sought absent = same_was n old new (ap (λ (x : Driver). x.plan) does.driver) absent
 
 pub each_was_absent : EachWasAbsent
 each_was_absent n old t new does calm sought absent = turn_was n old t new does calm sought absent

@@ -166,15 +166,6 @@ flushed_alone old new port dev table flushed alone s i here = alone_by old new d
 order_taken : (mode : Mode) (order : Order) (old new : Port) (before after : Memory) → IsUpIn mode old.registers → IsTable old.slots → Alone mode control_port old → old.registers.armed ≡ 0 → issue_at old.slots 31 ≡ None → (acts : ActsAll (order_effects mode order) old before new after)
     → Taken (order_effects mode order) old before new after acts
 unfolding ActsAll AreAccepted order_effects
-order_taken mode ResetOn old new before after up table may none free acts = command_taken mode (order_fields ResetOn) old new before after (orderly ResetOn) up table may none free acts
-order_taken mode ResetOff old new before after up table may none free acts = command_taken mode (order_fields ResetOff) old new before after (orderly ResetOff) up table may none free acts
-order_taken mode AwaitSignature old new before after up table may none free acts = command_taken mode (order_fields AwaitSignature) old new before after (orderly AwaitSignature) up table may none free acts
-order_taken mode CountPorts old new before after up table may none free acts = command_taken mode (order_fields CountPorts) old new before after (orderly CountPorts) up table may none free acts
-order_taken mode SetMask old new before after up table may none free acts = command_taken mode (order_fields SetMask) old new before after (orderly SetMask) up table may none free acts
-order_taken mode Enable old new before after up table may none free acts = command_taken mode (order_fields Enable) old new before after (orderly Enable) up table may none free acts
-order_taken mode (Open port) old new before after up table may none free acts = command_taken mode (order_fields (Open port)) old new before after (orderly (Open port)) up table may none free acts
-order_taken mode (Detect port) old new before after up table may none free acts = command_taken mode (order_fields (Detect port)) old new before after (orderly (Detect port)) up table may none free acts
-order_taken mode Watch old new before after up table may none free acts = command_taken mode (order_fields Watch) old new before after (orderly Watch) up table may none free acts
 order_taken mode Scan old new before after up table may none free acts =
     let s = sntf_step old acts.0 before acts.1 up acts.2 in
     let c : Taken (command_effects mode (order_fields Scan)) acts.0 acts.1 new after acts.4 =
@@ -198,6 +189,7 @@ order_taken CommandBased (Clear port) old new before after up table may none fre
     let c : Taken (command_effects CommandBased (order_fields (Clear port))) acts.0 acts.1 new after acts.4 =
     command_taken CommandBased (order_fields (Clear port)) acts.0 new acts.1 after (orderly (Clear port)) up1 acts.3.table (λ is. flushed_alone old acts.0 port control_port acts.3.table flushed (may is)) none1 free1 acts.4 in
     record { accepted = (tt, c.accepted); unarmed = c.unarmed }
+order_taken mode other old new before after up table may none free acts = command_taken mode (order_fields other) old new before after (orderly other) up table may none free acts
 
 -- ---- the identify command
 

@@ -252,8 +252,7 @@ act_their : (e : Effect) (old new : Port) (before after : Memory) → Acts e old
 act_their (effect.Writes offset value) old new before after h ruled next are = tried_their (register_at offset) offset value old new before refl h.0 ruled next are
 act_their (effect.Flushes dev) old new before after h ruled next are =
     sent_their old new dev _ h.0.own h.0.others (λ s free. none_left s) h.0.commands are
-act_their (effect.Empties dev) old new before after h ruled next are = their_same old new h.0 are
-act_their (effect.Commands slot fields buffer) old new before after h ruled next are = their_same old new h.0 are
+act_their other old new before after h ruled next are = their_same old new h.0 are
 
 acts_their : (es : List Effect) (old new : Port) (before after : Memory) → ActsAll es old before new after → IsRuled old → AreOfTheir old → AreOfTheir new
 unfolding ActsAll
@@ -283,8 +282,6 @@ context_low port dev next long is = elim (cases_lt dev 16) [
 ]
 
 gave_addressed : (o : Outgoing) (old : Port) (memory : Memory) (f : Stamped) (new : Port) → outgoing old memory ≡ o → Gives o old memory (Some f) new → IsRuled old → AreOfTheir old → slice_index f.bytes 1 % 16 ≡ f.stamp.port
-gave_addressed Nothing old memory f new is gives ruled are = let bad : Some f ≡ None = gives.0 in cc
-gave_addressed (Unreadable dev) old memory f new is gives ruled are = let bad : Some f ≡ None = gives.0 in cc
 gave_addressed (Data dev offset len command) old memory f new is gives ruled are =
     let d = data_is old memory dev offset len command is in
     ap (λ (x : Stamped). slice_index x.bytes 1 % 16) gives.frame_is ∙ small dev (context_low old dev d.next ruled.table.devices d.is) ∙ sym (ap (λ (x : Stamped). x.stamp.port) gives.frame_is)
@@ -296,6 +293,7 @@ gave_addressed (Order dev slot command) old memory f new is gives ruled are =
     let rules : IsIssue i.0 = (is_own dev old.slots ruled.table).issues slot i.0 i.1 in
     let of : i.0.dev ≡ dev = subst (Owns dev) at.1 o.owns in
     ap (λ (x : Stamped). slice_index x.bytes 1 % 16) gives.frame_is ∙ are dev slot command (subst (λ (m : ℕ). m < 16) of rules.dev_below) busy o.stands ∙ sym (ap (λ (x : Stamped). x.stamp.port) gives.frame_is)
+gave_addressed other old memory f new is gives ruled are = let bad : Some f ≡ None = gives.0 in cc
 
 pub turn_addressed : {mode : Mode} (old : Host) (t : HostTurn) (new : Host) → Does old t new → IsSoundHostIn mode old → AreOfTheir old.port → IsAddressed t
 turn_addressed old (Pushed (Some f)) new h s are = gave_addressed (outgoing old.port old.memory) old.port old.memory f new.port refl h.gives s.ruled are

@@ -204,8 +204,6 @@ module _ (n : ℕ) (stage : Stage30) (v : Sight) (file : TaskFile) (q : Plan) (e
   step_own Cleared is step p may (inl goes) has = absurd (p.away (record { dev = n; stage = step; asked = false }) goes refl)
   step_own Cleared is step p may (inr first) has =
       first_step p.way step is p.device (slice_index_or v.signed n false) (ap (λ (d : Device). first_stage d (slice_index_or v.signed n false)) (sym p.device) ∙ first)
-  step_own Asks is step p may due has = asked_path (ReadLog p.file) step p.path may
-  step_own LogSent is step p may due has = asked_path (ReadLog p.file) step p.path may
   step_own Sets is step p may due has = asked_path AssertReset step p.path may
   step_own On is step (inl p) may due has = asked_path AssertReset step p.path may
   step_own On is step (inr p) may due has =
@@ -216,6 +214,7 @@ module _ (n : ℕ) (stage : Stage30) (v : Sight) (file : TaskFile) (q : Plan) (e
   step_own Off is step (inl p) may due has = asked_path ReleaseReset step p.path may
   step_own Off is step (inr p) may due has =
       absurd (false≢true (sym (await_none n) ∙ ap (λ (s : Stage). is_some (stage_fields n s)) (sym (free_path AwaitReset step p.path may)) ∙ has))
+  step_own other is step p may due has = asked_path (ReadLog p.file) step p.path may
 
   steps : (dev : ℕ) (step : Stage) → MayStep q dev step → DueOf v q (Some (act.Steps dev step)) → HasFields (Some (act.Steps dev step)) → Result (Some (act.Steps dev step)) (given dev step)
   steps dev step may due has = elim (cases_eq dev n) [

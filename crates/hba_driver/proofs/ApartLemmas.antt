@@ -84,8 +84,6 @@ module _ (d : Driver) (past : Touches) (issues : IssuesAreRequests d past) (boun
   apart_by : (n s m r i j : ℕ) (t u : Transfer) → From d n s t → From d m r u → Rattle.slots.specs.Work.is_read t.work.kind ≡ true → have_overlap t.table ≡ false → i < total_of t.table → j < total_of u.table
       → place t.table i ≡ place u.table j → AreOne n s i m r j
   apart_by n s m r i j t u (inr (inr a)) b reads apart below below_other same = absurd (none_in t i a.table below)
-  apart_by n s m r i j t u (inl a) (inr (inr b)) reads apart below below_other same = absurd (none_in u j b.table below_other)
-  apart_by n s m r i j t u (inr (inl a)) (inr (inr b)) reads apart below below_other same = absurd (none_in u j b.table below_other)
   apart_by n s m r i j t u (inl a) (inl b) reads apart below below_other same = both_requests n s m r i j t u a b reads apart below below_other same
   apart_by n s m r i j t u (inl a) (inr (inl b)) reads apart below below_other same = absurd (request_beside m r n s j i u t b a below_other below (sym same))
   apart_by n s m r i j t u (inr (inl a)) (inl b) reads apart below below_other same = absurd (request_beside n s m r i j t u a b below below_other same)
@@ -96,6 +94,7 @@ module _ (d : Driver) (past : Touches) (issues : IssuesAreRequests d past) (boun
         slots = a.slot ∙ sym b.slot;
         numbers = one_place t.table u.table i j (a.table ∙ ap (λ (p : Path). prds_with (reads_page p.stage)) one ∙ sym b.table) apart below below_other same;
       }
+  apart_by n s m r i j t u other (inr (inr b)) reads apart below below_other same = absurd (none_in u j b.table below_other)
 
   pub issues_apart : AreApart past
   issues_apart n s m r i j t u a b below below_other same =

@@ -331,17 +331,15 @@ module _ (n : ℕ) (past : Touches) (old : Host) (new : Host) (stage : Stage30) 
   goes_by : (s : Stage30) → stage ≡ s → (frame : Stamped) (command : Command) → Sends old.port n command.cfis (view_sent v 30 command) frame new.port → last_command old.port.commands 30 ≡ Some command
       → (i : Issue) → own_issue v.slots 30 ≡ Some i → i.sent ≡ false → is_faulty stage ≡ false → IsPlan30 n s old.driver.plan → IsSlot30 n s old.port → Went frame.bytes
   goes_by Faulty is frame command sent last i there fresh well plan slot = absurd (true≢false (sym (ap is_faulty is) ∙ well))
-  goes_by Cleared is frame command sent last i there fresh well plan slot = no_free i there slot
   goes_by Asks is frame command sent last i there fresh well plan slot = went_log frame command is sent last slot well plan
   goes_by LogSent is frame command sent last i there fresh well plan slot =
       let same : slot.issue ≡ i = some_inj slot.issue i (sym slot.issued ∙ there) in
       absurd (true≢false (sym slot.sent ∙ ap (λ (x : Issue). x.sent) same ∙ fresh))
   goes_by Sets is frame command sent last i there fresh well plan slot =
       went_control 4 On frame command sent last slot refl well (inl plan) (λ port free. free) (λ built. or_true v.state.resetting (resets command.cfis) (set_reset n command.cfis built)) (ap (fields30 n) is) (ap sent30 (sym is))
-  goes_by On is frame command sent last i there fresh well plan slot = no_free i there slot
   goes_by Clears is frame command sent last i there fresh well plan slot =
       went_control 0 Off frame command sent last slot refl well (inl plan) (λ port free. free) (λ built. or_first v.state.resetting (resets command.cfis) ((at.apart well).resetting ∙ ap is_resetting is)) (ap (fields30 n) is) (ap sent30 (sym is))
-  goes_by Off is frame command sent last i there fresh well plan slot = no_free i there slot
+  goes_by other is frame command sent last i there fresh well plan slot = no_free i there slot
 
   -- the command that goes to the device is that of slot 30
   goes_order : (slot : ℕ) (command : Command) (frame : Stamped) → outgoing old.port old.memory ≡ Goes n slot command → Sends old.port n command.cfis (view_sent v slot command) frame new.port → Went frame.bytes
@@ -373,8 +371,6 @@ module _ (n : ℕ) (past : Touches) (old : Host) (new : Host) (stage : Stage30) 
   turn_own frame same w = record { next = w.next; at = w.now; is = (λ own. record { fields = w.fields; are = w.are; built = w.built; after = w.after }, λ far. absurd (far same)) }
 
   pub pushed_by : (o : Outgoing) (frame : Option Stamped) → outgoing old.port old.memory ≡ o → Gives o old.port old.memory frame new.port → Turns30 n stage (Pushed frame) new
-  pushed_by Nothing frame is gives = turn_none frame gives.0 (stays (ap (view_of n) gives.1) (ap (λ (p : Port). p.commands) gives.1))
-  pushed_by (Unreadable dev) frame is gives = turn_none frame gives.0 (stays (ap (view_of n) gives.1) (ap (λ (p : Port). p.commands) gives.1))
   pushed_by (Data dev offset len command) None is gives = absurd gives
   pushed_by (Data dev offset len command) (Some f) is gives = elim (cases_eq dev n) [
     | inl same ↦ absurd (no_data offset len command (is ∙ ap (λ (d : ℕ). Data d offset len command) same))
@@ -387,6 +383,7 @@ module _ (n : ℕ) (past : Touches) (old : Host) (new : Host) (stage : Stage30) 
         (goes_order slot command f (is ∙ ap (λ (d : ℕ). Goes d slot command) same) (subst (λ (d : ℕ). Sends old.port d command.cfis (view_sent (view_of d old.port) slot command) f new.port) same gives))
     | inr other ↦ turn_other f (λ own. other (sym (ap (λ (x : Stamped). x.stamp.port) gives.frame_is) ∙ own)) (stays (gives.others n (λ e. other (sym e))) gives.commands)
   ]
+  pushed_by rest frame is gives = turn_none frame gives.0 (stays (ap (view_of n) gives.1) (ap (λ (p : Port). p.commands) gives.1))
 
 pub pushes_on : (n : ℕ) → PushesOn30 n
 pushes_on n past old frame new stage low sound served does at = pushed_by n past old new stage low sound served at does.driver (outgoing old.port old.memory) frame refl does.gives

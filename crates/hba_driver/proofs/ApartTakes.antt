@@ -141,7 +141,6 @@ module _ (w : DeviceView) (none : w.slots.context ≡ None) (reset : w.state.res
 
   fis_stays : (sound : Bool) (fis : Fis) → Hears (heard_fis w.slots w.state sound fis)
   unfolding heard_fis
-  fis_stays sound (view.RegH2D f) = record { issue = refl; context = none; resetting = reset }
   fis_stays sound (view.RegD2H f) =
       signing_stays f (heard_register w.slots w.state (field table.D2h table.Status f) (field table.D2h table.Error f))
       (subst (λ (b : Bool). Hears (if b then quietly (after_reset w.state (field table.D2h table.Status f) (field table.D2h table.Error f)) happening.Nothing else heard_d2h w.slots w.state (field table.D2h table.Status f) (field table.D2h table.Error f))) (sym reset)
@@ -154,7 +153,7 @@ module _ (w : DeviceView) (none : w.slots.context ≡ None) (reset : w.state.res
   fis_stays sound (view.DmaSetup f) = setup_stays (tag_of f) (field table.Setup table.Offset f) (field table.Setup table.Count f) (field table.Setup table.D f == 1) (field table.Setup table.A f == 1)
   fis_stays sound (view.PioSetup f) = pio_stays (field table.Pio table.Status f) (field table.Pio table.Error f) (field table.Pio table.Transfer f) (field table.Pio table.D f == 1) (block_of f)
   fis_stays sound (view.Payload f) = data_stays sound (length f - 4)
-  fis_stays sound (view.Unknown f) = record { issue = refl; context = none; resetting = reset }
+  fis_stays sound other = record { issue = refl; context = none; resetting = reset }
 
   heard_stays : (dev : ℕ) (sound : Bool) (o : Option Fis) → Stays w (heard_view dev w sound o)
   heard_stays dev sound None = record { issue = refl; context = none; resetting = reset }

@@ -292,10 +292,7 @@ switching old s up = s.registers.switches (omega (arith, not_below old.driver.pl
 -- what is known of the host if an act is due
 finds_of : (old : Host) (plan : Plan) (entries : List (Option Entry)) (a : Option Act) → IsSoundHost old → plan.opened ≡ old.driver.plan.opened → IsPath plan.path → ((s : ℕ) (e : Entry) → entry_at entries s ≡ Some e → e.head.dev < 15)
     → Due (sight_in old) plan entries a → due_lemmas.Runs old.driver.plan a → MayEnd Switching a old.port → Finds a old.port (shared_by old)
-finds_of old plan entries None s same path devs due runs may = tt
 finds_of old plan entries (Some (act.Opens k)) s same path devs due runs may = s.registers.stopped (omega (arith, due.1, same))
-finds_of old plan entries (Some act.Stops) s same path devs due runs may = tt
-finds_of old plan entries (Some (act.Restarts k)) s same path devs due runs may = tt
 finds_of old plan entries (Some (act.Clears dev)) s same path devs due runs may = may.1.faulty
 finds_of old plan entries (Some (act.Orders order)) s same path devs due runs may = switching old s runs.0
 finds_of old plan entries (Some (act.Steps dev stage)) s same path devs due runs may =
@@ -305,6 +302,7 @@ finds_of old plan entries (Some (act.Issues slot dev queued)) s same path devs d
     let w = due.0 in
     let low : w.entry.head.dev < 15 = devs slot w.entry w.stands in
     (switching old s runs.0, (w.below, subst (λ (k : ℕ). k < 16) w.of_dev (omega (arith, low))))
+finds_of old plan entries other s same path devs due runs may = tt
 
 done_devs : (d : Driver) (issued : ℕ) → AreBounded d → (s : ℕ) (e : Entry) → entry_at (done_ended issued d.entries) s ≡ Some e → e.head.dev < 15
 done_devs d issued bounded s e here =

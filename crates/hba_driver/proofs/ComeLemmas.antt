@@ -37,8 +37,6 @@ stood_same : (old new : Driver) (t : HostTurn) (s : ℕ) (f : Entry) → new ≡
 stood_same old new t s f is here = stood_still old t s f (ap (λ (d : Driver). entry_at d.entries s) (sym is) ∙ here)
 
 pub comes_from : (old : Host) (t : HostTurn) (new : Host) → Does old t new → (s : ℕ) (f : Entry) → entry_at new.driver.entries s ≡ Some f → Stood old.driver t s f ⊎ Fresh old.driver t s f
-comes_from old (Took frame report) new h s f here = inl (stood_same old.driver new.driver (Took frame report) s f h.driver here)
-comes_from old (Pushed frame) new h s f here = inl (stood_same old.driver new.driver (Pushed frame) s f h.driver here)
 comes_from old (Ticked a) new h s f here =
     let d : Driver = old.driver in
     let b = back_of (entry_at d.entries s) (entry_at (after_tick (sight_in old) (file_shown new.port) d).entries s) (keeps_tick (sight_in old) (file_shown new.port) d s) f (ap (λ (x : Driver). entry_at x.entries s) (sym h.driver) ∙ here) in
@@ -57,4 +55,4 @@ comes_from old (Polled c) new h s f here =
       | inl at ↦ none_some f at.1
       | inr beside ↦ inl (stood_still d (Polled c) s f beside.1)
     ]
-comes_from old (Put at bytes) new h s f here = inl (stood_same old.driver new.driver (Put at bytes) s f h.driver here)
+comes_from old other new h s f here = inl (stood_same old.driver new.driver other s f h.driver here)

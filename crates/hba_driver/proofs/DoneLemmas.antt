@@ -129,15 +129,13 @@ module _ (P : Phase → Bool) (own : IsOwnEnd P) where
 
   pub acted_end : (a : Option Act) (file : TaskFile) (d : Driver) (s : ℕ) (g f : Entry) → entry_at d.entries s ≡ Some g → entry_at (acted a file d).entries s ≡ Some f → P f.head.phase ≡ true → P g.head.phase ≡ true
   unfolding entries_after
-  acted_end None file d s g f here there h = end_same g f (sym here ∙ there) h
-  acted_end (Some (act.Opens k)) file d s g f here there h = end_same g f (sym here ∙ there) h
   acted_end (Some act.Stops) file d s g f here there h = end_before is_open (Ended PortError) own.stopped d.entries s g f here there h
-  acted_end (Some (act.Restarts k)) file d s g f here there h = end_same g f (sym here ∙ there) h
   acted_end (Some (act.Clears dev)) file d s g f here there h = end_before (is_open_of dev) Aside own.aside d.entries s g f here there h
   acted_end (Some (act.Orders order)) file d s g f here there h = end_order order d.entries s g f here there h
   acted_end (Some (act.Steps dev stage)) file d s g f here there h = end_stage dev stage d.entries s g f here there h
   acted_end (Some (act.Issues slot dev queued)) file d s g f here there h =
       end_issue d.entries slot s g f here (set_cases d.entries slot (option_map (rephased Issued) (entry_at d.entries slot)) s f there) h
+  acted_end other file d s g f here there h = end_same g f (sym here ∙ there) h
 
 -- ---- Done
 

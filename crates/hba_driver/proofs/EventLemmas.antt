@@ -99,8 +99,6 @@ pub same_sizes : (m n : Memory) → n ≡ m → IsHostMemory m → IsHostMemory 
 same_sizes m n h is = subst IsHostMemory (sym h) is
 
 pub sized_effect : (e : Effect) (old new : Port) (before after : Memory) → is_effect e ≡ true → Acts e old before new after → IsHostMemory before → IsHostMemory after
-sized_effect (effect.Writes offset value) old new before after is h m = same_sizes before after h.1 m
-sized_effect (effect.Flushes dev) old new before after is h m = same_sizes before after h.1 m
 sized_effect (effect.Empties dev) old new before after is h m =
     let below : dev < 16 = lt_of dev 16 is in
     let row : List ℕ = replicate 256 0 in
@@ -111,6 +109,7 @@ sized_effect (effect.Empties dev) old new before after is h m =
 sized_effect (effect.Commands slot fields buffer) old new before after is h m =
     let long = (beside_area slot fields (prds_with buffer) before.structure after.structure m.structure_len (lt_of slot 32 is) (few_prds buffer) h.1.structure).long in
     sized before after m (long ∙ sym m.structure_len) (ap (λ (c : List ℕ). length c) h.1.client)
+sized_effect other old new before after is h m = same_sizes before after h.1 m
 
 -- ---- the events of an effect
 

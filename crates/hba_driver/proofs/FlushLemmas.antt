@@ -49,8 +49,7 @@ effect_off n (effect.Flushes dev) old new before after below off acts = elim (ca
   | inl same ↦ subst (λ (k : ℕ). Off (view_of k new)) (sym same) (subst Off (sym acts.0.own) refl)
   | inr other ↦ subst Off (sym (acts.0.others n other)) off
 ]
-effect_off n (effect.Empties dev) old new before after below off acts = subst (λ (p : Port). Off (view_of n p)) (sym acts.0) off
-effect_off n (effect.Commands slot fields buffer) old new before after below off acts = subst (λ (p : Port). Off (view_of n p)) (sym acts.0) off
+effect_off n rest old new before after below off acts = subst (λ (p : Port). Off (view_of n p)) (sym acts.0) off
 
 effects_off : (n : ℕ) (es : List Effect) (old new : Port) (before after : Memory) → n < 16 → Off (view_of n old) → ActsAll es old before new after → Off (view_of n new)
 unfolding ActsAll

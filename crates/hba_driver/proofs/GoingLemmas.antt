@@ -143,9 +143,8 @@ took_calm old new frame report h stops of is = elim (cases_Bool (ignores (port_o
 gave_calm : (o : Outgoing) (old : Port) (memory : Memory) (frame : Option Stamped) (new : Port) → Gives o old memory frame new → fails_by_bus o ≡ false → IsCalm old → IsCalm new
 gave_calm Nothing old memory frame new gives none is = calm_same old new gives.1 is
 gave_calm (Unreadable dev) old memory frame new gives none is = absurd (true≢false none)
-gave_calm (Data dev offset len command) old memory (Some f) new gives none is = calm_as old new (ap (λ (e : Errors). e.port) gives.errors) (ap (λ (r : Registers). r.interrupts) gives.registers) is
-gave_calm (Order dev slot command) old memory (Some f) new gives none is = calm_as old new (ap (λ (e : Errors). e.port) gives.errors) (ap (λ (r : Registers). r.interrupts) gives.registers) is
 gave_calm other old memory None new gives none is = absurd gives
+gave_calm rest old memory (Some f) new gives none is = calm_as old new (ap (λ (e : Errors). e.port) gives.errors) (ap (λ (r : Registers). r.interrupts) gives.registers) is
 
 -- ---- the effects of a tick
 
@@ -261,15 +260,13 @@ poll_up d = by_slot (lowest_ended d.entries)
 
 up_turn : (old : Host) (t : HostTurn) (new : Host) → Does old t new → IsGoing old → new.driver.plan.restarted ≡ 2
 unfolding after_tick
-up_turn old (Took frame report) new h g = ap (λ (d : Driver). d.plan.restarted) h.driver ∙ g.up
-up_turn old (Pushed frame) new h g = ap (λ (d : Driver). d.plan.restarted) h.driver ∙ g.up
 up_turn old (Ticked a) new h g =
     ap (λ (d : Driver). d.plan.restarted) h.driver
     ∙ acted_restarted (due (sight_in old) old.driver) (file_shown new.port) (seen (sight_in old) old.driver) (leaves old g.way.sound g.calm g.up)
     ∙ seen_up old g.way.sound g.calm g.up
 up_turn old (Submitted dev request ticket) new h g = ap (λ (d : Driver). d.plan.restarted) h.taken.driver ∙ g.up
 up_turn old (Polled c) new h g = ap (λ (d : Driver). d.plan.restarted) h.driver ∙ poll_up old.driver ∙ g.up
-up_turn old (Put at bytes) new h g = ap (λ (d : Driver). d.plan.restarted) h.driver ∙ g.up
+up_turn old other new h g = ap (λ (d : Driver). d.plan.restarted) h.driver ∙ g.up
 
 pub going_turn : (old : Host) (t : HostTurn) (new : Host) → Does old t new → IsGoing old → IsOfControlIn t → IsGoing new
 going_turn old t new h g of =

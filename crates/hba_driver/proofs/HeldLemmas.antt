@@ -69,8 +69,6 @@ module _ (d : Driver) (past : Touches) (issues : IssuesAreRequests d past) (boun
   beside_by : (n s m r i j : ℕ) (t u : Transfer) → IsWriting n s t past → IsReading m r u past → From d n s t → From d m r u → i < total_of t.table
       → j < total_of u.table → place t.table i ≡ place u.table j → ⊥
   beside_by n s m r i j t u writing reading (inr (inr a)) b below below_other same = none_in t i a.table below
-  beside_by n s m r i j t u writing reading (inl a) (inr (inr b)) below below_other same = none_in u j b.table below_other
-  beside_by n s m r i j t u writing reading (inr (inl a)) (inr (inr b)) below below_other same = none_in u j b.table below_other
   beside_by n s m r i j t u writing reading (inl a) (inl b) below below_other same =
       both_requests n s m r i j t u writing reading a b below below_other same
   beside_by n s m r i j t u writing reading (inl a) (inr (inl b)) below below_other same =
@@ -80,6 +78,7 @@ module _ (d : Driver) (past : Touches) (issues : IssuesAreRequests d past) (boun
   beside_by n s m r i j t u writing reading (inr (inl a)) (inr (inl b)) below below_other same =
       let one : a.path ≡ b.path = some_same a.path b.path (sym a.goes ∙ b.goes) in
       not_both n s m r t u past (sym a.of_dev ∙ ap (λ (p : Path). p.dev) one ∙ b.of_dev) (a.slot ∙ sym b.slot) writing reading
+  beside_by n s m r i j t u writing reading other (inr (inr b)) below below_other same = none_in u j b.table below_other
 
   pub writes_beside : AreBeside past
   writes_beside n s m r i j t u writing reading below below_other same =
@@ -170,7 +169,6 @@ turns_hold_writes mode old (Ticked acted) new run sound past served serves h =
     quiet_over (events_over old new (Ticked acted ∷ []) run) (shared_by old) (shared_by new) serves.runs past
     (quiet_both (events_of_effects (effects (sight_in old) old.driver) old.port old.memory run.0.port run.0.memory run.1.does) []
     (effects_quiet (effects (sight_in old) old.driver) old.port old.memory run.0.port run.0.memory run.1.does) tt) h
-turns_hold_writes mode old (Submitted dev request ticket) new run sound past served serves h = h
-turns_hold_writes mode old (Polled completion) new run sound past served serves h = h
 turns_hold_writes mode old (Put at bytes) new run sound past served serves h =
     (puts_spare_writes old.driver past served.issues served.bounded sound.requests at (length bytes) run.1.unused, h)
+turns_hold_writes mode old other new run sound past served serves h = h

@@ -49,13 +49,11 @@ pub record PollFacts (d : Driver) (c : Completion) : Type 0 where
   pub ended : entry.head.phase ≡ Ended c.outcome
 
 completed_facts : (n : ℕ) (head : Head) (p : Phase) (c : Completion) → completed n head p ≡ Some c → (c.ticket.0 ≡ head.ticket) × (c.slot ≡ n) × (p ≡ Ended c.outcome)
-completed_facts n head Waits c h = cc
-completed_facts n head Issued c h = cc
-completed_facts n head Aside c h = cc
 completed_facts n head (Ended o) c h =
     let done : Completion = record { ticket = record { 0 = head.ticket }; slot = n; outcome = o } in
     let is : done ≡ c = cc in
     (ap (λ (x : Completion). x.ticket.0) (sym is), ap (λ (x : Completion). x.slot) (sym is), ap (λ (x : Completion). Ended x.outcome) is)
+completed_facts n head other c h = cc
 
 poll_at : (d : Driver) (c : Completion) (n : ℕ) (x : Option Entry) → lowest_ended d.entries ≡ Some n → entry_at d.entries n ≡ x → completion_at n x ≡ Some c → PollFacts d c
 poll_at d c n None low is h = cc

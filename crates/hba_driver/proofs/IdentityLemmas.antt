@@ -85,12 +85,11 @@ answer_apart own h slot issue here same =
     by_tests false true true a b c = absurd (true≢false c)
 
 short_answer : (own : DeviceSlots) (slot : ℕ) (a : Answered) → (slot ≡ 30 → a ≡ answer.Short slot) → ((s : ℕ) → a ≡ answer.Queued s → s ≡ slot) → ((s : ℕ) → a ≡ answer.Done s → s ≡ slot) → IsShort own → IsShort (answered_as a own)
-short_answer own slot answer.Nobody apart queued done h = h
-short_answer own slot (answer.Short s) apart queued done h = h
 short_answer own slot (answer.Queued s) apart queued done h =
     short_set own s _ (λ same. let wrong : answer.Queued s ≡ answer.Short slot = apart (sym (queued s refl) ∙ same) in absurd (cc)) h
 short_answer own slot (answer.Done s) apart queued done h =
     short_freed (is_slot s) own (ne_eqb 30 s (λ same. let wrong : answer.Done s ≡ answer.Short slot = apart (sym (done s refl) ∙ sym same) in absurd (cc))) h
+short_answer own slot other apart queued done h = h
 
 answer_slot : (slot : ℕ) (issue : Issue) → ((s : ℕ) → answer_for slot issue ≡ answer.Queued s → s ≡ slot) × ((s : ℕ) → answer_for slot issue ≡ answer.Done s → s ≡ slot)
 answer_slot slot issue = by_tests (is_queued_issue issue) (is_pio issue.work.kind && not (is_whole_issue issue))
@@ -222,7 +221,6 @@ stays_signing own f h stays = stays
 
 pub stays_heard : (own : DeviceSlots) (state : DeviceState) (sound : Bool) (fis : Fis) → Stays own (heard_fis own state sound fis)
 unfolding heard_fis
-stays_heard own state sound (view.RegH2D f) = λ none short. short
 stays_heard own state sound (view.RegD2H f) =
     stays_signing own f (heard_register own state (field table.D2h table.Status f) (field table.D2h table.Error f))
     (stays_if own state.resetting _ _ (λ none short. short)
@@ -240,7 +238,7 @@ stays_heard own state sound (view.PioSetup f) =
     (stays_set own (pio_fault (pio_issue own) (field table.Pio table.Transfer f) (field table.Pio table.D f == 1)) (with_file state (field table.Pio table.Status f) (field table.Pio table.Error f))
     (Some (hearing.block_of f)) (happening.PioSetUp (field table.Pio table.Transfer f) (field table.Pio table.D f == 1)) (λ short. short_setup_pio own (field table.Pio table.Transfer f) (field table.Pio table.D f == 1) short))
 stays_heard own state sound (view.Payload f) = stays_data own state sound (length f - 4)
-stays_heard own state sound (view.Unknown f) = λ none short. short
+stays_heard own state sound other = λ none short. short
 
 -- ---- what goes out leaves it
 

@@ -266,9 +266,7 @@ new_ordered n order plan h = record { device = h.device; path = h.path }
 
 pub new_after : (n : ℕ) (a : Act) (file : TaskFile) (plan : Plan) → IsNew n plan → Fits n (Some a) → IsNew n (plan_after a file plan)
 unfolding plan_after
-new_after n (act.Opens k) file plan h fits = record { device = h.device; path = h.path }
 new_after n act.Stops file plan h fits = record { device = there_new plan.devices n; path = refl }
-new_after n (act.Restarts k) file plan h fits = record { device = h.device; path = h.path }
 new_after n (act.Clears dev) file plan h fits = if_new n (nat_lt dev 15) (recovering dev file plan) (from_reset plan)
     (record {
       device = set_new plan.devices n dev (Recovering (recovery (device_at plan dev) file)) (λ same. recovery_new (device_at plan dev) file (subst (λ (k : ℕ). is_trusted (device_at plan k) ≡ false) (sym same) h.device)) h.device;
@@ -277,7 +275,7 @@ new_after n (act.Clears dev) file plan h fits = if_new n (nat_lt dev 15) (recove
     (record { device = h.device; path = h.path })
 new_after n (act.Orders order) file plan h fits = new_ordered n order plan h
 new_after n (act.Steps dev stage) file plan h fits = record { device = h.device; path = fits }
-new_after n (act.Issues slot dev queued) file plan h fits = record { device = h.device; path = h.path }
+new_after n other file plan h fits = record { device = h.device; path = h.path }
 
 -- ---- what an act leaves of the requests
 

@@ -39,12 +39,11 @@ pub goes_trans : (p q r : Phase) → Goes p q → Goes q r → Goes p r
 goes_trans Waits q r h k = tt
 goes_trans Issued Issued r h k = k
 goes_trans Issued Aside r h k = (or_parts (waits_in r) (is_issued_in r) k).0
-goes_trans Issued (Ended o) r h k = rw k refl
 goes_trans Aside Issued r h k = absurd (true≢false h)
 goes_trans Aside Aside r h k = k
-goes_trans Aside (Ended o) r h k = rw k refl
 goes_trans (Ended o) q r h k = subst (λ (x : Phase). Goes x r) h k
 goes_trans other Waits r h k = absurd (true≢false h)
+goes_trans rest (Ended o) r h k = rw k refl
 
 goes_done : (p : Phase) (b : Bool) → (is_issued_in p && b) ≡ true → Goes p (Ended Done)
 goes_done Waits b h = tt

@@ -117,9 +117,8 @@ stays_gives Nothing old memory frame new gives = stays_port old new gives.1
 stays_gives (Unreadable dev) old memory frame new gives =
     subst (Stays old.registers) (sym (ap (λ (p : Port). p.registers) gives.1))
     (record { list = refl; list_high = refl; area = refl; area_high = refl; switches = refl; receives = refl; starts = refl; armed = refl })
-stays_gives (Data dev offset len command) old memory (Some f) new gives = stays_same old.registers new.registers gives.registers
-stays_gives (Order dev slot command) old memory (Some f) new gives = stays_same old.registers new.registers gives.registers
 stays_gives other old memory None new gives = absurd gives
+stays_gives rest old memory (Some f) new gives = stays_same old.registers new.registers gives.registers
 
 pub stays_took : (old new : Host) (frame : List ℕ) (report : TakeReport) → Does old (Took frame report) new → Stays old.port.registers new.port.registers
 stays_took old new frame report h =

@@ -96,9 +96,7 @@ still_by s true t h = absurd (true≢false h)
 still_by s false t h = refl
 
 still_issued : (s : ℕ) (e : Event) (past : History) (t : Transfer) → Goes e → issued s past ≡ Some t → completes s e past t.work ≡ false → issued s (e ∷ past) ≡ Some t
-still_issued s (Issued slot u) past t goes is none = absurd goes
 still_issued s (Sent slot) past t goes is none = ap (λ (o : Option Transfer). match_some o None (λ u. unless (completes s (Sent slot) past u.work) (Some u))) is
-still_issued s (SentControl slot) past t goes is none = absurd goes
 still_issued s (SetUp tag offset count to_host) past t goes is none =
     ap (λ (o : Option Transfer). match_some o None (λ u. unless (completes s (SetUp tag offset count to_host) past u.work) (Some u))) is
 still_issued s (PioSetUp count to_host ends) past t goes is none =
@@ -109,7 +107,7 @@ still_issued s Answered past t goes is none =
     ap (λ (o : Option Transfer). match_some o None (λ u. unless (completes s Answered past u.work) (Some u))) is ∙ still_by s (completes s Answered past t.work) t none
 still_issued s (Named mask) past t goes is none =
     ap (λ (o : Option Transfer). match_some o None (λ u. unless (completes s (Named mask) past u.work) (Some u))) is ∙ still_by s (completes s (Named mask) past t.work) t none
-still_issued s Emptied past t goes is none = absurd goes
+still_issued s other past t goes is none = absurd goes
 
 still_own : (n dev s : ℕ) (e : Event) (past : Touches) (t : Transfer) → issued s (own n past) ≡ Some t → (dev ≡ n → issued s (e ∷ own n past) ≡ Some t) → issued s (own n (By dev e ∷ past)) ≡ Some t
 still_own n dev s e past t is here = by_test (eqb dev n) refl
@@ -219,8 +217,6 @@ sent_still port slot k past t is other true at = by_slot (eqb k slot) refl
 
 out_still : (host : event.Host) (past : Touches) (dev slot : ℕ) (h : HasOut host.port slot dev) (t : Transfer) → t.work ≡ h.issue.work → issued slot (own dev past) ≡ Some t → (o : Outgoing)
     → issued slot (own dev (touched_by_out host o ++ past)) ≡ Some t
-out_still host past dev slot h t work is out.Nothing = is
-out_still host past dev slot h t work is (out.Unreadable n) = is
 out_still host past dev slot h t work is (out.Data n offset len command) =
     let bytes : List ℕ = gathered (prds_of host.memory command) offset len host.memory.client in
     still_own dev n slot (Carried bytes) past t is (λ same.
@@ -230,6 +226,7 @@ out_still host past dev slot h t work is (out.Order n k command) =
     sent_still host.port slot k (own dev past) t is (λ at.
     let there : issue_at host.port.slots k ≡ Some h.issue = subst (λ (j : ℕ). issue_at host.port.slots j ≡ Some h.issue) (sym at) (own_in dev slot host.port.slots h.issue h.is).1 in
     ap (holds is_control_issue) there ∙ h.control) (holds is_control_issue (issue_at host.port.slots k)) refl)
+out_still host past dev slot h t work is other = is
 
 pub out_pushed : {mode : Mode} (old new : Host) (frame : Option Stamped) (past : Touches) (slot dev : ℕ) → Does old (Pushed frame) new → IsSoundHostIn mode old → IsServed old.driver (shared_by old) past → dev < 16 → HasOut old.port slot dev
     → HasOut new.port slot dev
@@ -327,8 +324,7 @@ kept_effect (effect.Writes offset value) old new before after dev s i calm other
     kept_write (register_at offset) offset value old new before dev s i refl (no_fall (register_at offset) old.registers value calm) below acts.0 table here
 kept_effect (effect.Flushes n) old new before after dev s i calm other below acts table here =
     ap (λ (v : DeviceView). own_issue v.slots s) (acts.0.others dev (other_port n dev other)) ∙ here
-kept_effect (effect.Empties n) old new before after dev s i calm other below acts table here = subst (λ (p : Port). IsIssuedAt p dev s i) (sym acts.0) here
-kept_effect (effect.Commands slot fields buffer) old new before after dev s i calm other below acts table here = subst (λ (p : Port). IsIssuedAt p dev s i) (sym acts.0) here
+kept_effect rest old new before after dev s i calm other below acts table here = subst (λ (p : Port). IsIssuedAt p dev s i) (sym acts.0) here
 
 pub kept_effects : (es : List Effect) (old new : Port) (before after : Memory) (dev s : ℕ) (i : Issue) → list_all lasting_effect es ≡ true → list_any (flushes dev) es ≡ false → dev < 16 → ActsAll es old before new after
     → IsTable old.slots → IsIssuedAt old dev s i → IsIssuedAt new dev s i

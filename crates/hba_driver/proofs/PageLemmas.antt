@@ -75,10 +75,7 @@ Begins a x = ⊥
 
 acted_back : (a : Option Act) (file : TaskFile) (d : Driver) (x : Path) → (acted a file d).plan.path ≡ Some x → x.asked ≡ true → Begins a x ⊎ (d.plan.path ≡ Some x)
 unfolding plan_after
-acted_back None file d x here out = inr here
-acted_back (Some (act.Opens k)) file d x here out = inr here
 acted_back (Some act.Stops) file d x here out = let bad : None ≡ Some x = here in cc
-acted_back (Some (act.Restarts k)) file d x here out = inr here
 acted_back (Some (act.Clears dev)) file d x here out =
     inr (either (λ (q : Plan). Back d.plan.path q.path) (nat_lt dev 15) _ _ (unless_back dev d.plan.path) (λ x here out. here) x here out)
 acted_back (Some (act.Orders order)) file d x here out = inr (by_order order x here out)
@@ -87,7 +84,7 @@ acted_back (Some (act.Orders order)) file d x here out = inr (by_order order x h
     by_order (Clear port) = unless_back port d.plan.path
     by_order o = λ x here out. here
 acted_back (Some (act.Steps dev stage)) file d x here out = inl (let same : record { dev = dev; stage = stage; asked = true } ≡ x = cc in sym same)
-acted_back (Some (act.Issues slot dev queued)) file d x here out = inr here
+acted_back other file d x here out = inr here
 
 -- ---- the bytes of the table stay
 
@@ -107,8 +104,6 @@ same_page : (s t : List ℕ) → t ≡ s → length s ≡ 1048576 → SamePage s
 same_page s t same long = record { long = ap (λ (l : List ℕ). length l) same ∙ long; agree = λ i h. ap (λ (l : List ℕ). slice_index l (page_at + i)) (sym same) }
 
 page_act : (e : Effect) (old new : Port) (before after : Memory) → is_effect e ≡ true → spares_page e ≡ true → Acts e old before new after → length before.structure ≡ 1048576 → SamePage before.structure after.structure
-page_act (effect.Writes offset value) old new before after is l h long = same_page before.structure after.structure (ap (λ (m : Memory). m.structure) h.1) long
-page_act (effect.Flushes dev) old new before after is l h long = same_page before.structure after.structure (ap (λ (m : Memory). m.structure) h.1) long
 page_act (effect.Empties dev) old new before after is l h long =
     let below : dev < 16 = lt_of dev 16 is in
     subst (λ (m : Memory). SamePage before.structure m.structure) (sym h.1)
@@ -117,6 +112,7 @@ page_act (effect.Commands slot fields buffer) old new before after is l h long =
     let below : slot < 32 = lt_of slot 32 is in
     let least : 30 < slot = lt_of 30 slot l in
     same_written page_at 16 slot fields (prds_with buffer) before.structure after.structure long below (few_prds buffer) (inr (omega (arith, below))) (inl (omega (arith, least))) h.1.structure
+page_act other old new before after is l h long = same_page before.structure after.structure (ap (λ (m : Memory). m.structure) h.1) long
 
 page_then : (a b c : List ℕ) → SamePage a b → SamePage b c → SamePage a c
 page_then a b c h k = record { long = k.long; agree = λ i below. h.agree i below ∙ k.agree i below }
@@ -238,7 +234,6 @@ poll_plan d = by_slot (lowest_ended d.entries)
 pub page_turn : (old : Host) (t : HostTurn) (new : Host) → Does old t new → IsSoundHost old → IsSoundHost new → HasPage old.driver old.memory → HasPage new.driver new.memory
 unfolding after_tick
 page_turn old (Took frame report) new h s n has = left old (Took frame report) new h s (took_page old new frame report h s n) h.driver has
-page_turn old (Pushed frame) new h s n has = left old (Pushed frame) new h s (same_as old (Pushed frame) new h s (ap (λ (m : Memory). m.structure) h.memory)) h.driver has
 page_turn old (Ticked acts) new h s n has = λ path here out reads.
     ticked_page old new (due (sight_in old) old.driver) refl acts h s has path (sym (ap (λ (d : Driver). d.plan.path) h.driver) ∙ here) out reads
 page_turn old (Submitted dev request ticket) new h s n has = λ path here out reads.
@@ -251,4 +246,4 @@ page_turn old (Submitted dev request ticket) new h s n has = λ path here out re
 page_turn old (Polled c) new h s n has = λ path here out reads.
     page_kept old.memory new.memory s.memory.structure_len (same_as old (Polled c) new h s (ap (λ (m : Memory). m.structure) h.memory)) (client_same old (Polled c) new h s)
     (has path (sym (ap (λ (p : Plan). p.path) (poll_plan old.driver)) ∙ sym (ap (λ (d : Driver). d.plan.path) h.driver) ∙ here) out reads)
-page_turn old (Put at bytes) new h s n has = left old (Put at bytes) new h s (same_as old (Put at bytes) new h s (ap (λ (m : Memory). m.structure) h.memory)) h.driver has
+page_turn old other new h s n has = left old other new h s (same_as old other new h s (ap (λ (m : Memory). m.structure) h.memory)) h.driver has

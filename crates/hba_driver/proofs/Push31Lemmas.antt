@@ -323,8 +323,6 @@ module _ (old : Host) (g : IsGoing old) (stage : Stage31) (at : IsAt31 stage old
       (here.0, here.1, fresh_of (view_of 15 old.port) here.0 here.2, healthy_of (view_of 15 old.port) here.0 here.2)
 
   by_outgoing : (o : Outgoing) → outgoing old.port old.memory ≡ o → Gives o old.port old.memory (Some frame) new.port → Pushed31 stage old frame new
-  by_outgoing Nothing is gives = let bad : Some frame ≡ None = gives.0 in cc
-  by_outgoing (Unreadable dev) is gives = let bad : Some frame ≡ None = gives.0 in cc
   by_outgoing (Data dev offset len command) is gives =
       let same : dev ≡ 15 = sym (ap (λ (f : Stamped). f.stamp.port) gives.frame_is) ∙ to in
       let some : is_some (payload (context_of old.port.slots 15)) ≡ true = subst (λ (n : ℕ). is_some (payload (context_of old.port.slots n)) ≡ true) same (data_is_own old.port old.memory dev offset len command is) in
@@ -339,6 +337,7 @@ module _ (old : Host) (g : IsGoing old) (stage : Stage31) (at : IsAt31 stage old
       subst (λ (n : ℕ). Sends old.port n command.cfis (view_sent (view_of n old.port) slot command) frame new.port) same gives in
       sends (sym at.fault ∙ i.3) command (subst (λ (s : ℕ). Sends old.port 15 command.cfis (view_sent (view_of 15 old.port) s command) frame new.port) at31.0 sent)
       (subst (λ (s : ℕ). last_command old.port.commands s ≡ Some command) at31.0 goes.stands) i.0 (subst (λ (s : ℕ). own_issue (slots_of 15 old.port.slots) s ≡ Some i.0) at31.0 i.1) i.2 at31.1
+  by_outgoing other is gives = let bad : Some frame ≡ None = gives.0 in cc
 
   pub push31 : Pushed31 stage old frame new
   push31 = by_outgoing (outgoing old.port old.memory) refl does.gives

@@ -204,5 +204,4 @@ module _ {mode : Mode} (P Q : ℕ → Entry → Type 0) (old : Host) (w : IsOnWa
   turn_stands (Ticked a) new does reports = tick_stands a new does
   turn_stands (Submitted dev request ticket) new does reports =
       calm_stands (Submitted dev request ticket) new does refl (λ s e here is out. inr (out_same old.port new.port s e.head.dev does.port out))
-  turn_stands (Polled c) new does reports = calm_stands (Polled c) new does refl (λ s e here is out. inr (out_same old.port new.port s e.head.dev does.port out))
-  turn_stands (Put at bytes) new does reports = calm_stands (Put at bytes) new does refl (λ s e here is out. inr (out_same old.port new.port s e.head.dev does.port out))
+  turn_stands other new does reports = calm_stands other new does refl (λ s e here is out. inr (out_same old.port new.port s e.head.dev does.port out))

@@ -142,14 +142,13 @@ requests_put last old slot x h back = requests_from last old (set old slot x) h 
 -- an act changes only phases
 pub requests_after : (last : ℕ) (act : Act) (old : List (Option Entry)) → AreRequests last old → AreRequests last (entries_after act old)
 unfolding entries_after
-requests_after last (act.Opens k) old h = h
 requests_after last act.Stops old h = requests_in last is_open (Ended PortError) old h
-requests_after last (act.Restarts k) old h = h
 requests_after last (act.Clears dev) old h = requests_in last (is_open_of dev) Aside old h
 requests_after last (act.Orders order) old h = requests_removed last order old h
 requests_after last (act.Steps dev stage) old h = requests_staged last dev stage old h
 requests_after last (act.Issues slot dev queued) old h =
     requests_put last old slot (option_map (rephased Issued) (entry_at old slot)) h (λ e some. back_rephase true Issued (entry_at old slot) e some)
+requests_after last other old h = h
 
 -- it is freed
 pub requests_freed : (last : ℕ) (old : List (Option Entry)) (slot : ℕ) (x : Option Entry) → AreRequests last old → x ≡ None → AreRequests last (set old slot x)

@@ -87,8 +87,6 @@ other_of : (a b : ℕ) → not (a == b) ≡ true → a ≢ b
 other_of a b h = grind (arith, nat_tests)
 
 row_act : (n : ℕ) (e : Effect) (old new : Port) (before after : Memory) → n < 16 → spares n e ≡ true → is_effect e ≡ true → Acts e old before new after → length before.structure ≡ 1048576 → Same (place n) 20 before.structure after.structure
-row_act n (effect.Writes offset value) old new before after low spared is h long = subst (λ (m : Memory). Same (place n) 20 before.structure m.structure) (sym h.1) (here n before.structure long)
-row_act n (effect.Flushes dev) old new before after low spared is h long = subst (λ (m : Memory). Same (place n) 20 before.structure m.structure) (sym h.1) (here n before.structure long)
 row_act n (effect.Empties dev) old new before after low spared is h long =
     let below : dev < 16 = lt_of dev 16 is in
     let other : dev ≢ n = other_of dev n spared in
@@ -100,6 +98,7 @@ row_act n (effect.Empties dev) old new before after low spared is h long =
 row_act n (effect.Commands slot fields buffer) old new before after low spared is h long =
     let below : slot < 32 = lt_of slot 32 is in
     same_written (place n) 20 slot fields (prds_with buffer) before.structure after.structure long below (few_prds buffer) (inr (omega (arith, below))) (inl (omega (arith, low))) h.1.structure
+row_act n rest old new before after low spared is h long = subst (λ (m : Memory). Same (place n) 20 before.structure m.structure) (sym h.1) (here n before.structure long)
 
 row_acts : (n : ℕ) (es : List Effect) (old new : Port) (before after : Memory) → n < 16 → list_all (spares n) es ≡ true → list_all is_effect es ≡ true → ActsAll es old before new after → length before.structure ≡ 1048576
     → Same (place n) 20 before.structure after.structure
@@ -247,7 +246,6 @@ row_turn n old (Took frame report) new low h s which = elim (cases_Bool (ignores
       posted_of n (port_of frame) old.port.registers.fb frame old.memory.structure new.memory.structure low ((sound_host old s).area starts) s.memory.structure_len which
       (posts_own old.port old.port.registers.fb (port_of frame) (admitted (port_of frame) (seen frame)) old.memory.structure new.memory.structure on (h.heard heard).structure)
 ]
-row_turn n old (Pushed frame) new low h s which = same_memory (place n) 20 old.memory new.memory (ap (λ (m : Memory). m.structure) h.memory)
 row_turn n old (Ticked a) new low h s which =
     (row_acts n (effects_due Switching (due (sight_in old) old.driver)) old.port new.port old.memory new.memory low (spares_act n (due (sight_in old) old.driver) which) (tick_possible old a new h s) (tick_acts old a new h s)
     s.memory.structure_len).agree
@@ -256,8 +254,7 @@ row_turn n old (Submitted dev request ticket) new low h s which =
     let below : slot < 30 = free_below old.driver old.memory dev request h.accepted in
     (same_written (place n) 20 slot _ request.prds.items old.memory.structure new.memory.structure s.memory.structure_len (omega (arith, below)) (is_taken old.driver old.memory dev request h.accepted).few
     (inr (omega (arith, below))) (inl (omega (arith, low))) h.taken.command).agree
-row_turn n old (Polled c) new low h s which = same_memory (place n) 20 old.memory new.memory (ap (λ (m : Memory). m.structure) h.memory)
-row_turn n old (Put at bytes) new low h s which = same_memory (place n) 20 old.memory new.memory (ap (λ (m : Memory). m.structure) h.memory)
+row_turn n old other new low h s which = same_memory (place n) 20 old.memory new.memory (ap (λ (m : Memory). m.structure) h.memory)
 
 pub rows_stay : (n : ℕ) (old : Host) (t : HostTurn) (new : Host) → n < 16 → Does old t new → IsSoundHost old → IsRowTurn n old t → HasSignature n new → HasSignature n old
 rows_stay n old t new low h s which signs =

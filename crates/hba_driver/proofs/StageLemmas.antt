@@ -15,10 +15,9 @@ pub data Stage : Type 0 where
 
 abbrev pub stage_by : (issued completed : Bool) → Stage → Stage
 stage_by true completed stage = Out
-stage_by false true Idle = Idle
 stage_by false true Out = Whole
-stage_by false true Whole = Whole
 stage_by false false stage = stage
+stage_by false true other = other
 
 abbrev pub stage_after : (ticket slot dev : ℕ) → Stage → Host → HostTurn → Stage
 stage_after ticket slot dev stage old t = stage_by (issues ticket old t) (completes slot dev t) stage
@@ -64,9 +63,8 @@ pub tells : (ticket slot dev : ℕ) (turns : List HostTurn) (stage : Stage) (old
     → Tells ticket slot dev stage old new turns run
 tells ticket slot dev [] Idle old new run h = absurd (idle_out h)
 tells ticket slot dev [] Out old new run h = absurd (out_whole h)
-tells ticket slot dev [] Whole old new run h = tt
 tells ticket slot dev (t ∷ turns) Idle old new run h =
     idle ticket slot dev run.0 new turns run.2 (λ stage. tells ticket slot dev turns stage run.0 new run.2) (issues ticket old t) (completes slot dev t) h
 tells ticket slot dev (t ∷ turns) Out old new run h =
     out ticket slot dev run.0 new turns run.2 (λ stage. tells ticket slot dev turns stage run.0 new run.2) (issues ticket old t) (completes slot dev t) h
-tells ticket slot dev (t ∷ turns) Whole old new run h = tt
+tells ticket slot dev other Whole old new run h = tt

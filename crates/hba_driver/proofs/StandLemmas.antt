@@ -116,8 +116,6 @@ few_prds false = omega arith
 
 pub same_act : (at count : ℕ) → IsOwn at count → (e : Effect) (old new : Port) (before after : Memory) → is_effect e ≡ true → late e ≡ true → Acts e old before new after → length before.structure ≡ 1048576
     → Same at count before.structure after.structure
-same_act at count own (effect.Writes offset value) old new before after is l h long = subst (λ (m : Memory). Same at count before.structure m.structure) (sym h.1) (same_here at count before.structure long)
-same_act at count own (effect.Flushes dev) old new before after is l h long = subst (λ (m : Memory). Same at count before.structure m.structure) (sym h.1) (same_here at count before.structure long)
 same_act at count own (effect.Empties dev) old new before after is l h long =
     let below : dev < 16 = lt_of dev 16 is in
     subst (λ (m : Memory). Same at count before.structure m.structure) (sym h.1)
@@ -129,6 +127,7 @@ same_act at count own (effect.Commands slot fields buffer) old new before after 
     (within at count 960 64 (header_place 0 slot) 32 own.headers (omega (arith, least)) (omega (arith, below)))
     (within at count 131072 8192 (table_of slot) 4096 own.tables (omega (arith, least)) (omega (arith, below)))
     h.1.structure
+same_act at count own other old new before after is l h long = subst (λ (m : Memory). Same at count before.structure m.structure) (sym h.1) (same_here at count before.structure long)
 
 pub both : (a b : Bool) → (a && b) ≡ true → (a ≡ true) × (b ≡ true)
 both true b h = (refl, h)
@@ -214,7 +213,6 @@ agree_took s at count area old new frame report h host = elim (cases_Bool (ignor
 pub agree_turn : (s at count : ℕ) → IsArea s at count → (e : Entry) (old : Host) (t : HostTurn) (new : Host) → Does old t new → IsHost old → entry_at old.driver.entries s ≡ Some e
     → AgreeFrom at count old.memory.structure new.memory.structure
 agree_turn s at count area e old (Took frame report) new h host here = agree_took s at count area old new frame report h host
-agree_turn s at count area e old (Pushed frame) new h host here = same_memory at count old.memory new.memory (ap (λ (m : Memory). m.structure) h.memory)
 agree_turn s at count area e old (Ticked a) new h host here =
     (same_acts at count area.own (effects (sight_in old) old.driver) old.port new.port old.memory new.memory h.possible (late_act old.driver.plan.mode (due (sight_in old) old.driver)) h.does host.memory.structure_len).agree
 agree_turn s at count area e old (Submitted dev request ticket) new h host here =
@@ -223,8 +221,7 @@ agree_turn s at count area e old (Submitted dev request ticket) new h host here 
     let other : n ≢ s = λ same. free_other old.driver old.memory dev request h.accepted s e here (sym same) in
     (same_written at count n _ request.prds.items old.memory.structure new.memory.structure host.memory.structure_len (omega (arith, below)) (is_taken old.driver old.memory dev request h.accepted).few
     (area.header n below other) (area.table n below other) h.taken.command).agree
-agree_turn s at count area e old (Polled c) new h host here = same_memory at count old.memory new.memory (ap (λ (m : Memory). m.structure) h.memory)
-agree_turn s at count area e old (Put place bytes) new h host here = same_memory at count old.memory new.memory (ap (λ (m : Memory). m.structure) h.memory)
+agree_turn s at count area e old rest new h host here = same_memory at count old.memory new.memory (ap (λ (m : Memory). m.structure) h.memory)
 
 -- ---- the areas of a slot
 

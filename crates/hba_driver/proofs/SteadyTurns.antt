@@ -293,14 +293,12 @@ poll_keeps n old c new does h =
 -- ---- each turn
 
 pub turn_steady : (n : ℕ) (old : Host) (t : HostTurn) (new : Host) → Does old t new → IsSteadyTurn n old t → IsSteady n old.driver → DriverKeeps n (Signs n old) old.driver new.driver
-turn_steady n old (Took frame report) new does calm h = keeps_same n (Signs n old) old.driver new.driver does.driver h
-turn_steady n old (Pushed frame) new does calm h = keeps_same n (Signs n old) old.driver new.driver does.driver h
 turn_steady n old (Ticked a) new does calm h = tick_keeps n old a new does calm h
 turn_steady n old (Submitted dev request ticket) new does calm h =
     subst (λ (x : Driver). DriverKeeps n (Signs n old) old.driver x) (sym does.taken.driver)
     (record { steady = submit_steady n old.driver old.memory dev request does.accepted h; asks = λ a. inl a })
 turn_steady n old (Polled c) new does calm h = poll_keeps n old c new does h
-turn_steady n old (Put at bytes) new does calm h = keeps_same n (Signs n old) old.driver new.driver does.driver h
+turn_steady n old other new does calm h = keeps_same n (Signs n old) old.driver new.driver does.driver h
 
 -- ---- while nothing is known of the device
 

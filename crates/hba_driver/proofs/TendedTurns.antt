@@ -216,14 +216,12 @@ slot_over n old p sound is here asked =
 -- ---- each turn
 
 pub turn_tended : (n : ℕ) (old : Host) (t : HostTurn) (new : Host) → n < 16 → Does old t new → IsSwitching old → IsSteadyTurn n old t → IsTended n old.driver → TendsOn n old t new
-turn_tended n old (Took frame report) new below does on calm h = plan_stays n old (Took frame report) new (ap (λ (x : Driver). x.plan) does.driver) (λ there. tt) (driver_stays n old new does.driver h)
-turn_tended n old (Pushed frame) new below does on calm h = plan_stays n old (Pushed frame) new (ap (λ (x : Driver). x.plan) does.driver) (λ there. tt) (driver_stays n old new does.driver h)
 turn_tended n old (Ticked a) new below does on calm h = tick_tends n old a new below does on calm h
 turn_tended n old (Submitted dev request ticket) new below does on calm h =
     plan_stays n old (Submitted dev request ticket) new (ap (λ (x : Driver). x.plan) does.taken.driver) (λ there. tt)
     (subst (λ (x : Driver). IsTended n x) (sym does.taken.driver) (submit_tended n old.driver old.memory dev request does.accepted h))
 turn_tended n old (Polled c) new below does on calm h = poll_tends n old c new does h
-turn_tended n old (Put at bytes) new below does on calm h = plan_stays n old (Put at bytes) new (ap (λ (x : Driver). x.plan) does.driver) (λ there. tt) (driver_stays n old new does.driver h)
+turn_tended n old other new below does on calm h = plan_stays n old other new (ap (λ (x : Driver). x.plan) does.driver) (λ there. tt) (driver_stays n old new does.driver h)
 
 pub each_is_tended : (n : ℕ) → TurnsTend n
 each_is_tended n = record {

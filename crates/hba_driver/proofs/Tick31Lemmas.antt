@@ -269,7 +269,6 @@ module _ (h : Host) (g : IsGoing h) (stage : Stage31) (at : IsAt31 stage h) wher
     by_stage : has_failed stage ≡ false → (s : Stage31) → stage ≡ s → IsIn s p.order p.asked (control_of h) → Seen31
     by_stage well Rests same is =
         seen_as (record p { order = met_order v p.order }) Rests (seen_unasked v p is.0) (inl (sym same)) (ap flags31 (sym same)) (is.0, met_off v p.order is.1) (λ w. absurd (cc)) (ap is_pending same)
-    by_stage well Waits same is = seen_same (seen_out v p is.0 (bit31 _ is.2.issued))
     by_stage well Resets same (inl is) = elim (cases_Bool (has_bit v.issued 31)) [
       | inl on ↦ seen_same (seen_out v p is.1 on)
       | inr off ↦ seen_as _ Resets (seen_free v p is.1 off) (inl (sym same)) (ap flags31 (sym same)) (inr (next_on _ _ p.order is.0, inl refl)) (λ w. absurd (cc)) (ap is_pending same)
@@ -284,13 +283,13 @@ module _ (h : Host) (g : IsGoing h) (stage : Stage31) (at : IsAt31 stage h) wher
     ]
     by_stage well Signs same (free, inr is) =
         seen_as (record p { order = met_order v p.order }) Signs (seen_unasked v p is.1) (inl (sym same)) (ap flags31 (sym same)) (free, inr (met_await (resets_seen ∙ ap is_resetting same) p.order is.0, is.1)) (λ w. absurd (cc)) (ap is_pending same)
-    by_stage well Asks same is = seen_same (seen_out v p is.0 (bit31 _ is.2.issued))
     by_stage well Told same is = elim (cases_Bool (has_bit v.issued 31)) [
       | inl on ↦ seen_same (seen_out v p is.0 on)
       | inr off ↦
           seen_as _ Rests (seen_free v p is.0 off) (inr (ap is_idle same, refl)) (ap flags31 (sym same)) (refl, met_off v _ (next_off _ _ p.order is.1)) (λ w. absurd (cc)) (ap is_pending same)
     ]
     by_stage well Fails same is = absurd (false≢true (sym well ∙ ap has_failed same))
+    by_stage well other same is = seen_same (seen_out v p is.0 (bit31 _ is.2.issued))
 
     pub seen31 : has_failed stage ≡ false → Seen31
     seen31 well = by_stage well stage refl at.is

@@ -370,14 +370,11 @@ steps_moves dev stage d may n s t from =
 
 port_of_stage : (dev : ℕ) (stage : Stage) (f : H2dFields) → stage_fields dev stage ≡ Some f → f.pm_port ≡ dev
 unfolding stage_fields
-port_of_stage dev Identify f h = ap (λ (x : H2dFields). x.pm_port) (sym (some_inj _ f h))
-port_of_stage dev (ReadLog file) f h = ap (λ (x : H2dFields). x.pm_port) (sym (some_inj _ f h))
-port_of_stage dev AssertReset f h = ap (λ (x : H2dFields). x.pm_port) (sym (some_inj _ f h))
-port_of_stage dev ReleaseReset f h = ap (λ (x : H2dFields). x.pm_port) (sym (some_inj _ f h))
 port_of_stage dev stage.AwaitReset f h = port_nowhere f h
   where
     port_nowhere : (f : H2dFields) → None ≡ Some f → f.pm_port ≡ dev
     port_nowhere f h = cc
+port_of_stage dev other f h = ap (λ (x : H2dFields). x.pm_port) (sym (some_inj _ f h))
 
 small_dev : (n : ℕ) → n < 15 → n % 16 ≡ n
 small_dev n h = omega (arith, h)
@@ -587,10 +584,9 @@ pub act_goes : (D d : Driver) (v : Sight) (file : TaskFile) (fs : List HostEvent
 unfolding effects_of
 act_goes D d v file fs c mode None old new before after calm due drives ours ruled m is acts go = last_goes D d fs c old new before after acts go
 act_goes D d v file fs c mode (Some (act.Opens k)) old new before after calm due drives ours ruled m is acts go = opening_act D d file fs c mode k old new before after ruled m acts go
-act_goes D d v file fs c mode (Some act.Stops) old new before after calm due drives ours ruled m is acts go = absurd (false≢true calm)
 act_goes D d v file fs c mode (Some (act.Restarts k)) old new before after calm due drives ours ruled m is acts go = restart_act D d file fs c k old new before after ruled m acts go
-act_goes D d v file fs c mode (Some (act.Clears dev)) old new before after calm due drives ours ruled m is acts go = absurd (false≢true calm)
 act_goes D d v file fs c mode (Some (act.Orders order)) old new before after calm due drives ours ruled m is acts go = order_act D d file fs c mode order old new before after due (ours tt) drives ruled m is acts go
 act_goes D d v file fs c mode (Some (act.Steps dev stage)) old new before after calm due drives ours ruled m is acts go = step_act D d file fs c mode dev stage old new before after due (ours tt) drives ruled m acts go
 act_goes D d v file fs c mode (Some (act.Issues slot dev queued)) old new before after calm due drives ours ruled m is acts go =
     issue_act d slot dev due.0 D file fs c mode queued old new before after (ours tt) drives ruled m acts go
+act_goes D d v file fs c mode other old new before after calm due drives ours ruled m is acts go = absurd (false≢true calm)

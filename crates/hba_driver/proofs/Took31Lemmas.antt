@@ -243,13 +243,12 @@ plain_context other own is none = absurd is
 
 plain_issue : (a : Answered) (own : DeviceSlots) → IsPlainAnswer a → (own_issue (answered_as a own) 31 ≡ None) ⊎ (own_issue (answered_as a own) 31 ≡ own_issue own 31)
 plain_issue answer.Nobody own is = inr refl
-plain_issue (answer.Queued slot) own is = absurd is
 plain_issue (answer.Done slot) own is = by_test (is_slot slot 31) (ap (λ (f : ℕ → Option Issue). f 31) (own_freed (is_slot slot) own))
   where
     by_test : (b : Bool) → own_issue (freed (is_slot slot) own) 31 ≡ (if b then None else own_issue own 31) → (own_issue (freed (is_slot slot) own) 31 ≡ None) ⊎ (own_issue (freed (is_slot slot) own) 31 ≡ own_issue own 31)
     by_test true e = inl e
     by_test false e = inr e
-plain_issue (answer.Short slot) own is = absurd is
+plain_issue other own is = absurd is
 
 on_off : (o : Order) → o ≡ ResetOff → is_on o ≡ false
 on_off o is = ap is_on is

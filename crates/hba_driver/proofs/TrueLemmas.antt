@@ -137,10 +137,7 @@ issued_stage dev stage entries s e f here there wait h = issued_as e f (sym here
 acted_issues : (a : Option Act) (file : TaskFile) (d : Driver) (s : ℕ) (e f : Entry) → entry_at d.entries s ≡ Some e → entry_at (acted a file d).entries s ≡ Some f → waits_in e.head.phase ≡ true → is_issued_in f.head.phase ≡ true
     → list_any (λ y. y == e.head.ticket) (issued_by_act a d.entries) ≡ true
 unfolding entries_after
-acted_issues None file d s e f here there wait h = absurd (issued_as e f (sym here ∙ there) wait h)
-acted_issues (Some (act.Opens k)) file d s e f here there wait h = absurd (issued_as e f (sym here ∙ there) wait h)
 acted_issues (Some act.Stops) file d s e f here there wait h = absurd (issued_group is_open (Ended PortError) d.entries s e f refl here there wait h)
-acted_issues (Some (act.Restarts k)) file d s e f here there wait h = absurd (issued_as e f (sym here ∙ there) wait h)
 acted_issues (Some (act.Clears dev)) file d s e f here there wait h = absurd (issued_group (is_open_of dev) Aside d.entries s e f refl here there wait h)
 acted_issues (Some (act.Orders order)) file d s e f here there wait h = absurd (issued_order order d.entries s e f here there wait h)
 acted_issues (Some (act.Steps dev stage)) file d s e f here there wait h = absurd (issued_stage dev stage d.entries s e f here there wait h)
@@ -150,6 +147,7 @@ acted_issues (Some (act.Issues slot dev queued)) file d s e f here there wait h 
       ap (λ (o : Option Entry). list_any (λ y. y == e.head.ticket) (ticket_of o)) same ∙ or_left (e.head.ticket == e.head.ticket) false (equal_is e.head.ticket e.head.ticket refl)
   | inr beside ↦ absurd (issued_as e f (sym here ∙ beside.1) wait h)
 ]
+acted_issues other file d s e f here there wait h = absurd (issued_as e f (sym here ∙ there) wait h)
 
 else_entry : (b : Bool) (x y : Option Entry) → b ≡ false → (if b then x else y) ≡ y
 else_entry true x y h = absurd (true≢false h)
@@ -278,10 +276,9 @@ far_still t ticket slot dev old new stage next does calm whole out far e here of
     fits_fresh rest is = absurd is
 
 took_whole : (c : Bool) (stage : Stage) → stage ≡ Whole → stage_by false c stage ≡ Whole
-took_whole true Idle h = let bad : Idle ≡ Whole = h in cc
-took_whole true Out h = let bad : Out ≡ Whole = h in cc
 took_whole true Whole h = refl
 took_whole false stage h = h
+took_whole true other h = let bad : other ≡ Whole = h in cc
 
 took_out : (c : Bool) (stage : Stage) (old new : Port) (slot dev : ℕ) → (c ≡ false → HasOut old slot dev → HasOut new slot dev) → stage ≡ Out → HasOut old slot dev
     → (stage_by false c stage ≡ Whole) ⊎ ((stage_by false c stage ≡ Out) × HasOut new slot dev)
