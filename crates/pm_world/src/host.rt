@@ -99,7 +99,7 @@ impl Host {
     }
 
     /// Asks the driver for an ended request.
-    #[tactic(auto, using(crate::proofs::Polling::idle))]
+    #[tactic(auto, using(crate::proofs::steps::Polling::idle))]
     pub fn poll(&mut self) -> Answer
         ensures { PollRule self.old (Ok result) self.new }
     {

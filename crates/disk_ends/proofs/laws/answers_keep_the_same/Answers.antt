@@ -1,4 +1,4 @@
-use Rattle.disk_ends.proofs.AnswerLemmas.{answers_keep, others_keep}
+use Rattle.disk_ends.proofs.events.AnswerLemmas.{answers_keep, others_keep}
 use Rattle.disk_ends.proofs.laws.answers_keep_the_same.Goals as goal
 
 pub returns-clause-others : goal.returns-clause-others

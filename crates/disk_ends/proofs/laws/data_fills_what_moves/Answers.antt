@@ -1,4 +1,4 @@
-use Rattle.disk_ends.proofs.SameLemmas.{data_fills}
+use Rattle.disk_ends.proofs.events.SameLemmas.{data_fills}
 use Rattle.disk_ends.proofs.laws.data_fills_what_moves.Goals as goal
 
 pub returns : goal.returns

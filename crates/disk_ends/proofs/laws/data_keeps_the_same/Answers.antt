@@ -1,4 +1,4 @@
-use Rattle.disk_ends.proofs.DataLemmas.{data_comes_down, data_up}
+use Rattle.disk_ends.proofs.events.DataLemmas.{data_comes_down, data_up}
 use Rattle.disk_ends.proofs.laws.data_keeps_the_same.Goals as goal
 
 pub returns-clause-up : goal.returns-clause-up

@@ -1,4 +1,4 @@
-use Rattle.disk_ends.proofs.AsideLemmas.{aside_is_kept}
+use Rattle.disk_ends.proofs.phases.AsideLemmas.{aside_is_kept}
 use Rattle.disk_ends.proofs.laws.devices_are_set_aside.Goals as goal
 
 pub returns : goal.returns

@@ -1,4 +1,4 @@
-use Rattle.disk_ends.proofs.FollowedLemmas.{followed_is_honest, follows_on, next_or_fails}
+use Rattle.disk_ends.proofs.phases.FollowedLemmas.{followed_is_honest, follows_on, next_or_fails}
 use Rattle.disk_ends.proofs.laws.disks_are_followed_to_their_errors.Goals as goal
 
 pub returns-clause-follows : goal.returns-clause-follows

@@ -1,5 +1,5 @@
-use Rattle.disk_ends.proofs.WatchedLemmas.{watched_is_ahead, watches_on}
-use Rattle.disk_ends.proofs.WatchingLemmas.{watches_what_is_fine}
+use Rattle.disk_ends.proofs.link.WatchedLemmas.{watched_is_ahead, watches_on}
+use Rattle.disk_ends.proofs.link.WatchingLemmas.{watches_what_is_fine}
 use Rattle.disk_ends.proofs.laws.disks_are_watched_to_their_errors.Goals as goal
 
 pub returns-clause-goes_on : goal.returns-clause-goes_on

@@ -1,4 +1,4 @@
-use Rattle.disk_ends.proofs.HonestLemmas.{done_is_honest, next_right}
+use Rattle.disk_ends.proofs.honest.HonestLemmas.{done_is_honest, next_right}
 use Rattle.disk_ends.proofs.laws.done_is_honest.Goals as goal
 
 pub returns-clause-next : goal.returns-clause-next

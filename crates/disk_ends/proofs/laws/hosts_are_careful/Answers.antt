@@ -1,6 +1,6 @@
-use Rattle.disk_ends.proofs.HostedLemmas.{hosted_is_kept}
-use Rattle.disk_ends.proofs.MarkedLemmas.{marks_tell_nothing}
-use Rattle.disk_ends.proofs.SizeLemmas.{next_short}
+use Rattle.disk_ends.proofs.anew.HostedLemmas.{hosted_is_kept}
+use Rattle.disk_ends.proofs.joined.MarkedLemmas.{marks_tell_nothing}
+use Rattle.disk_ends.proofs.joined.SizeLemmas.{next_short}
 use Rattle.disk_ends.proofs.laws.hosts_are_careful.Goals as goal
 
 pub returns-clause-kept : goal.returns-clause-kept

@@ -1,6 +1,6 @@
-use Rattle.disk_ends.proofs.AnewJoins.{hosted_on_is_kept, hosted_since_new, opens_after}
-use Rattle.disk_ends.proofs.SignsLemmas.{signature_is_none}
-use Rattle.disk_ends.proofs.TogetherLemmas.{opens_the_same}
+use Rattle.disk_ends.proofs.anew.AnewJoins.{hosted_on_is_kept, hosted_since_new, opens_after}
+use Rattle.disk_ends.proofs.anew.SignsLemmas.{signature_is_none}
+use Rattle.disk_ends.proofs.together.TogetherLemmas.{opens_the_same}
 use Rattle.disk_ends.proofs.laws.hosts_begin_anew.Goals as goal
 
 pub returns-clause-after : goal.returns-clause-after

@@ -1,4 +1,4 @@
-use Rattle.disk_ends.proofs.SameLemmas.{commands_keep, issues_keep}
+use Rattle.disk_ends.proofs.events.SameLemmas.{commands_keep, issues_keep}
 use Rattle.disk_ends.proofs.laws.issues_and_commands_keep_the_same.Goals as goal
 
 pub returns-clause-issues : goal.returns-clause-issues

@@ -1,6 +1,6 @@
-use Rattle.disk_ends.proofs.LineLemmas.{lines_go_on}
-use Rattle.disk_ends.proofs.LooseLemmas.{lines_begin, plugging_leaves_reset}
-use Rattle.disk_ends.proofs.MarkedFiles.{marks_ask_nothing}
+use Rattle.disk_ends.proofs.link.LineLemmas.{lines_go_on}
+use Rattle.disk_ends.proofs.link.LooseLemmas.{lines_begin, plugging_leaves_reset}
+use Rattle.disk_ends.proofs.link.MarkedFiles.{marks_ask_nothing}
 use Rattle.disk_ends.proofs.laws.lines_lead_to_beginning_anew.Goals as goal
 
 pub returns-clause-begins : goal.returns-clause-begins

@@ -1,5 +1,5 @@
-use Rattle.disk_ends.proofs.CalmLemmas.{calm_runs_keep}
-use Rattle.disk_ends.proofs.ElsewhereLemmas.{others_leave_device}
+use Rattle.disk_ends.proofs.others.CalmLemmas.{calm_runs_keep}
+use Rattle.disk_ends.proofs.others.ElsewhereLemmas.{others_leave_device}
 use Rattle.disk_ends.proofs.laws.others_leave_a_device.Goals as goal
 
 pub returns-clause-others : goal.returns-clause-others

@@ -1,6 +1,6 @@
-use Rattle.disk_ends.proofs.IssueJoins.{joins_issues, stays_joined}
-use Rattle.disk_ends.proofs.JoinLemmas.{joins_frames}
-use Rattle.disk_ends.proofs.OrderJoins.{joins_commands, joins_data, joins_others}
+use Rattle.disk_ends.proofs.joined.IssueJoins.{joins_issues, stays_joined}
+use Rattle.disk_ends.proofs.joined.JoinLemmas.{joins_frames}
+use Rattle.disk_ends.proofs.joined.OrderJoins.{joins_commands, joins_data, joins_others}
 use Rattle.disk_ends.proofs.laws.port_and_ledger_stay_joined.Goals as goal
 
 pub returns-clause-frames : goal.returns-clause-frames

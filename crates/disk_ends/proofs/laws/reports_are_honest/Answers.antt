@@ -1,4 +1,4 @@
-use Rattle.disk_ends.proofs.AnewHonest.{reports_honestly}
+use Rattle.disk_ends.proofs.anew.AnewHonest.{reports_honestly}
 use Rattle.disk_ends.proofs.laws.reports_are_honest.Goals as goal
 
 pub returns : goal.returns

@@ -1,4 +1,4 @@
-use Rattle.disk_ends.proofs.AnewHonest.{honest_stays, next_anew, reports_anew}
+use Rattle.disk_ends.proofs.anew.AnewHonest.{honest_stays, next_anew, reports_anew}
 use Rattle.disk_ends.proofs.laws.reports_are_honest_anew.Goals as goal
 
 pub returns-clause-next : goal.returns-clause-next

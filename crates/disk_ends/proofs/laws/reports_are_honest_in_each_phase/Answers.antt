@@ -1,5 +1,5 @@
-use Rattle.disk_ends.proofs.CalmOn.{calm_leaves_together}
-use Rattle.disk_ends.proofs.PhaseLemmas.{each_done, takes_in_each_phase}
+use Rattle.disk_ends.proofs.phases.CalmOn.{calm_leaves_together}
+use Rattle.disk_ends.proofs.phases.PhaseLemmas.{each_done, takes_in_each_phase}
 use Rattle.disk_ends.proofs.laws.reports_are_honest_in_each_phase.Goals as goal
 
 pub returns-clause-done : goal.returns-clause-done

@@ -1,4 +1,4 @@
-use Rattle.disk_ends.proofs.LaterJoins.{next_later, reports_later}
+use Rattle.disk_ends.proofs.anew.LaterJoins.{next_later, reports_later}
 use Rattle.disk_ends.proofs.laws.reports_are_honest_later.Goals as goal
 
 pub returns-clause-next : goal.returns-clause-next

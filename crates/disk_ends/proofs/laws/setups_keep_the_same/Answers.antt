@@ -1,5 +1,5 @@
-use Rattle.disk_ends.proofs.MoveLemmas.{activates_keep, setups_go_on}
-use Rattle.disk_ends.proofs.SameLemmas.{setups_start}
+use Rattle.disk_ends.proofs.events.MoveLemmas.{activates_keep, setups_go_on}
+use Rattle.disk_ends.proofs.events.SameLemmas.{setups_start}
 use Rattle.disk_ends.proofs.laws.setups_keep_the_same.Goals as goal
 
 pub returns-clause-starts : goal.returns-clause-starts

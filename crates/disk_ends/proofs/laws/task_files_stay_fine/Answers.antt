@@ -1,6 +1,6 @@
-use Rattle.disk_ends.proofs.FileLaws.{both_have_begun, files_stay_fine, nothing_is_refused}
-use Rattle.disk_ends.proofs.FilesLeft.{files_are_left}
-use Rattle.disk_ends.proofs.SentLemmas.{of_disk}
+use Rattle.disk_ends.proofs.task_files.FileLaws.{both_have_begun, files_stay_fine, nothing_is_refused}
+use Rattle.disk_ends.proofs.task_files.FilesLeft.{files_are_left}
+use Rattle.disk_ends.proofs.link.SentLemmas.{of_disk}
 use Rattle.disk_ends.proofs.laws.task_files_stay_fine.Goals as goal
 
 pub returns-clause-begins : goal.returns-clause-begins

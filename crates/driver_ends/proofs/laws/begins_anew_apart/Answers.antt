@@ -1,4 +1,4 @@
-use Rattle.driver_ends.proofs.ApartBegins.{aside_at, log_begins, reset_begins}
+use Rattle.driver_ends.proofs.apart.ApartBegins.{aside_at, log_begins, reset_begins}
 use Rattle.driver_ends.proofs.laws.begins_anew_apart.Goals as goal
 
 pub returns-clause-aside : goal.returns-clause-aside

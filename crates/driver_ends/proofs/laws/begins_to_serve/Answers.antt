@@ -1,4 +1,4 @@
-use Rattle.driver_ends.proofs.TogetherBegins.{flush_opens_on, log_begins_served, reset_begins_served, served_since_flush}
+use Rattle.driver_ends.proofs.together.TogetherBegins.{flush_opens_on, log_begins_served, reset_begins_served, served_since_flush}
 use Rattle.driver_ends.proofs.laws.begins_to_serve.Goals as goal
 
 pub returns-clause-since : goal.returns-clause-since

@@ -1,4 +1,4 @@
-use Rattle.driver_ends.proofs.PushLemmas.{pushes_go_on, pushes_keep}
+use Rattle.driver_ends.proofs.honest.PushLemmas.{pushes_go_on, pushes_keep}
 use Rattle.driver_ends.proofs.laws.pushes_keep_honest.Goals as goal
 
 pub returns-clause-goes_on : goal.returns-clause-goes_on

@@ -1,5 +1,5 @@
-use Rattle.driver_ends.proofs.TogetherBegins.{spoilt_is_free}
-use Rattle.driver_ends.proofs.TogetherParts.{calm_turns_go_on}
+use Rattle.driver_ends.proofs.together.TogetherBegins.{spoilt_is_free}
+use Rattle.driver_ends.proofs.together.TogetherParts.{calm_turns_go_on}
 use Rattle.driver_ends.proofs.laws.resets_begin_free.Goals as goal
 
 pub returns-clause-turns : goal.returns-clause-turns

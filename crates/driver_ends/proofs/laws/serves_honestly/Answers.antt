@@ -1,4 +1,4 @@
-use Rattle.driver_ends.proofs.TurnLemmas.{calm_turns_keep, flush_opens, opens_honestly}
+use Rattle.driver_ends.proofs.honest.TurnLemmas.{calm_turns_keep, flush_opens, opens_honestly}
 use Rattle.driver_ends.proofs.laws.serves_honestly.Goals as goal
 
 pub returns-clause-opens : goal.returns-clause-opens

@@ -1,5 +1,5 @@
-use Rattle.driver_ends.proofs.FaultyLemmas.{faults_set_aside}
-use Rattle.driver_ends.proofs.UnaskedLemmas.{stays_unasked}
+use Rattle.driver_ends.proofs.unasked.FaultyLemmas.{faults_set_aside}
+use Rattle.driver_ends.proofs.unasked.UnaskedLemmas.{stays_unasked}
 use Rattle.driver_ends.proofs.laws.stays_unasked.Goals as goal
 
 pub returns-clause-stays : goal.returns-clause-stays

@@ -1,4 +1,4 @@
-use Rattle.driver_ends.proofs.TakeLemmas.{takes_keep}
+use Rattle.driver_ends.proofs.honest.TakeLemmas.{takes_keep}
 use Rattle.driver_ends.proofs.laws.takes_keep_honest.Goals as goal
 
 pub returns : goal.returns

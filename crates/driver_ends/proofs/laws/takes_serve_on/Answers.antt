@@ -1,4 +1,4 @@
-use Rattle.driver_ends.proofs.TogetherTakes.{ignored_keep_on, signatures_keep_on, takes_keep_on}
+use Rattle.driver_ends.proofs.together.TogetherTakes.{ignored_keep_on, signatures_keep_on, takes_keep_on}
 use Rattle.driver_ends.proofs.laws.takes_serve_on.Goals as goal
 
 pub returns-clause-right : goal.returns-clause-right

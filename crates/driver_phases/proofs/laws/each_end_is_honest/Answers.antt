@@ -1,4 +1,4 @@
-use Rattle.driver_phases.proofs.HonestEnds.{each_end_is_honest}
+use Rattle.driver_phases.proofs.honest.HonestEnds.{each_end_is_honest}
 use Rattle.driver_phases.proofs.laws.each_end_is_honest.Goals as goal
 
 pub returns : goal.returns

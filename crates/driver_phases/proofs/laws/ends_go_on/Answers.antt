@@ -1,6 +1,6 @@
-use Rattle.driver_phases.proofs.Beginnings.{flush_begins}
-use Rattle.driver_phases.proofs.EndLemmas.{ends_go_on}
-use Rattle.driver_phases.proofs.FloorLemmas.{floors_rise}
+use Rattle.driver_phases.proofs.together.Beginnings.{flush_begins}
+use Rattle.driver_phases.proofs.together.EndLemmas.{ends_go_on}
+use Rattle.driver_phases.proofs.together.FloorLemmas.{floors_rise}
 use Rattle.driver_phases.proofs.laws.ends_go_on.Goals as goal
 
 pub returns-clause-begins : goal.returns-clause-begins

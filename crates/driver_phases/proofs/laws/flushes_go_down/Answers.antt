@@ -1,4 +1,4 @@
-use Rattle.driver_phases.proofs.FlushTurns.{ends_since_go_on, floors_rise_since, since_begins}
+use Rattle.driver_phases.proofs.flushes.FlushTurns.{ends_since_go_on, floors_rise_since, since_begins}
 use Rattle.driver_phases.proofs.laws.flushes_go_down.Goals as goal
 
 pub returns-clause-begins : goal.returns-clause-begins

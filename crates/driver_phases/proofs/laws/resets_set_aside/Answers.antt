@@ -1,4 +1,4 @@
-use Rattle.driver_phases.proofs.ResetAside.{reset_sets_aside}
+use Rattle.driver_phases.proofs.aside.ResetAside.{reset_sets_aside}
 use Rattle.driver_phases.proofs.laws.resets_set_aside.Goals as goal
 
 pub returns : goal.returns

@@ -1,6 +1,6 @@
 use Rattle.std.proofs.Common.{refl}
 use Rattle.hba_driver.specs.Effects.{ActsAll}
-use Rattle.hba_driver.proofs.EffectLemmas.{act_possible}
+use Rattle.hba_driver.proofs.calls.EffectLemmas.{act_possible}
 use Rattle.hba_driver.proofs.driver.perform.Goals as goal
 
 pub returns-in_default-clause-acts : goal.returns-in_default-clause-acts

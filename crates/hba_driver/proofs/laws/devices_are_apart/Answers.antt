@@ -1,7 +1,7 @@
-use Rattle.hba_driver.proofs.ApartTakes.{takes_lead}
-use Rattle.hba_driver.proofs.ApartPushes.{is_alone, pushes_on, stays_on}
-use Rattle.hba_driver.proofs.ApartTicks.{ticks_lead}
-use Rattle.hba_driver.proofs.UnsoughtLemmas.{stays_unsought}
+use Rattle.hba_driver.proofs.recovers.ApartTakes.{takes_lead}
+use Rattle.hba_driver.proofs.recovers.ApartPushes.{is_alone, pushes_on, stays_on}
+use Rattle.hba_driver.proofs.recovers.ApartTicks.{ticks_lead}
+use Rattle.hba_driver.proofs.recovers.UnsoughtLemmas.{stays_unsought}
 use Rattle.hba_driver.proofs.laws.devices_are_apart.Goals as goal
 
 pub returns : goal.returns

@@ -1,4 +1,4 @@
-use Rattle.hba_driver.proofs.DoneLemmas.{done_is_free}
+use Rattle.hba_driver.proofs.ends.DoneLemmas.{done_is_free}
 use Rattle.hba_driver.proofs.laws.done_is_free.Goals as goal
 
 pub returns : goal.returns

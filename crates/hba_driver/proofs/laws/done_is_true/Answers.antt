@@ -1,4 +1,4 @@
-use Rattle.hba_driver.proofs.TrueLemmas.{done_is_true}
+use Rattle.hba_driver.proofs.done.TrueLemmas.{done_is_true}
 use Rattle.hba_driver.proofs.laws.done_is_true.Goals as goal
 
 pub returns : goal.returns

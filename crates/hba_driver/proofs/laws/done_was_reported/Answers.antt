@@ -1,4 +1,4 @@
-use Rattle.hba_driver.proofs.ReportRuns.{done_was_reported}
+use Rattle.hba_driver.proofs.done.ReportRuns.{done_was_reported}
 use Rattle.hba_driver.proofs.laws.done_was_reported.Goals as goal
 
 pub returns : goal.returns

@@ -1,4 +1,4 @@
-use Rattle.hba_driver.proofs.AddressLemmas.{frames_are_addressed}
+use Rattle.hba_driver.proofs.addresses.AddressLemmas.{frames_are_addressed}
 use Rattle.hba_driver.proofs.laws.frames_are_addressed.Goals as goal
 
 pub returns : goal.returns

@@ -1,4 +1,4 @@
-use Rattle.hba_driver.proofs.SetsLemmas.{each_reset_is_driven}
+use Rattle.hba_driver.proofs.anew.SetsLemmas.{each_reset_is_driven}
 use Rattle.hba_driver.proofs.laws.resets_are_issued.Goals as goal
 
 pub returns : goal.returns

@@ -1,4 +1,4 @@
-use Rattle.hba_driver.proofs.LifeLemmas.{ticks_keep}
+use Rattle.hba_driver.proofs.ticks.LifeLemmas.{ticks_keep}
 use Rattle.hba_driver.proofs.laws.ticks_keep.Goals as goal
 
 pub returns : goal.returns

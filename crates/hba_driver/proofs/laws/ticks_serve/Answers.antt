@@ -1,4 +1,4 @@
-use Rattle.hba_driver.proofs.ServeLemmas.{ticks_serve}
+use Rattle.hba_driver.proofs.ticks.ServeLemmas.{ticks_serve}
 use Rattle.hba_driver.proofs.laws.ticks_serve.Goals as goal
 
 pub returns : goal.returns

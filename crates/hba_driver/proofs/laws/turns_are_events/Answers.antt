@@ -1,4 +1,4 @@
-use Rattle.hba_driver.proofs.TurnLemmas.{each_run_tells, turns_are_events}
+use Rattle.hba_driver.proofs.events.TurnLemmas.{each_run_tells, turns_are_events}
 use Rattle.hba_driver.proofs.laws.turns_are_events.Goals as goal
 
 pub returns-clause-runs : goal.returns-clause-runs

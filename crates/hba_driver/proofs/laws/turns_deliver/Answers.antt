@@ -1,4 +1,4 @@
-use Rattle.hba_driver.proofs.DeliveredLemmas.{turns_deliver}
+use Rattle.hba_driver.proofs.delivery.DeliveredLemmas.{turns_deliver}
 use Rattle.hba_driver.proofs.laws.turns_deliver.Goals as goal
 
 pub returns : goal.returns

@@ -1,4 +1,4 @@
-use Rattle.hba_driver.proofs.HistoryLemmas.{each_run_keeps}
+use Rattle.hba_driver.proofs.requests.HistoryLemmas.{each_run_keeps}
 use Rattle.hba_driver.proofs.laws.turns_keep.Goals as goal
 
 pub returns : goal.returns

@@ -1,4 +1,4 @@
-use Rattle.hba_driver.proofs.AcceptLemmas.{writes_are_accepted}
+use Rattle.hba_driver.proofs.accepted.AcceptLemmas.{writes_are_accepted}
 use Rattle.hba_driver.proofs.laws.writes_are_accepted.Goals as goal
 
 pub returns : goal.returns

@@ -3,7 +3,7 @@ use Rattle.std.specs.Option.{is_some}
 use Rattle.slots.proofs.MaskLemmas.{lowest_found, lowest_none}
 use Rattle.hba_driver.specs.Drivers.{entry_at, holds}
 use Rattle.hba_driver.specs.Ticks.{any_done, is_done}
-use Rattle.hba_driver.proofs.ScanLemmas.{entry_read}
+use Rattle.hba_driver.proofs.calls.ScanLemmas.{entry_read}
 use Rattle.hba_driver.proofs.scan.any_done.Goals as goal
 
 pub returns-then-is_in : goal.returns-then-is_in

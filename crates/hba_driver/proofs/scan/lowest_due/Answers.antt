@@ -2,7 +2,7 @@ use Rattle.std.proofs.Common.{arith, ap, sym, ◌∙◌, below_more}
 use Rattle.slots.proofs.MaskLemmas.{lowest_found, lowest_none}
 use Rattle.hba_driver.specs.Drivers.{entry_at}
 use Rattle.hba_driver.specs.Turns.{may_issue}
-use Rattle.hba_driver.proofs.ScanLemmas.{entry_read}
+use Rattle.hba_driver.proofs.calls.ScanLemmas.{entry_read}
 use Rattle.hba_driver.proofs.scan.lowest_due.Goals as goal
 
 pub returns-then-may_issue-clause-value : goal.returns-then-may_issue-clause-value

@@ -3,7 +3,7 @@ use Rattle.slots.proofs.MaskLemmas.{lowest_found, lowest_none}
 use Rattle.hba_driver.specs.Drivers.{entry_at}
 use Rattle.hba_driver.specs.Drivers.{has_ended, holds}
 use Rattle.hba_driver.specs.Submits.{lowest_ended}
-use Rattle.hba_driver.proofs.ScanLemmas.{entry_read}
+use Rattle.hba_driver.proofs.calls.ScanLemmas.{entry_read}
 use Rattle.hba_driver.proofs.scan.lowest_ended.Goals as goal
 
 pub returns-then-has_ended-clause-value : goal.returns-then-has_ended-clause-value

@@ -3,7 +3,7 @@ use Rattle.slots.proofs.MaskLemmas.{lowest_found, lowest_none}
 use Rattle.hba_driver.specs.Drivers.{entry_at}
 use Rattle.hba_driver.specs.Requests.{is_free}
 use Rattle.hba_driver.specs.Requests.{lowest_free}
-use Rattle.hba_driver.proofs.ScanLemmas.{entry_read}
+use Rattle.hba_driver.proofs.calls.ScanLemmas.{entry_read}
 use Rattle.hba_driver.proofs.scan.lowest_free.Goals as goal
 
 pub returns-then-is_free-clause-value : goal.returns-then-is_free-clause-value

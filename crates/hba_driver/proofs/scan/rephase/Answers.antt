@@ -2,7 +2,7 @@ use Rattle.std.proofs.Common.{◌+◌, arith, set, subst, sym, Option, None}
 use Rattle.hba_fbs.proofs.FillLemmas.{FilledTo}
 use Rattle.hba_driver.specs.Drivers.{Entry}
 use Rattle.hba_driver.specs.Ticks.{is_in}
-use Rattle.hba_driver.proofs.ScanLemmas.{rephase_at, rephase_done, rephase_step}
+use Rattle.hba_driver.proofs.calls.ScanLemmas.{rephase_at, rephase_done, rephase_step}
 use Rattle.hba_driver.proofs.scan.rephase.Goals as goal
 
 pub loop-slot-preserved : goal.loop-slot-preserved

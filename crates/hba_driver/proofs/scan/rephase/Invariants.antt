@@ -1,7 +1,7 @@
 use Rattle.std.proofs.Common.{None}
 use Rattle.hba_fbs.proofs.FillLemmas.{FilledTo}
 use Rattle.hba_driver.specs.Ticks.{is_in}
-use Rattle.hba_driver.proofs.ScanLemmas.{rephase_at}
+use Rattle.hba_driver.proofs.calls.ScanLemmas.{rephase_at}
 use Rattle.hba_driver.proofs.scan.rephase.Given as goal
 
 -- the slots so far are looked at

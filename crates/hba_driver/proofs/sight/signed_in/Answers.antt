@@ -2,7 +2,7 @@ use Rattle.std.proofs.Common.{ℕ, List, ap, sym, ◌∙◌}
 use Rattle.fis_view.specs.Seen.{seen}
 use Rattle.hba_fbs.specs.Views.{view_of}
 use Rattle.hba_driver.specs.Sights.{is_ata, last_d2h}
-use Rattle.hba_driver.proofs.SightLemmas.{flag_at}
+use Rattle.hba_driver.proofs.calls.SightLemmas.{flag_at}
 use Rattle.hba_driver.proofs.sight.signed_in.Goals as goal
 
 pub returns-in-Switching : goal.returns-in-Switching

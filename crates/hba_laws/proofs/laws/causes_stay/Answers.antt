@@ -1,4 +1,4 @@
-use Rattle.hba_laws.proofs.CauseLemmas.{device_causes_stay, others_fault_none, port_causes_stay}
+use Rattle.hba_laws.proofs.faults.CauseLemmas.{device_causes_stay, others_fault_none, port_causes_stay}
 use Rattle.hba_laws.proofs.laws.causes_stay.Goals as goal
 
 pub returns-clause-kept : goal.returns-clause-kept

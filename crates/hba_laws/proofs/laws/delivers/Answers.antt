@@ -1,11 +1,11 @@
-use Rattle.hba_laws.proofs.ClientLemmas.{client_is_touched, data_is_within}
-use Rattle.hba_laws.proofs.DoneLemmas.{done_is_completed, opens_untold}
-use Rattle.hba_laws.proofs.EventLemmas.{histories_are_parts, views_are_told}
-use Rattle.hba_laws.proofs.KeepingLemmas.{kept_tables_stay}
-use Rattle.hba_laws.proofs.OnceLemmas.{completes_once}
-use Rattle.hba_laws.proofs.ReadLemmas.{done_reads_stand}
-use Rattle.hba_laws.proofs.SpareLemmas.{spared_tables_read}
-use Rattle.hba_laws.proofs.StandLemmas.{completes_in_place, stands_in_place}
+use Rattle.hba_laws.proofs.placed.ClientLemmas.{client_is_touched, data_is_within}
+use Rattle.hba_laws.proofs.completed.DoneLemmas.{done_is_completed, opens_untold}
+use Rattle.hba_laws.proofs.histories.EventLemmas.{histories_are_parts, views_are_told}
+use Rattle.hba_laws.proofs.placed.KeepingLemmas.{kept_tables_stay}
+use Rattle.hba_laws.proofs.completed.OnceLemmas.{completes_once}
+use Rattle.hba_laws.proofs.placed.ReadLemmas.{done_reads_stand}
+use Rattle.hba_laws.proofs.placed.SpareLemmas.{spared_tables_read}
+use Rattle.hba_laws.proofs.histories.StandLemmas.{completes_in_place, stands_in_place}
 use Rattle.hba_laws.proofs.laws.delivers.Goals as goal
 
 pub returns-clause-agrees : goal.returns-clause-agrees

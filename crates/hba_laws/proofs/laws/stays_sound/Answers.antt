@@ -1,4 +1,4 @@
-use Rattle.hba_laws.proofs.SoundLemmas.{opens_sound, registers_stay_sound, sizes_stay}
+use Rattle.hba_laws.proofs.soundness.SoundLemmas.{opens_sound, registers_stay_sound, sizes_stay}
 use Rattle.hba_laws.proofs.laws.stays_sound.Goals as goal
 
 pub returns-clause-opens : goal.returns-clause-opens

@@ -1,4 +1,4 @@
-use Rattle.hba_laws.proofs.TableLemmas.{bytes_stay, issued_stay_readable, tables_stay}
+use Rattle.hba_laws.proofs.prd_tables.TableLemmas.{bytes_stay, issued_stay_readable, tables_stay}
 use Rattle.hba_laws.proofs.laws.tables_stay.Goals as goal
 
 pub returns-clause-bytes : goal.returns-clause-bytes

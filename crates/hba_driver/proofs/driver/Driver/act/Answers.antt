@@ -1,6 +1,6 @@
 use Rattle.std.proofs.Common.{List, subst, sym, Option}
 use Rattle.hba_driver.specs.Drivers.{AreRequests, Entry}
-use Rattle.hba_driver.proofs.RequestLemmas.{requests_after}
+use Rattle.hba_driver.proofs.calls.RequestLemmas.{requests_after}
 use Rattle.hba_driver.proofs.driver.Driver.act.Goals as goal
 
 pub invariant_of-self : goal.invariant_of-self

@@ -5,8 +5,8 @@ use Rattle.host_memory.specs.Writing.{CanBeWritten}
 use Rattle.host_memory.specs.declared.table.Prd.{Prd}
 use Rattle.hba_driver.specs.Drivers.{Driver, entry_at}
 use Rattle.hba_driver.specs.Requests.{lowest_free}
-use Rattle.hba_driver.proofs.SubmitLemmas.{can_be_written, is_taken, no_conflict}
-use Rattle.hba_driver.proofs.RequestLemmas.{requests_taken}
+use Rattle.hba_driver.proofs.calls.SubmitLemmas.{can_be_written, is_taken, no_conflict}
+use Rattle.hba_driver.proofs.calls.RequestLemmas.{requests_taken}
 use Rattle.host_memory.specs.Reading.{share_with}
 use Rattle.hba_driver.proofs.driver.Driver.submit.Goals as goal
 

@@ -1,7 +1,7 @@
 use Rattle.std.proofs.Common.{◌≡◌, ◌-◌, List, Option, None, replicate, ap, refl, subst, sym}
 use Rattle.hba_driver.specs.Drivers.{AreRequests, Driver, Entry, opening_plan_in}
-use Rattle.hba_driver.proofs.ScanLemmas.{all_free}
-use Rattle.hba_driver.proofs.RequestLemmas.{no_requests}
+use Rattle.hba_driver.proofs.calls.ScanLemmas.{all_free}
+use Rattle.hba_driver.proofs.calls.RequestLemmas.{no_requests}
 use Rattle.hba_driver.proofs.driver.Driver.with_mode.Goals as goal
 
 pub returns : goal.returns

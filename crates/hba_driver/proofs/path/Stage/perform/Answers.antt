@@ -1,5 +1,5 @@
 use Rattle.std.proofs.Common.{sym, ◌∙◌}
-use Rattle.hba_driver.proofs.EffectLemmas.{acts_none}
+use Rattle.hba_driver.proofs.calls.EffectLemmas.{acts_none}
 use Rattle.hba_driver.proofs.path.Stage.perform.Goals as goal
 
 pub returns-in_default : goal.returns-in_default

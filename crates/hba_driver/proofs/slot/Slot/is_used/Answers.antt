@@ -3,7 +3,7 @@ use Rattle.hba_driver.specs.Spans.{holds_some}
 use Rattle.hba_driver.specs.Drivers.{entry_of}
 use Rattle.hba_driver.specs.Requests.{is_used_by}
 use Rattle.hba_driver.specs.declared.slot.Head.{Head}
-use Rattle.hba_driver.proofs.SpanLemmas.{none_among}
+use Rattle.hba_driver.proofs.calls.SpanLemmas.{none_among}
 use Rattle.hba_driver.proofs.slot.Slot.is_used.Goals as goal
 
 pub returns-else-may_hold : goal.returns-else-may_hold

@@ -1,6 +1,6 @@
 use Rattle.std.proofs.Common.{Result, Ok, Err, OnErr, subst}
 use Rattle.pm_world.specs.Counting.{AreSorted}
-use Rattle.pm_world.proofs.Rows.{there_already, no_row, sorted_insert, rows_insert}
+use Rattle.pm_world.proofs.counted.Rows.{there_already, no_row, sorted_insert, rows_insert}
 use Rattle.pm_world.proofs.counts.Counts.came.Goals as goal
 
 -- the connection has a row

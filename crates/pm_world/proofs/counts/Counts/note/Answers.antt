@@ -1,5 +1,5 @@
 use Rattle.std.proofs.lemmas.Result.{on_ok_weaker}
-use Rattle.pm_world.proofs.Comings.{tells_more}
+use Rattle.pm_world.proofs.counted.Comings.{tells_more}
 use Rattle.pm_world.proofs.counts.Counts.note.Goals as goal
 
 pub returns-clause-tell : goal.returns-clause-tell

@@ -1,6 +1,6 @@
 use Rattle.std.proofs.Common.{rules}
 use Rattle.std.proofs.lemmas.List.Sorted.{answers_always}
-use Rattle.pm_world.proofs.Rows.{searched}
+use Rattle.pm_world.proofs.counted.Rows.{searched}
 use Rattle.pm_world.proofs.counts.Counts.search.Goals as goal
 
 -- the closure gives a row's key, and the slice is the rows

@@ -1,6 +1,6 @@
 use Rattle.std.proofs.Common.{refl}
 use Rattle.pm_world.specs.Counting.{IsRowAt, sent_more}
-use Rattle.pm_world.proofs.Rows.{sent_keeps, sorted_set, rows_set, nothing_there}
+use Rattle.pm_world.proofs.counted.Rows.{sent_keeps, sorted_set, rows_set, nothing_there}
 use Rattle.pm_world.proofs.counts.Counts.sent.Goals as goal
 
 -- the row is written over

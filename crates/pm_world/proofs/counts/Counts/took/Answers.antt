@@ -1,6 +1,6 @@
 use Rattle.std.proofs.Common.{refl}
 use Rattle.pm_world.specs.Counting.{IsRowAt, taken_more}
-use Rattle.pm_world.proofs.Rows.{taken_keeps, sorted_set, rows_set, nothing_there}
+use Rattle.pm_world.proofs.counted.Rows.{taken_keeps, sorted_set, rows_set, nothing_there}
 use Rattle.pm_world.proofs.counts.Counts.took.Goals as goal
 
 -- the row is written over

@@ -1,4 +1,4 @@
-use Rattle.pm_world.proofs.Openings.{nothing_falls, nothing_stands}
+use Rattle.pm_world.proofs.steps.Openings.{nothing_falls, nothing_stands}
 use Rattle.pm_world.proofs.machine.Machine.new.Goals as goal
 
 pub returns-clause-nothing_stands : goal.returns-clause-nothing_stands

@@ -1,6 +1,6 @@
 use Rattle.std.proofs.Common.{Ok, rules}
 use Rattle.pm_world.specs.Rules.{PmDownRule}
-use Rattle.pm_world.proofs.Doing.{on_both}
+use Rattle.pm_world.proofs.steps.Doing.{on_both}
 use Rattle.pm_world.specs.contracts.machine.Machine.{the_view}
 use Rattle.pm_world.proofs.machine.Machine.pm_down.Goals as goal
 

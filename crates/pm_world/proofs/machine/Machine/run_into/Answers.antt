@@ -8,10 +8,10 @@ use Rattle.pm_world.specs.Rules.{Rule, Run, refusal}
 use Rattle.pm_world.specs.declared.step.Answer.{Answer}
 use Rattle.pm_world.specs.declared.step.Step.{Step}
 use Rattle.pm_world.specs.declared.step.StepError.TheVariants.{OutOfMemory}
-use Rattle.pm_world.proofs.Law.{run_more}
-use Rattle.pm_world.proofs.Laws.{obeys}
-use Rattle.pm_world.proofs.Lists.{none_first}
-use Rattle.pm_world.proofs.Refused.{rule_refuses, refuses_or_wants, refusal_named}
+use Rattle.pm_world.proofs.upward.Law.{run_more}
+use Rattle.pm_world.proofs.laws.Laws.{obeys}
+use Rattle.pm_world.proofs.steps.Lists.{none_first}
+use Rattle.pm_world.proofs.steps.Refused.{rule_refuses, refuses_or_wants, refusal_named}
 use Rattle.pm_world.proofs.machine.Machine.run_into.Goals as goal
 
 -- one more behind the old ones

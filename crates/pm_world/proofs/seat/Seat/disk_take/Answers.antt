@@ -6,7 +6,7 @@ use Rattle.pm_world.specs.Places.{Place}
 use Rattle.pm_world.specs.Rules.{TakeWants}
 use Rattle.pm_world.specs.contracts.seat.Seat.{the_view}
 use Rattle.pm_world.specs.declared.step.StepError.TheVariants.{OutOfMemory}
-use Rattle.pm_world.proofs.Doing.{wants_room}
+use Rattle.pm_world.proofs.steps.Doing.{wants_room}
 use Rattle.pm_world.proofs.seat.Seat.disk_take.Goals as goal
 
 -- what an error ensures

@@ -1,4 +1,4 @@
-use Rattle.pm_world.proofs.InOrderLemmas.{reads_follow_writes}
+use Rattle.pm_world.proofs.media.InOrderLemmas.{reads_follow_writes}
 use Rattle.pm_world.proofs.theorems.bytes.reads_follow_writes.Goals as goal
 
 pub returns : goal.returns

@@ -1,5 +1,5 @@
-use Rattle.pm_world.proofs.ReadSubmittedLemmas.{reads_bring_submitted}
-use Rattle.pm_world.proofs.SubmittedLemmas.{sent_as_submitted, written_as_submitted}
+use Rattle.pm_world.proofs.media.ReadSubmittedLemmas.{reads_bring_submitted}
+use Rattle.pm_world.proofs.media.SubmittedLemmas.{sent_as_submitted, written_as_submitted}
 use Rattle.pm_world.proofs.theorems.bytes.writes_are_as_submitted.Goals as goal
 
 pub returns-clause-sent : goal.returns-clause-sent

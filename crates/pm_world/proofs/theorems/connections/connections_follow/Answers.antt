@@ -1,4 +1,4 @@
-use Rattle.pm_world.proofs.FollowLemmas as follow
+use Rattle.pm_world.proofs.ports.FollowLemmas as follow
 use Rattle.pm_world.proofs.theorems.connections.connections_follow.Goals as goal
 
 pub returns : goal.returns

@@ -1,4 +1,4 @@
-use Rattle.pm_world.proofs.HonestRuns as runs
+use Rattle.pm_world.proofs.honest.HonestRuns as runs
 use Rattle.pm_world.proofs.theorems.ends.disks_are_honest.Goals as goal
 
 pub returns : goal.returns

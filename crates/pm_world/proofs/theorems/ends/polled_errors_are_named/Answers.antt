@@ -1,4 +1,4 @@
-use Rattle.pm_world.proofs.NamedLemmas.{polled_errors_are_named}
+use Rattle.pm_world.proofs.reported.NamedLemmas.{polled_errors_are_named}
 use Rattle.pm_world.proofs.theorems.ends.polled_errors_are_named.Goals as goal
 
 pub returns : goal.returns

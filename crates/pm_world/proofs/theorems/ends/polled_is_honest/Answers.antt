@@ -1,4 +1,4 @@
-use Rattle.pm_world.proofs.PolledLemmas.{honest_polls}
+use Rattle.pm_world.proofs.polls.PolledLemmas.{honest_polls}
 use Rattle.pm_world.proofs.theorems.ends.polled_is_honest.Goals as goal
 
 pub returns : goal.returns

@@ -1,4 +1,4 @@
-use Rattle.pm_world.proofs.ReadBackLemmas.{disks_have_writes, reads_bring_writes, writes_stay_there}
+use Rattle.pm_world.proofs.media.ReadBackLemmas.{disks_have_writes, reads_bring_writes, writes_stay_there}
 use Rattle.pm_world.proofs.theorems.ends.reads_bring_writes.Goals as goal
 
 pub returns-clause-reads : goal.returns-clause-reads

@@ -1,6 +1,6 @@
-use Rattle.pm_world.proofs.Orderly.{reached_orderly}
-use Rattle.pm_world.proofs.RunLemmas.{plugged_is_on_wire, unit_wires_go_on}
-use Rattle.pm_world.proofs.WireLemmas.{dropped_never_comes, wires_go_on}
+use Rattle.pm_world.proofs.steps.Orderly.{reached_orderly}
+use Rattle.pm_world.proofs.wire.RunLemmas.{plugged_is_on_wire, unit_wires_go_on}
+use Rattle.pm_world.proofs.wire.WireLemmas.{dropped_never_comes, wires_go_on}
 use Rattle.pm_world.proofs.theorems.ends.wires_go_on.Goals as goal
 
 pub returns-clause-orderly : goal.returns-clause-orderly

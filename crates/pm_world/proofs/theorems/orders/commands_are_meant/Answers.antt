@@ -1,4 +1,4 @@
-use Rattle.pm_world.proofs.MeantRuns.{answers_are_meant, commands_are_meant}
+use Rattle.pm_world.proofs.meant.MeantRuns.{answers_are_meant, commands_are_meant}
 use Rattle.pm_world.proofs.theorems.orders.commands_are_meant.Goals as goal
 
 pub returns-clause-commands : goal.returns-clause-commands

@@ -1,4 +1,4 @@
-use Rattle.pm_world.proofs.OrderTurns.{none_is_stale}
+use Rattle.pm_world.proofs.meant.OrderTurns.{none_is_stale}
 use Rattle.pm_world.proofs.theorems.orders.none_is_stale.Goals as goal
 
 pub returns : goal.returns

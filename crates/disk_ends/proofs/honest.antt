@@ -1,0 +1,2 @@
+-- What is done: `done_is_honest`.
+pub mod HonestLemmas

@@ -1,0 +1,2 @@
+-- A device that is set aside: `begins_anew_apart`.
+pub mod ApartBegins

@@ -1,0 +1,3 @@
+-- An absent device: `stays_unasked`.
+pub mod UnaskedLemmas
+pub mod FaultyLemmas

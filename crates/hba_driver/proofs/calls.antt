@@ -1,0 +1,8 @@
+-- Calls: `Driver::submit`, `Driver::tick`, `Driver::with_mode` and the functions that they call.
+pub mod EffectLemmas
+pub mod RequestLemmas
+pub mod ScanLemmas
+pub mod SpanLemmas
+pub mod SightLemmas
+pub mod SubmitLemmas
+pub mod RestLemmas

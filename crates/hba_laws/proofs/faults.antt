@@ -1,0 +1,2 @@
+-- Causes of faults: `causes_stay`.
+pub mod CauseLemmas

@@ -1,0 +1,3 @@
+-- Data of writes: `writes_are_gathered`.
+pub mod SentLemmas
+pub mod GatherLemmas

@@ -1,0 +1,86 @@
+-- For `isolated`. What belongs to a device, piece by piece.
+use Rattle.std.proofs.Common.{◌≡◌, ℕ, Bool, List, refl, ◌∙◌, ap, Option, Some, None}
+use Rattle.std.specs.Prelude.{if◌then◌else◌, is_some}
+use Rattle.std.proofs.Math.Path.{fun_ext}
+use Rattle.hba_commands.specs.declared.command.Command.{Command}
+use Rattle.slots.specs.Slots.{DeviceSlots, Issue, own_issue}
+use Rattle.hba_fbs.specs.declared.registers.Registers.{Registers}
+use Rattle.hba_fbs.specs.Views.{DeviceView, last_command, view_of}
+use Rattle.hba_laws.specs.Hosts.{Host}
+use Rattle.hba_laws.specs.Parts.{DevicePart, commands_of, own_row, part_of, with_view}
+use Rattle.hba_laws.proofs.isolation.SlotLemmas.{KeepsOwn}
+
+abbrev pub row_at : ℕ → Host → Option (List ℕ)
+row_at n host = own_row host.port.registers.switching host.port.registers.fb host.memory.structure n
+
+abbrev pub commands_at : ℕ → Host → ℕ → Option Command
+commands_at n host = commands_of (view_of n host.port).slots (last_command host.port.commands)
+
+abbrev device_part : DeviceView → (ℕ → Option Command) → Option (List ℕ) → DevicePart
+device_part view commands row = record { view = view; commands = commands; row = row }
+
+part_is : (v w : DeviceView) (c d : ℕ → Option Command) (r s : Option (List ℕ)) → v ≡ w → c ≡ d → r ≡ s → device_part v c r ≡ device_part w d s
+part_is v w c d r s p q e = λ i. device_part (p i) (q i) (e i)
+
+-- ---- commands of slots that stay filled
+
+kept_at : (o p : Option Issue) (x : Option Command) → (o ≡ None → p ≡ None)
+    → (if is_some p then x else None) ≡ (if is_some p then (if is_some o then x else None) else None)
+kept_at o None x h = refl
+kept_at (Some i) (Some j) x h = refl
+kept_at None (Some j) x h = let e : Some j ≡ None = h refl in cc
+
+commands_kept : (old new : DeviceSlots) (f : ℕ → Option Command) → KeepsOwn old new → commands_of new f ≡ commands_of new (commands_of old f)
+commands_kept old new f keeps = fun_ext (λ slot. kept_at (own_issue old slot) (own_issue new slot) (f slot) (keeps slot))
+
+commands_same : (v w : DeviceView) (c d : List (Option Command)) → v ≡ w → c ≡ d → commands_of v.slots (last_command c) ≡ commands_of w.slots (last_command d)
+commands_same v w c d p q = ap (λ (x : DeviceView). commands_of x.slots (last_command c)) p ∙ ap (λ (x : List (Option Command)). commands_of w.slots (last_command x)) q
+
+-- ---- parts
+
+-- nothing of a device changes
+pub stays_by : (n : ℕ) (old new : Host) → view_of n new.port ≡ view_of n old.port → commands_at n new ≡ commands_at n old → row_at n new ≡ row_at n old → part_of n new ≡ part_of n old
+stays_by n old new v c r = part_is (view_of n new.port) (view_of n old.port) (commands_at n new) (commands_at n old) (row_at n new) (row_at n old) v c r
+
+pub stays : (n : ℕ) (old new : Host) → view_of n new.port ≡ view_of n old.port → new.port.commands ≡ old.port.commands → row_at n new ≡ row_at n old → part_of n new ≡ part_of n old
+stays n old new v c r = stays_by n old new v (commands_same (view_of n new.port) (view_of n old.port) new.port.commands old.port.commands v c) r
+
+-- its view becomes this, and its row
+pub becomes : (n : ℕ) (old new : Host) (w : DeviceView) (s : Option (List ℕ)) → view_of n new.port ≡ w → KeepsOwn (view_of n old.port).slots w.slots → new.port.commands ≡ old.port.commands → row_at n new ≡ s
+    → part_of n new ≡ record (with_view (part_of n old) w) { row = s }
+becomes n old new w s v keeps c r =
+    part_is (view_of n new.port) w (commands_at n new) (commands_of w.slots (commands_at n old)) (row_at n new) s v
+    (commands_same (view_of n new.port) w new.port.commands old.port.commands v c ∙ commands_kept (view_of n old.port).slots w.slots (last_command old.port.commands) keeps) r
+
+-- its view becomes this, and its commands and its row stay what they are of it
+pub shown_as : (n : ℕ) (old new : Host) (w : DeviceView) → view_of n new.port ≡ w → KeepsOwn (view_of n old.port).slots w.slots → new.port.commands ≡ old.port.commands → row_at n new ≡ row_at n old
+    → part_of n new ≡ with_view (part_of n old) w
+shown_as n old new w v keeps c r = becomes n old new w (row_at n old) v keeps c r
+
+-- its view becomes this, and its commands are these of it
+pub issued_as : (n : ℕ) (old new : Host) (w : DeviceView) (f : ℕ → Option Command) → view_of n new.port ≡ w → commands_at n new ≡ commands_of w.slots f → row_at n new ≡ row_at n old
+    → part_of n new ≡ with_view (record (part_of n old) { commands = f }) w
+issued_as n old new w f v c r = part_is (view_of n new.port) w (commands_at n new) (commands_of w.slots f) (row_at n new) (row_at n old) v c r
+
+-- the place of the received area stays, and the mode
+abbrev pub SamePlace : Registers → Registers → Type 0
+SamePlace old new = (new.fb ≡ old.fb) × (new.switching ≡ old.switching)
+
+pub same_place : (old new : Registers) → new ≡ old → SamePlace old new
+same_place old new is = (ap (λ (r : Registers). r.fb) is, ap (λ (r : Registers). r.switching) is)
+
+-- the row stays where the structure area does too
+pub row_same : (n : ℕ) (old new : Host) → SamePlace old.port.registers new.port.registers → new.memory.structure ≡ old.memory.structure → row_at n new ≡ row_at n old
+row_same n old new place s =
+    ap (λ (x : List ℕ). own_row new.port.registers.switching new.port.registers.fb x n) s ∙ ap (λ (k : ℕ). own_row new.port.registers.switching k old.memory.structure n) place.0
+    ∙ ap (λ (b : Bool). own_row b old.port.registers.fb old.memory.structure n) place.1
+
+pub row_moved : (n : ℕ) (old new : Host) → SamePlace old.port.registers new.port.registers → row_at n new ≡ own_row old.port.registers.switching old.port.registers.fb new.memory.structure n
+row_moved n old new place =
+    ap (λ (k : ℕ). own_row new.port.registers.switching k new.memory.structure n) place.0 ∙ ap (λ (b : Bool). own_row b old.port.registers.fb new.memory.structure n) place.1
+
+-- its row becomes this alone
+pub stays_but : (n : ℕ) (old new : Host) (row : Option (List ℕ)) → view_of n new.port ≡ view_of n old.port → new.port.commands ≡ old.port.commands → row_at n new ≡ row → part_of n new ≡ record (part_of n old) { row = row }
+stays_but n old new row v c r =
+    part_is (view_of n new.port) (view_of n old.port) (commands_at n new) (commands_at n old) (row_at n new) row v
+    (commands_same (view_of n new.port) (view_of n old.port) new.port.commands old.port.commands v c) r

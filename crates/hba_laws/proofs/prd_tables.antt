@@ -1,0 +1,3 @@
+-- PRD tables: `tables_stay`.
+pub mod AreaLemmas
+pub mod TableLemmas

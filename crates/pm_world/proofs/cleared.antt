@@ -1,0 +1,2 @@
+-- New devices: field `new_devices_wait`.
+pub mod Cleared

@@ -1,0 +1,3 @@
+-- Counts: `Counts::note` and what it calls.
+pub mod Comings
+pub mod Rows

@@ -1,0 +1,50 @@
+-- For `disks_are_honest`. In a run from a new world the port goes on, and no fault stands of a device for which none
+-- was heard. What goes fine with a device goes well with it and with the port.
+use Rattle.std.proofs.Common.{◌≡◌, ℕ, ◌<◌, true, false, List, [], ◌∷◌, ◌++◌, length, refl, sym, ◌∙◌}
+use Rattle.std.proofs.Common.{Ok}
+use Rattle.std.proofs.lemmas.Bool.{eq-eqb, true≢false}
+use Rattle.hba_driver.specs.declared.mode.Mode.TheVariants.{Switching}
+use Rattle.hba_driver.specs.Events.{IsSoundHost}
+use Rattle.hba_driver.proofs.events.SoundLemmas.{hosts_stay_sound}
+use Rattle.hba_driver.proofs.steady.SteadyTurns.{calm_or_flush}
+use Rattle.disk_model.specs.declared.unit.Unit.{Unit}
+use Rattle.pm_world.proofs.serving.FirstLemmas.{OpensWell, is_taken_of}
+use Rattle.pm_world.specs.Places.{Places, is_config, new_world}
+use Rattle.pm_world.specs.Rules.{Rule, Run}
+use Rattle.pm_world.specs.Runs.{over}
+use Rattle.pm_world.specs.Turns.{IsOfItsPort, turn_of}
+use Rattle.pm_world.specs.declared.step.Config.{Config}
+use Rattle.pm_world.specs.declared.step.Step.{Step}
+use Rattle.pm_world.specs.declared.step.Answer.{Answer}
+use Rattle.pm_world.specs.declared.step.Answer.TheVariants as answer
+use Rattle.pm_world.proofs.turns.Delivery.{sized}
+use Rattle.pm_world.proofs.turns.HostFold.{run_does}
+use Rattle.pm_world.proofs.upward.Law.{run_append}
+use Rattle.pm_world.specs.GoingOn.{PortGoesOn}
+use Rattle.driver_phases.proofs.together.Unfaulted.{IsUnfaulted, never_cleared}
+use Rattle.pm_world.proofs.honest.UnfaultedLemmas.{IsHeardUnfaulted}
+
+-- ## Steps
+
+pub opens_step : (n : ℕ) (old : Places) → PortGoesOn old → IsSoundHost old.host → IsUnfaulted n old.host.port → (a : Answer) → OpensWell n old a
+opens_step n old p sound none answer.Ticked = calm_or_flush n old.host p.goes (never_cleared n old.host sound none)
+opens_step n old p sound none a = tt
+
+-- nothing of the device is taken, and what is taken of it is heard with no fault
+pub untaken_none : (n : ℕ) (a : Answer) → IsOfItsPort a → is_taken_of n a ≡ false → IsHeardUnfaulted n a
+untaken_none n (answer.Took port conn number bytes report) its untaken =
+    λ at. absurd (true≢false (sym (eq-eqb port n (sym its.0 ∙ at)) ∙ untaken))
+untaken_none n a its untaken = tt
+
+-- ## Runs
+
+module _ (config : Config) (units : List Unit) (fits : is_config config (length units) ≡ true) (n : ℕ) (below : n < 15) where
+  pub further : (before : List Step) (told : List Answer) (old : Places) → Run (new_world config units) before told old → (s : Step) (a : Answer) (new : Places)
+      → Rule old s (Ok a) new → Run (new_world config units) (before ++ s ∷ []) (told ++ a ∷ []) new
+  further before told old made s a new rule =
+      run_append (new_world config units) old new before told (s ∷ []) (a ∷ []) made (new, rule, refl)
+
+  pub sound_at : (before : List Step) (told : List Answer) (old : Places) → Run (new_world config units) before told old → IsSoundHost old.host
+  sound_at before told old made =
+      hosts_stay_sound.last (new_world config units).host (over turn_of (new_world config units) before told old made) old.host
+      (run_does (new_world config units) before told old made) (hosts_stay_sound.opens Switching 0 config.memory (sized config (length units) fits))

@@ -1,0 +1,36 @@
+-- For `disks_are_honest`. When a host flushes a device, the port of the device is open to the driver, and not to the
+-- device.
+use Rattle.std.proofs.Common.{◌≡◌, ℕ, ◌<◌, ◌≤◌, Bool, true, List, length, subst, Ok}
+use Rattle.disk_model.specs.declared.unit.Unit.{Unit}
+use Rattle.hba_driver.specs.HostTurns.{Does, Host, Ticked, sight_in}
+use Rattle.hba_driver.specs.Steady.{IsFlushTick}
+use Rattle.hba_driver.specs.Ticks.{done_ended}
+use Rattle.hba_driver.proofs.events.DrivenLemmas.{not_below}
+use Rattle.hba_driver.proofs.ticks.DueLemmas.{Runs, runs_turn}
+use Rattle.driver_phases.proofs.together.Unfaulted.{opened_stays}
+use Rattle.pm_world.specs.Places.{Places, is_config, new_world}
+use Rattle.pm_world.specs.Rules.{Rule, Run}
+use Rattle.pm_world.specs.declared.step.Answer.{Answer}
+use Rattle.pm_world.specs.declared.step.Answer.TheVariants as answer
+use Rattle.pm_world.specs.declared.step.Config.{Config}
+use Rattle.pm_world.specs.declared.step.Step.{Step}
+use Rattle.pm_world.specs.declared.step.Step.TheVariants as step
+use Rattle.pm_world.proofs.meant.ChangeLemmas.{tick_step}
+use Rattle.pm_world.proofs.honest.FlushLemmas.{rests_at_flush}
+use Rattle.pm_world.proofs.honest.EndsSteps.{IsUnflushed}
+use Rattle.pm_world.proofs.honest.LiveLemmas.{IsLive, never_flushed}
+
+-- the port is open when the driver flushes a device
+pub opened_at_flush : (n : ℕ) (old : Host) (acted : Bool) (new : Host) → Does old (Ticked acted) new → IsFlushTick n old → 7 ≤ new.driver.plan.opened
+opened_at_flush n old acted new does flush =
+    let runs = subst (Runs old.driver.plan) flush (runs_turn (sight_in old) old.driver.plan (done_ended (sight_in old).issued old.driver.entries)) in
+    opened_stays old (Ticked acted) new does (not_below old.driver.plan.opened 7 runs.0)
+
+-- a unit to which the port is open is not flushed
+pub unflushed : (config : Config) (units : List Unit) → is_config config (length units) ≡ true → (n c : ℕ) → n < 15 → (before : List Step)
+    (told : List Answer) (old : Places) → Run (new_world config units) before told old → IsLive n c old → (s : Step) (a : Answer) (new : Places)
+    → Rule old s (Ok a) new → IsUnflushed n old a
+unflushed config units fits n c below before told old made live s answer.Ticked new rule =
+    let its : Rule old step.Tick (Ok answer.Ticked) new = subst (λ (t : Step). Rule old t (Ok answer.Ticked) new) (tick_step old s new rule) rule in
+    λ flush. never_flushed n c old live (rests_at_flush config units fits n below before told old made new its flush)
+unflushed config units fits n c below before told old made live s a new rule = tt

@@ -1,0 +1,468 @@
+-- For `disks_are_honest`. Honest disks on each connection, over whole runs of a world.
+use Rattle.std.proofs.Common.{◌≡◌, ◌≢◌, ◌==◌, ℕ, ◌<◌, Bool, true, false, List, [], ◌∷◌, ◌++◌, append_assoc, length, refl, sym, ap, subst, ◌∙◌, ◌+◌, inl, inr, Some}
+use Rattle.std.proofs.Common.{Ok, arith}
+use Rattle.std.specs.Prelude.{MatchBool, if◌then◌else◌, slice_get}
+use Rattle.std.proofs.lemmas.Bool.{eq-eqb, eqb-true, true≢false}
+use Rattle.std.proofs.lemmas.Option.{slice_get_within}
+use Rattle.fis_view.specs.Frames.{marked}
+use Rattle.host_memory.specs.Memory.{is_memory_size}
+use Rattle.hba_fbs.specs.declared.report.TakeReport.{TakeReport}
+use Rattle.hba_fbs.specs.Taking.{port_of}
+use Rattle.multiplier.specs.Arbiter.{control_port}
+use Rattle.disk_model.specs.declared.plan.DiskPlan.{DiskPlan}
+use Rattle.disk_model.specs.declared.unit.Unit.{Unit}
+use Rattle.disk_model.specs.declared.unit.Unit.TheVariants.{Disk}
+use Rattle.disk_model.specs.Histories.{Happening, Plugged, Sent}
+use Rattle.disk_model.specs.Runs.{IsDiskRun}
+use Rattle.disk_model.specs.Units.{plan_of}
+use Rattle.hba_driver.specs.declared.mode.Mode.TheVariants.{Switching}
+use Rattle.hba_driver.specs.HostTurns.{HostTurn}
+use Rattle.disk_ends.proofs.phases.FollowedLemmas.{run_to}
+use Rattle.pm_world.specs.Disks.{Before, DiskRun, EndedSince, FlushedSince, HonestDisks, IsLeftAlone, IsNewDisk, Since, WasSubmitted, disk_history, host_turns}
+use Rattle.pm_world.specs.Places.{IsOrderly, Places, is_config, new_world}
+use Rattle.pm_world.specs.Rules.{Rule, Run}
+use Rattle.pm_world.specs.Runs.{IsStepOf, over}
+use Rattle.pm_world.specs.Touched.{AreTouched}
+use Rattle.pm_world.specs.Turns.{turn_of}
+use Rattle.pm_world.specs.Units.{MaySendAll, happens}
+use Rattle.pm_world.specs.Wire.{Comes, Gives, GoesOnWire, IsOnWire, Sends, Still, Takes, WireMoves}
+use Rattle.pm_world.specs.Wired.{IsAtHost}
+use Rattle.pm_world.specs.declared.step.Answer.{Answer}
+use Rattle.pm_world.specs.declared.step.Answer.TheVariants as answer
+use Rattle.pm_world.specs.declared.step.Config.{Config}
+use Rattle.pm_world.specs.declared.step.Step.{Step}
+use Rattle.pm_world.specs.declared.step.Step.TheVariants as step
+use Rattle.pm_world.proofs.honest.AnewLemmas.{OrderedNow, now_at, order_run, ordered_after, ordered_on}
+use Rattle.pm_world.proofs.turns.Delivery.{sized}
+use Rattle.pm_world.specs.ReadBack.{IsPart}
+use Rattle.pm_world.proofs.honest.DisksLemmas.{ends_honestly, flush_of_device, flush_taken, from_opening, lived_run, may_run, of_device}
+use Rattle.pm_world.proofs.ports.EachLemmas.{Each}
+use Rattle.pm_world.proofs.honest.EarlyLemmas.{ComesShut, comes_shut}
+use Rattle.pm_world.proofs.honest.EndsRuns.{IsServing, Serving, Stage, Waiting, its_port, left_parts, run_opens, serving_rises, serving_run}
+use Rattle.pm_world.proofs.honest.EndsSteps.{HasEnds}
+use Rattle.pm_world.proofs.honest.TakenLemmas.{took_since}
+use Rattle.pm_world.proofs.honest.FineLemmas.{further}
+use Rattle.pm_world.proofs.upward.Law.{run_append}
+use Rattle.pm_world.proofs.upward.Moves.{rule_moves}
+use Rattle.pm_world.proofs.wire.RunLemmas.{if_some}
+use Rattle.pm_world.proofs.honest.ShutLemmas.{IsNoneOf}
+use Rattle.pm_world.proofs.units.Units.{units_lived_on}
+use Rattle.pm_world.proofs.honest.WaitingLemmas.{IsWaiting, came_waiting}
+use Rattle.pm_world.proofs.wire.WireLemmas.{wires_go_on}
+use Rattle.std.proofs.lemmas.List.{append-nil}
+use Rattle.slots.specs.Slots.{has_bit}
+use Rattle.disk_model.specs.Ledger.{ledger}
+use Rattle.hba_driver.specs.Drivers.{Entry, entry_at, rephased}
+use Rattle.hba_driver.specs.Orders.{is_queued}
+use Rattle.hba_driver.specs.Submits.{new_entry}
+use Rattle.hba_driver.specs.declared.slot.Phase.TheVariants.{Waits}
+use Rattle.hba_driver.specs.declared.request.Request.{Request}
+use Rattle.hba_driver.specs.declared.request.Ticket.{Ticket}
+use Rattle.driver_phases.specs.Flushes.{AreFloorsOf, Floor, IsFloor, bare_floor, bare_floors, floor_for, floor_of, flushes_taken}
+use Rattle.driver_phases.proofs.flushes.FlushTurns.{floor_stays}
+use Rattle.hba_driver.proofs.accepted.AcceptLemmas as accept
+use Rattle.pm_world.proofs.reported.ReportedLemmas.{StoodIn, SubmittedIn, later_of, renamed, step_stood, submitted_over}
+use Rattle.pm_world.proofs.control_port.LineLemmas.{IsNow}
+
+-- ## The next FIS
+
+-- these bytes come next on connection c of port n, which is the connection of the answer
+record IsNextOf (n c port conn : ℕ) (bytes : List ℕ) (up : List (List ℕ)) : Type 0 where
+  plain : List ℕ
+  later : List (List ℕ)
+  port_is : port ≡ n
+  marks : bytes ≡ marked plain n
+  is : up ≡ plain ∷ later
+
+taken_next : (n c : ℕ) → n < 15 → (old new : Places) (s : Step) (port conn number : ℕ) (bytes : List ℕ) (report : TakeReport) (down up : List (List ℕ))
+    → IsOrderly old → Rule old s (Ok (answer.Took port conn number bytes report)) new → (port == n) ≡ true → IsOnWire n c old down up
+    → IsNextOf n c port conn bytes up
+taken_next n c below old new s port conn number bytes report down up orderly rule here wire = by_moves w.heard w.is w.moves
+  where
+    device : n ≢ control_port
+    device e = absurd (omega (arith, e, below))
+
+    w : GoesOnWire n c old (answer.Took port conn number bytes report) new [] down up
+    w = wires_go_on n c old new s (answer.Took port conn number bytes report) down up device orderly rule tt wire
+
+    some_heard : (b : Bool) → b ≡ true → MatchBool b ((plain : List ℕ) × ([] ≡ Sent plain ∷ []) × (bytes ≡ marked plain n)) (◌≡◌ {A = List Happening} [] []) → ⊥
+    some_heard true e is = let wrong : [] ≡ Sent is.0 ∷ [] = is.1 in cc
+    some_heard false e is = true≢false (sym e)
+
+    by_moves : (heard : List Happening) → IsAtHost n old (answer.Took port conn number bytes report) new heard
+        → WireMoves n c (answer.Took port conn number bytes report) new [] heard down up → IsNextOf n c port conn bytes up
+    by_moves heard is (Still none quiet on) =
+        absurd (some_heard (port == n) here (subst (IsAtHost n old (answer.Took port conn number bytes report) new) quiet is))
+    by_moves heard is (Gives b told none gave on) = absurd (cc told)
+    by_moves heard is (Comes front back b told took quiet split near far) = absurd (cc told)
+    by_moves heard is (Sends k b told sent quiet on) = absurd (cc told)
+    by_moves heard is (Takes k plain later r told none took first on) =
+        record { plain = plain; later = later; port_is = cc told; marks = cc told; is = first }
+
+-- ## The law
+
+module _ (config : Config) (units : List Unit) (n sectors : ℕ) (plan : DiskPlan) (fits : is_config config (length units) ≡ true) (below : n < 15)
+    (disk : IsNewDisk units n plan sectors) (now : Places) (d : DiskRun config units n now) where
+  -- ## What is told of the two parts of the run
+
+  abbrev before : List Happening
+  before = over (happens n) (new_world config units) d.first d.told d.out d.made
+
+  abbrev since : List Happening
+  since = over (happens n) d.out (step.Came n ∷ d.steps) (answer.Came n d.conn ∷ d.answers) now d.run
+
+  abbrev came : List Happening
+  came = happens n d.out (step.Came n) (answer.Came n d.conn) d.run.0
+
+  abbrev first_turns : List HostTurn
+  first_turns = over turn_of (new_world config units) d.first d.told d.out d.made
+
+  abbrev came_turns : List HostTurn
+  came_turns = turn_of d.out (step.Came n) (answer.Came n d.conn) d.run.0
+
+  right : is_memory_size config.memory ≡ true
+  right = sized config (length units) fits
+
+  -- ## The disk's run
+
+  may_send : MaySendAll (plan_of (Disk disk.disk)) [] (before ++ since)
+  may_send =
+      lived_run (Disk disk.disk) (before ++ since) (slice_get now.devices n) disk.fresh
+      (units_lived_on d.out (step.Came n ∷ d.steps) (answer.Came n d.conn ∷ d.answers) now d.run Switching config units fits d.first d.told d.made n (Disk disk.disk)
+      disk.there)
+
+  own_run : IsDiskRun disk.disk.plan disk.disk.sectors (before ++ since)
+  own_run = from_opening disk.disk.plan disk.disk.sectors (before ++ since) (may_run disk.disk.plan disk.disk.sectors [] (before ++ since) may_send)
+
+  whole_run : IsDiskRun plan sectors (before ++ since)
+  whole_run =
+      subst (λ (k : ℕ). IsDiskRun plan k (before ++ since)) disk.sectors_are
+      (subst (λ (p : DiskPlan). IsDiskRun p disk.disk.sectors (before ++ since)) disk.plan_is own_run)
+
+  abbrev all_steps : List Step
+  all_steps = d.first ++ step.Came n ∷ d.steps
+
+  abbrev all_answers : List Answer
+  all_answers = d.told ++ answer.Came n d.conn ∷ d.answers
+
+  all_run : Run (new_world config units) all_steps all_answers now
+  all_run = run_append (new_world config units) d.out now d.first d.told (step.Came n ∷ d.steps) (answer.Came n d.conn ∷ d.answers) d.made d.run
+
+  -- ## From the plugging on
+
+  came_told : happens n d.out (step.Came n) (answer.Came n d.conn) d.run.0 ≡ Plugged ∷ []
+  came_told = if_some (n == n) (Plugged ∷ []) (eq-eqb n n refl)
+
+  comes : ComesShut n d.conn d.run.0
+  comes = comes_shut n d.conn below config units fits d.first d.told d.out d.made d.run.0 d.run.1
+
+  abbrev turns : List HostTurn
+  turns = (first_turns ++ came_turns) ++ over turn_of d.run.0 d.steps d.answers now d.run.2
+
+  turns_are : turns ≡ host_turns config units n now d
+  turns_are = append_assoc first_turns came_turns (over turn_of d.run.0 d.steps d.answers now d.run.2)
+
+  -- the run of the disk up to its plugging
+  first_run : IsDiskRun plan sectors (before ++ Plugged ∷ [])
+  first_run =
+      run_to plan sectors (before ++ since) (before ++ Plugged ∷ []) (over (happens n) d.run.0 d.steps d.answers now d.run.2)
+      (ap (λ (xs : List Happening). before ++ (xs ++ over (happens n) d.run.0 d.steps d.answers now d.run.2)) came_told
+      ∙ sym (append_assoc before (Plugged ∷ []) (over (happens n) d.run.0 d.steps d.answers now d.run.2))) whole_run
+
+  within : n < length units
+  within = slice_get_within units n (Disk disk.disk) disk.there
+
+  -- the world after the plugging
+  orders : OrderedNow config units fits n below plan sectors disk.size before first_run (first_turns ++ came_turns) d.run.0
+  orders =
+      ordered_on config units fits n below plan sectors disk.size before first_run d.first d.told d.out d.made first_turns
+      (ordered_after config units fits n below plan sectors disk.size before first_run d.first d.told d.out d.made) (step.Came n) (answer.Came n d.conn)
+      d.run.0 d.run.1
+
+  made_came : Run (new_world config units) (d.first ++ step.Came n ∷ []) (d.told ++ answer.Came n d.conn ∷ []) d.run.0
+  made_came = further config units fits n below d.first d.told d.out d.made (step.Came n) (answer.Came n d.conn) d.run.0 d.run.1
+
+  waiting : IsWaiting n d.conn d.run.0 came
+  waiting = subst (IsWaiting n d.conn d.run.0) (sym came_told) (came_waiting n d.conn d.run.0 comes.off)
+
+  abbrev At : (floors : ℕ → Floor) → Places → List Happening → List HostTurn → Type 0
+  At floors w happened ts = Stage config units fits n below plan sectors disk.size before first_run within right d.conn floors w happened ts
+
+  -- from the plugging on, over some of its steps
+  opens_over : (floors : ℕ → Floor) (steps : List Step) (answers : List Answer) (new : Places) (run : Run d.run.0 steps answers new) → IsLeftAlone n steps
+      → IsDiskRun plan sectors (before ++ (came ++ over (happens n) d.run.0 steps answers new run)) → AreFloorsOf floors (before ++ came)
+      → At floors new (came ++ over (happens n) d.run.0 steps answers new run)
+      ((first_turns ++ came_turns) ++ over turn_of d.run.0 steps answers new run)
+  opens_over floors steps answers new run alone whole are =
+      run_opens config units fits n below plan sectors disk.size before first_run within right d.conn floors (d.first ++ step.Came n ∷ []) (d.told ++ answer.Came n d.conn ∷ []) d.run.0 made_came came (first_turns ++ came_turns) orders
+      waiting comes.waits steps answers new run alone whole are
+
+  -- ## Where a request was submitted
+
+  -- it was submitted, after this history, with floors at which the disk and the host go on
+  record HasSubmit (slot : ℕ) (e : Entry) : Type 0 where
+    submit_before : List Happening
+    submitted : WasSubmitted config units n now d e submit_before
+    part : IsPart submit_before (before ++ since)
+    stage : At (floor_for slot (floor_of submit_before)) now since turns
+
+  part_floor : (slot : ℕ) (part whole : List Happening) → IsPart part whole → AreFloorsOf (floor_for slot (floor_of part)) whole
+  part_floor slot part whole p s = by_slot (slot == s)
+    where
+      by_slot : (b : Bool) → IsFloor (if b then floor_of part else bare_floor) whole
+      by_slot true = subst (IsFloor (floor_of part)) (sym p.is) (floor_stays (floor_of part) part p.later (record { ended = omega arith; taken = omega arith }))
+      by_slot false = record { ended = omega arith; taken = omega arith }
+
+  none_floor : (happened : List Happening) → AreFloorsOf bare_floors happened
+  none_floor happened s = record { ended = omega arith; taken = omega arith }
+
+  module _ (slot : ℕ) (low : slot < 30) (e : Entry) (dev_is : e.head.dev ≡ n) (stands : entry_at now.host.driver.entries slot ≡ Some e) where
+    its_dev : (dev : ℕ) (request : Request) (ticket : Ticket) (x : Entry) → x.head.dev ≡ n → new_entry ticket.0 dev request ≡ rephased Waits x → dev ≡ n
+    its_dev dev request ticket x at is = ap (λ (y : Entry). y.head.dev) is ∙ at
+
+    -- before the disk was plugged in
+    by_first : StoodIn d.run.0.host slot e → HasSubmit slot e
+    by_first stood = elim (step_stood d.out (step.Came n) (answer.Came n d.conn) d.run.0 d.run.1 slot stood.entry stood.here) [
+      | inl earlier ↦ elim (submitted_over (new_world config units) d.first d.told d.out d.made slot earlier.entry earlier.here) [
+        | inl none ↦ absurd (accept.none_here slot none.entry none.here)
+        | inr i ↦ of_first i (i.is ∙ earlier.same ∙ stood.same)
+      ]
+      | inr fresh ↦ absurd fresh
+    ]
+      where
+        of_first : {x : Entry} (i : SubmittedIn (new_world config units) d.out d.first d.told d.made slot x)
+            → new_entry i.ticket.0 i.dev i.request ≡ rephased Waits e → HasSubmit slot e
+        of_first i is =
+            let dev : i.dev ≡ n = its_dev i.dev i.request i.ticket e dev_is is in
+            let its : IsStepOf (step.Submit n i.request) (answer.Submitted i.ticket) (new_world config units) d.out d.first d.told d.made =
+            renamed (step.Submit i.dev i.request) (step.Submit n i.request) (answer.Submitted i.ticket) (answer.Submitted i.ticket) (new_world config units)
+            d.out d.first d.told d.made (ap (λ (m : ℕ). step.Submit m i.request) dev) refl i.its in
+            let done : List Happening = over (happens n) (new_world config units) i.its.before i.its.told i.its.at i.its.came in
+            let more : List Happening = happens n i.its.at (step.Submit i.dev i.request) (answer.Submitted i.ticket) i.its.next
+            ++ over (happens n) i.its.next i.its.after i.its.later d.out i.its.went in
+            let first_part : IsPart done (before ++ came) = record {
+              later = more ++ came;
+              is = ap (λ (xs : List Happening). xs ++ came) (i.happened n) ∙ append_assoc done more came;
+            } in
+            record {
+              submit_before = done;
+              submitted = Before i.ticket i.request its (subst (λ (m : ℕ). new_entry i.ticket.0 m i.request ≡ rephased Waits e) dev is);
+              part = record {
+                later = more ++ since;
+                is = ap (λ (xs : List Happening). xs ++ since) (i.happened n) ∙ append_assoc done more since;
+              };
+              stage =
+                  opens_over (floor_for slot (floor_of done)) d.steps d.answers now d.run.2 d.left whole_run
+                  (part_floor slot done (before ++ came) first_part);
+            }
+
+    -- or since
+    by_later : SubmittedIn d.run.0 now d.steps d.answers d.run.2 slot (rephased Waits e) → HasSubmit slot e
+    by_later i = record {
+      submit_before = done;
+      submitted = Since i.ticket i.request its (subst (λ (m : ℕ). new_entry i.ticket.0 m i.request ≡ rephased Waits e) dev i.is);
+      part = whole_part;
+      stage =
+          subst (λ (ts : List HostTurn). At floors now since ts) turns_is
+          (subst (λ (xs : List Happening). At floors now xs (at_turns ++ more_turns)) since_is (goes_on first_stage));
+    }
+      where
+        dev : i.dev ≡ n
+        dev = its_dev i.dev i.request i.ticket e dev_is i.is
+
+        in_run : IsStepOf (step.Submit n i.request) (answer.Submitted i.ticket) d.run.0 now d.steps d.answers d.run.2
+        in_run =
+            renamed (step.Submit i.dev i.request) (step.Submit n i.request) (answer.Submitted i.ticket) (answer.Submitted i.ticket) d.run.0 now d.steps
+            d.answers d.run.2 (ap (λ (m : ℕ). step.Submit m i.request) dev) refl i.its
+
+        its : IsStepOf (step.Submit n i.request) (answer.Submitted i.ticket) d.out now (step.Came n ∷ d.steps) (answer.Came n d.conn ∷ d.answers) d.run
+        its =
+            later_of (step.Submit n i.request) (answer.Submitted i.ticket) (step.Came n) (answer.Came n d.conn) d.steps d.answers d.out now d.run
+            (renamed (step.Submit i.dev i.request) (step.Submit n i.request) (answer.Submitted i.ticket) (answer.Submitted i.ticket) d.run.0 now d.steps
+            d.answers d.run.2 (ap (λ (m : ℕ). step.Submit m i.request) dev) refl i.its)
+
+        so_far : List Happening
+        so_far = over (happens n) d.run.0 i.its.before i.its.told i.its.at i.its.came
+
+        more : List Happening
+        more = happens n i.its.at (step.Submit i.dev i.request) (answer.Submitted i.ticket) i.its.next
+            ++ over (happens n) i.its.next i.its.after i.its.later now i.its.went
+
+        at_turns : List HostTurn
+        at_turns = (first_turns ++ came_turns) ++ over turn_of d.run.0 i.its.before i.its.told i.its.at i.its.came
+
+        more_turns : List HostTurn
+        more_turns = turn_of i.its.at (step.Submit i.dev i.request) (answer.Submitted i.ticket) i.its.next
+            ++ over turn_of i.its.next i.its.after i.its.later now i.its.went
+
+        done : List Happening
+        done = before ++ (came ++ so_far)
+
+        floors : ℕ → Floor
+        floors = floor_for slot (floor_of done)
+
+        since_is : (came ++ so_far) ++ more ≡ since
+        since_is = append_assoc came so_far more ∙ ap (λ (xs : List Happening). came ++ xs) (sym (i.happened n))
+
+        turns_is : at_turns ++ more_turns ≡ turns
+        turns_is =
+            append_assoc (first_turns ++ came_turns) (over turn_of d.run.0 i.its.before i.its.told i.its.at i.its.came) more_turns
+            ∙ ap (λ (ts : List HostTurn). (first_turns ++ came_turns) ++ ts) (sym i.turns)
+
+        whole_part : IsPart done (before ++ since)
+        whole_part = record {
+          later = more;
+          is = ap (λ (xs : List Happening). before ++ xs) (sym since_is) ∙ sym (append_assoc before (came ++ so_far) more);
+        }
+
+        alone : IsLeftAlone n i.its.before × IsLeftAlone n (step.Submit i.dev i.request ∷ i.its.after)
+        alone = left_parts n i.its.before (step.Submit i.dev i.request ∷ i.its.after) (subst (IsLeftAlone n) i.its.steps_are d.left)
+
+        rest_run : IsDiskRun plan sectors (before ++ ((came ++ so_far) ++ more))
+        rest_run = subst (λ (xs : List Happening). IsDiskRun plan sectors (before ++ xs)) (sym since_is) whole_run
+
+        first_stage : At bare_floors i.its.at (came ++ so_far) at_turns
+        first_stage =
+            opens_over bare_floors i.its.before i.its.told i.its.at i.its.came alone.0
+            (run_to plan sectors (before ++ since) (before ++ (came ++ so_far)) more whole_part.is whole_run) (none_floor (before ++ came))
+
+        made : Run (new_world config units) ((d.first ++ step.Came n ∷ []) ++ i.its.before) ((d.told ++ answer.Came n d.conn ∷ []) ++ i.its.told) i.its.at
+        made = run_append (new_world config units) d.run.0 i.its.at (d.first ++ step.Came n ∷ []) (d.told ++ answer.Came n d.conn ∷ []) i.its.before i.its.told
+            made_came i.its.came
+
+        own_floor : AreFloorsOf floors (before ++ (came ++ so_far))
+        own_floor = part_floor slot done done (record { later = []; is = sym (append-nil done) })
+
+        goes_on : At bare_floors i.its.at (came ++ so_far) at_turns → At floors now ((came ++ so_far) ++ more) (at_turns ++ more_turns)
+        goes_on (Serving h) =
+            Serving (serving_run config units fits n below plan sectors disk.size before first_run within right d.conn floors ((d.first ++ step.Came n ∷ []) ++ i.its.before) ((d.told ++ answer.Came n d.conn ∷ []) ++ i.its.told) i.its.at made
+            (came ++ so_far) at_turns
+            (serving_rises config units fits n below plan sectors disk.size before first_run within right d.conn bare_floors floors ((d.first ++ step.Came n ∷ []) ++ i.its.before) ((d.told ++ answer.Came n d.conn ∷ []) ++ i.its.told) i.its.at made
+            (came ++ so_far) at_turns (run_to plan sectors (before ++ since) done more whole_part.is whole_run) slot low i.free (λ m other. ap (λ (b : Bool). if b then floor_of done else bare_floor) other) (own_floor slot) h)
+            (step.Submit i.dev i.request ∷ i.its.after) (answer.Submitted i.ticket ∷ i.its.later) now (i.its.next, i.its.rule, i.its.went) alone.1 rest_run)
+        goes_on (Waiting still waits) =
+            run_opens config units fits n below plan sectors disk.size before first_run within right d.conn floors ((d.first ++ step.Came n ∷ []) ++ i.its.before) ((d.told ++ answer.Came n d.conn ∷ []) ++ i.its.told) i.its.at made
+            (came ++ so_far) at_turns
+            (order_run config units fits n below plan sectors disk.size before first_run (d.first ++ step.Came n ∷ []) (d.told ++ answer.Came n d.conn ∷ [])
+            d.run.0 made_came (first_turns ++ came_turns) orders i.its.before i.its.told i.its.at i.its.came)
+            still waits (step.Submit i.dev i.request ∷ i.its.after) (answer.Submitted i.ticket ∷ i.its.later) now (i.its.next, i.its.rule, i.its.went) alone.1
+            rest_run own_floor
+
+    has_submit : HasSubmit slot e
+    has_submit = elim (submitted_over d.run.0 d.steps d.answers now d.run.2 slot e stands) [ inl stood ↦ by_first stood | inr i ↦ by_later i ]
+
+  plain_stage : At bare_floors now since turns
+  plain_stage = opens_over bare_floors d.steps d.answers now d.run.2 d.left whole_run (none_floor (before ++ came))
+
+  module _ (s : Step) (port conn number : ℕ) (bytes : List ℕ) (report : TakeReport) (new : Places)
+      (rule : Rule now s (Ok (answer.Took port conn number bytes report)) new) (here : (port == n) ≡ true) (same : conn ≡ d.conn) where
+    -- nothing of it is on the host's link before that
+    never_waiting : IsWaiting n d.conn now since → ⊥
+    never_waiting waits =
+        let m = rule_moves now s (answer.Took port conn number bytes report) new waits.off.orderly rule in
+        (subst (Each (IsNoneOf n d.conn)) m.2.upward waits.off.up).0 (m.1.port_is ∙ eqb-true port n here) (m.1.conn_is ∙ same)
+
+    serving : (floors : ℕ → Floor) → At floors now since turns → IsServing config units fits n below plan sectors disk.size before first_run within right d.conn floors now since turns
+    serving floors (Waiting waits still) = absurd (never_waiting waits)
+    serving floors (Serving h) = h
+
+    module _ (floors : ℕ → Floor) (h : IsServing config units fits n below plan sectors disk.size before first_run within right d.conn floors now since turns) where
+      next : IsNextOf n d.conn port conn bytes h.ends.up
+      next = taken_next n d.conn below now new s port conn number bytes report h.ends.down h.ends.up h.opens.firm.orderly rule here h.ends.exact.wire
+
+      its : Rule now s (Ok (answer.Took n conn number (marked next.plain n) report)) new
+      its =
+          subst (λ (m : ℕ). Rule now s (Ok (answer.Took m conn number (marked next.plain n) report)) new) next.port_is
+          (subst (λ (b : List ℕ). Rule now s (Ok (answer.Took port conn number b report)) new) next.marks rule)
+
+      at_port : port_of (marked next.plain n) ≡ n
+      at_port =
+          (its_port config units fits n below plan sectors disk.size before first_run within right d.conn all_steps all_answers now all_run s
+          (answer.Took n conn number (marked next.plain n) report) new its).0
+
+      both : HasEnds n config.memory floors turns now.host (before ++ since) h.ends.down (next.plain ∷ next.later)
+      both = subst (HasEnds n config.memory floors turns now.host (before ++ since) h.ends.down) next.is h.ends.both
+
+      is_now : IsNow now
+      is_now = now_at config units fits all_steps all_answers now all_run
+
+    -- the request's device is that of the FIS
+    dev_of : (slot : ℕ) (e : Entry) → slot < 30 → entry_at now.host.driver.entries slot ≡ Some e → is_queued e.head.work ≡ true
+        → has_bit report.done slot ≡ true → e.head.dev ≡ n
+    dev_of slot e low is queued done =
+        let h : IsServing config units fits n below plan sectors disk.size before first_run within right d.conn bare_floors now since turns = serving bare_floors plain_stage in
+        of_device n config.memory below right plan sectors disk.size turns now (is_now bare_floors h) (before ++ since) whole_run h.ends.down
+        (next bare_floors h).later (next bare_floors h).plain bare_floors (both bare_floors h) s conn number report new (its bare_floors h) (at_port bare_floors h) slot e
+        low is queued done
+
+    flush_dev_of : (slot : ℕ) (e : Entry) → slot < 30 → entry_at now.host.driver.entries slot ≡ Some e → is_queued e.head.work ≡ false
+        → has_bit report.done slot ≡ true → e.head.dev ≡ n
+    flush_dev_of slot e low is calm done =
+        let h : IsServing config units fits n below plan sectors disk.size before first_run within right d.conn bare_floors now since turns = serving bare_floors plain_stage in
+        flush_of_device n config.memory below right plan sectors disk.size turns now (is_now bare_floors h) (before ++ since) whole_run h.ends.down
+        (next bare_floors h).later (next bare_floors h).plain bare_floors (both bare_floors h) s conn number report new (its bare_floors h) (at_port bare_floors h) slot e
+        low is calm done
+
+    -- a FLUSH that is done was taken since it was submitted
+    flushed : (slot : ℕ) (e : Entry) → slot < 30 → entry_at now.host.driver.entries slot ≡ Some e → is_queued e.head.work ≡ false
+        → has_bit report.done slot ≡ true → FlushedSince config units n now d e
+    flushed slot e low is calm done =
+        let submit : HasSubmit slot e = has_submit slot low e (flush_dev_of slot e low is calm done) is in
+        let h : IsServing config units fits n below plan sectors disk.size before first_run within right d.conn (floor_for slot (floor_of submit.submit_before)) now since turns =
+        serving (floor_for slot (floor_of submit.submit_before)) submit.stage in
+        let own_floor : (floor_for slot (floor_of submit.submit_before) slot).flushes ≡ flushes_taken submit.submit_before =
+        ap (λ (b : Bool). (if b then floor_of submit.submit_before else bare_floor).flushes) (eq-eqb slot slot refl) in
+        let more : (floor_for slot (floor_of submit.submit_before) slot).flushes < flushes_taken (before ++ since) =
+        flush_taken n config.memory below right plan sectors disk.size turns now
+        (is_now (floor_for slot (floor_of submit.submit_before)) h) (before ++ since) whole_run h.ends.down
+        (next (floor_for slot (floor_of submit.submit_before)) h).later (next (floor_for slot (floor_of submit.submit_before)) h).plain
+        (floor_for slot (floor_of submit.submit_before)) (both (floor_for slot (floor_of submit.submit_before)) h) s conn number report new
+        (its (floor_for slot (floor_of submit.submit_before)) h) (at_port (floor_for slot (floor_of submit.submit_before)) h) slot e low is calm done in
+        record {
+          before = submit.submit_before;
+          submitted = submit.submitted;
+          later = submit.part.later;
+          is = submit.part.is;
+          taken = took_since submit.submit_before submit.part.later (before ++ since) submit.part.is
+              (subst (λ (m : ℕ). m < flushes_taken (before ++ since)) own_floor more);
+        }
+
+    ended : (slot : ℕ) (e : Entry) → slot < 30 → entry_at now.host.driver.entries slot ≡ Some e → is_queued e.head.work ≡ true
+        → has_bit report.done slot ≡ true → EndedSince config units n now d sectors slot e new.host.memory
+    ended slot e low is queued done =
+        let submit : HasSubmit slot e = has_submit slot low e (dev_of slot e low is queued done) is in
+        let floors : ℕ → Floor = floor_for slot (floor_of submit.submit_before) in
+        let h : IsServing config units fits n below plan sectors disk.size before first_run within right d.conn (floor_for slot (floor_of submit.submit_before)) now since turns =
+        serving (floor_for slot (floor_of submit.submit_before)) submit.stage in
+        let own_floor : (floor_for slot (floor_of submit.submit_before) slot).writes ≡ length (ledger submit.submit_before).writes =
+        ap (λ (b : Bool). (if b then floor_of submit.submit_before else bare_floor).writes) (eq-eqb slot slot refl) in
+        record {
+          before = submit.submit_before;
+          submitted = submit.submitted;
+          touches = (both (floor_for slot (floor_of submit.submit_before)) h).touches;
+          touched =
+              subst (λ (ts : List HostTurn). AreTouched config.memory ts now.host
+              (both (floor_for slot (floor_of submit.submit_before)) h).touches) turns_are
+              (both (floor_for slot (floor_of submit.submit_before)) h).touched;
+          ends =
+              ends_honestly n config.memory below right plan sectors disk.size turns now
+              (is_now (floor_for slot (floor_of submit.submit_before)) h) (before ++ since) whole_run h.ends.down
+              (next (floor_for slot (floor_of submit.submit_before)) h).later
+              (next (floor_for slot (floor_of submit.submit_before)) h).plain
+              (floor_for slot (floor_of submit.submit_before)) (both (floor_for slot (floor_of submit.submit_before)) h) s conn
+              number report new (its (floor_for slot (floor_of submit.submit_before)) h)
+              (at_port (floor_for slot (floor_of submit.submit_before)) h) slot e low is queued done submit.submit_before submit.part own_floor;
+        }
+
+pub disks_are_honest : HonestDisks
+disks_are_honest config units n sectors plan fits below disk now d s port conn number bytes report new rule here same =
+    record {
+      done = ended config units n sectors plan fits below disk now d s port conn number bytes report new rule here same;
+      flushed = flushed config units n sectors plan fits below disk now d s port conn number bytes report new rule here same;
+    }
+
+-- the history of such a disk is a run of it
+pub disk_runs : (config : Config) (units : List Unit) (n sectors : ℕ) (plan : DiskPlan) → is_config config (length units) ≡ true → n < 15
+    → IsNewDisk units n plan sectors → (now : Places) (d : DiskRun config units n now)
+    → IsDiskRun plan sectors (disk_history config units n now d)
+disk_runs config units n sectors plan fits below disk now d = whole_run config units n sectors plan fits below disk now d

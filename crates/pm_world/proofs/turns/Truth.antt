@@ -1,0 +1,41 @@
+-- For the field `truth` of `laws`. What the driver says over a run is true, and the port takes every write of it.
+use Rattle.std.proofs.Common.{◌≡◌, ℕ, List, [], ◌∷◌, ◌++◌, true, sym, subst, length}
+use Rattle.std.specs.Prelude.{Ok}
+use Rattle.host_memory.specs.Memory.{is_memory_size}
+use Rattle.hba_driver.specs.declared.mode.Mode.{Mode}
+use Rattle.hba_driver.specs.HostTurns.{Does, DoesAll, Host, HostTurn, Polled}
+use Rattle.hba_driver.proofs.accepted.AcceptLemmas.{writes_are_accepted}
+use Rattle.hba_driver.proofs.done.TrueLemmas.{done_is_true}
+use Rattle.pm_world.specs.Truth.{EachIsTrue, IsTrue, TellsTruth}
+use Rattle.pm_world.specs.Places.{Places, new_world_in, opening_host_in}
+use Rattle.pm_world.specs.Rules.{Rule, Run}
+use Rattle.pm_world.specs.Runs.{over}
+use Rattle.pm_world.specs.Turns.{turn_of}
+use Rattle.pm_world.specs.declared.step.Step.{Step}
+use Rattle.pm_world.specs.declared.step.Answer.{Answer}
+use Rattle.pm_world.specs.declared.step.Answer.TheVariants as answer
+use Rattle.pm_world.proofs.turns.Delivery.{sized}
+use Rattle.pm_world.proofs.turns.HostFold.{rule_does}
+
+module _ (mode : Mode) (memory : ℕ) (right : is_memory_size memory ≡ true) (turns : List HostTurn) (old : Places) (does : DoesAll (opening_host_in mode memory) turns old.host) where
+  is_true : (s : Step) (a : Answer) (new : Places) → Rule old s (Ok a) new → IsTrue mode memory turns old.host does a
+  is_true s (answer.Polled completion) new rule =
+      let polls : DoesAll old.host (Polled completion ∷ []) new.host = rule_does old s (answer.Polled completion) new rule in
+      λ done. done_is_true.polled mode 0 memory right turns old.host does completion new.host (subst (λ (m : Host). Does old.host (Polled completion) m) (sym polls.2) polls.1) done
+  is_true s _ new rule = tt
+
+each_is_true : (old : Places) (steps : List Step) (answers : List Answer) (new : Places) (run : Run old steps answers new) → EachIsTrue old steps answers new run
+each_is_true old [] answers new run = tt
+each_is_true old (s ∷ steps) [] new run = tt
+each_is_true old (s ∷ steps) (a ∷ answers) new run = (
+  λ mode config units fits before told made does.
+      is_true mode config.memory (sized config (length units) fits) (over turn_of (new_world_in mode config units) before told old made) old does s a run.0 run.1,
+  each_is_true run.0 steps answers new run.2,
+)
+
+pub tells_truth : (old : Places) (steps : List Step) (answers : List Answer) (new : Places) (run : Run old steps answers new) → TellsTruth old steps answers new run
+tells_truth old steps answers new run = record {
+  done = each_is_true old steps answers new run;
+  accepted = λ mode config units fits before told made does.
+      writes_are_accepted mode 0 config.memory (sized config (length units) fits) (over turn_of (new_world_in mode config units) before told old made ++ over turn_of old steps answers new run) new.host does;
+}

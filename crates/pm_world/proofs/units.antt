@@ -1,0 +1,2 @@
+-- Units: fields `live_on`, `lived_on`.
+pub mod Units
