@@ -228,6 +228,9 @@ impl Scene {
     fn round<W: Write>(&mut self, alloc: Global, out: &mut W) -> Result<bool, Failure> {
         let mut is_moved = false;
         for n in 0..self.sizes.ports {
+            if !self.due.has_port(n) {
+                continue;
+            }
             is_moved |= self.moves(alloc, &Step::PmPresence(n), out)?;
             is_moved |= self.moves(alloc, &Step::DiskTake(n), out)?;
             is_moved |= self.moves(alloc, &Step::DiskSend(n), out)?;
@@ -276,9 +279,9 @@ impl Scene {
     // The answer stays where it is made: to hand it on costs as much as a step.
     #[inline(never)]
     fn moves_unseen(&mut self, alloc: Global, step: &Step) -> Result<bool, AllocError> {
-        let acted = self.world.step(alloc, step);
-        self.note(step, &acted)?;
-        Ok(has_moved(&acted))
+        let acted = &self.world.step(alloc, step);
+        self.note(step, acted)?;
+        Ok(has_moved(acted))
     }
 
     /// Does one step and counts its answer, and writes what it did if the run is traced. If memory is
