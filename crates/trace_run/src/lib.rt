@@ -3,6 +3,7 @@
 #![tactic(auto)]
 
 mod agenda;
+mod due;
 mod event;
 mod event_json;
 mod opening;

@@ -1,12 +1,13 @@
 //! A scenario as it goes on.
 
+use crate::due::Due;
 use crate::opening::{Opening, Sizes};
 use crate::parse::{Action, Setting};
 use crate::text::{Reply, print_faults, print_registers, print_view};
 use crate::tracer::{Sight, Tracer};
 use crate::watch::Watch;
 use pm_world::{Answer, Counts, Step, StepError, World, WorldError};
-use std::alloc::Global;
+use std::alloc::{AllocError, Global};
 use std::io::{Eprint, Write};
 use std::mem;
 use trace_text::{Failure, Lines, Printer, Words, is_skipped, play_aside};
@@ -138,6 +139,8 @@ struct Scene {
     world: World,
     sizes: Sizes,
     counts: Counts,
+    /// Which steps of a round are tried.
+    due: Due,
     tracer: Tracer,
 }
 
@@ -162,6 +165,7 @@ impl Scene {
             world,
             sizes,
             counts: Counts::new(alloc),
+            due: Due::all(),
             tracer: Tracer::new(watch),
         })
     }
@@ -196,13 +200,15 @@ impl Scene {
         step: &Step,
         out: &mut W,
     ) -> Result<Reply, Failure> {
-        match self.act(alloc, step, out)? {
-            Ok(answer) => Ok(Reply::of(alloc, &answer)?),
-            Err(error) => Ok(Reply::Refused(error)),
+        let acted = self.act(alloc, step, out)?;
+        match &acted {
+            Ok(answer) => Ok(Reply::of(alloc, answer)?),
+            Err(error) => Ok(Reply::Refused(*error)),
         }
     }
 
     /// Runs rounds, at most this many, up to the first in which no step did anything.
+    #[inline(never)]
     fn settle<W: Write>(
         &mut self,
         alloc: Global,
@@ -222,6 +228,9 @@ impl Scene {
     fn round<W: Write>(&mut self, alloc: Global, out: &mut W) -> Result<bool, Failure> {
         let mut is_moved = false;
         for n in 0..self.sizes.ports {
+            if !self.due.has_port(n) {
+                continue;
+            }
             is_moved |= self.moves(alloc, &Step::PmPresence(n), out)?;
             is_moved |= self.moves(alloc, &Step::DiskTake(n), out)?;
             is_moved |= self.moves(alloc, &Step::DiskSend(n), out)?;
@@ -236,15 +245,43 @@ impl Scene {
         Ok(is_moved)
     }
 
-    /// Does one step, and says whether it was neither idle nor blocked.
+    /// Does one step if it is due, and says whether it was neither idle nor blocked.
+    #[inline(always)]
     fn moves<W: Write>(
         &mut self,
         alloc: Global,
         step: &Step,
         out: &mut W,
     ) -> Result<bool, Failure> {
-        let answer = self.act(alloc, step, out)?;
-        Ok(!matches!(answer, Ok(Answer::Idle | Answer::Blocked)))
+        if !self.due.has(step) {
+            return Ok(false);
+        }
+        if self.tracer.is_on() {
+            let is_moved = self.moves_in_sight(alloc, step, out)?;
+            return Ok(is_moved);
+        }
+        Ok(self.moves_unseen(alloc, step)?)
+    }
+
+    /// Does one step that is traced, and says whether it was neither idle nor blocked.
+    #[inline(never)]
+    fn moves_in_sight<W: Write>(
+        &mut self,
+        alloc: Global,
+        step: &Step,
+        out: &mut W,
+    ) -> Result<bool, Failure> {
+        let acted = self.act_in_sight(alloc, step, out)?;
+        Ok(has_moved(&acted))
+    }
+
+    /// Does one step that is not traced, and says whether it was neither idle nor blocked.
+    // The answer stays where it is made: to hand it on costs as much as a step.
+    #[inline(never)]
+    fn moves_unseen(&mut self, alloc: Global, step: &Step) -> Result<bool, AllocError> {
+        let acted = &self.world.step(alloc, step);
+        self.note(step, acted)?;
+        Ok(has_moved(acted))
     }
 
     /// Does one step and counts its answer, and writes what it did if the run is traced. If memory is
@@ -258,7 +295,9 @@ impl Scene {
         if self.tracer.is_on() {
             return self.act_in_sight(alloc, step, out);
         }
-        self.count(alloc, step)
+        let acted = self.world.step(alloc, step);
+        self.note(step, &acted)?;
+        Ok(acted)
     }
 
     /// Does one step, counts its answer, and writes what it did.
@@ -272,22 +311,29 @@ impl Scene {
         out: &mut W,
     ) -> Result<Result<Answer, StepError>, Failure> {
         let sight = Sight::of(alloc, &self.world, step)?;
-        let acted = self.count(alloc, step)?;
+        let acted = self.world.step(alloc, step);
+        self.note(step, &acted)?;
         if let Ok(answer) = &acted {
             self.tracer.note(&self.world, step, &sight, answer, out)?;
         }
         Ok(acted)
     }
 
-    /// Does one step and counts its answer.
-    fn count(&mut self, alloc: Global, step: &Step) -> Result<Result<Answer, StepError>, Failure> {
-        match self.world.step(alloc, step) {
+    /// Counts the answer of a step, and takes note of which steps are due after it. If memory was refused,
+    /// that is passed on.
+    fn note(&mut self, step: &Step, acted: &Result<Answer, StepError>) -> Result<(), AllocError> {
+        match acted {
             Ok(answer) => {
-                self.counts.note(&answer)?;
-                Ok(Ok(answer))
+                self.due.note(&self.world, step, answer);
+                self.counts.note(answer)
             }
-            Err(StepError::OutOfMemory) => Err(Failure::OutOfMemory),
-            Err(error) => Ok(Err(error)),
+            Err(StepError::OutOfMemory) => Err(AllocError),
+            Err(_) => Ok(()),
         }
     }
+}
+
+/// Whether a step was neither idle nor blocked.
+fn has_moved(acted: &Result<Answer, StepError>) -> bool {
+    !matches!(acted, Ok(Answer::Idle | Answer::Blocked))
 }

@@ -1,6 +1,6 @@
 //! Bytes as hexadecimal text. Where it is read, blanks are allowed between the digits.
 
-ghost use Rattle.std.specs.Prelude.{◌≡◌, ◌↔◌, ◌<◌, ◌∷◌, [], ℕ, length, IfOk, IsErr, IsOk, IsTrue, MatchOption};
+ghost use Rattle.std.specs.Prelude.{◌≡◌, ◌↔◌, ◌<◌, ◌∷◌, [], ℕ, length, IfOk, IfSome, IsErr, IsOk, IsTrue, MatchOption};
 ghost use Rattle.hex.specs.Hex.{decode_of, pair_value};
 ghost use Rattle.trace_text.specs.Text.{without_blanks};
 
@@ -20,16 +20,6 @@ pub enum HexError {
     OutOfMemory,
 }
 
-impl From<AllocError> for HexError {
-    ghost use Rattle.trace_text.specs.declared.hex_text.HexError.TheVariants.{OutOfMemory};
-
-    ghost from_gives = { λ _ e. e ≡ OutOfMemory };
-
-    fn from(_: AllocError) -> HexError {
-        HexError::OutOfMemory
-    }
-}
-
 /// The bytes that the digits spell, two digits a byte, in either case. Blanks count for nothing.
 /// Digits that spell no bytes are refused for that, even if there is no memory.
 pub fn bytes_of(alloc: Global, text: &[u8]) -> Result<Vec<u8>, HexError>
@@ -37,8 +27,9 @@ pub fn bytes_of(alloc: Global, text: &[u8]) -> Result<Vec<u8>, HexError>
     ensures bad_hex { (result ≡ Err HexError.BadHex) ↔ IsErr (decode_of (without_blanks text.now)) }
 {
     match decoded(alloc, text) {
-        Err(HexError::OutOfMemory) if !spells_bytes(text) => Err(HexError::BadHex),
-        bytes => bytes,
+        Some(bytes) => Ok(bytes),
+        None if spells_bytes(text) => Err(HexError::OutOfMemory),
+        None => Err(HexError::BadHex),
     }
 }
 
@@ -61,25 +52,21 @@ pub fn hex_fault(text: &[u8], first: usize) -> (usize, Wanted) {
     (last, Wanted::EvenDigits)
 }
 
-// The bytes that the digits spell. Each is decoded into its place, in room for exactly as many.
-// Memory for it is asked for before the digits are looked at.
-fn decoded(alloc: Global, text: &[u8]) -> Result<Vec<u8>, HexError>
-    ensures value { IfOk result (λ bytes. decode_of (without_blanks text.now) ≡ Ok bytes.items) }
-    ensures bad_hex { result ≡ Err HexError.BadHex → IsErr (decode_of (without_blanks text.now)) }
+// The bytes that the digits spell. None if they spell none, or if memory was refused.
+fn decoded(alloc: Global, text: &[u8]) -> Option<Vec<u8>>
+    ensures { IfSome result (λ bytes. decode_of (without_blanks text.now) ≡ Ok bytes.items) }
 {
-    let mut bytes = Vec::with_capacity(alloc, digits_in(text) / 2)?;
-    let mut rest = text;
-    'pairs: while let Some((high, behind)) = next_digit(rest) {
-        let Some((low, behind)) = next_digit(behind) else {
-            return Err(HexError::BadHex);
-        };
-        let byte = byte_of(high, low)?;
-        let Ok(()) = bytes.push(byte) else {
-            return Err(HexError::OutOfMemory);
-        };
-        rest = behind;
-    }
-    Ok(bytes)
+    let digits = digits_of(alloc, text).ok()?;
+    hex::decode(alloc, &digits).ok()
+}
+
+// The bytes of a text that are not blanks. Before the first blank none of them has to move.
+fn digits_of(alloc: Global, text: &[u8]) -> Result<Vec<u8>, AllocError>
+    ensures { IfOk result (λ digits. digits.items ≡ without_blanks text.now) }
+{
+    let mut digits = Vec::from_slice(alloc, text)?;
+    digits.retain(|byte| !is_blank(*byte));
+    Ok(digits)
 }
 
 // Whether the digits spell bytes. It takes no memory.
@@ -97,11 +84,6 @@ fn spells_bytes(text: &[u8]) -> bool
         rest = behind;
     }
     true
-}
-
-// How many of these bytes are not blanks.
-fn digits_in(text: &[u8]) -> usize {
-    text.iter().filter(|byte| !is_blank(**byte)).count()
 }
 
 // The first byte that is not a blank, and what comes after it.

@@ -160,13 +160,14 @@ impl<'a> Words<'a> {
     /// All words that are left as the digits of bytes. No word at all is `number`.
     pub fn bytes(&mut self, alloc: Global) -> Result<Bytes, Failure> {
         let first = self.asked.saturating_add(1);
-        if self.is_at_end() {
+        let Some(start) = self.rest.iter().position(|byte| !is_blank(*byte)) else {
             return Err(self.refused_at(first, Refusal::Number, Wanted::Digits));
-        }
-        let bytes = match bytes_of(alloc, self.rest) {
+        };
+        let text = &self.rest[start..];
+        let bytes = match bytes_of(alloc, text) {
             Ok(bytes) => bytes,
             Err(HexError::BadHex) => {
-                let (word, wanted) = hex_fault(self.rest, first);
+                let (word, wanted) = hex_fault(text, first);
                 return Err(self.refused_at(word, Refusal::Hex, wanted));
             }
             Err(HexError::OutOfMemory) => return Err(Failure::OutOfMemory),
