@@ -325,6 +325,7 @@ module _ (n : ℕ) (signs : Type 0) (v : Sight) (plan : Plan) (h : IsSteadyPlan 
       fine_by : (b : Bool) → IsFine (if b then Ready else Unusable)
       fine_by true = tt
       fine_by false = tt
+
   advanced_keeps : (path : Path) → plan.path ≡ Some path → PlanKeeps n signs plan (advanced v path plan)
   advanced_keeps path here = elim (cases_eq path.dev n) [
     | inl to ↦ subst (λ (s : Stage). PlanKeeps n signs plan (record (found_of v s path.dev plan) { path = path_to path.dev (next_stage s) })) (sym (h.path path here to).0) (identified path here to)

@@ -273,7 +273,7 @@ tick_keeps n old a new does calm h =
       steady = record {
         plan = plan.steady;
         requests = alone_steady n after.plan after.entries
-          (alone_keep n (IsOpenAt n) (open_kind n) old.driver.plan after.plan old.driver.entries after.entries plan.ready (λ s. keeps_tick v (file_shown new.port) old.driver s) (steady_alone n old.driver.plan old.driver.entries h.requests));
+            (alone_keep n (IsOpenAt n) (open_kind n) old.driver.plan after.plan old.driver.entries after.entries plan.ready (λ s. keeps_tick v (file_shown new.port) old.driver s) (steady_alone n old.driver.plan old.driver.entries h.requests));
       };
       asks = plan.asks;
     })
