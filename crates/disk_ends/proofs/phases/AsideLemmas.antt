@@ -31,7 +31,7 @@ use Rattle.hba_fbs.specs.Views.{DeviceView, Port, view_of}
 use Rattle.hba_fbs.specs.Writing.{cleared_by, errors_after, view_after}
 use Rattle.hba_laws.specs.Client.{By, Stops, own}
 use Rattle.hba_laws.specs.Delivering.{by_device, event_heard, event_of, event_sent, event_taken, is_control_issue, issued_below, touched, touched_by_clear, touched_by_out}
-use Rattle.hba_laws.specs.History.{Answered, Carried, Emptied, Event, History, Issued, Named, PioSetUp, Sent, SentControl, SetUp, Transfer, completes, issued, unless}
+use Rattle.hba_laws.specs.History.{Carried, Emptied, Event, History, Issued, PioSetUp, Sent, SentControl, SetUp, Transfer, completes, issued, unless}
 use Rattle.hba_laws.specs.Hosts.{Does, Flushed, Gave, Host, HostEvent, Put, Rewrote, Stored, TakesFrame, Took, Wrote}
 use Rattle.hba_laws.specs.Isolation.{fails_by_bus}
 use Rattle.hba_laws.proofs.histories.IssueLemmas.{history_below, other_below, own_below_is, transfer_of, with_issued}

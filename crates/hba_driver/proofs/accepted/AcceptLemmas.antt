@@ -29,7 +29,7 @@ use Rattle.hba_driver.specs.declared.effect.Effect.TheVariants as effect
 use Rattle.hba_driver.specs.declared.mode.Mode.{Mode}
 use Rattle.hba_driver.specs.declared.mode.Mode.TheVariants.{Switching, CommandBased}
 use Rattle.hba_driver.specs.declared.order.Order.{Order}
-use Rattle.hba_driver.specs.declared.order.Order.TheVariants.{ResetOn, ResetOff, AwaitSignature, CountPorts, SetMask, Enable, Open, Scan, Clear, Detect, Watch}
+use Rattle.hba_driver.specs.declared.order.Order.TheVariants.{AwaitSignature, Scan, Clear, Watch}
 use Rattle.hba_driver.specs.declared.path.Path.{Path}
 use Rattle.hba_driver.specs.declared.path.Stage.{Stage}
 use Rattle.hba_driver.specs.declared.path.Stage.TheVariants.{Identify, ReadLog, AssertReset, ReleaseReset, AwaitReset}
@@ -43,7 +43,7 @@ use Rattle.hba_driver.specs.Drivers.{holds as entry_holds}
 use Rattle.hba_driver.specs.Drivers.{Driver, Entry, entry_at, is_issued, rephase, rephased}
 use Rattle.hba_driver.specs.Effects.{ActsAll, IsRuled, buffer_prd, clearing, effects_of, issuing, opening_write, order_effects, prds_with, restart_write, sending, stage_effects, table_of}
 use Rattle.hba_driver.specs.Events.{AreDriven, IsSoundHostIn, events_over, opening_host_in, shared_by}
-use Rattle.hba_driver.specs.HostTurns.{Does, DoesAll, Host, HostTurn, Took, Pushed, Ticked, Submitted, Polled, Put, sight_in}
+use Rattle.hba_driver.specs.HostTurns.{Does, DoesAll, Host, HostTurn, Took, Pushed, Ticked, sight_in}
 use Rattle.hba_driver.specs.Orders.{control, control_port, identify_fields, is_queued, log_fields, order_fields, request_fields}
 use Rattle.hba_driver.specs.Paths.{stage_fields}
 use Rattle.hba_driver.specs.Served.{IsServed, RunServes}

@@ -21,7 +21,7 @@ use Rattle.hba_driver.specs.declared.slot.Phase.{Phase}
 use Rattle.hba_driver.specs.Drivers.{Driver, Entry, entry_at, rephased}
 use Rattle.hba_driver.specs.Effects.{table_of}
 use Rattle.hba_driver.specs.Events.{IsSoundHostIn, events_over, shared_by}
-use Rattle.hba_driver.specs.HostTurns.{Does, DoesAll, Host, HostTurn, Took, Pushed, Ticked, Submitted, Polled, Put}
+use Rattle.hba_driver.specs.HostTurns.{Does, DoesAll, Host, HostTurn, Took, Submitted}
 use Rattle.hba_driver.specs.Orders.{is_flush, is_queued, request_fields, work_fields}
 use Rattle.hba_driver.specs.Requests.{is_bad_prd}
 use Rattle.hba_driver.specs.Served.{AreBounded}

@@ -20,7 +20,7 @@ use Rattle.slots.specs.Table.{IsIssue}
 use Rattle.slots.proofs.TableLemmas.{Owns}
 use Rattle.hba_fbs.specs.declared.error.WriteError.TheVariants as refusal
 use Rattle.hba_fbs.specs.declared.register.Register.{Register}
-use Rattle.hba_fbs.specs.declared.register.Register.TheVariants.{Clb, Clbu, Fb, Fbu, Is, Ie, Cmd, Tfd, Sig, Serr, Sact, Ci, Sntf, Fbs}
+use Rattle.hba_fbs.specs.declared.register.Register.TheVariants.{Cmd, Ci, Fbs}
 use Rattle.hba_fbs.specs.declared.report.TakeReport.{TakeReport}
 use Rattle.hba_fbs.specs.Issuing.{aimed, asked, commands_with, issue_with, view_issued}
 use Rattle.hba_fbs.specs.Offsets.{register_at}
@@ -40,7 +40,7 @@ use Rattle.hba_driver.specs.Addressed.{AreAddressed, FramesAreAddressed, IsAddre
 use Rattle.hba_driver.specs.declared.mode.Mode.{Mode}
 use Rattle.hba_driver.specs.Effects.{Acts, ActsAll, IsRuled, Tries}
 use Rattle.hba_driver.specs.Events.{IsSoundHostIn, opening_host_in}
-use Rattle.hba_driver.specs.HostTurns.{Does, DoesAll, Host, HostTurn, Took, Pushed, Ticked, Submitted, Polled, Put, sight_in}
+use Rattle.hba_driver.specs.HostTurns.{Does, DoesAll, Host, HostTurn, Took, Pushed, Ticked, sight_in}
 use Rattle.hba_driver.specs.Ticks.{effects}
 use Rattle.hba_driver.proofs.events.DrivenLemmas.{tried_at}
 use Rattle.hba_driver.proofs.issued.IssuingLemmas.{aimed_is}

@@ -8,7 +8,7 @@ use Rattle.hba_driver.specs.declared.path.Stage.TheVariants.{Identify, AssertRes
 use Rattle.hba_driver.specs.declared.path.TaskFile.{TaskFile}
 use Rattle.hba_driver.specs.declared.plan.Plan.{Plan}
 use Rattle.hba_driver.specs.declared.slot.Phase.{Phase}
-use Rattle.hba_driver.specs.declared.slot.Phase.TheVariants.{Waits, Issued, Aside, Ended}
+use Rattle.hba_driver.specs.declared.slot.Phase.TheVariants.{Aside, Ended}
 use Rattle.hba_driver.specs.declared.turn.Act.{Act}
 use Rattle.hba_driver.specs.declared.turn.Act.TheVariants as act
 use Rattle.hba_driver.specs.Drivers.{Driver, has_ended_in, is_aside_in, is_issued_in, waits_in}

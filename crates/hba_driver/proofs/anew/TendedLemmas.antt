@@ -1,16 +1,12 @@
 -- For `turns_tend`. What a calm tick leaves of the plan of a device that is together with its disk.
-use Rattle.std.proofs.Common.{◌≡◌, ◌≢◌, ℕ, ◌+◌, ◌⊎◌, ◌&&◌, Bool, true, false, nat_lt, List, get_or, set, refl, sym, ◌∙◌, ap, subst, inl, inr, arith, Option, Some, None}
-use Rattle.std.specs.Prelude.{if◌then◌else◌, ◌==◌, not, is_some, slice_index_or}
+use Rattle.std.proofs.Common.{◌≡◌, ℕ, ◌⊎◌, Bool, true, false, List, get_or, set, refl, sym, ◌∙◌, ap, subst, inl, inr, Option, Some, None}
+use Rattle.std.specs.Prelude.{if◌then◌else◌, not, slice_index_or}
 use Rattle.std.specs.Option.{option_map, option_or}
-use Rattle.std.proofs.lemmas.Bool.{cases_eq, false≢true, true≢false}
-use Rattle.std.proofs.lemmas.Bool.Decides.{nat_tests}
-use Rattle.std.proofs.lemmas.List.{get_or-set_other}
-use Rattle.fis_view.specs.declared.build.H2dFields.{H2dFields}
+use Rattle.std.proofs.lemmas.Bool.{cases_eq, true≢false}
 use Rattle.slots.specs.Slots.{lowest_below, match_some}
 use Rattle.hba_driver.specs.declared.mode.Mode.{Mode}
 use Rattle.hba_driver.specs.declared.mode.Mode.TheVariants.{Switching, CommandBased}
 use Rattle.hba_driver.specs.declared.order.Order.{Order}
-use Rattle.hba_driver.specs.declared.order.Order.TheVariants.{ResetOn, ResetOff, AwaitSignature, CountPorts, SetMask, Enable, Open, Scan, Clear, Detect, Watch}
 use Rattle.hba_driver.specs.declared.path.Path.{Path}
 use Rattle.hba_driver.specs.declared.path.Recovery.{Recovery}
 use Rattle.hba_driver.specs.declared.path.Recovery.TheVariants.{Log, Reset}
@@ -24,13 +20,12 @@ use Rattle.hba_driver.specs.Seeing.{Sight}
 use Rattle.hba_driver.specs.declared.turn.Act.{Act}
 use Rattle.hba_driver.specs.declared.turn.Act.TheVariants as act
 use Rattle.hba_driver.specs.declared.turn.Turn.{Turn}
-use Rattle.hba_driver.specs.Drivers.{Entry, device_at, entry_at}
-use Rattle.hba_driver.specs.Orders.{next_order, order_fields}
+use Rattle.hba_driver.specs.Drivers.{Entry, device_at}
 use Rattle.hba_driver.specs.Paths.{first_stage, next_stage, stage_fields}
 use Rattle.hba_driver.specs.Steady.{IsAskedOf, IsCalmAct, IsFine, IsSteadyPlan, detects}
 use Rattle.hba_driver.specs.Tended.{Awaits, Fine, Identifies, IsAskedOn, IsAsking, IsAtStage, IsBegun, IsReleasing, IsStepless, IsTendedBy, IsTendedPlan, IsUnworked, Logs, Releases, Spoilt, WorksOn}
-use Rattle.hba_driver.specs.Ticks.{from_reset, ordered, plan_after, recovering, unless}
-use Rattle.hba_driver.specs.Turns.{advanced, allowed, answered, control_news, control_seen, control_turn, detected, device_due, device_or_request, device_seen, device_turn, early_due, found_of, is_back, is_due, is_in_reset, is_out, issue_of, may_issue, met, met_order, met_path, met_stage, noted, order_allowed, order_due, path_answered, path_due, path_met, path_to, plain_turn, request_due, signed_order, stage_due, stage_for, turn_of, with_next}
+use Rattle.hba_driver.specs.Ticks.{plan_after}
+use Rattle.hba_driver.specs.Turns.{advanced, allowed, control_news, control_seen, device_due, device_or_request, device_seen, device_turn, early_due, found_of, is_back, is_due, is_in_reset, met_path, met_stage, path_due, path_met, plain_turn, request_due, stage_due, stage_for, turn_of}
 use Rattle.hba_driver.proofs.ticks.DueLemmas.{allowed_by, early_by, goes_control, goes_device, order_allowed_by, request_by, turn_by}
 use Rattle.hba_driver.proofs.steady.SteadyLemmas.{Beside, DueOf, Plainly, PlanKeeps, act_beside, act_keeps, beside_same, control_beside, device_beside, equal_is, keeps_then, of_device, of_turn, set_same, turn_keeps}
 

@@ -1,5 +1,5 @@
 -- For `turns_tend`. What a turn leaves of the driver's plan and requests for a device that is together with its disk.
-use Rattle.std.proofs.Common.{◌≡◌, ◌≢◌, ℕ, ◌+◌, ◌<◌, ◌⊎◌, ◌||◌, Bool, true, false, List, set, refl, sym, ◌∙◌, ap, subst, inl, inr, arith, Option, Some, None}
+use Rattle.std.proofs.Common.{◌≡◌, ◌≢◌, ℕ, ◌<◌, ◌⊎◌, ◌||◌, Bool, true, false, List, set, refl, sym, ◌∙◌, ap, subst, inl, inr, arith, Option, Some, None}
 use Rattle.std.proofs.lemmas.Bool.{false≢true}
 use Rattle.std.proofs.lemmas.List.FromFn.{get_or-map-range_with_len}
 use Rattle.host_memory.specs.Memory.{Memory}
@@ -17,25 +17,23 @@ use Rattle.hba_driver.specs.declared.request.Completion.{Completion}
 use Rattle.hba_driver.specs.declared.request.Request.{Request}
 use Rattle.hba_driver.specs.Seeing.{Sight}
 use Rattle.hba_driver.specs.declared.slot.Phase.{Phase}
-use Rattle.hba_driver.specs.declared.slot.Phase.TheVariants.{Waits, Issued, Aside, Ended}
+use Rattle.hba_driver.specs.declared.slot.Phase.TheVariants.{Aside, Ended}
 use Rattle.hba_driver.specs.declared.turn.Act.{Act}
 use Rattle.hba_driver.specs.declared.turn.Act.TheVariants as act
 use Rattle.hba_driver.specs.Drivers.{Driver, Entry, device_at, entry_at, has_ended_in, is_issued, is_issued_in, new_driver, waits, waits_in}
 use Rattle.hba_driver.specs.Events.{IsSoundHost}
-use Rattle.hba_driver.specs.HostTurns.{Does, Host, HostTurn, Took, Pushed, Ticked, Submitted, Polled, Put, sight_in}
+use Rattle.hba_driver.specs.HostTurns.{Does, Host, HostTurn, Ticked, Submitted, Polled, sight_in}
 use Rattle.hba_driver.specs.Laws.{Goes, Keeps}
-use Rattle.hba_driver.specs.Orders.{is_flush}
 use Rattle.hba_driver.specs.Sights.{file_shown, sight_of}
 use Rattle.hba_driver.specs.Steady.{HasSignature, IsCalmTick, IsFine, IsFlushTick, IsOpenAt, IsSteady, IsSteadyTurn, IsSwitching, slot_in, slot_of}
-use Rattle.hba_driver.specs.Submits.{after_submit, new_entry, next_slot, submit_refusal}
+use Rattle.hba_driver.specs.Submits.{after_submit, submit_refusal}
 use Rattle.hba_driver.specs.Tended.{AreTended, Fine, IsAskedOn, IsAtStage, IsBegun, IsLiveAt, IsReleasing, IsStepless, IsSteplessTurn, IsTended, IsTendedPlan, TendsOn, TurnsTend}
 use Rattle.hba_driver.specs.Ticks.{after_tick, done_ended, due, seen, turn}
 use Rattle.hba_driver.specs.Turns.{is_in_reset, turn_of}
 use Rattle.hba_driver.proofs.ends.DoneLemmas.{free_slot}
 use Rattle.hba_driver.proofs.ticks.DueLemmas.{Due, due_turn, goes_turn}
-use Rattle.hba_driver.proofs.requests.HistoryLemmas.{PollFacts, back_of, freed, poll_facts}
+use Rattle.hba_driver.proofs.requests.HistoryLemmas.{PollFacts, freed, poll_facts}
 use Rattle.hba_driver.proofs.ticks.LifeLemmas.{keeps_tick}
-use Rattle.hba_driver.proofs.calls.RequestLemmas.{set_cases}
 use Rattle.hba_driver.proofs.anew.FlushLemmas.{flush_unreset}
 use Rattle.hba_driver.proofs.steady.SteadyTurns.{Alone, IsKind, acted_plan, alone_fewer, alone_keep, alone_submit, fewer_by, flush_steady, opens_steady, signed_by}
 use Rattle.hba_driver.proofs.anew.TendedLemmas.{PlanTends, recovering_ready, turn_tends}

@@ -13,10 +13,8 @@ use Rattle.hba_fbs.specs.Views.{Port}
 use Rattle.hba_driver.specs.declared.mode.Mode.{Mode}
 use Rattle.hba_driver.specs.declared.mode.Mode.TheVariants.{Switching, CommandBased}
 use Rattle.hba_driver.specs.declared.order.Order.{Order}
-use Rattle.hba_driver.specs.declared.order.Order.TheVariants.{ResetOn, ResetOff, AwaitSignature, CountPorts, SetMask, Enable, Open, Scan, Clear, Detect, Watch}
-use Rattle.hba_driver.specs.declared.path.Stage.{Stage}
-use Rattle.hba_driver.specs.declared.path.Stage.TheVariants.{Identify, ReadLog, AssertReset, ReleaseReset, AwaitReset}
-use Rattle.hba_driver.specs.Effects.{ActsAll, choosing, effects_of, emptying, is_effect, issuing, opening_write, opening_writes, order_command, order_effects, restart_write, restart_writes, sending, stage_effects}
+use Rattle.hba_driver.specs.declared.order.Order.TheVariants.{AwaitSignature, Scan, Clear, Watch}
+use Rattle.hba_driver.specs.Effects.{ActsAll, choosing, effects_of, emptying, is_effect, issuing, opening_write, opening_writes, order_effects, restart_write, restart_writes, sending}
 use Rattle.hba_driver.specs.Drivers.{IsOrder}
 use Rattle.hba_driver.specs.Turns.{IsAct}
 use Rattle.hba_driver.specs.declared.turn.Act.{Act}

@@ -5,7 +5,7 @@ use Rattle.std.specs.Option.{is_some, option_map}
 use Rattle.std.proofs.lemmas.Bool.{or_parts, false≢true, true≢false, cases_Bool}
 use Rattle.slots.specs.Slots.{has_bit, match_some}
 use Rattle.hba_driver.specs.declared.order.Order.{Order}
-use Rattle.hba_driver.specs.declared.order.Order.TheVariants.{ResetOn, ResetOff, AwaitSignature, CountPorts, SetMask, Enable, Open, Scan, Clear, Detect, Watch}
+use Rattle.hba_driver.specs.declared.order.Order.TheVariants.{AwaitSignature, Scan, Watch}
 use Rattle.hba_driver.specs.declared.path.Path.{Path}
 use Rattle.hba_driver.specs.declared.path.Stage.{Stage}
 use Rattle.hba_driver.specs.declared.path.Stage.TheVariants.{Identify, ReadLog, AssertReset, ReleaseReset}
@@ -19,7 +19,7 @@ use Rattle.hba_driver.specs.declared.turn.Logged.{Logged}
 use Rattle.hba_driver.specs.declared.turn.Turn.{Turn}
 use Rattle.hba_driver.specs.Drivers.{Driver, Entry}
 use Rattle.hba_driver.specs.Ticks.{acts, any_done, done_ended, due, is_done, logged_ended, seen, turn}
-use Rattle.hba_driver.specs.Turns.{advanced, awaits, awaits_reset, control_news, control_seen, control_turn, device_news, device_seen, early_due, is_back, is_in_reset, is_out, logged_by, met, met_order, met_path, met_stage, order_allowed, path_met, path_news, turn_of, watches}
+use Rattle.hba_driver.specs.Turns.{advanced, awaits, awaits_reset, control_news, control_seen, device_news, device_seen, is_back, is_in_reset, is_out, logged_by, met, met_order, met_path, met_stage, path_met, path_news, turn_of, watches}
 use Rattle.hba_driver.proofs.ticks.DueLemmas.{turn_by}
 use Rattle.hba_driver.proofs.calls.ScanLemmas.{none_rephased}
 

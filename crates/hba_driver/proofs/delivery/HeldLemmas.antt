@@ -31,7 +31,7 @@ use Rattle.hba_driver.specs.Drivers.{AreRequests, Driver, Entry, entry_at, is_re
 use Rattle.hba_driver.specs.Effects.{ActsAll}
 use Rattle.hba_driver.specs.Events.{events_of_effect, events_of_effects, events_over, shared_by, wrote_to}
 use Rattle.hba_driver.specs.Held.{TurnsHoldWrites}
-use Rattle.hba_driver.specs.HostTurns.{Polled, Pushed, Put, Submitted, Ticked, Took, sight_in}
+use Rattle.hba_driver.specs.HostTurns.{Pushed, Put, Ticked, Took, sight_in}
 use Rattle.hba_driver.specs.Requests.{in_use}
 use Rattle.hba_driver.specs.Served.{AreBounded, IsIssueOf, IsRequest, IssuesAreRequests}
 use Rattle.hba_driver.specs.Ticks.{effects}

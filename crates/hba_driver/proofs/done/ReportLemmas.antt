@@ -9,14 +9,14 @@ use Rattle.hba_fbs.specs.Views.{Port}
 use Rattle.hba_laws.proofs.histories.StandLemmas.{some_inj}
 use Rattle.hba_laws.proofs.histories.ViewLemmas.{own_in}
 use Rattle.hba_driver.specs.declared.mode.Mode.{Mode}
-use Rattle.hba_driver.specs.declared.request.Outcome.TheVariants.{Done, DeviceError, Aborted, Removed, PortError}
+use Rattle.hba_driver.specs.declared.request.Outcome.TheVariants.{Done}
 use Rattle.hba_driver.specs.Seeing.{Sight}
 use Rattle.hba_driver.specs.declared.slot.Phase.{Phase}
 use Rattle.hba_driver.specs.declared.slot.Phase.TheVariants.{Waits, Issued, Aside, Ended}
 use Rattle.hba_driver.specs.declared.turn.Act.TheVariants as act
 use Rattle.hba_driver.specs.Done.{completes}
 use Rattle.hba_driver.specs.Drivers.{AreRequests, Driver, Entry, entry_at, has_ended, has_ended_in, is_aside_in, is_issued_in, rephased, waits_in}
-use Rattle.hba_driver.specs.HostTurns.{Does, Host, HostTurn, Took, Pushed, Ticked, Submitted, Polled, Put, issued_in_tick, sight_in}
+use Rattle.hba_driver.specs.HostTurns.{Does, Host, HostTurn, Took, Pushed, Ticked, Submitted, issued_in_tick, sight_in}
 use Rattle.hba_driver.specs.Laws.{Goes, GoesOn, flushes}
 use Rattle.hba_driver.specs.Sights.{file_shown}
 use Rattle.hba_driver.specs.Ticks.{after_tick, due, effects}

@@ -14,7 +14,7 @@ use Rattle.hba_driver.specs.declared.slot.Phase.{Phase}
 use Rattle.hba_driver.specs.declared.slot.Phase.TheVariants.{Waits, Issued, Ended}
 use Rattle.hba_driver.specs.Drivers.{Entry, entry_at, rephased}
 use Rattle.hba_driver.specs.Events.{opening_host_in}
-use Rattle.hba_driver.specs.HostTurns.{Does, DoesAll, Host, HostTurn, Took, Pushed, Ticked, Submitted, Polled, Put}
+use Rattle.hba_driver.specs.HostTurns.{Does, DoesAll, Host, HostTurn, Took, Pushed, Submitted, Polled}
 use Rattle.hba_driver.specs.Reported.{DoneWasReported, IsTurnOf, WasReported}
 use Rattle.hba_driver.specs.Submits.{new_entry}
 use Rattle.hba_driver.proofs.accepted.AcceptLemmas as accept

@@ -20,7 +20,7 @@ use Rattle.hba_driver.specs.declared.path.Stage.{Stage as PathStage}
 use Rattle.hba_driver.specs.declared.path.Stage.TheVariants.{AssertReset}
 use Rattle.hba_driver.specs.declared.path.TaskFile.{TaskFile}
 use Rattle.hba_driver.specs.declared.request.Completion.{Completion}
-use Rattle.hba_driver.specs.declared.request.Outcome.TheVariants.{Done, DeviceError, Aborted, Removed, PortError}
+use Rattle.hba_driver.specs.declared.request.Outcome.TheVariants.{Done, Aborted, Removed, PortError}
 use Rattle.hba_driver.specs.declared.request.Work.{Work}
 use Rattle.hba_driver.specs.declared.request.Work.TheVariants as work
 use Rattle.hba_driver.specs.Seeing.{Sight}

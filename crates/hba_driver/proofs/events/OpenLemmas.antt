@@ -21,7 +21,7 @@ use Rattle.hba_fbs.specs.declared.report.TakeReport.{TakeReport}
 use Rattle.hba_fbs.specs.Offsets.{register_at}
 use Rattle.hba_fbs.specs.Posting.{posted}
 use Rattle.hba_fbs.specs.Registers.{cmd_refusal, falls, is_area_outside, is_list_outside, own_refusal, running_if, written}
-use Rattle.hba_fbs.specs.Sending.{Data, Gives, Nothing, Order, Outgoing, Unreadable}
+use Rattle.hba_fbs.specs.Sending.{Gives, Nothing, Outgoing, Unreadable}
 use Rattle.hba_fbs.specs.Taking.{admitted, heard_now, ignores, port_of, posted_of, settled}
 use Rattle.hba_fbs.specs.Views.{Port, view_of}
 use Rattle.hba_fbs.specs.Writing.{Accepts, refusal_of, slots_refusal, write_refusal}

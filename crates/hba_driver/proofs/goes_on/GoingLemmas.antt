@@ -1,5 +1,5 @@
 -- For `port_goes_on`. A host port goes on over every list of turns from its opening.
-use Rattle.std.proofs.Common.{◌≡◌, ℕ, ◌^◌, max, min, Bool, true, false, ◌&&◌, nat_lt, bit_or, bit_and, List, [], ◌∷◌, refl, sym, ◌∙◌, ap, subst, inl, inr, arith, Option, Some, None}
+use Rattle.std.proofs.Common.{◌≡◌, ℕ, ◌^◌, max, min, Bool, true, false, ◌&&◌, bit_or, bit_and, List, [], ◌∷◌, refl, sym, ◌∙◌, ap, subst, inl, inr, arith, Option, Some, None}
 use Rattle.std.specs.Prelude.{◌==◌, not, is_some, slice_set}
 use Rattle.std.specs.Int.{bit_at}
 use Rattle.std.specs.Option.{option_map_or}
@@ -28,7 +28,7 @@ use Rattle.hba_fbs.specs.Offsets.{register_at}
 use Rattle.hba_fbs.specs.Posting.{posted}
 use Rattle.hba_fbs.specs.Reading.{value_of}
 use Rattle.hba_fbs.specs.Registers.{falls, written}
-use Rattle.hba_fbs.specs.Sending.{Data, Gives, Nothing, Order, Outgoing, Unreadable, outgoing}
+use Rattle.hba_fbs.specs.Sending.{Gives, Nothing, Outgoing, Unreadable, outgoing}
 use Rattle.hba_fbs.specs.Taking.{admitted, fault_interrupts, heard_now, ignores, port_cause, port_of, posted_of, settled, stops_with}
 use Rattle.hba_fbs.specs.Views.{Port, view_of}
 use Rattle.hba_fbs.specs.Writing.{errors_after, refusal_of}
@@ -38,21 +38,18 @@ use Rattle.hba_laws.proofs.placed.SpareLemmas.{spared_tables_read}
 use Rattle.hba_driver.specs.declared.effect.Effect.{Effect}
 use Rattle.hba_driver.specs.declared.effect.Effect.TheVariants as effect
 use Rattle.hba_driver.specs.declared.mode.Mode.TheVariants.{Switching}
-use Rattle.hba_driver.specs.declared.order.Order as own_order
-use Rattle.hba_driver.specs.declared.order.Order.TheVariants.{Clear}
 use Rattle.hba_driver.specs.declared.path.TaskFile.{TaskFile}
-use Rattle.hba_driver.specs.declared.plan.Plan.{Plan}
 use Rattle.hba_driver.specs.Seeing.{Sight}
 use Rattle.hba_driver.specs.declared.turn.Act.{Act}
 use Rattle.hba_driver.specs.declared.turn.Act.TheVariants as act
 use Rattle.hba_driver.specs.Drivers.{Driver}
 use Rattle.hba_driver.specs.Effects.{Acts, ActsAll, Tries}
 use Rattle.hba_driver.specs.Events.{IsSoundHost, events_over, opening_host, shared_by}
-use Rattle.hba_driver.specs.HostTurns.{Does, DoesAll, Host, HostTurn, Took, Pushed, Ticked, Submitted, Polled, Put, sight_in}
+use Rattle.hba_driver.specs.HostTurns.{Does, DoesAll, Host, HostTurn, Took, Pushed, Ticked, Submitted, Polled, sight_in}
 use Rattle.hba_driver.specs.Served.{RunServes}
 use Rattle.hba_driver.specs.Sights.{file_shown, shown, sight_of}
 use Rattle.hba_driver.specs.Submits.{after_poll, lowest_ended}
-use Rattle.hba_driver.specs.Ticks.{acted, after_tick, due, effects, from_reset, ordered, plan_after, recovering, seen, turn}
+use Rattle.hba_driver.specs.Ticks.{acted, after_tick, due, effects, plan_after, seen, turn}
 use Rattle.hba_driver.specs.Going.{AreOfControl, GoesOn, IsOfControl, NothingStops, PortsGoOn, leaves_port}
 use Rattle.hba_driver.proofs.accepted.AcceptLemmas.{IsOnWay, way_opens, way_turn}
 use Rattle.hba_driver.proofs.events.DrivenLemmas.{restarted_cleared, restarted_ordered, tried_at}

@@ -1,8 +1,7 @@
 -- For `port_goes_on`. The table of slot 30 stays as it was written while a page is awaited there.
 use Rattle.std.proofs.Common.{◌≡◌, ℕ, ◌+◌, ◌*◌, ◌<◌, ◌≤◌, ◌⊎◌, Bool, true, false, ◌&&◌, nat_lt, List, [], ◌∷◌, length, replicate, refl, sym, ◌∙◌, ap, subst, inl, inr, arith, Option, Some, None}
-use Rattle.std.specs.Prelude.{◌||◌, ◌==◌, ◌%◌, if◌then◌else◌, not, is_some, slice_index, slice_set}
+use Rattle.std.specs.Prelude.{◌||◌, ◌==◌, ◌%◌, if◌then◌else◌, not, slice_index, slice_set}
 use Rattle.std.specs.List.{list_all}
-use Rattle.std.specs.Option.{option_map}
 use Rattle.std.proofs.lemmas.Bool.{cases_Bool, false≢true, le-ltb, true≢false}
 use Rattle.std.proofs.lemmas.List.{length-replicate}
 use Rattle.fis_view.specs.Seen.{seen as seen_in}
@@ -13,7 +12,7 @@ use Rattle.host_memory.proofs.AgreeLemmas.{says_the_same}
 use Rattle.hba_fbs.specs.declared.report.TakeReport.{TakeReport}
 use Rattle.hba_fbs.specs.Taking.{admitted, ignores, port_of, row_for}
 use Rattle.hba_fbs.specs.Views.{Port}
-use Rattle.slots.specs.Slots.{has_bit, match_some}
+use Rattle.slots.specs.Slots.{match_some}
 use Rattle.host_memory.specs.declared.table.PrdError.{PrdError}
 use Rattle.hba_commands.specs.Commands.{total_if_sound}
 use Rattle.hba_commands.specs.Writing.{total_if_usable}
@@ -21,26 +20,24 @@ use Rattle.hba_driver.specs.declared.effect.Effect.{Effect}
 use Rattle.hba_driver.specs.declared.effect.Effect.TheVariants as effect
 use Rattle.hba_driver.specs.declared.mode.Mode.TheVariants.{Switching}
 use Rattle.hba_driver.specs.declared.order.Order.{Order}
-use Rattle.hba_driver.specs.declared.order.Order.TheVariants.{ResetOn, ResetOff, AwaitSignature, CountPorts, SetMask, Enable, Open, Scan, Clear, Detect, Watch}
+use Rattle.hba_driver.specs.declared.order.Order.TheVariants.{Clear}
 use Rattle.hba_driver.specs.declared.path.Path.{Path}
 use Rattle.hba_driver.specs.declared.path.Stage.{Stage}
-use Rattle.hba_driver.specs.declared.path.Stage.TheVariants.{Identify, ReadLog, AssertReset, ReleaseReset, AwaitReset}
+use Rattle.hba_driver.specs.declared.path.Stage.TheVariants.{Identify, ReadLog}
 use Rattle.hba_driver.specs.declared.path.TaskFile.{TaskFile}
 use Rattle.hba_driver.specs.declared.plan.Plan.{Plan}
 use Rattle.hba_driver.specs.Seeing.{Sight}
 use Rattle.hba_driver.specs.declared.turn.Act.{Act}
 use Rattle.hba_driver.specs.declared.turn.Act.TheVariants as act
-use Rattle.hba_driver.specs.declared.turn.Turn.{Turn}
 use Rattle.hba_driver.specs.Drivers.{Driver, Entry}
-use Rattle.hba_driver.specs.Effects.{Acts, ActsAll, buffer_prd, effects_of, is_effect, issuing, opening_write, opening_writes, order_effects, prds_with, restart_write, restart_writes, sending, stage_effects}
+use Rattle.hba_driver.specs.Effects.{Acts, ActsAll, buffer_prd, effects_of, is_effect, issuing, prds_with, sending, stage_effects}
 use Rattle.hba_driver.specs.Events.{IsSoundHost}
-use Rattle.hba_driver.specs.HostTurns.{Does, Host, HostTurn, Took, Pushed, Ticked, Submitted, Polled, Put, sight_in}
+use Rattle.hba_driver.specs.HostTurns.{Does, Host, HostTurn, Took, Ticked, Submitted, Polled, sight_in}
 use Rattle.hba_driver.specs.Sights.{file_shown}
 use Rattle.hba_driver.specs.Submits.{after_poll, lowest_ended, next_slot}
-use Rattle.hba_driver.specs.Orders.{order_fields}
-use Rattle.hba_driver.specs.Paths.{next_stage, reads_page, stage_fields}
+use Rattle.hba_driver.specs.Paths.{reads_page, stage_fields}
 use Rattle.hba_driver.specs.Ticks.{acted, after_tick, done_ended, due, effects_due, ordered, plan_after, seen, unless}
-use Rattle.hba_driver.specs.Turns.{advanced, answered, control_seen, device_seen, early_due, is_back, met_path, met_stage, noted, order_allowed, path_answered, path_to, turn_of}
+use Rattle.hba_driver.specs.Turns.{turn_of}
 use Rattle.hba_driver.proofs.ticks.DueLemmas.{goes_turn}
 use Rattle.hba_driver.proofs.calls.EffectLemmas.{issuing_pass, opens_pass, order_pass, restarts_pass}
 use Rattle.hba_driver.proofs.requests.HistoryLemmas.{free_below}

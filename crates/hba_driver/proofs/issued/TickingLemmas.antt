@@ -37,7 +37,7 @@ use Rattle.hba_driver.specs.declared.request.Work.{Work}
 use Rattle.hba_driver.specs.declared.request.Work.TheVariants as work
 use Rattle.hba_driver.specs.declared.slot.Head.{Head}
 use Rattle.hba_driver.specs.declared.slot.Phase.{Phase}
-use Rattle.hba_driver.specs.declared.slot.Phase.TheVariants.{Waits, Issued, Aside, Ended}
+use Rattle.hba_driver.specs.declared.slot.Phase.TheVariants.{Issued, Aside, Ended}
 use Rattle.hba_driver.specs.declared.turn.Act.{Act}
 use Rattle.hba_driver.specs.declared.turn.Act.TheVariants as act
 use Rattle.hba_driver.specs.Drivers.{Driver, Entry, IsPath, entry_at, is_issued, is_issued_in, is_read, rephase, rephase_all, rephased, waits, waits_in}

@@ -1,20 +1,13 @@
 -- For `devices_are_known`. What an act does to the command of slot 30: only a stage of a path issues one there.
-use Rattle.std.proofs.Common.{◌≡◌, ◌≢◌, ℕ, Bool, true, false, ◌&&◌, [], refl, sym, ◌∙◌, ap, arith, Option, Some, None}
+use Rattle.std.proofs.Common.{◌≡◌, ◌≢◌, ℕ, Bool, true, false, refl, sym, ap, arith}
 use Rattle.std.specs.Prelude.{not}
 use Rattle.std.specs.List.{list_all}
-use Rattle.fis_view.specs.declared.build.H2dFields.{H2dFields}
-use Rattle.slots.specs.Slots.{match_some}
 use Rattle.hba_fbs.specs.Offsets.{register_at}
-use Rattle.hba_driver.specs.declared.effect.Effect.TheVariants as effect
 use Rattle.hba_driver.specs.declared.mode.Mode.TheVariants.{Switching}
-use Rattle.hba_driver.specs.declared.order.Order.{Order}
-use Rattle.hba_driver.specs.declared.order.Order.TheVariants.{Scan, Clear}
 use Rattle.hba_driver.specs.declared.path.Stage.{Stage}
 use Rattle.hba_driver.specs.declared.turn.Act.{Act}
 use Rattle.hba_driver.specs.declared.turn.Act.TheVariants as act
-use Rattle.hba_driver.specs.Effects.{effects_of, issuing, opening_write, opening_writes, order_command, order_effects, restart_write, restart_writes, sending}
-use Rattle.hba_driver.specs.Orders.{order_fields}
-use Rattle.hba_driver.specs.Sights.{px_sntf}
+use Rattle.hba_driver.specs.Effects.{effects_of, issuing}
 use Rattle.hba_driver.proofs.known.AwaitLemmas.{keeps_here}
 use Rattle.hba_driver.proofs.calls.EffectLemmas.{issuing_pass, opens_pass, order_pass, restarts_pass}
 use Rattle.hba_driver.proofs.issued.IssuingLemmas.{bit_other}

@@ -1,16 +1,15 @@
 -- For `devices_are_known`. A device that is not known stays unknown in a tick, unless its IDENTIFY DEVICE came back.
 use Rattle.std.proofs.Common.{◌≡◌, ◌≢◌, ℕ, zero, suc, Bool, true, false, ◌&&◌, List, [], ◌∷◌, map, get_or, set, refl, sym, ◌∙◌, ap, subst, inl, inr, Option, Some, None}
-use Rattle.std.specs.Prelude.{if◌then◌else◌, ◌==◌, is_some, nat_lt}
-use Rattle.std.specs.Option.{option_map, option_or}
+use Rattle.std.specs.Prelude.{if◌then◌else◌, ◌==◌, nat_lt}
+use Rattle.std.specs.Option.{option_map}
 use Rattle.std.proofs.lemmas.Bool.{and_parts, eq-eqb, eqb-true, false≢true, true≢false}
-use Rattle.slots.specs.Slots.{lowest_below, match_some}
-use Rattle.fis_view.specs.declared.build.H2dFields.{H2dFields}
+use Rattle.slots.specs.Slots.{match_some}
 use Rattle.hba_driver.specs.declared.order.Order.{Order}
 use Rattle.hba_driver.specs.declared.order.Order.TheVariants.{CountPorts, Scan, Clear, Detect}
 use Rattle.hba_driver.specs.declared.path.Path.{Path}
 use Rattle.hba_driver.specs.declared.path.Recovery.TheVariants.{Log, Reset}
 use Rattle.hba_driver.specs.declared.path.Stage.{Stage}
-use Rattle.hba_driver.specs.declared.path.Stage.TheVariants.{Identify, ReadLog, AssertReset, ReleaseReset, AwaitReset}
+use Rattle.hba_driver.specs.declared.path.Stage.TheVariants.{Identify, ReadLog, AssertReset, AwaitReset}
 use Rattle.hba_driver.specs.declared.path.TaskFile.{TaskFile}
 use Rattle.hba_driver.specs.declared.plan.Device.{Device}
 use Rattle.hba_driver.specs.declared.plan.Device.TheVariants.{Absent, Starting, Ready, Unusable, Recovering}
@@ -26,11 +25,10 @@ use Rattle.hba_driver.specs.declared.turn.Act.TheVariants as act
 use Rattle.hba_driver.specs.declared.turn.Logged.{Logged}
 use Rattle.hba_driver.specs.declared.turn.Turn.{Turn}
 use Rattle.hba_driver.specs.Drivers.{Driver, Entry, device_at, entry_at, is_issued, is_issued_in, rephase, rephase_all, rephased, waits}
-use Rattle.hba_driver.specs.Orders.{order_fields}
-use Rattle.hba_driver.specs.Paths.{first_stage, next_stage, recovery, reset_if_there, stage_fields}
+use Rattle.hba_driver.specs.Paths.{first_stage, next_stage, recovery, reset_if_there}
 use Rattle.hba_driver.specs.Ticks.{acted, after_tick, done_ended, entries_after, from_reset, is_aside_of, is_done, is_named_of, is_open, is_open_of, log_outcome, logged_ended, ordered, plan_after, recovering, removed, seen, stage_ended, turn, unless}
-use Rattle.hba_driver.specs.Turns.{advanced, allowed, answered, control_seen, detected, device_due, device_or_request, device_seen, early_due, fault_due, found_of, found_there, is_back, is_due, is_in_reset, is_ready, is_there, issue_of, may_issue, met, met_order, order_allowed}
-use Rattle.hba_driver.specs.Turns.{met_path, met_stage, noted, opening_due, order_due, path_answered, path_due, path_to, request_due, restart_due, stage_due, stage_for, step_of, turn_of, with_next}
+use Rattle.hba_driver.specs.Turns.{advanced, answered, control_seen, detected, device_seen, found_of, found_there, is_back, is_in_reset, is_ready, is_there, may_issue, met, met_order}
+use Rattle.hba_driver.specs.Turns.{met_path, met_stage, noted, path_answered, path_to, turn_of, with_next}
 use Rattle.hba_driver.proofs.ticks.DueLemmas.{Due, StepsBy, Waiting, early_by, late_by, order_allowed_by, turn_by}
 use Rattle.hba_driver.proofs.ticks.LifeLemmas.{due_seen, entry_of_rephased}
 use Rattle.hba_driver.proofs.calls.RequestLemmas.{set_cases}

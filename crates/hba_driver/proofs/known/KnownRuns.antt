@@ -1,9 +1,8 @@
 -- For `devices_are_known`. Over turns of the host, a device that is ready is known, and so is one of which a request is
 -- issued.
 use Rattle.std.proofs.Common.{◌≡◌, ◌≢◌, ℕ, zero, suc, ◌+◌, ◌<◌, Bool, true, false, ◌&&◌, ◌||◌, List, [], ◌∷◌, get_or, replicate, set, refl, sym, ◌∙◌, ap, subst, inl, inr, arith, Option, Some, None}
-use Rattle.std.specs.Prelude.{if◌then◌else◌, ◌==◌, not, is_some, nat_lt}
+use Rattle.std.specs.Prelude.{if◌then◌else◌, ◌==◌, not, nat_lt}
 use Rattle.std.specs.List.{list_any}
-use Rattle.std.specs.Option.{option_map}
 use Rattle.std.proofs.lemmas.Bool.{eq-eqb, eqb-true, false_from_ne_true, false≢true, lt-ltb, ne_eqb, or_parts, true_from_ne_false, true≢false}
 use Rattle.host_memory.specs.Memory.{is_memory_size}
 use Rattle.slots.specs.Slots.{Issue, has_bit, issue_at, match_some}
@@ -12,30 +11,28 @@ use Rattle.hba_laws.proofs.histories.ViewLemmas.{own_in}
 use Rattle.hba_driver.specs.declared.mode.Mode.TheVariants.{Switching}
 use Rattle.hba_driver.specs.declared.mode.Mode.{Mode}
 use Rattle.hba_driver.specs.declared.order.Order.{Order}
-use Rattle.hba_driver.specs.declared.order.Order.TheVariants.{ResetOn, ResetOff, AwaitSignature, CountPorts, SetMask, Enable, Open, Scan, Clear, Detect, Watch}
+use Rattle.hba_driver.specs.declared.order.Order.TheVariants.{ResetOn, Clear}
 use Rattle.hba_driver.specs.declared.path.Path.{Path}
 use Rattle.hba_driver.specs.declared.path.Stage.{Stage}
-use Rattle.hba_driver.specs.declared.path.Stage.TheVariants.{Identify, ReadLog, AssertReset, ReleaseReset, AwaitReset}
+use Rattle.hba_driver.specs.declared.path.Stage.TheVariants.{Identify}
 use Rattle.hba_driver.specs.declared.path.TaskFile.{TaskFile}
 use Rattle.hba_driver.specs.declared.plan.Device.TheVariants.{Absent}
 use Rattle.hba_driver.specs.declared.plan.Plan.{Plan}
 use Rattle.hba_driver.specs.Seeing.{Sight}
 use Rattle.hba_driver.specs.declared.turn.Act.{Act}
 use Rattle.hba_driver.specs.declared.turn.Act.TheVariants as act
-use Rattle.hba_driver.specs.declared.turn.Turn.{Turn}
 use Rattle.hba_driver.specs.Drivers.{Driver, Entry, has_ended, has_ended_in, is_issued, is_issued_in}
 use Rattle.hba_driver.specs.declared.slot.Phase.{Phase}
-use Rattle.hba_driver.specs.declared.slot.Phase.TheVariants.{Waits, Issued, Aside, Ended}
+use Rattle.hba_driver.specs.declared.slot.Phase.TheVariants.{Ended}
 use Rattle.hba_driver.specs.Effects.{ActsAll, effects_of, opening_write}
 use Rattle.hba_driver.specs.Events.{opening_host}
 use Rattle.hba_driver.specs.HostTurns.{Does, DoesAll, Host, HostTurn, Took, Pushed, Ticked, Submitted, Polled, Put, sight_in}
 use Rattle.hba_driver.specs.Known.{DevicesAreKnown, identifies, is_identify, known_after, known_over}
 use Rattle.hba_driver.specs.Laws.{flushes}
-use Rattle.hba_driver.specs.Paths.{next_stage, stage_fields}
+use Rattle.hba_driver.specs.Paths.{stage_fields}
 use Rattle.hba_driver.specs.Sights.{file_shown}
 use Rattle.hba_driver.specs.Submits.{after_poll, lowest_ended, new_entry, next_slot}
 use Rattle.hba_driver.specs.Ticks.{acted, after_tick, done_ended, due, effects, effects_due, from_reset, ordered, plan_after, recovering, seen, turn, unless}
-use Rattle.hba_driver.specs.Turns.{advanced, control_seen, device_seen, early_due, is_back, met_path, met_stage, order_allowed, path_to, turn_of}
 use Rattle.hba_driver.proofs.accepted.AcceptLemmas.{Goes, IsOnWay, free_here, goes_on, is_up, none_here, way_opens, way_turn}
 use Rattle.hba_driver.proofs.known.ActLemmas.{here_act}
 use Rattle.hba_driver.proofs.known.AwaitLemmas.{IsAwaited, awaited_pushed, awaited_took, here_effects}
@@ -44,7 +41,7 @@ use Rattle.hba_driver.proofs.events.DrivenLemmas.{not_below}
 use Rattle.hba_driver.proofs.ticks.DueLemmas.{Due, Runs, goes_turn, runs_turn}
 use Rattle.hba_driver.proofs.issued.EndingLemmas.{MayClear, MayEnd, may_end}
 use Rattle.hba_driver.proofs.known.FreshLemmas.{fresh_identify}
-use Rattle.hba_driver.proofs.known.KnownLemmas.{IsUnknown, NoneIssued, comes_back, is_logging, is_named, is_reading, is_trusted, path_control, unknown_tick}
+use Rattle.hba_driver.proofs.known.KnownLemmas.{IsUnknown, NoneIssued, comes_back, is_logging, is_named, is_reading, is_trusted, unknown_tick}
 use Rattle.hba_driver.proofs.ticks.LifeLemmas.{due_seen}
 use Rattle.hba_driver.proofs.events.OpenLemmas.{IsUpIn}
 use Rattle.hba_driver.proofs.done.OutLemmas.{kept_clear, kept_effects, kept_stopped, lasting_act, opening_is}

@@ -40,7 +40,7 @@ use Rattle.hba_driver.specs.declared.turn.Act.TheVariants as act
 use Rattle.hba_driver.specs.Drivers.{Entry, entry_at, is_issued}
 use Rattle.hba_driver.specs.Effects.{ActsAll, Tries, effects_of, sending, table_of}
 use Rattle.hba_driver.specs.Events.{opening_host}
-use Rattle.hba_driver.specs.HostTurns.{Does, DoesAll, Host, HostTurn, Took, Pushed, Ticked, Submitted, Polled, Put, sight_in}
+use Rattle.hba_driver.specs.HostTurns.{Does, DoesAll, Host, HostTurn, Took, Pushed, Ticked, sight_in}
 use Rattle.hba_driver.specs.Known.{is_asked, is_request}
 use Rattle.hba_driver.specs.Orders.{identify_fields, log_fields, control}
 use Rattle.hba_driver.specs.Paths.{stage_fields}

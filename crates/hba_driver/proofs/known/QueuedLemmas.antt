@@ -5,10 +5,10 @@ use Rattle.std.specs.Prelude.{◌||◌}
 use Rattle.std.specs.List.{list_any}
 use Rattle.std.proofs.lemmas.Bool.{cases_Bool, false≢true}
 use Rattle.hba_driver.specs.declared.slot.Phase.{Phase}
-use Rattle.hba_driver.specs.declared.slot.Phase.TheVariants.{Aside, Ended, Issued, Waits}
+use Rattle.hba_driver.specs.declared.slot.Phase.TheVariants.{Aside, Ended, Waits}
 use Rattle.hba_driver.specs.Drivers.{Entry, entry_at, has_ended_in, is_issued_in, rephased, waits_in}
 use Rattle.hba_driver.specs.Events.{opening_host}
-use Rattle.hba_driver.specs.HostTurns.{Does, DoesAll, Host, HostTurn, Polled, Pushed, Put, Submitted, Ticked, Took, sight_in}
+use Rattle.hba_driver.specs.HostTurns.{Does, DoesAll, Host, HostTurn, Submitted, Ticked, Took, sight_in}
 use Rattle.hba_driver.specs.Known.{is_flushed}
 use Rattle.hba_driver.specs.Laws.{Goes, flushes}
 use Rattle.hba_driver.specs.Queued.{IsQueuedBy, RequestsStay, Stood, Taken}

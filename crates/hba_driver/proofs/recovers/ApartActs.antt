@@ -7,7 +7,7 @@ use Rattle.slots.specs.Slots.{match_some}
 use Rattle.hba_fbs.specs.Views.{Port}
 use Rattle.hba_laws.proofs.histories.StandLemmas.{some_inj}
 use Rattle.hba_driver.specs.declared.order.Order.{Order}
-use Rattle.hba_driver.specs.declared.order.Order.TheVariants.{ResetOn, ResetOff, AwaitSignature, CountPorts, SetMask, Enable, Open, Scan, Clear, Detect, Watch}
+use Rattle.hba_driver.specs.declared.order.Order.TheVariants.{ResetOn, Clear}
 use Rattle.hba_driver.specs.declared.path.Path.{Path}
 use Rattle.hba_driver.specs.declared.path.Recovery.{Recovery}
 use Rattle.hba_driver.specs.declared.path.Recovery.TheVariants.{Log, Reset}

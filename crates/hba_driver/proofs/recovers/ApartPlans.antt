@@ -1,12 +1,11 @@
 -- For `devices_are_apart`. What a tick leaves of the plan of a device that recovers.
-use Rattle.std.proofs.Common.{◌≡◌, ◌≢◌, ℕ, zero, suc, ◌&&◌, Bool, true, false, nat_lt, List, [], ◌∷◌, get_or, set, refl, sym, ◌∙◌, ap, subst, inl, inr, Option, Some, None}
+use Rattle.std.proofs.Common.{◌≡◌, ℕ, zero, suc, ◌&&◌, Bool, true, false, List, [], ◌∷◌, get_or, set, refl, sym, ◌∙◌, ap, inl, inr, Option, Some}
 use Rattle.std.specs.Prelude.{if◌then◌else◌, not, is_some}
-use Rattle.std.specs.Option.{option_map, option_or}
-use Rattle.std.proofs.lemmas.Bool.{cases_eq, true≢false}
-use Rattle.fis_view.specs.declared.build.H2dFields.{H2dFields}
-use Rattle.slots.specs.Slots.{has_bit, lowest_below, match_some}
+use Rattle.std.specs.Option.{option_map}
+use Rattle.std.proofs.lemmas.Bool.{true≢false}
+use Rattle.slots.specs.Slots.{has_bit, match_some}
 use Rattle.hba_driver.specs.declared.order.Order.{Order}
-use Rattle.hba_driver.specs.declared.order.Order.TheVariants.{ResetOn, ResetOff, AwaitSignature, CountPorts, SetMask, Enable, Open, Scan, Clear, Detect, Watch}
+use Rattle.hba_driver.specs.declared.order.Order.TheVariants.{Detect}
 use Rattle.hba_driver.specs.declared.path.Path.{Path}
 use Rattle.hba_driver.specs.declared.path.Recovery.{Recovery}
 use Rattle.hba_driver.specs.declared.path.Recovery.TheVariants.{Log, Reset}
@@ -18,16 +17,14 @@ use Rattle.hba_driver.specs.declared.plan.Plan.{Plan}
 use Rattle.hba_driver.specs.Seeing.{Sight}
 use Rattle.hba_driver.specs.declared.turn.Act.{Act}
 use Rattle.hba_driver.specs.declared.turn.Act.TheVariants as act
-use Rattle.hba_driver.specs.declared.turn.Turn.{Turn}
-use Rattle.hba_driver.specs.Drivers.{Entry, device_at, entry_at, with_device}
+use Rattle.hba_driver.specs.Drivers.{Entry, device_at, with_device}
 use Rattle.hba_driver.specs.Paths.{next_stage, stage_fields}
 use Rattle.hba_driver.specs.Tended.{IsUnworked}
 use Rattle.hba_driver.specs.Slot30.{Asks, Cleared, Clears, Faulty, IsCleared, IsPlan30, LogSent, Off, On, ReadsLog, Resets, Sets, Stage30, is_faulty, path_of}
-use Rattle.hba_driver.specs.Turns.{advanced, allowed, answered, control_seen, detected, device_due, device_or_request, device_seen, early_due, found_of, is_back, is_due, is_in_reset, is_out, is_there, issue_of, may_issue, met, met_order, met_path, met_stage, noted, order_allowed, order_due, path_answered, path_due, path_met, request_due, stage_due, stage_for, step_of, turn_of, with_next}
+use Rattle.hba_driver.specs.Turns.{advanced, answered, control_seen, detected, device_seen, found_of, is_back, is_in_reset, is_out, is_there, met, met_path, met_stage, noted, path_met, turn_of, with_next}
 use Rattle.hba_driver.proofs.ticks.DueLemmas.{early_by, late_by, order_allowed_by, turn_by}
 use Rattle.hba_driver.proofs.known.KnownLemmas.{path_control}
 use Rattle.hba_driver.proofs.steady.SteadyLemmas.{control_beside, detect_or_other, device_beside, met_beside}
-use Rattle.hba_driver.proofs.goes_on.StopLemmas.{either}
 
 -- ---- slot 31 leaves a device that recovers, unless none is found at its port
 

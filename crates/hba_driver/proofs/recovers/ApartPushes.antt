@@ -22,7 +22,7 @@ use Rattle.slots.specs.Work.{is_queued}
 use Rattle.slots.specs.declared.table.Context.{Context}
 use Rattle.slots.specs.declared.work.Work.{Work}
 use Rattle.slots.proofs.MaskLemmas.{lowest_is}
-use Rattle.hba_fbs.specs.Sending.{Data, Gives, Nothing, Order as Goes, Outgoing, Sends, Unreadable, data_due, data_with, is_due, is_ready, next_receiver, next_to_send, order_due, outgoing, resets, view_sent}
+use Rattle.hba_fbs.specs.Sending.{Data, Gives, Nothing, Order as Goes, Outgoing, Sends, data_due, data_with, is_due, is_ready, next_receiver, next_to_send, order_due, outgoing, resets, view_sent}
 use Rattle.hba_fbs.specs.Tables.{sound_command}
 use Rattle.hba_fbs.specs.Views.{DeviceView, Port, last_command, view_of}
 use Rattle.hba_laws.specs.Agreement.{work_of_issue, work_of_transfer}
@@ -37,7 +37,7 @@ use Rattle.hba_driver.specs.declared.plan.Device.TheVariants.{Ready, Recovering}
 use Rattle.hba_driver.specs.declared.plan.Plan.{Plan}
 use Rattle.hba_driver.specs.declared.request.Request.{Request}
 use Rattle.hba_driver.specs.declared.slot.Phase.{Phase}
-use Rattle.hba_driver.specs.declared.slot.Phase.TheVariants.{Waits, Issued, Aside, Ended}
+use Rattle.hba_driver.specs.declared.slot.Phase.TheVariants.{Issued}
 use Rattle.hba_driver.specs.Drivers.{Driver, Entry, device_at, entry_at, has_ended_in, is_aside_in, is_issued_in}
 use Rattle.hba_driver.specs.Events.{IsSoundHost, shared_by}
 use Rattle.hba_driver.specs.HostTurns.{Host, Pushed}

@@ -40,7 +40,7 @@ use Rattle.hba_driver.specs.Events.{IsSoundHost, shared_by}
 use Rattle.hba_driver.specs.HostTurns.{Does, Host, Took}
 use Rattle.hba_driver.specs.Orders.{control}
 use Rattle.hba_driver.specs.Served.{IsServed}
-use Rattle.hba_driver.specs.Slot30.{Asks, Cleared, Clears, Faulty, IsAt30, IsSlot30, LogSent, MayCome30, Off, On, Sets, Stage30, TakesLead30, TakesOn30, Turns30, is_faulty, is_resetting}
+use Rattle.hba_driver.specs.Slot30.{Asks, Cleared, Faulty, IsAt30, IsSlot30, LogSent, MayCome30, On, Sets, Stage30, TakesLead30, TakesOn30, Turns30, is_faulty, is_resetting}
 use Rattle.hba_driver.proofs.recovers.ApartPushes.{IsDriven30, alone_issue, control_kind, driven_at, kept30}
 use Rattle.hba_driver.proofs.modes.RowMode.{skipped_as}
 use Rattle.hba_driver.proofs.goes_on.StopLemmas.{either}

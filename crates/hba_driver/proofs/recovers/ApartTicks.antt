@@ -17,13 +17,13 @@ use Rattle.hba_driver.specs.declared.path.Stage.{Stage}
 use Rattle.hba_driver.specs.declared.plan.Plan.{Plan}
 use Rattle.hba_driver.specs.Seeing.{Sight}
 use Rattle.hba_driver.specs.declared.slot.Phase.{Phase}
-use Rattle.hba_driver.specs.declared.slot.Phase.TheVariants.{Waits, Issued, Aside, Ended}
+use Rattle.hba_driver.specs.declared.slot.Phase.TheVariants.{Aside, Ended}
 use Rattle.hba_driver.specs.declared.turn.Act.{Act}
 use Rattle.hba_driver.specs.declared.turn.Act.TheVariants as act
 use Rattle.hba_driver.specs.declared.path.Recovery.TheVariants.{Log, Reset}
 use Rattle.hba_driver.specs.declared.path.TaskFile.{TaskFile}
 use Rattle.hba_driver.specs.declared.plan.Device.{Device}
-use Rattle.hba_driver.specs.declared.plan.Device.TheVariants.{Absent, Ready, Recovering, Starting, Unusable}
+use Rattle.hba_driver.specs.declared.plan.Device.TheVariants.{Absent, Ready, Recovering}
 use Rattle.hba_driver.specs.declared.turn.Turn.{Turn}
 use Rattle.hba_driver.specs.Drivers.{Driver, Entry, device_at, entry_at, has_ended_in, is_aside_in}
 use Rattle.hba_driver.specs.Effects.{ActsAll, clearing, effects_of, stage_effects}

@@ -1,26 +1,23 @@
 -- For `devices_are_apart`. A device that is not being looked for is not looked for until a tick flushes it.
 use Rattle.std.proofs.Common.{◌≡◌, ◌≢◌, ℕ, Bool, true, false, nat_lt, List, refl, sym, ◌∙◌, ap, subst, inl, inr, Option, Some, None}
-use Rattle.std.specs.Prelude.{if◌then◌else◌, is_some}
+use Rattle.std.specs.Prelude.{if◌then◌else◌}
 use Rattle.std.proofs.lemmas.Bool.{cases_Bool, false≢true}
 use Rattle.slots.specs.Slots.{match_some}
 use Rattle.hba_driver.specs.declared.order.Order.{Order}
-use Rattle.hba_driver.specs.declared.order.Order.TheVariants.{ResetOn, ResetOff, AwaitSignature, CountPorts, SetMask, Enable, Open, Scan, Clear, Detect, Watch}
+use Rattle.hba_driver.specs.declared.order.Order.TheVariants.{Clear}
 use Rattle.hba_driver.specs.declared.path.Path.{Path}
-use Rattle.hba_driver.specs.declared.path.Stage.{Stage}
-use Rattle.hba_driver.specs.declared.path.Stage.TheVariants.{Identify, ReadLog, AssertReset, ReleaseReset, AwaitReset}
 use Rattle.hba_driver.specs.declared.path.TaskFile.{TaskFile}
 use Rattle.hba_driver.specs.declared.plan.Plan.{Plan}
 use Rattle.hba_driver.specs.Seeing.{Sight}
 use Rattle.hba_driver.specs.declared.turn.Act.{Act}
 use Rattle.hba_driver.specs.declared.turn.Act.TheVariants as act
-use Rattle.hba_driver.specs.declared.turn.Turn.{Turn}
 use Rattle.hba_driver.specs.Drivers.{Driver, Entry}
-use Rattle.hba_driver.specs.HostTurns.{Does, Host, HostTurn, Polled, Pushed, Put, Submitted, Ticked, Took, sight_in}
+use Rattle.hba_driver.specs.HostTurns.{Does, Host, HostTurn, Polled, Submitted, Ticked, sight_in}
 use Rattle.hba_driver.specs.Sights.{file_shown}
 use Rattle.hba_driver.specs.Slot30.{IsUnflushed, StaysUnsought}
 use Rattle.hba_driver.specs.Steady.{IsFlushTick, detects}
 use Rattle.hba_driver.specs.Ticks.{after_tick, done_ended, due, from_reset, ordered, plan_after, recovering, seen, turn}
-use Rattle.hba_driver.specs.Turns.{advanced, control_seen, device_seen, early_due, found_of, is_back, order_allowed, turn_of}
+use Rattle.hba_driver.specs.Turns.{advanced, control_seen, device_seen, is_back, turn_of}
 use Rattle.hba_driver.proofs.goes_on.PageLemmas.{poll_plan}
 use Rattle.hba_driver.proofs.ticks.DueLemmas.{turn_by}
 use Rattle.hba_driver.proofs.steady.SteadyLemmas.{DueOf, detects_out, found_order, of_turn}

@@ -3,9 +3,8 @@
 use Rattle.std.proofs.Common.{◌≡◌, ◌≢◌, ℕ, ◌+◌, ◌*◌, ◌^◌, ◌<◌, Bool, true, false, ◌&&◌, nat_lt, List, [], ◌∷◌, ◌++◌, length, replicate, refl, sym, ◌∙◌, ap, subst, inl, inr, arith, Option, Some, None}
 use Rattle.std.specs.Prelude.{◌||◌, ◌==◌, ◌%◌, if◌then◌else◌, not, is_none, is_some}
 use Rattle.std.specs.Option.{option_or}
-use Rattle.std.proofs.lemmas.Bool.{cases_eq, cases_lt, eq-eqb, false≢true, ne_eqb, true≢false}
+use Rattle.std.proofs.lemmas.Bool.{eq-eqb, false≢true, ne_eqb, true≢false}
 use Rattle.std.proofs.lemmas.Bool.Decides.{nat_tests}
-use Rattle.std.proofs.lemmas.List.{get_or-replicate, get_or_past, length-replicate}
 use Rattle.std.proofs.lemmas.Nat.Bits.{bit_at-zero}
 use Rattle.fis_view.specs.Built.{IsBuilt, h2d_given}
 use Rattle.fis_view.specs.Table.{H2d}
@@ -16,7 +15,7 @@ use Rattle.hba_commands.specs.Commands.{cfis_at, command_at, is_proper}
 use Rattle.hba_commands.specs.Requests.{request_of, work_of}
 use Rattle.hba_commands.specs.Writing.{header_for}
 use Rattle.port_errors.specs.Errors.{cleared_device}
-use Rattle.slots.specs.Slots.{Issue, issue_at, has_bit, match_some, new_issue, no_own_slots, own_issue, slots_of}
+use Rattle.slots.specs.Slots.{issue_at, has_bit, match_some, new_issue, own_issue, slots_of}
 use Rattle.slots.specs.Table.{IsTable}
 use Rattle.hba_fbs.specs.declared.error.WriteError.{WriteError}
 use Rattle.hba_fbs.specs.declared.register.Register.{Register}
@@ -26,7 +25,7 @@ use Rattle.hba_fbs.specs.Bits.{dec}
 use Rattle.hba_fbs.specs.Issuing.{asked}
 use Rattle.hba_fbs.specs.Offsets.{register_at}
 use Rattle.hba_fbs.specs.Registers.{written}
-use Rattle.hba_fbs.specs.Views.{DeviceView, Flushes, Port, view_of}
+use Rattle.hba_fbs.specs.Views.{Flushes, Port, view_of}
 use Rattle.hba_fbs.specs.Writing.{Accepts, errors_after, is_device, refusal_of, view_after}
 use Rattle.hba_laws.specs.Hosts as event
 use Rattle.hba_laws.specs.Hosts.{HostEvent}
@@ -38,7 +37,7 @@ use Rattle.hba_laws.proofs.histories.StandLemmas.{some_inj}
 use Rattle.hba_driver.specs.declared.effect.Effect.TheVariants as effect
 use Rattle.hba_driver.specs.declared.mode.Mode.TheVariants.{Switching}
 use Rattle.hba_driver.specs.declared.order.Order.{Order}
-use Rattle.hba_driver.specs.declared.order.Order.TheVariants.{ResetOn, ResetOff, AwaitSignature, CountPorts, SetMask, Enable, Open, Scan, Clear, Detect, Watch}
+use Rattle.hba_driver.specs.declared.order.Order.TheVariants.{AwaitSignature, Scan, Clear, Watch}
 use Rattle.hba_driver.specs.Effects.{Acts, ActsAll, IsRuled, clearing, is_effect, issuing, order_effects, sending, table_of}
 use Rattle.hba_driver.specs.Orders.{order_fields}
 use Rattle.hba_driver.specs.Slot31.{IsLow}
@@ -51,7 +50,7 @@ use Rattle.hba_driver.proofs.goes_on.GoingLemmas.{IsCalm, act_calm}
 use Rattle.hba_driver.proofs.issued.IssuingLemmas.{bit_same}
 use Rattle.hba_driver.proofs.modes.ModeLemmas.{written_chosen}
 use Rattle.hba_driver.proofs.events.OpenLemmas.{IsUp, taken}
-use Rattle.hba_driver.proofs.accepted.UpLemmas.{Placed, Ready, ci_step, ci_taken, command_is, command_placed, fbs_step, free_by, same_free, sntf_step, IsIssuedAt}
+use Rattle.hba_driver.proofs.accepted.UpLemmas.{Placed, Ready, ci_step, ci_taken, command_is, command_placed, fbs_step, free_by, same_free, sntf_step}
 
 -- the control port's part
 abbrev pub control_part : Port → Memory → DevicePart

@@ -20,7 +20,7 @@ use Rattle.slots.specs.Work.{is_queued}
 use Rattle.slots.specs.declared.table.Context.{Context}
 use Rattle.slots.specs.declared.work.Work.{Work}
 use Rattle.slots.proofs.MaskLemmas.{lowest_is}
-use Rattle.hba_fbs.specs.Sending.{Data, Gives, Nothing, Order as Goes, Outgoing, Sends, Unreadable, is_ready, next_receiver, next_to_send, outgoing, resets, view_sent}
+use Rattle.hba_fbs.specs.Sending.{Data, Gives, Order as Goes, Outgoing, Sends, is_ready, next_receiver, next_to_send, outgoing, resets, view_sent}
 use Rattle.hba_fbs.specs.Views.{DeviceView, last_command, view_of}
 use Rattle.hba_laws.specs.Client.{own}
 use Rattle.hba_laws.specs.History.{Transfer, issued}
@@ -31,7 +31,7 @@ use Rattle.hba_laws.proofs.histories.StandLemmas.{some_inj}
 use Rattle.hba_laws.proofs.histories.ViewLemmas.{at_same, held, is_own, own_freed, own_set}
 use Rattle.hba_laws.proofs.placed.WithinLemmas.{the_transfer}
 use Rattle.hba_driver.specs.declared.order.Order.{Order}
-use Rattle.hba_driver.specs.declared.order.Order.TheVariants.{ResetOn, ResetOff, AwaitSignature, CountPorts, SetMask, Enable, Open, Scan, Clear, Detect, Watch}
+use Rattle.hba_driver.specs.declared.order.Order.TheVariants.{ResetOn, ResetOff, AwaitSignature, Watch}
 use Rattle.hba_driver.specs.Drivers.{Driver, IsPath}
 use Rattle.hba_driver.specs.HostTurns.{Does, Host, Pushed}
 use Rattle.hba_driver.specs.Orders.{order_fields}

@@ -2,11 +2,9 @@
 use Rattle.std.proofs.Common.{◌≡◌, ℕ, ◌+◌, ◌<◌, Bool, true, false, ◌&&◌, nat_lt, List, refl, sym, ◌∙◌, ap, Option, Some, None}
 use Rattle.std.specs.Prelude.{◌==◌, if◌then◌else◌, not, is_some}
 use Rattle.std.proofs.lemmas.Bool.{lt-ltb, true≢false}
-use Rattle.std.specs.Option.{option_map, option_or}
-use Rattle.slots.specs.Slots.{has_bit, lowest_below, match_some}
-use Rattle.fis_view.specs.declared.build.H2dFields.{H2dFields}
+use Rattle.slots.specs.Slots.{has_bit, match_some}
 use Rattle.hba_driver.specs.declared.order.Order.{Order}
-use Rattle.hba_driver.specs.declared.order.Order.TheVariants.{ResetOn, ResetOff, AwaitSignature, CountPorts, SetMask, Enable, Open, Scan, Clear, Detect, Watch}
+use Rattle.hba_driver.specs.declared.order.Order.TheVariants.{ResetOn, ResetOff, AwaitSignature, CountPorts, Enable, Open, Scan, Clear, Detect, Watch}
 use Rattle.hba_driver.specs.declared.path.Path.{Path}
 use Rattle.hba_driver.specs.declared.path.Stage.{Stage}
 use Rattle.hba_driver.specs.declared.path.Stage.TheVariants.{Identify, ReadLog}
@@ -15,13 +13,11 @@ use Rattle.hba_driver.specs.declared.plan.Plan.{Plan}
 use Rattle.hba_driver.specs.Seeing.{Sight}
 use Rattle.hba_driver.specs.declared.turn.Act.{Act}
 use Rattle.hba_driver.specs.declared.turn.Act.TheVariants as act
-use Rattle.hba_driver.specs.declared.turn.Turn.{Turn}
-use Rattle.hba_driver.specs.Drivers.{Driver, Entry, entry_at}
+use Rattle.hba_driver.specs.Drivers.{Driver, Entry}
 use Rattle.hba_driver.specs.Orders.{next_order, order_fields, scan_from}
-use Rattle.hba_driver.specs.Paths.{stage_fields}
 use Rattle.hba_driver.specs.Slot31.{is_off, is_on}
 use Rattle.hba_driver.specs.Ticks.{acted, after_tick, done_ended, due, from_reset, plan_after, recovering, seen}
-use Rattle.hba_driver.specs.Turns.{advanced, allowed, answered, control_news, control_seen, device_due, device_seen, device_turn, early_due, found_of, is_back, is_due, issue_of, may_issue, met, met_order, noted, order_due, path_due, plain_turn, request_due, stage_due, stage_for, step_of, turn_of, with_next}
+use Rattle.hba_driver.specs.Turns.{advanced, answered, control_seen, device_seen, found_of, is_back, met, met_order, noted, turn_of, with_next}
 use Rattle.hba_driver.specs.Going.{leaves_port}
 use Rattle.hba_driver.proofs.ticks.DueLemmas.{early_by, late_by, order_allowed_by, turn_by}
 use Rattle.hba_driver.proofs.goes_on.StopLemmas.{either}

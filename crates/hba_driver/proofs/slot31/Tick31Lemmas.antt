@@ -25,7 +25,7 @@ use Rattle.hba_driver.specs.HostTurns.{Does, Host, Ticked, sight_in}
 use Rattle.hba_driver.specs.Orders.{next_order, order_fields, scan_from}
 use Rattle.hba_driver.specs.Paths.{reads_page, stage_fields}
 use Rattle.hba_driver.specs.Sights.{file_shown, sight_of}
-use Rattle.hba_driver.specs.Slot31.{Asks, IsAt31, IsIn, IsLow, IsUnsent, Fails, Resets, Rests, Signs, Stage31, StaysOn, TicksOn, Told, Waits, control_of, has_failed, is_idle, is_off, is_pending, is_resetting}
+use Rattle.hba_driver.specs.Slot31.{IsAt31, IsIn, IsLow, IsUnsent, Fails, Resets, Rests, Signs, Stage31, StaysOn, TicksOn, Told, Waits, control_of, has_failed, is_idle, is_off, is_pending, is_resetting}
 use Rattle.hba_driver.specs.Ticks.{acted, after_tick, cleared_plan, done_ended, due, effects_due, from_reset, plan_after, recovering, seen, turn}
 use Rattle.hba_driver.specs.declared.turn.Turn.{Turn}
 use Rattle.std.specs.Option.{option_map, option_or}

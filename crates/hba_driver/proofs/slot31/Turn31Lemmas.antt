@@ -31,7 +31,7 @@ use Rattle.hba_driver.specs.Events.{opening_host, shared_by}
 use Rattle.hba_driver.specs.Going.{IsOfControl, IsReport}
 use Rattle.hba_driver.specs.HostTurns.{Does, DoesAll, Host, HostTurn, Polled, Pushed, Put, Submitted, Ticked, Took, sight_in}
 use Rattle.hba_driver.specs.Sights.{file_shown}
-use Rattle.hba_driver.specs.Slot31.{Asks, Comes31, Fails, IsAt31, IsIn, IsLow, MayBe31, MayCome31, OrdersTakeTurns, Resets, Rests, Signs, Stage31, Told, Turns31, Waits, control_of, has_failed, is_off, is_pending, is_resetting, orders_clear}
+use Rattle.hba_driver.specs.Slot31.{Asks, Comes31, IsAt31, IsIn, IsLow, MayBe31, MayCome31, OrdersTakeTurns, Rests, Signs, Stage31, Turns31, control_of, has_failed, is_off, is_pending, is_resetting, orders_clear}
 use Rattle.hba_driver.specs.Laws.{flushes}
 use Rattle.hba_driver.specs.Ticks.{done_ended, due, effects_due}
 use Rattle.hba_driver.proofs.slot31.ControlLemmas.{part_event}

@@ -21,7 +21,7 @@ use Rattle.hba_driver.specs.declared.path.Path.{Path}
 use Rattle.hba_driver.specs.declared.path.Stage.{Stage}
 use Rattle.hba_driver.specs.declared.path.TaskFile.{TaskFile}
 use Rattle.hba_driver.specs.declared.plan.Device.{Device}
-use Rattle.hba_driver.specs.declared.plan.Device.TheVariants.{Absent, Starting, Ready, Unusable, Recovering}
+use Rattle.hba_driver.specs.declared.plan.Device.TheVariants.{Absent, Starting, Ready}
 use Rattle.hba_driver.specs.declared.plan.Plan.{Plan}
 use Rattle.hba_driver.specs.declared.request.Completion.{Completion}
 use Rattle.hba_driver.specs.declared.request.Request.{Request}
@@ -37,7 +37,7 @@ use Rattle.hba_driver.specs.Effects.{effects_of, order_effects}
 use Rattle.hba_driver.specs.Orders.{identify_fields, is_flush, order_fields}
 use Rattle.hba_driver.specs.Paths.{stage_fields}
 use Rattle.hba_driver.specs.Going.{GoesOn as PortGoesOn}
-use Rattle.hba_driver.specs.HostTurns.{Does, Host, HostTurn, Took, Pushed, Ticked, Submitted, Polled, Put, sight_in}
+use Rattle.hba_driver.specs.HostTurns.{Does, Host, HostTurn, Ticked, Submitted, Polled, sight_in}
 use Rattle.hba_driver.specs.Laws.{Goes, GoesOn, Keeps, Kept, flushes}
 use Rattle.hba_driver.specs.Requests.{blocks, device_refusal}
 use Rattle.hba_driver.specs.Sights.{file_shown, is_ata, last_d2h, sight_of}

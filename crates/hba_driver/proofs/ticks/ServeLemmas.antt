@@ -9,10 +9,10 @@ use Rattle.hba_driver.specs.declared.effect.Effect.{Effect}
 use Rattle.hba_driver.specs.declared.mode.Mode.{Mode}
 use Rattle.hba_driver.specs.declared.mode.Mode.TheVariants.{Switching, CommandBased}
 use Rattle.hba_driver.specs.declared.order.Order.{Order}
-use Rattle.hba_driver.specs.declared.order.Order.TheVariants.{ResetOn, ResetOff, AwaitSignature, CountPorts, SetMask, Enable, Open, Scan, Clear, Detect, Watch}
+use Rattle.hba_driver.specs.declared.order.Order.TheVariants.{AwaitSignature, Clear, Watch}
 use Rattle.hba_driver.specs.declared.plan.Device.{Device}
 use Rattle.hba_driver.specs.declared.path.Stage.{Stage}
-use Rattle.hba_driver.specs.declared.path.Stage.TheVariants.{Identify, ReadLog, AssertReset, ReleaseReset, AwaitReset}
+use Rattle.hba_driver.specs.declared.path.Stage.TheVariants.{AwaitReset}
 use Rattle.hba_driver.specs.declared.path.TaskFile.{TaskFile}
 use Rattle.hba_driver.specs.declared.plan.Device.TheVariants.{Absent, Recovering}
 use Rattle.hba_driver.specs.declared.plan.Plan.{Plan}

@@ -22,7 +22,7 @@ use Rattle.hba_fbs.specs.Taking.{ignores, port_of}
 use Rattle.hba_fbs.specs.Views.{DeviceView, Port, stopped_view, view_of}
 use Rattle.hba_fbs.specs.Writing.{cleared_by, errors_after, is_device, view_after}
 use Rattle.hba_laws.specs.Causes.{DeviceCausesStay, OthersFaultNone, PortCausesStay, clears, clears_device, clears_port, comes_from}
-use Rattle.hba_laws.specs.Hosts.{Does, Flushed, Gave, Host, HostEvent, Put, Rewrote, Stored, Took, Wrote}
+use Rattle.hba_laws.specs.Hosts.{Does, Flushed, Gave, Host, HostEvent, Took, Wrote}
 use Rattle.hba_laws.specs.Isolation.{lowers_st}
 
 abbrev fault_of : ℕ → Port → Option DeviceCause

@@ -35,7 +35,7 @@ use Rattle.hba_laws.specs.Agreement.{AreHistoriesOf, IsHistoryOf, end_of}
 use Rattle.hba_laws.specs.Client.{By, FillsWithin, Puts, Stops, Touches, client, filling, own}
 use Rattle.hba_laws.specs.Delivering.{HasTables, HaveTables, IsClient, by_device, event_heard, event_of, event_taken, is_control_issue, issued_below, issued_in, touched, touched_by_clear, touched_by_out, touched_by_write}
 use Rattle.hba_laws.specs.History.{Carried, Emptied, Sent, SentControl, Setup, is_set_up, issued, last_setup}
-use Rattle.hba_laws.specs.Hosts.{Flushed, Gave, Host, HostEvent, Put, Rewrote, Stored, Took, Wrote as WroteRegister}
+use Rattle.hba_laws.specs.Hosts.{Gave, Host, HostEvent, Took, Wrote as WroteRegister}
 use Rattle.hba_laws.specs.Sent.{AreGathered, DataIsGathered, HoldsWrites, IsGathered}
 use Rattle.hba_laws.specs.Sound.{IsHost}
 use Rattle.hba_laws.proofs.histories.CarryLemmas.{next_is}

@@ -6,7 +6,7 @@ use Rattle.host_memory.specs.Place.{place, written}
 use Rattle.host_memory.proofs.WrittenLemmas.{written_elsewhere}
 use Rattle.slots.specs.Slots.{match_some}
 use Rattle.hba_laws.specs.Client.{AreWithin, By, Filling, FillsWithin, IsReading, IsWithin, Puts, Stops, Touch, Touches, client, filling, own}
-use Rattle.hba_laws.specs.History.{Answered, Carried, Emptied, Event, History, Issued, Named, PioSetUp, Sent, SentControl, SetUp, Transfer, filled, filled_from, is_set_up, issued, next_number, none_filled}
+use Rattle.hba_laws.specs.History.{Carried, Event, History, Issued, Transfer, filled, filled_from, is_set_up, issued, next_number, none_filled}
 use Rattle.hba_laws.specs.Sent.{AreBeside, AreGathered, HoldsWrites, IsGathered, IsWriting, SentFromPlace, SentStandsInPlace, WasSent}
 use Rattle.hba_laws.proofs.histories.StandLemmas.{filled_cases, filling_is, if_there, some_inj, was_issued, within_before}
 

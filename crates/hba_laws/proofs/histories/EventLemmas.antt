@@ -14,12 +14,12 @@ use Rattle.slots.specs.Slots.{DeviceSlots, Issue, Slots, context_of, has_bit, ho
 use Rattle.slots.specs.Work.{is_read}
 use Rattle.slots.specs.declared.table.Context.{Context}
 use Rattle.slots.specs.declared.work.Kind.{Kind}
-use Rattle.slots.specs.declared.work.Kind.TheVariants.{QueuedRead, QueuedWrite, PioIn, NoData, Control}
+use Rattle.slots.specs.declared.work.Kind.TheVariants.{QueuedRead, PioIn}
 use Rattle.slots.proofs.MaskLemmas.{lowest_is}
 use Rattle.slots.proofs.TableLemmas.{own_at}
 use Rattle.slots.specs.Slots.{owned_by}
 use Rattle.hba_fbs.specs.declared.register.Register.{Register}
-use Rattle.hba_fbs.specs.declared.register.Register.TheVariants.{Clb, Clbu, Fb, Fbu, Is, Ie, Cmd, Tfd, Sig, Serr, Sact, Ci, Sntf, Fbs}
+use Rattle.hba_fbs.specs.declared.register.Register.TheVariants.{Clb, Cmd, Ci, Fbs}
 use Rattle.hba_fbs.specs.declared.report.TakeReport.{TakeReport}
 use Rattle.hba_fbs.specs.Issuing.{aimed, asked, view_issued}
 use Rattle.hba_fbs.specs.Registers.{falls}
@@ -34,7 +34,7 @@ use Rattle.hba_laws.specs.Agreement.{IsHistoryOf, IsTold, end_of, is_pio_issue}
 use Rattle.hba_laws.specs.Client.{By, Stops, own}
 use Rattle.hba_laws.specs.Delivering.{HistoriesAreParts, IsFramed, ViewsAreTold, by_device, event_heard, event_sent, event_taken, history_after, is_control_issue, issued_below, touched, touched_by_clear, touched_by_out, touched_by_write}
 use Rattle.hba_laws.specs.History.{Carried, Emptied, Event, History, Sent, SentControl}
-use Rattle.hba_laws.specs.Hosts.{Does, Flushed, Gave, Host, HostEvent, Put, Rewrote, Stored, TakesFrame, Took, Wrote}
+use Rattle.hba_laws.specs.Hosts.{Does, Flushed, Gave, Host, HostEvent, TakesFrame, Took, Wrote}
 use Rattle.hba_laws.specs.Sound.{IsHost}
 use Rattle.hba_laws.proofs.histories.DataLemmas.{ends_block, says_carried}
 use Rattle.hba_laws.proofs.histories.HearLemmas.{heard_follows, with_event}

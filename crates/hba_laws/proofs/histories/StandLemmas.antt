@@ -12,7 +12,7 @@ use Rattle.slots.specs.Work.{is_queued, is_read}
 use Rattle.slots.specs.declared.work.Kind.{Kind}
 use Rattle.slots.specs.declared.work.Kind.TheVariants.{QueuedRead, PioIn}
 use Rattle.hba_laws.specs.Client.{AreApart, AreWithin, By, CompletesInPlace, Filling, FillsWithin, IsKept, IsReading, IsWithin, Puts, StandsInPlace, Stops, Touches, client, filling, filling_by, own}
-use Rattle.hba_laws.specs.History.{Answered, Carried, Emptied, Event, History, Issued, Named, PioSetUp, Sent, SentControl, SetUp, Setup, Transfer, bytes_of, completes, filled, filled_from, is_all_filled, is_at, is_set_up, issued, last_setup, next_number, none_filled, pio_setup, unless, waiting_in}
+use Rattle.hba_laws.specs.History.{Answered, Carried, Emptied, Event, History, Issued, Named, PioSetUp, SentControl, SetUp, Setup, Transfer, bytes_of, completes, filled, filled_from, is_all_filled, is_at, is_set_up, issued, last_setup, next_number, none_filled, pio_setup, unless, waiting_in}
 
 pub some_inj : {A : Type 0} (a b : A) → Some a ≡ Some b → a ≡ b
 some_inj a b e = cc

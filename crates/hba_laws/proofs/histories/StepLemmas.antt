@@ -13,7 +13,7 @@ use Rattle.slots.specs.Work.{is_queued}
 use Rattle.slots.specs.declared.answer.SetupError.TheVariants.{NotOutstanding}
 use Rattle.slots.specs.declared.table.Context.{Context}
 use Rattle.slots.specs.declared.work.Kind.{Kind}
-use Rattle.slots.specs.declared.work.Kind.TheVariants.{QueuedRead, QueuedWrite, PioIn, NoData, Control}
+use Rattle.slots.specs.declared.work.Kind.TheVariants.{QueuedRead, QueuedWrite, PioIn}
 use Rattle.slots.specs.declared.work.Work.{Work}
 use Rattle.slots.proofs.MaskLemmas.{lowest_found, lowest_is}
 use Rattle.slots.proofs.NewLemmas.{get-free}

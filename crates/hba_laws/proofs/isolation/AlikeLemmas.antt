@@ -1,7 +1,7 @@
 -- For `isolated`. The history of a device is told by its own events.
-use Rattle.std.proofs.Common.{◌≡◌, ◌≢◌, ℕ, zero, suc, ◌<◌, Bool, true, false, ◌&&◌, ◌||◌, List, [], ◌∷◌, ◌++◌, length, drop, refl, sym, ◌∙◌, ap, subst, arith, inl, inr, Option, Some, None}
-use Rattle.std.specs.Prelude.{◌==◌, if◌then◌else◌, map, not, is_none, is_some, Result}
-use Rattle.std.proofs.lemmas.Bool.{and_parts, cond-false, cond-true, eqb-false, eqb-true, not-false, or_parts, true≢false}
+use Rattle.std.proofs.Common.{◌≡◌, ◌≢◌, ℕ, zero, suc, ◌<◌, Bool, true, false, ◌&&◌, ◌||◌, List, [], ◌∷◌, ◌++◌, drop, refl, sym, ◌∙◌, ap, subst, Option, Some, None}
+use Rattle.std.specs.Prelude.{◌==◌, if◌then◌else◌, map, not, is_some, Result}
+use Rattle.std.proofs.lemmas.Bool.{cond-false, cond-true, eqb-false, eqb-true, not-false, or_parts}
 use Rattle.fis_view.specs.Frames.{Stamped}
 use Rattle.fis_view.specs.Seen.{seen}
 use Rattle.fis_view.specs.declared.view.Fis.{Fis}
@@ -9,27 +9,25 @@ use Rattle.fis_view.specs.declared.view.FisFault.{FisFault}
 use Rattle.hba_fbs.specs.declared.hearing.Fault.{Fault}
 use Rattle.hba_commands.specs.declared.command.Command.{Command}
 use Rattle.host_memory.specs.Memory.{Memory}
-use Rattle.host_memory.specs.declared.table.Prd.{Prd}
 use Rattle.slots.specs.Data.{payload}
 use Rattle.slots.specs.Slots.{Issue, context_of, holds, issue_at, match_some, own_issue, slots_of}
 use Rattle.hba_fbs.specs.declared.hearing.Heard.{Heard}
 use Rattle.hba_fbs.specs.declared.register.Register.{Register}
-use Rattle.hba_fbs.specs.declared.register.Register.TheVariants.{Clb, Clbu, Fb, Fbu, Is, Ie, Cmd, Tfd, Sig, Serr, Sact, Ci, Sntf, Fbs}
+use Rattle.hba_fbs.specs.declared.register.Register.TheVariants.{Cmd, Ci, Fbs}
 use Rattle.hba_fbs.specs.declared.report.TakeReport.{TakeReport}
 use Rattle.hba_fbs.specs.Issuing.{aimed, asked}
-use Rattle.hba_fbs.specs.Registers.{falls}
-use Rattle.hba_fbs.specs.Sending.{Data, Gives, Nothing, Order, Outgoing, Unreadable, data_fis, gathered, next_receiver, next_to_send, outgoing}
+use Rattle.hba_fbs.specs.Sending.{Data, Gives, Order, Outgoing, data_fis, gathered, next_receiver, next_to_send, outgoing}
 use Rattle.hba_fbs.specs.Tables.{is_sound, prds_of}
 use Rattle.hba_fbs.specs.Taking.{admitted, heard, ignores, is_ignored, is_running, passes_over, port_cause, port_of, stops_with}
-use Rattle.hba_fbs.specs.Views.{DeviceView, view_of}
+use Rattle.hba_fbs.specs.Views.{view_of}
 use Rattle.hba_fbs.specs.Writing.{cleared_by, is_device}
 use Rattle.hba_laws.specs.Alike.{AreFilledAlike, Brought, HistoriesByOwn, OwnFillAlike, brought, brought_over, history_by, tables_in, told_came, told_going, told_issue, told_issued, told_order, told_own, with_memory}
-use Rattle.hba_laws.specs.Client.{By, Stops, Touches, own}
-use Rattle.hba_laws.specs.Delivering.{by_device, event_heard, event_sent, event_taken, history_after, is_control_issue, issued_below, touched, touched_by_clear, touched_by_out, touched_by_write}
+use Rattle.hba_laws.specs.Client.{By, Stops, own}
+use Rattle.hba_laws.specs.Delivering.{by_device, event_heard, event_sent, event_taken, history_after, is_control_issue, issued_below, touched, touched_by_clear, touched_by_out}
 use Rattle.hba_laws.specs.History as event
 use Rattle.hba_laws.specs.History.{Event, History, filled, issued}
-use Rattle.hba_laws.specs.Hosts.{Does, Flushed, Gave, Host, HostEvent, Put, Rewrote, Runs, Stored, Took, Wrote}
-use Rattle.hba_laws.specs.Isolation.{AreOfDevices, Came, Cleared, Emptied, Issued, OwnEvent, Went, gone_to, is_port_event, lowers_st, next_own, own_events, part_after, part_after_all, skips, stops, stops_port, written_to}
+use Rattle.hba_laws.specs.Hosts.{Does, Flushed, Gave, Host, HostEvent, Rewrote, Runs, Took, Wrote}
+use Rattle.hba_laws.specs.Isolation.{AreOfDevices, Came, Cleared, Emptied, Issued, OwnEvent, Went, is_port_event, lowers_st, next_own, own_events, part_after, part_after_all, skips, stops, stops_port}
 use Rattle.hba_laws.specs.Parts.{DevicePart, part_of}
 use Rattle.hba_laws.specs.Sound.{AreHosts, IsHost}
 use Rattle.hba_laws.proofs.histories.EventLemmas.{other_one, own_one}

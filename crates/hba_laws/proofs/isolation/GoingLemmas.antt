@@ -6,7 +6,7 @@ use Rattle.fis_view.specs.Frames.{Stamped}
 use Rattle.hba_commands.specs.declared.command.Command.{Command}
 use Rattle.slots.specs.Data.{payload}
 use Rattle.slots.specs.Slots.{context_of, match_some, own_issue, slots_of}
-use Rattle.hba_fbs.specs.Sending.{Data, Gives, Nothing, Order, Outgoing, Unreadable, data_fis, gathered, next_receiver, next_to_send, outgoing}
+use Rattle.hba_fbs.specs.Sending.{Data, Gives, Order, Outgoing, data_fis, gathered, next_receiver, next_to_send, outgoing}
 use Rattle.hba_fbs.specs.Tables.{prds_of}
 use Rattle.hba_fbs.specs.Views.{Port, last_command, view_of}
 use Rattle.hba_laws.specs.Hosts.{Host}

@@ -40,7 +40,7 @@ use Rattle.hba_laws.specs.Agreement.{AreHistoriesOf, IsHistoryOf, end_of, is_for
 use Rattle.hba_laws.specs.Client.{AreWithin, By, Filling, IsWithin, Puts, Stops, Touches, client, filling, filling_by, own}
 use Rattle.hba_laws.specs.Delivering.{ClientIsTouched, DataIsWithin, DataReadsAsIssued, IsClient, IsFramed, IsReadAsIssued, ReadsAsIssued, by_device, event_heard, event_of, event_taken, is_control_issue, issued_below, issued_in, touched, touched_by_clear, touched_by_out, touched_by_write}
 use Rattle.hba_laws.specs.History.{Carried, Emptied, Sent, SentControl, Setup, is_set_up, issued}
-use Rattle.hba_laws.specs.Hosts.{Does, Flushed, Gave, Host, HostEvent, Put, PutsBytes, Rewrote, Stored, TakesFrame, Took, Wrote as WroteRegister}
+use Rattle.hba_laws.specs.Hosts.{Does, Flushed, Gave, Host, HostEvent, Put, PutsBytes, TakesFrame, Took, Wrote as WroteRegister}
 use Rattle.hba_laws.specs.Sound.{IsHost}
 use Rattle.hba_laws.proofs.histories.CarryLemmas.{next_is}
 use Rattle.hba_laws.proofs.histories.EventLemmas.{GoesOut, goes_out, says_of, step}

@@ -14,7 +14,7 @@ use Rattle.slots.specs.declared.answer.Answered.TheVariants as answer
 use Rattle.hba_fbs.specs.declared.hearing.Happening.{Happening}
 use Rattle.hba_fbs.specs.declared.hearing.Happening.TheVariants as happening
 use Rattle.hba_fbs.specs.declared.register.Register.{Register}
-use Rattle.hba_fbs.specs.declared.register.Register.TheVariants.{Clb, Clbu, Fb, Fbu, Is, Ie, Cmd, Tfd, Sig, Serr, Sact, Ci, Sntf, Fbs}
+use Rattle.hba_fbs.specs.declared.register.Register.TheVariants.{Cmd, Ci, Fbs}
 use Rattle.hba_fbs.specs.declared.report.TakeReport.{TakeReport}
 use Rattle.hba_fbs.specs.declared.status.Block.{Block}
 use Rattle.hba_fbs.specs.Issuing.{aimed, asked, commands_with}
@@ -29,7 +29,7 @@ use Rattle.hba_laws.specs.Agreement.{AreHistoriesOf, work_of_issue, work_of_tran
 use Rattle.hba_laws.specs.Client.{By, Filling, Puts, Stops, Touches, filling, own}
 use Rattle.hba_laws.specs.Delivering.{DataReadsAsIssued, HasTables, HaveTables, IsReadAsIssued, ReadsAsIssued, SparedTablesRead, SparesTables, by_device, event_heard, event_of, event_taken, is_control_issue, issued_below, touched, touched_by_clear, touched_by_out, touched_by_write}
 use Rattle.hba_laws.specs.History.{Carried, Emptied, Event, History, Issued, Sent, SentControl, Transfer, completes, issued, unless}
-use Rattle.hba_laws.specs.Hosts.{Does, Flushed, Gave, Host, HostEvent, Put, Rewrote, Stored, TakesFrame, Took, Wrote}
+use Rattle.hba_laws.specs.Hosts.{Does, Flushed, Gave, Host, HostEvent, Put, TakesFrame, Took, Wrote}
 use Rattle.hba_laws.specs.Sound.{IsHost}
 use Rattle.hba_laws.proofs.placed.ClientLemmas.{histories_step}
 use Rattle.hba_laws.proofs.histories.IssueLemmas.{asked_free, history_below, other_below, own_app, own_below_is, transfer_of, with_issued}

@@ -18,7 +18,7 @@ use Rattle.slots.specs.Slots.{Issue, match_some, own_issue}
 use Rattle.hba_fbs.specs.Tables.{is_readable, prds_of}
 use Rattle.hba_fbs.specs.Taking.{admitted, ignores, port_of, row_for}
 use Rattle.hba_fbs.specs.Views.{last_command}
-use Rattle.hba_laws.specs.Hosts.{Does, Flushed, Gave, Host, HostEvent, Put, Rewrote, Runs, Stored, Took, Wrote}
+use Rattle.hba_laws.specs.Hosts.{Does, Host, HostEvent, Put, Rewrote, Runs, Stored, Took, Wrote}
 use Rattle.hba_laws.specs.Sound.{AreHosts, IsHost}
 use Rattle.hba_laws.specs.Tables.{BytesStay, IssuedStayReadable, Spares, SparesBytes, TablesStay}
 use Rattle.hba_laws.proofs.prd_tables.AreaLemmas.{apart_posted, apart_rewritten, row_inside}

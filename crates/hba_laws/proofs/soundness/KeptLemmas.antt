@@ -12,12 +12,12 @@ use Rattle.host_memory.specs.Place.{Scatters}
 use Rattle.host_memory.proofs.AgreeLemmas.{length-overwritten}
 use Rattle.hba_fbs.specs.declared.hearing.Heard.{Heard}
 use Rattle.hba_fbs.specs.declared.register.Register.{Register}
-use Rattle.hba_fbs.specs.declared.register.Register.TheVariants.{Clb, Clbu, Fb, Fbu, Is, Ie, Cmd, Tfd, Sig, Serr, Sact, Ci, Sntf, Fbs}
+use Rattle.hba_fbs.specs.declared.register.Register.TheVariants.{Fb, Fbs}
 use Rattle.hba_fbs.specs.declared.registers.Registers.{Registers}
 use Rattle.hba_fbs.specs.declared.report.Wrote.{Wrote as BytesTold}
 use Rattle.hba_fbs.specs.Posting.{posted}
 use Rattle.hba_fbs.specs.Registers.{written}
-use Rattle.hba_fbs.specs.Sending.{Data, Gives, Nothing, Order, Outgoing, Unreadable, outgoing}
+use Rattle.hba_fbs.specs.Sending.{Data, Gives, Order, Outgoing, outgoing}
 use Rattle.hba_fbs.specs.Tables.{Delivers, prds_of}
 use Rattle.hba_fbs.specs.Taking.{admitted, heard_now, ignores, is_running, port_of, posted_of, settled, wrote_by}
 use Rattle.hba_fbs.specs.Views.{Port, last_command, view_of}

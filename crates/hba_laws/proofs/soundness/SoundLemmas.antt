@@ -22,18 +22,18 @@ use Rattle.hba_fbs.specs.declared.hearing.Fault.{Fault}
 use Rattle.hba_fbs.specs.declared.hearing.Fault.TheVariants as fault
 use Rattle.hba_fbs.specs.declared.hearing.Heard.{Heard}
 use Rattle.hba_fbs.specs.declared.register.Register.{Register}
-use Rattle.hba_fbs.specs.declared.register.Register.TheVariants.{Clb, Clbu, Fb, Fbu, Is, Ie, Cmd, Tfd, Sig, Serr, Sact, Ci, Sntf, Fbs}
+use Rattle.hba_fbs.specs.declared.register.Register.TheVariants.{Clb, Fb, Cmd, Tfd, Sig, Fbs}
 use Rattle.hba_fbs.specs.declared.registers.Registers.{Registers}
 use Rattle.hba_fbs.specs.Bits.{dec, fre, pma, st}
 use Rattle.hba_fbs.specs.Posting.{posted}
 use Rattle.hba_fbs.specs.Registers.{AreRegisters, cmd_refusal, falls, opening_registers, own_refusal, running_if, written}
-use Rattle.hba_fbs.specs.Sending.{Data, Gives, Nothing, Order, Outgoing, Unreadable, outgoing}
+use Rattle.hba_fbs.specs.Sending.{Gives, Nothing, Outgoing, Unreadable, outgoing}
 use Rattle.hba_fbs.specs.Taking.{admitted, errors_alone, errors_in, errors_with, heard_now, ignores, port_of, posted_of, settled}
 use Rattle.hba_fbs.specs.Views.{Port, view_of}
 use Rattle.hba_fbs.specs.Writing.{errors_after, refusal_of, slots_refusal}
 use Rattle.hba_fbs.proofs.CmdLemmas.{cmd_are}
 use Rattle.hba_fbs.proofs.SlotLemmas.{none_have}
-use Rattle.hba_laws.specs.Hosts.{Does, Flushed, Gave, Host, HostEvent, Put, Rewrote, Stored, Took, Wrote}
+use Rattle.hba_laws.specs.Hosts.{Does, Flushed, Gave, Host, HostEvent, Took, Wrote}
 use Rattle.hba_laws.specs.Sound.{OpensSound, RegistersStaySound, SizesStay}
 use Rattle.hba_laws.proofs.soundness.KeptLemmas.{client_lens, structure_lens}
 use Rattle.hba_laws.proofs.soundness.WriteLemmas.{first_none}
