@@ -5,9 +5,7 @@
 -- Cited: where a host is with a device that recovers (`hba_driver`, specs/Slot30.antt), a device that cannot
 -- complete a queued command (`disk_ends`, specs/Aside.antt), and a driver that serves a disk from where both
 -- began anew (specs/Together.antt).
-use Rattle.std.specs.Prelude.{ℕ, ◌≡◌, ◌<◌, false, List, [], ◌∷◌, length}
-use Rattle.slots.specs.Slots.{Issue, own_issue}
-use Rattle.hba_fbs.specs.Views.{view_of}
+use Rattle.std.specs.Prelude.{ℕ, ◌≡◌, ◌<◌, List, [], ◌∷◌, length}
 use Rattle.disk_model.specs.Anew.{OwesOnly}
 use Rattle.disk_model.specs.Histories.{Happening}
 use Rattle.disk_model.specs.Ledger.{ShowsPage, Signs, Wanted, ledger}

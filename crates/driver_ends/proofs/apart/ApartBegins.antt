@@ -1,20 +1,18 @@
 -- For `begins_anew_apart`. A device is set aside at each stage of slot 30, and driver and disk begin anew.
-use Rattle.std.proofs.Common.{◌≡◌, ◌≢◌, ℕ, ◌<◌, Bool, true, false, cond, eqb, List, [], ◌∷◌, length, refl, sym, ◌∙◌, ap, subst, inl, inr, arith, Option, Some, None}
+use Rattle.std.proofs.Common.{◌≡◌, ℕ, ◌<◌, Bool, true, false, eqb, List, [], ◌∷◌, length, refl, sym, ◌∙◌, ap, subst, inl, inr, arith, Option, Some, None}
 use Rattle.std.specs.Prelude.{◌⊎◌, ◌&&◌, ◌||◌, if◌then◌else◌, not}
-use Rattle.std.specs.Option.{option_map}
 use Rattle.std.proofs.lemmas.Bool.{cases_Bool, eq-eqb, false≢true, true≢false}
 use Rattle.hba_commands.specs.Requests.{request_of, work_of}
-use Rattle.slots.specs.Slots.{Issue, is_waiting, own_issue}
+use Rattle.slots.specs.Slots.{Issue, own_issue}
 use Rattle.slots.specs.Work.{is_queued}
-use Rattle.slots.specs.declared.table.Context.{Context}
 use Rattle.slots.specs.declared.work.Work.{Work}
 use Rattle.hba_fbs.specs.Views.{view_of}
 use Rattle.disk_model.specs.Anew.{OwesOnly}
 use Rattle.disk_model.specs.Histories.{Happening}
-use Rattle.disk_model.specs.Ledger.{ShowsPage, Signs, Wanted, ledger}
-use Rattle.hba_laws.specs.Agreement.{IsHistoryOf, IssueAgrees, is_for, work_of_issue, work_of_transfer}
+use Rattle.disk_model.specs.Ledger.{ShowsPage, Wanted, ledger}
+use Rattle.hba_laws.specs.Agreement.{IsHistoryOf, IssueAgrees, is_for}
 use Rattle.hba_laws.specs.Client.{Touches, own}
-use Rattle.hba_laws.specs.History.{Answered, History, Issued, Sent, Transfer, is_at, is_set_up, issued, unless, waiting_in}
+use Rattle.hba_laws.specs.History.{Answered, History, Issued, Sent, Transfer, is_at, issued, unless, waiting_in}
 use Rattle.hba_laws.proofs.histories.AgreeLemmas.{at_is}
 use Rattle.hba_laws.proofs.histories.StandLemmas.{some_inj}
 use Rattle.hba_laws.proofs.placed.WithinLemmas.{the_transfer}
@@ -23,20 +21,19 @@ use Rattle.disk_ends.specs.Aside as aside
 use Rattle.disk_ends.specs.Aside.{AreUnqueued, IsAside}
 use Rattle.disk_ends.specs.Joined.{SentAgrees}
 use Rattle.disk_ends.specs.Together.{IsWaitedUnset, NoneQueued, is_sent}
-use Rattle.hba_driver.specs.declared.path.Stage.TheVariants.{AwaitReset, ReadLog, ReleaseReset}
+use Rattle.hba_driver.specs.declared.path.Stage.TheVariants.{AwaitReset, ReleaseReset}
 use Rattle.hba_driver.specs.declared.slot.Phase.{Phase}
-use Rattle.hba_driver.specs.declared.slot.Phase.TheVariants.{Waits, Issued as IsOut, Aside, Ended}
+use Rattle.hba_driver.specs.declared.slot.Phase.TheVariants.{Aside, Ended}
 use Rattle.hba_driver.specs.Drivers.{Entry, has_ended_in, is_aside_in, is_issued_in, waits_in}
 use Rattle.hba_driver.specs.Events.{IsSoundHost, shared_by}
 use Rattle.hba_driver.specs.HostTurns.{Host}
-use Rattle.hba_driver.specs.Laws.{is_withdrawn}
 use Rattle.hba_driver.specs.Orders.{log_fields}
 use Rattle.hba_driver.specs.Served.{IsServed}
 use Rattle.hba_driver.specs.Slot30.{IsApart30, IsAt30, IsSent30, IsUnsought, LogSent, Off, ReadsLog, Resets, Stage30, is_faulty}
-use Rattle.hba_driver.specs.Tended.{AreTended, Awaits, IsAtStage, IsLiveAt, IsReleasing, IsTended, IsTendedBy, Logs, Releases}
+use Rattle.hba_driver.specs.Tended.{Awaits, IsAtStage, IsLiveAt, IsReleasing, IsTended, IsTendedBy, Logs, Releases}
 use Rattle.hba_driver.proofs.recovers.ApartPushes.{alone_issue, is_alone}
 use Rattle.driver_ends.proofs.together.TogetherBegins.{log_begins_served, reset_begins_served}
-use Rattle.driver_ends.proofs.honest.TurnLemmas.{no_issue, plain_since}
+use Rattle.driver_ends.proofs.honest.TurnLemmas.{plain_since}
 use Rattle.driver_ends.specs.Apart.{AsideAt, LogBegins, ResetBegins, ServesFrom}
 
 -- ---- set aside

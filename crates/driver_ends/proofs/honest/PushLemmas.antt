@@ -19,7 +19,7 @@ use Rattle.slots.specs.Slots.{Issue, holds, is_control, issue_at, match_some, ow
 use Rattle.slots.specs.Work.{is_queued}
 use Rattle.slots.specs.declared.work.Work.{Work}
 use Rattle.slots.proofs.MaskLemmas.{lowest_is}
-use Rattle.hba_fbs.specs.Sending.{Data, Gives, Nothing, Order, Outgoing, Unreadable, data_due, data_fis, data_with, gathered, is_due, next_receiver, next_to_send, order_due, outgoing}
+use Rattle.hba_fbs.specs.Sending.{Data, Gives, Nothing, Order, Outgoing, data_due, data_fis, data_with, gathered, is_due, next_receiver, next_to_send, order_due, outgoing}
 use Rattle.slots.specs.Data.{payload, payload_len}
 use Rattle.slots.specs.declared.table.Context.{Context}
 use Rattle.slots.specs.Slots.{context_of}

@@ -1,6 +1,6 @@
 -- For `serves_honestly`. The driver goes on to serve a disk honestly over a calm turn, and begins to in the tick that
 -- flushes it.
-use Rattle.std.proofs.Common.{◌≡◌, ℕ, ◌+◌, ◌<◌, true, false, List, [], ◌∷◌, length, refl, sym, ◌∙◌, ap, subst, inl, inr, arith, Option, Some, None, ◌≤◌}
+use Rattle.std.proofs.Common.{◌≡◌, ℕ, ◌+◌, ◌<◌, true, false, List, [], ◌∷◌, length, refl, sym, ◌∙◌, ap, subst, inl, inr, arith, Option, Some, None}
 use Rattle.std.specs.Option.{option_map}
 use Rattle.slots.specs.Slots.{Issue, own_issue}
 use Rattle.hba_fbs.specs.Views.{view_of}

@@ -1,7 +1,7 @@
 -- For `pushes_serve_on`. A command that went out stays so while nothing is issued.
 use Rattle.std.proofs.Common.{◌≡◌, ℕ, Bool, true, false, cond, eqb, [], ◌∷◌, ◌++◌, refl}
 use Rattle.hba_laws.specs.Client.{By, Puts, Stops, Touches, own}
-use Rattle.hba_laws.specs.History.{Answered, Carried, Emptied, Event, History, Issued, Named, PioSetUp, Sent, SentControl, SetUp}
+use Rattle.hba_laws.specs.History.{Event, History, Issued, Sent}
 use Rattle.hba_laws.proofs.placed.SpareLemmas.{NoneIssues, NotIssue}
 use Rattle.disk_ends.specs.Together.{is_sent}
 

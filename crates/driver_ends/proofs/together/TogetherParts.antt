@@ -16,7 +16,7 @@ use Rattle.hba_driver.specs.declared.path.Recovery.TheVariants.{Reset}
 use Rattle.hba_driver.specs.declared.plan.Device.TheVariants.{Ready}
 use Rattle.hba_driver.specs.Drivers.{device_at}
 use Rattle.hba_driver.specs.Events.{shared_by}
-use Rattle.hba_driver.specs.HostTurns.{Host, HostTurn, Took, Pushed, Ticked, Submitted, Polled, Put}
+use Rattle.hba_driver.specs.HostTurns.{Host, HostTurn, Ticked}
 use Rattle.hba_driver.specs.Tended.{IsResetTurn, TendsOn}
 use Rattle.hba_driver.proofs.issued.IssuingLemmas.{From}
 use Rattle.hba_driver.proofs.anew.TendedLemmas.{recovering_ready}

@@ -14,7 +14,7 @@ use Rattle.hba_commands.specs.declared.command.Command as issued_command
 use Rattle.slots.specs.Slots.{holds, is_control}
 use Rattle.slots.specs.Work.{is_queued}
 use Rattle.slots.specs.declared.work.Work.{Work}
-use Rattle.hba_fbs.specs.Sending.{Data, Gives, Nothing, Order, Outgoing, Unreadable, data_fis, gathered, outgoing, view_sent}
+use Rattle.hba_fbs.specs.Sending.{Data, Gives, Order, Outgoing, data_fis, gathered, outgoing, view_sent}
 use Rattle.hba_fbs.specs.Tables.{prds_of}
 use Rattle.hba_fbs.specs.Views.{DeviceView, view_of}
 use Rattle.disk_model.specs.Anew.{IsCarefulSince}

@@ -13,7 +13,7 @@ use Rattle.fis_view.specs.Table as name
 use Rattle.fis_view.specs.declared.build.H2dFields.{H2dFields}
 use Rattle.hba_commands.proofs.RequestLemmas.{built_long}
 use Rattle.slots.specs.Slots.{has_bit}
-use Rattle.hba_fbs.specs.Sending.{Data, Gives, Nothing, Order as Goes, Outgoing, Unreadable, outgoing}
+use Rattle.hba_fbs.specs.Sending.{Data, Gives, Order as Goes, Outgoing, outgoing}
 use Rattle.hba_fbs.specs.Taking.{ignores, is_running, port_of}
 use Rattle.hba_fbs.specs.Views.{DeviceView, stopped_view, view_of}
 use Rattle.disk_model.specs.declared.request.Request.TheVariants as asked
@@ -29,13 +29,13 @@ use Rattle.hba_driver.specs.declared.path.Stage.TheVariants.{ReadLog}
 use Rattle.hba_driver.specs.declared.plan.Device.TheVariants.{Ready, Recovering}
 use Rattle.hba_driver.specs.declared.plan.Plan.{Plan}
 use Rattle.hba_driver.specs.declared.slot.Phase.{Phase}
-use Rattle.hba_driver.specs.declared.slot.Phase.TheVariants.{Waits, Issued, Aside, Ended}
+use Rattle.hba_driver.specs.declared.slot.Phase.TheVariants.{Aside, Ended}
 use Rattle.hba_driver.specs.Drivers.{Driver, Entry, device_at, has_ended_in, is_aside_in, is_issued_in, waits_in}
 use Rattle.hba_driver.specs.Effects.{ActsAll, clearing, effects_of}
 use Rattle.hba_driver.specs.HostTurns.{Does, Host, HostTurn, Polled, Pushed, Put, Submitted, Ticked, Took, sight_in}
 use Rattle.hba_driver.specs.Orders.{control, log_fields}
 use Rattle.hba_driver.specs.Sights.{file_shown}
-use Rattle.hba_driver.specs.Slot30.{Asks, Cleared, Clears, Faulty, FindsNone, IsAt30, IsCleared, IsLogged, IsNext30, IsOn30, IsUnflushed, IsUnsought, LogSent}
+use Rattle.hba_driver.specs.Slot30.{Asks, Cleared, Clears, Faulty, FindsNone, IsAt30, IsCleared, IsLogged, IsNext30, IsOn30, IsUnflushed, IsUnsought}
 use Rattle.hba_driver.specs.Slot30.{MayCome30, Off, On, Sets}
 use Rattle.hba_driver.specs.Slot30.{Stage30, TakesOn30, TicksOn30, Turns30, fields30, is_faulty, sent30}
 use Rattle.hba_driver.specs.Steady.{IsCalmTick, IsClearTick, IsFine, IsFlushTick, detects}

@@ -1,6 +1,6 @@
 -- For `ends_go_on`. A device that is set aside stays so over each turn of the host and each step of the disk, or both
 -- begin anew as the disk takes a FIS.
-use Rattle.std.proofs.Common.{◌≡◌, ℕ, ◌<◌, arith, false, List, [], ◌∷◌, ◌++◌, refl, sym, subst, ◌∙◌, inl, Some, None}
+use Rattle.std.proofs.Common.{◌≡◌, ℕ, ◌<◌, arith, false, List, [], ◌∷◌, ◌++◌, refl, sym, subst, ◌∙◌, inl, Some}
 use Rattle.fis_view.specs.Frames.{IsFrame, Stamped, marked}
 use Rattle.fis_view.specs.Seen.{seen}
 use Rattle.hba_fbs.specs.declared.report.TakeReport.{TakeReport}
@@ -15,8 +15,8 @@ use Rattle.disk_model.specs.Runs.{IsDiskRun}
 use Rattle.disk_ends.specs.Line.{Asked, BothBegin, GoesUp, IsTaken, Line, LinesGoOn, Loose, OnLine}
 use Rattle.disk_ends.proofs.link.LineLemmas.{lines_go_on}
 use Rattle.disk_ends.proofs.link.MarkedFiles.{marks_ask_nothing}
-use Rattle.hba_driver.specs.HostTurns.{Does, DoesAll, Host, HostTurn, Polled, Pushed, Put, Submitted, Ticked, Took}
-use Rattle.hba_driver.specs.Slot30.{Asks, Cleared, Clears, Faulty, Goes30, IsAt30, IsNext30, IsOn30, IsUnsought, LogSent, Off, On, Sets, Stage30, TicksOn30}
+use Rattle.hba_driver.specs.HostTurns.{Does, DoesAll, Host, HostTurn, Pushed, Ticked, Took}
+use Rattle.hba_driver.specs.Slot30.{Cleared, Faulty, Goes30, IsAt30, IsNext30, IsOn30, IsUnsought, LogSent, Off, On, Stage30, TicksOn30}
 use Rattle.hba_driver.specs.Slot30.{Turns30, sent30}
 use Rattle.hba_driver.proofs.issued.ServedLemmas.{turns_serve}
 use Rattle.driver_phases.specs.Ends.{Apart, AreFloors, EndsAfter, IsBesideTurn, IsRunning, IsSetAside}

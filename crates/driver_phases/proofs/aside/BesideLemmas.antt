@@ -21,7 +21,7 @@ use Rattle.hba_driver.specs.declared.path.TaskFile.{TaskFile}
 use Rattle.hba_driver.specs.declared.plan.Plan.{Plan}
 use Rattle.hba_driver.specs.Drivers.{Driver, device_at}
 use Rattle.hba_driver.specs.Events.{IsSoundHost, events_over, shared_by}
-use Rattle.hba_driver.specs.HostTurns.{Does, DoesAll, Host, HostTurn, Polled, Pushed, Put, Submitted, Ticked, Took, sight_in}
+use Rattle.hba_driver.specs.HostTurns.{Does, DoesAll, Host, HostTurn, Polled, Pushed, Submitted, Ticked, Took, sight_in}
 use Rattle.hba_driver.specs.Served.{AreBounded}
 use Rattle.hba_driver.specs.Sights.{file_shown}
 use Rattle.hba_driver.specs.Steady.{IsCalmTick, IsFine, IsSteadyPlan, IsSteadyTurn, Issues, slot_in}

@@ -1,6 +1,6 @@
 -- For `ends_go_on`. An error that a disk reports next was asked for, and in a software reset its signature comes next.
 use Rattle.std.proofs.Common.{arith, ◌≡◌, ◌≢◌, ◌==◌, ℕ, ◌<◌, Bool, true, false, List, [], ◌∷◌, ◌++◌, append_assoc, drop, refl, sym, ap}
-use Rattle.std.proofs.Common.{subst, ◌∙◌, inl, inr, Option, None, Ok, Err, Result}
+use Rattle.std.proofs.Common.{subst, ◌∙◌, inl, inr, Option, None, Ok, Result}
 use Rattle.std.specs.Prelude.{◌&&◌, ◌||◌, is_none, is_some, not}
 use Rattle.std.proofs.lemmas.Bool.{cases_Bool, true≢false}
 use Rattle.std.proofs.lemmas.Nat.Bits.{bit_at-zero}

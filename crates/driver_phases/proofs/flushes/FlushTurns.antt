@@ -1,6 +1,6 @@
 -- For `flushes_go_down`. A FLUSH that was transmitted to a disk is counted at one of the two ends, over each turn of
 -- the host and each step of the disk.
-use Rattle.std.proofs.Common.{◌≡◌, ◌≢◌, ◌==◌, ℕ, zero, suc, ◌+◌, ◌<◌, ◌≤◌, Bool, true, false, cond, eqb, List, [], ◌∷◌, ◌++◌, drop, length, refl, sym, ap, subst, ◌∙◌, inl, inr, arith, Option, Some, None, Result}
+use Rattle.std.proofs.Common.{◌≡◌, ℕ, zero, suc, ◌+◌, ◌<◌, ◌≤◌, Bool, true, false, cond, eqb, List, [], ◌∷◌, ◌++◌, drop, length, refl, sym, ap, subst, ◌∙◌, inl, inr, arith, Option, Some, None, Result}
 use Rattle.std.specs.Prelude.{◌⊎◌, if◌then◌else◌}
 use Rattle.std.specs.List.{flat_map}
 use Rattle.std.proofs.lemmas.Bool.{eqb-true, false≢true}
@@ -19,7 +19,7 @@ use Rattle.slots.specs.declared.work.Work.{Work}
 use Rattle.hba_fbs.specs.declared.hearing.Happening as heard_as
 use Rattle.hba_fbs.specs.declared.hearing.Happening.TheVariants as happening
 use Rattle.hba_fbs.specs.declared.register.Register.{Register}
-use Rattle.hba_fbs.specs.declared.register.Register.TheVariants.{Clb, Clbu, Fb, Fbu, Is, Ie, Cmd, Tfd, Sig, Serr, Sact, Ci, Sntf, Fbs}
+use Rattle.hba_fbs.specs.declared.register.Register.TheVariants.{Cmd, Ci, Fbs}
 use Rattle.hba_fbs.specs.declared.report.TakeReport.{TakeReport}
 use Rattle.hba_fbs.specs.declared.status.Block.{Block}
 use Rattle.hba_fbs.specs.Registers.{falls}
@@ -36,7 +36,7 @@ use Rattle.disk_model.specs.Ledger.{ledger}
 use Rattle.disk_model.specs.declared.plan.DiskPlan.{DiskPlan}
 use Rattle.hba_laws.specs.Client.{By, Puts, Stops, Touches, own}
 use Rattle.hba_laws.specs.Delivering.{by_device, event_heard, event_of, event_sent, event_taken, is_control_issue, issued_below, issued_in, touched, touched_by_clear, touched_by_out, touched_by_write, touches_after}
-use Rattle.hba_laws.specs.History.{Answered, Carried, Emptied, Event, History, Issued, Named, PioSetUp, Sent, SentControl, SetUp, Transfer, issued}
+use Rattle.hba_laws.specs.History.{Event, History, Issued, Sent, SentControl, Transfer, issued}
 use Rattle.hba_laws.specs.Hosts as event
 use Rattle.hba_laws.specs.Hosts.{HostEvent, Runs}
 use Rattle.hba_laws.specs.Sound.{IsHost}
@@ -48,7 +48,7 @@ use Rattle.disk_ends.specs.Together.{is_sent}
 use Rattle.disk_ends.proofs.link.MarkedFiles.{marks_ask_nothing}
 use Rattle.hba_driver.specs.Drivers.{Entry, entry_at}
 use Rattle.hba_driver.specs.Events.{events_over, gave, pushed_by, shared_by}
-use Rattle.hba_driver.specs.HostTurns.{Does, DoesAll, Host, HostTurn, Polled, Pushed, Put, Submitted, Ticked, Took}
+use Rattle.hba_driver.specs.HostTurns.{Does, DoesAll, Host, HostTurn, Pushed, Submitted, Took}
 use Rattle.hba_driver.specs.Orders as orders
 use Rattle.hba_driver.specs.Orders.{request_fields}
 use Rattle.hba_driver.specs.declared.request.Work as driver_work

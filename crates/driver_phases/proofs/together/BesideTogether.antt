@@ -8,7 +8,7 @@ use Rattle.hba_fbs.specs.Views.{view_of}
 use Rattle.disk_model.specs.declared.plan.DiskPlan.{DiskPlan}
 use Rattle.disk_model.specs.Anew.{OwesOnly}
 use Rattle.disk_model.specs.Histories.{Happening}
-use Rattle.disk_model.specs.Ledger.{Accepts, Finishes, Ledger, Refuses, Reply, ShowsPage, Signs, Wanted, ledger}
+use Rattle.disk_model.specs.Ledger.{Ledger, Reply, ShowsPage, Signs, Wanted, ledger}
 use Rattle.hba_laws.specs.Client.{Touches, own}
 use Rattle.hba_laws.specs.Delivering.{touches_after}
 use Rattle.hba_laws.specs.History.{History, waiting_in}

@@ -1,13 +1,13 @@
 -- For `ends_go_on`. How many writes had ended when a request was submitted, over each turn of the host and each step of
 -- the disk.
-use Rattle.std.proofs.Common.{◌≡◌, ◌≢◌, ◌==◌, ◌⊎◌, ℕ, ◌+◌, ◌<◌, ◌≤◌, Bool, true, false, List, [], ◌∷◌, ◌++◌, length, length-append, refl, sym, ap, subst, ◌∙◌, inl, inr, arith, Option, Some, None}
+use Rattle.std.proofs.Common.{◌≡◌, ℕ, ◌+◌, ◌<◌, ◌≤◌, List, ◌++◌, length, length-append, sym, ap, subst, ◌∙◌, inl, inr, arith}
 use Rattle.disk_model.specs.declared.plan.DiskPlan.{DiskPlan}
 use Rattle.disk_model.specs.Anew.{StayWritten}
 use Rattle.disk_model.specs.Histories.{Happening}
-use Rattle.disk_model.specs.Ledger.{Ledger, ledger}
+use Rattle.disk_model.specs.Ledger.{ledger}
 use Rattle.disk_model.proofs.WrittenLemmas.{writes_stay}
 use Rattle.hba_laws.specs.Client.{Touches, own}
-use Rattle.hba_laws.specs.History.{History, Transfer, issued}
+use Rattle.hba_laws.specs.History.{History}
 use Rattle.disk_ends.specs.Anew.{IsKeptOn}
 use Rattle.disk_ends.specs.Same.{SlotCommand}
 use Rattle.disk_ends.proofs.anew.AnewJoins.{hosted_on_is_kept}

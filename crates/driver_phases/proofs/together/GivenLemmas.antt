@@ -3,7 +3,7 @@
 use Rattle.std.proofs.Common.{◌≡◌, ◌≢◌, ℕ, ◌<◌, List, [], ◌∷◌, sym, ◌∙◌, ap, arith, Some, None}
 use Rattle.std.specs.Prelude.{◌%◌, slice_index}
 use Rattle.fis_view.specs.Frames.{Stamped, marked}
-use Rattle.hba_fbs.specs.Sending.{Data, Gives, Nothing, Order, Outgoing, Unreadable, data_fis, gathered, outgoing}
+use Rattle.hba_fbs.specs.Sending.{Data, Gives, Order, Outgoing, data_fis, gathered, outgoing}
 use Rattle.hba_fbs.specs.Tables.{prds_of}
 use Rattle.disk_model.specs.Histories.{Received}
 use Rattle.hba_laws.specs.Client.{Touches}
