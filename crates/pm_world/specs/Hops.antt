@@ -1,8 +1,8 @@
 -- the links of a world by their names
 
-use Rattle.std.specs.Prelude.{ℕ, List, [], Option, Some, None, slice_get}
+use Rattle.std.specs.Prelude.{List, [], Option, Some, None, slice_get}
 use Rattle.fis_view.specs.Frames.{Stamped}
-use Rattle.pm_world.specs.Places.{Place, Places, Queue}
+use Rattle.pm_world.specs.Places.{Place, Places}
 use Rattle.pm_world.specs.declared.hop.Hop.{Hop}
 use Rattle.pm_world.specs.declared.hop.Hop.TheVariants.{HostToPm, PmToHost, DeviceToPm, PmToDevice}
 

@@ -21,7 +21,6 @@ use Rattle.hba_laws.specs.History.{filled}
 use Rattle.hba_driver.specs.declared.request.Work.TheVariants.{Read, Write}
 use Rattle.hba_driver.specs.Drivers.{Entry}
 use Rattle.pm_world.specs.Disks.{DiskRun, EndedSince, IsNewDisk, disk_history}
-use Rattle.pm_world.specs.Ended.{ReadsSectors, WritesSectors}
 use Rattle.pm_world.specs.Places.{Places, is_config}
 use Rattle.pm_world.specs.Rules.{Run}
 use Rattle.pm_world.specs.Runs.{over}

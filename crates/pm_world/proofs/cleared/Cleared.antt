@@ -18,7 +18,7 @@ use Rattle.pm_registers.proofs.ShownLemmas.{shows_inserted, shows_removed, shows
 use Rattle.pm_control.specs.Answers.{registers_after_request}
 use Rattle.pm_control.specs.Requests.{request_in}
 use Rattle.pm_control.specs.declared.request.Request.{Request}
-use Rattle.pm_control.specs.declared.request.Request.TheVariants.{Read, Write, Unknown, Reset, EndReset}
+use Rattle.pm_control.specs.declared.request.Request.TheVariants.{Read, Write, Unknown}
 use Rattle.pm_ports.specs.Port.{PortState, came_refusal, gone_refusal, rises, with_connection, with_removal, with_up}
 use Rattle.multiplier.specs.Passing.{falls}
 use Rattle.multiplier.specs.Rules.{FromHostRule, ToControl, ToDevice, ToNobody, ToPort, with_device as connected, without_device}

@@ -6,7 +6,7 @@ use Rattle.hba_fbs.specs.declared.report.TakeReport.{TakeReport}
 use Rattle.multiplier.specs.Arbiter.{control_port}
 use Rattle.hba_driver.specs.Going.{IsOfControl}
 use Rattle.hba_driver.specs.HostTurns.{Took}
-use Rattle.hba_driver.specs.Slot31.{Asks, Fails, IsNotice31, MayBe31, MayCome31, Resets, Rests, Signs, Stage31, Told, Waits}
+use Rattle.hba_driver.specs.Slot31.{Asks, IsNotice31, MayBe31, MayCome31, Signs, Stage31}
 use Rattle.hba_driver.proofs.goes_on.GoingLemmas.{goes_on}
 use Rattle.hba_driver.proofs.slot31.Turn31Lemmas.{control_in31}
 use Rattle.pm_world.specs.Places.{Places, new_world}

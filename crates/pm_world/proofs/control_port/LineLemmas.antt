@@ -20,7 +20,7 @@ use Rattle.multiplier.proofs.GiveLemmas.{Gives, FromPort, Notice, Answer as Answ
 use Rattle.hba_driver.specs.declared.mode.Mode.TheVariants.{Switching}
 use Rattle.hba_driver.specs.HostTurns.{Does, Host, HostTurn, Ticks, Took, Pushed, Ticked, Submitted, Polled, Put}
 use Rattle.hba_driver.specs.declared.request.Request.{Request as Asked}
-use Rattle.hba_driver.specs.Slot31.{Asks, Fails, Follows31, IsAt31, IsNext31, IsNotice31, MayBe31, MayCome31, Pushes31, Resets, Rests, Signs, Stage31, TakesOn, TicksOn, Told, Turns31, Waits, is_quiet, orders_clear}
+use Rattle.hba_driver.specs.Slot31.{Asks, Follows31, IsAt31, IsNext31, IsNotice31, MayBe31, MayCome31, Pushes31, Resets, Rests, Signs, Stage31, TakesOn, TicksOn, Turns31, Waits, is_quiet, orders_clear}
 use Rattle.hba_driver.proofs.addresses.AddressLemmas.{AreOfTheir, none_issued, turn_addressed, turn_their}
 use Rattle.hba_driver.proofs.goes_on.GoingLemmas.{IsGoing, going_opens, going_turn}
 use Rattle.hba_driver.proofs.slot31.Push31Lemmas.{begins_srst, ends_srst}

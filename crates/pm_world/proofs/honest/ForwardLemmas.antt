@@ -16,7 +16,7 @@ use Rattle.pm_registers.proofs.RegisterLemmas.{either}
 use Rattle.pm_control.specs.Answers.{registers_after_request}
 use Rattle.pm_control.specs.Requests.{request_in}
 use Rattle.pm_control.specs.declared.request.Request.{Request}
-use Rattle.pm_control.specs.declared.request.Request.TheVariants.{Read, Write, Unknown, Reset, EndReset}
+use Rattle.pm_control.specs.declared.request.Request.TheVariants.{Read, Write, Unknown}
 use Rattle.disk_model.specs.declared.unit.Unit.{Unit}
 use Rattle.multiplier.specs.State.{PmState, passes_to, port_at}
 use Rattle.pm_world.specs.Places.{Places, is_config, new_world}

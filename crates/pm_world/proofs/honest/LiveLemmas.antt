@@ -16,7 +16,7 @@ use Rattle.pm_registers.specs.RegisterMap.{RegisterMap}
 use Rattle.pm_control.specs.Answers.{registers_after_request}
 use Rattle.pm_control.specs.Requests.{request_in}
 use Rattle.pm_control.specs.declared.request.Request.{Request}
-use Rattle.pm_control.specs.declared.request.Request.TheVariants.{Read, Write, Unknown, Reset, EndReset}
+use Rattle.pm_control.specs.declared.request.Request.TheVariants.{Read, Write, Unknown}
 use Rattle.pm_ports.specs.Port.{came_refusal, gone_refusal}
 use Rattle.multiplier.specs.Arbiter.{control_port}
 use Rattle.multiplier.specs.Rules.{FromHostRule, ToControl, ToDevice, ToNobody, ToPort, with_device as connected, without_device}

@@ -11,7 +11,7 @@ use Rattle.hba_driver.specs.declared.mode.Mode.TheVariants.{Switching}
 use Rattle.hba_driver.specs.declared.request.Request.{Request}
 use Rattle.hba_driver.specs.declared.request.Ticket.{Ticket}
 use Rattle.hba_driver.specs.declared.slot.Phase.{Phase}
-use Rattle.hba_driver.specs.declared.slot.Phase.TheVariants.{Aside, Ended, Issued, Waits}
+use Rattle.hba_driver.specs.declared.slot.Phase.TheVariants.{Issued, Waits}
 use Rattle.hba_driver.specs.Drivers.{Entry, is_issued_in, rephased}
 use Rattle.hba_driver.specs.Known.{is_request}
 use Rattle.hba_driver.specs.Queued.{IsCommandOf}

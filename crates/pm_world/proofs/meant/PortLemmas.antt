@@ -15,7 +15,7 @@ use Rattle.pm_registers.proofs.LawLemmas.{summary_agrees}
 use Rattle.pm_registers.proofs.RegisterLemmas.{either}
 use Rattle.pm_control.specs.Answers.{registers_after_request}
 use Rattle.pm_control.specs.declared.request.Request.{Request}
-use Rattle.pm_control.specs.declared.request.Request.TheVariants.{Read, Write, Unknown, Reset, EndReset}
+use Rattle.pm_control.specs.declared.request.Request.TheVariants.{Write}
 use Rattle.hba_driver.specs.Orders.{changes}
 use Rattle.pm_world.proofs.cleared.Cleared.{HasX, Told}
 

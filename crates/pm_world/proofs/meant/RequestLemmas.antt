@@ -13,7 +13,7 @@ use Rattle.fis_view.specs.Table.{C, Command, Control, Count, D2h, Device, Featur
 use Rattle.fis_view.specs.declared.build.H2dFields.{H2dFields}
 use Rattle.fis_view.specs.declared.frame.Stamp.{Stamp}
 use Rattle.hba_driver.specs.declared.order.Order.{Order}
-use Rattle.hba_driver.specs.declared.order.Order.TheVariants.{ResetOn, ResetOff, AwaitSignature, CountPorts, SetMask, Enable, Open, Scan, Clear, Detect, Watch}
+use Rattle.hba_driver.specs.declared.order.Order.TheVariants.{ResetOn, ResetOff, CountPorts, SetMask, Enable, Open, Scan, Clear, Detect}
 use Rattle.hba_driver.specs.Orders.{changes, control_port, error_mask, error_ports, features_on, order_fields, port_count, reads, scontrol, serror, sstatus, writes}
 use Rattle.hba_driver.specs.Sights.{answer_in}
 use Rattle.hba_driver.specs.Slot31.{IsLow}

@@ -29,7 +29,7 @@ use Rattle.hba_driver.specs.declared.slot.Phase.TheVariants.{Waits, Issued}
 use Rattle.hba_driver.specs.Delivered.{TookDelivers, zero_at}
 use Rattle.hba_driver.specs.Drivers.{Driver, Entry, entry_at, is_read, rephased}
 use Rattle.hba_driver.specs.Events.{IsSoundHost, events_over, opening_host, shared_by}
-use Rattle.hba_driver.specs.HostTurns.{Does, DoesAll, Host, HostTurn, Polled, Pushed, Put, Submitted, Ticked, Took, Tooks}
+use Rattle.hba_driver.specs.HostTurns.{Does, DoesAll, Host, HostTurn, Submitted, Took, Tooks}
 use Rattle.hba_driver.specs.Requests.{is_mismatch}
 use Rattle.hba_driver.specs.Served.{IsIssueOf, IsOrdered, IsRequest, IsServed, IsStep}
 use Rattle.hba_driver.specs.Submits.{end_of, new_entry}

@@ -23,7 +23,7 @@ use Rattle.hba_laws.specs.History.{Event, History, Transfer, completes, issued, 
 use Rattle.hba_laws.specs.Hosts as host_event
 use Rattle.hba_driver.specs.Drivers.{Entry, entry_at, is_issued, waits_in}
 use Rattle.hba_driver.specs.Events.{IsSoundHost, events_over, shared_by}
-use Rattle.hba_driver.specs.HostTurns.{Does, Host, HostTurn, Polled, Pushed, Put, Submitted, Ticked, Took}
+use Rattle.hba_driver.specs.HostTurns.{Does, Host, HostTurn, Pushed, Submitted, Ticked, Took}
 use Rattle.hba_driver.specs.Laws.{GoesOn}
 use Rattle.hba_driver.specs.Served.{IsOrdered, IsRequest, IsServed, IsStep, RunServes}
 use Rattle.hba_driver.specs.Steady.{slot_in}

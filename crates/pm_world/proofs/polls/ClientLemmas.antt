@@ -27,7 +27,7 @@ use Rattle.hba_driver.specs.Delivered.{zero_at}
 use Rattle.hba_driver.specs.Drivers.{Entry, entry_at, is_read, waits_in}
 use Rattle.hba_driver.specs.Effects.{buffer_prd, prds_with}
 use Rattle.hba_driver.specs.Events.{IsSoundHost, events_over, shared_by}
-use Rattle.hba_driver.specs.HostTurns.{Does, DoesAll, Host, HostTurn, Polled, Pushed, Put, Submitted, Ticked, Took}
+use Rattle.hba_driver.specs.HostTurns.{Does, DoesAll, Host, HostTurn, Put, Submitted, Ticked, Took}
 use Rattle.hba_driver.specs.Laws.{gives}
 use Rattle.hba_driver.specs.Paths.{reads_page}
 use Rattle.hba_driver.specs.Requests.{in_use, is_used_by, share_bytes}

@@ -10,11 +10,11 @@ use Rattle.hba_fbs.specs.declared.report.TakeReport.{TakeReport}
 use Rattle.hba_fbs.specs.Taking.{port_of}
 use Rattle.hba_driver.specs.declared.request.Request.{Request}
 use Rattle.hba_driver.specs.declared.request.Ticket.{Ticket}
-use Rattle.hba_driver.specs.declared.slot.Phase.TheVariants.{Waits, Issued, Aside, Ended}
+use Rattle.hba_driver.specs.declared.slot.Phase.TheVariants.{Waits, Issued, Ended}
 use Rattle.hba_driver.specs.declared.slot.Phase.{Phase}
 use Rattle.hba_driver.specs.Drivers.{Entry, entry_at, has_ended_in, rephased}
 use Rattle.hba_driver.specs.Laws.{Goes}
-use Rattle.hba_driver.specs.HostTurns.{DoesAll, Host, HostTurn, Polled, Pushed, Put, Submitted, Ticked, Took}
+use Rattle.hba_driver.specs.HostTurns.{DoesAll, Host, HostTurn, Pushed, Submitted, Took}
 use Rattle.hba_driver.specs.Submits.{new_entry}
 use Rattle.hba_driver.proofs.accepted.AcceptLemmas.{IsOnWay, way_turn}
 use Rattle.hba_driver.proofs.requests.ComeLemmas.{Fresh, comes_from}

@@ -7,7 +7,7 @@ use Rattle.hba_driver.specs.Drivers.{Driver, Entry, entry_at, has_ended, has_end
 use Rattle.hba_driver.specs.Submits.{after_poll, completed, completion_at, completion_of, lowest_ended}
 use Rattle.hba_driver.specs.declared.slot.Head.{Head}
 use Rattle.hba_driver.specs.declared.slot.Phase.{Phase}
-use Rattle.hba_driver.specs.declared.slot.Phase.TheVariants.{Waits, Issued, Aside, Ended}
+use Rattle.hba_driver.specs.declared.slot.Phase.TheVariants.{Waits}
 
 ended : (entries : List (Option Entry)) (n : ℕ) → lowest_ended entries ≡ Some n → holds has_ended (entry_at entries n) ≡ true
 unfolding lowest_ended
