@@ -1,6 +1,6 @@
 //! A disk as the library for C keeps it.
 
-ghost use Rattle.std.specs.Prelude.{◌≡◌, ◌≤◌, ◌<◌, IfErr, IfOk, length, take};
+ghost use Rattle.std.specs.Prelude.{◌≡◌, ◌≢◌, ◌≤◌, ◌<◌, IfErr, IfOk, length, take};
 ghost use Rattle.gefsunk.specs.Disks.{DiskFromHost, DiskPlug, DiskRefused, DiskToHost, IsDiskOf, IsPlanOf, SectorRule, has_flag};
 
 use crate::pm::{copied, refused, stamp};
@@ -105,6 +105,7 @@ pub fn from_host(disk: &mut StockDisk, alloc: Global, fis: &[u8]) -> Status
 pub fn to_host(disk: &mut StockDisk, alloc: Global, room: &mut [u8], len: &mut usize) -> Status
     ensures rule { DiskToHost disk.old (length room.old) result (take len.new room.new) disk.new }
     ensures within { result ≡ Status.Done → len.new ≤ length room.old }
+    ensures kept { result ≢ Status.Done → (room.new ≡ room.old) × (len.new ≡ len.old) }
 {
     if room.len() < Frame::LONGEST {
         return Status::TooShort;
@@ -129,7 +130,8 @@ fn put(bytes: &[u8], room: &mut [u8])
 
 /// Writes the 512 bytes of a sector on the medium into the room.
 pub fn sector(disk: &StockDisk, lba: u32, room: &mut [u8]) -> Status
-    ensures { SectorRule disk.now lba (length room.old) result (take 512 room.new) }
+    ensures rule { SectorRule disk.now lba (length room.old) result (take 512 room.new) }
+    ensures kept { result ≢ Status.Done → room.new ≡ room.old }
 {
     let Some(bytes) = disk.sector(lba) else {
         return Status::NoSector;

@@ -1,6 +1,6 @@
 //! A controller as the library for C keeps it.
 
-ghost use Rattle.std.specs.Prelude.{◌≡◌, ◌≤◌, ◌<◌, length, take};
+ghost use Rattle.std.specs.Prelude.{◌≡◌, ◌≢◌, ◌≤◌, ◌<◌, length, take};
 ghost use Rattle.gefsunk.specs.Hbas.{DataRule, HbaRead, HbaTake, HbaWrite, LineRule, NextOut, Shows, link_of, number_of, place_of};
 
 use crate::guest::GuestBlock;
@@ -119,7 +119,8 @@ fn shown(took: &Took) -> FisTaken
 
 /// The controller takes a FIS of a device.
 pub fn take(controller: &mut Controller, alloc: Global, fis: &[u8], taken: &mut FisTaken) -> Status
-    ensures { HbaTake controller.old fis.now result taken.new controller.new }
+    ensures rule { HbaTake controller.old fis.now result taken.new controller.new }
+    ensures kept { result ≢ Status.Done → taken.new ≡ taken.old }
 {
     let frame = match Frame::from_bytes(alloc, fis, stamp(0, 0)) {
         Ok(frame) => frame,
@@ -143,6 +144,8 @@ fn placed(step: Move) -> DataPlace
 pub fn data(controller: &Controller, room: &mut [DataPlace], count: &mut usize) -> Status
     ensures rule { DataRule controller.now (length room.old) result (take count.new room.new) }
     ensures within { result ≡ Status.Done → count.new ≤ length room.old }
+    ensures kept { result ≢ Status.Done → count.new ≡ count.old }
+    ensures room { result ≡ Status.Nothing → room.new ≡ room.old }
 {
     let Some(moves) = controller.data() else {
         return Status::Nothing;
@@ -171,6 +174,8 @@ pub fn next_out(
     ensures rule { NextOut controller.old guest.now (length room.old) result (take len.new room.new) message.new
         controller.new }
     ensures within { result ≡ Status.Done → len.new ≤ length room.old }
+    ensures kept { result ≢ Status.Done → (room.new ≡ room.old) × (len.new ≡ len.old) }
+    ensures silent { result ≢ Status.Done → result ≢ Status.Nothing → message.new ≡ message.old }
 {
     if room.len() < Frame::LONGEST {
         return Status::TooShort;

@@ -162,6 +162,8 @@ pub extern "C" fn gefsunk_pm_to_host(
     ensures rule { AtPm handle.old.held.value (status_of result) handle.new.held.value
         (λ old new. ToHost old (length room.old) (status_of result) (take len.new room.new) port.new new) }
     ensures within { status_of result ≡ status.Done → len.new ≤ length room.old }
+    ensures kept { status_of result ≢ status.Done
+        → (room.new ≡ room.old) × (len.new ≡ len.old) × (port.new ≡ port.old) }
 {
     let Some(mut kept) = handle.take(alloc) else {
         return Status::Closed.code();
@@ -186,6 +188,7 @@ pub extern "C" fn gefsunk_pm_to_device(
     ensures rule { AtPm handle.old.held.value (status_of result) handle.new.held.value
         (λ old new. ToDevice old port (length room.old) (status_of result) (take len.new room.new) new) }
     ensures within { status_of result ≡ status.Done → len.new ≤ length room.old }
+    ensures kept { status_of result ≢ status.Done → (room.new ≡ room.old) × (len.new ≡ len.old) }
 {
     let Some(mut kept) = handle.take(alloc) else {
         return Status::Closed.code();
@@ -207,8 +210,9 @@ pub extern "C" fn gefsunk_pm_read(
     number: u16,
     value: &mut u32,
 ) -> u32
-    ensures { AtPm handle.old.held.value (status_of result) handle.new.held.value
+    ensures rule { AtPm handle.old.held.value (status_of result) handle.new.held.value
         (λ old new. ReadRule old port number (status_of result) value.new × (new ≡ old)) }
+    ensures kept { status_of result ≢ status.Done → value.new ≡ value.old }
 {
     let Some(kept) = handle.take(alloc) else {
         return Status::Closed.code();
@@ -224,8 +228,9 @@ pub extern "C" fn gefsunk_pm_read(
 /// Gives the number of FISes of the host that were dropped.
 #[unsafe(no_mangle)]
 pub extern "C" fn gefsunk_pm_dropped(handle: &mut Handle, alloc: Global, count: &mut u32) -> u32
-    ensures { AtPm handle.old.held.value (status_of result) handle.new.held.value
+    ensures rule { AtPm handle.old.held.value (status_of result) handle.new.held.value
         (λ old new. (status_of result ≡ status.Done) × (count.new ≡ old.multiplier.dropped) × (new ≡ old)) }
+    ensures kept { status_of result ≢ status.Done → count.new ≡ count.old }
 {
     let Some(kept) = handle.take(alloc) else {
         return Status::Closed.code();
@@ -334,6 +339,7 @@ pub extern "C" fn gefsunk_disk_to_host(
     ensures rule { AtDisk handle.old.held.value (status_of result) handle.new.held.value
         (λ old new. DiskToHost old (length room.old) (status_of result) (take len.new room.new) new) }
     ensures within { status_of result ≡ status.Done → len.new ≤ length room.old }
+    ensures kept { status_of result ≢ status.Done → (room.new ≡ room.old) × (len.new ≡ len.old) }
 {
     let Some(mut kept) = handle.take(alloc) else {
         return Status::Closed.code();
@@ -357,6 +363,7 @@ pub extern "C" fn gefsunk_disk_sector(
     ensures rule { AtDisk handle.old.held.value (status_of result) handle.new.held.value
         (λ old new. SectorRule old lba (length room.old) (status_of result) (take 512 room.new) × (new ≡ old)) }
     ensures known { is_code result ≡ true }
+    ensures kept { status_of result ≢ status.Done → room.new ≡ room.old }
 {
     let Some(kept) = handle.take(alloc) else {
         return Status::Closed.code();
@@ -415,8 +422,9 @@ pub extern "C" fn gefsunk_hba_read32(
     offset: u32,
     value: &mut u32,
 ) -> u32
-    ensures { AtHba handle.old.held.value (status_of result) handle.new.held.value
+    ensures rule { AtHba handle.old.held.value (status_of result) handle.new.held.value
         (λ old new. HbaRead old offset (status_of result) value.new × (new ≡ old)) }
+    ensures kept { status_of result ≢ status.Done → value.new ≡ value.old }
 {
     let Some(kept) = handle.take(alloc) else {
         return Status::Closed.code();
@@ -432,8 +440,9 @@ pub extern "C" fn gefsunk_hba_read32(
 /// Says whether the interrupt line is raised.
 #[unsafe(no_mangle)]
 pub extern "C" fn gefsunk_hba_line(handle: &mut Handle, alloc: Global, raised: &mut u32) -> u32
-    ensures { AtHba handle.old.held.value (status_of result) handle.new.held.value
+    ensures rule { AtHba handle.old.held.value (status_of result) handle.new.held.value
         (λ old new. LineRule old (status_of result) raised.new × (new ≡ old)) }
+    ensures kept { status_of result ≢ status.Done → raised.new ≡ raised.old }
 {
     let Some(kept) = handle.take(alloc) else {
         return Status::Closed.code();
@@ -458,8 +467,9 @@ pub extern "C" fn gefsunk_hba_write32(
     link: &mut u32,
     message: &mut u32,
 ) -> u32
-    ensures { AtHba handle.old.held.value (status_of result) handle.new.held.value
+    ensures rule { AtHba handle.old.held.value (status_of result) handle.new.held.value
         (λ old new. HbaWrite old (block base memory.now) offset value (status_of result) link.new message.new new) }
+    ensures kept { status_of result ≢ status.Done → (link.new ≡ link.old) × (message.new ≡ message.old) }
 {
     let Some(mut kept) = handle.take(alloc) else {
         return Status::Closed.code();
@@ -483,8 +493,9 @@ pub extern "C" fn gefsunk_hba_take(
     fis: &[u8],
     taken: &mut FisTaken,
 ) -> u32
-    ensures { AtHba handle.old.held.value (status_of result) handle.new.held.value
+    ensures rule { AtHba handle.old.held.value (status_of result) handle.new.held.value
         (λ old new. HbaTake old fis.now (status_of result) taken.new new) }
+    ensures kept { status_of result ≢ status.Done → taken.new ≡ taken.old }
 {
     let Some(mut kept) = handle.take(alloc) else {
         return Status::Closed.code();
@@ -508,6 +519,8 @@ pub extern "C" fn gefsunk_hba_data(
     ensures rule { AtHba handle.old.held.value (status_of result) handle.new.held.value
         (λ old new. DataRule old (length room.old) (status_of result) (take count.new room.new) × (new ≡ old)) }
     ensures within { status_of result ≡ status.Done → count.new ≤ length room.old }
+    ensures kept { status_of result ≢ status.Done → count.new ≡ count.old }
+    ensures room { status_of result ≢ status.Done → status_of result ≢ status.TooShort → room.new ≡ room.old }
 {
     let Some(kept) = handle.take(alloc) else {
         return Status::Closed.code();
@@ -535,6 +548,9 @@ pub extern "C" fn gefsunk_hba_next_out(
         (λ old new. NextOut old (block base memory.now) (length room.old) (status_of result)
         (take len.new room.new) message.new new) }
     ensures within { status_of result ≡ status.Done → len.new ≤ length room.old }
+    ensures kept { status_of result ≢ status.Done → (room.new ≡ room.old) × (len.new ≡ len.old) }
+    ensures silent { status_of result ≢ status.Done → status_of result ≢ status.Nothing
+        → message.new ≡ message.old }
 {
     let Some(mut kept) = handle.take(alloc) else {
         return Status::Closed.code();

@@ -1,6 +1,6 @@
 //! A port multiplier as the library for C keeps it: it counts the connections, which C does not see.
 
-ghost use Rattle.std.specs.Prelude.{◌≡◌, ◌↔◌, ◌≤◌, IsTrue, length, take};
+ghost use Rattle.std.specs.Prelude.{◌≡◌, ◌≢◌, ◌↔◌, ◌≤◌, IsTrue, length, take};
 ghost use Rattle.gefsunk.specs.Pms.{FromDevice, FromHost, Plug, ReadRule, ToDevice, ToHost, Unplug, has_port, no_removals, opening, refused};
 
 use crate::status::Status;
@@ -159,6 +159,8 @@ impl Pm {
     ) -> Status
         ensures rule { ToHost self.old (length room.old) result (take len.new room.new) port.new self.new }
         ensures within { result ≡ Status.Done → len.new ≤ length room.old }
+        ensures kept { result ≢ Status.Done
+            → (room.new ≡ room.old) × (len.new ≡ len.old) × (port.new ≡ port.old) }
     {
         if room.len() < Frame::LONGEST {
             return Status::TooShort;
@@ -179,6 +181,7 @@ impl Pm {
     pub fn to_device(&mut self, port: u8, room: &mut [u8], len: &mut usize) -> Status
         ensures rule { ToDevice self.old port (length room.old) result (take len.new room.new) self.new }
         ensures within { result ≡ Status.Done → len.new ≤ length room.old }
+        ensures kept { result ≢ Status.Done → (room.new ≡ room.old) × (len.new ≡ len.old) }
     {
         if !self.has_port(port) {
             return Status::NoPort;
@@ -198,7 +201,8 @@ impl Pm {
 
     /// Reads a register of a port, 15 for the control port.
     pub fn read(&self, port: u8, number: u16, value: &mut u32) -> Status
-        ensures { ReadRule self.now port number result value.new }
+        ensures rule { ReadRule self.now port number result value.new }
+        ensures kept { result ≢ Status.Done → value.new ≡ value.old }
     {
         match self.multiplier.registers().read(port, number) {
             Ok(read) => {
