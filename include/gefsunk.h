@@ -108,7 +108,8 @@ gef_status gef_pm_free(gef_pm *pm);
 
 /*
  * A device came to a port. If the host has enabled notifications, the multiplier notifies it; gef_pm_to_host gives the
- * notification. No FIS of the device goes up before the host has opened the port.
+ * notification. No FIS of the device goes up, and none goes down to it, before the host has opened the port: by WRITE
+ * PORT MULTIPLIER commands to port 15 it writes 0 to SControl of the port (2), and after that ones to its SError (1).
  * Can return GEF_CLOSED, GEF_NO_PORT, GEF_ALREADY_THERE, GEF_SPENT.
  */
 gef_status gef_pm_plug(gef_pm *pm, uint8_t port);
@@ -165,9 +166,11 @@ gef_status gef_pm_dropped(gef_pm *pm, uint32_t *count);
 /* ---- a disk ------------------------------------------------------------------------------------------------------ */
 
 /*
- * A disk with native command queuing, its sectors in memory. Put it behind a port of a multiplier (gef_pm_to_device gives
- * what gef_disk_from_host takes, and gef_disk_to_host what gef_pm_from_device takes), or at the other end of a link of
- * your own. The rules of a handle are those of gef_pm. A handle of another kind returns GEF_CLOSED, and stays as it was.
+ * A disk with native command queuing, its sectors in memory. They are read and written by READ FPDMA QUEUED (60h) and
+ * WRITE FPDMA QUEUED (61h) alone: READ DMA EXT and its like end with Status 51h, Error 04h. docs/FORMATS.md has all the
+ * commands that it knows. Put it behind a port of a multiplier (gef_pm_to_device gives what gef_disk_from_host takes, and
+ * gef_disk_to_host what gef_pm_from_device takes), or at the other end of a link of your own. The rules of a handle are
+ * those of gef_pm. A handle of another kind returns GEF_CLOSED, and stays as it was.
  */
 typedef struct gef_disk {
     uint32_t mark;
