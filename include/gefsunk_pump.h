@@ -71,7 +71,7 @@ typedef struct gef_pump {
     uint32_t link;    /* what the last write did to the link: GEF_LINK_STAYS, GEF_LINK_RESET or GEF_LINK_UP */
 
     /* The pump's own. */
-    uint8_t ports, down_port;
+    uint8_t ports, down_port, asked;
     uint32_t is_reset_due;
     gef_waiting out, in, down, up[GEF_PUMP_PORTS];
     gef_place places[GEF_PLACES_ROOM];
@@ -105,23 +105,35 @@ static inline void gef_pump_show(gef_pump *pump, int is_out, const gef_waiting *
 static inline void gef_pump_forget(gef_pump *pump) {
     uint8_t port;
     pump->out.len = pump->in.len = pump->down.len = 0;
+    pump->asked = 0;
     for (port = 0; port < GEF_PUMP_PORTS; port++) pump->up[port].len = 0;
 }
 
-/* To the other end of the link: the multiplier, or the one disk, which sees 0 as PM Port, as behind a multiplier. */
+/*
+ * To the other end of the link: the multiplier, or the one disk, which sees 0 as PM Port, as behind a multiplier. What it
+ * sends has the PM Port of the FIS that it took last: drivers reset it at port 15, and wait for the answer from there.
+ */
 static inline gef_status gef_pump_to_link(gef_pump *pump) {
+    uint8_t port = pump->out.fis[1] & 0x0F;
+    gef_status status;
     if (pump->ports) return gef_pm_from_host(&pump->pm, pump->out.fis, pump->out.len);
     if (!(pump->plugged & 1)) return GEF_DROPPED;
     pump->out.fis[1] &= 0xF0;
-    return gef_disk_from_host(&pump->disks[0], pump->out.fis, pump->out.len);
+    status = gef_disk_from_host(&pump->disks[0], pump->out.fis, pump->out.len);
+    pump->out.fis[1] |= port;
+    if (status == GEF_OK) pump->asked = port;
+    return status;
 }
 
 /* From there. */
 static inline gef_status gef_pump_from_link(gef_pump *pump) {
+    gef_status status;
     uint8_t port;
     if (pump->ports) return gef_pm_to_host(&pump->pm, pump->in.fis, GEF_FIS_ROOM, &pump->in.len, &port);
     if (!(pump->plugged & 1)) return GEF_NOTHING;
-    return gef_disk_to_host(&pump->disks[0], pump->in.fis, GEF_FIS_ROOM, &pump->in.len);
+    status = gef_disk_to_host(&pump->disks[0], pump->in.fis, GEF_FIS_ROOM, &pump->in.len);
+    if (status == GEF_OK) pump->in.fis[1] |= pump->asked;
+    return status;
 }
 
 /* From the controller to the other end: one FIS. */
@@ -299,6 +311,7 @@ static inline gef_status gef_pump_unplug(gef_pump *pump, uint8_t port) {
     gef_pm_unplug(&pump->pm, port); /* closed where there is no multiplier, or due for a reset */
     pump->plugged &= ~(1u << port);
     pump->up[port].len = 0;
+    pump->asked = 0;
     if (pump->down_port == port) pump->down.len = 0;
     return GEF_OK;
 }

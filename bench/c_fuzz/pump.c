@@ -140,6 +140,23 @@ static void bring_up(unsigned ports) {
     }
 }
 
+/* A software reset at port 15, with which drivers begin. The answer comes from there, from a multiplier or from the one disk. */
+static void reset_at_control_port(uint32_t signature) {
+    const uint8_t *answer = memory + AREA + 15 * 256 + 0x40;
+    uint8_t fis[20] = {0x27};
+    int is_set;
+    for (is_set = 1; is_set >= 0; is_set--) {
+        fis[15] = (uint8_t)(is_set << 2);
+        command(0, 15, fis, 0);
+        memory[TABLES + 1] = 15;
+        write_register(FBS, 1 | 15 << 8);
+        write_register(CI, 1);
+        settle();
+    }
+    if (answer[0] != 0x34 || (answer[1] & 15) != 15) fail("no answer from port 15", answer[1]);
+    if ((answer[4] | answer[5] << 8 | answer[6] << 16 | (uint32_t)answer[12] << 24) != signature) fail("signature", answer[5]);
+}
+
 /* ---- memory is refused ------------------------------------------------------------------------------------------- */
 
 /* What the guest has at the end, and the disks. */
@@ -186,6 +203,7 @@ static void scene(found *now, uint8_t ports) {
     if (ports) must("SControl", gef_pm_read(&pump.pm, 0, 2, &now->scontrol));
     write_register(SCTL, 0x300);
     bring_up(ports);
+    reset_at_control_port(ports ? 0x01966901 : 0x01000001);
     for (port = 0; port < disks; port++) {
         queue(3 + port, port, 0x60, (uint8_t)(1 + port));
         queue(8 + port, port, 0x61, (uint8_t)(5 + port));

@@ -9,14 +9,12 @@
 #define WRITE_FPDMA_QUEUED 0x61
 #define SHOWN 64u   /* the most bytes of a place that are shown */
 #define PIECE 8192u /* the most bytes of a line */
+#define ROUNDS 100000u /* more than it ever takes until nothing moves */
 
 static const uint8_t *bytes_at(const Recording *r, uint64_t at, uint64_t len)
 {
-    const gef_memory *memory = r->memory;
-    if (at < memory->address || at - memory->address > memory->len || len > memory->len - (at - memory->address)) {
-        return NULL;
-    }
-    return memory->bytes + (at - memory->address);
+    uint64_t from = at - r->memory.address;
+    return at < r->memory.address || from > r->memory.len || len > r->memory.len - from ? NULL : r->memory.bytes + from;
 }
 
 static void digits(const Recording *r, const uint8_t *bytes, size_t len)
@@ -38,11 +36,11 @@ static const uint8_t *put(const Recording *r, uint64_t at, uint64_t len)
     return bytes;
 }
 
-/* The rounds of the pump since the last line, what they wrote, and whether they raised the interrupt. */
+/* Whether something moved since the last line, what that wrote, and whether it raised the interrupt. */
 static void flush(Recording *r)
 {
     if (r->is_moved) {
-        fprintf(r->out, "expect %s\nsettle %u\n", r->is_unsettled ? "unsettled" : "settled", r->rounds);
+        fprintf(r->out, "expect settled\nsettle %u\n", ROUNDS);
     }
     for (unsigned i = 0; i < r->count; i++) {
         size_t len = MIN(SHOWN, r->places[i].len);
@@ -57,18 +55,18 @@ static void flush(Recording *r)
         fprintf(r->out, "expect line up\nline\n");
     }
     r->is_moved = r->is_raised = false;
-    r->rounds = r->count = 0;
+    r->count = 0;
 }
 
-void record_begin(Recording *r, const char *path, const gef_memory *memory, unsigned ports)
+void record_begin(Recording *r, const char *path, gef_memory memory, unsigned ports)
 {
     r->out = path ? fopen(path, "w") : NULL;
     r->memory = memory;
     if (r->out && !ports) {
         fprintf(r->out, "# There is no multiplier, so this cannot be played.\n");
     } else if (r->out) {
-        fprintf(r->out, "ports %u\nmemory %" PRIx64 " %zu\n", ports, memory->address, memory->len);
-        fprintf(r->out, "expect ports %u memory %" PRIx64 " %zu\n", ports, memory->address, memory->len);
+        fprintf(r->out, "ports %u\nmemory %" PRIx64 " %zu\n", ports, memory.address, memory.len);
+        fprintf(r->out, "expect ports %u memory %" PRIx64 " %zu\n", ports, memory.address, memory.len);
     }
 }
 
@@ -177,9 +175,7 @@ void record_write(Recording *r, uint32_t at, uint32_t value, uint32_t link)
 
 void record_round(Recording *r, bool moved)
 {
-    r->rounds++;
     r->is_moved |= moved;
-    r->is_unsettled = moved;
 }
 
 void record_raised(Recording *r)
