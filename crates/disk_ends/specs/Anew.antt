@@ -9,7 +9,7 @@ use Rattle.fis_view.specs.Seen.{seen}
 use Rattle.fis_view.specs.declared.view.Fis.TheVariants as view
 use Rattle.hba_commands.specs.declared.command.Command as issued_command
 use Rattle.slots.specs.Slots.{Issue, has_bit, is_control, own_issue}
-use Rattle.slots.specs.Work.{is_queued}
+use Rattle.slots.specs.Work.{is_dma, is_queued}
 use Rattle.hba_fbs.specs.declared.register.Register.TheVariants.{Ci}
 use Rattle.hba_fbs.specs.declared.report.TakeReport.{TakeReport}
 use Rattle.hba_fbs.specs.Issuing.{aimed, asked}
@@ -121,7 +121,7 @@ pub data IsHostedOn (n : ℕ) (base : List Happening) : Host → List Happening 
       → (ledger given).awaited ≢ Signs ∷ [] → IsHostedOn n base host given commands past
       → IsHostedOn n base new (given ++ Received (marked frame.bytes 0) ∷ []) commands
       (event.Sent slot ∷ past)
-  -- another command is transmitted, while no queued one is issued
+  -- another command is transmitted that has no data, or a setup for it, while no queued one is issued
   asks : (host new : Host) (frame : Stamped) (slot : ℕ) (command : issued_command.Command)
       (f : List ℕ) (t : Transfer)
       (given : List Happening) (commands : ℕ → SlotCommand) (past : History) → IsHost host
@@ -129,7 +129,8 @@ pub data IsHostedOn (n : ℕ) (base : List Happening) : Host → List Happening 
       → Does host (Gave (Some frame)) new
       → outgoing host.port host.memory ≡ Order n slot command → issued slot past ≡ Some t
       → is_queued t.work.kind ≡ false
-      → is_control t.work.kind ≡ false → seen command.cfis ≡ Ok (view.RegH2D f)
+      → is_control t.work.kind ≡ false → is_dma t.work.kind ≡ false
+      → seen command.cfis ≡ Ok (view.RegH2D f)
       → IsAlone (request_of f)
       → ((s : ℕ) → NoneQueued (issued s past)) → (ledger given).awaited ≢ Signs ∷ []
       → IsHostedOn n base host given commands past

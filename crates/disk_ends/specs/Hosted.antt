@@ -8,7 +8,7 @@ use Rattle.fis_view.specs.Seen.{seen}
 use Rattle.fis_view.specs.declared.view.Fis.TheVariants as view
 use Rattle.hba_commands.specs.declared.command.Command as issued_command
 use Rattle.slots.specs.Slots.{is_control, own_issue}
-use Rattle.slots.specs.Work.{is_queued}
+use Rattle.slots.specs.Work.{is_dma, is_queued}
 use Rattle.hba_fbs.specs.declared.register.Register.TheVariants.{Ci}
 use Rattle.hba_fbs.specs.declared.report.TakeReport.{TakeReport}
 use Rattle.hba_fbs.specs.Issuing.{aimed, asked}
@@ -81,7 +81,7 @@ pub data IsHosted (n : ℕ) : Host → List Happening → (ℕ → SlotCommand) 
       → (ledger given).awaited ≢ Signs ∷ [] → IsHosted n host given commands past
       → IsHosted n new (given ++ Received (marked frame.bytes 0) ∷ []) commands
       (event.Sent slot ∷ past)
-  -- another command is transmitted, while no queued one is issued
+  -- another command is transmitted that has no data, or a setup for it, while no queued one is issued
   asks : (host new : Host) (frame : Stamped) (slot : ℕ) (command : issued_command.Command)
       (f : List ℕ) (t : Transfer)
       (given : List Happening) (commands : ℕ → SlotCommand) (past : History) → IsHost host
@@ -89,7 +89,8 @@ pub data IsHosted (n : ℕ) : Host → List Happening → (ℕ → SlotCommand) 
       → Does host (Gave (Some frame)) new
       → outgoing host.port host.memory ≡ Order n slot command → issued slot past ≡ Some t
       → is_queued t.work.kind ≡ false
-      → is_control t.work.kind ≡ false → seen command.cfis ≡ Ok (view.RegH2D f)
+      → is_control t.work.kind ≡ false → is_dma t.work.kind ≡ false
+      → seen command.cfis ≡ Ok (view.RegH2D f)
       → IsAlone (request_of f)
       → ((s : ℕ) → NoneQueued (issued s past)) → (ledger given).awaited ≢ Signs ∷ []
       → IsHosted n host given commands past

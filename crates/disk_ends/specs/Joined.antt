@@ -12,7 +12,7 @@ use Rattle.fis_view.specs.declared.view.FisFault.{FisFault}
 use Rattle.fis_view.specs.declared.view.Fis.TheVariants as view
 use Rattle.hba_commands.specs.declared.command.Command as issued_command
 use Rattle.slots.specs.Slots.{DeviceSlots, Issue, has_bit, is_control, own_issue}
-use Rattle.slots.specs.Work.{is_queued}
+use Rattle.slots.specs.Work.{is_dma, is_queued}
 use Rattle.slots.specs.declared.table.Context.{Context}
 use Rattle.hba_fbs.specs.declared.register.Register.TheVariants.{Ci}
 use Rattle.hba_fbs.specs.declared.report.TakeReport.{TakeReport}
@@ -105,7 +105,8 @@ JoinsCommands =
     → IsJoined n commands host past k
     → JoinsGiven n commands frame.bytes (event.Sent slot) past k new
 
--- another command is transmitted, while no queued one is issued, once the device has signed
+-- another command is transmitted that has no data, or a setup for it, while no queued one is issued, once the
+-- device has signed
 abbrev pub JoinsOthers : Type 0
 JoinsOthers =
     (n slot : ℕ) (host new : Host) (frame : Stamped) (command : issued_command.Command) (f : List ℕ)
@@ -114,6 +115,7 @@ JoinsOthers =
     → IsHost host → n < 15 → Does host (Gave (Some frame)) new
     → outgoing host.port host.memory ≡ Order n slot command
     → issued slot past ≡ Some t → is_queued t.work.kind ≡ false → is_control t.work.kind ≡ false
+    → is_dma t.work.kind ≡ false
     → seen command.cfis ≡ Ok (view.RegH2D f) → IsAlone (request_of f)
     → ((s : ℕ) → NoneQueued (issued s past)) → k.awaited ≢ Signs ∷ []
     → IsJoined n commands host past k

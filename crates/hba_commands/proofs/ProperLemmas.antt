@@ -1,14 +1,14 @@
 -- What a proper command may ask for.
 use Rattle.std.proofs.Common.{◌≡◌, ℕ, ◌+◌, ◌*◌, ◌%◌, ◌≤◌, ◌<◌, Bool, true, false, List, slice_index, Option, Some, None, arith, inl, inr, refl, sym, ◌∙◌}
-use Rattle.std.specs.Prelude.{not, ◌&&◌, ◌==◌, nat_le}
+use Rattle.std.specs.Prelude.{not, ◌&&◌, ◌||◌, ◌==◌, nat_le, if◌then◌else◌}
 use Rattle.std.proofs.lemmas.Bool.{and_parts, not-true, leb-true, eqb-true, eqb-false, cases_Bool, cases_lt}
-use Rattle.slots.specs.Work.{IsWork, is_queued}
+use Rattle.slots.specs.Work.{IsWork, is_queued, needs_all}
 use Rattle.slots.specs.declared.work.Kind.{Kind}
-use Rattle.slots.specs.declared.work.Kind.TheVariants.{QueuedRead, QueuedWrite, PioIn, NoData, Control}
+use Rattle.slots.specs.declared.work.Kind.TheVariants.{QueuedRead, QueuedWrite, DmaIn, DmaOut, PioIn, PioOut, NoData, Control}
 use Rattle.hba_commands.specs.declared.header.Header.{Header}
 use Rattle.hba_commands.specs.declared.request.Request.{Request}
-use Rattle.hba_commands.specs.Requests.{kind_of, length_of, request_at, request_in, sectors, tag_of, work_of}
-use Rattle.hba_commands.specs.Commands.{has_table, is_proper, may_queue, suits, total_if_sound}
+use Rattle.hba_commands.specs.Requests.{counted, few_sectors, is_page, is_wide, kind_of, length_of, request_at, request_in, sectors, tag_of, work_of}
+use Rattle.hba_commands.specs.Commands.{has_table, is_few, is_proper, may_move, may_queue, suits, total_if_sound}
 use Rattle.hba_commands.specs.Writing.{is_write}
 use Rattle.host_memory.specs.declared.table.PrdError.{PrdError}
 
@@ -19,21 +19,73 @@ some_sectors features =
       | inr some ↦ rw some (elim (cases_lt 0 features) [ inl above ↦ above | inr none ↦ absurd (eqb-false features 0 some (omega arith)) ])
     ]
 
-work_of_kind : (k : Kind) (features : ℕ) → (is_queued k ≡ true → length_of k features ≤ 131072) → IsWork (record { kind = k; len = length_of k features })
-work_of_kind QueuedRead features h = let some = some_sectors features in let most = h refl in (omega arith, most, omega arith)
-work_of_kind QueuedWrite features h = let some = some_sectors features in let most = h refl in (omega arith, most, omega arith)
-work_of_kind PioIn features h = (omega arith, omega arith, omega arith)
-work_of_kind NoData features h = (omega arith, omega arith, refl)
-work_of_kind Control features h = (omega arith, omega arith, refl)
+some_few : (count : ℕ) → 0 < few_sectors count
+some_few count =
+    elim (cases_Bool (count % 256 == 0)) [
+      | inl none ↦ rw none (omega arith)
+      | inr some ↦ rw some (elim (cases_lt 0 (count % 256)) [ inl above ↦ above | inr none ↦ absurd (eqb-false (count % 256) 0 some (omega arith)) ])
+    ]
+
+some_counted : (command count : ℕ) → 0 < counted command count
+some_counted command count =
+    elim (cases_Bool (is_wide command)) [
+      | inl wide ↦ rw wide (some_sectors count)
+      | inr few ↦ rw few (some_few count)
+    ]
+
+-- whole sectors
+abbrev AreSectors : ℕ → Type 0
+AreSectors len = (len % 4 ≡ 0) × (len ≤ 131072) × (0 < len)
+
+are_sectors : (n : ℕ) → 0 < n → 512 * n ≤ 131072 → AreSectors (512 * n)
+are_sectors n some most = (omega arith, most, omega arith)
+
+are_page : (b : Bool) (n : ℕ) → 0 < n → (if b then 512 else 512 * n) ≤ 131072 → AreSectors (if b then 512 else 512 * n)
+are_page true n some most = (omega arith, omega arith, omega arith)
+are_page false n some most = are_sectors n some most
+
+-- a command of this kind moves data
+abbrev moves : Kind → Bool
+moves k = is_queued k || needs_all k
+
+work_of_kind : (k : Kind) (request : Request) → (moves k ≡ true → length_of k request ≤ 131072) → IsWork (record { kind = k; len = length_of k request })
+work_of_kind QueuedRead request h = are_sectors (sectors request.features) (some_sectors request.features) (h refl)
+work_of_kind QueuedWrite request h = are_sectors (sectors request.features) (some_sectors request.features) (h refl)
+work_of_kind DmaIn request h = are_sectors (counted request.command request.count) (some_counted request.command request.count) (h refl)
+work_of_kind DmaOut request h = are_sectors (counted request.command request.count) (some_counted request.command request.count) (h refl)
+work_of_kind PioIn request h = are_page (is_page request.command request.count) (counted request.command request.count) (some_counted request.command request.count) (h refl)
+work_of_kind PioOut request h = are_sectors (counted request.command request.count) (some_counted request.command request.count) (h refl)
+work_of_kind NoData request h = (omega arith, omega arith, refl)
+work_of_kind Control request h = (omega arith, omega arith, refl)
 
 queued_most : (header : Header) (request : Request) (slot : ℕ) (armed : Bool) → may_queue header request slot armed ≡ true → (work_of request).len ≤ 131072
 queued_most header request slot armed h =
     leb-true (work_of request).len 131072 (and_parts (armed && (tag_of request == slot) && not (header.pmp == 15) && not header.clear) (nat_le (work_of request).len 131072) h).1
 
-suited_most : (k : Kind) (header : Header) (request : Request) (slot : ℕ) (armed : Bool) → suits k header request slot armed ≡ true → is_queued k ≡ true → (work_of request).len ≤ 131072
+moved_parts : (header : Header) (request : Request) (armed : Bool) → may_move header request armed ≡ true → (not armed ≡ true) × (is_few request ≡ true)
+moved_parts header request armed h =
+    let outer = and_parts (not armed && not header.clear && not (header.pmp == 15)) (is_few request) h in
+    let inner = and_parts (not armed && not header.clear) (not (header.pmp == 15)) outer.0 in
+    ((and_parts (not armed) (not header.clear) inner.0).0, outer.1)
+
+few_most : (request : Request) → is_few request ≡ true → (work_of request).len ≤ 131072
+few_most request h = leb-true (work_of request).len 131072 h
+
+-- the parts of what a PIO data-in needs
+page_parts : (header : Header) (request : Request) (armed : Bool) → (not header.write && not armed && not header.clear && is_few request) ≡ true
+    → (not header.write ≡ true) × (not armed ≡ true) × (is_few request ≡ true)
+page_parts header request armed h =
+    let outer = and_parts (not header.write && not armed && not header.clear) (is_few request) h in
+    let inner = and_parts (not header.write) (not armed) (and_parts (not header.write && not armed) (not header.clear) outer.0).0 in
+    (inner.0, inner.1, outer.1)
+
+suited_most : (k : Kind) (header : Header) (request : Request) (slot : ℕ) (armed : Bool) → suits k header request slot armed ≡ true → moves k ≡ true → (work_of request).len ≤ 131072
 suited_most QueuedRead header request slot armed h q = queued_most header request slot armed (and_parts (not header.write) (may_queue header request slot armed) h).1
 suited_most QueuedWrite header request slot armed h q = queued_most header request slot armed (and_parts header.write (may_queue header request slot armed) h).1
-suited_most PioIn header request slot armed h q = cc
+suited_most DmaIn header request slot armed h q = few_most request (moved_parts header request armed (and_parts (not header.write) (may_move header request armed) h).1).1
+suited_most DmaOut header request slot armed h q = few_most request (moved_parts header request armed (and_parts header.write (may_move header request armed) h).1).1
+suited_most PioIn header request slot armed h q = few_most request (page_parts header request armed h).2
+suited_most PioOut header request slot armed h q = few_most request (moved_parts header request armed (and_parts header.write (may_move header request armed) h).1).1
 suited_most NoData header request slot armed h q = cc
 suited_most Control header request slot armed h q = cc
 
@@ -47,12 +99,15 @@ proper_suits header request total slot armed h =
 pub proper_work : (header : Header) (request : Request) (total slot : ℕ) (armed : Bool) → is_proper header request total slot armed ≡ true → IsWork (work_of request)
 unfolding work_of
 proper_work header request total slot armed h =
-    work_of_kind (kind_of request) request.features (suited_most (kind_of request) header request slot armed (proper_suits header request total slot armed h))
+    work_of_kind (kind_of request) request (suited_most (kind_of request) header request slot armed (proper_suits header request total slot armed h))
 
 suited_write : (k : Kind) (header : Header) (request : Request) (slot : ℕ) (armed : Bool) → suits k header request slot armed ≡ true → header.write ≡ is_write k
 suited_write QueuedRead header request slot armed h = not-true header.write (and_parts (not header.write) (may_queue header request slot armed) h).0
 suited_write QueuedWrite header request slot armed h = (and_parts header.write (may_queue header request slot armed) h).0
-suited_write PioIn header request slot armed h = not-true header.write (and_parts (not header.write) (not armed) (and_parts (not header.write && not armed) (not header.clear) h).0).0
+suited_write DmaIn header request slot armed h = not-true header.write (and_parts (not header.write) (may_move header request armed) h).0
+suited_write DmaOut header request slot armed h = (and_parts header.write (may_move header request armed) h).0
+suited_write PioIn header request slot armed h = not-true header.write (page_parts header request armed h).0
+suited_write PioOut header request slot armed h = (and_parts header.write (may_move header request armed) h).0
 suited_write NoData header request slot armed h =
     not-true header.write (and_parts (not header.write) (not armed) (and_parts (not header.write && not armed) (not header.clear) (and_parts (not header.write && not armed && not header.clear) (header.prdtl == 0) h).0).0).0
 suited_write Control header request slot armed h = not-true header.write (and_parts (not header.write) (not armed) (and_parts (not header.write && not armed) (header.prdtl == 0) h).0).0
@@ -88,7 +143,10 @@ queued_armed header request slot false h = cc
 suited_armed : (k : Kind) (header : Header) (request : Request) (slot : ℕ) (armed : Bool) → suits k header request slot armed ≡ true → is_queued k ≡ armed
 suited_armed QueuedRead header request slot armed h = queued_armed header request slot armed (and_parts (not header.write) (may_queue header request slot armed) h).1
 suited_armed QueuedWrite header request slot armed h = queued_armed header request slot armed (and_parts header.write (may_queue header request slot armed) h).1
-suited_armed PioIn header request slot armed h = sym (not-true armed (and_parts (not header.write) (not armed) (and_parts (not header.write && not armed) (not header.clear) h).0).1)
+suited_armed DmaIn header request slot armed h = sym (not-true armed (moved_parts header request armed (and_parts (not header.write) (may_move header request armed) h).1).0)
+suited_armed DmaOut header request slot armed h = sym (not-true armed (moved_parts header request armed (and_parts header.write (may_move header request armed) h).1).0)
+suited_armed PioIn header request slot armed h = sym (not-true armed (page_parts header request armed h).1)
+suited_armed PioOut header request slot armed h = sym (not-true armed (moved_parts header request armed (and_parts header.write (may_move header request armed) h).1).0)
 suited_armed NoData header request slot armed h =
     sym (not-true armed (and_parts (not header.write) (not armed) (and_parts (not header.write && not armed) (not header.clear) (and_parts (not header.write && not armed && not header.clear) (header.prdtl == 0) h).0).0).1)
 suited_armed Control header request slot armed h = sym (not-true armed (and_parts (not header.write) (not armed) (and_parts (not header.write && not armed) (header.prdtl == 0) h).0).1)
@@ -108,7 +166,10 @@ queued_tag header request slot armed h =
 suited_tag : (k : Kind) (header : Header) (request : Request) (slot : ℕ) (armed : Bool) → suits k header request slot armed ≡ true → is_queued k ≡ true → tag_of request ≡ slot
 suited_tag QueuedRead header request slot armed h q = queued_tag header request slot armed (and_parts (not header.write) (may_queue header request slot armed) h).1
 suited_tag QueuedWrite header request slot armed h q = queued_tag header request slot armed (and_parts header.write (may_queue header request slot armed) h).1
+suited_tag DmaIn header request slot armed h q = cc
+suited_tag DmaOut header request slot armed h q = cc
 suited_tag PioIn header request slot armed h q = cc
+suited_tag PioOut header request slot armed h q = cc
 suited_tag NoData header request slot armed h q = cc
 suited_tag Control header request slot armed h q = cc
 

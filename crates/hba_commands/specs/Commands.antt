@@ -8,7 +8,8 @@ use Rattle.host_memory.specs.Reading.{AgreeFrom, LieApart, prds_at, read_fault}
 use Rattle.host_memory.specs.declared.table.Prd.{Prd}
 use Rattle.host_memory.specs.declared.table.PrdError.{PrdError}
 use Rattle.slots.specs.declared.work.Kind.{Kind}
-use Rattle.slots.specs.declared.work.Kind.TheVariants.{QueuedRead, QueuedWrite, PioIn, NoData, Control}
+use Rattle.slots.specs.declared.work.Kind.TheVariants.{QueuedRead, QueuedWrite, DmaIn, DmaOut, PioIn, PioOut}
+use Rattle.slots.specs.declared.work.Kind.TheVariants.{NoData, Control}
 use Rattle.hba_commands.specs.declared.header.Header.{Header}
 use Rattle.hba_commands.specs.declared.request.Request.{Request}
 use Rattle.hba_commands.specs.declared.command.Command.{Command}
@@ -50,11 +51,24 @@ may_queue header request slot armed =
     armed && (tag_of request == slot) && not (header.pmp == 15) && not header.clear
     && nat_le (work_of request).len 131072
 
+-- it moves at most 128 KiB
+abbrev pub is_few : Request → Bool
+is_few request = nat_le (work_of request).len 131072
+
+-- The slot can hold a command that is not queued and moves sectors: the slot's bit in PxSACT and C are not set,
+-- the command is not for the control port, and it moves at most 128 KiB.
+abbrev pub may_move : Header → Request → Bool → Bool
+may_move header request armed = not armed && not header.clear && not (header.pmp == 15) && is_few request
+
 -- what a command of each kind needs of the header, the slot and its bit in PxSACT: W is set only for a write
 abbrev pub suits : Kind → Header → Request → ℕ → Bool → Bool
 suits QueuedRead header request slot armed = not header.write && may_queue header request slot armed
 suits QueuedWrite header request slot armed = header.write && may_queue header request slot armed
-suits PioIn header request slot armed = not header.write && not armed && not header.clear
+suits DmaIn header request slot armed = not header.write && may_move header request armed
+suits DmaOut header request slot armed = header.write && may_move header request armed
+suits PioIn header request slot armed =
+    not header.write && not armed && not header.clear && is_few request
+suits PioOut header request slot armed = header.write && may_move header request armed
 suits NoData header request slot armed =
     not header.write && not armed && not header.clear && (header.prdtl == 0)
 suits Control header request slot armed = not header.write && not armed && (header.prdtl == 0)

@@ -14,7 +14,8 @@ use Rattle.host_memory.specs.Reading.{have_overlap, is_outside, prds_at}
 use Rattle.host_memory.specs.Writing.{table_bytes}
 use Rattle.host_memory.specs.declared.table.Prd.{Prd}
 use Rattle.slots.specs.declared.work.Kind.{Kind}
-use Rattle.slots.specs.declared.work.Kind.TheVariants.{QueuedRead, QueuedWrite, PioIn, NoData, Control}
+use Rattle.slots.specs.declared.work.Kind.TheVariants.{QueuedRead, QueuedWrite, DmaIn, DmaOut, PioIn, PioOut}
+use Rattle.slots.specs.declared.work.Kind.TheVariants.{NoData, Control}
 use Rattle.hba_commands.specs.declared.header.Header.{Header}
 use Rattle.hba_commands.specs.declared.request.Request.{Request}
 use Rattle.hba_commands.specs.declared.command.Command.{Command}
@@ -22,11 +23,14 @@ use Rattle.hba_commands.specs.Headers.{header_at, header_place}
 use Rattle.hba_commands.specs.Requests.{kind_of, request_at, request_of}
 use Rattle.hba_commands.specs.Commands.{cfis_at, command_in, has_table, total_at}
 
--- only a queued write moves data to the device
+-- a command of this kind moves data to the device
 abbrev pub is_write : Kind → Bool
 is_write QueuedRead = false
 is_write QueuedWrite = true
+is_write DmaIn = false
+is_write DmaOut = true
 is_write PioIn = false
+is_write PioOut = true
 is_write NoData = false
 is_write Control = false
 

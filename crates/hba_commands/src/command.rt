@@ -5,7 +5,7 @@ ghost use Rattle.host_memory.specs.Place.{total_of};
 ghost use Rattle.fis_view.specs.Table.{H2d, PmPort, field};
 ghost use Rattle.slots.specs.Work.{is_queued};
 ghost use Rattle.hba_commands.specs.Headers.{header_at};
-ghost use Rattle.hba_commands.specs.Commands.{cfis_at, command_at, entries_of, fault_of, has_table as has_table_of, is_proper as is_proper_of, may_queue as may_queue_of, suits as suits_of, total_at};
+ghost use Rattle.hba_commands.specs.Commands.{cfis_at, command_at, entries_of, fault_of, has_table as has_table_of, is_proper as is_proper_of, is_few as is_few_of, may_move as may_move_of, may_queue as may_queue_of, suits as suits_of, total_at};
 ghost use Rattle.hba_commands.specs.Requests.{request_in, tag_of};
 ghost use Rattle.hba_commands.specs.Writing.{is_write};
 
@@ -67,6 +67,19 @@ fn may_queue(header: &Header, request: &Request, slot: u8, armed: bool) -> bool
         && request.work().len <= 0x2_0000
 }
 
+// Whether it moves at most 128 KiB.
+fn is_few(request: &Request) -> bool
+    ensures { result ≡ is_few_of request.now }
+{
+    request.work().len <= 0x2_0000
+}
+
+fn may_move(header: &Header, request: &Request, armed: bool) -> bool
+    ensures { result ≡ may_move_of header.now request.now armed }
+{
+    !armed && !header.clear && header.pmp != 15 && is_few(request)
+}
+
 // Whether the header and the slot suit a command of this kind.
 fn suits(kind: Kind, header: &Header, request: &Request, slot: u8, armed: bool) -> bool
     ensures { result ≡ suits_of kind header.now request.now slot armed }
@@ -74,7 +87,9 @@ fn suits(kind: Kind, header: &Header, request: &Request, slot: u8, armed: bool) 
     match kind {
         Kind::QueuedRead => !header.write && may_queue(header, request, slot, armed),
         Kind::QueuedWrite => header.write && may_queue(header, request, slot, armed),
-        Kind::PioIn => !header.write && !armed && !header.clear,
+        Kind::DmaIn => !header.write && may_move(header, request, armed),
+        Kind::DmaOut | Kind::PioOut => header.write && may_move(header, request, armed),
+        Kind::PioIn => !header.write && !armed && !header.clear && is_few(request),
         Kind::NoData => !header.write && !armed && !header.clear && header.prdtl == 0,
         Kind::Control => !header.write && !armed && header.prdtl == 0,
     }

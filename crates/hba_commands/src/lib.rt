@@ -13,4 +13,5 @@ mod write;
 pub use command::Command;
 pub use header::pmp;
 pub use laws::commands_are_of_their_bytes;
+pub use request::asked_by;
 pub use write::write_command;

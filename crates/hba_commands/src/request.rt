@@ -1,7 +1,7 @@
 //! What a command FIS asks for.
 
 ghost use Rattle.std.specs.Prelude.{◌≡◌, length};
-ghost use Rattle.hba_commands.specs.Requests.{kind_of as kind_of_request, kind_of_command as kind_of_code, request_at, request_in, request_of, sectors as sectors_of, tag_of, work_of};
+ghost use Rattle.hba_commands.specs.Requests.{counted as counted_of, few_sectors as few_sectors_of, is_page as is_page_of, is_wide as is_wide_code, kind_of as kind_of_request, kind_of_command as kind_of_code, request_at, request_in, request_of, sectors as sectors_of, tag_of, work_of};
 
 use fis_view::{Fis, H2dFields, RegH2D};
 use slots::{Kind, Work};
@@ -23,19 +23,56 @@ fn kind_of_command(command: u8, count: u16) -> Kind
         0x60 => Kind::QueuedRead,
         0x61 => Kind::QueuedWrite,
         0x2F if count == 1 => Kind::PioIn,
-        0xEC => Kind::PioIn,
+        0xEC | 0xA1 | 0x20 | 0x24 | 0xC4 | 0x29 => Kind::PioIn,
+        0xC8 | 0x25 => Kind::DmaIn,
+        0xCA | 0x35 => Kind::DmaOut,
+        0x30 | 0x34 | 0xC5 | 0x39 => Kind::PioOut,
         _ => Kind::NoData,
     }
 }
 
-// The number of sectors of a queued command.
-fn sectors(features: u16) -> u32
-    ensures { result ≡ sectors_of features }
+fn is_page(command: u8, count: u16) -> bool
+    ensures { result ≡ is_page_of command count }
 {
-    if features == 0 {
+    command == 0x2F && count == 1 || command == 0xEC || command == 0xA1
+}
+
+fn is_wide(command: u8) -> bool
+    ensures { result ≡ is_wide_code command }
+{
+    matches!(command, 0x24 | 0x29 | 0x34 | 0x39 | 0x25 | 0x35)
+}
+
+// The number of sectors in a field of sixteen bits.
+fn sectors(field: u16) -> u32
+    ensures { result ≡ sectors_of field }
+{
+    if field == 0 {
         0x1_0000
     } else {
-        u32::from(features)
+        u32::from(field)
+    }
+}
+
+// The number of sectors in a Count of eight bits.
+fn few_sectors(count: u16) -> u32
+    ensures { result ≡ few_sectors_of count }
+{
+    if count % 256 == 0 {
+        256
+    } else {
+        u32::from(count % 256)
+    }
+}
+
+// The number of sectors of a command for sectors or for DMA.
+fn counted(command: u8, count: u16) -> u32
+    ensures { result ≡ counted_of command count }
+{
+    if is_wide(command) {
+        sectors(count)
+    } else {
+        few_sectors(count)
     }
 }
 
@@ -93,7 +130,10 @@ impl Request {
         let kind = self.kind();
         let len = match kind {
             Kind::QueuedRead | Kind::QueuedWrite => 512 * sectors(self.features),
-            Kind::PioIn => 512,
+            Kind::PioIn if is_page(self.command, self.count) => 512,
+            Kind::DmaIn | Kind::DmaOut | Kind::PioIn | Kind::PioOut => {
+                512 * counted(self.command, self.count)
+            }
             Kind::NoData | Kind::Control => 0,
         };
         Work { kind, len }
@@ -105,4 +145,11 @@ impl Request {
     {
         (self.count % 256 / 8) as u8
     }
+}
+
+/// What a command FIS of these fields asks for.
+pub fn asked_by(fields: &H2dFields) -> Work
+    ensures { result ≡ work_of (request_of fields.now) }
+{
+    Request::of(fields).work()
 }

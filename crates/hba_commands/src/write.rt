@@ -6,7 +6,7 @@ ghost use Rattle.host_memory.specs.Memory.{overwritten};
 ghost use Rattle.host_memory.specs.Writing.{CanBeWritten};
 ghost use Rattle.hba_commands.specs.Requests.{kind_of};
 ghost use Rattle.hba_commands.specs.Commands.{cfis_at, command_at};
-ghost use Rattle.hba_commands.specs.Writing.{HasRoom, IsWritten, command_of, header_bytes, header_for, is_write};
+ghost use Rattle.hba_commands.specs.Writing.{HasRoom, IsWritten, command_of, header_bytes, header_for, is_write as is_write_kind};
 
 use crate::request::Request;
 use byteorder::{ByteOrder, LittleEndian};
@@ -14,13 +14,20 @@ use fis_view::H2dFields;
 use host_memory::{HostMemory, Prd, write_prds};
 use slots::Kind;
 
+// Whether a command of this kind moves data to the device.
+fn is_write(kind: Kind) -> bool
+    ensures { result ≡ is_write_kind kind }
+{
+    matches!(kind, Kind::QueuedWrite | Kind::DmaOut | Kind::PioOut)
+}
+
 // DW0 of a header: PRDTL in bits 31:16, PMP in bits 15:12, W in bit 6, CFL in bits 4:0.
 fn first_dword(request: Request, count: u16) -> u32
     requires { request.pm_port < 16 }
     ensures { result
-        ≡ 65536 * count + 4096 * request.pm_port + 64 * from_bool (is_write (kind_of request)) + 5 }
+        ≡ 65536 * count + 4096 * request.pm_port + 64 * from_bool (is_write_kind (kind_of request)) + 5 }
 {
-    let write = request.kind() == Kind::QueuedWrite;
+    let write = is_write(request.kind());
     0x1_0000 * u32::from(count) + 0x1000 * u32::from(request.pm_port) + 0x40 * u32::from(write) + 5
 }
 

@@ -1,5 +1,6 @@
 -- Slot 31 and scans: `orders_take_turns`, `scans_clear`.
 pub mod ControlLemmas
+pub mod SentLemmas
 pub mod Push31Lemmas
 pub mod Slot31Lemmas
 pub mod ScansLemmas

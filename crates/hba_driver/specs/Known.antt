@@ -8,7 +8,8 @@ use Rattle.fis_view.specs.Frames.{Stamped}
 use Rattle.host_memory.specs.Memory.{is_memory_size}
 use Rattle.slots.specs.Slots.{match_some}
 use Rattle.slots.specs.declared.work.Kind.{Kind}
-use Rattle.slots.specs.declared.work.Kind.TheVariants.{QueuedRead, QueuedWrite, PioIn, NoData}
+use Rattle.slots.specs.declared.work.Kind.TheVariants.{QueuedRead, QueuedWrite, DmaIn, DmaOut, PioIn, PioOut}
+use Rattle.slots.specs.declared.work.Kind.TheVariants.{NoData}
 use Rattle.slots.specs.declared.work.Kind.TheVariants.{Control}
 use Rattle.hba_commands.specs.Requests.{kind_of, request_at}
 use Rattle.hba_commands.specs.declared.command.Command.{Command}
@@ -60,7 +61,10 @@ known_over n known old new (turn ∷ turns) run =
 abbrev pub is_asked : Kind → Bool
 is_asked QueuedRead = true
 is_asked QueuedWrite = true
+is_asked DmaIn = false
+is_asked DmaOut = false
 is_asked PioIn = false
+is_asked PioOut = false
 is_asked NoData = true
 is_asked Control = false
 

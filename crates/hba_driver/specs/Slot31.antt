@@ -14,8 +14,8 @@ use Rattle.fis_view.specs.declared.build.H2dFields.{H2dFields}
 use Rattle.host_memory.specs.Memory.{is_memory_size}
 use Rattle.hba_commands.specs.declared.command.Command.{Command}
 use Rattle.hba_commands.specs.Requests.{request_of, work_of}
-use Rattle.slots.specs.Slots.{Issue, is_pio, new_issue, own_issue}
-use Rattle.slots.specs.Work.{is_queued}
+use Rattle.slots.specs.Slots.{Issue, new_issue, own_issue}
+use Rattle.slots.specs.Work.{is_queued, needs_all}
 use Rattle.hba_fbs.specs.Posting.{is_signature}
 use Rattle.hba_fbs.specs.Status.{is_busy, is_error}
 use Rattle.hba_fbs.specs.Taking.{port_of}
@@ -94,7 +94,7 @@ pub record IsSent (part : DevicePart) : Type 0 where
   pub issue : Issue
   pub issued : own_issue part.view.slots 31 ≡ Some issue
   pub sent : issue.sent ≡ true
-  pub plain : (is_pio issue.work.kind || is_queued issue.work.kind) ≡ false
+  pub plain : (needs_all issue.work.kind || is_queued issue.work.kind) ≡ false
 
 -- the order, whether it is asked, and the control port, at each stage
 abbrev pub IsIn : Stage31 → Order → Bool → DevicePart → Type 0

@@ -2,7 +2,7 @@
 -- chapter 9 (FIS-based Switching); Serial ATA 3.x, 10.5 (FIS types). The FIS and the device's own slots
 -- decide what is wrong with the FIS, and which happening it is; the happening says how the slots change.
 use Rattle.std.specs.Prelude.{ℕ, ◌-◌, ◌%◌, ◌^◌, ◌==◌, Bool, true, false, not, nat_lt, nat_le, if◌then◌else◌}
-use Rattle.std.specs.Prelude.{List, length, Option, Some, None}
+use Rattle.std.specs.Prelude.{List, length, Option, Some, None, is_some, Result, Ok, Err}
 use Rattle.fis_view.specs.Table as table
 use Rattle.fis_view.specs.Table.{field}
 use Rattle.fis_view.specs.declared.view.Fis.{Fis}
@@ -16,9 +16,9 @@ use Rattle.slots.specs.declared.answer.Completed.{Completed}
 use Rattle.slots.specs.declared.answer.SetupError.{SetupError}
 use Rattle.slots.specs.declared.answer.SetupError.TheVariants as refused
 use Rattle.slots.specs.declared.table.Context.{Context}
-use Rattle.slots.specs.Slots.{DeviceSlots, match_some, own_issue}
+use Rattle.slots.specs.Slots.{DeviceSlots, match_some, own_issue, sent_pio}
 use Rattle.slots.specs.Commands.{after_complete, after_pio_done, answer_of, answered_as, completed, whole_pio}
-use Rattle.slots.specs.Setup.{after_setup_pio, dma_context, pio_fault, pio_issue, setup_fault}
+use Rattle.slots.specs.Setup.{after_setup_pio, dma_context, out_setup, pio_fault, pio_issue, setup_fault}
 use Rattle.slots.specs.Setup.{with_own_context}
 use Rattle.slots.specs.Data.{after_activate, after_arrive, may_activate}
 use Rattle.hba_fbs.specs.declared.hearing.Fault.{Fault}
@@ -137,12 +137,27 @@ heard_setup own state tag offset count to_host auto =
     set_up (setup_fault (own_issue own tag) offset count to_host) state None
     (happening.SetUp (dma_context tag offset count to_host auto))
 
--- with ERR it is a task file error
+-- A setup for a PIO data-out: its bytes are one block and may go at once. So the Status at the end of the
+-- block, and PSS, come with the setup, and no block is kept.
+abbrev pub heard_out : DeviceState → Block → Result Context SetupError → Heard
+heard_out state block (Err e) = faulty state (cause_of_setup e)
+heard_out state block (Ok c) = record {
+  state = with_block (with_status state block.ends) None;
+  happening = happening.SetUp c;
+  fault = None;
+  done = 0;
+  pss = block.interrupts;
+}
+
+-- With ERR it is a task file error. Else it is for the PIO data-in that was sent, and if there is none, for the
+-- PIO data-out.
 abbrev pub heard_pio : DeviceSlots → DeviceState → ℕ → ℕ → ℕ → Bool → Block → Heard
 heard_pio own state status error count to_host block =
     if is_error status then faulty (with_file state status error) cause.TaskFile
-    else set_up (pio_fault (pio_issue own) count to_host) (with_file state status error) (Some block)
+    else if is_some (sent_pio own)
+    then set_up (pio_fault (pio_issue own) count to_host) (with_file state status error) (Some block)
     (happening.PioSetUp count to_host)
+    else heard_out (with_file state status error) block (out_setup own count to_host)
 
 -- ---- Data
 

@@ -15,9 +15,12 @@ use Rattle.port_errors.specs.declared.cause.PortCause.TheVariants.{Bus}
 use Rattle.hba_commands.specs.declared.command.Command.{Command}
 use Rattle.slots.specs.Commands.{after_sent, next_slot}
 use Rattle.slots.specs.Data.{after_payload, payload}
-use Rattle.slots.specs.Slots.{Slots, context_of, has_bit, is_control, issue_at, lowest_below, mask_below}
+use Rattle.slots.specs.Slots.{DeviceSlots, Slots, context_of, has_bit, holds, is_control, issue_at}
+use Rattle.slots.specs.Slots.{lowest_below, mask_below, own_issue}
 use Rattle.slots.specs.Slots.{match_some}
+use Rattle.slots.specs.Work.{is_dma}
 use Rattle.hba_fbs.specs.declared.state.DeviceState.{DeviceState}
+use Rattle.hba_fbs.specs.declared.status.Block.{Block}
 use Rattle.hba_fbs.specs.Status.{is_busy, wants_data}
 use Rattle.hba_fbs.specs.Tables.{prds_of, sound_command}
 use Rattle.hba_fbs.specs.Taking.{is_running}
@@ -72,10 +75,21 @@ state_sent state command =
     if is_control command.work.kind then record state { resetting = state.resetting || resets command.cfis }
     else record state { status = bit_or state.status 0x80 }
 
+-- the command of the slot has no setup
+abbrev pub has_no_setup : DeviceSlots → ℕ → Bool
+has_no_setup own slot = holds (λ issue. is_dma issue.work.kind) (own_issue own slot)
+
+-- such a command ends the block of the setup before it
+abbrev pub block_sent : DeviceView → ℕ → Option Block
+block_sent view slot = if has_no_setup view.slots slot then None else view.state.block
+
 -- the view of a device after the command of its slot went out
 abbrev pub view_sent : DeviceView → ℕ → Command → DeviceView
 view_sent view slot command =
-    record view { slots = after_sent view.slots slot; state = state_sent view.state command }
+    record view {
+      slots = after_sent view.slots slot;
+      state = record (state_sent view.state command) { block = block_sent view slot };
+    }
 
 -- ---- what goes out next
 

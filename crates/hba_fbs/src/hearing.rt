@@ -4,7 +4,8 @@ ghost use Rattle.std.specs.Prelude.{◌≡◌, ◌<◌, ◌-◌, ◌%◌, ◌==�
 ghost use Rattle.fis_view.specs.Seen.{frame_of};
 ghost use Rattle.slots.specs.Slots.{KeepsFree, LeavesOthers, slots_of};
 ghost use Rattle.slots.specs.Commands.{IsSlotAnswer};
-ghost use Rattle.hba_fbs.specs.Hearing.{answer_fault as answer_fault_of, answered as answered_heard, block_of as block_of_fis, cause_of_setup as cause_of_setup_error, done_by as done_by_answer, faulty as faulty_heard, heard_activate, heard_bad, heard_bits, heard_d2h, heard_fis, heard_pio, heard_register, heard_setup, is_admitted as is_admitted_fis, moved, named as named_heard, quietly as quietly_heard, signing as signing_heard};
+ghost use Rattle.slots.specs.Setup.{out_setup};
+ghost use Rattle.hba_fbs.specs.Hearing.{answer_fault as answer_fault_of, answered as answered_heard, block_of as block_of_fis, cause_of_setup as cause_of_setup_error, done_by as done_by_answer, faulty as faulty_heard, heard_activate, heard_bad, heard_bits, heard_d2h, heard_fis, heard_out, heard_pio, heard_register, heard_setup, is_admitted as is_admitted_fis, moved, named as named_heard, quietly as quietly_heard, signing as signing_heard};
 ghost use Rattle.hba_fbs.specs.Tables.{Delivers, is_sound};
 ghost use Rattle.hba_fbs.specs.Taking.{wrote_by};
 
@@ -37,9 +38,11 @@ pub enum Happening {
     Answered(Answered),
     /// A Set Device Bits FIS names these slots as done.
     Named(u32),
-    /// A DMA Setup is accepted, and this is the device's context from now on.
+    /// A DMA Setup is accepted, or a PIO Setup for a PIO data-out, and this is the device's context from now
+    /// on.
     SetUp(Context),
-    /// A PIO Setup of this many bytes is accepted. The flag says whether they go to the host.
+    /// A PIO Setup of this many bytes is accepted for a PIO data-in. The flag says whether they go to the
+    /// host.
     PioSetUp(u32, bool),
     /// A DMA Activate is accepted.
     Activated,
@@ -266,6 +269,35 @@ fn hear_setup(
     }
 }
 
+// Hears a PIO Setup while no PIO data-in waits for it.
+fn hear_out(
+    slots: &mut SlotTable,
+    dev: u8,
+    state: DeviceState,
+    count: u32,
+    to_host: bool,
+    block: Block,
+) -> Heard
+    requires { dev < 16 }
+    ensures heard { result
+        ≡ heard_out state block (out_setup (slots_of dev slots.old) count to_host) }
+    ensures own { slots_of dev slots.new ≡ moved result.happening (slots_of dev slots.old) }
+    ensures others { LeavesOthers dev slots.old slots.new }
+    ensures frees { KeepsFree slots.old slots.new }
+    ensures unwritten { wrote_by result.happening ≡ None }
+{
+    match slots.setup_out(dev, count, to_host) {
+        Ok(context) => Heard {
+            state: state.with_status(block.ends).with_block(None),
+            happening: Happening::SetUp(context),
+            fault: None,
+            done: 0,
+            pss: block.interrupts,
+        },
+        Err(error) => faulty(state, cause_of_setup(error)),
+    }
+}
+
 fn hear_pio(
     slots: &mut SlotTable,
     dev: u8,
@@ -287,6 +319,9 @@ fn hear_pio(
     let told = state.with_file(status, error);
     if is_error(status) {
         return faulty(told, DeviceCause::TaskFile);
+    }
+    if slots.sent_pio(dev).is_none() {
+        return hear_out(slots, dev, told, count, to_host, block);
     }
     match slots.setup_pio(dev, count, to_host) {
         Ok(()) => quietly(

@@ -1,6 +1,6 @@
 //! What goes out next: Data for writes, and commands.
 
-ghost use Rattle.std.specs.Prelude.{◌≡◌, ◌<◌, ◌≤◌, ◌+◌, ◌&&◌, [], None, Some, Ok, true, false, ℕ, is_none, is_some, bit_or, MatchOption, IfOk, IfSome, IsSome, OnErr, length};
+ghost use Rattle.std.specs.Prelude.{◌≡◌, ◌<◌, ◌≤◌, ◌+◌, ◌&&◌, [], None, Some, Ok, true, false, ℕ, if◌then◌else◌, is_none, is_some, bit_or, MatchOption, IfOk, IfSome, IsSome, OnErr, length};
 ghost use Rattle.host_memory.specs.Memory.{Memory};
 ghost use Rattle.host_memory.specs.Place.{total_of};
 ghost use Rattle.port_errors.specs.Errors.{cause_of};
@@ -8,7 +8,7 @@ ghost use Rattle.slots.specs.Commands.{MayBeSent, after_sent};
 ghost use Rattle.slots.specs.Data.{payload as payload_of};
 ghost use Rattle.slots.specs.Slots.{KeepsFree, LeavesOthers, context_of, issue_at, lowest_below, mask_below, slots_of};
 ghost use Rattle.hba_fbs.specs.Registers.{AreRegisters};
-ghost use Rattle.hba_fbs.specs.Sending.{Gives, MayRest, Sends, counted, data_due, data_fis, gathered, host_stamp, is_due as is_due_of, is_ready as is_ready_state, is_sent, next_receiver as next_receiver_of, next_to_send as next_to_send_of, order_due, outgoing, resets as resets_of, state_sent, stopped_by_bus, view_fed, view_sent};
+ghost use Rattle.hba_fbs.specs.Sending.{Gives, MayRest, Sends, counted, data_due, data_fis, gathered, has_no_setup, host_stamp, is_due as is_due_of, is_ready as is_ready_state, is_sent, next_receiver as next_receiver_of, next_to_send as next_to_send_of, order_due, outgoing, resets as resets_of, state_sent, stopped_by_bus, view_fed, view_sent};
 ghost use Rattle.hba_fbs.specs.Views.{LeavesOtherViews, last_command, state_at, view_of};
 
 use crate::bits::has_bit;
@@ -16,7 +16,7 @@ use crate::data::sound_table;
 use crate::port::HostPort;
 use crate::registers::Registers;
 use crate::state::{DeviceState, state_of};
-use crate::status::{is_busy, wants_data};
+use crate::status::{Block, is_busy, wants_data};
 use bitflags::Flags;
 use fis_view::{Frame, Stamp};
 use hba_commands::Command;
@@ -162,10 +162,29 @@ fn sent_to(state: DeviceState, command: &Command) -> DeviceState
             resetting: state.resetting || has_bit(u32::from(command.cfis[CONTROL]), SRST_BIT),
             ..state
         },
-        Kind::QueuedRead | Kind::QueuedWrite | Kind::PioIn | Kind::NoData => DeviceState {
+        Kind::QueuedRead
+        | Kind::QueuedWrite
+        | Kind::DmaIn
+        | Kind::DmaOut
+        | Kind::PioIn
+        | Kind::PioOut
+        | Kind::NoData => DeviceState {
             status: state.status | BSY_MASK,
             ..state
         },
+    }
+}
+
+// What is left of a device's block once the command of its slot is sent: none, if that has no setup.
+#[tactic(auto, using(crate::proofs::SlotLemmas::own_here))]
+fn block_sent(slots: &SlotTable, slot: u8, dev: u8, state: DeviceState) -> Option<Block>
+    requires slot { slot < 32 }
+    requires owner { MatchOption (issue_at slots.now slot) ⊥ (λ issue. issue.dev ≡ dev) }
+    ensures { result ≡ (if has_no_setup (slots_of dev slots.now) slot then None else state.block) }
+{
+    match slots.work(slot) {
+        Some(work) if work.kind.is_dma() => None,
+        _ => state.block,
     }
 }
 
@@ -303,8 +322,10 @@ impl HostPort {
         ensures number { self.new.number ≡ counted self.old.number }
         ensures active { self.new.active ≡ self.old.active }
     {
+        let state = state_of(&self.states, dev);
+        let block = block_sent(&self.slots, slot, dev, state);
         send_slot(&mut self.slots, slot, dev);
-        self.states[dev as usize] = sent_to(state_of(&self.states, dev), command);
+        self.states[dev as usize] = sent_to(state, command).with_block(block);
         self.number = self.number.saturating_add(1);
     }
 

@@ -9,6 +9,7 @@ mod sending;
 mod signed;
 mod steps;
 mod taking;
+mod unqueued;
 mod vectors;
 
 use fis_view::{FrameError, H2dFields};

@@ -11,7 +11,7 @@ use Rattle.slots.specs.Data.{payload}
 use Rattle.slots.specs.Slots.{holds, match_some, own_issue}
 use Rattle.hba_fbs.specs.Tables.{prds_of}
 use Rattle.hba_fbs.specs.Taking.{admitted, heard}
-use Rattle.hba_laws.specs.Delivering.{event_heard, history_after, is_control_issue}
+use Rattle.hba_laws.specs.Delivering.{begun_by, event_heard, history_after, is_control_issue}
 use Rattle.hba_laws.specs.History as event
 use Rattle.hba_laws.specs.History.{Event, History, filled, issued}
 use Rattle.hba_laws.specs.Hosts.{Gave, Host, HostEvent, Runs}
@@ -78,7 +78,8 @@ told_order part slot =
 abbrev pub told_going : DevicePart → List ℕ → History
 told_going part bytes =
     if is_some (payload part.view.slots.context) then event.Carried (drop 4 bytes) ∷ []
-    else match_some (next_own part.view) [] (λ slot. told_order part slot ∷ [])
+    else match_some (next_own part.view) []
+    (λ slot. begun_by slot (own_issue part.view.slots slot) ++ told_order part slot ∷ [])
 
 abbrev pub told_own : ℕ → DevicePart → OwnEvent → (ℕ → List Prd) → List ℕ → History
 told_own n part (Came frame) tables bytes = match_some (told_came n part frame) [] (λ e. e ∷ [])

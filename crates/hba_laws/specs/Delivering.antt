@@ -2,7 +2,7 @@
 -- the slots that become free and of the client bytes (AHCI 1.3.1, 5.3 and 9.3; Serial ATA 3.x, 10.5; ACS-3,
 -- NCQ and PIO data-in commands).
 use Rattle.std.specs.Prelude.{ℕ, ◌≡◌, ◌+◌, ◌<◌, Bool, false, true, if◌then◌else◌, List, [], ◌∷◌}
-use Rattle.std.specs.Prelude.{◌++◌, length, drop, is_some}
+use Rattle.std.specs.Prelude.{◌++◌, length, drop, is_some, map}
 use Rattle.std.specs.Prelude.{slice_index, Option, Some, None, MatchOption, zero, suc}
 use Rattle.fis_view.specs.Frames.{IsFrame}
 use Rattle.fis_view.specs.Seen.{seen}
@@ -10,6 +10,7 @@ use Rattle.host_memory.specs.Memory.{Memory, client_start}
 use Rattle.host_memory.specs.Place.{place}
 use Rattle.hba_commands.specs.declared.command.Command.{Command}
 use Rattle.slots.specs.Slots.{Issue, Slots, has_bit, holds, is_control, issue_at, match_some}
+use Rattle.slots.specs.Work.{is_dma, is_read}
 use Rattle.slots.specs.declared.answer.Answered.{Answered}
 use Rattle.slots.specs.declared.answer.Answered.TheVariants as answer
 use Rattle.hba_fbs.specs.declared.hearing.Happening.{Happening}
@@ -38,7 +39,7 @@ use Rattle.hba_laws.specs.Sound.{AreHosts, IsHost}
 
 -- ---- a frame is received
 
--- a Register FIS is an answer, except one received while bytes of a PIO data-in are missing
+-- a Register FIS is an answer, except one received while bytes of a command are missing
 abbrev pub event_of_answer : Answered → Option Event
 event_of_answer answer.Nobody = Some event.Answered
 event_of_answer (answer.Queued slot) = Some event.Answered
@@ -111,13 +112,21 @@ abbrev pub event_sent : Slots → ℕ → Event
 event_sent slots slot =
     if holds is_control_issue (issue_at slots slot) then event.SentControl slot else event.Sent slot
 
+-- a command that has no setup is its own, for all its bytes
+abbrev pub begun_by : ℕ → Option Issue → History
+begun_by slot None = []
+begun_by slot (Some issue) = if is_dma issue.work.kind
+    then event.SetUp slot 0 issue.work.len (is_read issue.work.kind) ∷ [] else []
+
 abbrev pub touched_by_out : Host → Outgoing → Touches
 touched_by_out host out.Nothing = []
 touched_by_out host (out.Unreadable dev) = []
 touched_by_out host (out.Data dev offset len command) =
     let prds = prds_of host.memory command in
     By dev (event.Carried (gathered prds offset len host.memory.client)) ∷ []
-touched_by_out host (out.Order dev slot command) = By dev (event_sent host.port.slots slot) ∷ []
+touched_by_out host (out.Order dev slot command) =
+    map (By dev) (begun_by slot (issue_at host.port.slots slot))
+    ++ By dev (event_sent host.port.slots slot) ∷ []
 
 -- ---- over events
 

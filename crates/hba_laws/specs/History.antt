@@ -1,6 +1,6 @@
 -- What happened to the commands of one device, and what follows from it: what is issued, which bytes of it
 -- are filled and with what, and which event completes it (AHCI 1.3.1, 5.3 and 9.3; Serial ATA 3.x, 10.5, FIS
--- types; ACS-3, NCQ and PIO data-in commands). These definitions read a history back to the issue of a slot.
+-- types; ACS-3, NCQ, DMA and PIO commands). These definitions read a history back to the issue of a slot.
 -- They use no flag, no cursor and no running sum.
 use Rattle.std.specs.Prelude.{ℕ, ◌+◌, ◌-◌, ◌≤◌, ◌==◌, ◌&&◌, ◌||◌, nat_le, nat_lt, not, Bool, false}
 use Rattle.std.specs.Prelude.{if◌then◌else◌}
@@ -8,7 +8,7 @@ use Rattle.std.specs.Prelude.{List, [], ◌∷◌, length, slice_get, Option, So
 use Rattle.std.specs.List.{range_with_len, list_all}
 use Rattle.host_memory.specs.declared.table.Prd.{Prd}
 use Rattle.slots.specs.Slots.{has_bit, is_pio, match_some}
-use Rattle.slots.specs.Work.{is_queued}
+use Rattle.slots.specs.Work.{is_queued, needs_all}
 use Rattle.slots.specs.declared.work.Work.{Work}
 use Rattle.hba_fbs.specs.Status.{is_quiet}
 
@@ -27,9 +27,10 @@ pub data Event : Type 0 where
   -- the command of a slot, or the Control there, is transmitted
   Sent : (slot : ℕ) → Event
   SentControl : (slot : ℕ) → Event
-  -- a DMA Setup is accepted
+  -- a DMA Setup is accepted, or a PIO Setup for a PIO data-out, or the command of a slot is transmitted that has
+  -- no setup and is its own
   SetUp : (tag offset count : ℕ) → (to_host : Bool) → Event
-  -- a PIO Setup is accepted, with the Status at the end of its block
+  -- a PIO Setup is accepted for a PIO data-in, with the Status at the end of its block
   PioSetUp : (count : ℕ) → (to_host : Bool) → (ends : ℕ) → Event
   -- the payload of a Data FIS was received or transmitted
   Carried : (bytes : List ℕ) → Event
@@ -145,14 +146,14 @@ abbrev pub ends_well : Setup → ℕ → Bool
 ends_well g gone = match_some (block_end g gone) false is_quiet
 
 -- Whether the event completes what is issued in s, given its work. A queued command completes with a Set
--- Device Bits FIS that names it while it is whole. Any other completes with an answer of the device, a PIO
--- data-in also with the end of its last block.
+-- Device Bits FIS that names it while it is whole. Any other completes with an answer of the device, one that
+-- moves data only while it is whole, and a PIO data-in also with the end of its last block.
 abbrev pub completes : ℕ → Event → History → Work → Bool
 completes s (Named mask) past w =
     has_bit mask s && (is_queued w.kind && is_all_filled (filled s past) w.len)
 completes s Answered past w =
     is_at s (waiting_in past) && not (is_queued w.kind)
-    && (not (is_pio w.kind) || is_all_filled (filled s past) w.len)
+    && (not (needs_all w.kind) || is_all_filled (filled s past) w.len)
 completes s (Carried bytes) past w =
     is_set_up s past && is_pio w.kind
     && match_some (last_setup past) false (λ g. ends_well g (carried past + length bytes))

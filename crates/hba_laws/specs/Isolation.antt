@@ -10,6 +10,7 @@ use Rattle.fis_view.specs.declared.view.FisFault.{FisFault}
 use Rattle.hba_commands.specs.declared.command.Command.{Command}
 use Rattle.host_memory.specs.Memory.{Memory}
 use Rattle.rx_area.specs.Area.{row_after}
+use Rattle.slots.specs.Commands.{may_begin}
 use Rattle.slots.specs.Data.{payload}
 use Rattle.slots.specs.Slots.{Issue, holds, is_control, lowest, match_some, own_issue, waiting}
 use Rattle.hba_fbs.specs.declared.register.Register.{Register}
@@ -126,11 +127,12 @@ after_issue n commands part =
     (record part.view { slots = issued_slots n commands part.view.slots })
 
 -- its command was not sent and can go: a Control always, any other while the device is ready and none of its
--- slots waits
+-- slots waits, and one that has no setup only while no queued one is outstanding
 abbrev pub may_leave : DeviceView → Issue → Bool
 may_leave view issue =
     not issue.sent && not (is_some view.fault)
-    && (is_control issue.work.kind || is_ready view.state && is_none (waiting view.slots))
+    && (is_control issue.work.kind || is_ready view.state && is_none (waiting view.slots)
+    && may_begin view.slots issue)
 
 -- the lowest slot of the device whose command can go
 abbrev pub next_own : DeviceView → Option ℕ

@@ -1,20 +1,20 @@
 -- What holds for every table still holds after a call.
-use Rattle.std.proofs.Common.{◌≡◌, ℕ, ◌/◌, ◌<◌, Bool, true, false, not, ◌&&◌, ◌||◌, List, get_or, length, refl, sym, ◌∙◌, ap, subst, arith, inl, inr, Option, Some, None}
+use Rattle.std.proofs.Common.{◌≡◌, ℕ, ◌/◌, ◌<◌, Bool, true, false, not, ◌&&◌, ◌||◌, List, [], get_or, length, refl, sym, ◌∙◌, ap, subst, arith, inl, inr, Option, Some, None, get_or-set_same}
 use Rattle.std.specs.Prelude.{MatchOption, IfSome, is_none}
 use Rattle.std.specs.Option.{is_some, option_map}
 use Rattle.std.proofs.lemmas.Bool.{cases_lt, and_parts, or_left, or_right, or_cases, cond-true, cond-false, not-true, false≢true}
-use Rattle.std.proofs.lemmas.List.{get_or_default, get_or_past, length-replicate}
+use Rattle.std.proofs.lemmas.List.{get_or_default, get_or_past, length-map, length-replicate}
 use Rattle.slots.specs.declared.table.Context.{Context}
-use Rattle.slots.specs.Commands.{MayBeSent, after_sent, answer_for, answer_of, answered_issue, is_slot, may_go, sent_issue}
+use Rattle.slots.specs.Commands.{MayBeSent, after_sent, answer_for, answer_of, answered_issue, is_slot, may_begin, may_go, sent_issue, with_sent}
 use Rattle.slots.specs.declared.slot.Issued.{Issued}
 use Rattle.slots.specs.declared.work.Work.{Work}
-use Rattle.slots.specs.Work.{IsWork}
-use Rattle.slots.specs.Issued.{issued_of}
-use Rattle.slots.specs.Slots.{Issue, Slots, DeviceSlots, issue_at, owned_by, own_issue, slots_of, with_own_issue, freed, has_bit, holds, is_control, is_pio, is_queued_issue, is_sent_pio, is_waiting, match_some, new_issue, sent_pio, waiting}
-use Rattle.slots.specs.Setup.{after_setup_pio, came, is_outstanding, new_context, pio_fault, pio_issue, with_own_context}
+use Rattle.slots.specs.Work.{IsWork, is_dma, needs_all}
+use Rattle.slots.specs.Issued.{issued_of, with_flags}
+use Rattle.slots.specs.Slots.{Issue, Slots, DeviceSlots, issue_at, owned_by, own_issue, slots_of, with_own_issue, freed, has_bit, holds, is_control, is_queued_issue, is_sent_pio, is_under_way, is_waiting, match_some, new_issue, sent_pio, waiting}
+use Rattle.slots.specs.Setup.{after_setup_pio, begun, came, is_outstanding, new_context, pio_fault, pio_issue, with_own_context}
 use Rattle.slots.specs.declared.answer.Answered.{Answered}
 use Rattle.slots.specs.declared.answer.SetupError.{SetupError}
-use Rattle.slots.specs.Table.{IsIssue, IsContextOf, IsTable, waits_for}
+use Rattle.slots.specs.Table.{IsIssue, IsContextOf, IsFresh, IsTable, waits_for}
 use Rattle.slots.proofs.StretchLemmas.{few_first}
 use Rattle.slots.proofs.MaskLemmas.{none_below}
 use Rattle.slots.proofs.TableLemmas.{Keeps, context_some, Owns, own_at, owned_own, owned_same, owns_where, table_changed, table_with_issue, with_issue}
@@ -60,8 +60,8 @@ table_answered dev s t o d is below waits queued e =
     let now : o ≡ Some (answered_issue i) = e ∙ ap (option_map answered_issue) (get_or_default t.issues s d None lt ∙ f.at) in
     let keeps : Keeps answered_issue i = record {
       owner = refl;
-      rules = λ r. record { dev_below = r.dev_below; work = r.work; room = r.room; answers = λ _. (q, sent); few = r.few; controls = r.controls };
-      context = λ n c r. record { of_dev = r.of_dev; fits = r.fits; next_dwords = r.next_dwords; left_dwords = r.left_dwords; fresh = r.fresh; room = r.room; way = r.way; goes = or_left (is_queued_issue i && true) (is_sent_pio i) (ap (λ (b : Bool). b && true) q); activates = r.activates };
+      rules = λ r. record { dev_below = r.dev_below; work = r.work; room = r.room; answers = λ _. (q, sent); few = r.few; controls = r.controls; unsent = r.unsent };
+      context = λ n c r. record { of_dev = r.of_dev; fits = r.fits; next_dwords = r.next_dwords; left_dwords = r.left_dwords; fresh = r.fresh; room = r.room; way = r.way; goes = or_left (is_queued_issue i && true) (is_under_way i) (ap (λ (b : Bool). b && true) q); activates = r.activates };
     } in
     subst (λ (x : Option Issue). IsTable (with_issue t s x)) (sym now) (table_changed t s answered_issue i is below f.at keeps (λ r here. absurd (not_waiting i here)))
 
@@ -86,6 +86,7 @@ table_issued s dev work t o is below low fits free e =
       answers = λ h. absurd (false≢true h);
       few = few_first work.len;
       controls = λ h. absurd (false≢true h);
+      unsent = λ h. refl;
     } in
     let first : IsTable (with_issue t s (Some (new_issue dev work))) = table_with_issue t s (Some (new_issue dev work)) is below i
     (λ d c at same. absurd (none_in d c (issue_at t s) free (subst (λ (k : ℕ). MatchOption (issue_at t k) ⊥ (IsContextOf d c)) same (context_some t d c is at).1)))
@@ -94,10 +95,10 @@ table_issued s dev work t o is below low fits free e =
 
 -- ---- sent
 
-sent_goes : (i : Issue) → (is_outstanding i || is_sent_pio i) ≡ true → (is_outstanding i || is_pio i.work.kind) ≡ true
-sent_goes i h = elim (or_cases (is_outstanding i) (is_sent_pio i) h) [
-  | inl o ↦ or_left (is_outstanding i) (is_pio i.work.kind) o
-  | inr p ↦ or_right (is_outstanding i) (is_pio i.work.kind) (and_parts i.sent (is_pio i.work.kind) p).1
+sent_goes : (i : Issue) → (is_outstanding i || is_under_way i) ≡ true → (is_outstanding i || needs_all i.work.kind) ≡ true
+sent_goes i h = elim (or_cases (is_outstanding i) (is_under_way i) h) [
+  | inl o ↦ or_left (is_outstanding i) (needs_all i.work.kind) o
+  | inr p ↦ or_right (is_outstanding i) (needs_all i.work.kind) (and_parts i.sent (needs_all i.work.kind) p).1
 ]
 
 past_end : (dev : ℕ) (o : Option Issue) → o ≡ None → holds is_waiting (owned_by dev o) ≡ true → ⊥
@@ -118,7 +119,7 @@ table_sent s t i o d is below at kind alone e =
     let now : o ≡ Some (sent_issue i) = e ∙ ap (option_map sent_issue) (get_or_default t.issues s d None lt ∙ at) in
     let keeps : Keeps sent_issue i = record {
       owner = refl;
-      rules = λ r. record { dev_below = r.dev_below; work = r.work; room = r.room; answers = λ h. ((r.answers h).0, refl); few = r.few; controls = λ _. kind };
+      rules = λ r. record { dev_below = r.dev_below; work = r.work; room = r.room; answers = λ h. ((r.answers h).0, refl); few = r.few; controls = λ _. kind; unsent = λ h. absurd (false≢true (sym h)) };
       context = λ n c r. record { of_dev = r.of_dev; fits = r.fits; next_dwords = r.next_dwords; left_dwords = r.left_dwords; fresh = r.fresh; room = r.room; way = r.way; goes = sent_goes i r.goes; activates = r.activates };
     } in
     subst (λ (x : Option Issue). IsTable (with_issue t s x)) (sym now) (table_changed t s sent_issue i is below at keeps (λ r here there. absurd (none_waits i.dev t r is.slots alone there)))
@@ -148,11 +149,16 @@ control_by s t u i h lt at is kind own =
     subst (λ (n : ℕ). slots_of n u ≡ freed (is_slot s) (slots_of n t)) d own ∙ sym (cond-true (holds (λ issue. is_control issue.work.kind) (own_issue (slots_of i.dev t) s)) _ _ (control_of s t i true lt at k))
 
 other_by : (s : ℕ) (t u : Slots) (i : Issue) (h : Issued) → s < length t.issues → issue_at t s ≡ Some i → issued_of i ≡ h → is_control h.work.kind ≡ false
-    → slots_of h.dev u ≡ with_own_issue (slots_of h.dev t) s (option_map sent_issue (own_issue (slots_of h.dev t) s)) → slots_of i.dev u ≡ after_sent (slots_of i.dev t) s
+    → slots_of h.dev u ≡ begun s h.work (with_sent (slots_of h.dev t) s) → slots_of i.dev u ≡ after_sent (slots_of i.dev t) s
 other_by s t u i h lt at is kind own =
     let d : h.dev ≡ i.dev = ap (λ (x : Issued). x.dev) (sym is) in
+    let w : h.work ≡ i.work = ap (λ (x : Issued). x.work) (sym is) in
     let k : is_control i.work.kind ≡ false = ap (λ (x : Issued). is_control x.work.kind) is ∙ kind in
-    subst (λ (n : ℕ). slots_of n u ≡ with_own_issue (slots_of n t) s (option_map sent_issue (own_issue (slots_of n t) s))) d own ∙ sym (cond-false (holds (λ issue. is_control issue.work.kind) (own_issue (slots_of i.dev t) s)) _ _ (control_of s t i false lt at k))
+    let mine : DeviceSlots = slots_of i.dev t in
+    subst (λ (n : ℕ). slots_of n u ≡ begun s h.work (with_sent (slots_of n t) s)) d own
+    ∙ ap (λ (x : Work). begun s x (with_sent mine s)) w
+    ∙ sym (ap (λ (o : Option Issue). match_some o (with_sent mine s) (λ issue. begun s issue.work (with_sent mine s))) (own_is s t i lt at))
+    ∙ sym (cond-false (holds (λ issue. is_control issue.work.kind) (own_issue mine s)) _ _ (control_of s t i false lt at k))
 
 head_is : (i : Issue) (h : Issued) → option_map issued_of (Some i) ≡ Some h → issued_of i ≡ h
 head_is i h e = cc
@@ -163,9 +169,30 @@ sent_control s t u None h lt at is kind own = tt
 sent_control s t u (Some i) h lt at is kind own = control_by s t u i h lt at (head_is i h is) kind own
 
 pub sent_other : (s : ℕ) (t u : Slots) (o : Option Issue) (h : Issued) → s < length t.issues → issue_at t s ≡ o → option_map issued_of o ≡ Some h → is_control h.work.kind ≡ false
-    → slots_of h.dev u ≡ with_own_issue (slots_of h.dev t) s (option_map sent_issue (own_issue (slots_of h.dev t) s)) → IfSome o (λ issue. slots_of issue.dev u ≡ after_sent (slots_of issue.dev t) s)
+    → slots_of h.dev u ≡ begun s h.work (with_sent (slots_of h.dev t) s) → IfSome o (λ issue. slots_of issue.dev u ≡ after_sent (slots_of issue.dev t) s)
 sent_other s t u None h lt at is kind own = tt
 sent_other s t u (Some i) h lt at is kind own = other_by s t u i h lt at (head_is i h is) kind own
+
+-- what was sent now is fresh
+fresh_own : (s : ℕ) (t u : Slots) (i : Issue) (h : Issued) → IsTable t → s < 32 → issue_at t s ≡ Some i → issued_of i ≡ h → i.sent ≡ false → slots_of h.dev u ≡ with_sent (slots_of h.dev t) s
+    → MatchOption (own_issue (slots_of h.dev u) s) ⊥ (IsFresh h.work)
+fresh_own s t u i h table below at is unsent own =
+    let d : i.dev ≡ h.dev = ap (λ (x : Issued). x.dev) is in
+    let lt : s < length t.issues = omega (arith, below, table.slots) in
+    let mine : DeviceSlots = slots_of h.dev t in
+    let before : own_issue mine s ≡ Some i = subst (λ (n : ℕ). own_issue (slots_of n t) s ≡ Some i) d (own_is s t i lt at) in
+    let long : s < length mine.issues = omega (arith, lt, length-map t.issues (owned_by h.dev)) in
+    let after : own_issue (slots_of h.dev u) s ≡ Some (sent_issue i) =
+    ap (λ (o : DeviceSlots). own_issue o s) own ∙ get_or-set_same mine.issues s (option_map sent_issue (own_issue mine s)) None long ∙ ap (option_map sent_issue) before in
+    let r : IsIssue i = subst (λ (o : Option Issue). MatchOption o (Unit {0}) IsIssue) at (table.issues s) in
+    let it : IsFresh h.work (sent_issue i) = record { of_work = ap (λ (x : Issued). x.work) is; sent = refl; none = r.unsent unsent } in
+    subst (λ (o : Option Issue). MatchOption o ⊥ (IsFresh h.work)) (sym after) it
+
+pub fresh_sent : (s : ℕ) (t u : Slots) (o : Option Issue) (h : Issued) → IsTable t → s < 32 → issue_at t s ≡ o → option_map issued_of o ≡ Some h
+    → MatchOption o ⊥ (λ issue. (issue.sent ≡ false) × (is_control issue.work.kind ≡ false → waiting (slots_of issue.dev t) ≡ None)) → slots_of h.dev u ≡ with_sent (slots_of h.dev t) s
+    → MatchOption (own_issue (slots_of h.dev u) s) ⊥ (IsFresh h.work)
+fresh_sent s t u None h table below at is may own = absurd may
+fresh_sent s t u (Some i) h table below at is may own = fresh_own s t u i h table below at (head_is i h is) may.0 own
 
 -- ---- the next slot
 
@@ -176,17 +203,23 @@ is_none_is (Some n) h = absurd (false≢true h)
 may_be_sent_at : (ready faulty : ℕ) (t : Slots) (o : Option Issue) → holds (may_go ready faulty t) o ≡ true → MatchOption o ⊥ (λ issue. (issue.sent ≡ false) × (is_control issue.work.kind ≡ false → waiting (slots_of issue.dev t) ≡ None))
 may_be_sent_at ready faulty t None h = absurd (false≢true h)
 may_be_sent_at ready faulty t (Some i) h =
-    let both = and_parts (not i.sent && not (has_bit faulty i.dev)) (is_control i.work.kind || has_bit ready i.dev && is_none (waiting (slots_of i.dev t))) h in
+    let both = and_parts (not i.sent && not (has_bit faulty i.dev)) (is_control i.work.kind || has_bit ready i.dev && is_none (waiting (slots_of i.dev t)) && may_begin (slots_of i.dev t) i) h in
     let first = and_parts (not i.sent) (not (has_bit faulty i.dev)) both.0 in (
       not-true i.sent first.0,
-      λ kind. elim (or_cases (is_control i.work.kind) (has_bit ready i.dev && is_none (waiting (slots_of i.dev t))) both.1) [
+      λ kind. elim (or_cases (is_control i.work.kind) (has_bit ready i.dev && is_none (waiting (slots_of i.dev t)) && may_begin (slots_of i.dev t) i) both.1) [
         | inl control ↦ absurd (false≢true (sym kind ∙ control))
-        | inr idle ↦ is_none_is (waiting (slots_of i.dev t)) (and_parts (has_bit ready i.dev) (is_none (waiting (slots_of i.dev t))) idle).1
+        | inr idle ↦
+            let first = (and_parts (has_bit ready i.dev && is_none (waiting (slots_of i.dev t))) (may_begin (slots_of i.dev t) i) idle).0 in
+            is_none_is (waiting (slots_of i.dev t)) (and_parts (has_bit ready i.dev) (is_none (waiting (slots_of i.dev t))) first).1
       ],
     )
 
 pub may_be_sent : (ready faulty s : ℕ) (t : Slots) → holds (may_go ready faulty t) (issue_at t s) ≡ true → MayBeSent t s
 may_be_sent ready faulty s t h = may_be_sent_at ready faulty t (issue_at t s) h
+
+pub may_go_is : (ready faulty : ℕ) (t : Slots) (o : Option Issue) (h : Issued) → option_map issued_of o ≡ Some h → may_go ready faulty t (with_flags h []) ≡ holds (may_go ready faulty t) o
+may_go_is ready faulty t None h e = cc
+may_go_is ready faulty t (Some i) h e = ap (λ (x : Issued). may_go ready faulty t (with_flags x [])) (sym (head_is i h e))
 
 -- ---- a free slot
 

@@ -7,6 +7,7 @@ pub mod MaskLemmas
 pub mod TableLemmas
 pub mod FreeLemmas
 pub mod CallLemmas
+pub mod FitLemmas
 pub mod MoveLemmas
 pub mod NewLemmas
 pub mod SetLemmas

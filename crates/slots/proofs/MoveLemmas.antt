@@ -2,13 +2,15 @@
 use Rattle.std.proofs.Common.{◌≡◌, ℕ, ◌+◌, ◌*◌, ◌%◌, ◌<◌, ◌≤◌, Bool, true, List, get_or, set, length, refl, sym, ◌∙◌, ap, subst, arith, inl, inr, Option, Some, None, get_or-set_same, get_or-set_other}
 use Rattle.std.specs.Prelude.{MatchOption}
 use Rattle.std.specs.Option.{option_map}
-use Rattle.std.proofs.lemmas.Bool.{cases_eq, cases_lt, false≢true}
+use Rattle.std.proofs.lemmas.Bool.{and_parts, cases_eq, cases_lt, or_cases, false≢true}
 use Rattle.std.proofs.lemmas.List.{get_or_default, set-set}
 use Rattle.slots.specs.declared.table.Context.{Context}
 use Rattle.slots.specs.Bytes.{stretches_of, with_bytes}
 use Rattle.slots.specs.Data.{gone_over, moved_on, moved_over}
-use Rattle.slots.specs.Slots.{Issue, Slots, DeviceSlots, issue_at, context_of, owned_by, slots_of, holds, is_waiting}
+use Rattle.slots.specs.Setup.{is_outstanding}
+use Rattle.slots.specs.Slots.{Issue, Slots, DeviceSlots, issue_at, context_of, owned_by, slots_of, holds, is_queued_issue, is_under_way, is_waiting}
 use Rattle.slots.specs.Table.{IsIssue, IsContextOf, IsTable, waits_for}
+use Rattle.slots.specs.Work.{needs_all}
 use Rattle.slots.proofs.ByteLemmas.{length_with_bytes}
 use Rattle.slots.proofs.StretchLemmas.{few_then, fresh_then, room_then, with_none}
 use Rattle.slots.proofs.TableLemmas.{Owns, context_in, context_some, own_changed, own_with_context, owned_own, owns_where, table_with_context, table_with_issue, with_context, with_issue}
@@ -45,6 +47,13 @@ only_context dev other s c t i is below at owner e same = elim (cases_eq other d
       apart (sym (context_in t other s c i (context_some t other c is before) same at).of_dev ∙ owner)
 ]
 
+-- a command with a context was sent
+context_sent : (dev : ℕ) (c : Context) (i : Issue) → IsIssue i → IsContextOf dev c i → i.sent ≡ true
+context_sent dev c i r g = elim (or_cases (is_outstanding i) (is_under_way i) g.goes) [
+  | inl o ↦ (r.answers (and_parts (is_queued_issue i) i.answered o).1).1
+  | inr p ↦ (and_parts i.sent (needs_all i.work.kind) p).0
+]
+
 -- the issue after bytes of its context were transferred
 moved_issue : (dev n : ℕ) (c : Context) (i : Issue) → IsIssue i → IsContextOf dev c i → n ≤ c.left → n % 4 ≡ 0 → IsIssue (moved_over c.next n i)
 moved_issue dev n c i r g within dwords = record {
@@ -58,6 +67,7 @@ moved_issue dev n c i r g within dwords = record {
         subst (λ (x : List Bool). stretches_of x i.work.len ≤ 64) (sym same) r.few
   ];
   controls = r.controls;
+  unsent = λ h. absurd (false≢true (sym h ∙ context_sent dev c i r g));
 }
 
 -- and the context

@@ -151,13 +151,16 @@ count_nothing zero = refl
 count_nothing (suc n) = count_more (λ b. false) n ∙ omega (arith, count_nothing n)
 
 -- where no byte was transferred there is no stretch
-pub few_first : (len : ℕ) → stretches_of (none_over len) len ≤ 64
+pub none_over_runs : (len : ℕ) → stretches_of (none_over len) len ≡ 0
 unfolding stretches_of
-few_first len =
+none_over_runs len =
     let p : ℕ → Bool = λ b. false in
     let le = count_le p (begins (none_over len)) len (λ b lt h. absurd (false≢true (sym (over_none len b) ∙ (and_parts (is_over (none_over len) b) (nat_eq b 0 || not (is_over (none_over len) (b - 1))) h).0))) in
     let nothing = count_nothing len in
     omega arith
+
+pub few_first : (len : ℕ) → stretches_of (none_over len) len ≤ 64
+few_first len = let none = none_over_runs len in omega arith
 
 -- ---- what is left
 
@@ -176,6 +179,10 @@ none_from over o n free = false_from_ne_true (list_any (is_over over) (range_wit
     let below : k < n = omega (arith, at.2, lr) in
     let is : o + k ≡ at.1 = sym (get_or-range_with_len o n k at.1 below) ∙ at.3 in
     free k below (ap (is_over over) is ∙ at.4))
+
+-- none was transferred
+pub none_over_any : (len : ℕ) → any_over (none_over len) 0 len ≡ false
+none_over_any len = none_from (none_over len) 0 len (λ k lt h. absurd (false≢true (sym (over_none len (0 + k)) ∙ h)))
 
 -- the first n of these bytes were transferred, and the others were not
 pub fresh_then : (over : List Bool) (o n left : ℕ) → o % 4 ≡ 0 → n % 4 ≡ 0 → n ≤ left → o + left ≤ 4 * length over → any_over over o left ≡ false → any_over (with_bytes over o n) (o + n) (left - n) ≡ false

@@ -2,16 +2,18 @@
 -- and 5.6, how commands are issued and completed, 3.3.13 PxSACT, 3.3.14 PxCI; Serial ATA 3.x, 10.5, Register
 -- Device to Host and Set Device Bits FISes; ACS-3, NCQ).
 use Rattle.std.specs.Prelude.{◌≡◌, ◌<◌, ℕ, Bool, true, false, not, ◌&&◌, ◌||◌, ◌==◌, if◌then◌else◌, Option}
-use Rattle.std.specs.Prelude.{Some, None, is_none, slice_set, MatchOption}
+use Rattle.std.specs.Prelude.{Some, None, is_none, is_some, slice_set, MatchOption}
 use Rattle.std.specs.Option.{option_map}
 use Rattle.slots.specs.declared.answer.Answered.{Answered}
 use Rattle.slots.specs.declared.answer.Answered.TheVariants.{Nobody, Queued, Done, Short}
 use Rattle.slots.specs.declared.answer.Completed.{Completed}
 use Rattle.slots.specs.declared.work.Work.{Work}
+use Rattle.slots.specs.Setup.{begun, is_outstanding}
 use Rattle.slots.specs.Slots.{Issue, Slots, DeviceSlots, issue_at, slots_of, own_issue, with_own_issue}
-use Rattle.slots.specs.Slots.{match_some, holds, is_control, is_pio, is_done_issue, is_queued_issue}
+use Rattle.slots.specs.Slots.{match_some, holds, is_control, is_done_issue, is_queued_issue}
 use Rattle.slots.specs.Slots.{is_short_issue, is_whole_issue, waiting, sent_pio, freed, has_bit, mask_of}
 use Rattle.slots.specs.Slots.{lowest, new_issue}
+use Rattle.slots.specs.Work.{is_dma, needs_all}
 
 -- the set of this slot alone
 abbrev pub is_slot : ℕ → ℕ → Bool
@@ -42,18 +44,28 @@ sent_issue issue = record issue { sent = true }
 abbrev pub with_sent : DeviceSlots → ℕ → DeviceSlots
 with_sent own slot = with_own_issue own slot (option_map sent_issue (own_issue own slot))
 
--- a Control has no answer of its own, so its slot is freed
+-- A Control has no answer of its own, so its slot is freed. A command that has no setup is its own.
 abbrev pub after_sent : DeviceSlots → ℕ → DeviceSlots
 after_sent own slot =
     if holds (λ issue. is_control issue.work.kind) (own_issue own slot) then freed (is_slot slot) own
-    else with_sent own slot
+    else match_some (own_issue own slot) (with_sent own slot) (λ issue. begun slot issue.work (with_sent own slot))
+
+-- some queued command of the device was answered and has not ended
+abbrev pub has_outstanding : DeviceSlots → Bool
+has_outstanding own = is_some (lowest (λ slot. holds is_outstanding (own_issue own slot)))
+
+-- A command that has no setup goes only while no queued one is outstanding, so Data of its device is never
+-- taken for that of another command.
+abbrev pub may_begin : DeviceSlots → Issue → Bool
+may_begin own issue = not (is_dma issue.work.kind && has_outstanding own)
 
 -- The slot may go out next. Its command was not sent, and its device is not faulty. It is a Control, or the
--- device is ready and none of its slots waits.
+-- device is ready, none of its slots waits, and the command may begin.
 abbrev pub may_go : ℕ → ℕ → Slots → Issue → Bool
 may_go ready faulty t issue =
     not issue.sent && not (has_bit faulty issue.dev)
-    && (is_control issue.work.kind || has_bit ready issue.dev && is_none (waiting (slots_of issue.dev t)))
+    && (is_control issue.work.kind || has_bit ready issue.dev && is_none (waiting (slots_of issue.dev t))
+    && may_begin (slots_of issue.dev t) issue)
 
 -- the lowest slot that may go out next
 abbrev pub next_slot : ℕ → ℕ → Slots → Option ℕ
@@ -68,12 +80,12 @@ answered_issue issue = record issue { answered = true }
 abbrev pub with_answered : DeviceSlots → ℕ → DeviceSlots
 with_answered own slot = with_own_issue own slot (option_map answered_issue (own_issue own slot))
 
--- What an answer is for, in a slot with this issue. A queued command goes on. Any other is done, except a PIO
--- data-in with bytes missing.
+-- What an answer is for, in a slot with this issue. A queued command goes on. Any other is done, except one
+-- with bytes missing.
 abbrev pub answer_for : ℕ → Issue → Answered
 answer_for slot issue =
     if is_queued_issue issue then Queued slot
-    else if is_pio issue.work.kind && not (is_whole_issue issue) then Short slot
+    else if needs_all issue.work.kind && not (is_whole_issue issue) then Short slot
     else Done slot
 
 -- an answer for a slot names one of the 32 slots

@@ -6,9 +6,9 @@ use Rattle.std.specs.Option.{option_map}
 use Rattle.slots.specs.declared.answer.ArriveError.{ArriveError}
 use Rattle.slots.specs.declared.answer.ArriveError.TheVariants.{Stray, Overflow}
 use Rattle.slots.specs.declared.table.Context.{Context}
-use Rattle.slots.specs.declared.work.Kind.TheVariants.{QueuedWrite}
 use Rattle.slots.specs.Bytes.{with_bytes}
 use Rattle.slots.specs.Slots.{Issue, DeviceSlots, own_issue, match_some}
+use Rattle.slots.specs.Work.{is_read}
 
 -- the issue with count more bytes transferred, from byte offset on
 abbrev pub moved_over : ℕ → ℕ → Issue → Issue
@@ -62,10 +62,10 @@ abbrev pub payload : Option Context → Option (ℕ × ℕ × ℕ)
 payload None = None
 payload (Some c) = if c.activated then Some (c.slot, c.next, payload_len c) else None
 
--- a queued write of the device that has these bytes
+-- a command of the device that moves data to it and has these bytes
 pub record IsWriteOf (dev offset len : ℕ) (issue : Issue) : Type 0 where
   pub of_dev : issue.dev ≡ dev
-  pub write : issue.work.kind ≡ QueuedWrite
+  pub write : is_read issue.work.kind ≡ false
   pub inside : offset + len ≤ issue.work.len
 
 -- the device's part after that data was sent

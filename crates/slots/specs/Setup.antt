@@ -1,15 +1,18 @@
 -- Setups (Serial ATA 3.x, 10.5, DMA Setup and PIO Setup FISes; first-party DMA as in native command queueing,
 -- ACS-3): which are accepted, and what they leave.
-use Rattle.std.specs.Prelude.{ℕ, ◌+◌, ◌%◌, Bool, false, not, ◌&&◌, ◌||◌, ◌==◌, nat_lt, nat_le, if◌then◌else◌}
-use Rattle.std.specs.Prelude.{Option, Some, None, is_some}
+use Rattle.std.specs.Prelude.{ℕ, ◌+◌, ◌%◌, Bool, true, false, not, ◌&&◌, ◌||◌, ◌==◌, nat_lt, nat_le}
+use Rattle.std.specs.Prelude.{if◌then◌else◌}
+use Rattle.std.specs.Prelude.{Option, Some, None, is_some, Result, Ok, Err}
 use Rattle.std.specs.Bool.{beq}
+use Rattle.std.specs.Option.{option_or}
 use Rattle.slots.specs.declared.answer.SetupError.{SetupError}
 use Rattle.slots.specs.declared.answer.SetupError.TheVariants.{NotOutstanding, WrongWay, Overflow, Twice}
 use Rattle.slots.specs.declared.answer.SetupError.TheVariants.{Fragments, BadCount}
 use Rattle.slots.specs.declared.table.Context.{Context}
-use Rattle.slots.specs.Work.{is_read}
+use Rattle.slots.specs.declared.work.Work.{Work}
+use Rattle.slots.specs.Work.{is_dma, is_read}
 use Rattle.slots.specs.Bytes.{any_over, ends_at, stretches_of, came_of}
-use Rattle.slots.specs.Slots.{Issue, DeviceSlots, own_issue, match_some, is_queued_issue, sent_pio}
+use Rattle.slots.specs.Slots.{Issue, DeviceSlots, own_issue, match_some, is_queued_issue, sent_out, sent_pio}
 
 -- the transferred bytes are 64 stretches, and none of them ends just before byte offset
 abbrev pub is_full_at : Issue → ℕ → Bool
@@ -78,3 +81,48 @@ after_setup_pio own count to_host =
     else match_some (sent_pio own) own (λ slot.
     match_some (own_issue own slot) own (λ issue.
     with_own_context own (new_context slot (came issue) count to_host)))
+
+-- ---- a PIO data-out
+
+-- a block towards the device is one Data FIS, of 2,048 dwords at most
+abbrev pub long_fault : ℕ → Option SetupError
+long_fault count = if nat_lt 8192 count then Some BadCount else None
+
+-- why a PIO Setup is refused for a PIO data-out
+abbrev pub out_fault : ℕ → Bool → Issue → Option SetupError
+out_fault count to_host issue =
+    option_or (transfer_fault issue (came issue) count to_host) (long_fault count)
+
+-- the context if nothing is wrong with its setup
+abbrev pub context_or : Option SetupError → Context → Result Context SetupError
+context_or None c = Ok c
+context_or (Some e) c = Err e
+
+-- The context that a PIO Setup gives, for a PIO data-out in this slot: the new bytes follow those that were
+-- transferred, and they may go at once.
+abbrev pub out_context : (slot count : ℕ) → (to_host : Bool) → Issue → Result Context SetupError
+out_context slot count to_host issue =
+    context_or (out_fault count to_host issue) (dma_context slot (came issue) count false true)
+
+-- the same for the device's PIO data-out that was sent
+abbrev pub out_setup : DeviceSlots → ℕ → Bool → Result Context SetupError
+out_setup own count to_host = match_some (sent_out own) (Err NotOutstanding) (λ slot.
+    match_some (own_issue own slot) (Err NotOutstanding) (out_context slot count to_host))
+
+-- the device's part after a PIO Setup for its PIO data-out
+abbrev pub with_setup : DeviceSlots → Result Context SetupError → DeviceSlots
+with_setup own (Ok c) = with_own_context own c
+with_setup own (Err e) = own
+
+abbrev pub after_setup_out : DeviceSlots → ℕ → Bool → DeviceSlots
+after_setup_out own count to_host = with_setup own (out_setup own count to_host)
+
+-- ---- a command that is its own setup
+
+-- READ DMA and WRITE DMA have no setup: all their bytes are set up as they are sent
+abbrev pub whole_context : ℕ → Work → Context
+whole_context slot work = dma_context slot 0 work.len (is_read work.kind) false
+
+-- a command of this kind that has no setup is its own: all its bytes are to come, or may be asked for
+abbrev pub begun : ℕ → Work → DeviceSlots → DeviceSlots
+begun slot work own = if is_dma work.kind then with_own_context own (whole_context slot work) else own

@@ -7,9 +7,10 @@ use Rattle.std.specs.List.{range_with_len, position}
 use Rattle.std.specs.Int.{bit_at}
 use Rattle.slots.specs.declared.work.Work.{Work}
 use Rattle.slots.specs.declared.work.Kind.{Kind}
-use Rattle.slots.specs.declared.work.Kind.TheVariants.{QueuedRead, QueuedWrite, PioIn, NoData, Control}
+use Rattle.slots.specs.declared.work.Kind.TheVariants.{QueuedRead, QueuedWrite, DmaIn, DmaOut, PioIn, PioOut}
+use Rattle.slots.specs.declared.work.Kind.TheVariants.{NoData, Control}
 use Rattle.slots.specs.declared.table.Context.{Context}
-use Rattle.slots.specs.Work.{is_queued}
+use Rattle.slots.specs.Work.{is_out, is_queued, needs_all}
 use Rattle.slots.specs.Bytes.{is_whole, none_over}
 
 -- What is issued in a slot: for which device, what it asks for, whether its command was sent, whether the
@@ -110,14 +111,20 @@ holds test (Some issue) = test issue
 abbrev pub is_pio : Kind → Bool
 is_pio QueuedRead = false
 is_pio QueuedWrite = false
+is_pio DmaIn = false
+is_pio DmaOut = false
 is_pio PioIn = true
+is_pio PioOut = false
 is_pio NoData = false
 is_pio Control = false
 
 abbrev pub is_control : Kind → Bool
 is_control QueuedRead = false
 is_control QueuedWrite = false
+is_control DmaIn = false
+is_control DmaOut = false
 is_control PioIn = false
+is_control PioOut = false
 is_control NoData = false
 is_control Control = true
 
@@ -131,6 +138,14 @@ is_waiting issue = issue.sent && not issue.answered
 -- the command of a PIO data-in was sent
 abbrev pub is_sent_pio : Issue → Bool
 is_sent_pio issue = issue.sent && is_pio issue.work.kind
+
+-- a command that is not queued and moves data was sent
+abbrev pub is_under_way : Issue → Bool
+is_under_way issue = issue.sent && needs_all issue.work.kind
+
+-- a PIO data-out
+abbrev pub is_out_issue : Issue → Bool
+is_out_issue issue = is_out issue.work.kind
 
 -- all its bytes were transferred
 abbrev pub is_whole_issue : Issue → Bool
@@ -154,6 +169,11 @@ waiting own = lowest (λ slot. holds is_waiting (own_issue own slot))
 -- the device's slot whose PIO data-in was sent
 abbrev pub sent_pio : DeviceSlots → Option ℕ
 sent_pio own = lowest (λ slot. holds is_sent_pio (own_issue own slot))
+
+-- the device's slot that waits, if it is a PIO data-out
+abbrev pub sent_out : DeviceSlots → Option ℕ
+sent_out own =
+    match_some (waiting own) None (λ slot. if holds is_out_issue (own_issue own slot) then Some slot else None)
 
 -- ---- changes
 

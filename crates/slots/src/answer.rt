@@ -22,7 +22,7 @@ pub enum Answered {
     Queued(u8),
     /// The command in this slot. It is done, and the slot is free.
     Done(u8),
-    /// The PIO data-in in this slot, with bytes missing. Nothing changed.
+    /// The command in this slot, which moves data and is not queued, with bytes missing. Nothing changed.
     Short(u8),
 }
 

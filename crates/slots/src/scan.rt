@@ -1,7 +1,7 @@
 //! Loops over all slots.
 
 ghost use Rattle.std.specs.Prelude.{◌≡◌, ◌<◌, true, None, IfSome, slice_index_or};
-ghost use Rattle.slots.specs.Commands.{is_any, is_done as is_done_in, is_short as is_short_in, is_unanswered, own_slots};
+ghost use Rattle.slots.specs.Commands.{has_outstanding as has_outstanding_in, is_any, is_done as is_done_in, is_short as is_short_in, is_unanswered, own_slots};
 ghost use Rattle.slots.specs.Slots.{IsSlotWhere, has_bit as has_bit_of, holds, is_queued_issue, is_sent_pio, is_waiting, issues_unless, mask_of, own_issue, own_of, sent_pio, waiting};
 
 use crate::slot::Slot;
@@ -38,6 +38,18 @@ pub(crate) fn pio_slot(slots: &[Slot; 32], dev: u8) -> Option<u8>
         }
     }
     None
+}
+
+/// Whether a queued command of the device was answered and has not ended.
+pub(crate) fn has_outstanding(slots: &[Slot; 32], dev: u8) -> bool
+    ensures { result ≡ has_outstanding_in (own_of dev slots.now) }
+{
+    for slot in 0..32_u8 {
+        if slots[slot as usize].is_outstanding(dev) {
+            return true;
+        }
+    }
+    false
 }
 
 /// The named queued slots of the device with all bytes transferred.

@@ -7,8 +7,8 @@ ghost use Rattle.slots.specs.Work.{IsWork};
 ghost use Rattle.slots.specs.Commands.{IsSlotAnswer, answer_for as answer_for_issue, answered_issue, is_unanswered as is_unanswered_issue, sent_issue};
 ghost use Rattle.slots.specs.Data.{moved_over};
 ghost use Rattle.slots.specs.Issued.{issued_of, with_flags};
-ghost use Rattle.slots.specs.Setup.{came as came_in, pio_fault as pio_fault_of, setup_fault as setup_fault_of, transfer_fault as transfer_fault_of};
-ghost use Rattle.slots.specs.Slots.{holds, is_done_issue, is_queued_issue, is_short_issue, is_sent_pio as is_sent_pio_issue, is_waiting as is_waiting_issue, is_whole_issue, match_some, new_issue, owned_by};
+ghost use Rattle.slots.specs.Setup.{came as came_in, is_outstanding as is_outstanding_issue, long_fault as long_fault_of, out_fault as out_fault_of, pio_fault as pio_fault_of, setup_fault as setup_fault_of, transfer_fault as transfer_fault_of};
+ghost use Rattle.slots.specs.Slots.{holds, is_done_issue, is_out_issue, is_queued_issue, is_short_issue, is_sent_pio as is_sent_pio_issue, is_waiting as is_waiting_issue, is_whole_issue, match_some, new_issue, owned_by};
 
 use crate::answer::{Answered, SetupError};
 use crate::moved::Moved;
@@ -155,6 +155,26 @@ impl Slot {
         }
     }
 
+    /// Whether a queued command of the device was answered and has not ended.
+    pub(crate) fn is_outstanding(&self, dev: u8) -> bool
+        ensures { result ≡ holds is_outstanding_issue (owned_by dev self.now) }
+    {
+        match self.issued_by(dev) {
+            Some(issued) => issued.work.kind.is_queued() && issued.answered,
+            None => false,
+        }
+    }
+
+    /// Whether a PIO data-out is issued.
+    pub(crate) fn is_out(&self) -> bool
+        ensures { result ≡ holds is_out_issue self.now }
+    {
+        match self.issued {
+            Some(issued) => issued.work.kind.is_out(),
+            None => false,
+        }
+    }
+
     /// Whether a queued command of the device is issued.
     fn is_queued_of(&self, dev: u8) -> bool
         ensures { result ≡ holds is_queued_issue (owned_by dev self.now) }
@@ -215,7 +235,9 @@ impl Slot {
         match self.issued {
             None => Answered::Nobody,
             Some(issued) if issued.work.kind.is_queued() => Answered::Queued(slot),
-            Some(issued) if issued.work.kind.is_pio() && !self.is_whole() => Answered::Short(slot),
+            Some(issued) if issued.work.kind.needs_all() && !self.is_whole() => {
+                Answered::Short(slot)
+            }
             Some(_) => Answered::Done(slot),
         }
     }
@@ -257,6 +279,26 @@ impl Slot {
             None => Some(SetupError::NotOutstanding),
         }
     }
+
+    /// Why a PIO Setup for the PIO data-out in this slot is refused.
+    pub(crate) fn out_fault(&self, count: u32, to_host: bool) -> Option<SetupError>
+        ensures { result ≡ match_some self.now (Some SetupError.NotOutstanding) (out_fault_of count to_host) }
+    {
+        match self.issued {
+            Some(issued) => {
+                let first = transfer_fault(issued, &self.moved, self.moved.came(), count, to_host);
+                first.or(long_fault(count))
+            }
+            None => Some(SetupError::NotOutstanding),
+        }
+    }
+}
+
+// A block towards a device is one Data FIS.
+fn long_fault(count: u32) -> Option<SetupError>
+    ensures { result ≡ long_fault_of count }
+{
+    (count > 8192).then_some(SetupError::BadCount)
 }
 
 // Why a setup of these bytes is refused.

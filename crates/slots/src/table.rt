@@ -1,20 +1,20 @@
 //! The table of all slots.
 
-ghost use Rattle.std.specs.Prelude.{◌≡◌, ℕ, [], ◌+◌, ◌%◌, ◌<◌, ◌≤◌, ◌↔◌, Some, None, IsSome, IsErr, IfNone, IfSome, OnOk, OnErr, MatchOption, false, true, is_ok, is_none};
+ghost use Rattle.std.specs.Prelude.{◌≡◌, ℕ, [], ◌&&◌, ◌+◌, ◌%◌, ◌<◌, ◌≤◌, ◌↔◌, Some, None, IsSome, IsErr, IfNone, IfSome, OnOk, OnErr, MatchOption, false, true, is_ok, is_none};
 ghost use Rattle.std.specs.Option.{option_map};
 ghost use Rattle.std.specs.Result.{result_err};
-ghost use Rattle.slots.specs.Commands.{IsSlotAnswer, MayBeSent, StaysWithout, after_answer, after_complete, after_issue, after_pio_done, after_sent, answer_of, completed, is_any, is_slot, is_unanswered, may_go as may_go_of, next_slot, own_slots, slots_where, table_after_issue, whole_pio, with_answered, with_sent};
+ghost use Rattle.slots.specs.Commands.{IsSlotAnswer, MayBeSent, StaysWithout, after_answer, after_complete, after_issue, after_pio_done, after_sent, answer_of, completed, is_any, is_slot, is_unanswered, may_begin as may_begin_of, may_go as may_go_of, next_slot, own_slots, slots_where, table_after_issue, whole_pio, with_answered, with_sent};
 ghost use Rattle.slots.specs.Data.{IsWriteOf, activated as activated_context, after_activate, after_arrive, after_payload, arrive_answer, gone_over, may_activate, payload, payload_len as payload_len_of, receiving_slot};
 ghost use Rattle.slots.specs.Issued.{with_flags};
-ghost use Rattle.slots.specs.Setup.{after_setup, after_setup_pio, dma_context, new_context, pio_fault, pio_issue, setup_fault, with_own_context};
-ghost use Rattle.slots.specs.Slots.{KeepsFree, LeavesOthers, context_of, context_unless, freed, has_bit as has_bit_of, holds, is_control, is_queued_issue, is_waiting, issue_at, no_own_slots, no_slots, own_issue, owned_by, slots_of, waiting};
-ghost use Rattle.slots.specs.Table.{IsContext, IsTable};
+ghost use Rattle.slots.specs.Setup.{after_setup, after_setup_out, after_setup_pio, begun, dma_context, new_context, out_setup, pio_fault, pio_issue, setup_fault, with_own_context};
+ghost use Rattle.slots.specs.Slots.{KeepsFree, LeavesOthers, context_of, context_unless, freed, has_bit as has_bit_of, holds, is_control, is_queued_issue, is_waiting, issue_at, no_own_slots, no_slots, own_issue, owned_by, sent_out as sent_out_of, sent_pio as sent_pio_of, slots_of, waiting};
+ghost use Rattle.slots.specs.Table.{IsContext, IsFresh, IsTable};
 ghost use Rattle.slots.specs.Work.{IsWork};
 
 use crate::answer::{Answered, ArriveError, Busy, Completed, SetupError, Stray};
 use crate::scan::{
-    device_slots, done_slots, free_slots, has_bit, issued_slots, pio_slot, queued_slots,
-    short_slots, unanswered_slots, waiting_slot,
+    device_slots, done_slots, free_slots, has_bit, has_outstanding, issued_slots, pio_slot,
+    queued_slots, short_slots, unanswered_slots, waiting_slot,
 };
 use crate::slot::{Issued, Slot};
 use crate::work::Work;
@@ -131,7 +131,8 @@ impl SlotTable {
     }
 
     /// The command of a slot is sent. A Control has no answer, so its slot is freed at once. Any other
-    /// command waits for its device's answer.
+    /// command waits for its device's answer. READ and WRITE DMA have no setup: all their bytes are the
+    /// device's transfer from now on.
     pub fn sent(&mut self, slot: u8)
         requires slot { slot < 32 }
         requires alone { MayBeSent self.old slot }
@@ -148,6 +149,7 @@ impl SlotTable {
             self.free(issued.dev, slot);
         } else {
             self.send(issued.dev, slot);
+            self.begin(issued.dev, slot, issued.work);
         }
     }
 
@@ -211,6 +213,21 @@ impl SlotTable {
             Answered::Done(slot) => self.free(dev, slot),
         }
         answer
+    }
+
+    /// The command of a slot of a device, with this work, was sent now: if it has no setup, it is its own.
+    fn begin(&mut self, dev: u8, slot: u8, work: Work)
+        requires slot { slot < 32 }
+        requires dev { dev < 16 }
+        requires issue { MatchOption (own_issue (slots_of dev self.old) slot) ⊥ (IsFresh work) }
+        ensures own { slots_of dev self.new ≡ begun slot work (slots_of dev self.old) }
+        ensures others { LeavesOthers dev self.old self.new }
+        ensures frees { KeepsFree self.old self.new }
+    {
+        self.keeps_rules();
+        if work.kind.is_dma() {
+            self.set_context(dev, Context::new(slot, 0, work.len, work.kind.is_read()));
+        }
     }
 
     /// A setup of a device is accepted.
@@ -278,6 +295,47 @@ impl SlotTable {
         let offset = self.slots[slot as usize].came();
         self.set_context(dev, Context::new(slot, offset, count, to_host));
         Ok(())
+    }
+
+    /// The slot of a device's PIO data-in that was sent.
+    pub fn sent_pio(&self, dev: u8) -> Option<u8>
+        requires { dev < 16 }
+        ensures { result ≡ sent_pio_of (slots_of dev self.now) }
+    {
+        pio_slot(&self.slots, dev)
+    }
+
+    // The slot of a device's PIO data-out that was sent.
+    fn sent_out(&self, dev: u8) -> Option<u8>
+        requires { dev < 16 }
+        ensures value { result ≡ sent_out_of (slots_of dev self.now) }
+        ensures below { IfSome result (λ slot. slot < 32) }
+    {
+        let slot = waiting_slot(&self.slots, dev)?;
+        self.slots[slot as usize].is_out().then_some(slot)
+    }
+
+    /// A PIO Setup FIS of a device for its PIO data-out that was sent: the device asks for the next `count`
+    /// bytes, which may go at once. Answers what it replaces the device's last setup with.
+    pub fn setup_out(&mut self, dev: u8, count: u32, to_host: bool) -> Result<Context, SetupError>
+        requires dev { dev < 16 }
+        ensures answer { result ≡ out_setup (slots_of dev self.old) count to_host }
+        ensures own { slots_of dev self.new
+            ≡ after_setup_out (slots_of dev self.old) count to_host }
+        ensures others { LeavesOthers dev self.old self.new }
+        ensures frees { KeepsFree self.old self.new }
+        ensures err { OnErr result (self.new ≡ self.old) }
+    {
+        let Some(slot) = self.sent_out(dev) else {
+            return Err(SetupError::NotOutstanding);
+        };
+        if let Some(fault) = self.slots[slot as usize].out_fault(count, to_host) {
+            return Err(fault);
+        }
+        let offset = self.slots[slot as usize].came();
+        let context = Context::new(slot, offset, count, false).activated();
+        self.set_context(dev, context);
+        Ok(context)
     }
 
     /// The next bytes of a device's context are transferred.
@@ -489,6 +547,22 @@ impl SlotTable {
         context.to_host.then_some(context.slot)
     }
 
+    /// Whether a command may begin: one that has no setup waits until no queued one is outstanding.
+    fn may_begin(&self, issued: Issued) -> bool
+        requires { issued.dev < 16 }
+        ensures { result ≡ may_begin_of (slots_of issued.dev self.now) (with_flags issued []) }
+    {
+        !(issued.work.kind.is_dma() && has_outstanding(&self.slots, issued.dev))
+    }
+
+    /// Whether a device is ready and none of its slots waits.
+    fn may_take(&self, dev: u8, ready: u16) -> bool
+        requires { dev < 16 }
+        ensures { result ≡ (has_bit_of ready dev && is_none (waiting (slots_of dev self.now))) }
+    {
+        has_bit(u32::from(ready), dev) && waiting_slot(&self.slots, dev).is_none()
+    }
+
     /// Whether what is issued in a slot may go out next.
     fn may_go(&self, issued: Issued, ready: u16, faulty: u16) -> bool
         requires { issued.dev < 16 }
@@ -497,8 +571,7 @@ impl SlotTable {
         !issued.sent
             && !has_bit(u32::from(faulty), issued.dev)
             && (issued.work.kind.is_control()
-                || has_bit(u32::from(ready), issued.dev)
-                    && waiting_slot(&self.slots, issued.dev).is_none())
+                || self.may_take(issued.dev, ready) && self.may_begin(issued))
     }
 
     /// Whether the command of a slot may go out next.
@@ -513,8 +586,8 @@ impl SlotTable {
     }
 
     /// The lowest slot whose command may go out. The command was not sent, and its device is not in `faulty`.
-    /// It is a Control, or its device is in `ready` and none of the device's slots waits for an answer. Both
-    /// arguments are masks of devices.
+    /// It is a Control, or its device is in `ready` and none of the device's slots waits for an answer; READ
+    /// and WRITE DMA also wait until no queued command is outstanding. Both arguments are masks of devices.
     pub fn next_command(&self, ready: u16, faulty: u16) -> Option<u8>
         ensures value { result ≡ next_slot ready faulty self.now }
         ensures may_be_sent { IfSome result (λ slot. (slot < 32) × MayBeSent self.now slot) }

@@ -1,7 +1,7 @@
 //! What a command asks for.
 
 ghost use Rattle.std.specs.Prelude.{◌≡◌};
-ghost use Rattle.slots.specs.Work.{is_queued as is_queued_kind, is_read as is_read_kind};
+ghost use Rattle.slots.specs.Work.{is_dma as is_dma_kind, is_out as is_out_kind, is_queued as is_queued_kind, is_read as is_read_kind, needs_all as needs_all_kind};
 ghost use Rattle.slots.specs.Slots.{is_control as is_control_kind, is_pio as is_pio_kind};
 
 /// What a command does with data.
@@ -12,8 +12,17 @@ pub enum Kind {
     QueuedRead,
     /// WRITE FPDMA QUEUED: data goes to the device by DMA, and a Set Device Bits FIS ends it.
     QueuedWrite,
+    /// READ DMA and READ DMA EXT: data comes to the host by DMA with no setup, and a Register Device to Host
+    /// FIS ends it.
+    DmaIn,
+    /// WRITE DMA and WRITE DMA EXT: data goes to the device, as often as a DMA Activate FIS asks for it, and
+    /// a Register Device to Host FIS ends it.
+    DmaOut,
     /// PIO data-in: data comes in blocks, each announced by a PIO Setup FIS.
     PioIn,
+    /// PIO data-out: data goes in blocks, each asked for by a PIO Setup FIS, and a Register Device to Host
+    /// FIS ends it.
+    PioOut,
     /// A command without data, ended by a Register Device to Host FIS.
     NoData,
     /// A frame with C 0. It only writes the device's control register and has no answer of its own.
@@ -37,7 +46,12 @@ impl Kind {
     {
         match self {
             Kind::QueuedRead | Kind::QueuedWrite => true,
-            Kind::PioIn | Kind::NoData | Kind::Control => false,
+            Kind::DmaIn
+            | Kind::DmaOut
+            | Kind::PioIn
+            | Kind::PioOut
+            | Kind::NoData
+            | Kind::Control => false,
         }
     }
 
@@ -46,26 +60,43 @@ impl Kind {
         ensures { result ≡ is_read_kind self }
     {
         match self {
-            Kind::QueuedRead | Kind::PioIn => true,
-            Kind::QueuedWrite | Kind::NoData | Kind::Control => false,
+            Kind::QueuedRead | Kind::DmaIn | Kind::PioIn => true,
+            Kind::QueuedWrite | Kind::DmaOut | Kind::PioOut | Kind::NoData | Kind::Control => false,
         }
+    }
+
+    /// Whether it moves its data by DMA with no setup: READ or WRITE DMA.
+    pub fn is_dma(self) -> bool
+        ensures { result ≡ is_dma_kind self }
+    {
+        matches!(self, Kind::DmaIn | Kind::DmaOut)
+    }
+
+    pub(crate) fn is_out(self) -> bool
+        ensures { result ≡ is_out_kind self }
+    {
+        matches!(self, Kind::PioOut)
+    }
+
+    /// Whether its device's answer ends it only once all its bytes were transferred.
+    pub(crate) fn needs_all(self) -> bool
+        ensures { result ≡ needs_all_kind self }
+    {
+        matches!(
+            self,
+            Kind::DmaIn | Kind::DmaOut | Kind::PioIn | Kind::PioOut
+        )
     }
 
     pub(crate) fn is_pio(self) -> bool
         ensures { result ≡ is_pio_kind self }
     {
-        match self {
-            Kind::PioIn => true,
-            Kind::QueuedRead | Kind::QueuedWrite | Kind::NoData | Kind::Control => false,
-        }
+        matches!(self, Kind::PioIn)
     }
 
     pub(crate) fn is_control(self) -> bool
         ensures { result ≡ is_control_kind self }
     {
-        match self {
-            Kind::Control => true,
-            Kind::QueuedRead | Kind::QueuedWrite | Kind::PioIn | Kind::NoData => false,
-        }
+        matches!(self, Kind::Control)
     }
 }

@@ -310,6 +310,28 @@ fn pio_data_comes_in_blocks(rt: HostRuntime) {
 }
 
 #[test]
+fn dma_needs_no_setup(rt: HostRuntime) {
+    let mut table = SlotTable::new();
+    let read = Work {
+        kind: Kind::DmaIn,
+        len: 1024,
+    };
+    assert!(rt; issue_read(&mut table, 0, 6, 1));
+    assert!(rt; issue(&mut table, 3, 6, read));
+    assert_eq!(rt; send(&mut table, 0x40), Some(0));
+    assert_eq!(rt; answer(&mut table, 6), Answered::Queued(0));
+    assert_eq!(rt; send(&mut table, 0x40), None);
+    assert_eq!(rt; flush(&mut table, 6), 9);
+    assert!(rt; issue(&mut table, 3, 6, read));
+    assert_eq!(rt; send(&mut table, 0x40), Some(3));
+    assert_eq!(rt; arrive(&mut table, 6, 128), Some((3, 0)));
+    assert_eq!(rt; answer(&mut table, 6), Answered::Short(3));
+    assert_eq!(rt; arrive(&mut table, 6, 128), Some((3, 512)));
+    assert_eq!(rt; answer(&mut table, 6), Answered::Done(3));
+    assert_eq!(rt; arrive(&mut table, 6, 128), None);
+}
+
+#[test]
 fn the_lowest_command_that_may_go_goes(rt: HostRuntime) {
     let mut table = SlotTable::new();
     let control = Work {

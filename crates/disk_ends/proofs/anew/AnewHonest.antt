@@ -1,7 +1,7 @@
 -- For `reports_are_honest_anew` and `reports_are_honest`. What comes from a disk, and what is done, from where both
 -- ends began anew.
 use Rattle.std.proofs.Common.{◌≡◌, ◌==◌, ℕ, ◌-◌, ◌<◌, Bool, true, false, List, [], ◌∷◌, ◌++◌, drop, length, refl, sym, ap, subst, ◌∙◌, Option, Some, None, Ok, Err, Result, arith}
-use Rattle.std.specs.Prelude.{slice_get, if◌then◌else◌}
+use Rattle.std.specs.Prelude.{slice_get, if◌then◌else◌, is_some}
 use Rattle.std.proofs.lemmas.Bool.{true≢false}
 use Rattle.fis_view.specs.Frames.{IsFrame, marked}
 use Rattle.fis_view.specs.Table.{Bits, D2h, Pio, SActive, Setup, Status, field}
@@ -14,8 +14,8 @@ use Rattle.fis_view.proofs.MarkLemmas.{is_marked}
 use Rattle.port_errors.specs.declared.cause.DeviceCause.TheVariants as cause
 use Rattle.slots.specs.Commands.{completed}
 use Rattle.slots.specs.Data.{may_activate}
-use Rattle.slots.specs.Setup.{dma_context, pio_fault, pio_issue, setup_fault}
-use Rattle.slots.specs.Slots.{DeviceSlots, has_bit, is_pio, match_some, own_issue}
+use Rattle.slots.specs.Setup.{dma_context, out_setup, pio_fault, pio_issue, setup_fault}
+use Rattle.slots.specs.Slots.{DeviceSlots, has_bit, is_pio, match_some, own_issue, sent_pio}
 use Rattle.slots.specs.Work.{is_queued}
 use Rattle.slots.specs.declared.answer.Answered.TheVariants as answer
 use Rattle.slots.specs.declared.answer.SetupError.{SetupError}
@@ -26,8 +26,8 @@ use Rattle.hba_fbs.specs.declared.hearing.Heard.{Heard}
 use Rattle.hba_fbs.specs.declared.report.TakeReport.{TakeReport}
 use Rattle.hba_fbs.specs.declared.state.DeviceState.{DeviceState}
 use Rattle.hba_fbs.specs.declared.status.Block.{Block}
-use Rattle.hba_fbs.specs.Hearing.{block_of, faulty, heard_data, heard_fis, heard_pio, heard_register, is_admitted, named, quietly, set_up, tag_of}
-use Rattle.hba_fbs.specs.Status.{is_busy, is_error, with_bits}
+use Rattle.hba_fbs.specs.Hearing.{block_of, faulty, heard_data, heard_fis, heard_out, heard_register, is_admitted, named, quietly, set_up, tag_of}
+use Rattle.hba_fbs.specs.Status.{is_busy, is_error, with_bits, with_file}
 use Rattle.hba_fbs.specs.Taking.{admitted, heard, heard_now, ignores, port_of}
 use Rattle.hba_fbs.specs.Tables.{is_sound}
 use Rattle.hba_fbs.specs.Views.{DeviceView, view_of}
@@ -48,7 +48,7 @@ use Rattle.disk_ends.specs.Anew.{HonestStays, NextIsRightAnew, ReportsHonestlyAn
 use Rattle.disk_ends.specs.Honest.{IsOnMedium}
 use Rattle.disk_ends.specs.Joined.{IsJoined, ReportsHonestly}
 use Rattle.disk_ends.proofs.honest.HonestLemmas.{done_where, next_where}
-use Rattle.disk_ends.proofs.joined.JoinLemmas.{NamesNoTag, quiet_data, quiet_pio, quiet_register}
+use Rattle.disk_ends.proofs.joined.JoinLemmas.{NamesNoTag, quiet_data, quiet_register}
 use Rattle.disk_ends.proofs.joined.MarkedLemmas.{IsMarkedBits, bits_of_marked}
 use Rattle.disk_ends.proofs.joined.SizeLemmas.{comes_short}
 use Rattle.disk_ends.proofs.together.TogetherLemmas.{no_answer, no_end, not_pio}
@@ -94,6 +94,19 @@ none_setup : (state : DeviceState) (c : Context) (payload : List ℕ) (o : Optio
 none_setup state c payload None mask is = cc is
 none_setup state c payload (Some e) mask is = cc is
 
+none_out : (state : DeviceState) (block : Block) (payload : List ℕ) (r : Result Context SetupError) → NamesNone (heard_out state block r) payload
+none_out state block payload (Ok c) mask is = cc is
+none_out state block payload (Err e) mask is = cc is
+
+none_pio : (state : DeviceState) (status error count : ℕ) (to_host : Bool) (block : Block) (payload : List ℕ) (e sent : Bool) (o : Option SetupError)
+    (r : Result Context SetupError)
+    → NamesNone (if e then faulty (with_file state status error) cause.TaskFile else (if sent then set_up o (with_file state status error) (Some block)
+    (happening.PioSetUp count to_host) else heard_out (with_file state status error) block r)) payload
+none_pio state status error count to_host block payload true sent o r mask is = cc is
+none_pio state status error count to_host block payload false true None r mask is = cc is
+none_pio state status error count to_host block payload false true (Some e) r mask is = cc is
+none_pio state status error count to_host block payload false false o r mask is = none_out (with_file state status error) block payload r mask is
+
 none_activate : (state : DeviceState) (payload : List ℕ) (b : Bool)
     → NamesNone (if b then quietly state happening.Activated else faulty state cause.Stray) payload
 none_activate state payload true mask is = cc is
@@ -121,10 +134,9 @@ by_fis v sound payload mask (view.DmaSetup f) is =
     absurd (none_setup v.state (dma_context (tag_of f) (field Setup table.Offset f) (field Setup table.Count f) (field Setup table.D f == 1) (field Setup table.A f == 1)) payload
     (setup_fault (own_issue v.slots (tag_of f)) (field Setup table.Offset f) (field Setup table.Count f) (field Setup table.D f == 1)) mask is)
 by_fis v sound payload mask (view.PioSetup f) is =
-    absurd (none_named (heard_pio v.slots v.state (field Pio Status f) (field Pio table.Error f) (field Pio table.Transfer f) (field Pio table.D f == 1)
-    (block_of f)) payload
-    (quiet_pio v.state (field Pio Status f) (field Pio table.Error f) (field Pio table.Transfer f) (field Pio table.D f == 1) (block_of f)
-    (is_error (field Pio Status f)) (pio_fault (pio_issue v.slots) (field Pio table.Transfer f) (field Pio table.D f == 1))) mask is)
+    absurd (none_pio v.state (field Pio Status f) (field Pio table.Error f) (field Pio table.Transfer f) (field Pio table.D f == 1) (block_of f) payload
+    (is_error (field Pio Status f)) (is_some (sent_pio v.slots)) (pio_fault (pio_issue v.slots) (field Pio table.Transfer f) (field Pio table.D f == 1))
+    (out_setup v.slots (field Pio table.Transfer f) (field Pio table.D f == 1)) mask is)
 by_fis v sound payload mask (view.Payload f) is =
     absurd (none_named (heard_data v.slots v.state sound (length f - 4)) payload (quiet_data v.slots v.state sound (length f - 4) v.slots.context) mask is)
 by_fis v sound payload mask other is = cc is

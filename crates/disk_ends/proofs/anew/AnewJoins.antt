@@ -147,10 +147,10 @@ module _ (n : ℕ) (base : List Happening) where
       kept_given new frame g (event.Sent slot) c p framed before.careful
       (joins_commands n slot old new frame command f t c p (ledger g) sound below does out here queued cfis request signed before.joined)
   kept below host given commands past
-      (anew.asks old new frame slot command f t g c p sound framed does out here not_queued control cfis one none signed hosted) =
+      (anew.asks old new frame slot command f t g c p sound framed does out here not_queued control moves cfis one none signed hosted) =
       let before : IsKeptOn n base old g c p = kept below old g c p hosted in
       kept_given new frame g (event.Sent slot) c p framed before.careful
-      (joins_others n slot old new frame command f t c p (ledger g) sound below does out here not_queued control cfis one none signed before.joined)
+      (joins_others n slot old new frame command f t c p (ledger g) sound below does out here not_queued control moves cfis one none signed before.joined)
   kept below host given commands past (anew.gives old new frame offset len command g c p sound framed does out hosted) =
       let before : IsKeptOn n base old g c p = kept below old g c p hosted in
       kept_given new frame g (event.Carried _) c p framed before.careful
@@ -216,7 +216,7 @@ hosted_since_new n host given commands past (since_new.issues old new value g c 
     anew.issues old new value g c next p sound chosen does tags names counted (hosted_since_new n old g c p hosted)
 hosted_since_new n host given commands past (since_new.sends old new frame slot command f t g c p sound framed does out here queued cfis request signed hosted) =
     anew.sends old new frame slot command f t g c p sound framed does out here queued cfis request signed (hosted_since_new n old g c p hosted)
-hosted_since_new n host given commands past (since_new.asks old new frame slot command f t g c p sound framed does out here not_queued control cfis one none signed hosted) =
-    anew.asks old new frame slot command f t g c p sound framed does out here not_queued control cfis one none signed (hosted_since_new n old g c p hosted)
+hosted_since_new n host given commands past (since_new.asks old new frame slot command f t g c p sound framed does out here not_queued control moves cfis one none signed hosted) =
+    anew.asks old new frame slot command f t g c p sound framed does out here not_queued control moves cfis one none signed (hosted_since_new n old g c p hosted)
 hosted_since_new n host given commands past (since_new.gives old new frame offset len command g c p sound framed does out hosted) =
     anew.gives old new frame offset len command g c p sound framed does out (hosted_since_new n old g c p hosted)

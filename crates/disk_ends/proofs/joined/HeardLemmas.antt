@@ -1,7 +1,7 @@
 -- For `fises_are_heard_as_told`. What a FIS of a disk is to its device's history at a host port that reports nothing
 -- wrong.
 use Rattle.std.proofs.Common.{◌≡◌, ◌==◌, ◌%◌, ◌/◌, ◌&&◌, eqb, ℕ, ◌-◌, ◌<◌, Bool, true, false, List, [], ◌∷◌, drop, length, refl, sym, ap, subst, ◌∙◌, Option, Some, None, Ok, Err, Result, arith}
-use Rattle.std.specs.Prelude.{not, nat_lt, if◌then◌else◌}
+use Rattle.std.specs.Prelude.{not, nat_lt, if◌then◌else◌, is_some}
 use Rattle.std.specs.Option.{option_map}
 use Rattle.std.proofs.lemmas.Bool.{and_from, and_parts, eq-eqb, eqb-true, true≢false}
 use Rattle.std.proofs.lemmas.Nat.Bits.{bit_at-zero}
@@ -14,8 +14,8 @@ use Rattle.fis_view.specs.declared.view.FisFault.{FisFault}
 use Rattle.port_errors.specs.declared.cause.DeviceCause.TheVariants as cause
 use Rattle.slots.specs.Commands.{answer_of, completed, is_short}
 use Rattle.slots.specs.Data.{after_arrive, may_activate}
-use Rattle.slots.specs.Setup.{dma_context, is_outstanding, pio_fault, pio_issue, setup_fault, transfer_fault}
-use Rattle.slots.specs.Slots.{DeviceSlots, Issue, has_bit, holds, is_queued_issue, is_short_issue, is_whole_issue, mask_of, match_some, own_issue}
+use Rattle.slots.specs.Setup.{dma_context, is_outstanding, out_setup, pio_fault, pio_issue, setup_fault, transfer_fault}
+use Rattle.slots.specs.Slots.{DeviceSlots, Issue, has_bit, holds, is_queued_issue, is_short_issue, is_whole_issue, mask_of, match_some, own_issue, sent_pio}
 use Rattle.slots.specs.Work.{is_queued}
 use Rattle.slots.specs.declared.answer.Answered.{Answered}
 use Rattle.slots.specs.declared.answer.Answered.TheVariants as answer
@@ -33,7 +33,7 @@ use Rattle.hba_fbs.specs.declared.report.TakeReport.{TakeReport}
 use Rattle.hba_fbs.specs.declared.report.Wrote.{Wrote}
 use Rattle.hba_fbs.specs.declared.state.DeviceState.{DeviceState}
 use Rattle.hba_fbs.specs.declared.status.Block.{Block}
-use Rattle.hba_fbs.specs.Hearing.{answered, block_of, bus_failed, faulty, heard_bytes, heard_data_of, heard_fis, is_admitted, named, overflowed, quietly, set_up, tag_of}
+use Rattle.hba_fbs.specs.Hearing.{answered, block_of, bus_failed, faulty, heard_bytes, heard_data_of, heard_fis, heard_out, is_admitted, named, overflowed, quietly, set_up, tag_of}
 use Rattle.hba_fbs.specs.Status.{after_reset, is_busy, is_error, with_bits, with_file}
 use Rattle.hba_fbs.specs.Taking.{admitted, device_cause, heard, heard_now, heard_report, ignores, port_cause, port_of}
 use Rattle.hba_fbs.specs.Tables.{is_sound}
@@ -53,6 +53,7 @@ use Rattle.hba_laws.proofs.histories.ViewLemmas.{IsOwn, is_own, own_below}
 use Rattle.disk_ends.specs.Together.{IsHeard, NoneQueued, Same, told}
 use Rattle.disk_ends.specs.Heard.{HeardAsTold, IsTakenWell}
 use Rattle.disk_ends.proofs.together.TogetherLemmas.{set_up_now}
+use Rattle.disk_ends.proofs.joined.OutLemmas.{IsRefused, pio_up, refuses_up}
 use Rattle.disk_ends.specs.Same.{SlotCommand}
 
 -- ## Events as lists
@@ -145,12 +146,16 @@ setup_answered None offset count to_host none = cc none
 setup_answered (Some i) offset count to_host none =
     record { issue = i; there = refl; answered_yet = answered_if i offset count to_host (is_outstanding i) refl none }
 
-told_pio : (state : DeviceState) (status error count : ℕ) (to_host : Bool) (block : Block) (payload : List ℕ) (e : Bool) (o : Option SetupError)
-    → ToldAs (if e then faulty (with_file state status error) cause.TaskFile else set_up o (with_file state status error) (Some block)
-    (happening.PioSetUp count to_host)) payload (event.PioSetUp count to_host block.ends ∷ [])
-told_pio state status error count to_host block payload true o = λ fine. cc fine
-told_pio state status error count to_host block payload false None = λ fine. refl
-told_pio state status error count to_host block payload false (Some e) = λ fine. cc fine
+told_pio : (state : DeviceState) (status error count : ℕ) (to_host : Bool) (block : Block) (payload : List ℕ) (e sent : Bool) (o : Option SetupError)
+    (r : Result Context SetupError) → IsRefused r
+    → ToldAs (if e then faulty (with_file state status error) cause.TaskFile else (if sent then set_up o (with_file state status error) (Some block)
+    (happening.PioSetUp count to_host) else heard_out (with_file state status error) block r)) payload (event.PioSetUp count to_host block.ends ∷ [])
+told_pio state status error count to_host block payload true sent o r refuses = λ fine. cc fine
+told_pio state status error count to_host block payload false true None r refuses = λ fine. refl
+told_pio state status error count to_host block payload false true (Some e) r refuses = λ fine. cc fine
+told_pio state status error count to_host block payload false false o r refuses =
+    subst (λ (x : Result Context SetupError). ToldAs (heard_out (with_file state status error) block x) payload (event.PioSetUp count to_host block.ends ∷ []))
+    (sym refuses.is) (λ fine. cc fine)
 
 told_activate : (state : DeviceState) (payload : List ℕ) (b : Bool)
     → ToldAs (if b then quietly state happening.Activated else faulty state cause.Stray) payload []
@@ -297,8 +302,10 @@ module _ (dev : ℕ) (v : DeviceView) (sound : Bool) (frame : List ℕ) (command
   tells_fis (view.DmaSetup f) here right = tells_setup f right
   tells_fis (view.PioSetup f) here right = λ fine. (
     told_pio v.state (field Pio Status f) (field Pio table.Error f) (field Pio table.Transfer f) (field Pio table.D f == 1) (block_of f)
-        (drop 4 frame) (is_error (field Pio Status f))
-        (pio_fault (pio_issue v.slots) (field Pio table.Transfer f) (field Pio table.D f == 1)) fine,
+        (drop 4 frame) (is_error (field Pio Status f)) (is_some (sent_pio v.slots))
+        (pio_fault (pio_issue v.slots) (field Pio table.Transfer f) (field Pio table.D f == 1))
+        (out_setup v.slots (field Pio table.Transfer f) (field Pio table.D f == 1))
+        (refuses_up v.slots (field Pio table.Transfer f) (field Pio table.D f == 1) (pio_up k.awaited f right.replies)) fine,
     tt,
   )
   tells_fis (view.Payload f) here right = λ fine. (

@@ -14,7 +14,7 @@ use Rattle.fis_view.specs.declared.view.FisFault.{FisFault}
 use Rattle.port_errors.specs.declared.cause.DeviceCause.TheVariants as cause
 use Rattle.slots.specs.Commands.{answer_of, answered_as, answered_issue, completed, is_done, is_slot, whole_pio, with_answered}
 use Rattle.slots.specs.Data.{activated, after_activate, after_arrive, arrive_answer, gone_over, may_activate, moved_on, moved_over}
-use Rattle.slots.specs.Setup.{after_setup_pio, came, dma_context, new_context, pio_fault, pio_issue, setup_fault, with_own_context}
+use Rattle.slots.specs.Setup.{after_setup_pio, came, dma_context, new_context, out_setup, pio_fault, pio_issue, setup_fault, with_own_context}
 use Rattle.slots.specs.Slots.{DeviceSlots, Issue, context_unless, freed, match_some, own_issue, sent_pio}
 use Rattle.slots.specs.Work.{is_queued}
 use Rattle.slots.specs.declared.answer.Answered.{Answered}
@@ -54,6 +54,7 @@ use Rattle.disk_ends.proofs.joined.HeardLemmas.{IsThere, heard_as_told, heard_if
 use Rattle.disk_ends.proofs.events.MoveLemmas.{own_life}
 use Rattle.disk_ends.proofs.joined.ShortLemmas.{short_up}
 use Rattle.disk_ends.proofs.together.TogetherLemmas.{same_goes_on, set_up_now}
+use Rattle.disk_ends.proofs.joined.OutLemmas.{IsRefused, pio_up, refuses_up}
 
 -- ## What was sent stays so
 
@@ -272,12 +273,15 @@ quiet_bits : (own : DeviceSlots) (state : DeviceState) (status error mask : ℕ)
 quiet_bits own state status error mask true = tt
 quiet_bits own state status error mask false = tt
 
-pub quiet_pio : (state : DeviceState) (status error count : ℕ) (to_host : Bool) (block : Block) (e : Bool) (o : Option SetupError)
-    → NamesNoTag (if e then faulty (with_file state status error) cause.TaskFile else set_up o (with_file state status error) (Some block)
-    (happening.PioSetUp count to_host)).happening
-quiet_pio state status error count to_host block true o = tt
-quiet_pio state status error count to_host block false None = tt
-quiet_pio state status error count to_host block false (Some e) = tt
+quiet_pio : (state : DeviceState) (status error count : ℕ) (to_host : Bool) (block : Block) (e sent : Bool) (o : Option SetupError)
+    (r : Result Context SetupError) → IsRefused r
+    → NamesNoTag (if e then faulty (with_file state status error) cause.TaskFile else (if sent then set_up o (with_file state status error) (Some block)
+    (happening.PioSetUp count to_host) else hear.heard_out (with_file state status error) block r)).happening
+quiet_pio state status error count to_host block true sent o r refuses = tt
+quiet_pio state status error count to_host block false true None r refuses = tt
+quiet_pio state status error count to_host block false true (Some e) r refuses = tt
+quiet_pio state status error count to_host block false false o r refuses =
+    subst (λ (x : Result Context SetupError). NamesNoTag (hear.heard_out (with_file state status error) block x).happening) (sym refuses.is) tt
 
 quiet_bytes : (own : DeviceSlots) (state : DeviceState) (wrote : Wrote) (block : Option Block) (last : Bool)
     → NamesNoTag (heard_bytes own state wrote block last).happening
@@ -491,7 +495,10 @@ module _ (dev : ℕ) (v : DeviceView) (sound : Bool) (frame : List ℕ) (command
       (field table.Pio table.D f == 1) (hear.block_of f)) right
       (quiet_pio v.state (field table.Pio table.Status f) (field table.Pio table.Error f) (field table.Pio table.Transfer f)
       (field table.Pio table.D f == 1) (hear.block_of f)
-      (is_error (field table.Pio table.Status f)) (pio_fault (pio_issue v.slots) (field table.Pio table.Transfer f) (field table.Pio table.D f == 1)))
+      (is_error (field table.Pio table.Status f)) (is_some (sent_pio v.slots))
+      (pio_fault (pio_issue v.slots) (field table.Pio table.Transfer f) (field table.Pio table.D f == 1))
+      (out_setup v.slots (field table.Pio table.Transfer f) (field table.Pio table.D f == 1))
+      (refuses_up v.slots (field table.Pio table.Transfer f) (field table.Pio table.D f == 1) (pio_up k.awaited f right.replies)))
   asks_fis (view.Payload f) right =
       asks_plainly (Ok (view.Payload f)) (heard_data v.slots v.state sound (length f - 4)) right
       (quiet_data v.slots v.state sound (length f - 4) v.slots.context)

@@ -1,6 +1,6 @@
 -- For `port_and_ledger_stay_joined`. What goes out of a host port leaves it joined to a disk's ledger.
-use Rattle.std.proofs.Common.{◌≡◌, eqb, ℕ, ◌<◌, ◌≤◌, ◌%◌, Bool, true, false, List, ◌∷◌, ◌++◌, length, set, refl, sym, ap, subst, ◌∙◌, inl, inr, Option, Some, None, Ok, arith, get_or-set_same, get_or-set_other}
-use Rattle.std.specs.Prelude.{◌≢◌, if◌then◌else◌}
+use Rattle.std.proofs.Common.{◌≡◌, eqb, ℕ, ◌<◌, ◌≤◌, ◌%◌, Bool, true, false, List, [], ◌∷◌, ◌++◌, length, set, refl, sym, ap, subst, ◌∙◌, inl, inr, Option, Some, None, Ok, arith, get_or-set_same, get_or-set_other}
+use Rattle.std.specs.Prelude.{◌≢◌, if◌then◌else◌, map}
 use Rattle.std.specs.Option.{option_map}
 use Rattle.std.proofs.lemmas.Bool.{cases_lt, eq-eqb, eqb-true, true≢false}
 use Rattle.std.proofs.lemmas.Bool.Decides.{nat_tests}
@@ -13,10 +13,11 @@ use Rattle.fis_view.proofs.FrameLemmas.{payload_seen}
 use Rattle.slots.specs.Commands.{is_slot, sent_issue, with_sent}
 use Rattle.slots.specs.Data.{gone_over, moved_on, moved_over, payload_len}
 use Rattle.slots.specs.Slots.{DeviceSlots, Issue, freed, holds, is_control, issue_at, match_some, own_issue, slots_of, waiting}
-use Rattle.slots.specs.Work.{is_queued}
+use Rattle.slots.specs.Setup.{begun, whole_context, with_own_context}
+use Rattle.slots.specs.Work.{is_dma, is_queued}
 use Rattle.slots.specs.declared.table.Context.{Context}
 use Rattle.slots.specs.declared.work.Kind.{Kind}
-use Rattle.slots.specs.declared.work.Kind.TheVariants.{QueuedRead, QueuedWrite}
+use Rattle.slots.specs.declared.work.Kind.TheVariants.{QueuedRead, QueuedWrite, DmaIn, DmaOut}
 use Rattle.slots.specs.declared.work.Work.{Work}
 use Rattle.hba_commands.specs.declared.command.Command as issued_command
 use Rattle.hba_fbs.specs.Sending.{Data, Gives, Order, Outgoing, data_fis, gathered, outgoing}
@@ -30,8 +31,8 @@ use Rattle.disk_model.specs.Ledger.{Ledger, Moving, asks, listens, listens_down,
 use Rattle.disk_model.specs.Requests.{request_of}
 use Rattle.disk_model.proofs.CrossLemmas.{opens_free}
 use Rattle.hba_laws.specs.Agreement.{IsHistoryOf, IsTold, IssueAgrees, work_of_transfer}
-use Rattle.hba_laws.specs.Client.{own}
-use Rattle.hba_laws.specs.Delivering.{event_sent, is_control_issue, touched_by_out}
+use Rattle.hba_laws.specs.Client.{By, own}
+use Rattle.hba_laws.specs.Delivering.{begun_by, event_sent, is_control_issue, touched_by_out}
 use Rattle.hba_laws.specs.History as event
 use Rattle.hba_laws.specs.History.{Event, History, Transfer, carried, is_at, is_set_up, issued, last_setup, unless, waiting_in}
 use Rattle.hba_laws.specs.Hosts.{Does, Gave, Host}
@@ -43,6 +44,7 @@ use Rattle.disk_ends.specs.Joined.{AreShort, IsAskedBy, IsJoined, JoinsCommands,
 use Rattle.disk_ends.proofs.joined.HeardLemmas.{IsThere, there_by}
 use Rattle.disk_ends.proofs.joined.ShortLemmas.{short_down}
 use Rattle.disk_ends.proofs.together.TogetherLemmas.{same_goes_on}
+use Rattle.disk_ends.proofs.joined.OutLemmas.{begun_none}
 use Rattle.disk_ends.specs.Together.{AsksOne}
 use Rattle.disk_ends.proofs.events.AnswerLemmas.{IsBeside, asks_beside}
 use Rattle.disk_ends.proofs.joined.JoinLemmas.{WasSent, asked_same, inactive, set_sent}
@@ -54,6 +56,11 @@ not_control : (kind : Kind) → is_queued kind ≡ true → is_control kind ≡ 
 not_control QueuedRead queued = refl
 not_control QueuedWrite queued = refl
 not_control other queued = absurd (true≢false (sym queued))
+
+not_dma : (kind : Kind) → is_queued kind ≡ true → is_dma kind ≡ false
+not_dma DmaIn queued = absurd (true≢false (sym queued))
+not_dma DmaOut queued = absurd (true≢false (sym queued))
+not_dma kind queued = refl
 
 -- what is known of a command that goes out
 record GoesOn (n slot : ℕ) (host : Host) : Type 0 where
@@ -117,13 +124,15 @@ sent_after_by own slot s past i false other agrees there =
 record IsOrdered (n slot : ℕ) (t : Transfer) (past : History) (host : Host) : Type 0 where
   goes : GoesOn n slot host
   kind : is_control goes.issue.work.kind ≡ false
+  plain : is_dma goes.issue.work.kind ≡ false
   unsent : is_sent slot past ≡ false
   waits : NothingWaits past
 
 ordered : (n slot : ℕ) (host : Host) (command : issued_command.Command) (t : Transfer) (commands : ℕ → SlotCommand) (past : History) (k : Ledger)
     → IsHost host → outgoing host.port host.memory ≡ Order n slot command
-    → issued slot past ≡ Some t → is_control t.work.kind ≡ false → IsJoined n commands host past k → IsOrdered n slot t past host
-ordered n slot host command t commands past k sound out here control joined =
+    → issued slot past ≡ Some t → is_control t.work.kind ≡ false → is_dma t.work.kind ≡ false → IsJoined n commands host past k
+    → IsOrdered n slot t past host
+ordered n slot host command t commands past k sound out here control plain joined =
     let v : DeviceView = view_of n host.port in
     let owns : IsOwn n v.slots = is_own n host.port.slots sound.slots in
     let goes : GoesOut host.port (Order n slot command) = subst (GoesOut host.port) out (goes_out host.port host.memory) in
@@ -136,6 +145,7 @@ ordered n slot host command t commands past k sound out here control joined =
     record {
       goes = g;
       kind = kind;
+      plain = subst (λ (i : Issue). is_dma i.work.kind ≡ false) one (ap (λ (w : Work). is_dma w.kind) (sym at.work) ∙ plain);
       unsent = joined.sent slot g.issue g.there ∙ g.unsent;
       waits = nothing_waits n v past owns joined.history (g.none_waits kind);
     }
@@ -163,15 +173,22 @@ joins_order n slot host new frame command f t commands past k x sound below does
     let not_order : holds is_control_issue (issue_at host.port.slots slot) ≡ false = ap (holds is_control_issue) g.at_table ∙ o.kind in
     let event_is : event_sent host.port.slots slot ≡ event.Sent slot =
     ap (λ (b : Bool). if b then event.SentControl slot else event.Sent slot) not_order in
+    let begins : begun_by slot (issue_at host.port.slots slot) ≡ [] = begun_none slot (issue_at host.port.slots slot) g.issue g.at_table o.plain in
     let told_next : IsHistoryOf n new (own n (touched_by_out host (outgoing host.port host.memory)) ++ past) =
     step n host sound past joined.history (Gave (Some frame)) new (omega (arith, below)) tt does in
     let touch_is : own n (touched_by_out host (outgoing host.port host.memory)) ++ past ≡ event.Sent slot ∷ past =
-    ap (λ (o : Outgoing). own n (touched_by_out host o) ++ past) out ∙ own_one n n (event_sent host.port.slots slot) past refl
+    ap (λ (o : Outgoing). own n (touched_by_out host o) ++ past) out
+    ∙ ap (λ (es : History). own n (map (By n) es ++ By n (event_sent host.port.slots slot) ∷ []) ++ past) begins
+    ∙ own_one n n (event_sent host.port.slots slot) past refl
     ∙ ap (λ (e : Event). e ∷ past) event_is in
     let own_control : holds (λ issue. is_control issue.work.kind) (own_issue v.slots slot) ≡ false =
     ap (holds (λ (issue : Issue). is_control issue.work.kind)) g.there ∙ o.kind in
     let slots_is : (view_of n new.port).slots ≡ with_sent v.slots slot =
-    ap (λ (w : DeviceView). w.slots) sends.own ∙ ap (λ (b : Bool). if b then freed (is_slot slot) v.slots else with_sent v.slots slot) own_control in
+    ap (λ (w : DeviceView). w.slots) sends.own
+    ∙ ap (λ (b : Bool). if b then freed (is_slot slot) v.slots
+    else match_some (own_issue v.slots slot) (with_sent v.slots slot) (λ issue. begun slot issue.work (with_sent v.slots slot))) own_control
+    ∙ ap (λ (i : Option Issue). match_some i (with_sent v.slots slot) (λ issue. begun slot issue.work (with_sent v.slots slot))) g.there
+    ∙ ap (λ (b : Bool). if b then with_own_context (with_sent v.slots slot) (whole_context slot g.issue.work) else with_sent v.slots slot) o.plain in
     record {
       fits = subst (Fits k) (sym shown) fits_fis;
       joined = record {
@@ -189,7 +206,7 @@ joins_order n slot host new frame command f t commands past k x sound below does
 
 pub joins_commands : JoinsCommands
 joins_commands n slot host new frame command f t commands past k sound below does out here queued cfis request signed joined =
-    let o : IsOrdered n slot t past host = ordered n slot host command t commands past k sound out here (not_control t.work.kind queued) joined in
+    let o : IsOrdered n slot t past host = ordered n slot host command t commands past k sound out here (not_control t.work.kind queued) (not_dma t.work.kind queued) joined in
     let q : QueuesOne commands slot past k = same_goes_on.queues commands slot t past k here queued o.unsent signed o.waits joined.same in
     let free : IsFree k (commands slot).command.tag = q.fits.0 in
     joins_order n slot host new frame command f t commands past k (asks k (Queue (commands slot).command) k.failed) sound below does out cfis o (record {
@@ -200,8 +217,8 @@ joins_commands n slot host new frame command f t commands past k sound below doe
     }) joined
 
 pub joins_others : JoinsOthers
-joins_others n slot host new frame command f t commands past k sound below does out here not_queued control cfis one none signed joined =
-    let o : IsOrdered n slot t past host = ordered n slot host command t commands past k sound out here control joined in
+joins_others n slot host new frame command f t commands past k sound below does out here not_queued control plain cfis one none signed joined =
+    let o : IsOrdered n slot t past host = ordered n slot host command t commands past k sound out here control plain joined in
     let q : AsksOne commands slot (request_of f) past k =
     same_goes_on.asks_other commands slot t (request_of f) past k here not_queued o.unsent one none signed o.waits joined.same in
     let beside : IsBeside k (asks k (request_of f) k.failed) = asks_beside k (request_of f) joined.same.fine one q.fits in

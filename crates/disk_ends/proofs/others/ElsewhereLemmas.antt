@@ -1,8 +1,10 @@
 -- For `others_leave_a_device`. What is none of a device's leaves its view, and is no event of its history.
-use Rattle.std.proofs.Common.{◌≡◌, ◌≢◌, ℕ, Bool, true, false, List, [], ◌∷◌, refl, sym, ap, subst, ◌∙◌, inl, inr, Option, Some, None}
-use Rattle.std.specs.Prelude.{if◌then◌else◌}
+use Rattle.std.proofs.Common.{◌≡◌, ◌≢◌, ℕ, Bool, true, false, List, [], ◌∷◌, refl, sym, ap, subst, ◌∙◌, inl, inr, Option, Some, None, ◌++◌}
+use Rattle.std.specs.Prelude.{if◌then◌else◌, map}
 use Rattle.std.proofs.lemmas.Bool.{cases_eq, ne_eqb}
 use Rattle.fis_view.specs.Frames.{Stamped}
+use Rattle.slots.specs.Slots.{Issue, issue_at}
+use Rattle.slots.specs.Work.{is_dma, is_read}
 use Rattle.hba_fbs.specs.declared.register.Register.{Register}
 use Rattle.hba_fbs.specs.declared.register.Register.TheVariants.{Ci, Clb, Cmd, Fbs}
 use Rattle.hba_fbs.specs.declared.report.TakeReport.{TakeReport}
@@ -12,8 +14,8 @@ use Rattle.hba_fbs.specs.Taking.{ignores, port_of}
 use Rattle.hba_fbs.specs.Views.{DeviceView, Port, stopped_view, view_of}
 use Rattle.hba_fbs.specs.Writing.{cleared_by, is_device, view_after}
 use Rattle.hba_laws.specs.Client.{By, Stops, own}
-use Rattle.hba_laws.specs.Delivering.{by_device, event_taken, touched_by_clear, touched_by_out, touched_by_write}
-use Rattle.hba_laws.specs.History.{Emptied, Event}
+use Rattle.hba_laws.specs.Delivering.{begun_by, by_device, event_sent, event_taken, touched_by_clear, touched_by_out, touched_by_write}
+use Rattle.hba_laws.specs.History.{Emptied, Event, SetUp}
 use Rattle.hba_laws.specs.Hosts.{Flushed, Gave, Host, Stored, TakesFrame, Took, Wrote}
 use Rattle.hba_laws.proofs.histories.IssueLemmas.{other_below}
 use Rattle.disk_ends.specs.Elsewhere.{IsForOther, OthersLeaveDevice, WritesElsewhere}
@@ -62,12 +64,25 @@ none_written n value rest old other = refl
 other_one : (n dev : ℕ) (e : Event) → n ≢ dev → own n (By dev e ∷ []) ≡ []
 other_one n dev e other = ap (λ (b : Bool). if b then e ∷ [] else []) (ne_eqb dev n (λ same. other (sym same)))
 
+other_order : (n dev slot : ℕ) (e : Event) (o : Option Issue) → n ≢ dev → own n (map (By dev) (begun_by slot o) ++ By dev e ∷ []) ≡ []
+other_order n dev slot e None other = other_one n dev e other
+other_order n dev slot e (Some i) other = by_dma (is_dma i.work.kind)
+  where
+    begins : Event
+    begins = SetUp slot 0 i.work.len (is_read i.work.kind)
+
+    by_dma : (b : Bool) → own n (map (By dev) (if b then SetUp slot 0 i.work.len (is_read i.work.kind) ∷ [] else []) ++ By dev e ∷ []) ≡ []
+    by_dma true =
+        ap (λ (b : Bool). if b then begins ∷ own n (By dev e ∷ []) else own n (By dev e ∷ [])) (ne_eqb dev n (λ same. other (sym same)))
+        ∙ other_one n dev e other
+    by_dma false = other_one n dev e other
+
 given_elsewhere : (n : ℕ) (old new : Host) (out : Outgoing) (frame : Option Stamped) → Gives out old.port old.memory frame new.port → IsForOther n out
     → (view_of n new.port ≡ view_of n old.port) × (own n (touched_by_out old out) ≡ [])
 given_elsewhere n old new Nothing frame gives other = (ap (λ (p : Port). view_of n p) gives.1, refl)
 given_elsewhere n old new (Unreadable dev) frame gives other = absurd other
 given_elsewhere n old new (Data dev offset len command) (Some f) gives other = (gives.others n other, other_one n dev _ other)
-given_elsewhere n old new (Order dev slot command) (Some f) gives other = (gives.others n other, other_one n dev _ other)
+given_elsewhere n old new (Order dev slot command) (Some f) gives other = (gives.others n other, other_order n dev slot (event_sent old.port.slots slot) (issue_at old.port.slots slot) other)
 given_elsewhere n old new rest None gives other = absurd gives
 
 -- what goes out to a device changes its view alone

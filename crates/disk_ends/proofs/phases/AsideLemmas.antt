@@ -1,14 +1,14 @@
 -- For `devices_are_set_aside`. A device of which no queued command can be done.
 use Rattle.std.proofs.Common.{◌≡◌, ◌≢◌, ◌==◌, ◌&&◌, ◌||◌, ℕ, zero, suc, ◌<◌, Bool, true, false, List, [], ◌∷◌, ◌++◌, refl, sym, ap, subst, ◌∙◌, inl, inr, Option, Some, None}
-use Rattle.std.specs.Prelude.{◌⊎◌, is_none, is_some, not, if◌then◌else◌}
+use Rattle.std.specs.Prelude.{◌⊎◌, is_none, is_some, map, not, if◌then◌else◌}
 use Rattle.std.specs.Option.{option_map_or}
 use Rattle.std.proofs.lemmas.Bool.{cases_eq, eq-eqb, true≢false}
 use Rattle.std.proofs.lemmas.Nat.Bits.{bit_at-zero}
 use Rattle.fis_view.specs.Frames.{Stamped}
 use Rattle.fis_view.specs.Seen.{seen}
 use Rattle.port_errors.specs.Errors.{Errors, after_clear, cleared_device, no_errors, without}
-use Rattle.slots.specs.Slots.{has_bit, holds, issue_at, match_some}
-use Rattle.slots.specs.Work.{is_queued}
+use Rattle.slots.specs.Slots.{Issue, has_bit, holds, issue_at, match_some}
+use Rattle.slots.specs.Work.{is_dma, is_queued, is_read}
 use Rattle.slots.specs.declared.answer.Answered.TheVariants as answer
 use Rattle.host_memory.specs.Memory.{Memory}
 use Rattle.hba_commands.specs.declared.command.Command as issued_command
@@ -30,7 +30,7 @@ use Rattle.hba_fbs.specs.Taking.{admitted, errors_in, errors_with, heard_now, he
 use Rattle.hba_fbs.specs.Views.{DeviceView, Port, view_of}
 use Rattle.hba_fbs.specs.Writing.{cleared_by, errors_after, view_after}
 use Rattle.hba_laws.specs.Client.{By, Stops, own}
-use Rattle.hba_laws.specs.Delivering.{by_device, event_heard, event_of, event_sent, event_taken, is_control_issue, issued_below, touched, touched_by_clear, touched_by_out}
+use Rattle.hba_laws.specs.Delivering.{begun_by, by_device, event_heard, event_of, event_sent, event_taken, is_control_issue, issued_below, touched, touched_by_clear, touched_by_out}
 use Rattle.hba_laws.specs.History.{Carried, Emptied, Event, History, Issued, PioSetUp, Sent, SentControl, SetUp, Transfer, completes, issued, unless}
 use Rattle.hba_laws.specs.Hosts.{Does, Flushed, Gave, Host, HostEvent, Put, Rewrote, Stored, TakesFrame, Took, Wrote}
 use Rattle.hba_laws.specs.Isolation.{fails_by_bus}
@@ -342,6 +342,36 @@ order_plain : (b : Bool) (slot : ℕ) → IssuesNothing (if b then SentControl s
 order_plain true slot = tt
 order_plain false slot = tt
 
+-- a command without a setup issues nothing either
+order_own : (n dev slot : ℕ) (e : Event) (o : Option Issue) (past : History) → IssuesNothing e → AreUnqueued past
+    → AreUnqueued (own n (map (By dev) (begun_by slot o) ++ By dev e ∷ []) ++ past)
+order_own n dev slot e None past plain none = own_one n dev e past plain none
+order_own n dev slot e (Some i) past plain none = by_dma (is_dma i.work.kind)
+  where
+    begins : Event
+    begins = SetUp slot 0 i.work.len (is_read i.work.kind)
+
+    one : AreUnqueued (own n (By dev e ∷ []) ++ past)
+    one = own_one n dev e past plain none
+
+    by_test : (b : Bool) → AreUnqueued ((if b then begins ∷ own n (By dev e ∷ []) else own n (By dev e ∷ [])) ++ past)
+    by_test true = one_more begins (own n (By dev e ∷ []) ++ past) tt one
+    by_test false = one
+
+    by_dma : (b : Bool) → AreUnqueued (own n (map (By dev) (if b then SetUp slot 0 i.work.len (is_read i.work.kind) ∷ [] else []) ++ By dev e ∷ []) ++ past)
+    by_dma true = by_test (dev == n)
+    by_dma false = one
+
+order_aside : (n dev slot : ℕ) (host new : Host) (command : issued_command.Command) (frame : Stamped) (past : History)
+    → Sends host.port dev command.cfis (view_sent (view_of dev host.port) slot command) frame new.port → IsAside n host past
+    → IsAside n new (own n (touched_by_out host (Order dev slot command)) ++ past)
+order_aside n dev slot host new command frame past sends (Halted is) = Halted (same_errors host new sends.errors is)
+order_aside n dev slot host new command frame past sends (Faulty is) =
+    Faulty (view_sends (λ v. is_some v.fault ≡ true) n dev host new command.cfis (view_sent (view_of dev host.port) slot command) frame sends (λ was. was) is)
+order_aside n dev slot host new command frame past sends (Spared none) =
+    Spared (order_own n dev slot (event_sent host.port.slots slot) (issue_at host.port.slots slot) past
+    (order_plain (holds is_control_issue (issue_at host.port.slots slot)) slot) none)
+
 goes_on_gave : (n : ℕ) (host new : Host) (out : Outgoing) (frame : Option Stamped) (past : History)
     → Gives out host.port host.memory frame new.port → IsAside n host past → IsAside n new (own n (touched_by_out host out) ++ past)
 goes_on_gave n host new Nothing frame past gives aside = by_aside aside
@@ -354,8 +384,7 @@ goes_on_gave n host new (Unreadable dev) frame past gives aside = Halted (ap (λ
 goes_on_gave n host new (Data dev offset len command) (Some f) past gives aside =
     sent_aside n dev host new _ (view_fed (view_of dev host.port)) f (Carried _) past gives refl tt aside
 goes_on_gave n host new (Order dev slot command) (Some f) past gives aside =
-    sent_aside n dev host new command.cfis (view_sent (view_of dev host.port) slot command) f (event_sent host.port.slots slot) past gives refl
-    (order_plain (holds is_control_issue (issue_at host.port.slots slot)) slot) aside
+    order_aside n dev slot host new command f past gives aside
 goes_on_gave n host new other None past gives aside = absurd gives
 
 -- ## All events

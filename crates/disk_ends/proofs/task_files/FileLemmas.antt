@@ -13,8 +13,8 @@ use Rattle.port_errors.specs.declared.cause.DeviceCause.TheVariants as cause
 use Rattle.port_errors.specs.declared.cause.PortCause.TheVariants as port_cause
 use Rattle.slots.specs.Commands.{after_complete, answer_of, answered_as, completed, is_done, is_slot}
 use Rattle.slots.specs.Data.{after_arrive, may_activate}
-use Rattle.slots.specs.Setup.{pio_fault, pio_issue}
-use Rattle.slots.specs.Slots.{DeviceSlots, context_unless, match_some}
+use Rattle.slots.specs.Setup.{out_setup, pio_fault, pio_issue}
+use Rattle.slots.specs.Slots.{DeviceSlots, context_unless, match_some, sent_pio}
 use Rattle.slots.specs.declared.answer.Answered.{Answered}
 use Rattle.slots.specs.declared.answer.Answered.TheVariants as answer
 use Rattle.slots.specs.declared.answer.SetupError.{SetupError}
@@ -129,11 +129,21 @@ module _ (v : DeviceView) where
   pio_set_up None error count to_host block fine ends = record { status = refl; ends = inr fine }
   pio_set_up (Some e) error count to_host block fine ends = record { status = refl; ends = ends }
 
+  out_set_up : (error : ℕ) (block : Block) (r : Result Context SetupError) → is_error block.ends ≡ false → EndsFine v
+      → IsFineHeard v (hear.heard_out (with_file v.state 0x58 error) block r)
+  out_set_up error block (Ok c) fine ends = record { status = fine; ends = inr tt }
+  out_set_up error block (Err e) fine ends = record { status = refl; ends = ends }
+
   pio_heard : (status error count : ℕ) (to_host : Bool) (block : Block) → status ≡ 0x58 → is_error block.ends ≡ false → EndsFine v
       → IsFineHeard v (hear.heard_pio v.slots v.state status error count to_host block)
   pio_heard status error count to_host block is fine ends =
       subst (λ (n : ℕ). IsFineHeard v (hear.heard_pio v.slots v.state n error count to_host block)) (sym is)
-      (pio_set_up (pio_fault (pio_issue v.slots) count to_host) error count to_host block fine ends)
+      (by_sent (is_some (sent_pio v.slots)))
+    where
+      by_sent : (b : Bool) → IsFineHeard v (if b then hear.set_up (pio_fault (pio_issue v.slots) count to_host) (with_file v.state 0x58 error) (Some block)
+          (happening.PioSetUp count to_host) else hear.heard_out (with_file v.state 0x58 error) block (out_setup v.slots count to_host))
+      by_sent true = pio_set_up (pio_fault (pio_issue v.slots) count to_host) error count to_host block fine ends
+      by_sent false = out_set_up error block (out_setup v.slots count to_host) fine ends
 
   activated_by : (o : Option Context) → v.slots.context ≡ o → IsFineFile v
       → IsFineHeard v (if may_activate o then hear.quietly v.state happening.Activated else hear.faulty v.state cause.Stray)

@@ -5,9 +5,12 @@ use Rattle.std.specs.Prelude.{◌⊎◌, ◌||◌, if◌then◌else◌, bit_or}
 use Rattle.std.specs.Int.{bit_at}
 use Rattle.std.proofs.lemmas.Nat.Bits.{bit_at-lt, bit_at_or}
 use Rattle.fis_view.specs.Frames.{Stamped}
-use Rattle.slots.specs.Commands.{after_sent, is_slot, with_sent}
+use Rattle.slots.specs.Commands.{is_slot, with_sent}
 use Rattle.slots.specs.Data.{after_payload, gone_over, payload_len}
-use Rattle.slots.specs.Slots.{DeviceSlots, context_unless, freed, holds, is_control, match_some, own_issue}
+use Rattle.slots.specs.Setup.{begun, whole_context, with_own_context}
+use Rattle.slots.specs.Slots.{DeviceSlots, Issue, context_unless, freed, holds, is_control, match_some, own_issue}
+use Rattle.slots.specs.Work.{is_dma}
+use Rattle.slots.specs.declared.work.Work.{Work}
 use Rattle.slots.specs.declared.table.Context.{Context}
 use Rattle.hba_commands.specs.declared.command.Command.{Command}
 use Rattle.hba_fbs.specs.declared.register.Register.TheVariants.{Ci}
@@ -48,17 +51,27 @@ module _ (v : DeviceView) (fine : IsFineFile v) where
     | inr ends ↦ inr (subst IsFineBlock (sym same) ends)
   ]
 
-  sent_unset : (b : Bool) (slot : ℕ) → v.slots.context ≡ None → (if b then freed (is_slot slot) v.slots else with_sent v.slots slot).context ≡ None
-  sent_unset true slot none = ap (context_unless (is_slot slot)) none
-  sent_unset false slot none = none
+  -- a command without a setup sets up a context, and ends the block
+  sent_ends : (slot : ℕ) (control dma : Bool) (work : Work)
+      → ((if control then freed (is_slot slot) v.slots else if dma then with_own_context (with_sent v.slots slot) (whole_context slot work)
+      else with_sent v.slots slot).context ≡ None) ⊎ IsFineBlock (if dma then None else v.state.block)
+  sent_ends slot control true work = inr tt
+  sent_ends slot true false work = ends_by (freed (is_slot slot) v.slots) v.state refl (λ none. ap (context_unless (is_slot slot)) none)
+  sent_ends slot false false work = ends_by (with_sent v.slots slot) v.state refl (λ none. none)
+
+  gone_ends : (slot : ℕ) (o : Option Issue)
+      → ((if holds (λ issue. is_control issue.work.kind) o then freed (is_slot slot) v.slots
+      else match_some o (with_sent v.slots slot) (λ issue. begun slot issue.work (with_sent v.slots slot))).context ≡ None)
+      ⊎ IsFineBlock (if holds (λ issue. is_dma issue.work.kind) o then None else v.state.block)
+  gone_ends slot None = ends_by (with_sent v.slots slot) v.state refl (λ none. none)
+  gone_ends slot (Some i) = sent_ends slot (is_control i.work.kind) (is_dma i.work.kind) i.work
 
   sent_fine : (slot : ℕ) (command : Command) → IsFineFile (view_sent v slot command)
   sent_fine slot command =
       let state : IsFineState (state_sent v.state command) = state_by (is_control command.work.kind) (resets command.cfis) in
       record {
         status = state.status;
-        ends = ends_by (after_sent v.slots slot) (state_sent v.state command) state.block
-            (sent_unset (holds (λ issue. is_control issue.work.kind) (own_issue v.slots slot)) slot);
+        ends = gone_ends slot (own_issue v.slots slot);
       }
 
   fed_unset : (o : Option Context) → v.slots.context ≡ o → v.slots.context ≡ None

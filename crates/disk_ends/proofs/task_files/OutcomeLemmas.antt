@@ -77,7 +77,7 @@ module _ (n : ℕ) (base : List Happening) (below : n < 15) where
   began host given commands past (anew.sends old new frame slot command f t g c p sound framed does out here queued cfis request signed hosted) =
       ((began old g c p hosted).0, λ same. absurd (not_yet old g c p (Received (marked frame.bytes 0)) hosted same))
   began host given commands past
-      (anew.asks old new frame slot command f t g c p sound framed does out here not_queued control cfis one none signed hosted) =
+      (anew.asks old new frame slot command f t g c p sound framed does out here not_queued control moves cfis one none signed hosted) =
       ((began old g c p hosted).0, λ same. absurd (not_yet old g c p (Received (marked frame.bytes 0)) hosted same))
   began host given commands past (anew.gives old new frame offset len command g c p sound framed does out hosted) =
       ((began old g c p hosted).0, λ same. absurd (not_yet old g c p (Received (marked frame.bytes 0)) hosted same))

@@ -139,6 +139,19 @@ pub request_control : (slot : ℕ) (e : Entry) → Rattle.slots.specs.Slots.is_c
 unfolding request_fields work_of
 request_control slot e = work_control slot e.head.work e.head.dev e.head.lba e.head.sectors
 
+work_moves : (slot : ℕ) (w : Work) (dev lba sectors : ℕ) → moved.is_dma (kind_of (fields_request (work_fields slot w dev lba sectors))) ≡ false
+work_moves slot work.Read dev lba sectors = refl
+work_moves slot work.Write dev lba sectors = refl
+work_moves slot work.Flush dev lba sectors = refl
+
+pub request_moves : (slot : ℕ) (e : Entry) → moved.is_dma (work_of (fields_request (request_fields slot e.head))).kind ≡ false
+unfolding request_fields work_of
+request_moves slot e = work_moves slot e.head.work e.head.dev e.head.lba e.head.sectors
+
+pub identify_moves : (dev : ℕ) → moved.is_dma (work_of (fields_request (identify_fields dev))).kind ≡ false
+unfolding work_of
+identify_moves dev = refl
+
 pub identify_kind : (dev : ℕ) → moved.is_queued (work_of (fields_request (identify_fields dev))).kind ≡ false
 unfolding work_of
 identify_kind dev = refl

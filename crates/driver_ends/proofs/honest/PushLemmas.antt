@@ -1,7 +1,7 @@
 -- For `pushes_keep_honest`. What goes out to a disk fits what was told before, and the driver goes on to serve it
 -- honestly.
 use Rattle.std.proofs.Common.{◌≡◌, ◌≢◌, ℕ, suc, ◌<◌, ◌≤◌, ◌⊎◌, Bool, true, false, cond, List, [], ◌∷◌, ◌++◌, length, refl, sym, ◌∙◌, ap, subst, inl, inr, arith, Option, Some, None}
-use Rattle.std.specs.Prelude.{if◌then◌else◌, ◌==◌, ◌%◌, not, slice_index, Ok}
+use Rattle.std.specs.Prelude.{if◌then◌else◌, ◌==◌, ◌%◌, map, not, slice_index, Ok}
 use Rattle.std.specs.Option.{option_map}
 use Rattle.std.proofs.lemmas.Bool.{cases_Bool, cases_eq, eq-eqb, false≢true, ne_eqb, true≢false}
 use Rattle.std.proofs.lemmas.Bool.Decides.{nat_tests}
@@ -16,7 +16,7 @@ use Rattle.host_memory.specs.Memory.{Memory}
 use Rattle.hba_commands.proofs.RequestLemmas.{built_long}
 use Rattle.hba_commands.specs.declared.command.Command as issued_command
 use Rattle.slots.specs.Slots.{Issue, holds, is_control, issue_at, match_some, own_issue, slots_of}
-use Rattle.slots.specs.Work.{is_queued}
+use Rattle.slots.specs.Work.{is_dma, is_queued}
 use Rattle.slots.specs.declared.work.Work.{Work}
 use Rattle.slots.proofs.MaskLemmas.{lowest_is}
 use Rattle.hba_fbs.specs.Sending.{Data, Gives, Nothing, Order, Outgoing, data_due, data_fis, data_with, gathered, is_due, next_receiver, next_to_send, order_due, outgoing}
@@ -33,7 +33,7 @@ use Rattle.disk_model.specs.Ledger.{ledger}
 use Rattle.disk_model.specs.Requests.{request_of}
 use Rattle.hba_laws.specs.Agreement.{work_of_issue, work_of_transfer}
 use Rattle.hba_laws.specs.Client.{By, Touches, own}
-use Rattle.hba_laws.specs.Delivering.{event_sent, is_control_issue, touched_by_out}
+use Rattle.hba_laws.specs.Delivering.{begun_by, event_sent, is_control_issue, touched_by_out}
 use Rattle.hba_laws.specs.History as told_as
 use Rattle.hba_laws.specs.History.{Event, History, Transfer, issued}
 use Rattle.hba_laws.specs.Hosts as event
@@ -50,6 +50,7 @@ use Rattle.disk_ends.specs.Joined.{IsAskedBy}
 use Rattle.disk_ends.specs.Together.{NoneQueued}
 use Rattle.disk_ends.proofs.others.ElsewhereLemmas.{others_leave_device}
 use Rattle.disk_ends.proofs.anew.HostedLemmas.{hosted_is_kept}
+use Rattle.disk_ends.proofs.joined.OutLemmas.{begun_none}
 use Rattle.disk_ends.specs.Same.{SlotCommand}
 use Rattle.hba_driver.specs.declared.request.Work as driver_work
 use Rattle.hba_driver.specs.declared.request.Work.TheVariants as work
@@ -68,7 +69,7 @@ use Rattle.hba_driver.proofs.steady.SteadyTurns.{issued_unended, steady_fields, 
 use Rattle.hba_driver.proofs.events.TurnLemmas.{sound_shared}
 use Rattle.driver_ends.specs.Kept.{IsServedHonestly, PushesGoOn, PushesKeep, given_to}
 use Rattle.driver_ends.specs.Steady.{HasSigned}
-use Rattle.driver_ends.proofs.honest.FisLemmas.{flush_is, identify_control, identify_is, identify_kind, request_asks, request_control, request_kind}
+use Rattle.driver_ends.proofs.honest.FisLemmas.{flush_is, identify_control, identify_is, identify_kind, identify_moves, request_asks, request_control, request_kind, request_moves}
 use Rattle.driver_ends.proofs.honest.SignLemmas.{signed_given}
 use Rattle.driver_ends.proofs.honest.TurnLemmas.{after}
 
@@ -174,6 +175,7 @@ out_told old touches dev slot command sound served goes last =
 -- the command of a slot asks for what the slot's command is, or for one that is not queued while no queued one is issued
 pub record IsOrderOf (slot : ℕ) (command : issued_command.Command) (given : List Happening) (commands : ℕ → SlotCommand) (past : History) (t : Transfer) : Type 0 where
   pub control : is_control t.work.kind ≡ false
+  pub moves : is_dma t.work.kind ≡ false
   pub cfis : seen command.cfis ≡ Ok (view.RegH2D command.cfis)
   pub long : length command.cfis ≡ 20
   pub signed : HasSigned given
@@ -198,6 +200,7 @@ module _ (n : ℕ) (old : Host) (given : List Happening) (commands : ℕ → Slo
       let kind : is_queued o.transfer.work.kind ≡ orders.is_queued e.head.work = ap (λ (w : Work). is_queued w.kind) built.work ∙ request_kind slot e in
       record {
         control = ap (λ (w : Work). is_control w.kind) built.work ∙ request_control slot e;
+        moves = ap (λ (w : Work). is_dma w.kind) built.work ∙ request_moves slot e;
         cfis = built.cfis.viewed;
         long = built_long (orders.request_fields slot e.head) command.cfis built.cfis;
         signed = h.signed (inl (h.steady.requests.ready slot e open'));
@@ -225,6 +228,7 @@ module _ (n : ℕ) (old : Host) (given : List Happening) (commands : ℕ → Slo
       let calm : is_queued o.transfer.work.kind ≡ false = ap (λ (w : Work). is_queued w.kind) built.work ∙ identify_kind n in
       record {
         control = ap (λ (w : Work). is_control w.kind) built.work ∙ identify_control n;
+        moves = ap (λ (w : Work). is_dma w.kind) built.work ∙ identify_moves n;
         cfis = built.cfis.viewed;
         long = built_long (orders.identify_fields n) command.cfis built.cfis;
         signed = h.signed (inr (i.path, (i.goes, i.of_dev)));
@@ -329,14 +333,18 @@ module _ (n : ℕ) (old : Host) (frame : Option Stamped) (new : Host) (given : L
   order_out f slot command is out did bytes o =
       let order : IsOrderOf slot command given commands (own n touches) o.transfer = order_of n old given commands touches below h slot command o in
       let kind : is_control o.issue.work.kind ≡ false = ap (λ (w : Work). is_control w.kind) (sym o.work) ∙ order.control in
+      let begins : begun_by slot (issue_at old.port.slots slot) ≡ [] =
+      begun_none slot (issue_at old.port.slots slot) o.issue o.at (ap (λ (w : Work). is_dma w.kind) (sym o.work) ∙ order.moves) in
       let event_is : event_sent old.port.slots slot ≡ told_as.Sent slot = ap (λ (b : Bool). if b then told_as.SentControl slot else told_as.Sent slot) (ap (holds is_control_issue) o.at ∙ kind) in
-      let later : own n (touched_by_out (shared_by old) (Order n slot command) ++ touches) ≡ told_as.Sent slot ∷ own n touches = by_one (event_sent old.port.slots slot) ∙ ap (λ (e : Event). e ∷ own n touches) event_is in
+      let later : own n (touched_by_out (shared_by old) (Order n slot command) ++ touches) ≡ told_as.Sent slot ∷ own n touches =
+      ap (λ (es : History). own n ((map (By n) es ++ By n (event_sent old.port.slots slot) ∷ []) ++ touches)) begins
+      ∙ by_one (event_sent old.port.slots slot) ∙ ap (λ (e : Event). e ∷ own n touches) event_is in
       to_disk f (told_as.Sent slot) (Order n slot command) is (ap (λ (b : List ℕ). slice_index b 1 % 16) bytes ∙ o.port) later (elim (cases_Bool (is_queued o.transfer.work.kind)) [
         | inl queued ↦
             sends (shared_by old) (shared_by new) f slot command command.cfis o.transfer given commands (own n touches) sound (short_frame f command bytes order.long) did out o.there queued order.cfis (order.queued queued) order.signed h.hosted
         | inr other ↦
             let alone = order.other other in
-            asks (shared_by old) (shared_by new) f slot command command.cfis o.transfer given commands (own n touches) sound (short_frame f command bytes order.long) did out o.there other order.control order.cfis alone.0 alone.1 order.signed h.hosted
+            asks (shared_by old) (shared_by new) f slot command command.cfis o.transfer given commands (own n touches) sound (short_frame f command bytes order.long) did out o.there other order.control order.moves order.cfis alone.0 alone.1 order.signed h.hosted
       ])
 
   data_port : (dev : ℕ) (bytes : List ℕ) → dev < 16 → slice_index (data_fis dev bytes) 1 % 16 ≡ dev

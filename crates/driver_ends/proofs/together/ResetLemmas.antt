@@ -1,7 +1,7 @@
 -- For `pushes_serve_on`. What begins and ends a device's software reset at the port: neither what it sends nor a
 -- command begins one.
 use Rattle.std.proofs.Common.{◌≡◌, ℕ, ◌+◌, ◌*◌, ◌-◌, ◌<◌, Bool, true, false, ◌||◌, List, length, refl, sym, ◌∙◌, ap, arith, Option, Some, None}
-use Rattle.std.specs.Prelude.{◌==◌, ◌%◌, if◌then◌else◌, not, nat_lt, bit_or, slice_index}
+use Rattle.std.specs.Prelude.{◌==◌, ◌%◌, if◌then◌else◌, is_some, not, nat_lt, bit_or, slice_index, Result, Ok, Err}
 use Rattle.std.specs.Int.{bit_at}
 use Rattle.std.proofs.lemmas.Bool.{true≢false}
 use Rattle.std.proofs.lemmas.Nat.Bits.{bit_at-lt}
@@ -15,8 +15,8 @@ use Rattle.fis_view.specs.declared.view.Fis.{Fis}
 use Rattle.fis_view.specs.declared.view.Fis.TheVariants as view
 use Rattle.hba_commands.specs.declared.command.Command.{Command}
 use Rattle.slots.specs.Data.{after_arrive, may_activate}
-use Rattle.slots.specs.Setup.{pio_fault, pio_issue}
-use Rattle.slots.specs.Slots.{DeviceSlots, has_bit, is_control, match_some}
+use Rattle.slots.specs.Setup.{out_setup, pio_fault, pio_issue}
+use Rattle.slots.specs.Slots.{DeviceSlots, has_bit, is_control, match_some, sent_pio}
 use Rattle.slots.specs.declared.answer.SetupError.{SetupError}
 use Rattle.slots.specs.declared.table.Context.{Context}
 use Rattle.port_errors.specs.declared.cause.DeviceCause.TheVariants as cause
@@ -26,9 +26,9 @@ use Rattle.hba_fbs.specs.declared.report.TakeReport.{TakeReport}
 use Rattle.hba_fbs.specs.declared.report.Wrote.{Wrote}
 use Rattle.hba_fbs.specs.declared.state.DeviceState.{DeviceState}
 use Rattle.hba_fbs.specs.declared.status.Block.{Block}
-use Rattle.hba_fbs.specs.Hearing.{bus_failed, faulty, heard_activate, heard_bits, heard_bytes, heard_d2h, heard_data_of, heard_fis, heard_pio, heard_register, overflowed, set_up}
+use Rattle.hba_fbs.specs.Hearing.{bus_failed, faulty, heard_activate, heard_bits, heard_bytes, heard_d2h, heard_data_of, heard_fis, heard_out, heard_pio, heard_register, overflowed, set_up}
 use Rattle.hba_fbs.specs.Sending.{resets, state_sent}
-use Rattle.hba_fbs.specs.Status.{is_busy, is_error}
+use Rattle.hba_fbs.specs.Status.{is_busy, is_error, with_file}
 use Rattle.hba_fbs.specs.Tables.{is_sound}
 use Rattle.hba_fbs.specs.Taking.{admitted, heard, ignores, port_of}
 use Rattle.hba_fbs.specs.Views.{DeviceView, view_of}
@@ -75,9 +75,13 @@ module _ (own : DeviceSlots) (state : DeviceState) (off : state.resetting ≡ fa
   data_off sound count None = off
   data_off sound count (Some c) = data_off_of sound count c
 
+out_off : (state : DeviceState) (off : state.resetting ≡ false) (block : Block) (r : Result Context SetupError) → Off (heard_out state block r)
+out_off state off block (Ok c) = off
+out_off state off block (Err e) = off
+
 pio_off : (own : DeviceSlots) (state : DeviceState) (off : state.resetting ≡ false) (status error count : ℕ) (to_host : Bool) (block : Block) → Off (heard_pio own state status error count to_host block)
 pio_off own state off status error count to_host block =
-    either Off (is_error status) _ _ off (set_up_off own _ off (pio_fault (pio_issue own) count to_host) _ _)
+    either Off (is_error status) _ _ off (either Off (is_some (sent_pio own)) _ _ (set_up_off own _ off (pio_fault (pio_issue own) count to_host) _ _) (out_off (with_file state status error) off block (out_setup own count to_host)))
 
 fis_off : (own : DeviceSlots) (state : DeviceState) (sound : Bool) (fis : Fis) → state.resetting ≡ false → Off (heard_fis own state sound fis)
 unfolding heard_fis

@@ -12,7 +12,7 @@ use Rattle.fis_view.proofs.MarkLemmas.{is_marked}
 use Rattle.hba_commands.proofs.RequestLemmas.{built_long}
 use Rattle.hba_commands.specs.declared.command.Command as issued_command
 use Rattle.slots.specs.Slots.{Issue, is_control, issue_at, own_issue, slots_of}
-use Rattle.slots.specs.Work.{is_queued}
+use Rattle.slots.specs.Work.{is_dma, is_queued}
 use Rattle.slots.specs.declared.work.Work.{Work}
 use Rattle.hba_fbs.specs.Sending.{Order, resets}
 use Rattle.hba_fbs.specs.Views.{Port}
@@ -55,7 +55,7 @@ use Rattle.driver_ends.specs.Steady.{HasSigned}
 use Rattle.disk_ends.specs.Watched.{IsPlain, IsPlainRequest}
 use Rattle.disk_ends.specs.Same.{SlotCommand}
 use Rattle.driver_ends.specs.Together.{IsServedOn}
-use Rattle.driver_ends.proofs.honest.FisLemmas.{flush_is, identify_control, identify_is, identify_kind, request_asks, request_control, request_kind}
+use Rattle.driver_ends.proofs.honest.FisLemmas.{flush_is, identify_control, identify_is, identify_kind, identify_moves, request_asks, request_control, request_kind, request_moves}
 use Rattle.driver_ends.proofs.honest.PushLemmas.{IsOrderOf, OutTold, flush_of, none_queued}
 use Rattle.driver_ends.proofs.together.ResetLemmas.{resets_none}
 use Rattle.driver_ends.proofs.honest.SignLemmas.{fits_last, ledger_more, signed_down}
@@ -110,7 +110,7 @@ base_clear n base host given commands past (anew.signs old new bytes report g c 
 base_clear n base host given commands past (anew.hears old new bytes report g c p sound plain framed from_n well right short hosted) = base_clear n base old g c p hosted
 base_clear n base host given commands past (anew.issues old new value g c next p sound chosen does tags names counted hosted) = base_clear n base old g c p hosted
 base_clear n base host given commands past (anew.sends old new frame slot command f t g c p sound framed does out here queued cfis request signed hosted) = base_clear n base old g c p hosted
-base_clear n base host given commands past (anew.asks old new frame slot command f t g c p sound framed does out here not_queued control cfis one none signed hosted) = base_clear n base old g c p hosted
+base_clear n base host given commands past (anew.asks old new frame slot command f t g c p sound framed does out here not_queued control moves cfis one none signed hosted) = base_clear n base old g c p hosted
 base_clear n base host given commands past (anew.gives old new frame offset len command g c p sound framed does out hosted) = base_clear n base old g c p hosted
 
 -- ---- a command that goes out was not sent
@@ -197,6 +197,7 @@ module _ (n : ℕ) (base : List Happening) (old : Host) (given : List Happening)
       record {
         order = record {
           control = ap (λ (w : Work). is_control w.kind) built.work ∙ request_control slot e;
+          moves = ap (λ (w : Work). is_dma w.kind) built.work ∙ request_moves slot e;
           cfis = built.cfis.viewed;
           long = built_long (orders.request_fields slot e.head) command.cfis built.cfis;
           signed = h.signed (inl (h.tended.requests.ready slot e live));
@@ -231,6 +232,7 @@ module _ (n : ℕ) (base : List Happening) (old : Host) (given : List Happening)
       record {
         order = record {
           control = ap (λ (w : Work). is_control w.kind) built.work ∙ identify_control n;
+          moves = ap (λ (w : Work). is_dma w.kind) built.work ∙ identify_moves n;
           cfis = built.cfis.viewed;
           long = built_long (orders.identify_fields n) command.cfis built.cfis;
           signed = h.signed (inr (p, (here, (to, subst IsAsking (sym is) tt))));

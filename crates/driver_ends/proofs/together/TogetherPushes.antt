@@ -1,7 +1,7 @@
 -- For `pushes_serve_on`. What goes out to a disk fits what was told since both began anew, and the driver goes on to
 -- serve it.
 use Rattle.std.proofs.Common.{◌≡◌, ◌≢◌, ℕ, ◌<◌, ◌≤◌, Bool, true, false, List, [], ◌∷◌, ◌++◌, suc, length, refl, sym, ◌∙◌, ap, subst, inl, inr, arith, Option, Some, None}
-use Rattle.std.specs.Prelude.{if◌then◌else◌, ◌%◌, slice_index, Ok}
+use Rattle.std.specs.Prelude.{if◌then◌else◌, ◌%◌, map, slice_index, Ok}
 use Rattle.std.proofs.lemmas.Bool.{cases_Bool, cases_eq}
 use Rattle.std.proofs.lemmas.Bool.Decides.{nat_tests}
 use Rattle.std.proofs.lemmas.List.{append-nil}
@@ -11,8 +11,8 @@ use Rattle.fis_view.specs.Seen.{seen}
 use Rattle.fis_view.specs.declared.view.Fis.TheVariants as view
 use Rattle.fis_view.proofs.FrameLemmas.{payload_seen}
 use Rattle.hba_commands.specs.declared.command.Command as issued_command
-use Rattle.slots.specs.Slots.{holds, is_control}
-use Rattle.slots.specs.Work.{is_queued}
+use Rattle.slots.specs.Slots.{holds, is_control, issue_at}
+use Rattle.slots.specs.Work.{is_dma, is_queued}
 use Rattle.slots.specs.declared.work.Work.{Work}
 use Rattle.hba_fbs.specs.Sending.{Data, Gives, Order, Outgoing, data_fis, gathered, outgoing, view_sent}
 use Rattle.hba_fbs.specs.Tables.{prds_of}
@@ -21,7 +21,7 @@ use Rattle.disk_model.specs.Anew.{IsCarefulSince}
 use Rattle.disk_model.specs.Histories.{Happening, Received}
 use Rattle.disk_model.specs.Ledger.{Moving, ledger}
 use Rattle.hba_laws.specs.Client.{By, Touches, own}
-use Rattle.hba_laws.specs.Delivering.{event_sent, is_control_issue, touched_by_out}
+use Rattle.hba_laws.specs.Delivering.{begun_by, event_sent, is_control_issue, touched_by_out}
 use Rattle.hba_laws.specs.History as told_as
 use Rattle.hba_laws.specs.History.{Event, History}
 use Rattle.hba_laws.specs.Hosts as event
@@ -35,6 +35,7 @@ use Rattle.disk_ends.specs.Elsewhere.{IsForOther, LeavesDevice}
 use Rattle.disk_ends.specs.Joined.{IsAskedBy}
 use Rattle.disk_ends.proofs.anew.AnewJoins.{hosted_on_is_kept}
 use Rattle.disk_ends.proofs.others.ElsewhereLemmas.{others_leave_device}
+use Rattle.disk_ends.proofs.joined.OutLemmas.{begun_none}
 use Rattle.hba_driver.specs.Drivers.{Driver, device_at, entry_at}
 use Rattle.hba_driver.specs.Events.{shared_by}
 use Rattle.hba_driver.specs.HostTurns.{Does, Host, Pushed}
@@ -148,8 +149,12 @@ module _ (n : ℕ) (base : List Happening) (old : Host) (frame : Option Stamped)
       let on : IsOrderOn n slot old command given commands (own n touches) o.transfer = order_on n base old given commands touches below sound h slot command goes o in
       let order : IsOrderOf slot command given commands (own n touches) o.transfer = on.order in
       let kind : is_control o.issue.work.kind ≡ false = ap (λ (w : Work). is_control w.kind) (sym o.work) ∙ order.control in
+      let begins : begun_by slot (issue_at old.port.slots slot) ≡ [] =
+      begun_none slot (issue_at old.port.slots slot) o.issue o.at (ap (λ (w : Work). is_dma w.kind) (sym o.work) ∙ order.moves) in
       let event_is : event_sent old.port.slots slot ≡ told_as.Sent slot = ap (λ (b : Bool). if b then told_as.SentControl slot else told_as.Sent slot) (ap (holds is_control_issue) o.at ∙ kind) in
-      let later : own n (touched_by_out (shared_by old) (Order n slot command) ++ touches) ≡ told_as.Sent slot ∷ own n touches = by_one (event_sent old.port.slots slot) ∙ ap (λ (e : Event). e ∷ own n touches) event_is in
+      let later : own n (touched_by_out (shared_by old) (Order n slot command) ++ touches) ≡ told_as.Sent slot ∷ own n touches =
+      ap (λ (es : History). own n ((map (By n) es ++ By n (event_sent old.port.slots slot) ∷ []) ++ touches)) begins
+      ∙ by_one (event_sent old.port.slots slot) ∙ ap (λ (e : Event). e ∷ own n touches) event_is in
       let framed : IsFrame f.bytes = short_frame f command bytes order.long in
       let shown : seen f.bytes ≡ Ok (view.RegH2D command.cfis) = ap seen bytes ∙ order.cfis in
       to_disk f (told_as.Sent slot) (Order n slot command) is (ap (λ (b : List ℕ). slice_index b 1 % 16) bytes ∙ o.port) later framed (subst IsPlain (sym shown) on.plain)
@@ -159,7 +164,7 @@ module _ (n : ℕ) (base : List Happening) (old : Host) (frame : Option Stamped)
             sends (shared_by old) (shared_by new) f slot command command.cfis o.transfer given commands (own n touches) sound framed did out o.there queued order.cfis (order.queued queued) order.signed h.hosted
         | inr other ↦
             let alone = order.other other in
-            asks (shared_by old) (shared_by new) f slot command command.cfis o.transfer given commands (own n touches) sound framed did out o.there other order.control order.cfis alone.0 alone.1 order.signed h.hosted
+            asks (shared_by old) (shared_by new) f slot command command.cfis o.transfer given commands (own n touches) sound framed did out o.there other order.control order.moves order.cfis alone.0 alone.1 order.signed h.hosted
       ])
 
   data_to : (f : Stamped) (offset len : ℕ) (command : issued_command.Command) → frame ≡ Some f → outgoing old.port old.memory ≡ Data n offset len command → event.Does (shared_by old) (event.Gave (Some f)) (shared_by new)

@@ -1,7 +1,7 @@
 -- For `flushes_are_taken`. What completes a command that is neither queued nor a PIO data-in is a Register FIS of the
 -- device, and the command waits for it.
 use Rattle.std.proofs.Common.{◌≡◌, ◌==◌, ℕ, ◌-◌, ◌<◌, Bool, true, false, List, [], drop, length, refl, sym, ap, subst, ◌∙◌, Option, Some, None, Ok, Err, Result, arith}
-use Rattle.std.specs.Prelude.{◌&&◌, not, nat_lt, if◌then◌else◌}
+use Rattle.std.specs.Prelude.{◌&&◌, is_some, not, nat_lt, if◌then◌else◌}
 use Rattle.std.proofs.lemmas.Bool.{true≢false}
 use Rattle.fis_view.specs.Frames.{IsFrame, marked}
 use Rattle.fis_view.specs.Marks.{IsMarked}
@@ -16,8 +16,8 @@ use Rattle.fis_view.proofs.MarkLemmas.{is_marked}
 use Rattle.port_errors.specs.declared.cause.DeviceCause.TheVariants as cause
 use Rattle.slots.specs.Commands.{completed}
 use Rattle.slots.specs.Data.{after_arrive, may_activate}
-use Rattle.slots.specs.Setup.{dma_context, pio_fault, pio_issue, setup_fault}
-use Rattle.slots.specs.Slots.{DeviceSlots, has_bit, is_pio, match_some, own_issue}
+use Rattle.slots.specs.Setup.{dma_context, out_setup, pio_fault, pio_issue, setup_fault}
+use Rattle.slots.specs.Slots.{DeviceSlots, has_bit, is_pio, match_some, own_issue, sent_pio}
 use Rattle.slots.specs.Work.{is_queued}
 use Rattle.slots.specs.declared.answer.SetupError.{SetupError}
 use Rattle.slots.specs.declared.table.Context.{Context}
@@ -27,7 +27,7 @@ use Rattle.hba_fbs.specs.declared.report.TakeReport.{TakeReport}
 use Rattle.hba_fbs.specs.declared.report.Wrote.{Wrote}
 use Rattle.hba_fbs.specs.declared.state.DeviceState.{DeviceState}
 use Rattle.hba_fbs.specs.declared.status.Block.{Block}
-use Rattle.hba_fbs.specs.Hearing.{block_of, bus_failed, faulty, heard_bytes, heard_data_of, heard_fis, is_admitted, named, overflowed, quietly, set_up, tag_of}
+use Rattle.hba_fbs.specs.Hearing.{block_of, bus_failed, faulty, heard_bytes, heard_data_of, heard_fis, heard_out, is_admitted, named, overflowed, quietly, set_up, tag_of}
 use Rattle.hba_fbs.specs.Status.{is_error, with_bits, with_file}
 use Rattle.hba_fbs.specs.Taking.{admitted, heard, heard_now, ignores, port_of}
 use Rattle.hba_fbs.specs.Tables.{is_sound}
@@ -52,12 +52,18 @@ none_setup : (state : DeviceState) (c : Context) (payload : List ℕ) (o : Optio
 none_setup state c payload None is = cc is
 none_setup state c payload (Some e) is = cc is
 
-none_pio : (state : DeviceState) (status error count : ℕ) (to_host : Bool) (block : Block) (payload : List ℕ) (e : Bool) (o : Option SetupError)
-    → AnswersNone (if e then faulty (with_file state status error) cause.TaskFile else set_up o (with_file state status error) (Some block)
-    (happening.PioSetUp count to_host)) payload
-none_pio state status error count to_host block payload true o is = cc is
-none_pio state status error count to_host block payload false None is = cc is
-none_pio state status error count to_host block payload false (Some e) is = cc is
+none_out : (state : DeviceState) (block : Block) (payload : List ℕ) (r : Result Context SetupError) → AnswersNone (heard_out state block r) payload
+none_out state block payload (Ok c) is = cc is
+none_out state block payload (Err e) is = cc is
+
+none_pio : (state : DeviceState) (status error count : ℕ) (to_host : Bool) (block : Block) (payload : List ℕ) (e sent : Bool) (o : Option SetupError)
+    (r : Result Context SetupError)
+    → AnswersNone (if e then faulty (with_file state status error) cause.TaskFile else (if sent then set_up o (with_file state status error) (Some block)
+    (happening.PioSetUp count to_host) else heard_out (with_file state status error) block r)) payload
+none_pio state status error count to_host block payload true sent o r is = cc is
+none_pio state status error count to_host block payload false true None r is = cc is
+none_pio state status error count to_host block payload false true (Some e) r is = cc is
+none_pio state status error count to_host block payload false false o r is = none_out (with_file state status error) block payload r is
 
 none_activate : (state : DeviceState) (payload : List ℕ) (b : Bool)
     → AnswersNone (if b then quietly state happening.Activated else faulty state cause.Stray) payload
@@ -106,7 +112,8 @@ by_fis v sound payload (view.DmaSetup f) is =
     (setup_fault (own_issue v.slots (tag_of f)) (field Setup table.Offset f) (field Setup table.Count f) (field Setup table.D f == 1)) is)
 by_fis v sound payload (view.PioSetup f) is =
     absurd (none_pio v.state (field Pio Status f) (field Pio table.Error f) (field Pio table.Transfer f) (field Pio table.D f == 1) (block_of f) payload
-    (is_error (field Pio Status f)) (pio_fault (pio_issue v.slots) (field Pio table.Transfer f) (field Pio table.D f == 1)) is)
+    (is_error (field Pio Status f)) (is_some (sent_pio v.slots)) (pio_fault (pio_issue v.slots) (field Pio table.Transfer f) (field Pio table.D f == 1))
+    (out_setup v.slots (field Pio table.Transfer f) (field Pio table.D f == 1)) is)
 by_fis v sound payload (view.Payload f) is = absurd (none_data v.slots v.state sound (length f - 4) payload v.slots.context is)
 by_fis v sound payload other is = cc is
 

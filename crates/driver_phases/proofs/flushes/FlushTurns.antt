@@ -1,7 +1,7 @@
 -- For `flushes_go_down`. A FLUSH that was transmitted to a disk is counted at one of the two ends, over each turn of
 -- the host and each step of the disk.
 use Rattle.std.proofs.Common.{◌≡◌, ℕ, zero, suc, ◌+◌, ◌<◌, ◌≤◌, Bool, true, false, cond, eqb, List, [], ◌∷◌, ◌++◌, drop, length, refl, sym, ap, subst, ◌∙◌, inl, inr, arith, Option, Some, None, Result}
-use Rattle.std.specs.Prelude.{◌⊎◌, if◌then◌else◌}
+use Rattle.std.specs.Prelude.{◌⊎◌, if◌then◌else◌, map}
 use Rattle.std.specs.List.{flat_map}
 use Rattle.std.proofs.lemmas.Bool.{eqb-true, false≢true}
 use Rattle.fis_view.specs.Frames.{IsFrame, Stamped, marked}
@@ -12,7 +12,7 @@ use Rattle.hba_commands.proofs.RequestLemmas.{built_long}
 use Rattle.hba_commands.specs.Requests.{kind_of, request_of as fields_request, work_of}
 use Rattle.hba_commands.specs.declared.command.Command as issued_command
 use Rattle.host_memory.specs.Memory.{Memory}
-use Rattle.slots.specs.Slots.{holds, is_pio, issue_at}
+use Rattle.slots.specs.Slots.{Issue, holds, is_pio, issue_at}
 use Rattle.slots.specs.Work as moved
 use Rattle.slots.specs.declared.answer.Answered.TheVariants as answer
 use Rattle.slots.specs.declared.work.Work.{Work}
@@ -35,8 +35,8 @@ use Rattle.disk_model.specs.Histories as at_disk
 use Rattle.disk_model.specs.Ledger.{ledger}
 use Rattle.disk_model.specs.declared.plan.DiskPlan.{DiskPlan}
 use Rattle.hba_laws.specs.Client.{By, Puts, Stops, Touches, own}
-use Rattle.hba_laws.specs.Delivering.{by_device, event_heard, event_of, event_sent, event_taken, is_control_issue, issued_below, issued_in, touched, touched_by_clear, touched_by_out, touched_by_write, touches_after}
-use Rattle.hba_laws.specs.History.{Event, History, Issued, Sent, SentControl, Transfer, issued}
+use Rattle.hba_laws.specs.Delivering.{begun_by, by_device, event_heard, event_of, event_sent, event_taken, is_control_issue, issued_below, issued_in, touched, touched_by_clear, touched_by_out, touched_by_write, touches_after}
+use Rattle.hba_laws.specs.History.{Event, History, Issued, Sent, SentControl, SetUp, Transfer, issued}
 use Rattle.hba_laws.specs.Hosts as event
 use Rattle.hba_laws.specs.Hosts.{HostEvent, Runs}
 use Rattle.hba_laws.specs.Sound.{IsHost}
@@ -103,6 +103,18 @@ was_out n s (By dev e ∷ rest) past t none o = was_out n s rest past t none.1 (
     by_test false is o = o
 was_out n s (Stops ∷ rest) past t none o = let bad : None ≡ Some t = o.0 in cc bad
 was_out n s (Puts at bytes ∷ rest) past t none o = was_out n s rest past t none o
+
+-- it was so too before a command without a setup was sent
+begun_out : (n s dev slot : ℕ) (o : Option Issue) (e : Event) (past : Touches) (t : Transfer)
+    → IsOut s (own n ((map (By dev) (begun_by slot o) ++ By dev e ∷ []) ++ past)) t → IsOut s (own n (By dev e ∷ past)) t
+unfolding NoneSends NotSend
+begun_out n s dev slot None e past t out = out
+begun_out n s dev slot (Some i) e past t out = by_dma (moved.is_dma i.work.kind) out
+  where
+    by_dma : (b : Bool) → IsOut s (own n ((map (By dev) (if b then SetUp slot 0 i.work.len (moved.is_read i.work.kind) ∷ [] else []) ++ By dev e ∷ []) ++ past)) t
+        → IsOut s (own n (By dev e ∷ past)) t
+    by_dma true now = was_out n s (By dev (SetUp slot 0 i.work.len (moved.is_read i.work.kind)) ∷ []) (By dev e ∷ past) t (λ same. tt, tt) now
+    by_dma false now = now
 
 -- ---- which events transmit nothing
 
@@ -246,7 +258,8 @@ module _ (n : ℕ) (old : Host) (frame : Stamped) (new : Host) (does : Does old 
   unfolding NoneSends NotSend
   by_frame (out.Data dev offset len command) gave last goes s t low calm was =
       inl (was_out n s (touched_by_out (shared_by old) (out.Data dev offset len command)) touches t (λ e. tt, tt) was)
-  by_frame (out.Order dev slot command) gave last goes s t low calm was = by_dev (eqb dev n) refl was
+  by_frame (out.Order dev slot command) gave last goes s t low calm was =
+      by_dev (eqb dev n) refl (begun_out n s dev slot (issue_at old.port.slots slot) (event_sent old.port.slots slot) touches t was)
     where
       by_dev : (b : Bool) → eqb dev n ≡ b → IsOut s (cond b (event_sent old.port.slots slot ∷ own n touches) (own n touches)) t
           → IsOut s (own n touches) t ⊎ IsFlushTo n frame

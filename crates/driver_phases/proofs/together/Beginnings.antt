@@ -84,7 +84,7 @@ module _ (n : ℕ) (before : List Happening) where
       (since_new.sends old new frame slot command f t g c p sound framed does out here queued cfis request signed hosted) is =
       absurd (received_not g _ is)
   hosted_plugged host given commands past
-      (since_new.asks old new frame slot command f t g c p sound framed does out here not_queued control cfis one none signed hosted) is =
+      (since_new.asks old new frame slot command f t g c p sound framed does out here not_queued control moves cfis one none signed hosted) is =
       absurd (received_not g _ is)
   hosted_plugged host given commands past (since_new.gives old new frame offset len command g c p sound framed does out hosted) is =
       absurd (received_not g _ is)

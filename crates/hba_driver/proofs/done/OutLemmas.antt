@@ -1,6 +1,6 @@
 -- For `done_is_true`. What is issued for a device stays issued until the device completes it or is flushed.
 use Rattle.std.proofs.Common.{◌≡◌, ◌≢◌, ℕ, ◌+◌, ◌*◌, ◌<◌, Bool, true, false, cond, eqb, ◌&&◌, List, [], ◌∷◌, ◌++◌, drop, refl, sym, ◌∙◌, ap, subst, inl, inr, arith, Option, Some, None}
-use Rattle.std.specs.Prelude.{MatchOption, if◌then◌else◌, ◌==◌, ◌%◌, is_some, not, slice_index}
+use Rattle.std.specs.Prelude.{MatchOption, if◌then◌else◌, ◌==◌, ◌%◌, is_some, map, not, slice_index}
 use Rattle.std.specs.List.{list_all, list_any}
 use Rattle.std.specs.Option.{option_map}
 use Rattle.std.proofs.lemmas.Bool.{eqb-true, false≢true, lt-ltb, ne_eqb, or_parts, true≢false}
@@ -11,6 +11,7 @@ use Rattle.host_memory.specs.Memory.{Memory}
 use Rattle.hba_commands.specs.declared.command.Command.{Command}
 use Rattle.slots.specs.Slots.{Issue, has_bit, holds, is_control, is_pio, issue_at, match_some, own_issue, slots_of}
 use Rattle.slots.specs.Table.{IsTable}
+use Rattle.slots.specs.Work.{is_dma, is_read}
 use Rattle.slots.specs.declared.answer.Answered.TheVariants as answer
 use Rattle.slots.specs.declared.work.Work.{Work}
 use Rattle.hba_fbs.specs.declared.error.WriteError.TheVariants as refusal
@@ -34,7 +35,7 @@ use Rattle.hba_fbs.specs.Bits.{dec}
 use Rattle.port_errors.specs.Errors.{cleared_device}
 use Rattle.hba_laws.specs.Agreement.{AreHistoriesOf, work_of_issue, work_of_transfer}
 use Rattle.hba_laws.specs.Client.{By, Touches, own}
-use Rattle.hba_laws.specs.Delivering.{ReportsDone, by_device, completes_now, event_heard, event_of, event_sent, event_taken, is_control_issue, touched, touched_by_out}
+use Rattle.hba_laws.specs.Delivering.{ReportsDone, begun_by, by_device, completes_now, event_heard, event_of, event_sent, event_taken, is_control_issue, touched, touched_by_out}
 use Rattle.hba_laws.specs.History.{Answered, Carried, Emptied, Event, History, Issued, Named, PioSetUp, Sent, SentControl, SetUp, Transfer, completes, issued, unless}
 use Rattle.hba_laws.specs.Hosts as event
 use Rattle.hba_laws.specs.Hosts.{TakesFrame}
@@ -211,6 +212,16 @@ sent_still port slot k past t is other true at = by_slot (eqb k slot) refl
     by_slot true same = absurd (true≢false (sym at ∙ other (eqb-true k slot same)))
     by_slot false same = is
 
+-- a command without a setup completes nothing either
+begun_still : (dev n slot k : ℕ) (past : Touches) (e : Event) (t : Transfer) (o : Option Issue) → issued slot (own dev (By n e ∷ past)) ≡ Some t → issued slot (own dev ((map (By n) (begun_by k o) ++ By n e ∷ []) ++ past)) ≡ Some t
+begun_still dev n slot k past e t None is = is
+begun_still dev n slot k past e t (Some i) is = by_dma (is_dma i.work.kind)
+  where
+    by_dma : (b : Bool) → issued slot (own dev ((map (By n) (if b then SetUp k 0 i.work.len (is_read i.work.kind) ∷ [] else []) ++ By n e ∷ []) ++ past)) ≡ Some t
+    by_dma true = still_own dev n slot (SetUp k 0 i.work.len (is_read i.work.kind)) (By n e ∷ past) t is (λ same.
+        still_issued slot (SetUp k 0 i.work.len (is_read i.work.kind)) (own dev (By n e ∷ past)) t tt is refl)
+    by_dma false = is
+
 out_still : (host : event.Host) (past : Touches) (dev slot : ℕ) (h : HasOut host.port slot dev) (t : Transfer) → t.work ≡ h.issue.work → issued slot (own dev past) ≡ Some t → (o : Outgoing)
     → issued slot (own dev (touched_by_out host o ++ past)) ≡ Some t
 out_still host past dev slot h t work is (out.Data n offset len command) =
@@ -218,10 +229,10 @@ out_still host past dev slot h t work is (out.Data n offset len command) =
     still_own dev n slot (Carried bytes) past t is (λ same.
     still_issued slot (Carried bytes) (own dev past) t tt is (no_pio _ (is_pio t.work.kind) _ _ (ap (λ (w : Work). is_pio w.kind) work ∙ h.pio)))
 out_still host past dev slot h t work is (out.Order n k command) =
-    still_own dev n slot (event_sent host.port.slots k) past t is (λ same.
+    begun_still dev n slot k past (event_sent host.port.slots k) t (issue_at host.port.slots k) (still_own dev n slot (event_sent host.port.slots k) past t is (λ same.
     sent_still host.port slot k (own dev past) t is (λ at.
     let there : issue_at host.port.slots k ≡ Some h.issue = subst (λ (j : ℕ). issue_at host.port.slots j ≡ Some h.issue) (sym at) (own_in dev slot host.port.slots h.issue h.is).1 in
-    ap (holds is_control_issue) there ∙ h.control) (holds is_control_issue (issue_at host.port.slots k)) refl)
+    ap (holds is_control_issue) there ∙ h.control) (holds is_control_issue (issue_at host.port.slots k)) refl))
 out_still host past dev slot h t work is other = is
 
 pub out_pushed : {mode : Mode} (old new : Host) (frame : Option Stamped) (past : Touches) (slot dev : ℕ) → Does old (Pushed frame) new → IsSoundHostIn mode old → IsServed old.driver (shared_by old) past → dev < 16 → HasOut old.port slot dev

@@ -1,6 +1,6 @@
 -- For `port_goes_on`. What a device sends stops the port only by a host bus error.
 use Rattle.std.proofs.Common.{◌≡◌, ◌≢◌, ℕ, ◌-◌, ◌<◌, Bool, true, false, ◌&&◌, List, length, refl, sym, ◌∙◌, ap, inl, inr, arith, Option, Some, None}
-use Rattle.std.specs.Prelude.{◌==◌, ◌%◌, ◌||◌, if◌then◌else◌, not, is_some, nat_lt, slice_index}
+use Rattle.std.specs.Prelude.{◌==◌, ◌%◌, ◌||◌, if◌then◌else◌, not, is_some, nat_lt, slice_index, Result, Ok, Err}
 use Rattle.std.proofs.lemmas.Bool.{cases_Bool, false≢true, ne_eqb, true≢false}
 use Rattle.fis_view.specs.Seen.{seen}
 use Rattle.fis_view.specs.Table as table
@@ -11,8 +11,8 @@ use Rattle.hba_commands.specs.declared.command.Command.{Command}
 use Rattle.port_errors.specs.declared.cause.DeviceCause.TheVariants as cause
 use Rattle.slots.specs.Commands.{answer_of}
 use Rattle.slots.specs.Data.{after_arrive, may_activate, payload, receiving_slot}
-use Rattle.slots.specs.Setup.{pio_fault, pio_issue}
-use Rattle.slots.specs.Slots.{DeviceSlots, context_of, match_some, own_issue, slots_of}
+use Rattle.slots.specs.Setup.{out_setup, pio_fault, pio_issue}
+use Rattle.slots.specs.Slots.{DeviceSlots, context_of, match_some, own_issue, sent_pio, slots_of}
 use Rattle.slots.specs.declared.answer.Answered.{Answered}
 use Rattle.slots.specs.declared.answer.Answered.TheVariants as answer
 use Rattle.slots.specs.declared.answer.SetupError.{SetupError}
@@ -24,9 +24,9 @@ use Rattle.hba_fbs.specs.declared.hearing.Heard.{Heard}
 use Rattle.hba_fbs.specs.declared.report.Wrote.{Wrote}
 use Rattle.hba_fbs.specs.declared.state.DeviceState.{DeviceState}
 use Rattle.hba_fbs.specs.declared.status.Block.{Block}
-use Rattle.hba_fbs.specs.Hearing.{answer_fault, bad_fault, faulty, heard_activate, heard_bits, heard_bytes, heard_d2h, heard_data_of, heard_fis, heard_pio, heard_register, set_up}
+use Rattle.hba_fbs.specs.Hearing.{answer_fault, bad_fault, faulty, heard_activate, heard_bits, heard_bytes, heard_d2h, heard_data_of, heard_fis, heard_out, heard_pio, heard_register, set_up}
 use Rattle.hba_fbs.specs.Sending.{Nothing, Outgoing, data_due, data_with, next_receiver, next_to_send, order_due, outgoing}
-use Rattle.hba_fbs.specs.Status.{is_busy, is_error}
+use Rattle.hba_fbs.specs.Status.{is_busy, is_error, with_file}
 use Rattle.hba_fbs.specs.Tables.{is_sound, sound_command}
 use Rattle.hba_fbs.specs.Taking.{admitted, heard, heard_now, ignores, is_running, port_cause, port_of, stops_with}
 use Rattle.hba_fbs.specs.Views.{DeviceView, Port, view_of}
@@ -71,9 +71,13 @@ set_up_calm : (o : Option SetupError) (state : DeviceState) (block : Option Bloc
 set_up_calm None state block h = refl
 set_up_calm (Some e) state block h = refl
 
+out_calm : (state : DeviceState) (block : Block) (o : Result Context SetupError) → Calm (heard_out state block o)
+out_calm state block (Ok c) = refl
+out_calm state block (Err e) = refl
+
 pio_calm : (own : DeviceSlots) (state : DeviceState) (status error count : ℕ) (to_host : Bool) (block : Block) → Calm (heard_pio own state status error count to_host block)
 pio_calm own state status error count to_host block =
-    either Calm (is_error status) _ _ refl (set_up_calm (pio_fault (pio_issue own) count to_host) _ _ _)
+    either Calm (is_error status) _ _ refl (either Calm (is_some (sent_pio own)) _ _ (set_up_calm (pio_fault (pio_issue own) count to_host) _ _ _) (out_calm (with_file state status error) block (out_setup own count to_host)))
 
 activate_calm : (own : DeviceSlots) (state : DeviceState) → Calm (heard_activate own state)
 activate_calm own state = either Calm (may_activate own.context) _ _ refl refl

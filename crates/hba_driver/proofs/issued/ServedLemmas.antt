@@ -1,6 +1,6 @@
 -- For `turns_serve`. After each turn everything that is issued is the driver's, and the turn serves what is issued.
 use Rattle.std.proofs.Common.{◌≡◌, ℕ, ◌+◌, ◌<◌, ◌≤◌, Bool, true, false, ◌&&◌, ◌||◌, List, [], ◌∷◌, ◌++◌, length, replicate, set, refl, sym, ◌∙◌, ap, subst, inl, inr, arith, Option, Some, None}
-use Rattle.std.specs.Prelude.{if◌then◌else◌, ◌==◌, ◌%◌, is_some, max, min, not, nat_le, nat_lt}
+use Rattle.std.specs.Prelude.{if◌then◌else◌, ◌==◌, ◌%◌, is_some, map, max, min, not, nat_le, nat_lt}
 use Rattle.std.specs.List.{list_any}
 use Rattle.std.proofs.lemmas.Bool.{cases_Bool, cases_eq, cases_lt, false≢true, le-ltb, or_parts, true≢false}
 use Rattle.std.proofs.lemmas.Bool.Decides.{nat_tests}
@@ -11,7 +11,8 @@ use Rattle.host_memory.specs.Reading.{AgreeFrom, share_byte, shares_with}
 use Rattle.host_memory.specs.declared.table.Prd.{Prd}
 use Rattle.hba_commands.specs.declared.command.Command.{Command}
 use Rattle.hba_commands.specs.Headers.{header_place}
-use Rattle.slots.specs.Slots.{has_bit, holds as issue_holds, issue_at}
+use Rattle.slots.specs.Slots.{Issue, has_bit, holds as issue_holds, issue_at}
+use Rattle.slots.specs.Work.{is_dma, is_read as work_reads}
 use Rattle.slots.proofs.MaskLemmas.{lowest_is}
 use Rattle.hba_fbs.specs.declared.report.TakeReport.{TakeReport}
 use Rattle.hba_fbs.specs.Sending.{Outgoing, gathered, outgoing}
@@ -20,8 +21,8 @@ use Rattle.hba_fbs.specs.Tables.{prds_of}
 use Rattle.hba_fbs.specs.Taking.{admitted, ignores, port_of, row_for}
 use Rattle.hba_fbs.specs.Views.{Port, last_command}
 use Rattle.hba_laws.specs.Client.{AreApart, By, IsKept, Puts, Touches, own}
-use Rattle.hba_laws.specs.Delivering.{SparesTables, event_taken, is_control_issue, touched, touched_by_out}
-use Rattle.hba_laws.specs.History.{Sent, SentControl, Transfer, issued}
+use Rattle.hba_laws.specs.Delivering.{SparesTables, begun_by, event_taken, is_control_issue, touched, touched_by_out}
+use Rattle.hba_laws.specs.History.{Sent, SentControl, SetUp, Transfer, issued}
 use Rattle.hba_laws.specs.Hosts as event
 use Rattle.hba_laws.specs.Hosts.{HostEvent}
 use Rattle.hba_laws.specs.Sound as sound
@@ -194,7 +195,19 @@ kept_sent past k dev slot false = k
 
 kept_out : (past : Touches) → AreApart past → IsKept past → (host : event.Host) (o : Outgoing) → IsKept (touched_by_out host o ++ past)
 kept_out past apart k host (out.Data dev offset len command) = (apart, k)
-kept_out past apart k host (out.Order dev slot command) = kept_sent past k dev slot (issue_holds is_control_issue (issue_at host.port.slots slot))
+kept_out past apart k host (out.Order dev slot command) = by_issue (issue_at host.port.slots slot)
+  where
+    kept : (b : Bool) → IsKept (By dev (if b then SentControl slot else Sent slot) ∷ past)
+    kept = kept_sent past k dev slot
+
+    by_issue : (o : Option Issue) → IsKept ((map (By dev) (begun_by slot o) ++ By dev (if issue_holds is_control_issue o then SentControl slot else Sent slot) ∷ []) ++ past)
+    by_issue None = kept false
+    by_issue (Some i) = by_dma (is_dma i.work.kind)
+      where
+        by_dma : (b : Bool) → IsKept ((map (By dev) (if b then SetUp slot 0 i.work.len (work_reads i.work.kind) ∷ [] else []) ++ By dev (if is_control_issue i then SentControl slot else Sent slot) ∷ []) ++ past)
+        by_dma true = kept (is_control_issue i)
+        by_dma false = kept (is_control_issue i)
+
 kept_out past apart k host other = k
 
 all_apart : {mode : Mode} (h : Host) (past : Touches) → IsSoundHostIn mode h → IsServed h.driver (shared_by h) past → AreApart past

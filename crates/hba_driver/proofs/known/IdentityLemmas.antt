@@ -1,7 +1,7 @@
 -- For `devices_are_known`. The IDENTIFY DEVICE of a device stays in slot 30 until data of it came, whatever the device
 -- sends and whatever goes out.
 use Rattle.std.proofs.Common.{List, ◌≡◌, ◌≢◌, ℕ, ◌<◌, Bool, true, false, ◌&&◌, set, length, refl, sym, ◌∙◌, ap, subst, inl, inr, Option, Some, None, get_or-set_other, get_or-set_same}
-use Rattle.std.specs.Prelude.{if◌then◌else◌, ◌==◌, ◌-◌, is_some, nat_lt, not, is_ok}
+use Rattle.std.specs.Prelude.{if◌then◌else◌, ◌==◌, ◌-◌, is_some, nat_lt, not, is_ok, Result, Ok, Err}
 use Rattle.std.specs.Option.{option_map}
 use Rattle.std.proofs.lemmas.List.{get_or_past}
 use Rattle.std.proofs.lemmas.Bool.{cases_eq, cases_lt, eq-eqb, false≢true, ne_eqb, true≢false}
@@ -11,9 +11,9 @@ use Rattle.fis_view.specs.declared.view.Fis.{Fis}
 use Rattle.fis_view.specs.declared.view.Fis.TheVariants as view
 use Rattle.slots.specs.Commands.{after_complete, after_sent, answer_for, answer_of, answered_as, is_done, is_slot, sent_issue, with_sent}
 use Rattle.slots.specs.Data.{after_activate, after_arrive, after_payload, arrive_answer, gone_over, may_activate, moved_over, payload, payload_len}
-use Rattle.slots.specs.Setup.{after_setup_pio, dma_context, new_context, pio_fault, pio_issue, setup_fault, with_own_context}
+use Rattle.slots.specs.Setup.{after_setup_pio, begun, dma_context, new_context, out_setup, pio_fault, pio_issue, setup_fault, whole_context, with_own_context}
 use Rattle.slots.specs.Slots.{DeviceSlots, Issue, freed, has_bit, holds, is_control, is_done_issue, is_pio, is_queued_issue, is_whole_issue, match_some, own_issue, sent_pio, waiting}
-use Rattle.slots.specs.Work.{is_queued, is_read}
+use Rattle.slots.specs.Work.{is_dma, is_queued, is_read, needs_all}
 use Rattle.slots.specs.declared.answer.Answered.{Answered}
 use Rattle.slots.specs.declared.answer.Answered.TheVariants as answer
 use Rattle.slots.specs.declared.answer.SetupError.{SetupError}
@@ -27,7 +27,7 @@ use Rattle.hba_fbs.specs.declared.hearing.Heard.{Heard}
 use Rattle.hba_fbs.specs.declared.report.Wrote.{Wrote}
 use Rattle.hba_fbs.specs.declared.state.DeviceState.{DeviceState}
 use Rattle.hba_fbs.specs.declared.status.Block.{Block}
-use Rattle.hba_fbs.specs.Hearing.{answered, block_ended, bus_failed, ended, faulty, heard_activate, heard_bits, heard_bytes, heard_d2h, heard_data, heard_data_of, heard_fis, heard_pio, heard_register, heard_setup, moved, overflowed, quietly, set_up}
+use Rattle.hba_fbs.specs.Hearing.{answered, block_ended, bus_failed, ended, faulty, heard_activate, heard_bits, heard_bytes, heard_d2h, heard_data, heard_data_of, heard_fis, heard_out, heard_pio, heard_register, heard_setup, moved, overflowed, quietly, set_up}
 use Rattle.hba_fbs.specs.Hearing as hearing
 use Rattle.hba_fbs.specs.Status.{is_busy, is_error, is_quiet, with_file}
 use Rattle.hba_fbs.specs.Taking.{wrote_by}
@@ -70,13 +70,18 @@ pub reads : (k : Kind) → is_pio k ≡ true → is_read k ≡ true
 reads PioIn h = refl
 reads other h = absurd (false≢true h)
 
+-- its device's answer ends it once all its bytes came
+pub in_needs : (k : Kind) → is_pio k ≡ true → needs_all k ≡ true
+in_needs PioIn h = refl
+in_needs other h = absurd (false≢true h)
+
 -- ---- what it hears
 
 -- an answer is not for it
 answer_apart : (own : DeviceSlots) (h : IsShort own) (slot : ℕ) (issue : Issue) → own_issue own slot ≡ Some issue → slot ≡ 30 → answer_for slot issue ≡ answer.Short slot
 answer_apart own h slot issue here same =
     let is : issue ≡ h.issue = some_inj issue h.issue (sym here ∙ ap (own_issue own) same ∙ h.is) in
-    subst (λ (i : Issue). answer_for slot i ≡ answer.Short slot) (sym is) (by_tests (is_queued_issue h.issue) (is_pio h.issue.work.kind) (is_whole_issue h.issue) (not_queued h.issue.work.kind h.pio) h.pio h.short)
+    subst (λ (i : Issue). answer_for slot i ≡ answer.Short slot) (sym is) (by_tests (is_queued_issue h.issue) (needs_all h.issue.work.kind) (is_whole_issue h.issue) (not_queued h.issue.work.kind h.pio) (in_needs h.issue.work.kind h.pio) h.short)
   where
     by_tests : (q p w : Bool) → q ≡ false → p ≡ true → w ≡ false → (if q then answer.Queued slot else if p && not w then answer.Short slot else answer.Done slot) ≡ answer.Short slot
     by_tests false true false a b c = refl
@@ -92,7 +97,7 @@ short_answer own slot (answer.Done s) apart queued done h =
 short_answer own slot other apart queued done h = h
 
 answer_slot : (slot : ℕ) (issue : Issue) → ((s : ℕ) → answer_for slot issue ≡ answer.Queued s → s ≡ slot) × ((s : ℕ) → answer_for slot issue ≡ answer.Done s → s ≡ slot)
-answer_slot slot issue = by_tests (is_queued_issue issue) (is_pio issue.work.kind && not (is_whole_issue issue))
+answer_slot slot issue = by_tests (is_queued_issue issue) (needs_all issue.work.kind && not (is_whole_issue issue))
   where
     of : Bool → Bool → Answered
     of q p = if q then answer.Queued slot else if p then answer.Short slot else answer.Done slot
@@ -190,6 +195,11 @@ stays_set : (own : DeviceSlots) (e : Option SetupError) (state : DeviceState) (b
 stays_set own None state block h keeps none short = keeps short
 stays_set own (Some e) state block h keeps none short = short
 
+-- a setup for a PIO data-out changes no slot
+stays_out : (own : DeviceSlots) (state : DeviceState) (block : Block) (o : Result Context SetupError) → Stays own (heard_out state block o)
+stays_out own state block (Ok c) none short = short_as own (with_own_context own c) refl short
+stays_out own state block (Err e) none short = short
+
 -- bytes that came by the last setup
 stays_bytes : (own : DeviceSlots) (state : DeviceState) (count : ℕ) (c : Context) (o : Option Block) (last : Bool) → own.context ≡ Some c
     → Stays own (heard_bytes (after_arrive own count) state (record { slot = c.slot; offset = c.next; len = count }) o last)
@@ -235,8 +245,10 @@ stays_heard own state sound (view.DmaSetup f) =
     (λ short. short_as own (with_own_context own c) refl short)
 stays_heard own state sound (view.PioSetup f) =
     stays_if own (is_error (field table.Pio table.Status f)) _ _ (λ none short. short)
+    (stays_if own (is_some (sent_pio own)) _ _
     (stays_set own (pio_fault (pio_issue own) (field table.Pio table.Transfer f) (field table.Pio table.D f == 1)) (with_file state (field table.Pio table.Status f) (field table.Pio table.Error f))
     (Some (hearing.block_of f)) (happening.PioSetUp (field table.Pio table.Transfer f) (field table.Pio table.D f == 1)) (λ short. short_setup_pio own (field table.Pio table.Transfer f) (field table.Pio table.D f == 1) short))
+    (stays_out own (with_file state (field table.Pio table.Status f) (field table.Pio table.Error f)) (hearing.block_of f) (out_setup own (field table.Pio table.Transfer f) (field table.Pio table.D f == 1))))
 stays_heard own state sound (view.Payload f) = stays_data own state sound (length f - 4)
 stays_heard own state sound other = λ none short. short
 
@@ -268,9 +280,19 @@ short_sent own slot h = by_kind (holds (λ (i : Issue). is_control i.work.kind) 
         inside : 30 < length own.issues
         inside = own_inside own h.issue h.is
 
-    by_kind : (b : Bool) → holds (λ (i : Issue). is_control i.work.kind) (own_issue own slot) ≡ b → IsShort (if b then freed (is_slot slot) own else with_sent own slot)
+    -- a command without a setup sets up a context, and changes no slot
+    by_begun : (o : Option Issue) → IsShort (match_some o (with_sent own slot) (λ issue. begun slot issue.work (with_sent own slot)))
+    by_begun None = sent
+    by_begun (Some i) = by_dma (is_dma i.work.kind)
+      where
+        by_dma : (b : Bool) → IsShort (if b then with_own_context (with_sent own slot) (whole_context slot i.work) else with_sent own slot)
+        by_dma true = short_as (with_sent own slot) _ refl sent
+        by_dma false = sent
+
+    by_kind : (b : Bool) → holds (λ (i : Issue). is_control i.work.kind) (own_issue own slot) ≡ b
+        → IsShort (if b then freed (is_slot slot) own else match_some (own_issue own slot) (with_sent own slot) (λ issue. begun slot issue.work (with_sent own slot)))
     by_kind true is = short_freed (is_slot slot) own (ne_eqb 30 slot (λ same. true≢false (sym is ∙ here (sym same)))) h
-    by_kind false is = sent
+    by_kind false is = by_begun (own_issue own slot)
 
 -- data goes to a slot that is written
 pub short_fed : (n : ℕ) (own : DeviceSlots) → IsOwn n own → is_some (payload own.context) ≡ true → IsShort own → IsShort (after_payload own)

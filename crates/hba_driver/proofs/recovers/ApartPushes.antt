@@ -15,10 +15,10 @@ use Rattle.hba_commands.specs.declared.command.Command.{Command}
 use Rattle.hba_commands.specs.Requests.{request_of, work_of}
 use Rattle.port_errors.specs.Errors.{cause_of}
 use Rattle.port_errors.specs.declared.cause.DeviceCause.{DeviceCause}
-use Rattle.slots.specs.Commands.{is_slot, sent_issue, with_sent}
+use Rattle.slots.specs.Commands.{is_slot, may_begin, sent_issue, with_sent}
 use Rattle.slots.specs.Data.{payload}
 use Rattle.slots.specs.Slots.{DeviceSlots, Issue, context_of, context_unless, freed, holds, is_control, issue_at, match_some, new_issue, own_issue, slots_of, waiting}
-use Rattle.slots.specs.Work.{is_queued}
+use Rattle.slots.specs.Work.{is_dma, is_queued}
 use Rattle.slots.specs.declared.table.Context.{Context}
 use Rattle.slots.specs.declared.work.Work.{Work}
 use Rattle.slots.proofs.MaskLemmas.{lowest_is}
@@ -50,6 +50,7 @@ use Rattle.hba_driver.proofs.requests.HistoryLemmas.{PollFacts, freed as polled_
 use Rattle.hba_driver.proofs.slot31.Push31Lemmas.{third_bit}
 use Rattle.hba_driver.proofs.calls.RequestLemmas.{set_cases}
 use Rattle.hba_driver.proofs.steady.SteadyTurns.{is_ready_dev}
+use Rattle.hba_driver.proofs.slot31.SentLemmas.{gone, gone_plain}
 
 -- ---- what leaves a stage
 
@@ -115,6 +116,15 @@ plain_log : (n : ℕ) → is_control (work_of (request_of (log_fields n))).kind 
 unfolding work_of
 plain_log n = refl
 
+-- and none moves data of its own accord
+log_apart : (n : ℕ) → is_dma (work_of (request_of (log_fields n))).kind ≡ false
+unfolding work_of
+log_apart n = refl
+
+plain_control : (n value : ℕ) → is_dma (work_of (request_of (control n value))).kind ≡ false
+unfolding work_of
+plain_control n value = refl
+
 issue_of_transfer : (o : Option Transfer) (p : Option Issue) (t : Transfer) → o ≡ Some t → option_map work_of_transfer o ≡ option_map work_of_issue p → (i : Issue) × (p ≡ Some i) × (i.work ≡ t.work)
 issue_of_transfer o None t is same = let bad : Some t.work ≡ None = sym (ap (option_map work_of_transfer) is) ∙ same in cc
 issue_of_transfer o (Some i) t is same = (i, refl, some_inj i.work t.work (sym same ∙ ap (option_map work_of_transfer) is))
@@ -153,15 +163,15 @@ is_alone n = record {
 
 -- ---- a command goes out of slot 30
 
-module _ (view : DeviceView) (command : Command) (i : Issue) (there : own_issue view.slots 30 ≡ Some i) (long : length view.slots.issues ≡ 32) (none : view.slots.context ≡ None) where
+module _ (view : DeviceView) (command : Command) (i : Issue) (there : own_issue view.slots 30 ≡ Some i) (long : length view.slots.issues ≡ 32) (none : view.slots.context ≡ None) (plain : is_dma i.work.kind ≡ false) where
   holds_is : holds (λ issue. is_control issue.work.kind) (own_issue view.slots 30) ≡ is_control i.work.kind
   holds_is = ap (holds (λ issue. is_control issue.work.kind)) there
 
   slots_control : is_control i.work.kind ≡ true → (view_sent view 30 command).slots ≡ freed (is_slot 30) view.slots
-  slots_control is = ap (λ (b : Bool). if b then freed (is_slot 30) view.slots else with_sent view.slots 30) (holds_is ∙ is)
+  slots_control is = ap (λ (b : Bool). if b then freed (is_slot 30) view.slots else gone view.slots 30) (holds_is ∙ is)
 
   slots_command : is_control i.work.kind ≡ false → (view_sent view 30 command).slots ≡ with_sent view.slots 30
-  slots_command is = ap (λ (b : Bool). if b then freed (is_slot 30) view.slots else with_sent view.slots 30) (holds_is ∙ is)
+  slots_command is = ap (λ (b : Bool). if b then freed (is_slot 30) view.slots else gone view.slots 30) (holds_is ∙ is) ∙ gone_plain view.slots 30 i there plain
 
   gone_free : is_control i.work.kind ≡ true → own_issue (view_sent view 30 command).slots 30 ≡ None
   gone_free is = ap (λ (s : DeviceSlots). own_issue s 30) (slots_control is) ∙ ap (λ (f : ℕ → Option Issue). f 30) (own_freed (is_slot 30) view.slots)
@@ -295,9 +305,9 @@ module _ (n : ℕ) (past : Touches) (old : Host) (new : Host) (stage : Stage30) 
       record {
         next = next;
         now = went_at next good well plan (ap (λ (x : DeviceView). is_some x.fault) sent.own ∙ at.fault ∙ well)
-            (free new.port (ap (λ (x : DeviceView). own_issue x.slots 30) sent.own ∙ gone_free v command i u.issued long (at.apart well).context kind))
-            (ap (λ (x : DeviceView). x.slots.context) sent.own ∙ gone_context v command i u.issued long (at.apart well).context kind)
-            (ap (λ (x : DeviceView). x.state.resetting) sent.own ∙ state_control v command i u.issued long (at.apart well).context work ∙ reset built);
+            (free new.port (ap (λ (x : DeviceView). own_issue x.slots 30) sent.own ∙ gone_free v command i u.issued long (at.apart well).context (plain_control n value) kind))
+            (ap (λ (x : DeviceView). x.slots.context) sent.own ∙ gone_context v command i u.issued long (at.apart well).context (plain_control n value) kind)
+            (ap (λ (x : DeviceView). x.state.resetting) sent.own ∙ state_control v command i u.issued long (at.apart well).context (plain_control n value) work ∙ reset built);
         fields = control n value;
         are = are;
         built = subst (λ (b : List ℕ). IsBuilt H2d (h2d_given (control n value)) b) (sym (ap (λ (f : Stamped). f.bytes) sent.frame_is)) built;
@@ -316,9 +326,9 @@ module _ (n : ℕ) (past : Touches) (old : Host) (new : Host) (stage : Stage30) 
       record {
         next = LogSent;
         now = went_at LogSent refl well plan (ap (λ (x : DeviceView). is_some x.fault) sent.own ∙ at.fault ∙ well)
-            (record { issue = sent_issue i; issued = ap (λ (x : DeviceView). own_issue x.slots 30) sent.own ∙ gone_sent v command i u.issued long none kind; sent = refl; unanswered = refl; work = refl })
-            (ap (λ (x : DeviceView). x.slots.context) sent.own ∙ kept_context v command i u.issued long none kind)
-            (ap (λ (x : DeviceView). x.state.resetting) sent.own ∙ state_command v command i u.issued long none work ∙ (at.apart well).resetting ∙ ap is_resetting asks);
+            (record { issue = sent_issue i; issued = ap (λ (x : DeviceView). own_issue x.slots 30) sent.own ∙ gone_sent v command i u.issued long none (log_apart n) kind; sent = refl; unanswered = refl; work = refl })
+            (ap (λ (x : DeviceView). x.slots.context) sent.own ∙ kept_context v command i u.issued long none (log_apart n) kind)
+            (ap (λ (x : DeviceView). x.state.resetting) sent.own ∙ state_command v command i u.issued long none (log_apart n) work ∙ (at.apart well).resetting ∙ ap is_resetting asks);
         fields = log_fields n;
         are = ap (fields30 n) asks;
         built = subst (λ (b : List ℕ). IsBuilt H2d (h2d_given (log_fields n)) b) (sym (ap (λ (f : Stamped). f.bytes) sent.frame_is)) (subst (λ (c : Command). IsBuilt H2d (h2d_given (log_fields n)) c.cfis) same u.built);
@@ -348,8 +358,8 @@ module _ (n : ℕ) (past : Touches) (old : Host) (new : Host) (stage : Stage30) 
       let next : next_own v ≡ Some slot = order_is_own old.port n slot (omega (arith, low)) sound.ruled.table.slots o.owns o.next in
       let found = lowest_is (λ s. holds (may_leave v) (own_issue v.slots s)) 32 slot next in
       let here = held (may_leave v) (own_issue v.slots slot) found.passes in
-      let fresh : here.0.sent ≡ false = leaves_fresh here.0.sent (not (is_some v.fault)) (is_control here.0.work.kind || is_ready v.state && is_none (waiting v.slots)) here.2 in
-      let well : is_faulty stage ≡ false = sym at.fault ∙ leaves_healthy here.0.sent (is_some v.fault) (is_control here.0.work.kind || is_ready v.state && is_none (waiting v.slots)) here.2 in
+      let fresh : here.0.sent ≡ false = leaves_fresh here.0.sent (not (is_some v.fault)) (is_control here.0.work.kind || is_ready v.state && is_none (waiting v.slots) && may_begin v.slots here.0) here.2 in
+      let well : is_faulty stage ≡ false = sym at.fault ∙ leaves_healthy here.0.sent (is_some v.fault) (is_control here.0.work.kind || is_ready v.state && is_none (waiting v.slots) && may_begin v.slots here.0) here.2 in
       let thirty : slot ≡ 30 = alone_issue n past old stage low served at well slot here.0 here.1 in
       goes_by stage refl frame command (subst (λ (s : ℕ). Sends old.port n command.cfis (view_sent v s command) frame new.port) thirty sent)
       (subst (λ (s : ℕ). last_command old.port.commands s ≡ Some command) thirty o.stands) here.0 (subst (λ (s : ℕ). own_issue v.slots s ≡ Some here.0) thirty here.1) fresh well (at.apart well).plan (at.apart well).slot

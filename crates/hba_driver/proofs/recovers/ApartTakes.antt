@@ -1,6 +1,6 @@
 -- For `devices_are_apart`. A FIS of a device that recovers is ignored, leaves its stage, or is a fault.
 use Rattle.std.proofs.Common.{◌≡◌, ◌≢◌, ℕ, ◌-◌, ◌<◌, ◌≤◌, Bool, true, false, ◌&&◌, ◌||◌, List, length, refl, sym, ◌∙◌, ap, subst, inl, inr, arith, Option, Some, None}
-use Rattle.std.specs.Prelude.{if◌then◌else◌, ◌==◌, not, is_none, is_some}
+use Rattle.std.specs.Prelude.{if◌then◌else◌, ◌==◌, not, is_none, is_some, Result, Err}
 use Rattle.std.proofs.lemmas.Bool.{cases_Bool, cases_eq, cases_lt, false≢true, true≢false}
 use Rattle.fis_view.specs.Seen.{seen}
 use Rattle.fis_view.specs.Table as table
@@ -10,9 +10,9 @@ use Rattle.fis_view.specs.declared.view.Fis.TheVariants as view
 use Rattle.hba_commands.specs.declared.command.Command.{Command}
 use Rattle.hba_commands.specs.Requests.{request_of, work_of}
 use Rattle.slots.specs.Commands.{answer_for, answer_of, is_done}
-use Rattle.slots.specs.Setup.{dma_context, pio_fault, pio_issue, setup_fault, transfer_fault}
+use Rattle.slots.specs.Setup.{dma_context, out_context, out_setup, pio_fault, pio_issue, setup_fault, transfer_fault}
 use Rattle.slots.specs.Data.{may_activate}
-use Rattle.slots.specs.Slots.{DeviceSlots, Issue, context_unless, has_bit, holds, is_done_issue, is_sent_pio, is_waiting, match_some, new_issue, own_issue, sent_pio, waiting}
+use Rattle.slots.specs.Slots.{DeviceSlots, Issue, context_unless, has_bit, holds, is_done_issue, is_out_issue, is_sent_pio, is_waiting, match_some, new_issue, own_issue, sent_pio, waiting}
 use Rattle.slots.specs.Work.{is_queued}
 use Rattle.slots.specs.declared.answer.Answered.{Answered}
 use Rattle.slots.specs.declared.answer.Answered.TheVariants as answer
@@ -27,7 +27,7 @@ use Rattle.hba_fbs.specs.declared.report.TakeReport.{TakeReport}
 use Rattle.hba_fbs.specs.declared.state.DeviceState.{DeviceState}
 use Rattle.hba_fbs.specs.declared.status.Block.{Block}
 use Rattle.hba_fbs.specs.declared.hearing.Happening.{Happening}
-use Rattle.hba_fbs.specs.Hearing.{answered, block_of, faulty, heard_data, heard_data_of, heard_pio, heard_setup, heard_d2h, heard_fis, quietly, set_up, tag_of, heard_register, signing}
+use Rattle.hba_fbs.specs.Hearing.{answered, block_of, faulty, heard_data, heard_data_of, heard_out, heard_pio, heard_setup, heard_d2h, heard_fis, quietly, set_up, tag_of, heard_register, signing}
 use Rattle.hba_fbs.specs.Posting.{signs}
 use Rattle.hba_fbs.specs.Status.{after_reset, is_busy, is_error, with_file}
 use Rattle.hba_fbs.specs.Taking.{heard_view, ignores, is_running, port_of, view_after_hearing}
@@ -80,6 +80,11 @@ no_pio own idle = by_slot (sent_pio own) refl
         let i = held is_sent_pio (own_issue own s) (lowest_is (λ slot. holds is_sent_pio (own_issue own slot)) 32 s is).passes in
         absurd (false≢true (sym (idle s i.0 i.1).0 ∙ first i.0.sent _ i.2))
 
+no_out : (own : DeviceSlots) → IsIdle own → (count : ℕ) (to_host : Bool) → out_setup own count to_host ≡ Err refused.NotOutstanding
+no_out own idle count to_host =
+    ap (λ (o : Option ℕ). match_some (match_some o None (λ slot. if holds is_out_issue (own_issue own slot) then Some slot else None)) (Err refused.NotOutstanding) (λ slot.
+    match_some (own_issue own slot) (Err refused.NotOutstanding) (out_context slot count to_host))) (no_waiting own idle)
+
 no_setup : (own : DeviceSlots) → IsIdle own → (tag offset count : ℕ) (to_host : Bool) → setup_fault (own_issue own tag) offset count to_host ≡ Some refused.NotOutstanding
 no_setup own idle tag offset count to_host = by_issue (own_issue own tag) refl
   where
@@ -126,10 +131,11 @@ module _ (w : DeviceView) (none : w.slots.context ≡ None) (reset : w.state.res
 
   pio_stays : (status error count : ℕ) (to_host : Bool) (block : Block) → Hears (heard_pio w.slots w.state status error count to_host block)
   pio_stays status error count to_host block =
-      either Hears (is_error status) (faulty (with_file w.state status error) cause.TaskFile) (set_up (pio_fault (pio_issue w.slots) count to_host) (with_file w.state status error) (Some block) (happening.PioSetUp count to_host))
-      (record { issue = refl; context = none; resetting = reset })
+      either Hears (is_error status) _ _ (record { issue = refl; context = none; resetting = reset })
+      (either Hears (is_some (sent_pio w.slots)) _ _
       (refused_stays (pio_fault (pio_issue w.slots) count to_host) (with_file w.state status error) (Some block) (happening.PioSetUp count to_host) reset
       (ap (λ (o : Option ℕ). pio_fault (match_some o None (own_issue w.slots)) count to_host) (no_pio w.slots idle)))
+      (subst (λ (o : Result Context SetupError). Hears (heard_out (with_file w.state status error) block o)) (sym (no_out w.slots idle count to_host)) (record { issue = refl; context = none; resetting = reset })))
 
   data_stays : (sound : Bool) (count : ℕ) → Hears (heard_data w.slots w.state sound count)
   data_stays sound count =

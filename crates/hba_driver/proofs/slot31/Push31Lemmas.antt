@@ -13,10 +13,10 @@ use Rattle.fis_view.specs.Table.{H2d, field, places, spelled}
 use Rattle.fis_view.specs.declared.build.H2dFields.{H2dFields}
 use Rattle.hba_commands.specs.declared.command.Command.{Command}
 use Rattle.hba_commands.specs.Requests.{request_of, work_of}
-use Rattle.slots.specs.Commands.{is_slot, sent_issue, with_sent}
+use Rattle.slots.specs.Commands.{is_slot, may_begin, sent_issue, with_sent}
 use Rattle.slots.specs.Data.{payload}
-use Rattle.slots.specs.Slots.{DeviceSlots, Issue, context_of, context_unless, freed, has_bit, holds, is_control, is_pio, new_issue, own_issue, slots_of, waiting}
-use Rattle.slots.specs.Work.{is_queued}
+use Rattle.slots.specs.Slots.{DeviceSlots, Issue, context_of, context_unless, freed, has_bit, holds, is_control, new_issue, own_issue, slots_of, waiting}
+use Rattle.slots.specs.Work.{is_dma, is_queued, needs_all}
 use Rattle.slots.specs.declared.table.Context.{Context}
 use Rattle.slots.specs.declared.work.Work.{Work}
 use Rattle.slots.proofs.MaskLemmas.{lowest_is}
@@ -39,6 +39,7 @@ use Rattle.hba_driver.specs.Served.{IsOrdered, IsRequest, IsStep}
 use Rattle.hba_driver.specs.Slot31.{Asks, IsAt31, IsIn, IsLow, IsUnsent, Fails, Follows31, Pushes31, Resets, Rests, Signs, Stage31, Told, Waits, control_of, has_failed, is_off, is_on, is_resetting}
 use Rattle.hba_driver.proofs.goes_on.GoingLemmas.{IsGoing}
 use Rattle.hba_driver.proofs.goes_on.StopLemmas.{either}
+use Rattle.hba_driver.proofs.slot31.SentLemmas.{gone, gone_plain, no_dma}
 
 -- ---- the orders' commands
 
@@ -62,7 +63,7 @@ control_is other f h = kind_by false _ f refl h
 
 -- none moves data
 abbrev pub IsPlain : H2dFields → Type 0
-IsPlain f = (is_pio (work_of (request_of f)).kind || is_queued (work_of (request_of f)).kind) ≡ false
+IsPlain f = (needs_all (work_of (request_of f)).kind || is_queued (work_of (request_of f)).kind) ≡ false
 
 plain_by : (g f : H2dFields) → IsPlain g → Some g ≡ Some f → IsPlain f
 plain_by g f h is = subst IsPlain (some_inj g f is) h
@@ -180,19 +181,19 @@ unsent_of Fails order asked part i well is on there fresh = absurd (true≢false
 none_of : (x : DeviceSlots) (c : Option Context) → c ≡ None → context_unless (is_slot 31) c ≡ None
 none_of x c is = ap (context_unless (is_slot 31)) is
 
-module _ (view : DeviceView) (command : Command) (i : Issue) (there : own_issue view.slots 31 ≡ Some i) (long : length view.slots.issues ≡ 32) (none : view.slots.context ≡ None) where
+module _ (view : DeviceView) (command : Command) (i : Issue) (there : own_issue view.slots 31 ≡ Some i) (long : length view.slots.issues ≡ 32) (none : view.slots.context ≡ None) (plain : is_dma i.work.kind ≡ false) where
   holds_is : holds (λ issue. is_control issue.work.kind) (own_issue view.slots 31) ≡ is_control i.work.kind
   holds_is = ap (holds (λ issue. is_control issue.work.kind)) there
 
   slots_control : is_control i.work.kind ≡ true → (view_sent view 31 command).slots ≡ freed (is_slot 31) view.slots
-  slots_control is = ap (λ (b : Bool). if b then freed (is_slot 31) view.slots else with_sent view.slots 31) (holds_is ∙ is)
+  slots_control is = ap (λ (b : Bool). if b then freed (is_slot 31) view.slots else gone view.slots 31) (holds_is ∙ is)
 
   slots_command : is_control i.work.kind ≡ false → (view_sent view 31 command).slots ≡ with_sent view.slots 31
-  slots_command is = ap (λ (b : Bool). if b then freed (is_slot 31) view.slots else with_sent view.slots 31) (holds_is ∙ is)
+  slots_command is = ap (λ (b : Bool). if b then freed (is_slot 31) view.slots else gone view.slots 31) (holds_is ∙ is) ∙ gone_plain view.slots 31 i there plain
 
   gone_context : (view_sent view 31 command).slots.context ≡ None
-  gone_context = either (λ (s : DeviceSlots). s.context ≡ None) (holds (λ issue. is_control issue.work.kind) (own_issue view.slots 31)) (freed (is_slot 31) view.slots) (with_sent view.slots 31)
-      (none_of view.slots view.slots.context none) none
+  gone_context = either (λ (s : DeviceSlots). s.context ≡ None) (holds (λ issue. is_control issue.work.kind) (own_issue view.slots 31)) (freed (is_slot 31) view.slots) (gone view.slots 31)
+      (none_of view.slots view.slots.context none) (ap (λ (s : DeviceSlots). s.context) (gone_plain view.slots 31 i there plain) ∙ none)
 
   gone_free : is_control i.work.kind ≡ true → own_issue (view_sent view 31 command).slots 31 ≡ None
   gone_free is = ap (λ (s : DeviceSlots). own_issue s 31) (slots_control is) ∙ ap (λ (f : ℕ → Option Issue). f 31) (own_freed (is_slot 31) view.slots)
@@ -214,7 +215,7 @@ leaves_healthy false true b h = absurd (false≢true h)
 leaves_healthy true a b h = absurd (false≢true h)
 
 fresh_of : (view : DeviceView) (i : Issue) → may_leave view i ≡ true → i.sent ≡ false
-fresh_of view i h = leaves_fresh i.sent (not (is_some view.fault)) (is_control i.work.kind || is_ready view.state && is_none (waiting view.slots)) h
+fresh_of view i h = leaves_fresh i.sent (not (is_some view.fault)) (is_control i.work.kind || is_ready view.state && is_none (waiting view.slots) && may_begin view.slots i) h
 
 module _ (old : Host) (g : IsGoing old) (stage : Stage31) (at : IsAt31 stage old) (frame : Stamped) (new : Host) (does : Does old (Pushed (Some frame)) new) (to : frame.stamp.port ≡ 15) where
   -- the command of slot 31 goes out
@@ -227,7 +228,7 @@ module _ (old : Host) (g : IsGoing old) (stage : Stage31) (at : IsAt31 stage old
       let stands : (control_of old).commands 31 ≡ Some command = ap (λ (o : Option Issue). if is_some o then last_command old.port.commands 31 else None) there ∙ last in
       let same : u.command ≡ command = some_inj u.command command (sym u.there ∙ stands) in
       let long : length (view_of 15 old.port).slots.issues ≡ 32 = (is_own 15 old.port.slots g.way.sound.ruled.table).long in
-      let context : (view_sent (view_of 15 old.port) 31 command).slots.context ≡ None = gone_context (view_of 15 old.port) command i there long at.context in
+      let context : (view_sent (view_of 15 old.port) 31 command).slots.context ≡ None = gone_context (view_of 15 old.port) command i there long at.context (dma_none i u there) in
       let kind : is_control i.work.kind ≡ (is_on old.driver.plan.order || is_off old.driver.plan.order) = ap (λ (x : Issue). is_control x.work.kind) issue_is ∙ control_is old.driver.plan.order u.fields u.are in
       let work : is_control command.work.kind ≡ (is_on old.driver.plan.order || is_off old.driver.plan.order) =
       ap (λ (c : Command). is_control c.work.kind) (sym same) ∙ ap (λ (w : Work). is_control w.kind) u.work ∙ control_is old.driver.plan.order u.fields u.are in
@@ -282,10 +283,17 @@ module _ (old : Host) (g : IsGoing old) (stage : Stage31) (at : IsAt31 stage old
       on_is ResetOn h = refl
       on_is o h = absurd (false≢true h)
 
-      data_none : (i : Issue) (u : IsUnsent old.driver.plan.order (control_of old)) → own_issue (slots_of 15 old.port.slots) 31 ≡ Some i → (is_pio i.work.kind || is_queued i.work.kind) ≡ false
+      data_none : (i : Issue) (u : IsUnsent old.driver.plan.order (control_of old)) → own_issue (slots_of 15 old.port.slots) 31 ≡ Some i → (needs_all i.work.kind || is_queued i.work.kind) ≡ false
       data_none i u there =
           let same : i ≡ new_issue 15 (work_of (request_of u.fields)) = some_inj i (new_issue 15 (work_of (request_of u.fields))) (sym there ∙ u.issued) in
-          ap (λ (x : Issue). is_pio x.work.kind || is_queued x.work.kind) same ∙ plain_is old.driver.plan.order u.fields u.are
+          ap (λ (x : Issue). needs_all x.work.kind || is_queued x.work.kind) same ∙ plain_is old.driver.plan.order u.fields u.are
+
+      dma_none : (i : Issue) (u : IsUnsent old.driver.plan.order (control_of old)) → own_issue (slots_of 15 old.port.slots) 31 ≡ Some i → is_dma i.work.kind ≡ false
+      dma_none i u there = no_dma i.work.kind (neither (needs_all i.work.kind) (is_queued i.work.kind) (data_none i u there))
+        where
+          neither : (a b : Bool) → (a || b) ≡ false → a ≡ false
+          neither true b h = absurd (true≢false h)
+          neither false b h = refl
 
       by_kind : (command : Command) → Sends old.port 15 command.cfis (view_sent (view_of 15 old.port) 31 command) frame new.port → (i : Issue) → own_issue (slots_of 15 old.port.slots) 31 ≡ Some i → i.sent ≡ false → old.driver.plan.asked ≡ true
           → (u : IsUnsent old.driver.plan.order (control_of old)) → frame.bytes ≡ u.command.cfis → u.command ≡ command → length (view_of 15 old.port).slots.issues ≡ 32 → (view_sent (view_of 15 old.port) 31 command).slots.context ≡ None
@@ -298,22 +306,22 @@ module _ (old : Host) (g : IsGoing old) (stage : Stage31) (at : IsAt31 stage old
             made Resets command sent u bytes context
             (state_control command true (work ∙ or_first (is_on old.driver.plan.order) (is_off old.driver.plan.order) on) ∙ or_true (view_of 15 old.port).state.resetting (resets command.cfis) set)
             (inl (waits, on, refl))
-            (inl (on_is old.driver.plan.order on, asked, own_new command sent ∙ gone_free (view_of 15 old.port) command i there long at.context control))
+            (inl (on_is old.driver.plan.order on, asked, own_new command sent ∙ gone_free (view_of 15 old.port) command i there long at.context (dma_none i u there) control))
         | inr off ↦
             let plain : (is_on old.driver.plan.order || is_off old.driver.plan.order) ≡ false = ap (λ (b : Bool). b || is_off old.driver.plan.order) off ∙ not_off in
             made Asks command sent u bytes context (state_control command false (work ∙ plain) ∙ at.resetting ∙ ap is_resetting waits)
             (inr (inl (waits, off, refl)))
-            (asked, off, record { issue = sent_issue i; issued = own_new command sent ∙ gone_sent (view_of 15 old.port) command i there long at.context (kind ∙ plain); sent = refl; plain = data_none i u there })
+            (asked, off, record { issue = sent_issue i; issued = own_new command sent ∙ gone_sent (view_of 15 old.port) command i there long at.context (dma_none i u there) (kind ∙ plain); sent = refl; plain = data_none i u there })
       ]
       by_kind command sent i there fresh asked u bytes same long context kind work (inr (resets_now, is_reset)) =
           let control : (is_on old.driver.plan.order || is_off old.driver.plan.order) ≡ true = ap (λ (o : Order). is_on o || is_off o) is_reset in
           made Signs command sent u bytes context
           (state_control command true (work ∙ control) ∙ or_first (view_of 15 old.port).state.resetting (resets command.cfis) (at.resetting ∙ ap is_resetting resets_now))
           (inr (inr (resets_now, is_reset, refl)))
-          (own_new command sent ∙ gone_free (view_of 15 old.port) command i there long at.context (kind ∙ control), inl (is_reset, asked))
+          (own_new command sent ∙ gone_free (view_of 15 old.port) command i there long at.context (dma_none i u there) (kind ∙ control), inl (is_reset, asked))
 
   healthy_of : (view : DeviceView) (i : Issue) → may_leave view i ≡ true → is_some view.fault ≡ false
-  healthy_of view i h = leaves_healthy i.sent (is_some view.fault) (is_control i.work.kind || is_ready view.state && is_none (waiting view.slots)) h
+  healthy_of view i h = leaves_healthy i.sent (is_some view.fault) (is_control i.work.kind || is_ready view.state && is_none (waiting view.slots) && may_begin view.slots i) h
 
   -- what may go out is an issue that has not gone out
   fresh_issue : (slot : ℕ) → next_own (view_of 15 old.port) ≡ Some slot → (i : Issue) × (own_issue (slots_of 15 old.port.slots) slot ≡ Some i) × (i.sent ≡ false) × (is_some (view_of 15 old.port).fault ≡ false)

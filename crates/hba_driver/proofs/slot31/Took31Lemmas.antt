@@ -10,8 +10,8 @@ use Rattle.fis_view.specs.declared.view.Fis.TheVariants as view
 use Rattle.fis_view.specs.declared.view.FisFault.{FisFault}
 use Rattle.port_errors.specs.declared.cause.DeviceCause.TheVariants as cause
 use Rattle.slots.specs.Commands.{after_complete, answer_for, answer_of, answered_as, completed, is_done, is_short, is_slot}
-use Rattle.slots.specs.Slots.{DeviceSlots, Issue, context_unless, freed, has_bit, holds, is_done_issue, is_pio, is_queued_issue, is_short_issue, is_whole_issue, mask_below, match_some, own_issue, waiting}
-use Rattle.slots.specs.Work.{is_queued}
+use Rattle.slots.specs.Slots.{DeviceSlots, Issue, context_unless, freed, has_bit, holds, is_done_issue, is_queued_issue, is_short_issue, is_whole_issue, mask_below, match_some, own_issue, waiting}
+use Rattle.slots.specs.Work.{is_queued, needs_all}
 use Rattle.slots.specs.declared.answer.Answered.{Answered}
 use Rattle.slots.specs.declared.answer.Answered.TheVariants as answer
 use Rattle.slots.specs.declared.table.Context.{Context}
@@ -213,19 +213,19 @@ IsPlainAnswer (answer.Queued slot) = ⊥
 IsPlainAnswer (answer.Short slot) = ⊥
 IsPlainAnswer other = Unit {0}
 
-plain_for : (slot : ℕ) (i : Issue) (pio queued : Bool) → is_pio i.work.kind ≡ pio → is_queued_issue i ≡ queued → (pio || queued) ≡ false → IsPlainAnswer (answer_for slot i)
+plain_for : (slot : ℕ) (i : Issue) (moves queued : Bool) → needs_all i.work.kind ≡ moves → is_queued_issue i ≡ queued → (moves || queued) ≡ false → IsPlainAnswer (answer_for slot i)
 plain_for slot i false false p q none =
-    subst IsPlainAnswer (sym (ap (λ (b : Bool). if b then answer.Queued slot else if is_pio i.work.kind && not (is_whole_issue i) then answer.Short slot else answer.Done slot) q
+    subst IsPlainAnswer (sym (ap (λ (b : Bool). if b then answer.Queued slot else if needs_all i.work.kind && not (is_whole_issue i) then answer.Short slot else answer.Done slot) q
     ∙ ap (λ (b : Bool). if b && not (is_whole_issue i) then answer.Short slot else answer.Done slot) p)) tt
 plain_for slot i true queued p q none = absurd (true≢false none)
 plain_for slot i false true p q none = absurd (true≢false none)
 
-plain_answer : (own : DeviceSlots) → ((s : ℕ) (i : Issue) → own_issue own s ≡ Some i → (is_pio i.work.kind || is_queued i.work.kind) ≡ false) → IsPlainAnswer (answer_of own)
+plain_answer : (own : DeviceSlots) → ((s : ℕ) (i : Issue) → own_issue own s ≡ Some i → (needs_all i.work.kind || is_queued i.work.kind) ≡ false) → IsPlainAnswer (answer_of own)
 plain_answer own plain = by_slot (waiting own)
   where
     by_issue : (slot : ℕ) (o : Option Issue) → own_issue own slot ≡ o → IsPlainAnswer (match_some o answer.Nobody (answer_for slot))
     by_issue slot None is = tt
-    by_issue slot (Some i) is = plain_for slot i (is_pio i.work.kind) (is_queued_issue i) refl refl (plain slot i is)
+    by_issue slot (Some i) is = plain_for slot i (needs_all i.work.kind) (is_queued_issue i) refl refl (plain slot i is)
 
     by_slot : (o : Option ℕ) → IsPlainAnswer (match_some o answer.Nobody (λ slot. match_some (own_issue own slot) answer.Nobody (answer_for slot)))
     by_slot None = tt
@@ -365,11 +365,11 @@ module _ (old : Host) (g : IsGoing old) (new : Host) (n : IsGoing new) (frame : 
         else heard_d2h (control_of old).view.slots (control_of old).view.state (field D2h Status frame) (field D2h Error frame))))) { row = row_with (control_of old).row (Some (view.RegD2H frame)) }) off
         ∙ ap (λ (x : Heard). record (with_view (control_of old) (view_after_hearing (control_of old).view (signing frame x))) { row = row_with (control_of old).row (Some (view.RegD2H frame)) }) same
 
-    all_plain : IsSent (control_of old) → (s : ℕ) (i : Issue) → own_issue (control_of old).view.slots s ≡ Some i → (is_pio i.work.kind || is_queued i.work.kind) ≡ false
+    all_plain : IsSent (control_of old) → (s : ℕ) (i : Issue) → own_issue (control_of old).view.slots s ≡ Some i → (needs_all i.work.kind || is_queued i.work.kind) ≡ false
     all_plain s k i there =
         let at31 = issued31 old g k i there in
         let same : s.issue ≡ i = some_inj s.issue i (sym s.issued ∙ subst (λ (m : ℕ). own_issue (control_of old).view.slots m ≡ Some i) at31.0 there) in
-        ap (λ (y : Issue). is_pio y.work.kind || is_queued y.work.kind) (sym same) ∙ s.plain
+        ap (λ (y : Issue). needs_all y.work.kind || is_queued y.work.kind) (sym same) ∙ s.plain
 
     free_or_sent : (w : DeviceView) → IsSent (control_of old) → ((own_issue w.slots 31 ≡ None) ⊎ (own_issue w.slots 31 ≡ own_issue (control_of old).view.slots 31))
         → IsFree31 (record (with_view (control_of old) w) { row = row_with (control_of old).row (Some (view.RegD2H frame)) }) ⊎ IsSent (record (with_view (control_of old) w) { row = row_with (control_of old).row (Some (view.RegD2H frame)) })

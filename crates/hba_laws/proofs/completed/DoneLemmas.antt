@@ -1,6 +1,6 @@
 -- For `delivers`. The slots that a FIS is reported to free are those that it completes.
 use Rattle.std.proofs.Common.{◌≡◌, ℕ, ◌-◌, ◌^◌, ◌%◌, ◌<◌, Bool, true, false, cond, eqb, List, [], ◌∷◌, drop, get_or, length, map, refl, sym, ap, subst, ◌∙◌, inl, inr, Option, Some, None, arith}
-use Rattle.std.specs.Prelude.{is_none, is_some, is_ok, ◌&&◌, ◌==◌, not, nat_le, nat_lt, replicate, slice_index}
+use Rattle.std.specs.Prelude.{Result, Ok, Err, is_none, is_some, is_ok, ◌&&◌, ◌==◌, not, nat_le, nat_lt, replicate, slice_index}
 use Rattle.std.specs.Option.{option_map}
 use Rattle.std.proofs.lemmas.Bool.{cases_eq, cases_lt, eq-eqb, ne_eqb, eqb-true, false≢true, and_parts, leb-true}
 use Rattle.std.proofs.lemmas.List.{get_or-map, get_or-replicate, get_or_past, length-map, length-replicate}
@@ -13,8 +13,9 @@ use Rattle.fis_view.specs.declared.view.Fis.TheVariants as view
 use Rattle.port_errors.specs.declared.cause.DeviceCause.TheVariants as cause
 use Rattle.slots.specs.Commands.{answer_for, answered_issue, answer_of, answered_as, completed, is_done, is_slot, whole_pio, with_answered}
 use Rattle.slots.specs.Data.{activated, after_activate, after_arrive, arrive_answer, gone_over, may_activate, moved_over}
-use Rattle.slots.specs.Setup.{after_setup_pio, came, dma_context, new_context, pio_fault, pio_issue, setup_fault, with_own_context}
-use Rattle.slots.specs.Slots.{DeviceSlots, Issue, freed, has_bit, holds, is_done_issue, is_pio, is_queued_issue, is_waiting, is_whole_issue, match_some, own_issue, owned_by, sent_pio, waiting}
+use Rattle.slots.specs.Setup.{after_setup_pio, came, dma_context, new_context, out_setup, pio_fault, pio_issue, setup_fault, with_own_context}
+use Rattle.slots.specs.Work.{needs_all}
+use Rattle.slots.specs.Slots.{DeviceSlots, Issue, freed, has_bit, holds, is_done_issue, is_queued_issue, is_waiting, is_whole_issue, match_some, own_issue, owned_by, sent_pio, waiting}
 use Rattle.slots.specs.declared.answer.Answered.{Answered}
 use Rattle.slots.specs.declared.answer.Answered.TheVariants as answer
 use Rattle.slots.specs.declared.answer.SetupError.{SetupError}
@@ -26,7 +27,7 @@ use Rattle.hba_fbs.specs.declared.hearing.Heard.{Heard}
 use Rattle.hba_fbs.specs.declared.report.TakeReport.{TakeReport}
 use Rattle.hba_fbs.specs.declared.state.DeviceState.{DeviceState}
 use Rattle.hba_fbs.specs.declared.status.Block.{Block}
-use Rattle.hba_fbs.specs.Hearing.{answered, block_ended, block_of, bus_failed, done_by, faulty, heard_bytes, heard_d2h, heard_data, heard_data_of, heard_fis, mask_of_slot, moved, named, overflowed, quietly, set_up, tag_of}
+use Rattle.hba_fbs.specs.Hearing.{answered, block_ended, block_of, bus_failed, done_by, faulty, heard_bytes, heard_d2h, heard_data, heard_data_of, heard_fis, heard_out, mask_of_slot, moved, named, overflowed, quietly, set_up, tag_of}
 use Rattle.hba_fbs.specs.Status.{after_reset, is_busy, is_error, is_quiet, with_bits, with_file}
 use Rattle.hba_fbs.specs.Taking.{admitted, heard, heard_now, heard_report, ignores, port_of}
 use Rattle.hba_fbs.specs.Tables.{is_sound}
@@ -124,7 +125,7 @@ module _ (n : ℕ) (own : DeviceSlots) (state : DeviceState) (is : IsOwn n own) 
       let low = lowest_is (λ k. holds is_waiting (own_issue own k)) 32 slot e in
       let p = held is_waiting (own_issue own slot) low.passes in
       subst (λ (o : Option Issue). FreesAs (match_some o answer.Nobody (answer_for slot))) (sym p.1)
-      (by_kind slot p.0 p.1 (is_queued_issue p.0) (is_pio p.0.work.kind && not (is_whole_issue p.0)))
+      (by_kind slot p.0 p.1 (is_queued_issue p.0) (needs_all p.0.work.kind && not (is_whole_issue p.0)))
 
   d2h : (status error : ℕ) (e b : Bool)
       → Frees (cond e (faulty (with_file state status error) cause.TaskFile) (cond b (quietly (with_file state status error) happening.Nothing) (answered (answer_of own) (with_file state status error))))
@@ -164,11 +165,13 @@ module _ (n : ℕ) (own : DeviceSlots) (state : DeviceState) (is : IsOwn n own) 
       by_fault false None = refl
       by_fault false (Some slot) = by_issue slot (own_issue own slot)
 
-  pio : (status error count : ℕ) (to_host : Bool) (block : Block) (e : Bool) (o : Option SetupError)
-      → Frees (cond e (faulty (with_file state status error) cause.TaskFile) (set_up o (with_file state status error) (Some block) (happening.PioSetUp count to_host)))
-  pio status error count to_host block true o = quiet
-  pio status error count to_host block false None = λ s lt. none_done own (after_setup_pio own count to_host) s (ap is_none (same_pio count to_host s))
-  pio status error count to_host block false (Some e) = quiet
+  pio : (status error count : ℕ) (to_host : Bool) (block : Block) (e b : Bool) (o : Option SetupError) (r : Result Context SetupError)
+      → Frees (cond e (faulty (with_file state status error) cause.TaskFile) (cond b (set_up o (with_file state status error) (Some block) (happening.PioSetUp count to_host)) (heard_out (with_file state status error) block r)))
+  pio status error count to_host block true b o r = quiet
+  pio status error count to_host block false true None r = λ s lt. none_done own (after_setup_pio own count to_host) s (ap is_none (same_pio count to_host s))
+  pio status error count to_host block false true (Some e) r = quiet
+  pio status error count to_host block false false o (Ok c) = quiet
+  pio status error count to_host block false false o (Err e) = quiet
 
   -- ---- DMA Activate
 
@@ -244,7 +247,7 @@ module _ (n : ℕ) (own : DeviceSlots) (state : DeviceState) (is : IsOwn n own) 
       (setup_fault (own_issue own (tag_of f)) (field table.Setup table.Offset f) (field table.Setup table.Count f) (eqb (field table.Setup table.D f) 1))
   fis_frees sound (view.PioSetup f) =
       pio (field table.Pio table.Status f) (field table.Pio table.Error f) (field table.Pio table.Transfer f) (eqb (field table.Pio table.D f) 1) (block_of f) (is_error (field table.Pio table.Status f))
-      (pio_fault (pio_issue own) (field table.Pio table.Transfer f) (eqb (field table.Pio table.D f) 1))
+      (is_some (sent_pio own)) (pio_fault (pio_issue own) (field table.Pio table.Transfer f) (eqb (field table.Pio table.D f) 1)) (out_setup own (field table.Pio table.Transfer f) (eqb (field table.Pio table.D f) 1))
   fis_frees sound (view.Payload f) = data_fis sound (length f - 4)
   fis_frees sound other = quiet
 

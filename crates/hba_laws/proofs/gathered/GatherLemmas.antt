@@ -1,6 +1,6 @@
 -- For `writes_are_gathered`. Data that goes out for a write is what client memory has at the write's places.
 use Rattle.std.proofs.Common.{◌≡◌, ℕ, zero, suc, ◌+◌, ◌-◌, ◌*◌, ◌<◌, Bool, true, false, cond, eqb, List, [], ◌∷◌, ◌++◌, drop, length, refl, sym, ap, subst, ◌∙◌, Option, Some, None, arith, min}
-use Rattle.std.specs.Prelude.{is_none, not, ◌||◌, nat_lt, slice_get, slice_index}
+use Rattle.std.specs.Prelude.{is_none, not, ◌||◌, nat_lt, slice_get, slice_index, if◌then◌else◌, map}
 use Rattle.std.specs.Option.{option_map}
 use Rattle.std.proofs.lemmas.Bool.{eqb-true, false≢true, and_parts}
 use Rattle.std.proofs.lemmas.List.FromFn.{get_or-map-range_with_len, length-map-range_with_len}
@@ -14,6 +14,7 @@ use Rattle.host_memory.proofs.PlaceLemmas.{place_inside}
 use Rattle.host_memory.proofs.PrdLemmas.{inside_from_faults}
 use Rattle.hba_commands.specs.declared.command.Command.{Command}
 use Rattle.slots.specs.Data.{payload, payload_len}
+use Rattle.slots.specs.Work.{is_dma, is_read}
 use Rattle.slots.specs.Slots.{DeviceSlots, Issue, context_of, holds, issue_at, match_some, own_issue}
 use Rattle.slots.specs.declared.answer.Answered.TheVariants as answer
 use Rattle.slots.specs.declared.table.Context.{Context}
@@ -33,8 +34,8 @@ use Rattle.hba_fbs.specs.Views.{DeviceView, Port, last_command, view_of}
 use Rattle.hba_fbs.specs.Writing.{cleared_by}
 use Rattle.hba_laws.specs.Agreement.{AreHistoriesOf, IsHistoryOf, end_of}
 use Rattle.hba_laws.specs.Client.{By, FillsWithin, Puts, Stops, Touches, client, filling, own}
-use Rattle.hba_laws.specs.Delivering.{HasTables, HaveTables, IsClient, by_device, event_heard, event_of, event_taken, is_control_issue, issued_below, issued_in, touched, touched_by_clear, touched_by_out, touched_by_write}
-use Rattle.hba_laws.specs.History.{Carried, Emptied, Sent, SentControl, Setup, is_set_up, issued, last_setup}
+use Rattle.hba_laws.specs.Delivering.{begun_by, HasTables, HaveTables, IsClient, by_device, event_heard, event_of, event_taken, is_control_issue, issued_below, issued_in, touched, touched_by_clear, touched_by_out, touched_by_write}
+use Rattle.hba_laws.specs.History.{Carried, Emptied, Sent, SentControl, SetUp, Setup, is_set_up, issued, last_setup}
 use Rattle.hba_laws.specs.Hosts.{Gave, Host, HostEvent, Took, Wrote as WroteRegister}
 use Rattle.hba_laws.specs.Sent.{AreGathered, DataIsGathered, HoldsWrites, IsGathered}
 use Rattle.hba_laws.specs.Sound.{IsHost}
@@ -271,11 +272,17 @@ none_quiet = tt
 
 pub order_quiet : (old : Host) (dev slot : ℕ) (command : Command) → AreQuiet (touched_by_out old (out.Order dev slot command))
 unfolding AreQuiet
-order_quiet old dev slot command = by_kind (holds is_control_issue (issue_at old.port.slots slot))
+order_quiet old dev slot command = by_issue (issue_at old.port.slots slot)
   where
-    by_kind : (b : Bool) → AreQuiet (By dev (cond b (SentControl slot) (Sent slot)) ∷ [])
-    by_kind true = tt
-    by_kind false = tt
+    by_kind : (i : Issue) (d b : Bool) → AreQuiet (map (By dev) (if d then SetUp slot 0 i.work.len (is_read i.work.kind) ∷ [] else []) ++ By dev (cond b (SentControl slot) (Sent slot)) ∷ [])
+    by_kind i true true = tt
+    by_kind i true false = tt
+    by_kind i false true = tt
+    by_kind i false false = tt
+
+    by_issue : (o : Option Issue) → AreQuiet (map (By dev) (begun_by slot o) ++ By dev (cond (holds is_control_issue o) (SentControl slot) (Sent slot)) ∷ [])
+    by_issue None = tt
+    by_issue (Some i) = by_kind i (is_dma i.work.kind) (is_control_issue i)
 
 -- ---- one event
 

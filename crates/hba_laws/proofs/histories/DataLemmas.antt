@@ -2,13 +2,13 @@
 use Rattle.std.proofs.Common.{◌≡◌, ℕ, ◌+◌, ◌%◌, ◌≤◌, Bool, true, false, cond, eqb, List, ◌∷◌, length, refl, sym, ap, subst, ◌∙◌, inl, inr, Option, Some, None, arith}
 use Rattle.std.specs.Prelude.{MatchOption, is_some, ◌&&◌, ◌||◌}
 use Rattle.std.specs.Option.{option_map}
-use Rattle.std.proofs.lemmas.Bool.{cases_eq, eq-eqb, ne_eqb, false≢true}
+use Rattle.std.proofs.lemmas.Bool.{and_parts, cases_eq, eq-eqb, ne_eqb, false≢true}
 use Rattle.slots.specs.Commands.{after_pio_done, is_slot, whole_pio}
 use Rattle.slots.specs.Data.{gone_over, moved_on, moved_over}
-use Rattle.slots.specs.Slots.{DeviceSlots, Issue, context_unless, freed, holds, is_pio, is_sent_pio, is_whole_issue, lowest, match_some, own_issue, sent_pio}
+use Rattle.slots.specs.Slots.{DeviceSlots, Issue, context_unless, freed, holds, is_pio, is_sent_pio, is_under_way, is_whole_issue, lowest, match_some, own_issue, sent_pio}
 use Rattle.slots.specs.declared.table.Context.{Context}
 use Rattle.slots.specs.Table.{IsIssue}
-use Rattle.slots.specs.Work.{is_queued}
+use Rattle.slots.specs.Work.{is_queued, needs_all}
 use Rattle.slots.proofs.ByteLemmas.{whole_dwords}
 use Rattle.hba_fbs.specs.Hearing.{block_ended}
 use Rattle.hba_fbs.specs.Status.{is_quiet}
@@ -107,7 +107,8 @@ module _ (n : ℕ) (own : DeviceSlots) (ends : Option ℕ) (past : History) (is 
   pio_sent some =
       let pio : is_pio has.issue.work.kind ≡ true = sym (holds_at is_pio_issue (own_issue own c.slot) has.issue has.at) ∙ (says.agrees.context_agrees c now).of_kind ∙ some in
       let queued : is_queued has.issue.work.kind ≡ false = not_queued has.issue.work.kind pio in
-      (ap (λ q. (q && has.issue.answered) || is_sent_pio has.issue) (sym queued) ∙ has.is.goes, pio)
+      let way : is_under_way has.issue ≡ true = ap (λ q. (q && has.issue.answered) || is_under_way has.issue) (sym queued) ∙ has.is.goes in
+      (ap (λ b. b && is_pio has.issue.work.kind) (and_parts has.issue.sent (needs_all has.issue.work.kind) way).0 ∙ pio, pio)
 
   same_sent : (k : ℕ) → holds is_sent_pio (own_issue gone k) ≡ holds is_sent_pio (own_issue own k)
   same_sent k = ap (λ (f : ℕ → Option Issue). holds is_sent_pio (f k)) view ∙ elim (cases_eq k c.slot) [

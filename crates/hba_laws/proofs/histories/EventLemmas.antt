@@ -1,6 +1,6 @@
 -- For `delivers`. A device's view says its history after each event of a host, and so after a list of them.
 use Rattle.std.proofs.Common.{◌≡◌, ◌≢◌, ℕ, ◌%◌, ◌<◌, ◌≤◌, Bool, true, false, cond, eqb, List, [], ◌∷◌, ◌++◌, drop, length, refl, sym, ap, subst, ◌∙◌, inl, inr, Option, Some, None, arith, min}
-use Rattle.std.specs.Prelude.{is_some, is_none, ◌&&◌, ◌||◌, not, nat_le, bit_or}
+use Rattle.std.specs.Prelude.{is_some, is_none, ◌&&◌, ◌||◌, not, nat_le, if◌then◌else◌, map}
 use Rattle.std.specs.Option.{option_map}
 use Rattle.std.proofs.lemmas.Bool.{cases_eq, eq-eqb, eqb-true, eqb-false, ne_eqb, false≢true, true≢false, and_parts, leb-true}
 use Rattle.std.proofs.lemmas.List.FromFn.{length-map-range_with_len}
@@ -8,13 +8,13 @@ use Rattle.fis_view.specs.Frames.{IsFrame, Stamped}
 use Rattle.fis_view.specs.Seen.{seen}
 use Rattle.host_memory.specs.Memory.{Memory}
 use Rattle.hba_commands.specs.declared.command.Command.{Command}
-use Rattle.slots.specs.Commands.{after_sent, may_go}
+use Rattle.slots.specs.Commands.{after_sent, may_begin, may_go}
 use Rattle.slots.specs.Data.{after_payload, gone_over, payload, payload_len}
 use Rattle.slots.specs.Slots.{DeviceSlots, Issue, Slots, context_of, has_bit, holds, is_control, is_pio, issue_at, match_some, own_issue, slots_of, waiting}
-use Rattle.slots.specs.Work.{is_read}
+use Rattle.slots.specs.Work.{is_dma, is_read}
 use Rattle.slots.specs.declared.table.Context.{Context}
 use Rattle.slots.specs.declared.work.Kind.{Kind}
-use Rattle.slots.specs.declared.work.Kind.TheVariants.{QueuedRead, PioIn}
+use Rattle.slots.specs.declared.work.Kind.TheVariants.{QueuedRead, PioIn, DmaIn}
 use Rattle.slots.proofs.MaskLemmas.{lowest_is}
 use Rattle.slots.proofs.TableLemmas.{own_at}
 use Rattle.slots.specs.Slots.{owned_by}
@@ -23,23 +23,22 @@ use Rattle.hba_fbs.specs.declared.register.Register.TheVariants.{Clb, Cmd, Ci, F
 use Rattle.hba_fbs.specs.declared.report.TakeReport.{TakeReport}
 use Rattle.hba_fbs.specs.Issuing.{aimed, asked, view_issued}
 use Rattle.hba_fbs.specs.Registers.{falls}
-use Rattle.hba_fbs.specs.Sending.{Gives, Outgoing, Sends, data_due, data_with, faulty_devices, gathered, next_receiver, next_to_send, order_due, outgoing, ready_devices, resets, stopped_by_bus, view_fed, view_sent}
+use Rattle.hba_fbs.specs.Sending.{Gives, Outgoing, Sends, data_due, block_sent, data_with, faulty_devices, gathered, next_receiver, next_to_send, order_due, outgoing, ready_devices, stopped_by_bus, view_fed, view_sent}
 use Rattle.hba_fbs.specs.Sending as out
 use Rattle.hba_fbs.specs.Tables.{is_sound, prds_of, sound_command}
 use Rattle.hba_fbs.specs.Taking.{admitted, heard, heard_now, heard_view, ignores, is_running, port_of}
 use Rattle.hba_fbs.specs.Views.{DeviceView, Port, flushed_view, last_command, stopped_view, view_of}
 use Rattle.hba_fbs.specs.Writing.{Accepts, cleared_by, refusal_of, view_after, view_cleared}
-use Rattle.hba_fbs.specs.declared.state.DeviceState.{DeviceState}
 use Rattle.hba_laws.specs.Agreement.{IsHistoryOf, IsTold, end_of, is_pio_issue}
 use Rattle.hba_laws.specs.Client.{By, Stops, own}
-use Rattle.hba_laws.specs.Delivering.{HistoriesAreParts, IsFramed, ViewsAreTold, by_device, event_heard, event_sent, event_taken, history_after, is_control_issue, issued_below, touched, touched_by_clear, touched_by_out, touched_by_write}
-use Rattle.hba_laws.specs.History.{Carried, Emptied, Event, History, Sent, SentControl}
+use Rattle.hba_laws.specs.Delivering.{HistoriesAreParts, IsFramed, ViewsAreTold, begun_by, by_device, event_heard, event_sent, event_taken, history_after, is_control_issue, issued_below, touched, touched_by_clear, touched_by_out, touched_by_write}
+use Rattle.hba_laws.specs.History.{Carried, Emptied, Event, History, Sent, SentControl, SetUp}
 use Rattle.hba_laws.specs.Hosts.{Does, Flushed, Gave, Host, HostEvent, TakesFrame, Took, Wrote}
 use Rattle.hba_laws.specs.Sound.{IsHost}
 use Rattle.hba_laws.proofs.histories.DataLemmas.{ends_block, says_carried}
 use Rattle.hba_laws.proofs.histories.HearLemmas.{heard_follows, with_event}
 use Rattle.hba_laws.proofs.histories.IssueLemmas.{asked_free, history_below, other_below, own_app, own_below_is, says_issued}
-use Rattle.hba_laws.proofs.histories.StepLemmas.{Says, says_control, says_emptied, says_sent}
+use Rattle.hba_laws.proofs.histories.StepLemmas.{Says, control_no_dma, ends_after, says_control, says_emptied, says_sent}
 use Rattle.hba_laws.proofs.histories.ViewLemmas.{HasContext, IsOwn, held, holds_at, is_own, own_here}
 
 pub says_of : (v : DeviceView) (past : History) → IsTold v past → Says v.slots (option_map end_of v.state.block) past
@@ -63,6 +62,17 @@ other_by n dev (Some x) past ne = ap (λ b. cond b (x ∷ []) [] ++ past) (ne_eq
 pub other_one : (n dev : ℕ) (x : Event) (past : History) → dev ≢ n → own n (By dev x ∷ []) ++ past ≡ past
 other_one n dev x past ne = ap (λ b. cond b (x ∷ []) [] ++ past) (ne_eqb dev n ne)
 
+-- with several events of it
+pub own_all : (n dev : ℕ) (h : History) (x : Event) (past : History) → dev ≡ n → own n (map (By dev) h ++ By dev x ∷ []) ++ past ≡ h ++ x ∷ past
+own_all n dev [] x past e = own_one n dev x past e
+own_all n dev (y ∷ h) x past e =
+    ap (λ b. cond b (y ∷ own n (map (By dev) h ++ By dev x ∷ [])) (own n (map (By dev) h ++ By dev x ∷ [])) ++ past) (eq-eqb dev n e) ∙ ap (λ (l : History). y ∷ l) (own_all n dev h x past e)
+
+pub other_all : (n dev : ℕ) (h : History) (x : Event) (past : History) → dev ≢ n → own n (map (By dev) h ++ By dev x ∷ []) ++ past ≡ past
+other_all n dev [] x past ne = other_one n dev x past ne
+other_all n dev (y ∷ h) x past ne =
+    ap (λ b. cond b (y ∷ own n (map (By dev) h ++ By dev x ∷ [])) (own n (map (By dev) h ++ By dev x ∷ [])) ++ past) (ne_eqb dev n ne) ∙ other_all n dev h x past ne
+
 -- ---- what goes out
 
 -- what is known of it
@@ -80,9 +90,9 @@ is_none_is : (o : Option ℕ) → is_none o ≡ true → o ≡ None
 is_none_is None e = refl
 is_none_is (Some k) e = absurd (false≢true e)
 
-may_wait : (control ready none : Bool) → (control || ready && none) ≡ true → control ≡ false → none ≡ true
-may_wait true ready none e f = absurd (true≢false f)
-may_wait false ready none e f = (and_parts ready none e).1
+may_wait : (control ready none begins : Bool) → (control || ready && none && begins) ≡ true → control ≡ false → none ≡ true
+may_wait true ready none begins e f = absurd (true≢false f)
+may_wait false ready none begins e f = (and_parts ready none (and_parts (ready && none) begins e).0).1
 
 order_goes : (port : Port) (slot : ℕ) (i : Issue) → issue_at port.slots slot ≡ Some i → slot < 32 → may_go (ready_devices port) (faulty_devices port) port.slots i ≡ true
     → (o : Option Command) → GoesOut port (match_some o out.Nothing (out.Order i.dev slot))
@@ -90,7 +100,7 @@ unfolding GoesOut
 order_goes port slot i at lt may None = tt
 order_goes port slot i at lt may (Some command) =
     let t : Slots = port.slots in
-    let p = and_parts (not i.sent && not (has_bit (faulty_devices port) i.dev)) (is_control i.work.kind || has_bit (ready_devices port) i.dev && is_none (waiting (slots_of i.dev t))) may in
+    let p = and_parts (not i.sent && not (has_bit (faulty_devices port) i.dev)) (is_control i.work.kind || has_bit (ready_devices port) i.dev && is_none (waiting (slots_of i.dev t)) && may_begin (slots_of i.dev t) i) may in
     let q = and_parts (not i.sent) (not (has_bit (faulty_devices port) i.dev)) p.0 in (
       i,
       at,
@@ -98,7 +108,7 @@ order_goes port slot i at lt may (Some command) =
       lt,
       not_true i.sent q.0,
       λ other.
-          is_none_is (waiting (slots_of i.dev t)) (may_wait (is_control i.work.kind) (has_bit (ready_devices port) i.dev) (is_none (waiting (slots_of i.dev t))) p.1 other),
+          is_none_is (waiting (slots_of i.dev t)) (may_wait (is_control i.work.kind) (has_bit (ready_devices port) i.dev) (is_none (waiting (slots_of i.dev t))) (may_begin (slots_of i.dev t) i) p.1 other),
     )
 
 next_goes : (port : Port) (o : Option ℕ) → next_to_send port ≡ o → GoesOut port (match_some o out.Nothing (order_due port))
@@ -144,6 +154,7 @@ goes_out port memory = by_running (is_running port)
 
 writes_none : (kind : Kind) → is_read kind ≡ false → is_pio kind ≡ false
 writes_none QueuedRead e = absurd (true≢false e)
+writes_none DmaIn e = absurd (true≢false e)
 writes_none PioIn e = absurd (true≢false e)
 writes_none other e = refl
 
@@ -257,6 +268,14 @@ module _ (n : ℕ) (old : Host) (host : IsHost old) (past : History) (told : IsH
     | inr ne ↦ subst (IsTold (view_of n new.port)) (sym (other_one n dev x past ne)) (stays new (other (λ e. ne (sym e))))
   ]
 
+  -- and of several events
+  of_all : (dev : ℕ) (h : History) (x : Event) (new : Host) → (n ≡ dev → IsTold (view_of dev new.port) (h ++ x ∷ past)) → (n ≢ dev → view_of n new.port ≡ v)
+      → IsHistoryOf n new (own n (map (By dev) h ++ By dev x ∷ []) ++ past)
+  of_all dev h x new here other = elim (cases_eq dev n) [
+    | inl same ↦ subst (IsTold (view_of n new.port)) (sym (own_all n dev h x past same)) (subst (λ (d : ℕ). IsTold (view_of d new.port) (h ++ x ∷ past)) same (here (sym same)))
+    | inr ne ↦ subst (IsTold (view_of n new.port)) (sym (other_all n dev h x past ne)) (stays new (other (λ e. ne (sym e))))
+  ]
+
   -- Data goes out
   data_own : (dev offset len : ℕ) (command : Command) → GoesOut old.port (out.Data dev offset len command) → n ≡ dev
       → IsTold (view_fed (view_of dev old.port)) (Carried (gathered (prds_of old.memory command) offset len old.memory.client) ∷ past)
@@ -295,12 +314,12 @@ module _ (n : ℕ) (old : Host) (host : IsHost old) (past : History) (told : IsH
 
   -- the frame of a slot goes out
   order_own : (dev slot : ℕ) (command : Command) → GoesOut old.port (out.Order dev slot command) → n ≡ dev
-      → IsTold (view_sent (view_of dev old.port) slot command) (event_sent old.port.slots slot ∷ past)
+      → IsTold (view_sent (view_of dev old.port) slot command) (begun_by slot (issue_at old.port.slots slot) ++ event_sent old.port.slots slot ∷ past)
   unfolding GoesOut
-  order_own dev slot command goes same = subst (λ (d : ℕ). IsTold (view_sent (view_of d old.port) slot command) (event_sent old.port.slots slot ∷ past)) same
-      (told_of (view_sent v slot command) (event_sent old.port.slots slot ∷ past)
-      (subst (λ (e : Option ℕ). Says (after_sent v.slots slot) e (event_sent old.port.slots slot ∷ past)) (sym (same_block (is_control command.work.kind)))
-      (subst (λ (b : Bool). Says (after_sent v.slots slot) ends (cond b (SentControl slot) (Sent slot) ∷ past)) (sym kind_is) (by_kind (is_control goes.0.work.kind) refl))))
+  order_own dev slot command goes same = subst (λ (d : ℕ). IsTold (view_sent (view_of d old.port) slot command) (sent_then (issue_at old.port.slots slot))) same
+      (told_of (view_sent v slot command) (sent_then (issue_at old.port.slots slot))
+      (subst (λ (e : Option ℕ). Says (after_sent v.slots slot) e (sent_then (issue_at old.port.slots slot))) (sym block_is)
+      (subst (λ (o : Option Issue). Says (after_sent v.slots slot) (ends_after goes.0 ends) (sent_then o)) (sym goes.1) (by_kind (is_control goes.0.work.kind) refl))))
     where
       of_n : goes.0.dev ≡ n
       of_n = sym goes.2 ∙ sym same
@@ -310,15 +329,21 @@ module _ (n : ℕ) (old : Host) (host : IsHost old) (past : History) (told : IsH
           let long = host.slots.slots in
           subst (λ (d : ℕ). own_issue (slots_of d old.port.slots) slot ≡ Some goes.0) of_n (own_here slot old.port.slots goes.0 (omega (arith, long, goes.3)) goes.1)
 
-      kind_is : holds is_control_issue (issue_at old.port.slots slot) ≡ is_control goes.0.work.kind
-      kind_is = holds_at is_control_issue (issue_at old.port.slots slot) goes.0 goes.1
+      sent_then : Option Issue → History
+      sent_then o = begun_by slot o ++ cond (holds is_control_issue o) (SentControl slot) (Sent slot) ∷ past
 
-      same_block : (b : Bool) → let st : DeviceState = cond b (record v.state { resetting = v.state.resetting || resets command.cfis }) (record v.state { status = bit_or v.state.status 128 }) in option_map end_of st.block ≡ ends
+      same_block : (b : Bool) → option_map end_of (if b then None else v.state.block) ≡ (if b then None else ends)
       same_block true = refl
       same_block false = refl
 
-      by_kind : (b : Bool) → is_control goes.0.work.kind ≡ b → Says (after_sent v.slots slot) ends (cond b (SentControl slot) (Sent slot) ∷ past)
-      by_kind true e = says_control n v.slots ends past owns says slot goes.0 at e
+      block_is : option_map end_of (block_sent v slot) ≡ ends_after goes.0 ends
+      block_is =
+          ap (λ (b : Bool). option_map end_of (if b then None else v.state.block)) (holds_at (λ issue. is_dma issue.work.kind) (own_issue v.slots slot) goes.0 at) ∙ same_block (is_dma goes.0.work.kind)
+
+      by_kind : (b : Bool) → is_control goes.0.work.kind ≡ b → Says (after_sent v.slots slot) (ends_after goes.0 ends) (begun_by slot (Some goes.0) ++ cond b (SentControl slot) (Sent slot) ∷ past)
+      by_kind true e =
+          subst (λ (b : Bool). Says (after_sent v.slots slot) (if b then None else ends) ((if b then SetUp slot 0 goes.0.work.len (is_read goes.0.work.kind) ∷ [] else []) ++ SentControl slot ∷ past))
+          (sym (control_no_dma goes.0.work.kind e)) (says_control n v.slots ends past owns says slot goes.0 at e)
       by_kind false e = says_sent n v.slots ends past owns says slot goes.0 at goes.4 e (subst (λ (d : ℕ). waiting (slots_of d old.port.slots) ≡ None) of_n (goes.5 e))
 
   gave : (o : Outgoing) → GoesOut old.port o → (frame : Option Stamped) (new : Host) → Gives o old.port old.memory frame new.port → IsHistoryOf n new (own n (touched_by_out old o) ++ past)
@@ -329,8 +354,8 @@ module _ (n : ℕ) (old : Host) (host : IsHost old) (past : History) (told : IsH
       (λ same. subst (λ (w : DeviceView). IsTold w (Carried (gathered (prds_of old.memory command) offset len old.memory.client) ∷ past)) (sym does.own) (data_own dev offset len command goes same))
       (does.others n)
   gave (out.Order dev slot command) goes (Some f) new does =
-      of_device dev (event_sent old.port.slots slot) new
-      (λ same. subst (λ (w : DeviceView). IsTold w (event_sent old.port.slots slot ∷ past)) (sym does.own) (order_own dev slot command goes same))
+      of_all dev (begun_by slot (issue_at old.port.slots slot)) (event_sent old.port.slots slot) new
+      (λ same. subst (λ (w : DeviceView). IsTold w (begun_by slot (issue_at old.port.slots slot) ++ event_sent old.port.slots slot ∷ past)) (sym does.own) (order_own dev slot command goes same))
       (does.others n)
   gave other goes None new does = absurd does
 

@@ -1,6 +1,6 @@
 -- For `delivers`. What a device's part of the slots says after a FIS that is heard.
 use Rattle.std.proofs.Common.{◌≡◌, ℕ, ◌-◌, ◌%◌, ◌≤◌, Bool, true, false, cond, eqb, List, ◌∷◌, drop, length, refl, sym, ap, subst, ◌∙◌, Option, Some, None, arith, length-drop}
-use Rattle.std.specs.Prelude.{is_ok, ◌&&◌, not, nat_lt, Result, Ok, Err}
+use Rattle.std.specs.Prelude.{is_ok, is_some, ◌&&◌, not, nat_lt, Result, Ok, Err}
 use Rattle.std.specs.Option.{option_map}
 use Rattle.std.proofs.lemmas.Bool.{false≢true, ltb-false}
 use Rattle.fis_view.specs.Seen.{kind_of, may_have, seen, view_as}
@@ -14,8 +14,9 @@ use Rattle.fis_view.specs.declared.view.FisFault.TheVariants.{WrongLength}
 use Rattle.port_errors.specs.declared.cause.DeviceCause.TheVariants as cause
 use Rattle.slots.specs.Commands.{answer_for, answer_of, answered_as, completed}
 use Rattle.slots.specs.Data.{activated, after_arrive, arrive_answer, gone_over, may_activate}
-use Rattle.slots.specs.Setup.{dma_context, pio_fault, pio_issue, setup_fault}
-use Rattle.slots.specs.Slots.{DeviceSlots, Issue, holds, is_pio, is_queued_issue, is_waiting, is_whole_issue, match_some, own_issue, waiting}
+use Rattle.slots.specs.Setup.{dma_context, out_setup, pio_fault, pio_issue, setup_fault}
+use Rattle.slots.specs.Work.{needs_all}
+use Rattle.slots.specs.Slots.{DeviceSlots, Issue, holds, is_queued_issue, is_waiting, is_whole_issue, match_some, own_issue, sent_pio, waiting}
 use Rattle.slots.specs.declared.answer.Answered.{Answered}
 use Rattle.slots.specs.declared.answer.Answered.TheVariants as answer
 use Rattle.slots.specs.declared.answer.SetupError.{SetupError}
@@ -26,7 +27,7 @@ use Rattle.hba_fbs.specs.declared.hearing.Happening.TheVariants as happening
 use Rattle.hba_fbs.specs.declared.report.Wrote.{Wrote}
 use Rattle.hba_fbs.specs.declared.state.DeviceState.{DeviceState}
 use Rattle.hba_fbs.specs.declared.status.Block.{Block}
-use Rattle.hba_fbs.specs.Hearing.{answered, block_ended, block_of, bus_failed, faulty, heard_bytes, heard_d2h, heard_data, heard_data_of, heard_fis, heard_setup, is_admitted, moved, named, overflowed, quietly, set_up, tag_of}
+use Rattle.hba_fbs.specs.Hearing.{answered, block_ended, block_of, bus_failed, faulty, heard_bytes, heard_d2h, heard_data, heard_data_of, heard_fis, heard_out, heard_setup, is_admitted, moved, named, overflowed, quietly, set_up, tag_of}
 use Rattle.hba_fbs.specs.Status.{after_reset, is_busy, is_error, is_quiet, with_bits, with_file}
 use Rattle.hba_fbs.specs.Taking.{admitted, heard}
 use Rattle.hba_fbs.specs.Views.{DeviceView}
@@ -35,7 +36,7 @@ use Rattle.hba_laws.specs.Delivering.{event_heard, event_of_answer}
 use Rattle.hba_laws.specs.History.{Event, History}
 use Rattle.hba_laws.proofs.histories.AgreeLemmas.{agrees_activated}
 use Rattle.hba_laws.proofs.histories.DataLemmas.{ends_block, says_block}
-use Rattle.hba_laws.proofs.histories.StepLemmas.{Says, says_done, says_named, says_nobody, says_pio, says_queued, says_set_up}
+use Rattle.hba_laws.proofs.histories.StepLemmas.{Says, says_done, says_named, says_nobody, says_out, says_pio, says_queued, says_set_up}
 use Rattle.hba_laws.proofs.histories.ViewLemmas.{IsOwn, held}
 
 abbrev pub with_event : Option Event → History → History
@@ -55,7 +56,7 @@ module _ (n : ℕ) (own : DeviceSlots) (state : DeviceState) (payload : List ℕ
   abbrev Answers : Answered → Type 0
   Answers a = Says (answered_as a own) ends (with_event (event_of_answer a) past)
 
-  by_kind : (slot : ℕ) (j : Issue) → own_issue own slot ≡ Some j → is_waiting j ≡ true → (q short : Bool) → is_queued_issue j ≡ q → (is_pio j.work.kind && not (is_whole_issue j)) ≡ short
+  by_kind : (slot : ℕ) (j : Issue) → own_issue own slot ≡ Some j → is_waiting j ≡ true → (q short : Bool) → is_queued_issue j ≡ q → (needs_all j.work.kind && not (is_whole_issue j)) ≡ short
       → Answers (cond q (answer.Queued slot) (cond short (answer.Short slot) (answer.Done slot)))
   by_kind slot j at waits true short queued e = says_queued n own ends past is says slot j at waits queued
   by_kind slot j at waits false true queued e = says
@@ -67,7 +68,7 @@ module _ (n : ℕ) (own : DeviceSlots) (state : DeviceState) (payload : List ℕ
       let low = lowest_is (λ k. holds is_waiting (own_issue own k)) 32 slot e in
       let p = held is_waiting (own_issue own slot) low.passes in
       subst (λ (o : Option Issue). Answers (match_some o answer.Nobody (answer_for slot))) (sym p.1)
-      (by_kind slot p.0 p.1 p.2 (is_queued_issue p.0) (is_pio p.0.work.kind && not (is_whole_issue p.0)) refl refl)
+      (by_kind slot p.0 p.1 p.2 (is_queued_issue p.0) (needs_all p.0.work.kind && not (is_whole_issue p.0)) refl refl)
 
   d2h : (status error : ℕ) (e b : Bool)
       → Follows own payload past (cond e (faulty (with_file state status error) cause.TaskFile) (cond b (quietly (with_file state status error) happening.Nothing) (answered (answer_of own) (with_file state status error))))
@@ -95,14 +96,22 @@ module _ (n : ℕ) (own : DeviceSlots) (state : DeviceState) (payload : List ℕ
       by_fault (Some fault) e = says
 
   pio : (status error count : ℕ) (to_host : Bool) (block : Block) (e : Bool)
-      → Follows own payload past (cond e (faulty (with_file state status error) cause.TaskFile) (set_up (pio_fault (pio_issue own) count to_host) (with_file state status error) (Some block) (happening.PioSetUp count to_host)))
+      → Follows own payload past (cond e (faulty (with_file state status error) cause.TaskFile) (cond (is_some (sent_pio own)) (set_up (pio_fault (pio_issue own) count to_host) (with_file state status error) (Some block) (happening.PioSetUp count to_host)) (heard_out (with_file state status error) block (out_setup own count to_host))))
   pio status error count to_host block true = says
-  pio status error count to_host block false = by_fault (pio_fault (pio_issue own) count to_host) refl
+  pio status error count to_host block false = by_sent (is_some (sent_pio own))
     where
+      by_out : (r : Result Context SetupError) → out_setup own count to_host ≡ r → Follows own payload past (heard_out (with_file state status error) block r)
+      by_out (Ok c) e = says_out n own ends past is says count to_host c e
+      by_out (Err x) e = says
+
       by_fault : (o : Option SetupError) → pio_fault (pio_issue own) count to_host ≡ o
           → Follows own payload past (set_up o (with_file state status error) (Some block) (happening.PioSetUp count to_host))
       by_fault None e = says_pio n own ends past is says count to_host block.ends e
       by_fault (Some fault) e = says
+
+      by_sent : (b : Bool) → Follows own payload past (cond b (set_up (pio_fault (pio_issue own) count to_host) (with_file state status error) (Some block) (happening.PioSetUp count to_host)) (heard_out (with_file state status error) block (out_setup own count to_host)))
+      by_sent true = by_fault (pio_fault (pio_issue own) count to_host) refl
+      by_sent false = by_out (out_setup own count to_host) refl
 
   -- ---- DMA Activate
 

@@ -7,10 +7,10 @@ use Rattle.std.proofs.lemmas.List.Folds.{list_all_at}
 use Rattle.std.proofs.lemmas.List.FromFn.{get_or-range_with_len, length-range_with_len}
 use Rattle.host_memory.specs.Place.{place, written}
 use Rattle.host_memory.proofs.WrittenLemmas.{written_at, written_elsewhere}
-use Rattle.slots.specs.Slots.{has_bit, is_pio, match_some}
-use Rattle.slots.specs.Work.{is_queued, is_read}
+use Rattle.slots.specs.Slots.{has_bit, match_some}
+use Rattle.slots.specs.Work.{is_queued, is_read, needs_all}
 use Rattle.slots.specs.declared.work.Kind.{Kind}
-use Rattle.slots.specs.declared.work.Kind.TheVariants.{QueuedRead, PioIn}
+use Rattle.slots.specs.declared.work.Kind.TheVariants.{QueuedRead, DmaIn, PioIn}
 use Rattle.hba_laws.specs.Client.{AreApart, AreWithin, By, CompletesInPlace, Filling, FillsWithin, IsKept, IsReading, IsWithin, Puts, StandsInPlace, Stops, Touches, client, filling, filling_by, own}
 use Rattle.hba_laws.specs.History.{Answered, Carried, Emptied, Event, History, Issued, Named, PioSetUp, SentControl, SetUp, Setup, Transfer, bytes_of, completes, filled, filled_from, is_all_filled, is_at, is_set_up, issued, last_setup, next_number, none_filled, pio_setup, unless, waiting_in}
 
@@ -248,8 +248,9 @@ all_at g len i all lt =
           absurd (false≢true (sym (list_all_at (λ k. is_some (g k)) (range_with_len 0 len) i 0 (omega (arith, long)) at) ∙ all))
     ]
 
-read_whole : (kind : Kind) (w : Bool) → is_read kind ≡ true → not (is_queued kind) ≡ true → (not (is_pio kind) || w) ≡ true → w ≡ true
+read_whole : (kind : Kind) (w : Bool) → is_read kind ≡ true → not (is_queued kind) ≡ true → (not (needs_all kind) || w) ≡ true → w ≡ true
 read_whole QueuedRead w read q e = absurd (false≢true q)
+read_whole DmaIn w read q e = e
 read_whole PioIn w read q e = e
 read_whole _ w read q e = absurd (false≢true read)
 
@@ -258,7 +259,7 @@ whole_at s (Named mask) P t read e =
     (and_parts (is_queued t.work.kind) (is_all_filled (filled s P) t.work.len) ((and_parts (has_bit mask s) (is_queued t.work.kind && is_all_filled (filled s P) t.work.len) e).1)).1
 whole_at s Answered P t read e =
     let a : Bool = is_at s (waiting_in P) in
-    let p = and_parts (a && not (is_queued t.work.kind)) (not (is_pio t.work.kind) || is_all_filled (filled s P) t.work.len) e in
+    let p = and_parts (a && not (is_queued t.work.kind)) (not (needs_all t.work.kind) || is_all_filled (filled s P) t.work.len) e in
     read_whole t.work.kind (is_all_filled (filled s P) t.work.len) read ((and_parts a (not (is_queued t.work.kind)) p.0).1) p.1
 whole_at s (Carried bytes) P t read e = (and_parts _ (is_all_filled (filled s (Carried bytes ∷ P)) t.work.len) e).1
 whole_at s _ P t read e = absurd (false≢true e)

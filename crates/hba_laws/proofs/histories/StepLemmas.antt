@@ -1,23 +1,25 @@
 -- For `delivers`. What a device's part of the slots says after one happening.
-use Rattle.std.proofs.Common.{◌≡◌, ℕ, ◌<◌, Bool, true, false, cond, eqb, ◌∷◌, refl, sym, ap, subst, ◌∙◌, inl, inr, Option, Some, None, arith}
-use Rattle.std.specs.Prelude.{is_some, ◌&&◌, ◌||◌, not}
+use Rattle.std.proofs.Common.{◌≡◌, ℕ, ◌<◌, Bool, true, false, cond, eqb, [], ◌∷◌, ◌++◌, refl, sym, ap, subst, ◌∙◌, inl, inr, Option, Some, None, arith}
+use Rattle.std.specs.Prelude.{is_some, ◌&&◌, ◌||◌, not, if◌then◌else◌, Result, Ok, Err}
 use Rattle.std.specs.List.{range_with_len, list_all}
 use Rattle.std.specs.Option.{option_map}
 use Rattle.std.proofs.lemmas.Bool.{cases_Bool, cases_eq, eq-eqb, ne_eqb, eqb-false, false≢true, true≢false, and_parts}
 use Rattle.slots.specs.Bytes.{is_over, is_whole}
 use Rattle.slots.specs.Commands.{after_complete, after_sent, answered_issue, is_done, is_slot, sent_issue, with_answered, with_sent}
-use Rattle.slots.specs.Setup.{after_setup_pio, came, dma_context, is_outstanding, new_context, pio_fault, pio_issue, setup_fault, transfer_fault, with_own_context}
-use Rattle.slots.specs.Slots.{DeviceSlots, Issue, context_unless, freed, has_bit, holds, is_control, is_done_issue, is_pio, is_queued_issue, is_sent_pio, is_waiting, is_whole_issue, match_some, no_own_slots, own_issue, sent_pio, waiting}
+use Rattle.slots.specs.Setup.{after_setup_pio, begun, came, context_or, dma_context, is_outstanding, new_context, out_context, out_fault, out_setup, whole_context, pio_fault, pio_issue, setup_fault, transfer_fault, with_own_context}
+use Rattle.slots.specs.Slots.{DeviceSlots, Issue, context_unless, freed, has_bit, holds, is_control, is_done_issue, is_out_issue, is_pio, is_queued_issue, is_sent_pio, is_waiting, is_whole_issue, match_some, no_own_slots, own_issue, sent_out, sent_pio, waiting}
 use Rattle.slots.specs.Table.{IsIssue}
-use Rattle.slots.specs.Work.{is_queued}
+use Rattle.slots.specs.Work.{is_dma, is_out, is_queued, is_read, needs_all}
+use Rattle.slots.specs.declared.answer.SetupError.{SetupError}
 use Rattle.slots.specs.declared.answer.SetupError.TheVariants.{NotOutstanding}
 use Rattle.slots.specs.declared.table.Context.{Context}
 use Rattle.slots.specs.declared.work.Kind.{Kind}
-use Rattle.slots.specs.declared.work.Kind.TheVariants.{QueuedRead, QueuedWrite, PioIn}
+use Rattle.slots.specs.declared.work.Kind.TheVariants.{QueuedRead, QueuedWrite, DmaIn, DmaOut, PioIn, PioOut, Control}
 use Rattle.slots.specs.declared.work.Work.{Work}
 use Rattle.slots.proofs.MaskLemmas.{lowest_found, lowest_is}
 use Rattle.slots.proofs.NewLemmas.{get-free}
 use Rattle.hba_laws.specs.Agreement.{Agrees, AreIssued, ContextAgrees, IssueAgrees, work_of_issue, work_of_transfer}
+use Rattle.hba_laws.specs.Delivering.{begun_by}
 use Rattle.hba_laws.specs.History.{Answered, Emptied, Event, History, Named, PioSetUp, Sent, SentControl, SetUp, Transfer, completes, filled, is_all_filled, is_at, issued, unless, waiting_in}
 use Rattle.hba_laws.proofs.histories.StandLemmas.{some_inj}
 use Rattle.hba_laws.proofs.histories.AgreeLemmas.{agrees_answered, agrees_freed, agrees_nobody, agrees_pio, agrees_sent, agrees_set_up, context_answered, context_control, context_named, issue_answered, issue_control, issue_named, others_calm}
@@ -93,11 +95,31 @@ sent_waits i is e =
 pub not_queued : (kind : Kind) → is_pio kind ≡ true → is_queued kind ≡ false
 not_queued QueuedRead p = absurd (false≢true p)
 not_queued QueuedWrite p = absurd (false≢true p)
+not_queued DmaIn p = absurd (false≢true p)
+not_queued DmaOut p = absurd (false≢true p)
+not_queued PioOut p = absurd (false≢true p)
 not_queued other p = refl
 
 pub not_pio : (kind : Kind) → is_queued kind ≡ true → is_pio kind ≡ false
 not_pio PioIn q = absurd (false≢true q)
 not_pio other q = refl
+
+dma_not_pio : (kind : Kind) → is_dma kind ≡ true → is_pio kind ≡ false
+dma_not_pio DmaIn h = refl
+dma_not_pio DmaOut h = refl
+dma_not_pio _ h = absurd (false≢true h)
+
+out_not_pio : (kind : Kind) → is_out kind ≡ true → is_pio kind ≡ false
+out_not_pio PioOut h = refl
+out_not_pio _ h = absurd (false≢true h)
+
+pub control_no_dma : (kind : Kind) → is_control kind ≡ true → is_dma kind ≡ false
+control_no_dma Control h = refl
+control_no_dma _ h = absurd (false≢true h)
+
+-- the Status at the end of the block that is kept as the command of an issue is transmitted
+abbrev pub ends_after : Issue → Option ℕ → Option ℕ
+ends_after j ends = if is_dma j.work.kind then None else ends
 
 module _ (n : ℕ) (own : DeviceSlots) (ends : Option ℕ) (past : History) (is : IsOwn n own) (says : Says own ends past) where
   -- the PIO data-in that was sent is the one that waits
@@ -120,7 +142,7 @@ module _ (n : ℕ) (own : DeviceSlots) (ends : Option ℕ) (past : History) (is 
       let calm = none_waits n own is none in
       record {
         issued = kept (λ s w. completes s Answered past w) (own_issue own) past says.issued (λ s i e.
-            ap (λ b. b && not (is_queued i.work.kind) && (not (is_pio i.work.kind) || is_all_filled (filled s past) i.work.len))
+            ap (λ b. b && not (is_queued i.work.kind) && (not (needs_all i.work.kind) || is_all_filled (filled s past) i.work.len))
             ((says.agrees.issues_agree s i e).waits_is ∙ calm s i e));
         agrees = agrees_nobody (own_issue own) own.context ends past says.agrees calm;
       }
@@ -141,11 +163,11 @@ module _ (n : ℕ) (own : DeviceSlots) (ends : Option ℕ) (past : History) (is 
         | inl same ↦
             let is_j : answered_issue j ≡ i = some_inj (answered_issue j) i (sym (at_same (own_issue own) slot s (Some (answered_issue j)) same) ∙ e) in
             let q : is_queued i.work.kind ≡ true = ap (λ (v : Issue). is_queued v.work.kind) (sym is_j) ∙ queued in
-            ap (λ b. is_at s (waiting_in past) && not b && (not (is_pio i.work.kind) || is_all_filled (filled s past) i.work.len)) q
-            ∙ no_and (is_at s (waiting_in past)) (not (is_pio i.work.kind) || is_all_filled (filled s past) i.work.len)
+            ap (λ b. is_at s (waiting_in past) && not b && (not (needs_all i.work.kind) || is_all_filled (filled s past) i.work.len)) q
+            ∙ no_and (is_at s (waiting_in past)) (not (needs_all i.work.kind) || is_all_filled (filled s past) i.work.len)
         | inr ne ↦
             let was = sym (at_other (own_issue own) slot s (Some (answered_issue j)) ne) ∙ e in
-            ap (λ b. b && not (is_queued i.work.kind) && (not (is_pio i.work.kind) || is_all_filled (filled s past) i.work.len))
+            ap (λ b. b && not (is_queued i.work.kind) && (not (needs_all i.work.kind) || is_all_filled (filled s past) i.work.len))
             ((says.agrees.issues_agree s i was).waits_is ∙ others_calm (own_issue own) own.context ends past says.agrees slot s j i at waits was ne)
       ]
         where
@@ -166,7 +188,7 @@ module _ (n : ℕ) (own : DeviceSlots) (ends : Option ℕ) (past : History) (is 
         (agrees_freed F (own_issue own) own.context ends (e ∷ past) agree contexts);
   }
 
-  pub says_done : (slot : ℕ) (j : Issue) → own_issue own slot ≡ Some j → is_waiting j ≡ true → is_queued_issue j ≡ false → (is_pio j.work.kind && not (is_whole_issue j)) ≡ false
+  pub says_done : (slot : ℕ) (j : Issue) → own_issue own slot ≡ Some j → is_waiting j ≡ true → is_queued_issue j ≡ false → (needs_all j.work.kind && not (is_whole_issue j)) ≡ false
       → Says (freed (is_slot slot) own) ends (Answered ∷ past)
   says_done slot j at waits other fits =
       says_freed (is_slot slot) Answered (λ s. refl) tests
@@ -186,14 +208,14 @@ module _ (n : ℕ) (own : DeviceSlots) (ends : Option ℕ) (past : History) (is 
             let x = says.agrees.issues_agree s i e in
             let w : is_waiting i ≡ true = ap is_waiting (sym is_j) ∙ waits in
             let q : is_queued i.work.kind ≡ false = ap (λ (v : Issue). is_queued v.work.kind) (sym is_j) ∙ other in
-            let f : (not (is_pio i.work.kind) || is_all_filled (filled s past) i.work.len) ≡ true =
-            ap (λ b. not (is_pio i.work.kind) || b) (sym (whole_is s i own.context past x))
-            ∙ not_short (is_pio i.work.kind) (is_whole_issue i) (ap (λ (v : Issue). is_pio v.work.kind && not (is_whole_issue v)) (sym is_j) ∙ fits) in
+            let f : (not (needs_all i.work.kind) || is_all_filled (filled s past) i.work.len) ≡ true =
+            ap (λ b. not (needs_all i.work.kind) || b) (sym (whole_is s i own.context past x))
+            ∙ not_short (needs_all i.work.kind) (is_whole_issue i) (ap (λ (v : Issue). needs_all v.work.kind && not (is_whole_issue v)) (sym is_j) ∙ fits) in
             let b : is_slot slot s ≡ true = eq-eqb s slot same in
-            all_of (is_at s (waiting_in past)) (is_queued i.work.kind) (not (is_pio i.work.kind) || is_all_filled (filled s past) i.work.len) (x.waits_is ∙ w) q f ∙ sym b
+            all_of (is_at s (waiting_in past)) (is_queued i.work.kind) (not (needs_all i.work.kind) || is_all_filled (filled s past) i.work.len) (x.waits_is ∙ w) q f ∙ sym b
         | inr ne ↦
             let b : is_slot slot s ≡ false = ne_eqb s slot ne in
-            ap (λ b. b && not (is_queued i.work.kind) && (not (is_pio i.work.kind) || is_all_filled (filled s past) i.work.len))
+            ap (λ b. b && not (is_queued i.work.kind) && (not (needs_all i.work.kind) || is_all_filled (filled s past) i.work.len))
             ((says.agrees.issues_agree s i e).waits_is ∙ others_calm (own_issue own) own.context ends past says.agrees slot s j i at waits e ne) ∙ sym b
       ]
         where
@@ -250,21 +272,54 @@ module _ (n : ℕ) (own : DeviceSlots) (ends : Option ℕ) (past : History) (is 
             agrees = agrees_pio (own_issue own) own.context ends past says.agrees slot count to_host status p.0 p.1 w.0 w.1;
           })
 
+  -- a PIO Setup is accepted for a PIO data-out
+  pub says_out : (count : ℕ) (to_host : Bool) (c : Context) → out_setup own count to_host ≡ Ok c → Says (with_own_context own c) None (SetUp c.slot c.next c.left c.to_host ∷ past)
+  says_out count to_host c up = by_slot (sent_out own) refl up
+    where
+      bad : Result Context SetupError
+      bad = Err NotOutstanding
+
+      is_out_there : (slot : ℕ) (o : Option ℕ) → match_some o None (λ k. if holds is_out_issue (own_issue own k) then Some k else None) ≡ Some slot → holds is_out_issue (own_issue own slot) ≡ true
+      is_out_there slot None e = cc
+      is_out_there slot (Some k) e = by_test (holds is_out_issue (own_issue own k)) refl e
+        where
+          by_test : (b : Bool) → holds is_out_issue (own_issue own k) ≡ b → (if b then Some k else None) ≡ Some slot → holds is_out_issue (own_issue own slot) ≡ true
+          by_test true h f = let same : k ≡ slot = some_inj k slot f in ap (λ n. holds is_out_issue (own_issue own n)) (sym same) ∙ h
+          by_test false h f = cc
+
+      by_fault : (slot : ℕ) (j : Issue) → own_issue own slot ≡ Some j → is_out j.work.kind ≡ true → (o : Option SetupError) → context_or o (dma_context slot (came j) count false true) ≡ Ok c
+          → Says (with_own_context own c) None (SetUp c.slot c.next c.left c.to_host ∷ past)
+      by_fault slot j at kind None e =
+          let same : dma_context slot (came j) count false true ≡ c = cc in
+          subst (λ (x : Context). Says (with_own_context own x) None (SetUp x.slot x.next x.left x.to_host ∷ past)) same (record {
+            issued = kept (λ s w. false) (own_issue own) past says.issued (λ s i at. refl);
+            agrees = agrees_set_up (own_issue own) own.context ends past says.agrees slot (came j) count false true j at (out_not_pio j.work.kind kind);
+          })
+      by_fault slot j at kind (Some x) e = cc
+
+      by_issue : (slot : ℕ) (o : Option Issue) → own_issue own slot ≡ o → holds is_out_issue o ≡ true → match_some o bad (out_context slot count to_host) ≡ Ok c
+          → Says (with_own_context own c) None (SetUp c.slot c.next c.left c.to_host ∷ past)
+      by_issue slot None at kind e = cc
+      by_issue slot (Some j) at kind e = by_fault slot j at kind (out_fault count to_host j) e
+
+      by_slot : (o : Option ℕ) → sent_out own ≡ o → match_some o bad (λ slot. match_some (own_issue own slot) bad (out_context slot count to_host)) ≡ Ok c
+          → Says (with_own_context own c) None (SetUp c.slot c.next c.left c.to_host ∷ past)
+      by_slot None first e = cc
+      by_slot (Some slot) first e = by_issue slot (own_issue own slot) refl (is_out_there slot (waiting own) first) e
+
   -- ---- commands go out
 
-  pub says_sent : (slot : ℕ) (j : Issue) → own_issue own slot ≡ Some j → j.sent ≡ false → is_control j.work.kind ≡ false → waiting own ≡ None → Says (after_sent own slot) ends (Sent slot ∷ past)
-  says_sent slot j at unsent other none =
+  says_plain : (slot : ℕ) (j : Issue) → own_issue own slot ≡ Some j → j.sent ≡ false → waiting own ≡ None → Says (with_sent own slot) ends (Sent slot ∷ past)
+  says_plain slot j at unsent none =
       let lt = own_below n slot own j is at in
       let view : own_issue (with_sent own slot) ≡ at_slot (own_issue own) slot (Some (sent_issue j)) =
       own_set own slot (option_map sent_issue (own_issue own slot)) (omega (arith, lt, is.long)) ∙ ap (λ o. at_slot (own_issue own) slot (option_map sent_issue o)) at in
-      let after : after_sent own slot ≡ with_sent own slot =
-      ap (λ b. cond b (freed (is_slot slot) own) (with_sent own slot)) (holds_at (λ issue. is_control issue.work.kind) (own_issue own slot) j at ∙ other) in
-      subst (λ (o : DeviceSlots). Says o ends (Sent slot ∷ past)) (sym after) (record {
+      record {
         issued = subst (λ f. AreIssued f (Sent slot ∷ past)) (sym view) (kept (λ s w. false) (at_slot (own_issue own) slot (Some (sent_issue j))) past
             (works_marked (own_issue own) slot j (sent_issue j) past at refl says.issued) (λ s i e. refl));
         agrees = subst (λ f. Agrees f own.context ends (Sent slot ∷ past)) (sym view)
             (agrees_sent (own_issue own) own.context ends past says.agrees slot j at unanswered (none_waits n own is none));
-      })
+      }
     where
       unanswered : j.answered ≡ false
       unanswered = elim (cases_Bool j.answered) [
@@ -272,10 +327,36 @@ module _ (n : ℕ) (own : DeviceSlots) (ends : Option ℕ) (past : History) (is 
         | inl answered ↦ absurd (false≢true (sym unsent ∙ ((is.issues slot j at).answers answered).1))
       ]
 
+  pub says_sent : (slot : ℕ) (j : Issue) → own_issue own slot ≡ Some j → j.sent ≡ false → is_control j.work.kind ≡ false → waiting own ≡ None
+      → Says (after_sent own slot) (ends_after j ends) (begun_by slot (Some j) ++ Sent slot ∷ past)
+  says_sent slot j at unsent other none =
+      let sent : DeviceSlots = with_sent own slot in
+      let begins : Issue → DeviceSlots = λ issue. begun slot issue.work sent in
+      let after : after_sent own slot ≡ begins j =
+      ap (λ b. cond b (freed (is_slot slot) own) (match_some (own_issue own slot) sent begins)) (holds_at (λ issue. is_control issue.work.kind) (own_issue own slot) j at ∙ other)
+      ∙ ap (λ (o : Option Issue). match_some o sent begins) at in
+      subst (λ (o : DeviceSlots). Says o (ends_after j ends) (begun_by slot (Some j) ++ Sent slot ∷ past)) (sym after) (by_dma (is_dma j.work.kind) refl)
+    where
+      there : own_issue (with_sent own slot) slot ≡ Some (sent_issue j)
+      there =
+          let lt = own_below n slot own j is at in
+          ap (λ (f : ℕ → Option Issue). f slot) (own_set own slot (option_map sent_issue (own_issue own slot)) (omega (arith, lt, is.long))) ∙ at_same (own_issue own) slot slot _ refl ∙ ap (option_map sent_issue) at
+
+      by_dma : (b : Bool) → is_dma j.work.kind ≡ b
+          → Says (if b then with_own_context (with_sent own slot) (whole_context slot j.work) else with_sent own slot) (if b then None else ends)
+          ((if b then SetUp slot 0 j.work.len (is_read j.work.kind) ∷ [] else []) ++ Sent slot ∷ past)
+      by_dma false e = says_plain slot j at unsent none
+      by_dma true e =
+          let plain = says_plain slot j at unsent none in
+          record {
+            issued = kept (λ s w. false) (own_issue (with_sent own slot)) (Sent slot ∷ past) plain.issued (λ s i at. refl);
+            agrees = agrees_set_up (own_issue (with_sent own slot)) (with_sent own slot).context ends (Sent slot ∷ past) plain.agrees slot 0 j.work.len (is_read j.work.kind) false (sent_issue j) there (dma_not_pio j.work.kind e);
+          }
+
   pub says_control : (slot : ℕ) (j : Issue) → own_issue own slot ≡ Some j → is_control j.work.kind ≡ true → Says (after_sent own slot) ends (SentControl slot ∷ past)
   says_control slot j at control =
       let after : after_sent own slot ≡ freed (is_slot slot) own =
-      ap (λ b. cond b (freed (is_slot slot) own) (with_sent own slot)) (holds_at (λ issue. is_control issue.work.kind) (own_issue own slot) j at ∙ control) in
+      ap (λ b. cond b (freed (is_slot slot) own) (match_some (own_issue own slot) (with_sent own slot) (λ issue. begun slot issue.work (with_sent own slot)))) (holds_at (λ issue. is_control issue.work.kind) (own_issue own slot) j at ∙ control) in
       subst (λ (o : DeviceSlots). Says o ends (SentControl slot ∷ past)) (sym after) (record {
         issued = λ s. gone s ∙ sym (ap (λ (f : ℕ → Option Issue). option_map work_of_issue (f s)) (own_freed (is_slot slot) own));
         agrees = subst (λ f. Agrees f (context_unless (is_slot slot) own.context) ends (SentControl slot ∷ past)) (sym (own_freed (is_slot slot) own))

@@ -1,5 +1,5 @@
 -- For `isolated`. The history of a device is told by its own events.
-use Rattle.std.proofs.Common.{◌≡◌, ◌≢◌, ℕ, zero, suc, ◌<◌, Bool, true, false, ◌&&◌, ◌||◌, List, [], ◌∷◌, ◌++◌, drop, refl, sym, ◌∙◌, ap, subst, Option, Some, None}
+use Rattle.std.proofs.Common.{◌≡◌, ◌≢◌, ℕ, zero, suc, ◌<◌, Bool, true, false, ◌&&◌, ◌||◌, List, [], ◌∷◌, ◌++◌, drop, refl, sym, ◌∙◌, ap, subst, Option, Some, None, append_assoc}
 use Rattle.std.specs.Prelude.{◌==◌, if◌then◌else◌, map, not, is_some, Result}
 use Rattle.std.proofs.lemmas.Bool.{cond-false, cond-true, eqb-false, eqb-true, not-false, or_parts}
 use Rattle.fis_view.specs.Frames.{Stamped}
@@ -23,14 +23,14 @@ use Rattle.hba_fbs.specs.Views.{view_of}
 use Rattle.hba_fbs.specs.Writing.{cleared_by, is_device}
 use Rattle.hba_laws.specs.Alike.{AreFilledAlike, Brought, HistoriesByOwn, OwnFillAlike, brought, brought_over, history_by, tables_in, told_came, told_going, told_issue, told_issued, told_order, told_own, with_memory}
 use Rattle.hba_laws.specs.Client.{By, Stops, own}
-use Rattle.hba_laws.specs.Delivering.{by_device, event_heard, event_sent, event_taken, history_after, is_control_issue, issued_below, touched, touched_by_clear, touched_by_out}
+use Rattle.hba_laws.specs.Delivering.{by_device, event_heard, event_sent, event_taken, history_after, is_control_issue, issued_below, touched, touched_by_clear, touched_by_out, begun_by}
 use Rattle.hba_laws.specs.History as event
 use Rattle.hba_laws.specs.History.{Event, History, filled, issued}
 use Rattle.hba_laws.specs.Hosts.{Does, Flushed, Gave, Host, HostEvent, Rewrote, Runs, Took, Wrote}
 use Rattle.hba_laws.specs.Isolation.{AreOfDevices, Came, Cleared, Emptied, Issued, OwnEvent, Went, is_port_event, lowers_st, next_own, own_events, part_after, part_after_all, skips, stops, stops_port}
 use Rattle.hba_laws.specs.Parts.{DevicePart, part_of}
 use Rattle.hba_laws.specs.Sound.{AreHosts, IsHost}
-use Rattle.hba_laws.proofs.histories.EventLemmas.{other_one, own_one}
+use Rattle.hba_laws.proofs.histories.EventLemmas.{other_all, other_one, own_all, own_one}
 use Rattle.hba_laws.proofs.isolation.IsolationLemmas.{heard_alike, own_step, row_shows}
 use Rattle.hba_laws.proofs.histories.IssueLemmas.{history_below, other_below, own_below_is, with_issued}
 use Rattle.hba_laws.proofs.soundness.KeptLemmas.{first_host}
@@ -147,21 +147,32 @@ gone n old frame dev e past to is =
     ap (λ (h : History). h ++ past) (is at) ∙ sym (own_one n dev e past at))
     (λ differs. sym (other_one n dev e past (λ at. eqb-false frame.stamp.port n differs (to ∙ at))))
 
+gone_all : (n : ℕ) (old : Host) (frame : Stamped) (dev : ℕ) (h : History) (e : Event) (past : History) → frame.stamp.port ≡ dev
+    → (dev ≡ n → told_going (part_of n old) frame.bytes ≡ h ++ e ∷ [])
+    → history_by n (part_of n old) past (brought n old (Gave (Some frame))) ≡ own n (map (By dev) h ++ By dev e ∷ []) ++ past
+gone_all n old frame dev h e past to is =
+    one_told n (part_of n old) past (own n (map (By dev) h ++ By dev e ∷ []) ++ past) (with_memory old (Gave (Some frame))) (frame.stamp.port == n) Went
+    (λ same.
+    let at : dev ≡ n = sym to ∙ eqb-true frame.stamp.port n same in
+    ap (λ (l : History). l ++ past) (is at) ∙ append_assoc h (e ∷ []) past ∙ sym (own_all n dev h e past at))
+    (λ differs. sym (other_all n dev h e past (λ at. eqb-false frame.stamp.port n differs (to ∙ at))))
+
 data_told : (n : ℕ) (old : Host) (bytes : List ℕ) → is_some (payload (context_of old.port.slots n)) ≡ true → told_going (part_of n old) bytes ≡ event.Carried (drop 4 bytes) ∷ []
 data_told n old bytes has =
     cond-true (is_some (payload (context_of old.port.slots n))) (event.Carried (drop 4 bytes) ∷ [])
-    (match_some (next_own (view_of n old.port)) [] (λ slot. told_order (part_of n old) slot ∷ [])) has
+    (match_some (next_own (view_of n old.port)) [] (λ slot. begun_by slot (own_issue (view_of n old.port).slots slot) ++ told_order (part_of n old) slot ∷ [])) has
 
 order_told : (n slot : ℕ) (old : Host) (bytes : List ℕ) → is_some (payload (context_of old.port.slots n)) ≡ false → next_own (view_of n old.port) ≡ Some slot
-    → own_issue (slots_of n old.port.slots) slot ≡ issue_at old.port.slots slot → told_going (part_of n old) bytes ≡ event_sent old.port.slots slot ∷ []
+    → own_issue (slots_of n old.port.slots) slot ≡ issue_at old.port.slots slot
+    → told_going (part_of n old) bytes ≡ begun_by slot (issue_at old.port.slots slot) ++ event_sent old.port.slots slot ∷ []
 order_told n slot old bytes none next stands =
     cond-false (is_some (payload (context_of old.port.slots n))) (event.Carried (drop 4 bytes) ∷ [])
-    (match_some (next_own (view_of n old.port)) [] (λ k. told_order (part_of n old) k ∷ [])) none
-    ∙ ap (λ (o : Option ℕ). match_some o [] (λ k. told_order (part_of n old) k ∷ [])) next
-    ∙ ap (λ (o : Option Issue). (if holds is_control_issue o then event.SentControl slot else event.Sent slot) ∷ []) stands
+    (match_some (next_own (view_of n old.port)) [] (λ k. begun_by k (own_issue (view_of n old.port).slots k) ++ told_order (part_of n old) k ∷ [])) none
+    ∙ ap (λ (o : Option ℕ). match_some o [] (λ k. begun_by k (own_issue (view_of n old.port).slots k) ++ told_order (part_of n old) k ∷ [])) next
+    ∙ ap (λ (o : Option Issue). begun_by slot o ++ (if holds is_control_issue o then event.SentControl slot else event.Sent slot) ∷ []) stands
 
 sent_order : (n slot : ℕ) (old : Host) (bytes : List ℕ) (command : Command) → n < 16 → IsHost old → IsOrder old.port n slot command (next_receiver old.port) (next_to_send old.port)
-    → told_going (part_of n old) bytes ≡ event_sent old.port.slots slot ∷ []
+    → told_going (part_of n old) bytes ≡ begun_by slot (issue_at old.port.slots slot) ++ event_sent old.port.slots slot ∷ []
 sent_order n slot old bytes command lt is order =
     order_told n slot old bytes (order_no_payload old.port n slot lt is.slots.slots order.owns order.next order.no_data)
     (order_is_own old.port n slot lt is.slots.slots order.owns order.next)
@@ -179,7 +190,7 @@ gave n old new (Some frame) (Data dev offset len command) past lt is next gives 
     ∙ ap (λ (b : List ℕ). event.Carried (drop 4 b) ∷ []) bytes)
 gave n old new None (Order dev slot command) past lt is next gives = absurd gives
 gave n old new (Some frame) (Order dev slot command) past lt is next gives =
-    gone n old frame dev (event_sent old.port.slots slot) past (ap (λ (f : Stamped). f.stamp.port) gives.frame_is)
+    gone_all n old frame dev (begun_by slot (issue_at old.port.slots slot)) (event_sent old.port.slots slot) past (ap (λ (f : Stamped). f.stamp.port) gives.frame_is)
     (λ at.
     sent_order n slot old frame.bytes command lt is
     (subst (λ (m : ℕ). IsOrder old.port m slot command (next_receiver old.port) (next_to_send old.port)) at (order_is old.port old.memory dev slot command next)))

@@ -7,7 +7,7 @@ use Rattle.hba_commands.specs.declared.command.Command.{Command}
 use Rattle.host_memory.specs.Memory.{Memory}
 use Rattle.port_errors.specs.Errors.{cause_of}
 use Rattle.port_errors.specs.declared.cause.DeviceCause.{DeviceCause}
-use Rattle.slots.specs.Commands.{may_go}
+use Rattle.slots.specs.Commands.{may_begin, may_go}
 use Rattle.slots.specs.Data.{payload}
 use Rattle.slots.specs.Slots.{Issue, context_of, has_bit, holds, is_control, issue_at, mask_below, match_some, own_issue, slots_of, waiting}
 use Rattle.slots.proofs.MaskLemmas.{MaskBelow, lowest_before, lowest_found, lowest_is, mask_none, mask_same, mask_set, none_below}
@@ -187,7 +187,7 @@ order_is port memory dev slot command h = order_by port memory (not (is_running 
 alike : (port : Port) (n : ℕ) (issue : Issue) → n < 16 → issue.dev ≡ n
     → may_go (ready_devices port) (faulty_devices port) port.slots issue ≡ may_leave (view_of n port) issue
 alike port n issue lt is =
-    let may : ℕ → Bool → Bool → Bool = λ d ready faulty. not issue.sent && not faulty && (is_control issue.work.kind || ready && is_none (waiting (slots_of d port.slots))) in
+    let may : ℕ → Bool → Bool → Bool = λ d ready faulty. not issue.sent && not faulty && (is_control issue.work.kind || ready && is_none (waiting (slots_of d port.slots)) && may_begin (slots_of d port.slots) issue) in
     let ready : has_bit (ready_devices port) n ≡ is_ready (state_at port.states n) = has_device (λ dev. is_ready (state_at port.states dev)) n lt in
     let faulty : has_bit (faulty_devices port) n ≡ is_some (cause_of port.errors n) = has_device (λ dev. is_some (cause_of port.errors dev)) n lt in
     ap (λ (d : ℕ). may d (has_bit (ready_devices port) d) (has_bit (faulty_devices port) d)) is ∙ ap (λ (b : Bool). may n b (has_bit (faulty_devices port) n)) ready
@@ -238,7 +238,7 @@ healthy : (port : Port) (n : ℕ) (o : Option Issue) → holds (may_leave (view_
 healthy port n None h = absurd (false≢true h)
 healthy port n (Some issue) h =
     leaves_healthy issue.sent (cause_of port.errors n)
-    (is_control issue.work.kind || is_ready (view_of n port).state && is_none (waiting (view_of n port).slots)) h
+    (is_control issue.work.kind || is_ready (view_of n port).state && is_none (waiting (view_of n port).slots) && may_begin (view_of n port).slots issue) h
 
 pub order_no_payload : (port : Port) (n slot : ℕ) → n < 16 → length port.slots.issues ≡ 32 → Owns n (issue_at port.slots slot) → next_to_send port ≡ Some slot → next_receiver port ≡ None
     → is_some (payload (context_of port.slots n)) ≡ false

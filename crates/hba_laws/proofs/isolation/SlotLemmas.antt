@@ -10,7 +10,8 @@ use Rattle.slots.specs.declared.table.Context.{Context}
 use Rattle.slots.specs.Slots.{DeviceSlots, Issue, freed, holds, is_control, issues_unless, match_some, no_own_slots, own_issue, with_own_issue}
 use Rattle.slots.specs.Commands.{after_pio_done, after_sent, answered_as, answered_issue, is_done, is_slot, sent_issue, whole_pio, with_sent}
 use Rattle.slots.specs.Data.{activated, after_arrive, after_payload, arrive_answer, gone_over, may_activate, moved_over, payload_len}
-use Rattle.slots.specs.Setup.{after_setup_pio, came, new_context, pio_fault, pio_issue, with_own_context}
+use Rattle.slots.specs.Setup.{after_setup_pio, begun, came, new_context, pio_fault, pio_issue, whole_context, with_own_context}
+use Rattle.slots.specs.Work.{is_dma}
 use Rattle.slots.specs.Slots.{sent_pio}
 use Rattle.slots.proofs.MaskLemmas.{get-unless, length-unless}
 use Rattle.std.specs.Prelude.{is_some, is_ok}
@@ -99,11 +100,16 @@ keeps_moved happening.Activated own =
 keeps_moved (happening.Carried wrote finishes) own = keeps_ended finishes own (after_arrive own wrote.len) (keeps_arrived own wrote.len)
 keeps_moved other own = λ slot h. h
 
+-- a command is its own setup, or not
+keeps_begun : (own middle : DeviceSlots) (slot : ℕ) (o : Option Issue) → KeepsOwn own middle → KeepsOwn own (match_some o middle (λ issue. begun slot issue.work middle))
+keeps_begun own middle slot None keeps = keeps
+keeps_begun own middle slot (Some issue) keeps = keeps_either own (with_own_context middle (whole_context slot issue.work)) middle (is_dma issue.work.kind) keeps keeps
+
 -- a command goes out, data goes out, and the device is flushed
 pub keeps_sent : (own : DeviceSlots) (slot : ℕ) → KeepsOwn own (after_sent own slot)
 keeps_sent own slot =
-    keeps_either own (freed (is_slot slot) own) (with_sent own slot) (holds (λ issue. is_control issue.work.kind) (own_issue own slot)) (keeps_freed own (is_slot slot))
-    (keeps_changed own slot sent_issue)
+    keeps_either own (freed (is_slot slot) own) _ (holds (λ issue. is_control issue.work.kind) (own_issue own slot)) (keeps_freed own (is_slot slot))
+    (keeps_begun own (with_sent own slot) slot (own_issue own slot) (keeps_changed own slot sent_issue))
 
 pub keeps_fed : (own : DeviceSlots) → KeepsOwn own (after_payload own)
 keeps_fed own = keeps_match own own.context (λ (c : Context). gone_over (payload_len c) c own) (λ c. keeps_gone own (payload_len c) c)

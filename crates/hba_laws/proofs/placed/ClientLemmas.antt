@@ -1,6 +1,6 @@
 -- For `delivers`. Client memory is what the touches make of it, and all Data is within what is issued.
 use Rattle.std.proofs.Common.{◌≡◌, ℕ, zero, suc, ◌+◌, ◌-◌, ◌*◌, ◌%◌, ◌<◌, ◌≤◌, Bool, true, false, cond, eqb, List, [], ◌∷◌, ◌++◌, drop, take, length, refl, sym, ap, subst, ◌∙◌, inl, inr, Option, Some, None, arith, append_assoc}
-use Rattle.std.specs.Prelude.{MatchOption, is_some, is_none, ◌&&◌, ◌||◌, nat_le, nat_lt, slice_index, min}
+use Rattle.std.specs.Prelude.{MatchOption, is_some, is_none, ◌&&◌, ◌||◌, nat_le, nat_lt, slice_index, min, if◌then◌else◌, map}
 use Rattle.std.specs.Option.{option_map, option_or}
 use Rattle.std.proofs.lemmas.Bool.{cases_lt, eq-eqb, eqb-true, false≢true, and_parts, lt-leb, le-ltb, le-leb, lt-ltb}
 use Rattle.std.proofs.lemmas.List.{get_or-append_right, get_or_append_left, get_or_past, length-take-le}
@@ -18,6 +18,7 @@ use Rattle.host_memory.proofs.PrdLemmas.{inside_from_faults}
 use Rattle.host_memory.proofs.WrittenLemmas.{scattered}
 use Rattle.hba_commands.specs.declared.command.Command.{Command}
 use Rattle.slots.specs.Data.{receiving_slot}
+use Rattle.slots.specs.Work.{is_dma, is_read}
 use Rattle.slots.specs.Slots.{DeviceSlots, Issue, context_of, holds, issue_at, match_some, own_issue}
 use Rattle.slots.specs.declared.answer.Answered.TheVariants as answer
 use Rattle.slots.specs.declared.table.Context.{Context}
@@ -38,8 +39,8 @@ use Rattle.hba_fbs.specs.Views.{DeviceView, last_command, view_of}
 use Rattle.hba_fbs.specs.Writing.{cleared_by}
 use Rattle.hba_laws.specs.Agreement.{AreHistoriesOf, IsHistoryOf, end_of, is_for}
 use Rattle.hba_laws.specs.Client.{AreWithin, By, Filling, IsWithin, Puts, Stops, Touches, client, filling, filling_by, own}
-use Rattle.hba_laws.specs.Delivering.{ClientIsTouched, DataIsWithin, DataReadsAsIssued, IsClient, IsFramed, IsReadAsIssued, ReadsAsIssued, by_device, event_heard, event_of, event_taken, is_control_issue, issued_below, issued_in, touched, touched_by_clear, touched_by_out, touched_by_write}
-use Rattle.hba_laws.specs.History.{Carried, Emptied, Sent, SentControl, Setup, is_set_up, issued}
+use Rattle.hba_laws.specs.Delivering.{begun_by, ClientIsTouched, DataIsWithin, DataReadsAsIssued, IsClient, IsFramed, IsReadAsIssued, ReadsAsIssued, by_device, event_heard, event_of, event_taken, is_control_issue, issued_below, issued_in, touched, touched_by_clear, touched_by_out, touched_by_write}
+use Rattle.hba_laws.specs.History.{Carried, Emptied, Sent, SentControl, SetUp, Setup, is_set_up, issued}
 use Rattle.hba_laws.specs.Hosts.{Does, Flushed, Gave, Host, HostEvent, Put, PutsBytes, TakesFrame, Took, Wrote as WroteRegister}
 use Rattle.hba_laws.specs.Sound.{IsHost}
 use Rattle.hba_laws.proofs.histories.CarryLemmas.{next_is}
@@ -288,11 +289,19 @@ module _ (old : Host) (host : IsHost old) (past : Touches) (hist : AreHistoriesO
       let has : HasContext dev (view_of dev old.port).slots goes.0 = (is_own dev old.port.slots host.slots).contexts goes.0 goes.1 in
       ap (λ o. match_some o (client before past k) (λ f. written f.transfer.table f.from (gathered (prds_of old.memory command) offset len old.memory.client) (client before past) k))
       (sent_fills old host past dev (hist dev lt) goes.0 goes.1 (has.is.activates goes.2).0)
-  out_touches_none before (out.Order dev slot command) goes k = by_kind (holds is_control_issue (issue_at old.port.slots slot))
+  out_touches_none before (out.Order dev slot command) goes k = by_issue (issue_at old.port.slots slot)
     where
-      by_kind : (b : Bool) → client before (By dev (cond b (SentControl slot) (Sent slot)) ∷ past) k ≡ client before past k
-      by_kind true = refl
-      by_kind false = refl
+      by_kind : (i : Issue) (d b : Bool)
+          → client before ((map (By dev) (if d then SetUp slot 0 i.work.len (is_read i.work.kind) ∷ [] else []) ++ By dev (cond b (SentControl slot) (Sent slot)) ∷ []) ++ past) k ≡ client before past k
+      by_kind i true true = refl
+      by_kind i true false = refl
+      by_kind i false true = refl
+      by_kind i false false = refl
+
+      by_issue : (o : Option Issue) → client before ((map (By dev) (begun_by slot o) ++ By dev (cond (holds is_control_issue o) (SentControl slot) (Sent slot)) ∷ []) ++ past) k ≡ client before past k
+      by_issue None = refl
+      by_issue (Some i) = by_kind i (is_dma i.work.kind) (is_control_issue i)
+
   out_touches_none before other goes k = refl
 
   out_within : (o : Outgoing) → GoesOut old.port o → AreWithin past → AreWithin (touched_by_out old o ++ past)
@@ -301,11 +310,19 @@ module _ (old : Host) (host : IsHost old) (past : Touches) (hist : AreHistoriesO
       let lt = context_below dev goes.0 goes.1 in
       let long : length (gathered (prds_of old.memory command) offset len old.memory.client) ≡ min goes.0.left 8192 = length-map-range_with_len _ 0 len ∙ goes.3 in
       (within_of old host past dev (hist dev lt) goes.0 (length (gathered (prds_of old.memory command) offset len old.memory.client)) goes.1 (omega (arith, long)), w)
-  out_within (out.Order dev slot command) goes w = by_kind (holds is_control_issue (issue_at old.port.slots slot))
+  out_within (out.Order dev slot command) goes w = by_issue (issue_at old.port.slots slot)
     where
-      by_kind : (b : Bool) → AreWithin (By dev (cond b (SentControl slot) (Sent slot)) ∷ past)
-      by_kind true = w
-      by_kind false = w
+      by_kind : (i : Issue) (d b : Bool)
+          → AreWithin ((map (By dev) (if d then SetUp slot 0 i.work.len (is_read i.work.kind) ∷ [] else []) ++ By dev (cond b (SentControl slot) (Sent slot)) ∷ []) ++ past)
+      by_kind i true true = w
+      by_kind i true false = w
+      by_kind i false true = w
+      by_kind i false false = w
+
+      by_issue : (o : Option Issue) → AreWithin ((map (By dev) (begun_by slot o) ++ By dev (cond (holds is_control_issue o) (SentControl slot) (Sent slot)) ∷ []) ++ past)
+      by_issue None = w
+      by_issue (Some i) = by_kind i (is_dma i.work.kind) (is_control_issue i)
+
   out_within other goes w = w
 
   -- bytes are put

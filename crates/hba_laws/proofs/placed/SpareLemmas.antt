@@ -1,6 +1,6 @@
 -- For `delivers`. Where the PRDs of issued commands stay, they read as at the issue.
 use Rattle.std.proofs.Common.{◌≡◌, ℕ, zero, suc, ◌%◌, ◌<◌, Bool, true, false, cond, eqb, List, [], ◌∷◌, ◌++◌, drop, length, refl, sym, ap, subst, ◌∙◌, inl, inr, Option, Some, None, ◌⊎◌, arith}
-use Rattle.std.specs.Prelude.{MatchOption, is_some, slice_index}
+use Rattle.std.specs.Prelude.{MatchOption, is_some, slice_index, if◌then◌else◌, map}
 use Rattle.std.specs.Option.{option_map, option_or}
 use Rattle.std.proofs.lemmas.Bool.{cases_Bool, cases_eq, cases_lt, eqb-true, false≢true}
 use Rattle.std.proofs.lemmas.List.{get_or_past}
@@ -9,6 +9,7 @@ use Rattle.fis_view.specs.Frames.{Stamped}
 use Rattle.fis_view.specs.Seen.{seen}
 use Rattle.host_memory.specs.Memory.{Memory}
 use Rattle.hba_commands.specs.declared.command.Command.{Command}
+use Rattle.slots.specs.Work.{is_dma, is_read}
 use Rattle.slots.specs.Slots.{Issue, holds, issue_at, match_some, own_issue, slots_of}
 use Rattle.slots.specs.declared.answer.Answered.TheVariants as answer
 use Rattle.hba_fbs.specs.declared.hearing.Happening.{Happening}
@@ -27,8 +28,8 @@ use Rattle.hba_fbs.specs.Views.{Port, last_command}
 use Rattle.hba_fbs.specs.Writing.{Accepts, cleared_by, commands_after, refusal_of}
 use Rattle.hba_laws.specs.Agreement.{AreHistoriesOf, work_of_issue, work_of_transfer}
 use Rattle.hba_laws.specs.Client.{By, Filling, Puts, Stops, Touches, filling, own}
-use Rattle.hba_laws.specs.Delivering.{DataReadsAsIssued, HasTables, HaveTables, IsReadAsIssued, ReadsAsIssued, SparedTablesRead, SparesTables, by_device, event_heard, event_of, event_taken, is_control_issue, issued_below, touched, touched_by_clear, touched_by_out, touched_by_write}
-use Rattle.hba_laws.specs.History.{Carried, Emptied, Event, History, Issued, Sent, SentControl, Transfer, completes, issued, unless}
+use Rattle.hba_laws.specs.Delivering.{begun_by, DataReadsAsIssued, HasTables, HaveTables, IsReadAsIssued, ReadsAsIssued, SparedTablesRead, SparesTables, by_device, event_heard, event_of, event_taken, is_control_issue, issued_below, touched, touched_by_clear, touched_by_out, touched_by_write}
+use Rattle.hba_laws.specs.History.{Carried, Emptied, Event, History, Issued, Sent, SentControl, SetUp, Transfer, completes, issued, unless}
 use Rattle.hba_laws.specs.Hosts.{Does, Flushed, Gave, Host, HostEvent, Put, TakesFrame, Took, Wrote}
 use Rattle.hba_laws.specs.Sound.{IsHost}
 use Rattle.hba_laws.proofs.placed.ClientLemmas.{histories_step}
@@ -104,11 +105,18 @@ took_none old frame = by_ignored (ignores (port_of frame) old.port frame)
 pub out_none : (old : Host) (o : Outgoing) → NoneIssues (touched_by_out old o)
 unfolding NoneIssues NotIssue
 out_none old (out.Data dev offset len command) = (tt, tt)
-out_none old (out.Order dev slot command) = by_kind (holds is_control_issue (issue_at old.port.slots slot))
+out_none old (out.Order dev slot command) = by_issue (issue_at old.port.slots slot)
   where
-    by_kind : (b : Bool) → NoneIssues (By dev (cond b (SentControl slot) (Sent slot)) ∷ [])
-    by_kind true = (tt, tt)
-    by_kind false = (tt, tt)
+    by_kind : (i : Issue) (d b : Bool) → NoneIssues (map (By dev) (if d then SetUp slot 0 i.work.len (is_read i.work.kind) ∷ [] else []) ++ By dev (cond b (SentControl slot) (Sent slot)) ∷ [])
+    by_kind i true true = (tt, (tt, tt))
+    by_kind i true false = (tt, (tt, tt))
+    by_kind i false true = (tt, tt)
+    by_kind i false false = (tt, tt)
+
+    by_issue : (o : Option Issue) → NoneIssues (map (By dev) (begun_by slot o) ++ By dev (cond (holds is_control_issue o) (SentControl slot) (Sent slot)) ∷ [])
+    by_issue None = (tt, tt)
+    by_issue (Some i) = by_kind i (is_dma i.work.kind) (is_control_issue i)
+
 out_none old other = tt
 
 pub clear_none : (o : Option ℕ) → NoneIssues (touched_by_clear o)

@@ -1,6 +1,6 @@
 -- For `delivers`. Data is within what is issued, and what is known of Data that is heard.
 use Rattle.std.proofs.Common.{◌≡◌, ℕ, ◌-◌, ◌≤◌, Bool, true, false, cond, eqb, List, drop, length, refl, sym, ap, subst, ◌∙◌, Option, Some, None, arith, length-drop}
-use Rattle.std.specs.Prelude.{MatchOption, not, nat_lt, Result, Ok, Err}
+use Rattle.std.specs.Prelude.{MatchOption, is_some, not, nat_lt, Result, Ok, Err}
 use Rattle.std.specs.Option.{option_map}
 use Rattle.std.proofs.lemmas.Bool.{ltb-false}
 use Rattle.fis_view.specs.Seen.{seen}
@@ -12,8 +12,8 @@ use Rattle.fis_view.specs.declared.view.FisFault.{FisFault}
 use Rattle.port_errors.specs.declared.cause.DeviceCause.TheVariants as cause
 use Rattle.slots.specs.Commands.{answer_of, completed}
 use Rattle.slots.specs.Data.{after_arrive, may_activate}
-use Rattle.slots.specs.Setup.{dma_context, pio_fault, pio_issue, setup_fault}
-use Rattle.slots.specs.Slots.{DeviceSlots, Issue, match_some, own_issue}
+use Rattle.slots.specs.Setup.{dma_context, out_setup, pio_fault, pio_issue, setup_fault}
+use Rattle.slots.specs.Slots.{DeviceSlots, Issue, match_some, own_issue, sent_pio}
 use Rattle.slots.specs.Work.{is_read}
 use Rattle.slots.specs.declared.answer.SetupError.{SetupError}
 use Rattle.slots.specs.declared.table.Context.{Context}
@@ -23,7 +23,7 @@ use Rattle.hba_fbs.specs.declared.hearing.Happening.TheVariants as happening
 use Rattle.hba_fbs.specs.declared.report.Wrote.{Wrote}
 use Rattle.hba_fbs.specs.declared.state.DeviceState.{DeviceState}
 use Rattle.hba_fbs.specs.declared.status.Block.{Block}
-use Rattle.hba_fbs.specs.Hearing.{answered, block_of, bus_failed, faulty, heard_bytes, heard_d2h, heard_data, heard_data_of, heard_fis, is_admitted, named, overflowed, quietly, set_up, tag_of}
+use Rattle.hba_fbs.specs.Hearing.{answered, block_of, bus_failed, faulty, heard_bytes, heard_d2h, heard_data, heard_data_of, heard_fis, heard_out, is_admitted, named, overflowed, quietly, set_up, tag_of}
 use Rattle.hba_fbs.specs.Status.{after_reset, is_busy, is_error, with_bits, with_file}
 use Rattle.hba_fbs.specs.Taking.{admitted, heard}
 use Rattle.hba_fbs.specs.Views.{DeviceView}
@@ -129,11 +129,13 @@ module _ (own : DeviceSlots) (state : DeviceState) (sound : Bool) (len : ℕ) wh
   setup c None = tt
   setup c (Some e) = tt
 
-  pio : (status error count : ℕ) (to_host : Bool) (block : Block) (e : Bool) (o : Option SetupError)
-      → Carries own sound len (cond e (faulty (with_file state status error) cause.TaskFile) (set_up o (with_file state status error) (Some block) (happening.PioSetUp count to_host))).happening
-  pio status error count to_host block true o = tt
-  pio status error count to_host block false None = tt
-  pio status error count to_host block false (Some e) = tt
+  pio : (status error count : ℕ) (to_host : Bool) (block : Block) (e b : Bool) (o : Option SetupError) (r : Result Context SetupError)
+      → Carries own sound len (cond e (faulty (with_file state status error) cause.TaskFile) (cond b (set_up o (with_file state status error) (Some block) (happening.PioSetUp count to_host)) (heard_out (with_file state status error) block r))).happening
+  pio status error count to_host block true b o r = tt
+  pio status error count to_host block false true None r = tt
+  pio status error count to_host block false true (Some e) r = tt
+  pio status error count to_host block false false o (Ok c) = tt
+  pio status error count to_host block false false o (Err e) = tt
 
   activate : (b : Bool) → Carries own sound len (cond b (quietly state happening.Activated) (faulty state cause.Stray)).happening
   activate true = tt
@@ -171,7 +173,7 @@ module _ (own : DeviceSlots) (state : DeviceState) (sound : Bool) (len : ℕ) wh
       (setup_fault (own_issue own (tag_of f)) (field table.Setup table.Offset f) (field table.Setup table.Count f) (eqb (field table.Setup table.D f) 1))
   fis_carries (view.PioSetup f) is_data =
       pio (field table.Pio table.Status f) (field table.Pio table.Error f) (field table.Pio table.Transfer f) (eqb (field table.Pio table.D f) 1) (block_of f) (is_error (field table.Pio table.Status f))
-      (pio_fault (pio_issue own) (field table.Pio table.Transfer f) (eqb (field table.Pio table.D f) 1))
+      (is_some (sent_pio own)) (pio_fault (pio_issue own) (field table.Pio table.Transfer f) (eqb (field table.Pio table.D f) 1)) (out_setup own (field table.Pio table.Transfer f) (eqb (field table.Pio table.D f) 1))
   fis_carries (view.Payload f) is_data = subst (λ (k : ℕ). Carries own sound len (heard_data own state sound k).happening) (sym (is_data f refl)) data_fis
   fis_carries other is_data = tt
 

@@ -2,7 +2,7 @@
 -- stays so.
 use Rattle.std.proofs.Common.{◌≡◌, ◌==◌, ℕ, ◌<◌, Bool, true, false, List, [], ◌∷◌, ◌++◌, drop, refl, sym, ap, ◌∙◌, inl, inr, arith}
 use Rattle.std.proofs.Common.{Option, Some, None}
-use Rattle.std.specs.Prelude.{◌⊎◌, if◌then◌else◌}
+use Rattle.std.specs.Prelude.{◌⊎◌, if◌then◌else◌, map}
 use Rattle.std.proofs.lemmas.Bool.{cases_Bool, true≢false}
 use Rattle.fis_view.specs.Seen.{seen}
 use Rattle.hba_fbs.specs.declared.hearing.Happening.{Happening}
@@ -13,11 +13,12 @@ use Rattle.hba_fbs.specs.Sending.{Outgoing, outgoing}
 use Rattle.hba_fbs.specs.Taking.{admitted, heard_now, ignores, port_of}
 use Rattle.slots.specs.declared.answer.Answered.{Answered}
 use Rattle.slots.specs.declared.answer.Answered.TheVariants as answered
-use Rattle.slots.specs.Slots.{holds, issue_at, match_some}
+use Rattle.slots.specs.Slots.{Issue, holds, issue_at, match_some}
+use Rattle.slots.specs.Work.{is_dma, is_read}
 use Rattle.disk_ends.specs.Same.{SlotCommand}
 use Rattle.disk_model.specs.Ledger.{empty}
-use Rattle.hba_laws.specs.Client.{Touches, own}
-use Rattle.hba_laws.specs.Delivering.{by_device, event_heard, event_of, event_of_answer, event_of_block, event_taken, is_control_issue, touched_by_out, touches_after}
+use Rattle.hba_laws.specs.Client.{By, Touches, own}
+use Rattle.hba_laws.specs.Delivering.{begun_by, by_device, event_heard, event_of, event_of_answer, event_of_block, event_sent, event_taken, is_control_issue, touched_by_out, touches_after}
 use Rattle.hba_laws.specs.History as event
 use Rattle.hba_laws.specs.History.{Event, History, Transfer, completes, issued, unless}
 use Rattle.hba_laws.specs.Hosts as host_event
@@ -107,11 +108,22 @@ sent_none : (b : Bool) (slot : ℕ) → IsNoIssue (if b then event.SentControl s
 sent_none true slot = tt
 sent_none false slot = tt
 
+begun_issues : (n s dev slot : ℕ) (o : Option Issue) (e : Event) (touches : Touches) (t : Transfer)
+    → issued s (own n ((map (By dev) (begun_by slot o) ++ By dev e ∷ []) ++ touches)) ≡ Some t → issued s (own n (By dev e ∷ touches)) ≡ Some t
+begun_issues n s dev slot None e touches t h = h
+begun_issues n s dev slot (Some i) e touches t h = by_dma (is_dma i.work.kind) h
+  where
+    by_dma : (b : Bool) → issued s (own n ((map (By dev) (if b then event.SetUp slot 0 i.work.len (is_read i.work.kind) ∷ [] else []) ++ By dev e ∷ []) ++ touches)) ≡ Some t
+        → issued s (own n (By dev e ∷ touches)) ≡ Some t
+    by_dma true now = by_test n s (event.SetUp slot 0 i.work.len (is_read i.work.kind)) (By dev e ∷ touches) t (dev == n) tt now
+    by_dma false now = now
+
 out_issues : (n s : ℕ) (host : host_event.Host) (o : Outgoing) (touches : Touches) (t : Transfer) → issued s (own n (touched_by_out host o ++ touches)) ≡ Some t
     → issued s (own n touches) ≡ Some t
 out_issues n s host (out.Data dev offset len command) touches t h = by_test n s _ touches t (dev == n) tt h
 out_issues n s host (out.Order dev slot command) touches t h =
-    by_test n s _ touches t (dev == n) (sent_none (holds is_control_issue (issue_at host.port.slots slot)) slot) h
+    by_test n s _ touches t (dev == n) (sent_none (holds is_control_issue (issue_at host.port.slots slot)) slot)
+    (begun_issues n s dev slot (issue_at host.port.slots slot) (event_sent host.port.slots slot) touches t h)
 out_issues n s host other touches t h = h
 
 -- ## A tick

@@ -61,6 +61,30 @@ fn reads_each_kind(rt: HostRuntime) -> Result<(), Fail> {
             false,
             work(Kind::PioIn, 512),
         ),
+        (
+            fields(2, true, 0xC8, 0, 2),
+            [prd(1024)].as_slice(),
+            false,
+            work(Kind::DmaIn, 1024),
+        ),
+        (
+            fields(2, true, 0x35, 0, 256),
+            [prd(0x2_0000)].as_slice(),
+            false,
+            work(Kind::DmaOut, 0x2_0000),
+        ),
+        (
+            fields(2, true, 0x20, 0, 0),
+            [prd(0x2_0000)].as_slice(),
+            false,
+            work(Kind::PioIn, 0x2_0000),
+        ),
+        (
+            fields(2, true, 0x30, 0, 1),
+            [prd(512)].as_slice(),
+            false,
+            work(Kind::PioOut, 512),
+        ),
         // READ LOG EXT with another count is treated like any other command
         (
             fields(15, true, 0x2F, 0, 2),

@@ -42,3 +42,12 @@ returns-in-Done-clause-own c =
     let is = answer_is dev s t c.index-self-slot.result (omega (arith, c.self.invariant.slots, there.0)) (sym c.waiting_slot.ensures.value ∙ c.in-Some.is) there.1 ∙ sym c.answer_for-answer.ensures.value ∙ c.in-Done.is in
     let now : answer_of (slots_of dev c.args.self.now) ≡ Answered.Done c.in-Done.slot = subst (λ (u : Slots). answer_of (slots_of dev u) ≡ Answered.Done c.in-Done.slot) c.self.view_is is in
     c.free.ensures.own ∙ sym (ap (λ (a : Answered). answered_as a (slots_of dev c.args.self.now)) now)
+
+pub returns-in-Nobody-clause-answer : goal.returns-in-Nobody-clause-answer
+returns-in-Nobody-clause-answer c =
+    let t : Slots = record { issues = c.self.inside.slots; contexts = c.self.inside.contexts } in
+    let dev = c.args.dev in
+    let s = c.in-Some.slot in
+    let there = rw c.in-Some.is at c.waiting_slot.ensures.there in
+    let is = answer_is dev s t c.index-self-slot.result (omega (arith, c.self.invariant.slots, there.0)) (sym c.waiting_slot.ensures.value ∙ c.in-Some.is) there.1 in
+    rw (← c.self.view_is) (sym (is ∙ sym c.answer_for-answer.ensures.value))

@@ -3,7 +3,9 @@ use Rattle.std.specs.Option.{option_map}
 use Rattle.std.proofs.lemmas.List.{get_or_default}
 use Rattle.slots.specs.Issued.{issued_of}
 use Rattle.slots.specs.Slots.{Slots, issue_at}
-use Rattle.slots.proofs.CallLemmas.{sent_control, sent_other}
+use Rattle.slots.specs.Table.{IsTable}
+use Rattle.slots.specs.Setup.{begun}
+use Rattle.slots.proofs.CallLemmas.{fresh_sent, sent_control, sent_other}
 use Rattle.slots.proofs.table.SlotTable.sent.Goals as goal
 
 pub returns-then-is_control-clause-own : goal.returns-then-is_control-clause-own
@@ -24,4 +26,14 @@ returns-else-is_control-clause-own c =
     let same : inside ≡ t = c.self.view_is in
     let below : s < length inside.issues = omega (arith, c.self.invariant.slots, c.requires.slot) in
     let is : option_map issued_of (issue_at inside s) ≡ Some c.in-Some.issued = ap (option_map issued_of) (get_or_default inside.issues s None c.index-self-slot.result below) ∙ sym c.issued.ensures ∙ c.in-Some.is in
-    sent_other s t _ (issue_at t s) c.in-Some.issued (subst (λ (u : Slots). s < length u.issues) same below) refl (subst (λ (u : Slots). option_map issued_of (issue_at u s) ≡ Some c.in-Some.issued) same is) (sym c.is_control.ensures ∙ c.if-is_control.false) c.send.ensures.own
+    sent_other s t _ (issue_at t s) c.in-Some.issued (subst (λ (u : Slots). s < length u.issues) same below) refl (subst (λ (u : Slots). option_map issued_of (issue_at u s) ≡ Some c.in-Some.issued) same is) (sym c.is_control.ensures ∙ c.if-is_control.false) (c.begin.ensures.own ∙ ap (begun s c.in-Some.issued.work) c.send.ensures.own)
+
+pub begin-requires-clause-issue : goal.begin-requires-clause-issue
+begin-requires-clause-issue c =
+    let inside : Slots = record { issues = c.self.inside.slots; contexts = c.self.inside.contexts } in
+    let t : Slots = c.args.self.now in
+    let s = c.args.slot in
+    let same : inside ≡ t = c.self.view_is in
+    let below : s < length inside.issues = omega (arith, c.self.invariant.slots, c.requires.slot) in
+    let is : option_map issued_of (issue_at inside s) ≡ Some c.in-Some.issued = ap (option_map issued_of) (get_or_default inside.issues s None c.index-self-slot.result below) ∙ sym c.issued.ensures ∙ c.in-Some.is in
+    fresh_sent s t _ (issue_at t s) c.in-Some.issued (subst IsTable same c.self.invariant) c.requires.slot refl (subst (λ (u : Slots). option_map issued_of (issue_at u s) ≡ Some c.in-Some.issued) same is) c.requires.alone c.send.ensures.own

@@ -1,0 +1,22 @@
+use Rattle.std.proofs.Common.{◌≡◌, ◌*◌, length, ℕ, Option, Some, sym, ap, ◌∙◌}
+use Rattle.std.specs.Option.{option_or}
+use Rattle.slots.specs.declared.answer.SetupError.{SetupError}
+use Rattle.slots.specs.declared.answer.SetupError.TheVariants.{NotOutstanding}
+use Rattle.slots.specs.Bytes.{came_of}
+use Rattle.slots.specs.Issued.{with_flags, issue_in}
+use Rattle.slots.specs.Setup.{long_fault, out_fault, transfer_fault}
+use Rattle.slots.specs.Slots.{Issue, match_some}
+use Rattle.slots.proofs.ByteLemmas.{whole_dwords}
+use Rattle.slots.proofs.slot.Slot.out_fault.Goals as goal
+
+pub returns-in-Some : goal.returns-in-Some
+returns-in-Some c =
+    let over = c.self.inside.moved in
+    let i = c.in-Some.issued in
+    let room = rw c.in-Some.is at c.self.invariant in
+    let long : 4 * length over ≡ i.work.len = whole_dwords over i.work.len room.0 room.1.0 in
+    let came : c.came.result ≡ came_of over i.work.len = c.came.ensures ∙ ap (came_of over) long in
+    let first : c.transfer_fault-first.result ≡ transfer_fault (with_flags i over) (came_of over i.work.len) c.args.count c.args.to_host =
+    c.transfer_fault-first.ensures ∙ ap (λ (n : ℕ). transfer_fault (with_flags i over) n c.args.count c.args.to_host) came in
+    let now : c.args.self.now ≡ issue_in c.self.inside.issued over = sym c.self.view_is in
+    rw now (rw c.in-Some.is (c.or.ensures ∙ ap (λ (o : Option SetupError). option_or o c.long_fault.result) first ∙ ap (λ (o : Option SetupError). option_or (transfer_fault (with_flags i over) (came_of over i.work.len) c.args.count c.args.to_host) o) c.long_fault.ensures))
