@@ -19,7 +19,7 @@ mod answer;
 mod chunk;
 mod device;
 mod disk;
-mod law;
+mod laws;
 mod page;
 mod plan;
 mod request;
@@ -29,7 +29,7 @@ mod unit;
 pub use answer::{Fault, Page};
 pub use device::Device;
 pub use disk::{Disk, DiskError};
-pub use law::{
+pub use laws::{
     answers_commands_in_order, answers_each_command_once, data_lies_where_it_is_put,
     disks_begin_anew, disks_in_reset_take_no_command, ends_tell_the_same, ends_tell_the_same_anew,
     errors_are_of_their_command, is_silent_where_nothing_is_owed, later_connections_tell_of_all,

@@ -1,5 +1,5 @@
--- Frames pass a multiplier in order and none is lost (Serial ATA 3.x, 16.3, port multiplier: frame
--- transmission). This holds for any sound multiplier, whatever frames passed before.
+-- Frames pass a multiplier in order, and what it took is passed, held or dropped by a removal (Serial ATA 3.x,
+-- 16.3, port multiplier: frame transmission). This holds for any sound multiplier, whatever frames passed before.
 use Rattle.std.specs.Prelude.{◌≡◌, ◌≢◌, ℕ, ◌-◌, ◌<◌, ◌≤◌, ◌==◌, ◌&&◌, max, false, true, if◌then◌else◌, List}
 use Rattle.std.specs.Prelude.{[], ◌∷◌, ◌++◌, All, length, map, slice_index, take, Option, Some, None, Result}
 use Rattle.std.specs.Prelude.{Ok}

@@ -8,9 +8,10 @@ ghost use Rattle.multiplier.specs.State.{IsSound, PmState, port_at};
 ghost use Rattle.multiplier.specs.Passing.{Call, Does, DoesAll, PassInOrder, PassesOver, Past, Runs, ShowsRemovals, all_past};
 ghost use Rattle.multiplier.specs.Stamping.{BeginsStamped, GoesUpStamped};
 
-/// A law for callers, over any calls of any sound multiplier; it runs no code. Frames pass in order, and none
-/// is lost except those that a removal drops. Running numbers are consecutive. No connection falls. No frame
-/// of a connection that is gone passes. A frame that is put back did not pass.
+/// A law for callers, over any calls of any sound multiplier; it runs no code. Frames pass in order: what was
+/// taken from a device went up, waits, or was dropped by a removal, and so it is on the way down. Running
+/// numbers are consecutive. No connection falls. No frame of a connection that is gone passes. A frame that is
+/// put back did not pass. A frame that was given back when it was offered is not counted.
 pub fn frames_pass_in_order()
     ensures { (past : Past) (old new : PmState) (calls : List Call) →
         IsSound old → DoesAll past old calls new → PassInOrder past old calls new }

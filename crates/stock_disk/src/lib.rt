@@ -11,12 +11,12 @@
 
 mod disk;
 mod front;
-mod law;
+mod laws;
 mod log;
 mod verify;
 
 pub use disk::StockDisk;
 pub use front::{Front, Own};
-pub use law::{bare_disks_have_no_front, errors_abort_commands, inside_is_a_disk};
+pub use laws::{bare_disks_have_no_front, errors_abort_commands, inside_is_a_disk};
 pub use log::Log;
 pub use verify::Verify;

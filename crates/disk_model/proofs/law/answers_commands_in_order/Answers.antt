@@ -1,5 +1,0 @@
-use Rattle.disk_model.proofs.AnswerLaws.{answers_right}
-use Rattle.disk_model.proofs.law.answers_commands_in_order.Goals as goal
-
-pub returns : goal.returns
-returns c = answers_right

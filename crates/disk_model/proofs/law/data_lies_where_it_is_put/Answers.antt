@@ -1,5 +1,0 @@
-use Rattle.disk_model.proofs.PutLemmas.{lie_where_put}
-use Rattle.disk_model.proofs.law.data_lies_where_it_is_put.Goals as goal
-
-pub returns : goal.returns
-returns c = lie_where_put

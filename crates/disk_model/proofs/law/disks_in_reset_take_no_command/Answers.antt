@@ -1,5 +1,0 @@
-use Rattle.disk_model.proofs.InResetLemmas.{takes_no_command}
-use Rattle.disk_model.proofs.law.disks_in_reset_take_no_command.Goals as goal
-
-pub returns : goal.returns
-returns c = takes_no_command

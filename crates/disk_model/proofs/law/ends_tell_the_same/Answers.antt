@@ -1,5 +1,0 @@
-use Rattle.disk_model.proofs.EndsLemmas.{ends_agree}
-use Rattle.disk_model.proofs.law.ends_tell_the_same.Goals as goal
-
-pub returns : goal.returns
-returns c = ends_agree

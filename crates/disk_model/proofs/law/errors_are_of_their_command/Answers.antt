@@ -1,5 +1,0 @@
-use Rattle.disk_model.proofs.ErrorLaws.{errs_right}
-use Rattle.disk_model.proofs.law.errors_are_of_their_command.Goals as goal
-
-pub returns : goal.returns
-returns c = errs_right

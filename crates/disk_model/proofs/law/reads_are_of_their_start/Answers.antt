@@ -1,5 +1,0 @@
-use Rattle.disk_model.proofs.LawLemmas.{agrees}
-use Rattle.disk_model.proofs.law.reads_are_of_their_start.Goals as goal
-
-pub returns : goal.returns
-returns c = λ plan sectors history size run. (agrees plan sectors history size run).reads

@@ -1,8 +1,0 @@
-use Rattle.disk_model.proofs.FrontLemmas.{before_is_front, host_is_ahead}
-use Rattle.disk_model.proofs.law.reads_have_the_first_writes.Goals as goal
-
-pub returns-clause-before : goal.returns-clause-before
-returns-clause-before c = before_is_front
-
-pub returns-clause-ahead : goal.returns-clause-ahead
-returns-clause-ahead c = host_is_ahead

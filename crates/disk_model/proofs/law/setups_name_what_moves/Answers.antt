@@ -1,5 +1,0 @@
-use Rattle.disk_model.proofs.MovesLemmas.{moves_right}
-use Rattle.disk_model.proofs.law.setups_name_what_moves.Goals as goal
-
-pub returns : goal.returns
-returns c = moves_right

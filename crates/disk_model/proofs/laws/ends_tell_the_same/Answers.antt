@@ -1,0 +1,5 @@
+use Rattle.disk_model.proofs.EndsLemmas.{ends_agree}
+use Rattle.disk_model.proofs.laws.ends_tell_the_same.Goals as goal
+
+pub returns : goal.returns
+returns c = ends_agree
