@@ -8,7 +8,7 @@ pub mod links
 pub mod control_port
 pub mod reported
 pub mod cleared
-pub mod wire
+pub mod paths
 pub mod laws
 pub mod ports
 pub mod meant

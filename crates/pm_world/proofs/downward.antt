@@ -1,3 +1,3 @@
 -- The way down: field `nothing_lost_down`.
-pub mod FallMoves
-pub mod Falls
+pub mod DownMoves
+pub mod LossLemmas

@@ -1,5 +1,5 @@
 -- Links: field `links`.
-pub mod GoesOn
+pub mod LinkLemmas
 pub mod LinksDown
 pub mod LinksUp
 pub mod LinksPass

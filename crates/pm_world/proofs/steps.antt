@@ -1,5 +1,5 @@
 -- Steps by their rules: the clause `rule` and the refusals of `World::step` and `World::run`, `World::with_mode`; the
--- clause `orderly` of `wires_go_on`.
+-- clause `orderly` of `paths_go_on`.
 pub mod Doing
 pub mod Lists
 pub mod Openings

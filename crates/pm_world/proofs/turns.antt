@@ -3,4 +3,4 @@ pub mod HostFold
 pub mod Delivery
 pub mod Isolation
 pub mod Tickets
-pub mod Truth
+pub mod TrueAnswers

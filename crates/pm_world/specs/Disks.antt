@@ -9,7 +9,7 @@
 --
 -- Cited: runs and what is told over them (specs/Rules.antt, Runs.antt); the history of a unit
 -- (`happens`, specs/Units.antt); the turns of the host (specs/Turns.antt); touches
--- (specs/Touched.antt); and requests that ended honestly (specs/Ended.antt).
+-- (specs/HostTouches.antt); and requests that ended honestly (specs/HonestEnds.antt).
 use Rattle.std.specs.Prelude.{ℕ, ◌≡◌, ◌<◌, ◌==◌, ◌++◌, true, false, List, [], ◌∷◌, length}
 use Rattle.std.specs.Prelude.{slice_get, Some, Ok}
 use Rattle.std.specs.List.{list_any}
@@ -31,7 +31,7 @@ use Rattle.hba_driver.specs.declared.slot.Phase.TheVariants.{Waits}
 use Rattle.hba_driver.specs.Drivers.{Entry, entry_at, rephased}
 use Rattle.hba_driver.specs.HostTurns.{HostTurn}
 use Rattle.hba_driver.specs.Orders.{is_queued}
-use Rattle.pm_world.specs.Wired.{injects, unplugs}
+use Rattle.pm_world.specs.PathEnds.{injects, unplugs}
 use Rattle.pm_world.specs.Units.{happens}
 use Rattle.pm_world.specs.Places.{Places, is_config, new_world}
 use Rattle.pm_world.specs.Rules.{Rule, Run}
@@ -42,8 +42,8 @@ use Rattle.pm_world.specs.declared.step.Step.{Step}
 use Rattle.pm_world.specs.declared.step.Step.TheVariants as step
 use Rattle.pm_world.specs.declared.step.Answer.{Answer}
 use Rattle.pm_world.specs.declared.step.Answer.TheVariants as answer
-use Rattle.pm_world.specs.Ended.{EndsHonestly, TookFlush}
-use Rattle.pm_world.specs.Touched.{AreTouched}
+use Rattle.pm_world.specs.HonestEnds.{EndsHonestly, TookFlush}
+use Rattle.pm_world.specs.HostTouches.{AreTouched}
 use Rattle.hba_driver.specs.Submits.{new_entry}
 
 -- ---- the disk and its run

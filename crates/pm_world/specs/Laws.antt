@@ -2,10 +2,10 @@
 -- taken is a prefix of what was sent. The host and each unit are what their own turns make of them,
 -- and each link is a link (Serial ATA 3.x, 16.3, port multiplier: frame transmission, PM Port; AHCI
 -- 1.3.1, chapter 5). What is delivered to the host's clients stands in specs/Delivery.antt,
--- Apart.antt, Tickets.antt, Isolation.antt and Truth.antt.
+-- IssuedApart.antt, Tickets.antt, Isolation.antt and TrueAnswers.antt.
 use Rattle.std.specs.Prelude.{ℕ, ◌≡◌, ◌≢◌, List, ◌++◌}
 use Rattle.multiplier.specs.Arbiter.{control_port}
-use Rattle.pm_world.specs.Apart.{KeepsApart}
+use Rattle.pm_world.specs.IssuedApart.{KeepsApart}
 use Rattle.pm_world.specs.Cleared.{NewDevicesWait}
 use Rattle.pm_world.specs.Delivery.{Delivers}
 use Rattle.pm_world.specs.Downward.{NothingLostDown}
@@ -17,7 +17,7 @@ use Rattle.pm_world.specs.Rules.{Run}
 use Rattle.pm_world.specs.Runs.{AfterEveryRun}
 use Rattle.pm_world.specs.Tickets.{KeepsTickets}
 use Rattle.pm_world.specs.Traffic.{sent, taken, all_marked, IsPrefixOf, NothingAfterRemoval, NothingLost}
-use Rattle.pm_world.specs.Truth.{TellsTruth}
+use Rattle.pm_world.specs.TrueAnswers.{TellsTruth}
 use Rattle.pm_world.specs.Turns.{AreOfTheirPorts, HostIsFold}
 use Rattle.pm_world.specs.declared.step.Step.{Step}
 use Rattle.pm_world.specs.declared.step.Answer.{Answer}

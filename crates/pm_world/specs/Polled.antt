@@ -30,7 +30,7 @@ use Rattle.hba_driver.specs.Submits.{new_entry}
 use Rattle.pm_world.specs.Places.{Places, is_config, new_world}
 use Rattle.pm_world.specs.Rules.{Rule, Run}
 use Rattle.pm_world.specs.Runs.{IsStepOf, Telling, over}
-use Rattle.pm_world.specs.Touched.{AreTouched}
+use Rattle.pm_world.specs.HostTouches.{AreTouched}
 use Rattle.pm_world.specs.Turns.{turn_of}
 use Rattle.pm_world.specs.declared.step.Config.{Config}
 use Rattle.pm_world.specs.declared.step.Step.{Step}

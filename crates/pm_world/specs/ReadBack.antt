@@ -2,7 +2,7 @@
 -- QUEUED). A read that was submitted once the write had ended brings the bytes of the write. They
 -- stay on the medium until a later write has them.
 --
--- Cited: requests that ended honestly since they were submitted (specs/Disks.antt, Ended.antt). Which
+-- Cited: requests that ended honestly since they were submitted (specs/Disks.antt, HonestEnds.antt). Which
 -- writes have a byte of a medium comes from `disk_model` (specs/Last.antt).
 use Rattle.std.specs.Prelude.{ℕ, ◌≡◌, ◌+◌, ◌-◌, ◌*◌, ◌<◌, ◌++◌, suc, true, drop, List, length, slice_get}
 use Rattle.std.specs.Prelude.{slice_index}

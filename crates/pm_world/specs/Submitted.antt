@@ -3,7 +3,7 @@
 -- transfer; Serial ATA 3.x, 10.5, Data FIS; ACS-3, WRITE FPDMA QUEUED).
 --
 -- Cited: where a request was submitted and reported, and requests that were polled (specs/Polled.antt);
--- touches (specs/Touched.antt); requests that ended honestly (specs/Ended.antt, Disks.antt); which bytes a
+-- touches (specs/HostTouches.antt); requests that ended honestly (specs/HonestEnds.antt, Disks.antt); which bytes a
 -- read and a write both have (specs/ReadBack.antt).
 use Rattle.std.specs.Prelude.{ℕ, ◌≡◌, ◌+◌, ◌-◌, ◌*◌, ◌<◌, suc, true, drop, List, length, slice_index, Some}
 use Rattle.host_memory.specs.Memory.{Memory, client_start}
@@ -27,10 +27,10 @@ use Rattle.pm_world.specs.declared.step.Config.{Config}
 use Rattle.pm_world.specs.declared.step.Step.{Step}
 use Rattle.pm_world.specs.declared.step.Answer.{Answer}
 use Rattle.pm_world.specs.Disks.{DiskRun, EndedSince, IsNewDisk, disk_history}
-use Rattle.pm_world.specs.Ended.{StandsAt}
+use Rattle.pm_world.specs.HonestEnds.{StandsAt}
 use Rattle.pm_world.specs.Polled.{IsPolledHonestly, IsReportedIn}
 use Rattle.pm_world.specs.ReadBack.{IsOneByte, IsPart}
-use Rattle.pm_world.specs.Touched.{AreTouched}
+use Rattle.pm_world.specs.HostTouches.{AreTouched}
 
 -- this byte stands in client memory at the place of byte i of these PRDs
 pub record StandsThere (byte : ℕ) (prds : List Prd) (memory : Memory) (i : ℕ) : Type 0 where

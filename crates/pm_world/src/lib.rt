@@ -26,7 +26,7 @@ pub use theorems::{
     commands_are_meant, connections_follow, disks_are_honest, flushes_follow_writes,
     media_change_by_writes, none_is_stale, one_order_at_a_time, ordered_is_not_stale,
     polled_errors_are_named, polled_is_honest, ports_go_on, ports_keep_to_one,
-    ports_rest_at_a_flush, reads_bring_writes, reads_follow_writes, wires_go_on,
+    ports_rest_at_a_flush, reads_bring_writes, reads_follow_writes, paths_go_on,
     writes_are_as_submitted,
 };
 pub use world::World;

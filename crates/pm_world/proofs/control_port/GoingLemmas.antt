@@ -14,9 +14,9 @@ use Rattle.pm_world.specs.Rules.{CameRule, DiskSendRule, DiskTakeRule, GoneRule,
 use Rattle.pm_world.specs.declared.step.Step.{Step}
 use Rattle.pm_world.specs.declared.step.Step.TheVariants as step
 use Rattle.pm_world.specs.declared.step.Answer.TheVariants as answer
-use Rattle.pm_world.proofs.upward.Risen.{HasRisen}
+use Rattle.pm_world.proofs.upward.PortMarks.{HasPortMark}
 use Rattle.pm_world.proofs.steps.Steps.{at_both, at_device}
-use Rattle.pm_world.specs.GoingOn.{PortsGoOn}
+use Rattle.pm_world.specs.PortsGoOn.{PortsGoOn}
 use Rattle.pm_world.specs.Line.{AreNotices, OnLine, is_reply}
 use Rattle.pm_world.proofs.control_port.LineLemmas.{IsNow, opening_now, run_now}
 use Rattle.pm_world.proofs.control_port.ListLemmas.{IsAwaited, line_reply}
@@ -33,7 +33,7 @@ awaited_comes Signs f is = inr is
 awaited_comes Asks f is = inr is
 awaited_comes other f is = absurd is
 
-may_come : (stage : Stage31) (down : List Stamped) (waits : Option Stamped) (f : Stamped) (up : List Stamped) (report : TakeReport) → IsFrame f.bytes → HasRisen f
+may_come : (stage : Stage31) (down : List Stamped) (waits : Option Stamped) (f : Stamped) (up : List Stamped) (report : TakeReport) → IsFrame f.bytes → HasPortMark f
     → OnLine stage down waits (f ∷ up) → AreNotices (f ∷ up) → MayBe31 stage (Took f.bytes report)
 may_come stage down waits f up report framed risen line notices at_port = elim (cases_Bool (is_reply f)) [
   | inr plain ↦ notice_comes stage f.bytes (notices.0 own plain)
@@ -50,7 +50,7 @@ took_control now n port conn number bytes report new rule =
     let first : now.upward.frames ≡ rule.0.0.0 ∷ new.upward.frames = rule.0.0.1 in
     let same : frame.bytes ≡ bytes = rule.0.0.2.bytes_are in
     let framed : IsFrame frame.bytes = subst IsFrame (sym same) rule.0.2.framed in
-    let risen : HasRisen frame = (subst (λ (frames : List Stamped). All HasRisen frames) first n.risen.frames) 0 frame (omega arith) in
+    let risen : HasPortMark frame = (subst (λ (frames : List Stamped). All HasPortMark frames) first n.risen.frames) 0 frame (omega arith) in
     let may : MayBe31 n.stage (Took frame.bytes report) =
     may_come n.stage now.downward.frames now.multiplier.answer frame new.upward.frames report framed risen
     (subst (λ (frames : List Stamped). OnLine n.stage now.downward.frames now.multiplier.answer frames) first n.is.line)

@@ -36,7 +36,7 @@ use Rattle.pm_world.specs.declared.step.Answer.{Answer}
 use Rattle.pm_world.specs.declared.step.Answer.TheVariants as answer
 use Rattle.pm_world.proofs.turns.Delivery.{sized}
 use Rattle.pm_world.proofs.steps.Orderly.{opening_orderly, orderly_after}
-use Rattle.pm_world.proofs.upward.Risen.{AllRisen, HasRisen, opening_risen, run_rises}
+use Rattle.pm_world.proofs.upward.PortMarks.{AllHavePortMarks, HasPortMark, opening_marks, run_marks}
 use Rattle.pm_world.proofs.steps.Steps.{at_both, at_device}
 use Rattle.pm_world.specs.Line.{AreNotices, IsClean, IsEnd, IsLine, IsReset, OnLine, OneOrderAtATime, is_register, is_reply}
 use Rattle.pm_world.proofs.control_port.ListLemmas.{IsAwaited, line_app, line_asks, line_begins, line_ends, line_goes, line_passes, line_reply, line_rises, line_quiet, line_takes, line_up, line_waits, idle_quiet, notices_app, quiet_line}
@@ -47,7 +47,7 @@ use Rattle.pm_world.proofs.control_port.SaidLemmas.{answers, asks_end, asks_rese
 pub record IsNow (now : Places) : Type 0 where
   pub going : IsGoing now.host
   pub their : AreOfTheir now.host.port
-  pub risen : AllRisen now.multiplier now.upward.frames
+  pub risen : AllHavePortMarks now.multiplier now.upward.frames
   pub orderly : IsOrderly now
   pub stage : Stage31
   pub is : IsLine stage now
@@ -69,7 +69,7 @@ kept_line stage old new k is = record {
   notices = subst (λ (q : Queue). AreNotices q.frames) (sym k.up) is.notices;
 }
 
-kept_now : (old new : Places) → IsKept old new → AllRisen new.multiplier new.upward.frames → IsOrderly new → IsNow old → IsNow new
+kept_now : (old new : Places) → IsKept old new → AllHavePortMarks new.multiplier new.upward.frames → IsOrderly new → IsNow old → IsNow new
 kept_now old new k risen orderly now = record {
   going = subst IsGoing (sym k.host) now.going;
   their = subst (λ (h : Host). AreOfTheir h.port) (sym k.host) now.their;
@@ -291,7 +291,7 @@ module _ (down : List Stamped) (waits : Option Stamped) (up : List Stamped) (f :
   ]
 
 take_line : (down : List Stamped) (waits : Option Stamped) (up : List Stamped) (f : Stamped) (old new : Host) (report : TakeReport) (stage : Stage31) → Does old (Took f.bytes report) new → IsGoing old → AreOfTheir old.port → IsAt31 stage old
-    → HasRisen f → OnLine stage down waits (f ∷ up) → AreNotices (f ∷ up) → IsHostNow down waits up new
+    → HasPortMark f → OnLine stage down waits (f ∷ up) → AreNotices (f ∷ up) → IsHostNow down waits up new
 take_line down waits up f old new report stage does g their at risen line notices =
     let port : port_of f.bytes ≡ f.stamp.port = risen.pm_port does.framed in
     stays_on down waits up old new (Took f.bytes report) stage (turned stage old (Took f.bytes report) new does g their at (λ own. may_come stage down up waits f (sym port ∙ own) line notices))
@@ -337,7 +337,7 @@ push_line down waits up f old new stage does g their at line notices =
 
 -- ---- each step
 
-now_of : (new : Places) → IsHostNow new.downward.frames new.multiplier.answer new.upward.frames new.host → AllRisen new.multiplier new.upward.frames → IsOrderly new → IsNow new
+now_of : (new : Places) → IsHostNow new.downward.frames new.multiplier.answer new.upward.frames new.host → AllHavePortMarks new.multiplier new.upward.frames → IsOrderly new → IsNow new
 now_of new h risen orderly = record { going = h.going; their = h.their; risen = risen; orderly = orderly; stage = h.stage; is = record { at = h.at; line = h.line; notices = h.notices } }
 
 module _ (old : Places) (now : IsNow old) where
@@ -383,7 +383,7 @@ module _ (old : Places) (now : IsNow old) where
       let frame : Stamped = acts.0.0 in
       let does : Does old.host (Took frame.bytes report) host = subst (λ (b : List ℕ). Does old.host (Took b report) host) (sym acts.0.2.bytes_are) acts.2 in
       take_line old.downward.frames old.multiplier.answer link.frames frame old.host host report now.stage does now.going now.their now.is.at
-      ((subst (λ (frames : List Stamped). All HasRisen frames) acts.0.1 now.risen.frames) 0 frame (omega arith))
+      ((subst (λ (frames : List Stamped). All HasPortMark frames) acts.0.1 now.risen.frames) 0 frame (omega arith))
       (subst (λ (frames : List Stamped). OnLine now.stage old.downward.frames old.multiplier.answer frames) acts.0.1 now.is.line)
       (subst AreNotices acts.0.1 now.is.notices)
   take_now _ link host acts = absurd acts
@@ -397,7 +397,7 @@ module _ (old : Places) (now : IsNow old) where
       (push_line old.downward.frames old.multiplier.answer old.upward.frames acts.1.0 old.host host now.stage acts.1.1 now.going now.their now.is.at now.is.line now.is.notices)
   push_now _ host link acts = absurd acts
 
-  module _ (new : Places) (risen : AllRisen new.multiplier new.upward.frames) (orderly : IsOrderly new) where
+  module _ (new : Places) (risen : AllHavePortMarks new.multiplier new.upward.frames) (orderly : IsOrderly new) where
     -- a step of a device alone
     device_now : (n : ℕ) (a : Answer) (R : Place → Outcome → Place → Type 0) → OnDevice old n (Ok a) new R → IsNow new
     device_now n a R rule =
@@ -469,7 +469,7 @@ module _ (old : Places) (now : IsNow old) where
     by_step (step.Put at bytes) a rule = aside rule.1 (put_now at bytes a new.host rule.0)
 
 pub step_now : (old : Places) (s : Step) (a : Answer) (new : Places) → IsNow old → Rule old s (Ok a) new → IsNow new
-step_now old s a new now rule = by_step old now new (run_rises old (s ∷ []) (a ∷ []) new now.risen (new, rule, refl)).1 (orderly_after old s a new now.orderly rule) s a rule
+step_now old s a new now rule = by_step old now new (run_marks old (s ∷ []) (a ∷ []) new now.risen (new, rule, refl)).1 (orderly_after old s a new now.orderly rule) s a rule
 
 -- ---- a whole run
 
@@ -483,7 +483,7 @@ pub opening_now : (units : List Unit) (config : Config) → is_config config (le
 opening_now units config right = record {
   going = going_opens 0 config.memory (sized config (length units) right);
   their = λ n s c low busy last. none_issued n s c last;
-  risen = opening_risen config units;
+  risen = opening_marks config units;
   orderly = opening_orderly Switching config units right;
   stage = Rests;
   is = record { at = opens31 0 config.memory; line = (tt, refl, tt); notices = tt };

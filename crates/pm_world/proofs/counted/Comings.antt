@@ -24,7 +24,7 @@ use Rattle.pm_world.specs.declared.step.Answer.{Answer}
 use Rattle.pm_world.specs.declared.step.Answer.TheVariants as answer
 use Rattle.pm_world.proofs.upward.Law.{nothing_lost}
 use Rattle.pm_world.proofs.steps.Lists.{slice_get-set_same, slice_get-set_other}
-use Rattle.pm_world.proofs.upward.Moves.{IsQuiet, from_host_quiet, push_quiet, tick_quiet, submit_quiet, poll_quiet, put_quiet}
+use Rattle.pm_world.proofs.upward.FrameMoves.{IsQuiet, from_host_quiet, push_quiet, tick_quiet, submit_quiet, poll_quiet, put_quiet}
 use Rattle.pm_world.proofs.steps.Openings.{nothing_stands}
 use Rattle.pm_world.proofs.steps.Orderly.{opening_orderly, run_orderly}
 use Rattle.pm_world.proofs.steps.Steps.{at_device, at_both}

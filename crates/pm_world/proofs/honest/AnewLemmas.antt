@@ -15,7 +15,7 @@ use Rattle.driver_ends.proofs.honest.TurnLemmas.{none_issued}
 use Rattle.disk_model.proofs.AnewLemmas.{begins_anew}
 use Rattle.pm_world.proofs.serving.TouchedLemmas.{touched_served}
 use Rattle.driver_phases.proofs.together.Beginnings.{flush_begins}
-use Rattle.pm_world.specs.Wired.{IsAtHost}
+use Rattle.pm_world.specs.PathEnds.{IsAtHost}
 use Rattle.pm_world.proofs.honest.FlushLemmas.{flush_orders}
 use Rattle.pm_world.proofs.control_port.LineLemmas.{IsNow, opening_now, run_now}
 use Rattle.pm_world.proofs.ports.DownLemmas.{down_change, DownChange, given_for, Gone, Put, Quiet}
@@ -49,7 +49,7 @@ use Rattle.pm_world.specs.declared.step.Step.TheVariants as step
 use Rattle.pm_world.specs.declared.step.Answer.{Answer}
 use Rattle.pm_world.specs.declared.step.Answer.TheVariants as answer
 use Rattle.pm_world.specs.Stale.{IsInOrder, is_clear, orders_clear, unsent_after}
-use Rattle.pm_world.specs.Touched.{opens}
+use Rattle.pm_world.specs.HostTouches.{opens}
 use Rattle.pm_world.proofs.meant.ChangeLemmas.{tick_step}
 use Rattle.pm_world.proofs.honest.CutLemmas.{IsHeld, held_after}
 use Rattle.pm_world.proofs.turns.Delivery.{sized}
@@ -60,7 +60,7 @@ use Rattle.pm_world.proofs.honest.FlushLemmas.{flush_serves, held_at_flush, rest
 use Rattle.pm_world.proofs.control_port.GoingLemmas.{ports_go_on}
 use Rattle.pm_world.proofs.turns.HostFold.{rule_does}
 use Rattle.pm_world.proofs.serving.HostLemmas.{HostOn, drivers_serve}
-use Rattle.pm_world.proofs.upward.Moves.{rule_moves}
+use Rattle.pm_world.proofs.upward.FrameMoves.{rule_moves}
 use Rattle.pm_world.proofs.meant.OrderLemmas.{Knows}
 use Rattle.pm_world.proofs.meant.OrderTurns.{opening_knows, order_step}
 use Rattle.pm_world.proofs.serving.TouchedLemmas.{GoesTouched, touched_over}

@@ -22,10 +22,10 @@ use Rattle.pm_world.proofs.ports.DownLemmas.{down_change, DownChange, given_for,
 use Rattle.pm_world.proofs.ports.EachLemmas.{Each, Nothing, each_more}
 use Rattle.pm_world.proofs.ports.KeepingLemmas.{IsTrue}
 use Rattle.pm_world.proofs.ports.UpLemmas.{Left, Rose, Same, UpChange, up_change}
-use Rattle.pm_world.specs.Wired.{AreAmong, IsAway, for_port, injects, unplugs}
-use Rattle.pm_world.specs.Wire.{IsOnWire}
-use Rattle.pm_world.proofs.wire.RunLemmas.{TellsOf, tells_of}
-use Rattle.pm_world.proofs.wire.WireLemmas.{away_after, falls_on, falls_other, unsent_other}
+use Rattle.pm_world.specs.PathEnds.{AreAmong, IsAway, for_port, injects, unplugs}
+use Rattle.pm_world.specs.DevicePaths.{IsOnPath}
+use Rattle.pm_world.proofs.paths.RunLemmas.{TellsOf, tells_of}
+use Rattle.pm_world.proofs.paths.PathLemmas.{away_after, falls_on, falls_other, unsent_other}
 use Rattle.pm_world.proofs.honest.ShutLemmas.{IsForOther, IsShutOff, only_there}
 
 -- ## What is kept
@@ -159,8 +159,8 @@ module _ (n c : ℕ) (below : n < 15) (old : Places) (s : Step) (a : Answer) (ne
           none_rest n f new.downward.frames cut.held.line.stale cut.held.line.fresh (sym link ∙ cut.held.line.is) cut.held.line.unclear cut.held.line.others (clears is)
 
   -- nothing goes down then, and what the unit sent goes up
-  pub wire_now : is_cleared n old a ≡ true → (up : List (List ℕ)) → IsShutOff n c new up → IsOnWire n c new [] up
-  wire_now is up off = record {
+  pub path_now : is_cleared n old a ≡ true → (up : List (List ℕ)) → IsShutOff n c new up → IsOnPath n c new [] up
+  path_now is up off = record {
     above = off.above;
     alone = alone_now;
     kept = off.kept;

@@ -55,7 +55,7 @@ use Rattle.pm_world.specs.declared.step.Step.{Step}
 use Rattle.pm_world.specs.declared.step.Answer.TheVariants as answer
 use Rattle.pm_world.specs.Brought.{IsBrought, StandsThere}
 use Rattle.pm_world.specs.ReadBack.{IsPart}
-use Rattle.pm_world.specs.Ended.{EndsHonestly, ReadsSectors, StandsAt, WritesSectors}
+use Rattle.pm_world.specs.HonestEnds.{EndsHonestly, ReadsSectors, StandsAt, WritesSectors}
 use Rattle.pm_world.proofs.serving.BroughtLemmas.{brought_there}
 use Rattle.pm_world.proofs.serving.TookLemmas.{host_takes, plain_frame}
 use Rattle.pm_world.proofs.serving.TouchedLemmas.{touched_delivers, touched_served, touched_sound}

@@ -20,14 +20,14 @@ use Rattle.pm_world.specs.declared.step.Answer.{Answer}
 use Rattle.pm_world.specs.declared.step.Answer.TheVariants as answer
 use Rattle.pm_world.proofs.steps.Lists.{slice_get-set_same, stamped-append, stamped-one}
 use Rattle.pm_world.proofs.upward.Recorded.{IsLed, led_last}
-use Rattle.pm_world.proofs.upward.Risen.{opening_risen, run_rises}
+use Rattle.pm_world.proofs.upward.PortMarks.{opening_marks, run_marks}
 use Rattle.pm_world.proofs.steps.Steps.{AtDevice, at_device}
 use Rattle.pm_world.proofs.ports.EachLemmas.{Each, each_map}
-use Rattle.pm_world.specs.Wired.{IsThere, IsUnremoved}
+use Rattle.pm_world.specs.PathEnds.{IsThere, IsUnremoved}
 use Rattle.pm_world.proofs.serving.FirstLemmas.{comes_risen}
-use Rattle.pm_world.proofs.wire.KeptLemmas.{came_unremoved, unremoved}
-use Rattle.pm_world.proofs.wire.RunLemmas.{IsPlugged}
-use Rattle.pm_world.proofs.wire.WireLemmas.{and_both, none_both, still_above}
+use Rattle.pm_world.proofs.paths.KeptLemmas.{came_unremoved, unremoved}
+use Rattle.pm_world.proofs.paths.RunLemmas.{IsPlugged}
+use Rattle.pm_world.proofs.paths.PathLemmas.{and_both, none_both, still_above}
 use Rattle.pm_world.specs.Connections.{IsUnused}
 use Rattle.pm_world.proofs.ports.FirmLemmas.{HasCome, IsFirm, firm_after, opening_firm, run_firm, seen_at}
 use Rattle.pm_world.proofs.ports.SentLemmas.{none_on_way}
@@ -86,7 +86,7 @@ comes_shut n c below config units fits first told out made new rule =
     record {
       orderly = firm_now.orderly;
       risen =
-          (comes_risen out (step.Came n) (answer.Came n c) new (run_rises (new_world config units) first told out (opening_risen config units) made).1
+          (comes_risen out (step.Came n) (answer.Came n c) new (run_marks (new_world config units) first told out (opening_marks config units) made).1
           rule).risen;
       true_is = firm_now.true_is;
       up =

@@ -26,7 +26,7 @@ use Rattle.pm_world.specs.Runs.{over}
 use Rattle.pm_world.specs.Stale.{unsent_after}
 use Rattle.pm_world.specs.Turns.{IsOfItsPort, turn_of}
 use Rattle.pm_world.specs.Units.{happens}
-use Rattle.pm_world.specs.Wired.{injects, unplugs}
+use Rattle.pm_world.specs.PathEnds.{injects, unplugs}
 use Rattle.pm_world.specs.declared.step.Answer.{Answer}
 use Rattle.pm_world.specs.declared.step.Answer.TheVariants as answer
 use Rattle.pm_world.specs.declared.step.Config.{Config}
@@ -40,7 +40,7 @@ use Rattle.pm_world.proofs.ports.KeepingLemmas.{is_there}
 use Rattle.pm_world.proofs.control_port.LineLemmas.{IsNow}
 use Rattle.pm_world.proofs.honest.LiveLemmas.{IsLive, IsOpenAt, StaysPresent, open_or_waits, stays_present}
 use Rattle.pm_world.proofs.meant.OrderTurns.{order_step}
-use Rattle.pm_world.proofs.upward.Risen.{opening_risen, run_rises}
+use Rattle.pm_world.proofs.upward.PortMarks.{opening_marks, run_marks}
 use Rattle.pm_world.proofs.honest.ShutLemmas.{WaitsFor, waits_after}
 use Rattle.pm_world.proofs.honest.AnewLemmas.{IsAnew, OrderedNow, cleared_anew, ends_now, now_at, ordered_on}
 use Rattle.pm_world.proofs.honest.EndsSteps.{HasEnds, HasEndsOn, IsNoTurn, IsUnflushed, ends_step, running, same_host}
@@ -127,7 +127,7 @@ module _ (config : Config) (units : List Unit) (fits : is_config config (length 
   pub its_port : (before : List Step) (told : List Answer) (old : Places) → Run (new_world config units) before told old → (s : Step) (a : Answer) (new : Places)
       → Rule old s (Ok a) new → IsOfItsPort a
   its_port before told old made s a new rule =
-      (comes_risen old s a new (run_rises (new_world config units) before told old (opening_risen config units) made).1 rule).own_port
+      (comes_risen old s a new (run_marks (new_world config units) before told old (opening_marks config units) made).1 rule).own_port
 
   -- The port is open to the unit, and it and the host are ends.
   pub record IsServing (floors : ℕ → Floor) (now : Places) (happened : List Happening) (turns : List HostTurn) : Type 0 where

@@ -28,9 +28,9 @@ use Rattle.driver_phases.specs.Flushes.{AreEndsSince, EndsSinceAfter, Floor}
 use Rattle.driver_phases.proofs.flushes.FlushTurns.{ends_since_go_on}
 use Rattle.pm_world.specs.Places.{Places, Queue}
 use Rattle.pm_world.specs.Rules.{Rule}
-use Rattle.pm_world.specs.Touched.{AreTouched, goes}
+use Rattle.pm_world.specs.HostTouches.{AreTouched, goes}
 use Rattle.pm_world.specs.Turns.{IsOfItsPort, turn_of}
-use Rattle.pm_world.specs.Wired.{IsAtHost, for_port}
+use Rattle.pm_world.specs.PathEnds.{IsAtHost, for_port}
 use Rattle.pm_world.specs.declared.step.Step.{Step}
 use Rattle.pm_world.specs.declared.step.Step.TheVariants as step
 use Rattle.pm_world.specs.declared.step.Answer.{Answer}
@@ -41,7 +41,7 @@ use Rattle.pm_world.proofs.serving.HostLemmas.{idle_turn, pushed_turn, put_turn,
 use Rattle.pm_world.proofs.control_port.LineLemmas.{IsNow}
 use Rattle.pm_world.proofs.serving.TookLemmas.{host_takes, plain_frame}
 use Rattle.pm_world.proofs.serving.TouchedLemmas.{touched_served}
-use Rattle.pm_world.proofs.wire.WireLemmas.{drop_front}
+use Rattle.pm_world.proofs.paths.PathLemmas.{drop_front}
 use Rattle.pm_world.proofs.honest.ExactLemmas.{Comes, ExactMoves, Gives, IsExact, Sends, Still, Takes}
 
 -- ## What is kept
@@ -52,7 +52,7 @@ pub record HasEnds (n len : ℕ) (floors : ℕ → Floor) (turns : List HostTurn
   pub touched : AreTouched len turns h touches
   pub ends : AreEndsSince n h disk down up floors touches
 
--- and just these are on the wire of the unit, which is there as connection c
+-- and just these are on the path of the unit, which is there as connection c
 pub record HasEndsOn (n c len : ℕ) (floors : ℕ → Floor) (turns : List HostTurn) (now : Places) (disk : List Happening) : Type 0 where
   pub down : List (List ℕ)
   pub up : List (List ℕ)
@@ -310,7 +310,7 @@ module _ (n len : ℕ) (below : n < 15) (right : is_memory_size len ≡ true) (p
         (λ one_run. (ends_since_go_on n plan sectors).0.takes old.host bytes report new.host one_run disk down later floors h.touches below (runs disk run)
         (plain_frame bytes n tooks.framed) port.0 (subst (λ (xs : List (List ℕ)). AreEndsSince n old.host disk down xs floors h.touches) is h.ends))
 
-  -- ---- by what it is on the wire
+  -- ---- by what it is on the path
 
   module _ (c : ℕ) (turns : List HostTurn) (old : Places) (i : IsNow old) (s : Step) (a : Answer) (new : Places) (rule : Rule old s (Ok a) new)
       (its : IsOfItsPort a) (unflushed : IsUnflushed n old a) (disk happened : List Happening) (run : IsDiskRun plan sectors disk)

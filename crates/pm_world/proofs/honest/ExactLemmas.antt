@@ -23,38 +23,38 @@ use Rattle.pm_world.specs.Rules.{CameRule, DiskSendRule, DiskTakeActs, DiskTakeR
 use Rattle.pm_world.specs.Rules.{PmPresenceRule, Rule, Run, is_for}
 use Rattle.pm_world.specs.Stale.{unsent_after}
 use Rattle.pm_world.specs.Units.{happens}
-use Rattle.pm_world.specs.Wire as wire
-use Rattle.pm_world.specs.Wire.{GoesOnWire, IsOnWire, WireMoves}
+use Rattle.pm_world.specs.DevicePaths as path
+use Rattle.pm_world.specs.DevicePaths.{GoesOnPath, IsOnPath, PathMoves}
 use Rattle.pm_world.specs.declared.step.Config.{Config}
-use Rattle.pm_world.specs.Wired.{AreAmong, IsAtHost, IsThere, befalls, descending_on, for_port, injects, unplugs}
+use Rattle.pm_world.specs.PathEnds.{AreAmong, IsAtHost, IsThere, befalls, descending_on, for_port, injects, unplugs}
 use Rattle.pm_world.specs.declared.step.Step.{Step}
 use Rattle.pm_world.specs.declared.step.Step.TheVariants as step
 use Rattle.pm_world.specs.declared.step.Answer.{Answer}
 use Rattle.pm_world.specs.declared.step.Answer.TheVariants as answer
-use Rattle.pm_world.proofs.honest.CutLemmas.{IsCut, wire_now}
-use Rattle.pm_world.proofs.downward.FallMoves.{Goes, Lands, Loses, Starts, rule_moves_down}
+use Rattle.pm_world.proofs.honest.CutLemmas.{IsCut, path_now}
+use Rattle.pm_world.proofs.downward.DownMoves.{Goes, Lands, Loses, Starts, rule_moves_down}
 use Rattle.pm_world.proofs.ports.FirmLemmas.{IsFirm, firm_after, firm_at}
 use Rattle.pm_world.proofs.ports.KeepingLemmas.{drop_own}
 use Rattle.pm_world.proofs.honest.LiveLemmas.{IsLive, live_after, stays_present}
 use Rattle.pm_world.proofs.meant.OrderLemmas.{Knows}
 use Rattle.pm_world.proofs.meant.OrderTurns.{order_step}
-use Rattle.pm_world.proofs.wire.PlaceLemmas.{takes_own}
-use Rattle.pm_world.proofs.wire.RunLemmas.{TellsOf, tells_of, there_after, unit_wires_go_on}
+use Rattle.pm_world.proofs.paths.PlaceLemmas.{takes_own}
+use Rattle.pm_world.proofs.paths.RunLemmas.{TellsOf, tells_of, there_after, unit_paths_go_on}
 use Rattle.pm_world.proofs.honest.ShutLemmas.{IsShutOff, only_there}
 use Rattle.pm_world.proofs.steps.Steps.{AtDevice, at_both, at_device}
 use Rattle.pm_world.proofs.ports.UpLemmas.{passed_step}
 use Rattle.pm_world.proofs.ports.DownLemmas.{to_control, to_port}
-use Rattle.pm_world.proofs.wire.WireLemmas.{dropped_never_comes, falls_both, falls_first, falls_on, falls_other, flat_more, if_false, if_true, rests_on}
+use Rattle.pm_world.proofs.paths.PathLemmas.{dropped_never_comes, falls_both, falls_first, falls_on, falls_other, flat_more, if_false, if_true, rests_on}
 use Rattle.pm_world.proofs.honest.ForwardLemmas.{IsMet, live_passes, met_after, met_at}
 
 -- ## What is exact
 
--- The unit at port n is on the wire, as connection c, and all of the first list is on its way down.
+-- The unit at port n is on the path, as connection c, and all of the first list is on its way down.
 pub record IsExact (n c : ℕ) (now : Places) (down up : List (List ℕ)) : Type 0 where
-  pub wire : IsOnWire n c now down up
+  pub path : IsOnPath n c now down up
   pub exact : descending_on n c now ≡ down
 
--- What a step with this answer does, as WireMoves tells it, except that what comes to the unit is the
+-- What a step with this answer does, as PathMoves tells it, except that what comes to the unit is the
 -- first of what goes down.
 pub data ExactMoves (n c : ℕ) (a : Answer) (new : Places) (happened heard : List Happening) (down up : List (List ℕ)) : Type 0 where
   -- nothing is done at either end
@@ -79,14 +79,14 @@ pub record GoesExact (n c : ℕ) (old : Places) (a : Answer) (new : Places) (hap
   pub moves : ExactMoves n c a new happened heard down up
 
 -- what is on its way down is always exact
-pub exact_of : (n c : ℕ) (now : Places) (down down_now up : List (List ℕ)) → IsOnWire n c now down up → descending_on n c now ≡ down_now
+pub exact_of : (n c : ℕ) (now : Places) (down down_now up : List (List ℕ)) → IsOnPath n c now down up → descending_on n c now ≡ down_now
     → IsExact n c now down_now up
 exact_of n c now down down_now up w e =
-    record { wire = subst (λ (xs : List (List ℕ)). IsOnWire n c now xs up) e (dropped_never_comes n c now down up w); exact = e }
+    record { path = subst (λ (xs : List (List ℕ)). IsOnPath n c now xs up) e (dropped_never_comes n c now down up w); exact = e }
 
 -- nothing goes down if nothing may come
-pub exact_now : (n c : ℕ) (now : Places) (up : List (List ℕ)) → IsOnWire n c now [] up → IsExact n c now [] up
-exact_now n c now up w = record { wire = w; exact = among_none (descending_on n c now) w.below }
+pub exact_now : (n c : ℕ) (now : Places) (up : List (List ℕ)) → IsOnPath n c now [] up → IsExact n c now [] up
+exact_now n c now up w = record { path = w; exact = among_none (descending_on n c now) w.below }
   where
     among_none : (xs : List (List ℕ)) → AreAmong xs [] → xs ≡ []
     among_none [] is = refl
@@ -380,34 +380,34 @@ module _ (n c : ℕ) (below : n < 15) (old : Places) (s : Step) (new : Places) (
       by_port false e took happened = absurd (true≢false (sym e))
 
   module _ (down up : List (List ℕ)) (x : IsExact n c old down up) where
-    stays_exact : (up_now : List (List ℕ)) → Same → IsOnWire n c new down up_now → IsExact n c new down up_now
-    stays_exact up_now same w = record { wire = w; exact = same ∙ x.exact }
+    stays_exact : (up_now : List (List ℕ)) → Same → IsOnPath n c new down up_now → IsExact n c new down up_now
+    stays_exact up_now same w = record { path = w; exact = same ∙ x.exact }
 
     given_exact : (bytes : List ℕ) (heard : List Happening) → MovesExactly answer.Pushed → IsAtHost n old answer.Pushed new heard
         → heard ≡ Received bytes ∷ []
-        → IsOnWire n c new (down ++ bytes ∷ []) up → IsExact n c new (down ++ bytes ∷ []) up
+        → IsOnPath n c new (down ++ bytes ∷ []) up → IsExact n c new (down ++ bytes ∷ []) up
     given_exact bytes heard m is one w =
         let mine : for_port n m.0 ≡ bytes ∷ [] = received_one (for_port n m.0) bytes (sym (given_is m.0 m.1 heard is) ∙ one) in
         record {
-          wire = w;
+          path = w;
           exact = m.2 ∙ ap (λ (xs : List (List ℕ)). descending_on n c old ++ xs) mine ∙ ap (λ (xs : List (List ℕ)). xs ++ bytes ∷ []) x.exact;
         }
 
     exact_by : (a : Answer) (happened heard : List Happening) → MovesExactly a → happened ≡ befalls n old a → IsAtHost n old a new heard
-        → WireMoves n c a new happened heard down up → ExactMoves n c a new happened heard down up
-    exact_by a happened heard m told is (wire.Still none unheard w) =
+        → PathMoves n c a new happened heard down up → ExactMoves n c a new happened heard down up
+    exact_by a happened heard m told is (path.Still none unheard w) =
         Still none unheard (stays_exact up (still_same a m (sym told ∙ none) (subst (IsAtHost n old a new) unheard is)) w)
-    exact_by a happened heard m told is (wire.Gives bytes pushed none one w) =
+    exact_by a happened heard m told is (path.Gives bytes pushed none one w) =
         Gives bytes pushed none one
         (given_exact bytes heard (subst MovesExactly pushed m) (subst (λ (b : Answer). IsAtHost n old b new heard) pushed is) one w)
-    exact_by a happened heard m told is (wire.Comes front back bytes took one unheard split near far) =
+    exact_by a happened heard m told is (path.Comes front back bytes took one unheard split near far) =
         let first : descending_on n c old ≡ bytes ∷ descending_on n c new =
         first_comes bytes (subst MovesExactly took m) (sym (ap (befalls n old) took) ∙ sym told ∙ one) in
         Comes (descending_on n c new) bytes took one unheard (sym x.exact ∙ first) (exact_of n c new back (descending_on n c new) up far refl)
-    exact_by a happened heard m told is (wire.Sends number bytes sent one unheard w) =
+    exact_by a happened heard m told is (path.Sends number bytes sent one unheard w) =
         let same : Same = subst MovesExactly sent m in
         Sends number bytes sent one unheard (stays_exact (up ++ bytes ∷ []) same w)
-    exact_by a happened heard m told is (wire.Takes number bytes later report took none one first w) =
+    exact_by a happened heard m told is (path.Takes number bytes later report took none one first w) =
         let same : Same = subst MovesExactly took m in
         Takes number bytes later report took none one first (stays_exact later same w)
 
@@ -420,8 +420,8 @@ exact_step n c below old new s a down up firm rule there stays clean met live x 
     let device : n ≢ control_port = λ e. absurd (omega (arith, e, below)) in
     let passes : passes_to old.multiplier n ≡ Some c = live_passes n c old met live in
     let t : TellsOf n c old s a new = tells_of n c old s a new there stays clean rule in
-    let g : IsThere n c new × GoesOnWire n c old a new (happens n old s a new) down up =
-    unit_wires_go_on n c old new s a down up device firm.orderly rule there stays clean x.wire in (
+    let g : IsThere n c new × GoesOnPath n c old a new (happens n old s a new) down up =
+    unit_paths_go_on n c old new s a down up device firm.orderly rule there stays clean x.wire in (
       g.0,
       record {
         heard = g.1.heard;
@@ -480,4 +480,4 @@ pub cleared_exact : (n c : ℕ) (below : n < 15) (old : Places) (s : Step) (a : 
     → is_cleared n old a ≡ true → (up : List (List ℕ))
     → IsShutOff n c new up → IsExact n c new [] up
 cleared_exact n c below old s a new rule rising h cut clean stays is up off =
-    exact_now n c new up (wire_now n c below old s a new rule rising h cut clean stays is up off)
+    exact_now n c new up (path_now n c below old s a new rule rising h cut clean stays is up off)

@@ -20,7 +20,7 @@ use Rattle.pm_world.specs.declared.step.Answer.TheVariants as answer
 use Rattle.pm_world.proofs.turns.Delivery.{sized}
 use Rattle.pm_world.proofs.turns.HostFold.{run_does}
 use Rattle.pm_world.proofs.upward.Law.{run_append}
-use Rattle.pm_world.specs.GoingOn.{PortGoesOn}
+use Rattle.pm_world.specs.PortsGoOn.{PortGoesOn}
 use Rattle.driver_phases.proofs.together.Unfaulted.{IsUnfaulted, never_cleared}
 use Rattle.pm_world.proofs.honest.UnfaultedLemmas.{IsHeardUnfaulted}
 

@@ -43,12 +43,12 @@ use Rattle.pm_world.proofs.control_port.LineLemmas.{one_order_at_a_time}
 use Rattle.pm_world.specs.Stale.{InOrder, IsInOrder, is_clear, is_from, unsent_after}
 use Rattle.pm_world.proofs.ports.EachLemmas.{Nothing, none_of}
 use Rattle.pm_world.proofs.meant.OrderTurns.{orders_in_order}
-use Rattle.pm_world.specs.Touched.{AreTouched, goes}
-use Rattle.pm_world.specs.Wired.{IsAway, IsThere}
+use Rattle.pm_world.specs.HostTouches.{AreTouched, goes}
+use Rattle.pm_world.specs.PathEnds.{IsAway, IsThere}
 use Rattle.pm_world.proofs.serving.HostLemmas.{DriversServe, HostOn}
-use Rattle.pm_world.proofs.wire.RunLemmas.{IsPlugged}
+use Rattle.pm_world.proofs.paths.RunLemmas.{IsPlugged}
 use Rattle.pm_world.proofs.serving.TouchedLemmas.{touched_served, touched_sound}
-use Rattle.pm_world.proofs.wire.WireLemmas.{and_false, if_false}
+use Rattle.pm_world.proofs.paths.PathLemmas.{and_false, if_false}
 use Rattle.pm_world.specs.Connections.{IsAhead, IsUnused}
 use Rattle.pm_world.specs.Resting.{IsAtRest, PortsRest, RestsAtFlush}
 use Rattle.pm_world.proofs.honest.CutLemmas.{IsCut, IsHeld}

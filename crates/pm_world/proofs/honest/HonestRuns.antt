@@ -22,11 +22,11 @@ use Rattle.pm_world.specs.Disks.{Before, DiskRun, EndedSince, FlushedSince, Hone
 use Rattle.pm_world.specs.Places.{IsOrderly, Places, is_config, new_world}
 use Rattle.pm_world.specs.Rules.{Rule, Run}
 use Rattle.pm_world.specs.Runs.{IsStepOf, over}
-use Rattle.pm_world.specs.Touched.{AreTouched}
+use Rattle.pm_world.specs.HostTouches.{AreTouched}
 use Rattle.pm_world.specs.Turns.{turn_of}
 use Rattle.pm_world.specs.Units.{MaySendAll, happens}
-use Rattle.pm_world.specs.Wire.{Comes, Gives, GoesOnWire, IsOnWire, Sends, Still, Takes, WireMoves}
-use Rattle.pm_world.specs.Wired.{IsAtHost}
+use Rattle.pm_world.specs.DevicePaths.{Comes, Gives, GoesOnPath, IsOnPath, Sends, Still, Takes, PathMoves}
+use Rattle.pm_world.specs.PathEnds.{IsAtHost}
 use Rattle.pm_world.specs.declared.step.Answer.{Answer}
 use Rattle.pm_world.specs.declared.step.Answer.TheVariants as answer
 use Rattle.pm_world.specs.declared.step.Config.{Config}
@@ -43,12 +43,12 @@ use Rattle.pm_world.proofs.honest.EndsSteps.{HasEnds}
 use Rattle.pm_world.proofs.honest.TakenLemmas.{took_since}
 use Rattle.pm_world.proofs.honest.FineLemmas.{further}
 use Rattle.pm_world.proofs.upward.Law.{run_append}
-use Rattle.pm_world.proofs.upward.Moves.{rule_moves}
-use Rattle.pm_world.proofs.wire.RunLemmas.{if_some}
+use Rattle.pm_world.proofs.upward.FrameMoves.{rule_moves}
+use Rattle.pm_world.proofs.paths.RunLemmas.{if_some}
 use Rattle.pm_world.proofs.honest.ShutLemmas.{IsNoneOf}
 use Rattle.pm_world.proofs.units.Units.{units_lived_on}
 use Rattle.pm_world.proofs.honest.WaitingLemmas.{IsWaiting, came_waiting}
-use Rattle.pm_world.proofs.wire.WireLemmas.{wires_go_on}
+use Rattle.pm_world.proofs.paths.PathLemmas.{paths_go_on}
 use Rattle.std.proofs.lemmas.List.{append-nil}
 use Rattle.slots.specs.Slots.{has_bit}
 use Rattle.disk_model.specs.Ledger.{ledger}
@@ -75,22 +75,22 @@ record IsNextOf (n c port conn : ℕ) (bytes : List ℕ) (up : List (List ℕ)) 
   is : up ≡ plain ∷ later
 
 taken_next : (n c : ℕ) → n < 15 → (old new : Places) (s : Step) (port conn number : ℕ) (bytes : List ℕ) (report : TakeReport) (down up : List (List ℕ))
-    → IsOrderly old → Rule old s (Ok (answer.Took port conn number bytes report)) new → (port == n) ≡ true → IsOnWire n c old down up
+    → IsOrderly old → Rule old s (Ok (answer.Took port conn number bytes report)) new → (port == n) ≡ true → IsOnPath n c old down up
     → IsNextOf n c port conn bytes up
-taken_next n c below old new s port conn number bytes report down up orderly rule here wire = by_moves w.heard w.is w.moves
+taken_next n c below old new s port conn number bytes report down up orderly rule here path = by_moves w.heard w.is w.moves
   where
     device : n ≢ control_port
     device e = absurd (omega (arith, e, below))
 
-    w : GoesOnWire n c old (answer.Took port conn number bytes report) new [] down up
-    w = wires_go_on n c old new s (answer.Took port conn number bytes report) down up device orderly rule tt wire
+    w : GoesOnPath n c old (answer.Took port conn number bytes report) new [] down up
+    w = paths_go_on n c old new s (answer.Took port conn number bytes report) down up device orderly rule tt path
 
     some_heard : (b : Bool) → b ≡ true → MatchBool b ((plain : List ℕ) × ([] ≡ Sent plain ∷ []) × (bytes ≡ marked plain n)) (◌≡◌ {A = List Happening} [] []) → ⊥
     some_heard true e is = let wrong : [] ≡ Sent is.0 ∷ [] = is.1 in cc
     some_heard false e is = true≢false (sym e)
 
     by_moves : (heard : List Happening) → IsAtHost n old (answer.Took port conn number bytes report) new heard
-        → WireMoves n c (answer.Took port conn number bytes report) new [] heard down up → IsNextOf n c port conn bytes up
+        → PathMoves n c (answer.Took port conn number bytes report) new [] heard down up → IsNextOf n c port conn bytes up
     by_moves heard is (Still none quiet on) =
         absurd (some_heard (port == n) here (subst (IsAtHost n old (answer.Took port conn number bytes report) new) quiet is))
     by_moves heard is (Gives b told none gave on) = absurd (cc told)

@@ -29,7 +29,7 @@ use Rattle.pm_world.specs.Resting.{IsAtRest}
 use Rattle.pm_world.specs.Links.{changed_by, is_recorded, on_presence}
 use Rattle.pm_world.specs.Places.{IsOrderly, Place, Places, Queue}
 use Rattle.pm_world.specs.Rules.{CameRule, DiskSendRule, DiskTakeRule, GoneRule, InjectRule, OnDevice, Outcome, PmDownRule, PmFromDeviceRule, PmFromHostRule, PmPresenceRule, PmUpRule, Rule, recorded}
-use Rattle.pm_world.specs.Wired.{AreBefore, IsUnremoved, unplugs}
+use Rattle.pm_world.specs.PathEnds.{AreBefore, IsUnremoved, unplugs}
 use Rattle.pm_world.specs.declared.link.Change.{Change}
 use Rattle.pm_world.specs.declared.link.Change.TheVariants as change
 use Rattle.pm_world.specs.declared.step.Step.{Step}
@@ -39,11 +39,11 @@ use Rattle.pm_world.specs.declared.step.Answer.TheVariants as answer
 use Rattle.pm_world.proofs.cleared.Cleared.{Told, set_keeps, write_keeps}
 use Rattle.pm_world.proofs.ports.FirmLemmas.{IsFirm, seen_at}
 use Rattle.pm_world.proofs.honest.FlushLemmas.{x_set}
-use Rattle.pm_world.proofs.wire.KeptLemmas.{GoesBefore, unremoved_after}
+use Rattle.pm_world.proofs.paths.KeptLemmas.{GoesBefore, unremoved_after}
 use Rattle.pm_world.proofs.meant.OrderLemmas.{Knows, Only}
 use Rattle.pm_world.proofs.meant.PortLemmas.{WritesChanges}
 use Rattle.pm_world.proofs.upward.Recorded.{AreLetIn, Known, Records, all, rule_records}
-use Rattle.pm_world.proofs.wire.RunLemmas.{going}
+use Rattle.pm_world.proofs.paths.RunLemmas.{going}
 use Rattle.pm_world.proofs.steps.Steps.{at_both, at_device}
 
 -- ## The registers of a port

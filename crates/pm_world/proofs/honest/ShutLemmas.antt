@@ -22,22 +22,22 @@ use Rattle.pm_world.specs.declared.step.Answer.{Answer}
 use Rattle.pm_world.specs.declared.step.Answer.TheVariants as answer
 use Rattle.pm_world.proofs.cleared.Cleared as cleared
 use Rattle.pm_world.proofs.cleared.Cleared.{PortGoes, forwards_none, rule_goes}
-use Rattle.pm_world.proofs.downward.FallMoves.{Lands, rule_moves_down}
+use Rattle.pm_world.proofs.downward.DownMoves.{Lands, rule_moves_down}
 use Rattle.pm_world.proofs.steps.Lists.{all_marked-append}
-use Rattle.pm_world.proofs.upward.Moves.{rule_moves}
+use Rattle.pm_world.proofs.upward.FrameMoves.{rule_moves}
 use Rattle.pm_world.proofs.steps.Orderly.{orderly_after}
-use Rattle.pm_world.proofs.upward.Risen.{AllRisen}
+use Rattle.pm_world.proofs.upward.PortMarks.{AllHavePortMarks}
 use Rattle.pm_world.proofs.ports.DownLemmas.{DownChange, Gone, Put, Quiet, down_change, falls_keep}
 use Rattle.pm_world.proofs.ports.EachLemmas.{Each, each_more}
 use Rattle.pm_world.proofs.ports.KeepingLemmas.{IsTrue, passes_open, true_after}
 use Rattle.pm_world.proofs.ports.UpLemmas.{Left, Rose, Same, UpChange, up_change}
-use Rattle.pm_world.specs.Wired.{IsOnly, IsThere, IsUnremoved, befalls, injects, unplugs}
-use Rattle.pm_world.specs.Wire.{StaysOn}
+use Rattle.pm_world.specs.PathEnds.{IsOnly, IsThere, IsUnremoved, befalls, injects, unplugs}
+use Rattle.pm_world.specs.DevicePaths.{StaysOn}
 use Rattle.pm_world.proofs.serving.FirstLemmas.{comes_risen}
-use Rattle.pm_world.proofs.wire.KeptLemmas.{stays_unremoved, unremoved}
-use Rattle.pm_world.proofs.wire.PlaceLemmas.{takes_own}
-use Rattle.pm_world.proofs.wire.RunLemmas.{IsPlugged, TellsOf, if_none, if_some, tells_of, there_after}
-use Rattle.pm_world.proofs.wire.WireLemmas.{and_both, and_false, if_false, if_true, one_step, still_above}
+use Rattle.pm_world.proofs.paths.KeptLemmas.{stays_unremoved, unremoved}
+use Rattle.pm_world.proofs.paths.PlaceLemmas.{takes_own}
+use Rattle.pm_world.proofs.paths.RunLemmas.{IsPlugged, TellsOf, if_none, if_some, tells_of, there_after}
+use Rattle.pm_world.proofs.paths.PathLemmas.{and_both, and_false, if_false, if_true, one_step, still_above}
 
 -- ## What is kept
 
@@ -53,7 +53,7 @@ IsForOther c f = f.stamp.conn ≢ c
 -- sent, and it is still on its way there.
 pub record IsShutOff (n c : ℕ) (now : Places) (rising : List (List ℕ)) : Type 0 where
   pub orderly : IsOrderly now
-  pub risen : AllRisen now.multiplier now.upward.frames
+  pub risen : AllHavePortMarks now.multiplier now.upward.frames
   pub true_is : IsTrue n now.multiplier
   pub up : Each (IsNoneOf n c) now.upward.frames
   pub falls : Each (IsForOther c) (falling_to n now)

@@ -12,7 +12,7 @@ use Rattle.disk_model.specs.Histories.{Happening, Plugged, Received, Sent}
 use Rattle.disk_model.specs.Requests.{request_of}
 use Rattle.driver_phases.specs.Flushes.{asks_flush, flushes_taken, is_flush, one_if}
 use Rattle.driver_phases.proofs.flushes.FlushLemmas.{flushes_more}
-use Rattle.pm_world.specs.Ended.{TookFlush}
+use Rattle.pm_world.specs.HonestEnds.{TookFlush}
 
 asks_it : (r : Request) → asks_flush r ≡ true → r ≡ asked.Flush
 asks_it asked.Flush is = refl

@@ -6,7 +6,7 @@ use Rattle.disk_model.specs.Histories.{Happening, Plugged, Sent}
 use Rattle.pm_world.specs.Places.{Places}
 use Rattle.pm_world.specs.Rules.{Rule}
 use Rattle.pm_world.specs.Units.{happens}
-use Rattle.pm_world.specs.Wired.{injects, unplugs}
+use Rattle.pm_world.specs.PathEnds.{injects, unplugs}
 use Rattle.pm_world.specs.declared.step.Answer.{Answer}
 use Rattle.pm_world.specs.declared.step.Step.{Step}
 use Rattle.pm_world.proofs.honest.ShutLemmas.{Adds, IsShutOff, Silent, WaitsFor, WaitsOn, off_after}

@@ -26,7 +26,7 @@ use Rattle.pm_world.specs.declared.step.Step.{Step}
 use Rattle.pm_world.specs.declared.step.Step.TheVariants as step
 use Rattle.pm_world.specs.declared.step.Answer.{Answer}
 use Rattle.pm_world.specs.declared.step.Answer.TheVariants as answer
-use Rattle.pm_world.proofs.links.GoesOn.{RecordedAt, StillGone, chained, goes_on-append, nothing_left, one_goes_on, option_fits, recorded_at, still}
+use Rattle.pm_world.proofs.links.LinkLemmas.{RecordedAt, StillGone, chained, goes_on-append, nothing_left, one_goes_on, option_fits, recorded_at, still}
 use Rattle.pm_world.proofs.steps.Lists.{slice_get-set_same, slice_get-set_other}
 use Rattle.pm_world.proofs.steps.Steps.{at_both, at_device}
 

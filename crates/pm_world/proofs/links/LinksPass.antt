@@ -15,7 +15,7 @@ use Rattle.pm_world.specs.Traffic.{held, is_removed, on_link}
 use Rattle.pm_world.specs.declared.step.Config.{Config}
 use Rattle.pm_world.specs.declared.step.Step.{Step}
 use Rattle.pm_world.specs.declared.step.Answer.{Answer}
-use Rattle.pm_world.proofs.links.GoesOn.{nothing_left, option_fits, still}
+use Rattle.pm_world.proofs.links.LinkLemmas.{nothing_left, option_fits, still}
 use Rattle.pm_world.proofs.upward.Law.{run_stays}
 use Rattle.pm_world.proofs.links.LinksDown.{GoesDown, HasRoomDown, HaveRoomDown, down_fits, host_down-append, port_down-append, rule_goes_down}
 use Rattle.pm_world.proofs.links.LinksUp.{GoesUp, HasRoomUp, HaveRoomUp, host_up-append, link_fits, port_up-append, presence_fits, rule_goes_up}

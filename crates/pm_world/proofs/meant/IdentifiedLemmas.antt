@@ -29,7 +29,7 @@ use Rattle.pm_world.specs.declared.step.Answer.TheVariants as answer
 use Rattle.pm_world.proofs.turns.Delivery.{sized}
 use Rattle.pm_world.proofs.turns.HostFold.{rule_does}
 use Rattle.pm_world.proofs.steps.Orderly.{opening_orderly, orderly_after}
-use Rattle.pm_world.proofs.upward.Risen.{AllRisen, opening_risen, rule_rises}
+use Rattle.pm_world.proofs.upward.PortMarks.{AllHavePortMarks, opening_marks, rule_marks}
 use Rattle.pm_world.proofs.steps.Steps.{at_both, at_device}
 use Rattle.pm_world.specs.Stale.{identified_by, orders_clear}
 use Rattle.pm_world.proofs.ports.DownLemmas.{DownChange, Gone, Put as Came, Quiet, down_change}
@@ -142,12 +142,12 @@ idle_rest old s answer.Ticked new other = absurd other
 idle_rest old s (answer.Polled completion) new other = (tt, tt)
 idle_rest old s a new other = tt
 
-module _ (n : ℕ) (below : n < 15) (known : Bool) (old : Places) (s : Step) (new : Places) (risen : AllRisen old.multiplier old.upward.frames) (h : IsAsking n known old.host) where
+module _ (n : ℕ) (below : n < 15) (known : Bool) (old : Places) (s : Step) (new : Places) (risen : AllHavePortMarks old.multiplier old.upward.frames) (h : IsAsking n known old.host) where
   asking_took : (port conn number : ℕ) (bytes : List ℕ) (report : TakeReport) → Rule old s (Ok (answer.Took port conn number bytes report)) new
       → IsAsking n (known_after n known old s (answer.Took port conn number bytes report) new) new.host
   asking_took port conn number bytes report rule =
       let does = rule_does old s (answer.Took port conn number bytes report) new rule in
-      let of : slice_index bytes 1 % 16 ≡ port = (rule_rises old s (answer.Took port conn number bytes report) new risen rule).tells.0 in
+      let of : slice_index bytes 1 % 16 ≡ port = (rule_marks old s (answer.Took port conn number bytes report) new risen rule).tells.0 in
       let next : IsAsking n (known || ((slice_index bytes 1 % 16 == n) && is_identity old.host.port report.wrote)) does.0 = asking_turn n below known old.host (Took bytes report) does.0 does.1 h in
       subst (λ (b : Bool). IsAsking n b new.host) (sym (known_if known ((port == n) && is_identity old.host.port report.wrote) conn))
       (subst (λ (k : ℕ). IsAsking n (known || ((k == n) && is_identity old.host.port report.wrote)) new.host) of (subst (IsAsking n (known || ((slice_index bytes 1 % 16 == n) && is_identity old.host.port report.wrote))) (sym does.2) next))
@@ -188,16 +188,16 @@ module _ (n : ℕ) (below : n < 15) (known : Bool) (old : Places) (s : Step) (ne
 -- ## A run
 
 run_identified : (n : ℕ) (below : n < 15) (known : Bool) (old : Places) (steps : List Step) (answers : List Answer) (new : Places) (run : Run old steps answers new)
-    → IsOrderly old → AllRisen old.multiplier old.upward.frames → IsAsking n known old.host → AllIdentified n known old steps answers new run
+    → IsOrderly old → AllHavePortMarks old.multiplier old.upward.frames → IsAsking n known old.host → AllIdentified n known old steps answers new run
 run_identified n below known old [] answers new run orderly risen h = tt
 run_identified n below known old (s ∷ steps) [] new run orderly risen h = tt
 run_identified n below known old (s ∷ steps) (a ∷ answers) new run orderly risen h = (
   identified_step n below known old s run.0 risen h a orderly run.1,
   run_identified n below (known_after n known old s a run.0) run.0 steps answers new run.2 (orderly_after old s a run.0 orderly run.1)
-      (rule_rises old s a run.0 risen run.1).risen (asking_step n below known old s run.0 risen h a run.1),
+      (rule_marks old s a run.0 risen run.1).risen (asking_step n below known old s run.0 risen h a run.1),
 )
 
 pub all_identified : (config : Config) (units : List Unit) → is_config config (length units) ≡ true → (steps : List Step) (answers : List Answer) (new : Places) (run : Run (new_world config units) steps answers new) (n : ℕ) → n < 15
     → AllIdentified n false (new_world config units) steps answers new run
 all_identified config units right steps answers new run n below =
-    run_identified n below false (new_world config units) steps answers new run (opening_orderly Switching config units right) (opening_risen config units) (asking_opens n 0 config.memory (sized config (length units) right))
+    run_identified n below false (new_world config units) steps answers new run (opening_orderly Switching config units right) (opening_marks config units) (asking_opens n 0 config.memory (sized config (length units) right))

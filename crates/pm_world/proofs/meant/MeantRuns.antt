@@ -37,11 +37,11 @@ use Rattle.pm_world.proofs.ports.EachLemmas.{Each, each_map}
 use Rattle.pm_world.proofs.meant.IdentifiedLemmas.{AllIdentified, all_identified, asking_step, is_request_to, known_after}
 use Rattle.pm_world.proofs.meant.LiveSteps.{IsOwn, TakesAt}
 use Rattle.pm_world.proofs.meant.MeantLemmas.{Fell, IsOf, Means, latest_then, means_now}
-use Rattle.pm_world.proofs.upward.Moves.{rule_moves}
+use Rattle.pm_world.proofs.upward.FrameMoves.{rule_moves}
 use Rattle.pm_world.proofs.steps.Openings.{nothing_falls}
 use Rattle.pm_world.proofs.meant.OrderTurns.{orders_in_order}
 use Rattle.pm_world.proofs.reported.ReportedLemmas.{first_of, later_of}
-use Rattle.pm_world.proofs.upward.Risen.{AllRisen, opening_risen, rule_rises}
+use Rattle.pm_world.proofs.upward.PortMarks.{AllHavePortMarks, opening_marks, rule_marks}
 use Rattle.pm_world.proofs.meant.StaleLemmas.{Holds, IsComing, IsServed, holds_now, none_coming, opening_holds, still, waits_then}
 use Rattle.pm_world.proofs.steps.Steps.{at_device}
 use Rattle.pm_world.proofs.ports.UpLemmas.{took_step}
@@ -173,7 +173,7 @@ OrSent n last S M old steps answers new run f l = M f l ⊎ SentFor n last S old
 
 run_means : (n : ℕ) (below : n < 15) (known unsent : Bool) (last : Option ℕ) (S : Entry → Option ℕ → Type 0) (M : Stamped → Option ℕ → Type 0) (old : Places)
     (steps : List Step) (answers : List Answer) (new : Places) (run : Run old steps answers new)
-    → Holds n known unsent last old → Means n known last S M old → IsAsking n known old.host → AllRisen old.multiplier old.upward.frames
+    → Holds n known unsent last old → Means n known last S M old → IsAsking n known old.host → AllHavePortMarks old.multiplier old.upward.frames
     → InOrder n unsent old steps answers new run → AllIdentified n known old steps answers new run
     → (IsComing n unsent old → PassesNone n old steps answers new run)
     → Known n (OrSubmitted n last S old steps answers new run) (OrSent n last S M old steps answers new run) new
@@ -191,7 +191,7 @@ run_means n below known unsent last S M old (s ∷ steps) (a ∷ answers) new ru
     new run.2 (holds_now n below known unsent last old s a run.0 run.1 h served first)
     (means_now n below known unsent last old s a run.0 run.1 h served first asking S (Taking n last S s a) M (Sending n S M old run.0 s a) m (λ e l it. inl it) (λ f l it. inl it) (λ e taken. inr (taken, refl))
     (λ f at is one own from. inr (record { at = at; is = is; one = one; own = own; from = from })))
-    (asking_step n below known old s run.0 risen asking a run.1) (rule_rises old s a run.0 risen run.1).risen ordered.1 identified.1 later)
+    (asking_step n below known old s run.0 risen asking a run.1) (rule_marks old s a run.0 risen run.1).risen ordered.1 identified.1 later)
   where
     served : IsServed n known unsent old s a run.0
     served = record { order = ordered.0; identified = identified.0 }
@@ -237,7 +237,7 @@ module _ (config : Config) (units : List Unit) (right : is_config config (length
   reached : Known n (OrSubmitted n None NoRequest (new_world config units) steps answers now run) (OrSent n None NoRequest NoFrame (new_world config units) steps answers now run) now
   reached =
       run_means n below false false None NoRequest NoFrame (new_world config units) steps answers now run (opening_holds config units right n) opening_means
-      (asking_opens n 0 config.memory (sized config (length units) right)) (opening_risen config units) (orders_in_order config units right steps answers now run n below)
+      (asking_opens n 0 config.memory (sized config (length units) right)) (opening_marks config units) (orders_in_order config units right steps answers now run n below)
       (all_identified config units right steps answers now run n below) (λ coming. absurd (none_coming config units right n coming))
 
   -- what was sent and submitted in the run

@@ -30,7 +30,7 @@ use Rattle.pm_world.specs.declared.step.Answer.TheVariants as answer
 use Rattle.pm_world.proofs.cleared.Cleared as ports
 use Rattle.pm_world.proofs.cleared.Cleared.{rule_goes, run_waits}
 use Rattle.pm_world.proofs.steps.Orderly.{orderly_after}
-use Rattle.pm_world.proofs.upward.Risen.{AllRisen, rule_rises}
+use Rattle.pm_world.proofs.upward.PortMarks.{AllHavePortMarks, rule_marks}
 use Rattle.pm_world.specs.Line.{IsLine, NoneDown, NoneUp, is_reply}
 use Rattle.pm_world.specs.Stale.{is_clear, is_from, orders_clear, unsent_after}
 use Rattle.pm_world.proofs.meant.ChangeLemmas.{Change, Falls, Hears, IsBank, IsPlain, Replies, Rises, Stays, Takes, Turns}
@@ -76,7 +76,7 @@ order_in now = now.host.driver.plan.order
 pub record Knows (n : ℕ) (unsent : Bool) (now : Places) : Type 0 where
   pub going : IsGoing now.host
   pub their : AreOfTheir now.host.port
-  pub risen : AllRisen now.multiplier now.upward.frames
+  pub risen : AllHavePortMarks now.multiplier now.upward.frames
   pub orderly : IsOrderly now
   pub true_is : IsTrue n now.multiplier
   pub fit : AreFit now.multiplier.registers
@@ -154,8 +154,8 @@ module _ (n : ℕ) (below : n < 15) (unsent : Bool) (old : Places) (s : Step) (a
   abbrev now : Bool
   now = unsent_after n unsent old s a new
 
-  pub risen_now : AllRisen new.multiplier new.upward.frames
-  risen_now = (rule_rises old s a new k.risen rule).risen
+  pub risen_now : AllHavePortMarks new.multiplier new.upward.frames
+  risen_now = (rule_marks old s a new k.risen rule).risen
 
   pub orderly_now : IsOrderly new
   orderly_now = orderly_after old s a new k.orderly rule

@@ -38,7 +38,7 @@ use Rattle.pm_world.specs.declared.step.Answer.{Answer}
 use Rattle.pm_world.specs.declared.step.Answer.TheVariants as answer
 use Rattle.pm_world.proofs.turns.Delivery.{sized}
 use Rattle.pm_world.proofs.steps.Orderly.{opening_orderly}
-use Rattle.pm_world.proofs.upward.Risen.{HasRisen, opening_risen}
+use Rattle.pm_world.proofs.upward.PortMarks.{HasPortMark, opening_marks}
 use Rattle.pm_world.specs.Line.{AreNotices, OnLine, is_reply}
 use Rattle.pm_world.proofs.control_port.LineLemmas.{awaited_reply, heard_line, may_come, pushed_line, taken_line, tick_line, turned}
 use Rattle.pm_world.proofs.control_port.ListLemmas.{line_passes, line_quiet, line_reply, line_rises, line_up, line_waits, notices_app}
@@ -176,8 +176,8 @@ module _ (n : ℕ) (below : n < 15) (unsent : Bool) (old : Places) (k : Knows n 
       ];
     }
       where
-        risen : HasRisen f
-        risen = (subst (λ (frames : List Stamped). All HasRisen frames) link k.risen.frames) 0 f (omega arith)
+        risen : HasPortMark f
+        risen = (subst (λ (frames : List Stamped). All HasPortMark frames) link k.risen.frames) 0 f (omega arith)
 
         port : port_of f.bytes ≡ f.stamp.port
         port = risen.pm_port of.does.framed
@@ -593,7 +593,7 @@ pub opening_knows : (config : Config) (units : List Unit) → is_config config (
 opening_knows config units right n = record {
   going = going_opens 0 config.memory (sized config (length units) right);
   their = λ d s c low busy last. none_issued d s c last;
-  risen = opening_risen config units;
+  risen = opening_marks config units;
   orderly = opening_orderly Switching config units right;
   true_is = opening_true config units n;
   fit = opening_fit config.ports most;

@@ -19,7 +19,7 @@ use Rattle.hba_driver.specs.Orders.{is_queued}
 use Rattle.hba_driver.specs.Served.{IsServed}
 use Rattle.hba_driver.specs.Submits.{new_entry}
 use Rattle.pm_world.specs.Disks.{DiskRun, EndedSince, FlushedSince, IsNewDisk, disk_history}
-use Rattle.pm_world.specs.Ended.{StandsAt}
+use Rattle.pm_world.specs.HonestEnds.{StandsAt}
 use Rattle.pm_world.specs.Flushing.{FlushesFollowWrites, HasWrites}
 use Rattle.pm_world.specs.InOrder.{disk_run}
 use Rattle.pm_world.specs.Places.{Place, Places, is_config, new_world}

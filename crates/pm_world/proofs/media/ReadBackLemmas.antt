@@ -21,7 +21,7 @@ use Rattle.hba_laws.specs.Client.{own}
 use Rattle.hba_laws.specs.History.{filled}
 use Rattle.hba_driver.specs.declared.mode.Mode.TheVariants.{Switching}
 use Rattle.pm_world.specs.Disks.{disk_history}
-use Rattle.pm_world.specs.Ended.{ReadsSectors, StandsAt, WritesSectors}
+use Rattle.pm_world.specs.HonestEnds.{ReadsSectors, StandsAt, WritesSectors}
 use Rattle.pm_world.specs.Places.{Place}
 use Rattle.pm_world.specs.Runs.{over}
 use Rattle.pm_world.specs.Units.{LivesOn, happens}

@@ -52,7 +52,7 @@ use Rattle.pm_world.specs.declared.step.Answer.TheVariants as answer
 use Rattle.pm_world.specs.Disks.{EndedSince, host_turns}
 use Rattle.pm_world.specs.Polled.{IsReportedIn}
 use Rattle.pm_world.specs.Submitted.{SentAsSubmitted, StandsThere, WrittenAsSubmitted}
-use Rattle.pm_world.specs.Touched.{AreTouched, goes, opens}
+use Rattle.pm_world.specs.HostTouches.{AreTouched, goes, opens}
 use Rattle.pm_world.proofs.polls.ClientLemmas.{IsUnread, came_next, later, same_entry, turn_stays}
 use Rattle.pm_world.proofs.turns.Delivery.{sized}
 use Rattle.pm_world.proofs.turns.HostFold.{does-append, run_does}

@@ -37,7 +37,7 @@ use Rattle.hba_driver.proofs.delivery.InsideLemmas.{as_long, tick_client}
 use Rattle.hba_driver.proofs.issued.ServedLemmas.{turns_serve}
 use Rattle.hba_driver.proofs.requests.StandLemmas.{in_slots}
 use Rattle.hba_driver.proofs.calls.SubmitLemmas.{none_conflict}
-use Rattle.pm_world.specs.Touched.{AreTouched, goes}
+use Rattle.pm_world.specs.HostTouches.{AreTouched, goes}
 use Rattle.hba_driver.proofs.steady.SteadyTurns.{begun_later}
 use Rattle.pm_world.proofs.polls.CalmLemmas.{IsFreed, turn_freed}
 use Rattle.pm_world.proofs.serving.TouchedLemmas.{AreKept, touched_kept, touched_served, touched_sound}

@@ -32,7 +32,7 @@ use Rattle.pm_world.proofs.turns.HostFold.{rule_does}
 use Rattle.pm_world.proofs.meant.IdentifiedLemmas.{AllIdentified, all_identified, known_after}
 use Rattle.pm_world.proofs.ports.KeepingLemmas.{KeepsTo, keeps_after, keeps_one}
 use Rattle.pm_world.proofs.upward.Law.{run_append}
-use Rattle.pm_world.proofs.upward.Moves.{rule_moves}
+use Rattle.pm_world.proofs.upward.FrameMoves.{rule_moves}
 use Rattle.pm_world.proofs.steps.Orderly.{opening_orderly, run_orderly}
 use Rattle.pm_world.proofs.meant.OrderTurns.{orders_in_order}
 use Rattle.pm_world.proofs.reported.ReportedLemmas.{StoodIn, SubmitsAt, SubmittedIn, step_stood, submitted_first, submitted_later}

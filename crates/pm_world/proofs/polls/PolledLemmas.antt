@@ -58,11 +58,11 @@ use Rattle.pm_world.specs.declared.step.Answer.TheVariants as answer
 use Rattle.pm_world.proofs.turns.Delivery.{sized}
 use Rattle.pm_world.proofs.honest.DisksLemmas.{IsIssued, IsRequestAt, MovesAll, has_command, issued_of_done, read_moves, request_at}
 use Rattle.pm_world.proofs.turns.HostFold.{does-append, run_does}
-use Rattle.pm_world.proofs.upward.Risen.{AllRisen, opening_risen, run_rises}
+use Rattle.pm_world.proofs.upward.PortMarks.{AllHavePortMarks, opening_marks, run_marks}
 use Rattle.pm_world.specs.Disks.{Before, DiskRun, EndedSince, FlushedSince, IsNewDisk, Since, TookHonestly, WasSubmitted, disk_history, host_turns}
-use Rattle.pm_world.specs.Ended.{EndsHonestly, ReadsSectors, StandsAt, WritesSectors}
+use Rattle.pm_world.specs.HonestEnds.{EndsHonestly, ReadsSectors, StandsAt, WritesSectors}
 use Rattle.pm_world.specs.Polled.{HonestPolls, IsFilledAt, IsPolledHonestly, IsReportedIn}
-use Rattle.pm_world.specs.Touched.{AreTouched, opens}
+use Rattle.pm_world.specs.HostTouches.{AreTouched, opens}
 use Rattle.pm_world.proofs.serving.BroughtLemmas.{leaves_filled}
 use Rattle.pm_world.proofs.polls.CalmLemmas.{IsFreed}
 use Rattle.pm_world.proofs.polls.ClientLemmas.{bytes_stay, came_next}
@@ -242,8 +242,8 @@ module _ (config : Config) (units : List Unit) (fits : is_config config (length 
   entry_is : new_entry c.ticket.0 submitted.dev submitted.request ≡ rephased Waits facts.entry
   entry_is = ap (λ (t : Ticket). new_entry t.0 submitted.dev submitted.request) (sym ticket_is) ∙ submitted.is
 
-  risen : AllRisen told.took.at.multiplier told.took.at.upward.frames
-  risen = (run_rises (new_world config units) told.took.before told.took.told told.took.at (opening_risen config units) told.took.came).1
+  risen : AllHavePortMarks told.took.at.multiplier told.took.at.upward.frames
+  risen = (run_marks (new_world config units) told.took.before told.took.told told.took.at (opening_marks config units) told.took.came).1
 
   comes : ComesRisen (answer.Took told.port told.conn told.number told.bytes told.report) told.took.next
   comes = comes_risen told.took.at told.s (answer.Took told.port told.conn told.number told.bytes told.report) told.took.next risen told.took.rule

@@ -19,12 +19,12 @@ use Rattle.pm_world.specs.Downward.{falling_to, fell_to, pushed_by}
 use Rattle.pm_world.specs.Places.{IsOrderly, Places}
 use Rattle.pm_world.specs.Rules.{Rule}
 use Rattle.pm_world.specs.Runs.{Telling}
-use Rattle.pm_world.specs.Wired.{for_port}
+use Rattle.pm_world.specs.PathEnds.{for_port}
 use Rattle.pm_world.specs.declared.step.Step.{Step}
 use Rattle.pm_world.specs.declared.step.Step.TheVariants as step
 use Rattle.pm_world.specs.declared.step.Answer.{Answer}
 use Rattle.pm_world.specs.declared.step.Answer.TheVariants as answer
-use Rattle.pm_world.proofs.downward.FallMoves.{Goes, Lands, Loses, Rests, rule_moves_down}
+use Rattle.pm_world.proofs.downward.DownMoves.{Goes, Lands, Loses, Rests, rule_moves_down}
 use Rattle.pm_world.specs.Stale.{identified_by, is_clear, orders_clear}
 use Rattle.pm_world.proofs.ports.EachLemmas.{Each, any_one, each_back, each_front}
 use Rattle.pm_world.proofs.ports.KeepingLemmas.{drop_own}

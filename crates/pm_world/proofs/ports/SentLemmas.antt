@@ -22,8 +22,8 @@ use Rattle.pm_world.proofs.upward.Law.{nothing_lost}
 use Rattle.pm_world.proofs.steps.Openings.{nothing_stands}
 use Rattle.pm_world.proofs.upward.Recorded.{IsLed, all}
 use Rattle.pm_world.proofs.steps.Steps.{AtDevice, at_both, at_device}
-use Rattle.pm_world.proofs.wire.KeptLemmas.{Was, was}
-use Rattle.pm_world.proofs.wire.WireLemmas.{none_both}
+use Rattle.pm_world.proofs.paths.KeptLemmas.{Was, was}
+use Rattle.pm_world.proofs.paths.PathLemmas.{none_both}
 use Rattle.pm_world.specs.Connections.{IsUnused}
 use Rattle.pm_world.proofs.ports.FirmLemmas.{IsFirm, firm_after, opening_firm, seen_at, whole_closed}
 

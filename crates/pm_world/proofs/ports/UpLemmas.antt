@@ -13,7 +13,7 @@ use Rattle.pm_world.specs.declared.step.Step.{Step}
 use Rattle.pm_world.specs.declared.step.Step.TheVariants as step
 use Rattle.pm_world.specs.declared.step.Answer.{Answer}
 use Rattle.pm_world.specs.declared.step.Answer.TheVariants as answer
-use Rattle.pm_world.proofs.upward.Moves.{rule_moves}
+use Rattle.pm_world.proofs.upward.FrameMoves.{rule_moves}
 use Rattle.pm_world.proofs.steps.Steps.{at_both, at_device}
 use Rattle.hba_driver.specs.Known.{is_identity}
 use Rattle.pm_world.specs.Stale.{identified_by, orders_clear}

@@ -31,11 +31,11 @@ use Rattle.pm_world.specs.Turns.{IsOfItsPort, turn_of}
 use Rattle.pm_world.specs.declared.step.Step.{Step}
 use Rattle.pm_world.specs.declared.step.Answer.{Answer}
 use Rattle.pm_world.specs.declared.step.Answer.TheVariants as answer
-use Rattle.pm_world.proofs.upward.Risen.{AllRisen, run_rises}
-use Rattle.pm_world.specs.Wired.{for_port}
+use Rattle.pm_world.proofs.upward.PortMarks.{AllHavePortMarks, run_marks}
+use Rattle.pm_world.specs.PathEnds.{for_port}
 use Rattle.pm_world.proofs.serving.HostLemmas.{DriversServe, HasPushed, HostOn, step_flushes, step_keeps, step_pushes}
 use Rattle.pm_world.proofs.ports.DownLemmas.{given_for}
-use Rattle.pm_world.proofs.wire.WireLemmas.{drop_front}
+use Rattle.pm_world.proofs.paths.PathLemmas.{drop_front}
 
 -- the host took a FIS of port n
 abbrev pub is_taken_of : ℕ → Answer → Bool
@@ -77,11 +77,11 @@ gives_none n len turns now (x ∷ xs) below h =
 -- each FIS that is taken has the PM Port that the answer says
 pub record ComesRisen (a : Answer) (new : Places) : Type 0 where
   pub own_port : IsOfItsPort a
-  pub risen : AllRisen new.multiplier new.upward.frames
+  pub risen : AllHavePortMarks new.multiplier new.upward.frames
 
-pub comes_risen : (old : Places) (s : Step) (a : Answer) (new : Places) → AllRisen old.multiplier old.upward.frames → Rule old s (Ok a) new → ComesRisen a new
+pub comes_risen : (old : Places) (s : Step) (a : Answer) (new : Places) → AllHavePortMarks old.multiplier old.upward.frames → Rule old s (Ok a) new → ComesRisen a new
 comes_risen old s a new risen rule =
-    let r = run_rises old (s ∷ []) (a ∷ []) new risen (new, rule, refl) in
+    let r = run_marks old (s ∷ []) (a ∷ []) new risen (new, rule, refl) in
     record { own_port = All-head IsOfItsPort a [] r.0; risen = r.1 }
 
 module _ (law : DriversServe) (n len : ℕ) (below : n < 15) (right : is_memory_size len ≡ true) where

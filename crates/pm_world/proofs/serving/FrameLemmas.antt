@@ -34,7 +34,7 @@ use Rattle.hba_laws.proofs.isolation.OutgoingLemmas as outgoing_lemmas
 use Rattle.hba_laws.proofs.placed.SpareLemmas.{gives_commands}
 use Rattle.hba_driver.specs.Events.{IsSoundHost, events_over, shared_by}
 use Rattle.hba_driver.specs.HostTurns.{Host, HostTurn, Pushes}
-use Rattle.pm_world.specs.Touched.{AreTouched, goes, opens}
+use Rattle.pm_world.specs.HostTouches.{AreTouched, goes, opens}
 use Rattle.pm_world.proofs.serving.TouchedLemmas.{touched_sound}
 
 -- ## The command FIS of a slot

@@ -34,11 +34,11 @@ use Rattle.pm_world.specs.declared.step.Answer.{Answer}
 use Rattle.pm_world.specs.declared.step.Answer.TheVariants as answer
 use Rattle.pm_world.proofs.turns.HostFold.{rule_does}
 use Rattle.pm_world.proofs.steps.Steps.{at_both, at_device}
-use Rattle.pm_world.specs.Touched.{AreTouched, goes}
-use Rattle.pm_world.specs.Wired.{for_port}
+use Rattle.pm_world.specs.HostTouches.{AreTouched, goes}
+use Rattle.pm_world.specs.PathEnds.{for_port}
 use Rattle.pm_world.proofs.serving.FrameLemmas.{pushes_frame}
 use Rattle.pm_world.proofs.serving.GivenLemmas.{HasGiven, host_gives}
-use Rattle.pm_world.proofs.wire.WireLemmas.{drop_front}
+use Rattle.pm_world.proofs.paths.PathLemmas.{drop_front}
 use Rattle.disk_ends.specs.Same.{SlotCommand}
 
 -- ## The host

@@ -29,7 +29,7 @@ use Rattle.hba_driver.proofs.delivery.InsideLemmas.{HaveGoodPrds, as_long, good_
 use Rattle.hba_driver.proofs.issued.ServedLemmas.{turns_serve}
 use Rattle.hba_driver.proofs.events.SoundLemmas.{hosts_stay_sound}
 use Rattle.pm_world.proofs.turns.HostFold.{does-append}
-use Rattle.pm_world.specs.Touched.{AreTouched, goes, opens}
+use Rattle.pm_world.specs.HostTouches.{AreTouched, goes, opens}
 
 -- ## The host
 

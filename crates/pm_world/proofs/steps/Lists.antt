@@ -1,4 +1,4 @@
--- For `World::run` and `wires_go_on`. Elements of a list after a write, and the frames of a connection in joined lists.
+-- For `World::run` and `paths_go_on`. Elements of a list after a write, and the frames of a connection in joined lists.
 use Rattle.std.proofs.Common.{◌≡◌, ◌≢◌, ℕ, zero, suc, List, [], ◌∷◌, ◌++◌, Some, None, Bool, true, false, cond, refl, sym, ap, map}
 use Rattle.std.specs.Prelude.{slice_get, slice_set, ◌&&◌, ◌==◌, if◌then◌else◌}
 use Rattle.std.proofs.lemmas.Option.{same_Some}

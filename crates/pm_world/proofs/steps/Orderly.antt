@@ -1,4 +1,4 @@
--- For `wires_go_on`, clause `orderly`. Every world is orderly: a new one is, and no step makes it otherwise.
+-- For `paths_go_on`, clause `orderly`. Every world is orderly: a new one is, and no step makes it otherwise.
 use Rattle.std.proofs.Common.{◌≡◌, ◌≢◌, ℕ, ◌<◌, ◌≤◌, ◌==◌, Bool, true, false, List, [], ◌∷◌, length, map, Option, Some, None, refl, sym, ap, ◌∙◌, subst, arith}
 use Rattle.std.specs.Prelude.{slice_set, is_none, is_some, nat_le, if◌then◌else◌, Ok, MatchOption, MatchBool, ◌&&◌, ◌%◌}
 use Rattle.std.proofs.lemmas.Bool.{eqb-true, leb-false, leb-true}
@@ -23,7 +23,7 @@ use Rattle.multiplier.specs.declared.multiplier.Passed.TheVariants as passed
 use Rattle.multiplier.proofs.Gone.{still_up_to}
 use Rattle.multiplier.proofs.Ports as ports
 use Rattle.hba_driver.specs.declared.mode.Mode.{Mode}
-use Rattle.pm_world.specs.Wire.{ReachedAreOrderly}
+use Rattle.pm_world.specs.DevicePaths.{ReachedAreOrderly}
 use Rattle.pm_world.specs.Places.{KnowsItsConnections, Places, Place, Queue, IsOrderly, is_config, new_world_in, opening, with_device, with_multiplier, with_upward, with_downward, with_host}
 use Rattle.pm_world.specs.Rules.{OnDevice, OnDeviceAndMultiplier, PmPresenceRule, PmFromDeviceRule, PmDownRule, PmFromHostRule, PmUpRule, CameRule, DiskSendRule, GoneRule, InjectRule, DiskTakeRule, Rule, Run, Outcome, recorded}
 use Rattle.pm_world.specs.Traffic.{is_removed}

@@ -1,4 +1,4 @@
--- For `wires_go_on`, clause `orderly`. What a step that gives an answer finds and leaves, by the parts that it works
+-- For `paths_go_on`, clause `orderly`. What a step that gives an answer finds and leaves, by the parts that it works
 -- on.
 use Rattle.std.proofs.Common.{◌≡◌, ℕ, Option, Some, None, refl}
 use Rattle.std.specs.Prelude.{slice_get, Ok, Err, MatchOption}

@@ -6,7 +6,7 @@ use Rattle.hba_driver.specs.declared.mode.Mode.{Mode}
 use Rattle.hba_driver.specs.Delivered.{HasCome, touches_of}
 use Rattle.hba_driver.specs.HostTurns.{Does, DoesAll, Host, HostTurn, Took}
 use Rattle.hba_driver.proofs.delivery.DeliveredLemmas.{turns_deliver}
-use Rattle.pm_world.specs.Apart.{AreKeptApart, IsApart, IsKeptApart, KeepsApart}
+use Rattle.pm_world.specs.IssuedApart.{AreKeptApart, IsApart, IsKeptApart, KeepsApart}
 use Rattle.pm_world.specs.Delivery.{Delivers, EachDelivers, HasDelivered, Tells}
 use Rattle.pm_world.specs.Places.{Places, is_config, new_world_in, opening_host_in}
 use Rattle.pm_world.specs.Rules.{Rule, Run}

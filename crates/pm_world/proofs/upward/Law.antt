@@ -16,7 +16,7 @@ use Rattle.pm_world.specs.declared.step.Step.{Step}
 use Rattle.pm_world.specs.declared.step.Answer.{Answer}
 use Rattle.pm_world.specs.declared.step.Answer.TheVariants as answer
 use Rattle.pm_world.proofs.steps.Lists.{stamped-append, of_conn-append, all_marked-append, stamped-one, of_conn-one}
-use Rattle.pm_world.proofs.upward.Moves.{Stays, Enters, Rises, Says, Leaves, GoesUp, Moves, rule_moves}
+use Rattle.pm_world.proofs.upward.FrameMoves.{Stays, Enters, Rises, Says, Leaves, GoesUp, Moves, rule_moves}
 use Rattle.pm_world.proofs.steps.Orderly.{orderly_after, removed_after, run_orderly}
 
 -- what is at a port and on the host's link decides what is on its way

@@ -35,7 +35,7 @@ use Rattle.pm_world.specs.declared.step.StepError.TheVariants as error
 use Rattle.pm_world.proofs.steps.Lists.{slice_get-set_same, slice_get-set_other}
 use Rattle.pm_world.proofs.steps.Openings.{port_opening}
 use Rattle.pm_world.proofs.upward.Law.{in_parts, nothing_after, run_append}
-use Rattle.pm_world.proofs.upward.Moves.{Moves, rule_moves}
+use Rattle.pm_world.proofs.upward.FrameMoves.{Moves, rule_moves}
 use Rattle.pm_world.proofs.steps.Orderly.{known, roomy, device_roomy, down_roomy, heard_roomy, up_roomy, opening_orderly, orderly_after, run_orderly}
 use Rattle.pm_world.proofs.steps.Steps.{at_device, at_both}
 

@@ -1,6 +1,6 @@
 //! Laws of the orders of a host to the control port. The functions do nothing when they run.
 
-ghost use Rattle.pm_world.specs.GoingOn.{PortsGoOn};
+ghost use Rattle.pm_world.specs.PortsGoOn.{PortsGoOn};
 ghost use Rattle.pm_world.specs.Line.{OneOrderAtATime};
 
 /// Holds in every world that a run from a new one leads to. At most one order of the control port, or

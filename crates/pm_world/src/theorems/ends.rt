@@ -5,18 +5,18 @@ ghost use Rattle.pm_world.specs.Media.{MediaAreOfWrites};
 ghost use Rattle.pm_world.specs.Named.{PolledErrorsAreNamed};
 ghost use Rattle.pm_world.specs.Polled.{HonestPolls};
 ghost use Rattle.pm_world.specs.ReadBack.{DisksHaveWrites, ReadsBringWrites, WritesStayThere};
-ghost use Rattle.pm_world.specs.Wire.{DroppedNeverComes, PluggedIsOnWire, ReachedAreOrderly};
-ghost use Rattle.pm_world.specs.Wire.{UnitWiresGoOn, WiresGoOn};
+ghost use Rattle.pm_world.specs.DevicePaths.{DroppedNeverComes, PluggedIsOnPath, ReachedAreOrderly};
+ghost use Rattle.pm_world.specs.DevicePaths.{UnitPathsGoOn, PathsGoOn};
 
-/// What each step of a world does on the wire of one device, whatever the device sends. The host
+/// What each step of a world does on the path of one device, whatever the device sends. The host
 /// gives a FIS, the device takes one, the device sends one, the host takes the next one, or nothing
 /// is done at either end. That goes on until the device is unplugged. Every world to which a run from
 /// a new one leads is one for which this is said.
-pub fn wires_go_on()
+pub fn paths_go_on()
     ensures orderly { ReachedAreOrderly }
-    ensures plugged { PluggedIsOnWire }
-    ensures steps { WiresGoOn }
-    ensures units { UnitWiresGoOn }
+    ensures plugged { PluggedIsOnPath }
+    ensures steps { PathsGoOn }
+    ensures units { UnitPathsGoOn }
     ensures dropped { DroppedNeverComes }
 {}
 

@@ -1,4 +1,4 @@
--- For `wires_go_on`. Which connection the unit at a port is plugged in as, in each step that does not plug it in anew.
+-- For `paths_go_on`. Which connection the unit at a port is plugged in as, in each step that does not plug it in anew.
 use Rattle.std.proofs.Common.{◌≡◌, ◌==◌, ℕ, true, false, List, ◌∷◌, sym, ap, subst, ◌∙◌, inl, inr}
 use Rattle.std.proofs.Common.{Option, Some, None, Ok}
 use Rattle.std.specs.Prelude.{slice_get, slice_set, MatchOption}
@@ -15,8 +15,8 @@ use Rattle.pm_world.specs.declared.step.Answer.{Answer}
 use Rattle.pm_world.specs.declared.step.Answer.TheVariants as answer
 use Rattle.pm_world.proofs.steps.Lists.{slice_get-set_other, slice_get-set_same}
 use Rattle.pm_world.proofs.steps.Steps.{AtBoth, AtDevice, at_both, at_device}
-use Rattle.pm_world.specs.Wired.{IsOnly}
-use Rattle.pm_world.specs.Wire.{StaysOn}
+use Rattle.pm_world.specs.PathEnds.{IsOnly}
+use Rattle.pm_world.specs.DevicePaths.{StaysOn}
 
 -- ## A place that is written over
 

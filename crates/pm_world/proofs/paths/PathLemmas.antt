@@ -1,4 +1,4 @@
--- For `wires_go_on`. What each step of a world does on the wire of one device.
+-- For `paths_go_on`. What each step of a world does on the path of one device.
 use Rattle.std.proofs.Common.{◌≡◌, ◌≢◌, ◌==◌, ◌&&◌, ◌⊎◌, eqb, ℕ, Bool, true, false, List, [], ◌∷◌, ◌++◌, append_assoc, drop, length, map, refl, sym}
 use Rattle.std.proofs.Common.{ap, subst, ◌∙◌, inl, inr, Option, Some, None, Ok}
 use Rattle.std.specs.Prelude.{if◌then◌else◌, option_to_list, slice_get, take, MatchBool, MatchOption}
@@ -22,16 +22,16 @@ use Rattle.pm_world.specs.declared.step.Step.{Step}
 use Rattle.pm_world.specs.declared.step.Step.TheVariants as step
 use Rattle.pm_world.specs.declared.step.Answer.{Answer}
 use Rattle.pm_world.specs.declared.step.Answer.TheVariants as answer
-use Rattle.pm_world.proofs.downward.FallMoves.{Ends, Goes, Lands, Loses, Rests, Starts, rule_moves_down}
+use Rattle.pm_world.proofs.downward.DownMoves.{Ends, Goes, Lands, Loses, Rests, Starts, rule_moves_down}
 use Rattle.pm_world.proofs.upward.Law.{nothing_lost}
 use Rattle.pm_world.proofs.steps.Orderly.{removed_after}
 use Rattle.pm_world.proofs.steps.Lists.{all_marked-append}
 use Rattle.pm_world.proofs.steps.Steps.{at_both, at_device}
 use Rattle.pm_world.specs.Rules.{CameRule, DiskSendRule, DiskTakeRule, GoneRule, InjectRule, PmDownRule, PmFromDeviceRule, PmPresenceRule}
-use Rattle.pm_world.specs.Wired.{AreAmong, IsAtHost, IsAway, IsUnremoved, befalls, descending, descending_on, for_port}
-use Rattle.pm_world.specs.Wire.{Comes, DroppedNeverComes, Gives, GoesOnWire, IsOnWire, Sends, StaysOn, Still, Takes, WiresGoOn}
-use Rattle.pm_world.proofs.wire.KeptLemmas.{stays_unremoved, unremoved}
-use Rattle.pm_world.proofs.wire.PlaceLemmas.{only_after, takes_own}
+use Rattle.pm_world.specs.PathEnds.{AreAmong, IsAtHost, IsAway, IsUnremoved, befalls, descending, descending_on, for_port}
+use Rattle.pm_world.specs.DevicePaths.{Comes, DroppedNeverComes, Gives, GoesOnPath, IsOnPath, Sends, StaysOn, Still, Takes, PathsGoOn}
+use Rattle.pm_world.proofs.paths.KeptLemmas.{stays_unremoved, unremoved}
+use Rattle.pm_world.proofs.paths.PlaceLemmas.{only_after, takes_own}
 
 -- ## Some of a list
 
@@ -223,7 +223,7 @@ flat_more n (x ∷ xs) f =
 -- ## Each answer
 
 module _ (n c : ℕ) (old new : Places) (s : Step) (down up : List (List ℕ)) (device : n ≢ control_port) (orderly : IsOrderly old)
-    (w : IsOnWire n c old down up) where
+    (w : IsOnPath n c old down up) where
   alone_after : (a : Answer) → Rule old s (Ok a) new → StaysOn n c a → (d : ℕ) → d ≢ c → IsAway n d new
   alone_after a rule stays d other = (none_other n c d old new s a device orderly rule stays other (w.alone d other)).1
 
@@ -235,7 +235,7 @@ module _ (n c : ℕ) (old new : Places) (s : Step) (down up : List (List ℕ)) (
 
   -- what is on its way afterwards is all that is to be shown
   on_now : (a : Answer) (down_now up_now : List (List ℕ)) → Rule old s (Ok a) new → StaysOn n c a → transit n c new ≡ all_marked n up_now
-      → AreAmong (descending_on n c new) down_now → IsOnWire n c new down_now up_now
+      → AreAmong (descending_on n c new) down_now → IsOnPath n c new down_now up_now
   on_now a down_now up_now rule stays above below = record {
     above = above;
     alone = alone_after a rule stays;
@@ -254,17 +254,17 @@ module _ (n c : ℕ) (old new : Places) (s : Step) (down up : List (List ℕ)) (
   below_still same = subst (λ (xs : List (List ℕ)). AreAmong xs down) (sym same) w.below
 
   fewer : (a : Answer) → Rule old s (Ok a) new → StaysOn n c a → taken_by n c a ≡ [] → sent_by n c a ≡ [] → AreAmong (descending_on n c new) down
-      → IsOnWire n c new down up
+      → IsOnPath n c new down up
   fewer a rule stays untaken unsent below = on_now a down up rule stays (above_still a rule stays untaken unsent) below
 
   nothing : (a : Answer) → Rule old s (Ok a) new → StaysOn n c a → taken_by n c a ≡ [] → sent_by n c a ≡ [] → descending_on n c new ≡ descending_on n c old
-      → IsOnWire n c new down up
+      → IsOnPath n c new down up
   nothing a rule stays untaken unsent same = fewer a rule stays untaken unsent (below_still same)
 
   -- ---- a FIS is sent
 
   sent_here : (port conn number : ℕ) (bytes : List ℕ) → Rule old s (Ok (answer.Sent port conn number bytes)) new
-      → StaysOn n c (answer.Sent port conn number bytes) → eqb port n ≡ true → IsOnWire n c new down (up ++ bytes ∷ [])
+      → StaysOn n c (answer.Sent port conn number bytes) → eqb port n ≡ true → IsOnPath n c new down (up ++ bytes ∷ [])
   sent_here port conn number bytes rule stays here =
       let is : sent_by n c (answer.Sent port conn number bytes) ≡ bytes ∷ [] =
       if_true (port == n && conn == c) (bytes ∷ []) (and_both (port == n) (conn == c) here (eq-eqb conn c (stays here))) in
@@ -277,7 +277,7 @@ module _ (n c : ℕ) (old new : Places) (s : Step) (down up : List (List ℕ)) (
       (below_still (rests_on n c old new (rule_moves_down old s (answer.Sent port conn number bytes) new orderly rule)))
 
   sent_elsewhere : (port conn number : ℕ) (bytes : List ℕ) → Rule old s (Ok (answer.Sent port conn number bytes)) new
-      → StaysOn n c (answer.Sent port conn number bytes) → eqb port n ≡ false → IsOnWire n c new down up
+      → StaysOn n c (answer.Sent port conn number bytes) → eqb port n ≡ false → IsOnPath n c new down up
   sent_elsewhere port conn number bytes rule stays other =
       nothing (answer.Sent port conn number bytes) rule stays refl
       (if_false (port == n && conn == c) (bytes ∷ []) (and_false (port == n) (conn == c) (λ here. absurd (true≢false (sym here ∙ other)))))
@@ -292,15 +292,15 @@ module _ (n c : ℕ) (old new : Places) (s : Step) (down up : List (List ℕ)) (
     own : conn ≡ c
     marks : bytes ≡ marked plain n
     first : up ≡ plain ∷ later
-    wire : IsOnWire n c new down later
+    path : IsOnPath n c new down later
 
   next_up : (conn : ℕ) (bytes : List ℕ) (rest all : List (List ℕ)) → up ≡ all → bytes ∷ rest ≡ all_marked n all → conn ≡ c
-      → ((later : List (List ℕ)) → rest ≡ all_marked n later → IsOnWire n c new down later) → IsNextUp conn bytes
-  next_up conn bytes rest [] is same own wire = cc same
-  next_up conn bytes rest (u ∷ later) is same own wire =
+      → ((later : List (List ℕ)) → rest ≡ all_marked n later → IsOnPath n c new down later) → IsNextUp conn bytes
+  next_up conn bytes rest [] is same own path = cc same
+  next_up conn bytes rest (u ∷ later) is same own path =
       let first : bytes ≡ marked u n = cc same in
       let others : rest ≡ all_marked n later = cc same in
-      record { plain = u; later = later; own = own; marks = first; first = is; wire = wire later others }
+      record { plain = u; later = later; own = own; marks = first; first = is; path = path later others }
 
   took_here : (port conn number : ℕ) (bytes : List ℕ) (report : TakeReport) → Rule old s (Ok (answer.Took port conn number bytes report)) new
       → eqb port n ≡ true → IsNextUp conn bytes
@@ -324,7 +324,7 @@ module _ (n c : ℕ) (old new : Places) (s : Step) (down up : List (List ℕ)) (
       taken = if_true (port == n && conn == conn) (bytes ∷ []) (and_both (port == n) (conn == conn) here (eq-eqb conn conn refl))
 
   took_elsewhere : (port conn number : ℕ) (bytes : List ℕ) (report : TakeReport) → Rule old s (Ok (answer.Took port conn number bytes report)) new
-      → eqb port n ≡ false → IsOnWire n c new down up
+      → eqb port n ≡ false → IsOnPath n c new down up
   took_elsewhere port conn number bytes report rule other =
       nothing (answer.Took port conn number bytes report) rule tt
       (if_false (port == n && conn == c) (bytes ∷ []) (and_false (port == n) (conn == c) (λ here. absurd (true≢false (sym here ∙ other))))) refl
@@ -342,19 +342,19 @@ module _ (n c : ℕ) (old new : Places) (s : Step) (down up : List (List ℕ)) (
       ∙ ap (λ (x : Bool). descending_on n c old ++ (if x then marked f.bytes 0 ∷ [] else [])) is
 
   pushed_here : (f : Stamped) → eqb (pm_port f) n ≡ true → Rule old s (Ok answer.Pushed) new → Starts f old new
-      → IsOnWire n c new (down ++ marked f.bytes 0 ∷ []) up
+      → IsOnPath n c new (down ++ marked f.bytes 0 ∷ []) up
   pushed_here f here rule starts =
       on_now answer.Pushed (down ++ marked f.bytes 0 ∷ []) up rule tt (above_still answer.Pushed rule tt refl refl)
       (subst (λ (xs : List (List ℕ)). AreAmong xs (down ++ marked f.bytes 0 ∷ [])) (sym (pushed_on f true here starts))
       (among_more (descending_on n c old) down (marked f.bytes 0) w.below))
 
-  pushed_elsewhere : (f : Stamped) → eqb (pm_port f) n ≡ false → Rule old s (Ok answer.Pushed) new → Starts f old new → IsOnWire n c new down up
+  pushed_elsewhere : (f : Stamped) → eqb (pm_port f) n ≡ false → Rule old s (Ok answer.Pushed) new → Starts f old new → IsOnPath n c new down up
   pushed_elsewhere f other rule starts =
       nothing answer.Pushed rule tt refl refl (pushed_on f false other starts ∙ append-nil (descending_on n c old))
 
   -- some of the host's frames goes to no device
   gone_case : (a : Answer) (f : Stamped) → Rule old s (Ok a) new → StaysOn n c a → taken_by n c a ≡ [] → sent_by n c a ≡ []
-      → old.downward.frames ≡ f ∷ new.downward.frames → falls_on c (falling_to n new) ≡ falls_on c (falling_to n old) → IsOnWire n c new down up
+      → old.downward.frames ≡ f ∷ new.downward.frames → falls_on c (falling_to n new) ≡ falls_on c (falling_to n old) → IsOnPath n c new down up
   gone_case a f rule stays untaken unsent link falls =
       let split : descending_on n c old ≡ (falls_on c (falling_to n old) ++ for_port n f) ++ flat_map (for_port n) new.downward.frames =
       ap (λ (xs : List Stamped). falls_on c (falling_to n old) ++ flat_map (for_port n) xs) link
@@ -366,7 +366,7 @@ module _ (n c : ℕ) (old new : Places) (s : Step) (down up : List (List ℕ)) (
       (subst (λ (xs : List (List ℕ)). AreAmong (xs ++ flat_map (for_port n) new.downward.frames) down) (sym falls) less)
 
   -- one frame comes to wait at its port, for the connection that is present there
-  goes_here : (f : Stamped) → pm_port f ≡ n → Rule old s (Ok (answer.Passed (passed.Down n))) new → Goes n f old new → IsOnWire n c new down up
+  goes_here : (f : Stamped) → pm_port f ≡ n → Rule old s (Ok (answer.Passed (passed.Down n))) new → Goes n f old new → IsOnPath n c new down up
   goes_here f port rule goes = by_conn (goes.conn == c) refl
     where
       mine : for_port n f ≡ marked f.bytes 0 ∷ []
@@ -375,7 +375,7 @@ module _ (n c : ℕ) (old new : Places) (s : Step) (down up : List (List ℕ)) (
       now_falls : falls_on c (falling_to n new) ≡ falls_on c (falling_to n old) ++ falls_on c (falling goes.conn f ∷ [])
       now_falls = ap (falls_on c) goes.here ∙ falls_both c (falling_to n old) (falling goes.conn f ∷ [])
 
-      by_conn : (b : Bool) → (goes.conn == c) ≡ b → IsOnWire n c new down up
+      by_conn : (b : Bool) → (goes.conn == c) ≡ b → IsOnPath n c new down up
       by_conn true is =
           let before : descending_on n c old ≡ falls_on c (falling_to n old) ++ (for_port n f ++ flat_map (for_port n) new.downward.frames) =
           ap (λ (xs : List Stamped). falls_on c (falling_to n old) ++ flat_map (for_port n) xs) goes.link in
@@ -391,7 +391,7 @@ module _ (n c : ℕ) (old new : Places) (s : Step) (down up : List (List ℕ)) (
           ∙ append-nil (falls_on c (falling_to n old)))
 
   goes_case : (m : ℕ) (f : Stamped) → pm_port f ≡ m → Rule old s (Ok (answer.Passed (passed.Down m))) new → Goes m f old new
-      → IsOnWire n c new down up
+      → IsOnPath n c new down up
   goes_case m f port rule goes = elim (cases_eq n m) [
     | inl same ↦
         goes_here f (port ∙ sym same) (subst (λ (k : ℕ). Rule old s (Ok (answer.Passed (passed.Down k))) new) (sym same) rule)
@@ -402,7 +402,7 @@ module _ (n c : ℕ) (old new : Places) (s : Step) (down up : List (List ℕ)) (
   -- ---- a removal is recorded
 
   -- what waited at the port for a device that is gone is dropped
-  loses_here : Rule old s (Ok (answer.Presence n)) new → Loses n old new → IsOnWire n c new down up
+  loses_here : Rule old s (Ok (answer.Presence n)) new → Loses n old new → IsOnPath n c new down up
   loses_here rule loses =
       let lost : List Stamped = option_to_list (lost_from (port_at old.multiplier n).down (port_at new.multiplier n).down) in
       let link : List (List ℕ) = flat_map (for_port n) new.downward.frames in
@@ -413,7 +413,7 @@ module _ (n c : ℕ) (old new : Places) (s : Step) (down up : List (List ℕ)) (
       fewer (answer.Presence n) rule tt refl refl
       (among_but (falls_on c (falling_to n new)) (falls_on c lost) link down (subst (λ (xs : List (List ℕ)). AreAmong xs down) split w.below))
 
-  loses_case : (m : ℕ) → Rule old s (Ok (answer.Presence m)) new → Loses m old new → IsOnWire n c new down up
+  loses_case : (m : ℕ) → Rule old s (Ok (answer.Presence m)) new → Loses m old new → IsOnPath n c new down up
   loses_case m rule loses = elim (cases_eq n m) [
     | inl same ↦
         loses_here (subst (λ (k : ℕ). Rule old s (Ok (answer.Presence k)) new) (sym same) rule) (subst (λ (k : ℕ). Loses k old new) (sym same) loses)
@@ -430,8 +430,8 @@ module _ (n c : ℕ) (old new : Places) (s : Step) (down up : List (List ℕ)) (
     front : List (List ℕ)
     back : List (List ℕ)
     is : down ≡ front ++ bytes ∷ back
-    near : IsOnWire n c new (front ++ back) up
-    far : IsOnWire n c new back up
+    near : IsOnPath n c new (front ++ back) up
+    far : IsOnPath n c new back up
 
   landed : (f : Stamped) → Lands n f old new → descending_on n c old ≡ falls_on c (f ∷ falling_to n new) ++ flat_map (for_port n) new.downward.frames
   landed f lands =
@@ -457,10 +457,10 @@ module _ (n c : ℕ) (old new : Places) (s : Step) (down up : List (List ℕ)) (
       }
 
   -- one that is dropped
-  drops_here : (f : Stamped) → Rule old s (Ok (answer.DiskTook n true)) new → Lands n f old new → IsOnWire n c new down up
+  drops_here : (f : Stamped) → Rule old s (Ok (answer.DiskTook n true)) new → Lands n f old new → IsOnPath n c new down up
   drops_here f rule lands = by_conn (f.stamp.conn == c) refl
     where
-      by_conn : (b : Bool) → (f.stamp.conn == c) ≡ b → IsOnWire n c new down up
+      by_conn : (b : Bool) → (f.stamp.conn == c) ≡ b → IsOnPath n c new down up
       by_conn true is =
           fewer (answer.DiskTook n true) rule tt refl refl (among_without [] f.bytes (descending_on n c new) down (lands_first f is lands))
       by_conn false is =
@@ -468,7 +468,7 @@ module _ (n c : ℕ) (old new : Places) (s : Step) (down up : List (List ℕ)) (
           (sym (landed f lands ∙ ap (λ (xs : List (List ℕ)). xs ++ flat_map (for_port n) new.downward.frames) (falls_other c f (falling_to n new) is)))
 
   lands_elsewhere : (m : ℕ) (f : Stamped) (dropped : Bool) → n ≢ m → Rule old s (Ok (answer.DiskTook m dropped)) new → Lands m f old new
-      → IsOnWire n c new down up
+      → IsOnPath n c new down up
   lands_elsewhere m f dropped other rule lands =
       nothing (answer.DiskTook m dropped) rule tt refl refl
       (ap (λ (xs : List Stamped). falls_on c xs ++ flat_map (for_port n) new.downward.frames) (lands.elsewhere n other)
@@ -544,14 +544,14 @@ if_some true xs e = refl
 if_some false xs e = cc e
 
 module _ (n c : ℕ) (old new : Places) (s : Step) (down up : List (List ℕ)) (device : n ≢ control_port) (orderly : IsOrderly old)
-    (w : IsOnWire n c old down up) where
+    (w : IsOnPath n c old down up) where
   -- what a step with this answer leaves
   abbrev LeftBy : Answer → Type 0
-  LeftBy a = GoesOnWire n c old a new (befalls n old a) down up
+  LeftBy a = GoesOnPath n c old a new (befalls n old a) down up
 
   -- nothing is done at either end
-  nothing_done : (a : Answer) → befalls n old a ≡ [] → IsAtHost n old a new [] → IsOnWire n c new down up → LeftBy a
-  nothing_done a none is wire = record { heard = []; is = is; moves = Still none refl wire }
+  nothing_done : (a : Answer) → befalls n old a ≡ [] → IsAtHost n old a new [] → IsOnPath n c new down up → LeftBy a
+  nothing_done a none is path = record { heard = []; is = is; moves = Still none refl path }
 
   sends_one : (port conn number : ℕ) (bytes : List ℕ) (b : Bool) → eqb port n ≡ b → Rule old s (Ok (answer.Sent port conn number bytes)) new
       → StaysOn n c (answer.Sent port conn number bytes) → LeftBy (answer.Sent port conn number bytes)
@@ -657,33 +657,33 @@ module _ (n c : ℕ) (old new : Places) (s : Step) (down up : List (List ℕ)) (
   ends_one a f rule stays untaken unsent none is ends =
       nothing_done a none is (gone_case n c old new s down up device orderly w a f rule stays untaken unsent ends.link (ap (falls_on c) (ends.falls n)))
 
-pub wires_go_on : WiresGoOn
-wires_go_on n c old new s (answer.Came port conn) down up device orderly rule stays w =
+pub paths_go_on : PathsGoOn
+paths_go_on n c old new s (answer.Came port conn) down up device orderly rule stays w =
     nothing_done n c old new s down up device orderly w (answer.Came port conn) (if_none (port == n) (Plugged ∷ []) stays) refl
     (nothing n c old new s down up device orderly w (answer.Came port conn) rule stays refl refl
     (rests_on n c old new (rule_moves_down old s (answer.Came port conn) new orderly rule)))
-wires_go_on n c old new s (answer.Presence m) down up device orderly rule stays w =
+paths_go_on n c old new s (answer.Presence m) down up device orderly rule stays w =
     nothing_done n c old new s down up device orderly w (answer.Presence m) refl refl
     (loses_case n c old new s down up device orderly w m rule (rule_moves_down old s (answer.Presence m) new orderly rule))
-wires_go_on n c old new s (answer.Sent port conn number bytes) down up device orderly rule stays w =
+paths_go_on n c old new s (answer.Sent port conn number bytes) down up device orderly rule stays w =
     sends_one n c old new s down up device orderly w port conn number bytes (port == n) refl rule stays
-wires_go_on n c old new s (answer.DiskTook m dropped) down up device orderly rule stays w =
+paths_go_on n c old new s (answer.DiskTook m dropped) down up device orderly rule stays w =
     let moves = rule_moves_down old s (answer.DiskTook m dropped) new orderly rule in
     disk_takes n c old new s down up device orderly w m moves.0 dropped rule moves.1
-wires_go_on n c old new s (answer.Passed (passed.Down m)) down up device orderly rule stays w =
+paths_go_on n c old new s (answer.Passed (passed.Down m)) down up device orderly rule stays w =
     passes_one n c old new s down up device orderly w m rule
-wires_go_on n c old new s (answer.Passed passed.Control) down up device orderly rule stays w =
+paths_go_on n c old new s (answer.Passed passed.Control) down up device orderly rule stays w =
     let moves = rule_moves_down old s (answer.Passed passed.Control) new orderly rule in
     ends_one n c old new s down up device orderly w (answer.Passed passed.Control) moves.0 rule tt refl refl refl refl moves.1
-wires_go_on n c old new s (answer.Passed passed.Dropped) down up device orderly rule stays w =
+paths_go_on n c old new s (answer.Passed passed.Dropped) down up device orderly rule stays w =
     let moves = rule_moves_down old s (answer.Passed passed.Dropped) new orderly rule in
     ends_one n c old new s down up device orderly w (answer.Passed passed.Dropped) moves.0 rule tt refl refl refl refl moves.1
-wires_go_on n c old new s (answer.Took port conn number bytes report) down up device orderly rule stays w =
+paths_go_on n c old new s (answer.Took port conn number bytes report) down up device orderly rule stays w =
     takes_one n c old new s down up device orderly w port conn number bytes report (port == n) refl rule
-wires_go_on n c old new s answer.Pushed down up device orderly rule stays w =
+paths_go_on n c old new s answer.Pushed down up device orderly rule stays w =
     let moves = rule_moves_down old s answer.Pushed new orderly rule in
     gives_one n c old new s down up device orderly w moves.0 (pm_port moves.0 == n) refl rule moves.1
-wires_go_on n c old new s a down up device orderly rule stays w =
+paths_go_on n c old new s a down up device orderly rule stays w =
     nothing_done n c old new s down up device orderly w a refl refl
     (nothing n c old new s down up device orderly w a rule stays refl refl (rests_on n c old new (rule_moves_down old s a new orderly rule)))
 

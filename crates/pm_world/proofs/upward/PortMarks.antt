@@ -51,7 +51,7 @@ use Rattle.pm_world.proofs.steps.Steps.{at_device, at_both}
 -- ---- a frame
 
 -- the frame has the PM Port of its stamp
-pub record HasRisen (f : Stamped) : Type 0 where
+pub record HasPortMark (f : Stamped) : Type 0 where
   pub pm_port : IsFrame f.bytes → port_of f.bytes ≡ f.stamp.port
 
 marked_port : (was : List ℕ) (port : ℕ) → port < 16 → IsFrame (marked was port) → port_of (marked was port) ≡ port
@@ -60,7 +60,7 @@ marked_port was port low frame =
     let same : length (marked was port) ≡ length was = length-set was 1 (slice_index was 1 / 16 * 16 + port) in
     port_written was (slice_index was 1 / 16 * 16 + port) port (omega (arith, long, same)) (omega arith)
 
-rising_risen : (n : ℕ) (was : Stamped) → n < 16 → HasRisen (rising n was)
+rising_risen : (n : ℕ) (was : Stamped) → n < 16 → HasPortMark (rising n was)
 rising_risen n was low = record { pm_port = λ frame. marked_port was.bytes n low frame }
 
 -- a frame that is built has the PM Port that was given
@@ -106,7 +106,7 @@ request_control mark m (Some request) = answer_control mark m request
 
 -- what the control port answers
 said : (fields : Option D2hFields) (stamp : Stamp) (made : Option Stamped) → FromControl fields → stamp.port ≡ 15 → IsAnswer fields stamp made
-    → (frame : Stamped) → made ≡ Some frame → HasRisen frame
+    → (frame : Stamped) → made ≡ Some frame → HasPortMark frame
 said None stamp None control port is frame e = absurd cc
 said None stamp (Some other) control port is frame e = absurd is
 said (Some fields) stamp None control port is frame e = absurd is
@@ -114,10 +114,10 @@ said (Some fields) stamp (Some other) control port is frame e =
     let same : other ≡ frame = same_Some other frame e in
     let here : port_of other.bytes ≡ 15 = built_port D2h (d2h_given fields) other.bytes is.0 ∙ ap (cut (places D2h PmPort)) control ∙ d2h_cut in
     let there : other.stamp.port ≡ 15 = ap (λ (s : Stamp). s.port) is.1 ∙ port in
-    subst HasRisen same (record { pm_port = λ framed. here ∙ sym there })
+    subst HasPortMark same (record { pm_port = λ framed. here ∙ sym there })
 
 -- what it tells of its own accord
-noticed : (stamp : Stamp) (frame : Stamped) → stamp.port ≡ 15 → IsNotice true stamp (Some frame) → HasRisen frame
+noticed : (stamp : Stamp) (frame : Stamped) → stamp.port ≡ 15 → IsNotice true stamp (Some frame) → HasPortMark frame
 noticed stamp frame port is =
     let here : port_of frame.bytes ≡ 15 = built_port Bits (set_bits_given notice_fields) frame.bytes is.0 ∙ bits_cut in
     let there : frame.stamp.port ≡ 15 = ap (λ (s : Stamp). s.port) is.1 ∙ port in
@@ -128,7 +128,7 @@ noticed stamp frame port is =
 -- the answer that waits has the PM Port of its stamp, and a place of the circle was served last
 pub record IsRising (pm : PmState) : Type 0 where
   pub served_low : pm.served ≤ 15
-  pub answer : (frame : Stamped) → pm.answer ≡ Some frame → HasRisen frame
+  pub answer : (frame : Stamped) → pm.answer ≡ Some frame → HasPortMark frame
 
 same_rising : (old new : PmState) → new.served ≡ old.served → new.answer ≡ old.answer → IsRising old → IsRising new
 same_rising old new served same is = record { served_low = rw served is.served_low; answer = λ frame e. is.answer frame (sym same ∙ e) }
@@ -182,7 +182,7 @@ heard_rising old new frame way is rule = by_port (pm_port frame == control_port)
 
 -- what the next place gives
 pub record Gave (frame : Stamped) (pm : PmState) : Type 0 where
-  pub risen : HasRisen frame
+  pub risen : HasPortMark frame
   pub rising : IsRising pm
 
 port_gave : (old new : PmState) (n : ℕ) (frame : Stamped) → n < 16 → IsRising old → PortGives old n frame new → Gave frame new
@@ -191,7 +191,7 @@ port_gave old new n frame low is gives = by_held (held old n) gives
     by_held : (o : Option Stamped) → MatchOption o ⊥ (λ was. (was.stamp.port ≡ n) × (frame ≡ rising n was) × (new ≡ record (with_port old n (with_up (port_at old n) None)) { served = n; given = may_go_back old (held_source was) frame })) → Gave frame new
     by_held None acts = absurd acts
     by_held (Some was) acts = record {
-      risen = subst HasRisen (sym acts.1) (rising_risen n was low);
+      risen = subst HasPortMark (sym acts.1) (rising_risen n was low);
       rising = record { served_low = rw (ap (λ (pm : PmState). pm.served) acts.2) (omega (arith, low)); answer = λ f e. is.answer f (sym (ap (λ (pm : PmState). pm.answer) acts.2) ∙ e) };
     }
 
@@ -224,14 +224,14 @@ next_gave old new frame is rule = by_place (next_place old) refl rule
 -- ---- each step
 
 -- each frame on the host's link has the PM Port of its stamp, and so has the answer that waits
-pub record AllRisen (pm : PmState) (upward : List Stamped) : Type 0 where
+pub record AllHavePortMarks (pm : PmState) (upward : List Stamped) : Type 0 where
   pub rising : IsRising pm
-  pub frames : All HasRisen upward
+  pub frames : All HasPortMark upward
 
-all_first : (f : Stamped) (fs : List Stamped) → All HasRisen (f ∷ fs) → HasRisen f
+all_first : (f : Stamped) (fs : List Stamped) → All HasPortMark (f ∷ fs) → HasPortMark f
 all_first f fs h = h 0 f (omega arith)
 
-all_rest : (f : Stamped) (fs : List Stamped) → All HasRisen (f ∷ fs) → All HasRisen fs
+all_rest : (f : Stamped) (fs : List Stamped) → All HasPortMark (f ∷ fs) → All HasPortMark fs
 all_rest f fs h i d lt = h (suc i) d (omega arith)
 
 came_tells : (n : ℕ) (old : Place) (a : Answer) (new : Place) → CameActs n old a new → IsOfItsPort a
@@ -310,13 +310,13 @@ from_host_tells old pm _ new after is acts = absurd acts
 -- what an answer tells is of its port, and all that stands on the host's link still has the PM Port of its stamp
 pub record Rises (a : Answer) (new : Places) : Type 0 where
   pub tells : IsOfItsPort a
-  pub risen : AllRisen new.multiplier new.upward.frames
+  pub risen : AllHavePortMarks new.multiplier new.upward.frames
 
-as_before : (old new : Places) (a : Answer) → AllRisen old.multiplier old.upward.frames → IsOfItsPort a → IsRising new.multiplier → new.upward ≡ old.upward → Rises a new
+as_before : (old new : Places) (a : Answer) → AllHavePortMarks old.multiplier old.upward.frames → IsOfItsPort a → IsRising new.multiplier → new.upward ≡ old.upward → Rises a new
 as_before old new a risen tells rising upward =
-    record { tells = tells; risen = record { rising = rising; frames = subst (λ (link : Queue). All HasRisen link.frames) (sym upward) risen.frames } }
+    record { tells = tells; risen = record { rising = rising; frames = subst (λ (link : Queue). All HasPortMark link.frames) (sym upward) risen.frames } }
 
-up_rises : (pm : PmState) (link : Queue) (a : Answer) (after : PmState) (new : Queue) → AllRisen pm link.frames → PmUpRule pm link (Ok a) after new → IsOfItsPort a × AllRisen after new.frames
+up_rises : (pm : PmState) (link : Queue) (a : Answer) (after : PmState) (new : Queue) → AllHavePortMarks pm link.frames → PmUpRule pm link (Ok a) after new → IsOfItsPort a × AllHavePortMarks after new.frames
 up_rises pm link answer.Idle after new risen acts = (tt, rw (acts.2, acts.3) risen)
 up_rises pm link answer.Blocked after new risen acts = (tt, rw (acts.1, acts.2) risen)
 up_rises pm link (answer.Up n) after new risen acts =
@@ -326,7 +326,7 @@ up_rises pm link (answer.Up n) after new risen acts =
       tt,
       record {
         rising = gave.rising;
-        frames = subst (All HasRisen) (sym frames) (All-append HasRisen link.frames (frame ∷ []) risen.frames (All-cons HasRisen frame [] gave.risen (All-nil HasRisen)));
+        frames = subst (All HasPortMark) (sym frames) (All-append HasPortMark link.frames (frame ∷ []) risen.frames (All-cons HasPortMark frame [] gave.risen (All-nil HasPortMark)));
       },
     )
 up_rises pm link _ after new risen acts = absurd acts
@@ -343,11 +343,11 @@ reported old frame report new tooks = by_test (ignores (port_of frame) old.port 
     by_test true e = ap (λ (r : TakeReport). r.dev) (tooks.ignored e).reports
     by_test false e = heard_dev frame old.port old.memory report new.port new.memory (tooks.heard e)
 
-take_rises : (pm : PmState) (link : Queue) (host : Host) (a : Answer) (new : Queue) (after : Host) → AllRisen pm link.frames → HostTakeRule link host (Ok a) new after → IsOfItsPort a × AllRisen pm new.frames
+take_rises : (pm : PmState) (link : Queue) (host : Host) (a : Answer) (new : Queue) (after : Host) → AllHavePortMarks pm link.frames → HostTakeRule link host (Ok a) new after → IsOfItsPort a × AllHavePortMarks pm new.frames
 take_rises pm link host answer.Idle new after risen acts = (tt, rw acts.1 risen)
 take_rises pm link host (answer.Took port conn number bytes report) new after risen acts =
     let frame = acts.0.0 in
-    let all : All HasRisen (frame ∷ new.frames) = subst (All HasRisen) acts.0.1 risen.frames in
+    let all : All HasPortMark (frame ∷ new.frames) = subst (All HasPortMark) acts.0.1 risen.frames in
     let told = acts.0.2 in
     let framed : IsFrame frame.bytes = subst IsFrame (sym told.bytes_are) acts.2.framed in
     let here : port_of bytes ≡ port = ap port_of (sym told.bytes_are) ∙ (all_first frame new.frames all).pm_port framed ∙ told.port_is in
@@ -355,61 +355,61 @@ take_rises pm link host (answer.Took port conn number bytes report) new after ri
     ((here, dev ∙ here), record { rising = risen.rising; frames = all_rest frame new.frames all })
 take_rises pm link host _ new after risen acts = absurd acts
 
-on_device : (old : Places) (n : ℕ) (a : Answer) (new : Places) (R : Place → Outcome → Place → Type 0) → AllRisen old.multiplier old.upward.frames
+on_device : (old : Places) (n : ℕ) (a : Answer) (new : Places) (R : Place → Outcome → Place → Type 0) → AllHavePortMarks old.multiplier old.upward.frames
     → ((place after : Place) → R place (Ok a) after → IsOfItsPort a) → OnDevice old n (Ok a) new R → Rises a new
 on_device old n a new R risen tells h =
     let p = at_device old n a new R h in
     as_before old new a risen (tells p.place p.after p.rule) (equal_rising old.multiplier new.multiplier (ap (λ (w : Places). w.multiplier) p.new_is) risen.rising) (ap (λ (w : Places). w.upward) p.new_is)
 
-on_both : (old : Places) (n : ℕ) (a : Answer) (new : Places) (R : Place → PmState → Outcome → Place → PmState → Type 0) → AllRisen old.multiplier old.upward.frames
+on_both : (old : Places) (n : ℕ) (a : Answer) (new : Places) (R : Place → PmState → Outcome → Place → PmState → Type 0) → AllHavePortMarks old.multiplier old.upward.frames
     → ((place after : Place) (left : PmState) → R place old.multiplier (Ok a) after left → Tells a left) → OnDeviceAndMultiplier old n (Ok a) new R → Rises a new
 on_both old n a new R risen tells h =
     let p = at_both old n a new R h in
     let t = tells p.place p.after p.left p.rule in
     as_before old new a risen t.tells (equal_rising p.left new.multiplier (ap (λ (w : Places). w.multiplier) p.new_is) t.rising) (ap (λ (w : Places). w.upward) p.new_is)
 
-on_host : (old new : Places) (a : Answer) → AllRisen old.multiplier old.upward.frames → IsOfItsPort a → new.multiplier ≡ old.multiplier → new.upward ≡ old.upward → Rises a new
+on_host : (old new : Places) (a : Answer) → AllHavePortMarks old.multiplier old.upward.frames → IsOfItsPort a → new.multiplier ≡ old.multiplier → new.upward ≡ old.upward → Rises a new
 on_host old new a risen tells same upward = as_before old new a risen tells (equal_rising old.multiplier new.multiplier same risen.rising) upward
 
-pub rule_rises : (old : Places) (s : Step) (a : Answer) (new : Places) → AllRisen old.multiplier old.upward.frames → Rule old s (Ok a) new → Rises a new
-rule_rises old (step.Came n) a new risen rule = on_device old n a new (CameRule n) risen (λ place after r. came_tells n place a after r.1) rule
-rule_rises old (step.Gone n) a new risen rule = on_device old n a new (GoneRule n) risen (λ place after r. gone_tells n place a after r.1) rule
-rule_rises old (step.DiskSend n) a new risen rule = on_device old n a new (DiskSendRule n) risen (λ place after r. sends_tells n place a after r.1) rule
-rule_rises old (step.Inject n bytes) a new risen rule = on_device old n a new (InjectRule n bytes) risen (λ place after r. inject_tells n bytes place a after r.1) rule
-rule_rises old (step.DiskTake n) a new risen rule = on_device old n a new (DiskTakeRule n) risen (λ place after r. disk_take_tells n place a after r) rule
-rule_rises old (step.PmPresence n) a new risen rule = on_both old n a new (PmPresenceRule n) risen (λ place after left r. presence_tells n place old.multiplier a after left risen.rising r) rule
-rule_rises old (step.PmFromDevice n) a new risen rule = on_both old n a new (PmFromDeviceRule n) risen (λ place after left r. from_device_tells n place old.multiplier a after left risen.rising r) rule
-rule_rises old (step.PmDown n) a new risen rule = on_both old n a new (PmDownRule n) risen (λ place after left r. down_tells n place old.multiplier a after left risen.rising r) rule
-rule_rises old step.PmFromHost a new risen rule =
+pub rule_marks : (old : Places) (s : Step) (a : Answer) (new : Places) → AllHavePortMarks old.multiplier old.upward.frames → Rule old s (Ok a) new → Rises a new
+rule_marks old (step.Came n) a new risen rule = on_device old n a new (CameRule n) risen (λ place after r. came_tells n place a after r.1) rule
+rule_marks old (step.Gone n) a new risen rule = on_device old n a new (GoneRule n) risen (λ place after r. gone_tells n place a after r.1) rule
+rule_marks old (step.DiskSend n) a new risen rule = on_device old n a new (DiskSendRule n) risen (λ place after r. sends_tells n place a after r.1) rule
+rule_marks old (step.Inject n bytes) a new risen rule = on_device old n a new (InjectRule n bytes) risen (λ place after r. inject_tells n bytes place a after r.1) rule
+rule_marks old (step.DiskTake n) a new risen rule = on_device old n a new (DiskTakeRule n) risen (λ place after r. disk_take_tells n place a after r) rule
+rule_marks old (step.PmPresence n) a new risen rule = on_both old n a new (PmPresenceRule n) risen (λ place after left r. presence_tells n place old.multiplier a after left risen.rising r) rule
+rule_marks old (step.PmFromDevice n) a new risen rule = on_both old n a new (PmFromDeviceRule n) risen (λ place after left r. from_device_tells n place old.multiplier a after left risen.rising r) rule
+rule_marks old (step.PmDown n) a new risen rule = on_both old n a new (PmDownRule n) risen (λ place after left r. down_tells n place old.multiplier a after left risen.rising r) rule
+rule_marks old step.PmFromHost a new risen rule =
     let t = from_host_tells old.downward old.multiplier a new.downward new.multiplier risen.rising rule.0 in
     as_before old new a risen t.tells t.rising (ap (λ (w : Places). w.upward) rule.1)
-rule_rises old step.PmUp a new risen rule =
+rule_marks old step.PmUp a new risen rule =
     let r = up_rises old.multiplier old.upward a new.multiplier new.upward risen rule.0 in
     record { tells = r.0; risen = r.1 }
-rule_rises old step.HostTake a new risen rule =
+rule_marks old step.HostTake a new risen rule =
     let r = take_rises old.multiplier old.upward old.host a new.upward new.host risen rule.0 in
     let same : new.multiplier ≡ old.multiplier = ap (λ (w : Places). w.multiplier) rule.1 in
-    record { tells = r.0; risen = subst (λ (pm : PmState). AllRisen pm new.upward.frames) (sym same) r.1 }
-rule_rises old step.HostPush a new risen rule = on_host old new a risen (push_tells old.host old.downward a new.host new.downward rule.0) (ap (λ (w : Places). w.multiplier) rule.1) (ap (λ (w : Places). w.upward) rule.1)
-rule_rises old step.Tick a new risen rule = on_host old new a risen (tick_tells old.host a new.host rule.0) (ap (λ (w : Places). w.multiplier) rule.1) (ap (λ (w : Places). w.upward) rule.1)
-rule_rises old (step.Submit dev request) a new risen rule = on_host old new a risen (submit_tells dev request old.host a new.host rule.0) (ap (λ (w : Places). w.multiplier) rule.1) (ap (λ (w : Places). w.upward) rule.1)
-rule_rises old step.Poll a new risen rule = on_host old new a risen (poll_tells old.host a new.host rule.0) (ap (λ (w : Places). w.multiplier) rule.1) (ap (λ (w : Places). w.upward) rule.1)
-rule_rises old (step.Put at bytes) a new risen rule = on_host old new a risen (put_tells at bytes old.host a new.host rule.0) (ap (λ (w : Places). w.multiplier) rule.1) (ap (λ (w : Places). w.upward) rule.1)
+    record { tells = r.0; risen = subst (λ (pm : PmState). AllHavePortMarks pm new.upward.frames) (sym same) r.1 }
+rule_marks old step.HostPush a new risen rule = on_host old new a risen (push_tells old.host old.downward a new.host new.downward rule.0) (ap (λ (w : Places). w.multiplier) rule.1) (ap (λ (w : Places). w.upward) rule.1)
+rule_marks old step.Tick a new risen rule = on_host old new a risen (tick_tells old.host a new.host rule.0) (ap (λ (w : Places). w.multiplier) rule.1) (ap (λ (w : Places). w.upward) rule.1)
+rule_marks old (step.Submit dev request) a new risen rule = on_host old new a risen (submit_tells dev request old.host a new.host rule.0) (ap (λ (w : Places). w.multiplier) rule.1) (ap (λ (w : Places). w.upward) rule.1)
+rule_marks old step.Poll a new risen rule = on_host old new a risen (poll_tells old.host a new.host rule.0) (ap (λ (w : Places). w.multiplier) rule.1) (ap (λ (w : Places). w.upward) rule.1)
+rule_marks old (step.Put at bytes) a new risen rule = on_host old new a risen (put_tells at bytes old.host a new.host rule.0) (ap (λ (w : Places). w.multiplier) rule.1) (ap (λ (w : Places). w.upward) rule.1)
 
 -- ---- a whole run
 
-pub run_rises : (old : Places) (steps : List Step) (answers : List Answer) (new : Places) → AllRisen old.multiplier old.upward.frames → Run old steps answers new → All IsOfItsPort answers × AllRisen new.multiplier new.upward.frames
-run_rises old [] [] new risen run = (All-nil IsOfItsPort, rw run risen)
-run_rises old (s ∷ steps) (a ∷ answers) new risen run =
-    let first = rule_rises old s a run.0 risen run.1 in
-    let rest = run_rises run.0 steps answers new first.risen run.2 in
+pub run_marks : (old : Places) (steps : List Step) (answers : List Answer) (new : Places) → AllHavePortMarks old.multiplier old.upward.frames → Run old steps answers new → All IsOfItsPort answers × AllHavePortMarks new.multiplier new.upward.frames
+run_marks old [] [] new risen run = (All-nil IsOfItsPort, rw run risen)
+run_marks old (s ∷ steps) (a ∷ answers) new risen run =
+    let first = rule_marks old s a run.0 risen run.1 in
+    let rest = run_marks run.0 steps answers new first.risen run.2 in
     (All-cons IsOfItsPort a answers first.tells rest.0, rest.1)
-run_rises old [] (a ∷ answers) new risen run = absurd run
-run_rises old (s ∷ steps) [] new risen run = absurd run
+run_marks old [] (a ∷ answers) new risen run = absurd run
+run_marks old (s ∷ steps) [] new risen run = absurd run
 
-pub opening_risen : (config : Config) (units : List Device) → AllRisen (new_world config units).multiplier (new_world config units).upward.frames
-opening_risen config units = record { rising = none_rising (new_world config units).multiplier (omega arith) refl; frames = All-nil HasRisen }
+pub opening_marks : (config : Config) (units : List Device) → AllHavePortMarks (new_world config units).multiplier (new_world config units).upward.frames
+opening_marks config units = record { rising = none_rising (new_world config units).multiplier (omega arith) refl; frames = All-nil HasPortMark }
 
 pub own_port : (old : Places) (steps : List Step) (answers : List Answer) (new : Places) → Run old steps answers new → AreOfTheirPorts old answers
 own_port old steps answers new run mode config units right before told made =
-    (run_rises old steps answers new (run_rises (new_world_in mode config units) before told old (opening_risen config units) made).1 run).0
+    (run_marks old steps answers new (run_marks (new_world_in mode config units) before told old (opening_marks config units) made).1 run).0

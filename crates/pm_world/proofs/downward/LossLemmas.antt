@@ -20,7 +20,7 @@ use Rattle.pm_world.specs.Traffic.{is_removed}
 use Rattle.pm_world.specs.declared.step.Step.{Step}
 use Rattle.pm_world.specs.declared.step.Answer.{Answer}
 use Rattle.pm_world.specs.declared.step.Answer.TheVariants as answer
-use Rattle.pm_world.proofs.downward.FallMoves.{Goes, Lands, Loses, MayWait, MovesDown, Starts, rule_moves_down}
+use Rattle.pm_world.proofs.downward.DownMoves.{Goes, Lands, Loses, MayWait, MovesDown, Starts, rule_moves_down}
 use Rattle.pm_world.proofs.upward.Law.{run_stays}
 use Rattle.pm_world.proofs.steps.Orderly.{orderly_after}
 

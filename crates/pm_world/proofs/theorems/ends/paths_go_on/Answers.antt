@@ -1,7 +1,7 @@
 use Rattle.pm_world.proofs.steps.Orderly.{reached_orderly}
-use Rattle.pm_world.proofs.wire.RunLemmas.{plugged_is_on_wire, unit_wires_go_on}
-use Rattle.pm_world.proofs.wire.WireLemmas.{dropped_never_comes, wires_go_on}
-use Rattle.pm_world.proofs.theorems.ends.wires_go_on.Goals as goal
+use Rattle.pm_world.proofs.paths.RunLemmas.{plugged_is_on_wire, unit_paths_go_on}
+use Rattle.pm_world.proofs.paths.PathLemmas.{dropped_never_comes, paths_go_on}
+use Rattle.pm_world.proofs.theorems.ends.paths_go_on.Goals as goal
 
 pub returns-clause-orderly : goal.returns-clause-orderly
 returns-clause-orderly c = reached_orderly
@@ -10,10 +10,10 @@ pub returns-clause-plugged : goal.returns-clause-plugged
 returns-clause-plugged c = plugged_is_on_wire
 
 pub returns-clause-steps : goal.returns-clause-steps
-returns-clause-steps c = wires_go_on
+returns-clause-steps c = paths_go_on
 
 pub returns-clause-units : goal.returns-clause-units
-returns-clause-units c = unit_wires_go_on
+returns-clause-units c = unit_paths_go_on
 
 pub returns-clause-dropped : goal.returns-clause-dropped
 returns-clause-dropped c = dropped_never_comes

@@ -1,4 +1,4 @@
--- For `wires_go_on`. A connection that is not unplugged is not removed, whatever a world does.
+-- For `paths_go_on`. A connection that is not unplugged is not removed, whatever a world does.
 use Rattle.std.proofs.Common.{◌≡◌, ◌≢◌, ℕ, suc, ◌+◌, ◌<◌, ◌≤◌, Bool, true, false, List, [], ◌∷◌, ◌++◌, map, refl, sym, ap, subst, ◌∙◌, inl, inr}
 use Rattle.std.proofs.Common.{Option, Some, Ok, zero, arith}
 use Rattle.std.specs.Prelude.{if◌then◌else◌, is_none, slice_get, slice_set}
@@ -28,8 +28,8 @@ use Rattle.pm_world.proofs.steps.Lists.{slice_get-set_other, slice_get-set_same}
 use Rattle.pm_world.proofs.steps.Openings.{port_opening}
 use Rattle.pm_world.proofs.steps.Orderly.{device_roomy, down_roomy, heard_roomy, known, opening_orderly, orderly_after, roomy, up_roomy}
 use Rattle.pm_world.proofs.steps.Steps.{AtBoth, AtDevice, at_both, at_device}
-use Rattle.pm_world.specs.Wired.{AreBefore, IsBefore, IsUnremoved}
-use Rattle.pm_world.specs.Wire.{StaysOn}
+use Rattle.pm_world.specs.PathEnds.{AreBefore, IsBefore, IsUnremoved}
+use Rattle.pm_world.specs.DevicePaths.{StaysOn}
 
 -- if no removal is recorded, the connection is not removed
 pub unremoved : (n c : ℕ) (now : Places) → IsUnremoved n c now → is_removed n c now ≡ false

@@ -1,4 +1,4 @@
--- For `wires_go_on`. A disk and the host stay linked over each run of a world.
+-- For `paths_go_on`. A disk and the host stay linked over each run of a world.
 use Rattle.std.proofs.Common.{◌≡◌, ◌≢◌, ◌==◌, eqb, ℕ, Bool, true, false, List, [], ◌∷◌, refl, sym, ap, subst, ◌∙◌, inl, inr}
 use Rattle.std.proofs.Common.{Option, Some, None, Ok}
 use Rattle.std.specs.Prelude.{if◌then◌else◌, slice_get, slice_set, MatchOption}
@@ -14,15 +14,15 @@ use Rattle.pm_world.specs.declared.step.Step.TheVariants as step
 use Rattle.pm_world.specs.declared.step.StepError.TheVariants as error
 use Rattle.pm_world.specs.declared.step.Answer.{Answer}
 use Rattle.pm_world.specs.declared.step.Answer.TheVariants as answer
-use Rattle.pm_world.proofs.downward.FallMoves.{rule_moves_down}
+use Rattle.pm_world.proofs.downward.DownMoves.{rule_moves_down}
 use Rattle.pm_world.proofs.steps.Lists.{slice_get-set_other, slice_get-set_same}
 use Rattle.pm_world.proofs.steps.Steps.{AtBoth, AtDevice, at_both, at_device}
-use Rattle.pm_world.specs.Wired.{AreAmong, IsThere, IsAway, IsUnremoved}
-use Rattle.pm_world.specs.Wired.{befalls, descending, injects, unplugs}
-use Rattle.pm_world.specs.Wire.{GoesOnWire, PluggedIsOnWire, StaysOn, UnitWiresGoOn}
-use Rattle.pm_world.proofs.wire.KeptLemmas.{came_unremoved, unremoved}
-use Rattle.pm_world.proofs.wire.PlaceLemmas.{KeepsPlace, keeps_down, keeps_from_device, keeps_inject, keeps_presence, keeps_send, keeps_take}
-use Rattle.pm_world.proofs.wire.WireLemmas.{away_after, none_on, rests_below, wires_go_on}
+use Rattle.pm_world.specs.PathEnds.{AreAmong, IsThere, IsAway, IsUnremoved}
+use Rattle.pm_world.specs.PathEnds.{befalls, descending, injects, unplugs}
+use Rattle.pm_world.specs.DevicePaths.{GoesOnPath, PluggedIsOnPath, StaysOn, UnitPathsGoOn}
+use Rattle.pm_world.proofs.paths.KeptLemmas.{came_unremoved, unremoved}
+use Rattle.pm_world.proofs.paths.PlaceLemmas.{KeepsPlace, keeps_down, keeps_from_device, keeps_inject, keeps_presence, keeps_send, keeps_take}
+use Rattle.pm_world.proofs.paths.PathLemmas.{away_after, none_on, rests_below, paths_go_on}
 
 -- ## The unit stays there
 
@@ -254,16 +254,16 @@ tells_of n c old s a new there stays clean rule = record { same = quiet_tells s;
     quiet_tells (step.DiskSend m) = refl
     quiet_tells _ = refl
 
--- so its wire goes on
-pub unit_wires_go_on : UnitWiresGoOn
-unit_wires_go_on n c old new s a down up device orderly rule there stays clean w =
+-- so its path goes on
+pub unit_paths_go_on : UnitPathsGoOn
+unit_paths_go_on n c old new s a down up device orderly rule there stays clean w =
     let t : TellsOf n c old s a new = tells_of n c old s a new there stays clean rule in
-    let g : GoesOnWire n c old a new (befalls n old a) down up = wires_go_on n c old new s a down up device orderly rule t.stays w in
-    (there_after n c old a new there s stays rule, subst (λ (xs : List Happening). GoesOnWire n c old a new xs down up) t.same g)
+    let g : GoesOnPath n c old a new (befalls n old a) down up = paths_go_on n c old new s a down up device orderly rule t.stays w in
+    (there_after n c old a new there s stays rule, subst (λ (xs : List Happening). GoesOnPath n c old a new xs down up) t.same g)
 
 -- ## The plugging
 
-pub plugged_is_on_wire : PluggedIsOnWire
+pub plugged_is_on_wire : PluggedIsOnPath
 plugged_is_on_wire n c old new device orderly rule empty below mode config units fits before told made =
     let d : AtDevice old n (Ok (answer.Came n c)) new (CameRule n) = at_device old n (answer.Came n c) new (CameRule n) rule in
     let acts : CameActs n d.place (answer.Came n c) d.after = d.rule.1 in
