@@ -8,7 +8,7 @@ use Rattle.host_memory.specs.Place.{LiesInClient, place}
 use Rattle.disk_model.specs.Chunks.{sectors_at}
 use Rattle.disk_model.specs.Ledger.{Ledger, ReadOut, medium_with}
 use Rattle.hba_laws.specs.History.{Transfer}
-use Rattle.disk_ends.specs.Same.{SlotCommand}
+use Rattle.disk_simulation.specs.Same.{SlotCommand}
 
 -- byte i of these stands in client memory, where the PRDs of the transfer say
 pub record StandsThere (bytes : List ℕ) (t : Transfer) (memory : Memory) (i : ℕ) : Type 0 where

@@ -9,12 +9,12 @@ use Rattle.disk_model.specs.Histories.{Received}
 use Rattle.disk_model.specs.Histories as history
 use Rattle.hba_driver.specs.HostTurns.{Does}
 use Rattle.hba_driver.proofs.anew.FlushLemmas.{flush_unreset}
-use Rattle.driver_phases.specs.Flushes.{bare_floors}
-use Rattle.driver_phases.proofs.flushes.FlushTurns.{since_begins}
-use Rattle.driver_ends.proofs.honest.TurnLemmas.{none_issued}
+use Rattle.disk_recovery.specs.Flushes.{bare_floors}
+use Rattle.disk_recovery.proofs.flushes.FlushTurns.{since_begins}
+use Rattle.disk_recovery.proofs.honest.TurnLemmas.{none_issued}
 use Rattle.disk_model.proofs.AnewLemmas.{begins_anew}
 use Rattle.pm_world.proofs.serving.TouchedLemmas.{touched_served}
-use Rattle.driver_phases.proofs.together.Beginnings.{flush_begins}
+use Rattle.disk_recovery.proofs.both_ends.Beginnings.{flush_begins}
 use Rattle.pm_world.specs.PathEnds.{IsAtHost}
 use Rattle.pm_world.proofs.honest.FlushLemmas.{flush_orders}
 use Rattle.pm_world.proofs.control_port.LineLemmas.{IsNow, opening_now, run_now}
@@ -64,7 +64,7 @@ use Rattle.pm_world.proofs.upward.FrameMoves.{rule_moves}
 use Rattle.pm_world.proofs.meant.OrderLemmas.{Knows}
 use Rattle.pm_world.proofs.meant.OrderTurns.{opening_knows, order_step}
 use Rattle.pm_world.proofs.serving.TouchedLemmas.{GoesTouched, touched_over}
-use Rattle.driver_phases.proofs.together.Unfaulted.{IsUnfaulted, flush_unfaulted}
+use Rattle.disk_recovery.proofs.both_ends.Unfaulted.{IsUnfaulted, flush_unfaulted}
 use Rattle.pm_world.proofs.honest.UnfaultedLemmas.{step_unfaulted}
 
 -- ## Lists

@@ -42,10 +42,10 @@ use Rattle.hba_driver.specs.Events.{IsSoundHost, shared_by}
 use Rattle.hba_driver.specs.HostTurns.{Host, HostTurn, Tooks}
 use Rattle.hba_driver.specs.Orders.{is_queued, request_fields, work_fields}
 use Rattle.hba_driver.specs.Served.{IsIssueOf, IsOrdered, IsRequest, IsServed, IsStep}
-use Rattle.disk_ends.specs.Honest.{IsDoneHonestly, IsOnMedium}
-use Rattle.driver_ends.specs.Steady.{command_of}
+use Rattle.disk_simulation.specs.Honest.{IsDoneHonestly, IsOnMedium}
+use Rattle.disk_recovery.specs.Steady.{command_of}
 use Rattle.fis_view.specs.Frames.{marked}
-use Rattle.driver_phases.proofs.honest.HonestEnds.{each_end_is_honest}
+use Rattle.disk_recovery.proofs.each_end.HonestEnds.{each_end_is_honest}
 use Rattle.pm_world.proofs.honest.EndsSteps.{HasEnds, running}
 use Rattle.pm_world.proofs.control_port.LineLemmas.{IsNow}
 use Rattle.pm_world.specs.Units.{LivesOn, MaySendAll}
@@ -63,11 +63,11 @@ use Rattle.disk_model.specs.Fronts.{IsFront}
 use Rattle.disk_model.specs.Anew.{StayWritten}
 use Rattle.disk_model.proofs.FrontLemmas.{before_is_front}
 use Rattle.disk_model.proofs.WrittenLemmas.{writes_stay}
-use Rattle.driver_phases.specs.Ends.{since_floor}
-use Rattle.driver_phases.specs.Flushes.{Floor, flushes_taken, write_floors}
-use Rattle.driver_phases.proofs.flushes.FlushEnds.{flushes_are_taken}
-use Rattle.driver_phases.proofs.flushes.FlushTurns.{request_pio}
-use Rattle.driver_ends.proofs.honest.FisLemmas.{request_kind}
+use Rattle.disk_recovery.specs.Ends.{since_floor}
+use Rattle.disk_recovery.specs.Flushes.{Floor, flushes_taken, write_floors}
+use Rattle.disk_recovery.proofs.flushes.FlushEnds.{flushes_are_taken}
+use Rattle.disk_recovery.proofs.flushes.FlushTurns.{request_pio}
+use Rattle.disk_recovery.proofs.honest.FisLemmas.{request_kind}
 
 -- ## The disk's run
 

@@ -23,9 +23,9 @@ use Rattle.hba_driver.specs.HostTurns.{DoesAll, Host, HostTurn, Polled, Pushed, 
 use Rattle.hba_driver.specs.Steady.{IsFlushTick}
 use Rattle.hba_driver.proofs.addresses.AddressLemmas.{turn_addressed}
 use Rattle.hba_driver.proofs.goes_on.GoingLemmas.{goes_on}
-use Rattle.driver_phases.specs.Ends.{IsBesideTurn, IsRunning}
-use Rattle.driver_phases.specs.Flushes.{AreEndsSince, EndsSinceAfter, Floor}
-use Rattle.driver_phases.proofs.flushes.FlushTurns.{ends_since_go_on}
+use Rattle.disk_recovery.specs.Ends.{IsBesideTurn, IsRunning}
+use Rattle.disk_recovery.specs.Flushes.{AreEndsSince, EndsSinceAfter, Floor}
+use Rattle.disk_recovery.proofs.flushes.FlushTurns.{ends_since_go_on}
 use Rattle.pm_world.specs.Places.{Places, Queue}
 use Rattle.pm_world.specs.Rules.{Rule}
 use Rattle.pm_world.specs.HostTouches.{AreTouched, goes}

@@ -21,7 +21,7 @@ use Rattle.pm_world.proofs.turns.Delivery.{sized}
 use Rattle.pm_world.proofs.turns.HostFold.{run_does}
 use Rattle.pm_world.proofs.upward.Law.{run_append}
 use Rattle.pm_world.specs.PortsGoOn.{PortGoesOn}
-use Rattle.driver_phases.proofs.together.Unfaulted.{IsUnfaulted, never_cleared}
+use Rattle.disk_recovery.proofs.both_ends.Unfaulted.{IsUnfaulted, never_cleared}
 use Rattle.pm_world.proofs.honest.UnfaultedLemmas.{IsHeardUnfaulted}
 
 -- ## Steps

@@ -25,7 +25,7 @@ use Rattle.hba_driver.specs.HostTurns.{Does, DoesAll, Host, HostTurn, Ticked, si
 use Rattle.hba_driver.specs.Laws.{flushes}
 use Rattle.hba_driver.specs.Steady.{IsFlushTick}
 use Rattle.hba_driver.specs.Ticks.{effects, effects_due}
-use Rattle.driver_ends.specs.Kept.{ServesOn}
+use Rattle.disk_recovery.specs.Kept.{ServesOn}
 use Rattle.pm_world.specs.Runs.{AtEach}
 use Rattle.pm_world.specs.Cleared.{clears_x}
 use Rattle.pm_world.specs.Places.{Place, Places, is_config, new_world}

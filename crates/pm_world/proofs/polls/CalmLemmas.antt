@@ -15,7 +15,7 @@ use Rattle.slots.specs.declared.answer.Answered.{Answered}
 use Rattle.slots.specs.declared.answer.Answered.TheVariants as answered
 use Rattle.slots.specs.Slots.{Issue, holds, issue_at, match_some}
 use Rattle.slots.specs.Work.{is_dma, is_read}
-use Rattle.disk_ends.specs.Same.{SlotCommand}
+use Rattle.disk_simulation.specs.Same.{SlotCommand}
 use Rattle.disk_model.specs.Ledger.{empty}
 use Rattle.hba_laws.specs.Client.{By, Touches, own}
 use Rattle.hba_laws.specs.Delivering.{begun_by, by_device, event_heard, event_of, event_of_answer, event_of_block, event_sent, event_taken, is_control_issue, touched_by_out, touches_after}
@@ -30,7 +30,7 @@ use Rattle.hba_driver.specs.Served.{IsOrdered, IsRequest, IsServed, IsStep, RunS
 use Rattle.hba_driver.specs.Steady.{slot_in}
 use Rattle.hba_driver.proofs.steady.BesideLemmas.{tick_beside}
 use Rattle.hba_driver.proofs.steady.SteadyTurns.{begun_calm, begun_slot}
-use Rattle.driver_ends.proofs.honest.AwayLemmas.{CalmEnds, beside_away, calm_ends}
+use Rattle.disk_recovery.proofs.honest.AwayLemmas.{CalmEnds, beside_away, calm_ends}
 
 -- nothing is issued in slot s for device n
 abbrev pub IsFreed : (n s : ℕ) → Touches → Type 0

@@ -16,10 +16,10 @@ use Rattle.hba_laws.specs.Hosts as host_event
 use Rattle.hba_driver.specs.Delivered.{IsAtItsPlace, TookDelivers}
 use Rattle.hba_driver.specs.Events.{shared_by}
 use Rattle.hba_driver.specs.HostTurns.{Host}
-use Rattle.disk_ends.specs.Honest.{BroughtSectors}
-use Rattle.disk_ends.proofs.together.TogetherLemmas.{no_end, not_pio}
+use Rattle.disk_simulation.specs.Honest.{BroughtSectors}
+use Rattle.disk_simulation.proofs.together.TogetherLemmas.{no_end, not_pio}
 use Rattle.pm_world.specs.Brought.{IsBrought}
-use Rattle.disk_ends.specs.Same.{SlotCommand}
+use Rattle.disk_simulation.specs.Same.{SlotCommand}
 
 -- what completes a queued command fills nothing
 fills_nothing : (s : ℕ) (e : Event) (past : History) (w : Work) → is_queued w.kind ≡ true → completes s e past w ≡ true

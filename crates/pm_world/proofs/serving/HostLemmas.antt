@@ -19,12 +19,12 @@ use Rattle.hba_driver.specs.declared.request.Ticket.{Ticket}
 use Rattle.hba_driver.specs.Events.{events_over, shared_by}
 use Rattle.hba_driver.specs.HostTurns.{DoesAll, Host, HostTurn, Polled, Pushed, Put, Submitted, Ticked, Took}
 use Rattle.hba_driver.specs.Steady.{IsCalmTick, IsFlushTick}
-use Rattle.disk_ends.specs.Heard.{IsTakenWell}
-use Rattle.disk_ends.specs.Joined.{IsShort}
-use Rattle.driver_ends.specs.Kept.{CalmTurnsKeep, FlushOpens, IsCalmTurn, IsServedHonestly, OpensHonestly, PushesKeep, ServesOn, TakesKeep, given_to}
-use Rattle.driver_ends.proofs.honest.PushLemmas.{pushes_keep}
-use Rattle.driver_ends.proofs.honest.TakeLemmas.{takes_keep}
-use Rattle.driver_ends.proofs.honest.TurnLemmas.{calm_turns_keep, flush_opens, opens_honestly}
+use Rattle.disk_simulation.specs.Heard.{IsTakenWell}
+use Rattle.disk_simulation.specs.Joined.{IsShort}
+use Rattle.disk_recovery.specs.Kept.{CalmTurnsKeep, FlushOpens, IsCalmTurn, IsServedHonestly, OpensHonestly, PushesKeep, ServesOn, TakesKeep, given_to}
+use Rattle.disk_recovery.proofs.honest.PushLemmas.{pushes_keep}
+use Rattle.disk_recovery.proofs.honest.TakeLemmas.{takes_keep}
+use Rattle.disk_recovery.proofs.honest.TurnLemmas.{calm_turns_keep, flush_opens, opens_honestly}
 use Rattle.pm_world.specs.Places.{Places, Queue}
 use Rattle.pm_world.specs.Rules.{CameRule, DiskSendRule, DiskTakeRule, GoneRule, InjectRule, PmDownRule, PmFromDeviceRule, PmPresenceRule, Rule}
 use Rattle.pm_world.specs.Turns.{turn_of}
@@ -39,7 +39,7 @@ use Rattle.pm_world.specs.PathEnds.{for_port}
 use Rattle.pm_world.proofs.serving.FrameLemmas.{pushes_frame}
 use Rattle.pm_world.proofs.serving.GivenLemmas.{HasGiven, host_gives}
 use Rattle.pm_world.proofs.paths.PathLemmas.{drop_front}
-use Rattle.disk_ends.specs.Same.{SlotCommand}
+use Rattle.disk_simulation.specs.Same.{SlotCommand}
 
 -- ## The host
 

@@ -1,5 +1,0 @@
-use Rattle.disk_ends.proofs.together.TogetherLemmas.{same_goes_on}
-use Rattle.disk_ends.proofs.laws.both_views_go_on_together.Goals as goal
-
-pub returns : goal.returns
-returns c = same_goes_on

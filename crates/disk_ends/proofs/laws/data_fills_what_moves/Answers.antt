@@ -1,5 +1,0 @@
-use Rattle.disk_ends.proofs.events.SameLemmas.{data_fills}
-use Rattle.disk_ends.proofs.laws.data_fills_what_moves.Goals as goal
-
-pub returns : goal.returns
-returns c = data_fills

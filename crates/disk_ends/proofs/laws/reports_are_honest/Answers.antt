@@ -1,5 +1,0 @@
-use Rattle.disk_ends.proofs.anew.AnewHonest.{reports_honestly}
-use Rattle.disk_ends.proofs.laws.reports_are_honest.Goals as goal
-
-pub returns : goal.returns
-returns c = reports_honestly

@@ -1,0 +1,9 @@
+pub mod honest
+pub mod unasked
+pub mod together
+pub mod apart
+pub mod coming
+pub mod aside
+pub mod both_ends
+pub mod each_end
+pub mod flushes

@@ -1,0 +1,9 @@
+pub mod Steady
+pub mod Kept
+pub mod Together
+pub mod Apart
+pub mod Unasked
+pub mod Stages
+pub mod Ends
+pub mod Flushes
+pub mod Resets

@@ -1,4 +1,0 @@
-pub mod honest
-pub mod unasked
-pub mod together
-pub mod apart

@@ -1,9 +1,0 @@
-use Rattle.driver_ends.proofs.unasked.FaultyLemmas.{faults_set_aside}
-use Rattle.driver_ends.proofs.unasked.UnaskedLemmas.{stays_unasked}
-use Rattle.driver_ends.proofs.laws.stays_unasked.Goals as goal
-
-pub returns-clause-stays : goal.returns-clause-stays
-returns-clause-stays c = stays_unasked
-
-pub returns-clause-faults : goal.returns-clause-faults
-returns-clause-faults c = faults_set_aside

@@ -1,5 +1,0 @@
-use Rattle.driver_phases.proofs.aside.ResetAside.{reset_sets_aside}
-use Rattle.driver_phases.proofs.laws.resets_set_aside.Goals as goal
-
-pub returns : goal.returns
-returns c = reset_sets_aside

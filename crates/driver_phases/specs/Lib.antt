@@ -1,4 +1,0 @@
-pub mod Stages
-pub mod Ends
-pub mod Flushes
-pub mod Resets
