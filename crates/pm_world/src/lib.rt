@@ -24,9 +24,8 @@ pub use hop::Hop;
 pub use step::{Answer, Config, Step, StepError, WorldError};
 pub use theorems::{
     commands_are_meant, connections_follow, disks_are_honest, flushes_follow_writes,
-    media_change_by_writes, none_is_stale, one_order_at_a_time, ordered_is_not_stale,
+    media_change_by_writes, none_is_stale, one_order_at_a_time, ordered_is_not_stale, paths_go_on,
     polled_errors_are_named, polled_is_honest, ports_go_on, ports_keep_to_one,
-    ports_rest_at_a_flush, reads_bring_writes, reads_follow_writes, paths_go_on,
-    writes_are_as_submitted,
+    ports_rest_at_a_flush, reads_bring_writes, reads_follow_writes, writes_are_as_submitted,
 };
 pub use world::World;

@@ -10,7 +10,7 @@ pub use bytes::{flushes_follow_writes, reads_follow_writes, writes_are_as_submit
 pub use connections::{connections_follow, ports_rest_at_a_flush};
 pub use control::{one_order_at_a_time, ports_go_on};
 pub use ends::{
-    disks_are_honest, media_change_by_writes, polled_errors_are_named, polled_is_honest,
-    reads_bring_writes, paths_go_on,
+    disks_are_honest, media_change_by_writes, paths_go_on, polled_errors_are_named,
+    polled_is_honest, reads_bring_writes,
 };
 pub use orders::{commands_are_meant, none_is_stale, ordered_is_not_stale, ports_keep_to_one};

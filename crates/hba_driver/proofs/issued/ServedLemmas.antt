@@ -207,7 +207,6 @@ kept_out past apart k host (out.Order dev slot command) = by_issue (issue_at hos
         by_dma : (b : Bool) → IsKept ((map (By dev) (if b then SetUp slot 0 i.work.len (work_reads i.work.kind) ∷ [] else []) ++ By dev (if is_control_issue i then SentControl slot else Sent slot) ∷ []) ++ past)
         by_dma true = kept (is_control_issue i)
         by_dma false = kept (is_control_issue i)
-
 kept_out past apart k host other = k
 
 all_apart : {mode : Mode} (h : Host) (past : Touches) → IsSoundHostIn mode h → IsServed h.driver (shared_by h) past → AreApart past

@@ -301,7 +301,6 @@ module _ (old : Host) (host : IsHost old) (past : Touches) (hist : AreHistoriesO
       by_issue : (o : Option Issue) → client before ((map (By dev) (begun_by slot o) ++ By dev (cond (holds is_control_issue o) (SentControl slot) (Sent slot)) ∷ []) ++ past) k ≡ client before past k
       by_issue None = refl
       by_issue (Some i) = by_kind i (is_dma i.work.kind) (is_control_issue i)
-
   out_touches_none before other goes k = refl
 
   out_within : (o : Outgoing) → GoesOut old.port o → AreWithin past → AreWithin (touched_by_out old o ++ past)
@@ -322,7 +321,6 @@ module _ (old : Host) (host : IsHost old) (past : Touches) (hist : AreHistoriesO
       by_issue : (o : Option Issue) → AreWithin ((map (By dev) (begun_by slot o) ++ By dev (cond (holds is_control_issue o) (SentControl slot) (Sent slot)) ∷ []) ++ past)
       by_issue None = w
       by_issue (Some i) = by_kind i (is_dma i.work.kind) (is_control_issue i)
-
   out_within other goes w = w
 
   -- bytes are put

@@ -116,7 +116,6 @@ out_none old (out.Order dev slot command) = by_issue (issue_at old.port.slots sl
     by_issue : (o : Option Issue) → NoneIssues (map (By dev) (begun_by slot o) ++ By dev (cond (holds is_control_issue o) (SentControl slot) (Sent slot)) ∷ [])
     by_issue None = (tt, tt)
     by_issue (Some i) = by_kind i (is_dma i.work.kind) (is_control_issue i)
-
 out_none old other = tt
 
 pub clear_none : (o : Option ℕ) → NoneIssues (touched_by_clear o)
