@@ -30,7 +30,7 @@ use Rattle.hba_laws.specs.Hosts.{Host, HostEvent, Runs}
 use Rattle.hba_laws.specs.Isolation.{AreOfDevices}
 use Rattle.hba_laws.specs.Tables.{moves_area}
 use Rattle.port_errors.specs.Errors.{Errors}
-use Rattle.hba_laws.proofs.soundness.KeptLemmas.{fb_kept}
+use Rattle.hba_laws.proofs.Door.{fb_kept}
 use Rattle.ahci_port.specs.Accesses.{WritesRegister}
 use Rattle.ahci_port.specs.Issuing.{Attempts, Fails, Issues, IssuesBelow, Puts, Steps, WritesIssue, fresh_slots}
 use Rattle.ahci_port.specs.Sending.{FillsFrom, MissesIn, IsMissed, Prepares, lane_byte}

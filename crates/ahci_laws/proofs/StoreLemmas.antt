@@ -8,14 +8,12 @@ use Rattle.host_memory.specs.Memory.{Memory, overwritten, zeros}
 use Rattle.host_memory.specs.Reading.{AgreeFrom, LieApart}
 use Rattle.host_memory.specs.Writing.{table_bytes}
 use Rattle.host_memory.specs.declared.table.Prd.{Prd}
-use Rattle.host_memory.proofs.AgreeLemmas.{agree_beside, length-overwritten}
-use Rattle.host_memory.proofs.MemoryLemmas.{length-zeros}
-use Rattle.host_memory.proofs.WriteLemmas.{length-table_bytes}
+use Rattle.host_memory.proofs.Door.{agree_beside, length-overwritten, length-table_bytes, length-zeros}
 use Rattle.hba_commands.specs.Commands.{cfis_at}
 use Rattle.hba_commands.specs.Headers.{header_place}
 use Rattle.hba_commands.specs.Requests.{request_of}
 use Rattle.hba_commands.specs.Writing.{IsWritten, command_table, header_bytes, header_for}
-use Rattle.hba_commands.proofs.PutLemmas.{length-header_bytes}
+use Rattle.hba_commands.proofs.Door.{length-header_bytes}
 use Rattle.hba_fbs.specs.Posting.{area_at}
 use Rattle.guest_commands.specs.Window.{prds_for, table_at}
 use Rattle.hba_laws.specs.Hosts.{StoresStructure}

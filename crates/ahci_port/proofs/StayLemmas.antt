@@ -4,12 +4,12 @@ use Rattle.std.specs.Prelude.{◌==◌}
 use Rattle.std.specs.Int.{bit_at}
 use Rattle.std.proofs.lemmas.Bool.{cases_Bool, eqb-true, false≢true}
 use Rattle.std.proofs.lemmas.Nat.Bits.{bit_at-zero, bit_at_and}
-use Rattle.ahci_registers.proofs.BitLemmas.{without_takes}
+use Rattle.ahci_registers.proofs.Door.{without_takes}
 use Rattle.guest_bytes.specs.declared.entry.Segment.{Segment}
 use Rattle.hba_fbs.specs.Bits.{without}
 use Rattle.hba_fbs.specs.Issuing.{is_busy}
 use Rattle.slots.specs.Slots.{has_bit, mask_below, mask_of, match_some}
-use Rattle.slots.proofs.MaskLemmas.{has_bit_mask, mask_fits}
+use Rattle.slots.proofs.Door.{has_bit_mask, mask_fits}
 use Rattle.ahci_port.specs.Issuing.{Attempts, IssuesBelow, Steps, WritesIssue, fresh_slots}
 use Rattle.ahci_port.specs.States.{ControllerState}
 use Rattle.ahci_port.specs.Taking.{kept}

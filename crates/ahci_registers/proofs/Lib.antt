@@ -1,3 +1,4 @@
-pub mod BitLemmas
-pub mod LawLemmas
-pub mod LinkLemmas
+mod BitLemmas
+mod LawLemmas
+mod LinkLemmas
+pub mod Door

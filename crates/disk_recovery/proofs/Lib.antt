@@ -1,9 +1,10 @@
-pub mod honest
-pub mod unasked
-pub mod together
-pub mod apart
-pub mod coming
-pub mod aside
-pub mod both_ends
-pub mod each_end
-pub mod flushes
+mod honest
+mod unasked
+mod together
+mod apart
+mod coming
+mod aside
+mod both_ends
+mod each_end
+mod flushes
+pub mod Door

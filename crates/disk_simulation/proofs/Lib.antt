@@ -1,9 +1,10 @@
-pub mod events
-pub mod others
-pub mod together
-pub mod joined
-pub mod honest
-pub mod anew
-pub mod phases
-pub mod link
-pub mod task_files
+mod events
+mod others
+mod together
+mod joined
+mod honest
+mod anew
+mod phases
+mod link
+mod task_files
+pub mod Door

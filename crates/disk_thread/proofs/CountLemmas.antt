@@ -9,7 +9,7 @@ use Rattle.fis_view.specs.Frames.{Stamped}
 use Rattle.multiplier.specs.Orders.{of_connection}
 use Rattle.link_items.specs.Beginnings.{device_starts}
 use Rattle.link_items.specs.OrderLaws.{IsAt}
-use Rattle.link_items.proofs.OrderLemmas.{device_goes_on, device_counts}
+use Rattle.link_items.proofs.Door.{device_counts, device_goes_on}
 use Rattle.disk_thread.specs.Runs.{IsCounted, ArePast}
 
 pub counted_none : (fises : List Stamped) → fises ≡ [] → IsCounted fises 0 0

@@ -4,7 +4,7 @@ use Rattle.std.proofs.lemmas.Bool.{cases_Bool}
 use Rattle.std.proofs.lemmas.List.{ext_get_or, get_or-drop, get_or-take, length-take}
 use Rattle.host_memory.specs.Memory.{Memory, overwritten}
 use Rattle.host_memory.specs.Reading.{AgreeFrom, LieApart, dword_at}
-use Rattle.host_memory.proofs.AgreeLemmas.{agree_beside, agree_within, dword_same, length-overwritten, says_the_same}
+use Rattle.host_memory.proofs.Door.{agree_beside, agree_within, dword_same, length-overwritten, says_the_same}
 use Rattle.hba_commands.specs.declared.header.Header.{Header}
 use Rattle.hba_commands.specs.Headers.{header_at, header_place}
 use Rattle.hba_commands.specs.Commands.{AgreeOnCommand, cfis_at, command_at, command_under, has_table, table_length, total_at}

@@ -1,6 +1,7 @@
-pub mod AgreeLemmas
-pub mod BackLemmas
-pub mod HeaderLemmas
-pub mod ProperLemmas
-pub mod PutLemmas
-pub mod RequestLemmas
+mod AgreeLemmas
+mod BackLemmas
+mod HeaderLemmas
+mod ProperLemmas
+mod PutLemmas
+mod RequestLemmas
+pub mod Door

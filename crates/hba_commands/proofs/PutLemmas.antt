@@ -6,8 +6,7 @@ use Rattle.host_memory.specs.Memory.{overwritten, zeros}
 use Rattle.host_memory.specs.Reading.{dword_at}
 use Rattle.host_memory.specs.Writing.{table_bytes}
 use Rattle.host_memory.specs.declared.table.Prd.{Prd}
-use Rattle.host_memory.proofs.MemoryLemmas.{length-zeros}
-use Rattle.host_memory.proofs.WriteLemmas.{overwritten-more, drop_overwritten, length-table_bytes}
+use Rattle.host_memory.proofs.Door.{drop_overwritten, length-table_bytes, length-zeros, overwritten-more}
 use Rattle.hba_commands.specs.Headers.{header_of_dwords}
 use Rattle.hba_commands.specs.Commands.{cfis_at}
 use Rattle.hba_commands.specs.Writing.{header_bytes, command_table}

@@ -1,17 +1,18 @@
-pub mod ticks
-pub mod modes
-pub mod calls
-pub mod requests
-pub mod ends
-pub mod events
-pub mod issued
-pub mod delivery
-pub mod accepted
-pub mod steady
-pub mod done
-pub mod goes_on
-pub mod addresses
-pub mod slot31
-pub mod anew
-pub mod known
-pub mod recovers
+mod ticks
+mod modes
+mod calls
+mod requests
+mod ends
+mod events
+mod issued
+mod delivery
+mod accepted
+mod steady
+mod done
+mod goes_on
+mod addresses
+mod slot31
+mod anew
+mod known
+mod recovers
+pub mod Door

@@ -2,7 +2,7 @@
 use Rattle.std.proofs.Common.{◌≡◌, ℕ, ◌<◌, Bool, true, false, List, refl, ap, ◌∙◌, arith, Option, Some, None}
 use Rattle.std.specs.Prelude.{if◌then◌else◌}
 use Rattle.slots.specs.Slots.{has_bit, lowest, match_some}
-use Rattle.slots.proofs.MaskLemmas.{lowest_found, lowest_none}
+use Rattle.slots.proofs.Door.{lowest_found, lowest_none}
 use Rattle.hba_fbs.specs.declared.registers.Registers.{Registers}
 use Rattle.hba_fbs.specs.Issuing.{aimed, first_named, named_in}
 

@@ -2,7 +2,7 @@
 use Rattle.std.proofs.Common.{◌≡◌, ℕ, ◌<◌, Bool, true, false, ◌&&◌, refl, ap, Option, Some, None}
 use Rattle.std.specs.Option.{is_some}
 use Rattle.slots.specs.Slots.{has_bit, lowest}
-use Rattle.slots.proofs.MaskLemmas.{lowest_found, lowest_none, none_below}
+use Rattle.slots.proofs.Door.{lowest_found, lowest_none, none_below}
 use Rattle.hba_fbs.specs.Issuing.{any_slot}
 
 pub any_found : (value : ℕ) (test : ℕ → Bool) (slot : ℕ) → slot < 32 → (has_bit value slot && test slot) ≡ true → ((k : ℕ) → k < slot → (has_bit value k && test k) ≡ false) → any_slot value test ≡ true

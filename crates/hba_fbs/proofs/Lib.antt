@@ -1,11 +1,12 @@
-pub mod CmdLemmas
-pub mod SlotLemmas
-pub mod FillLemmas
-pub mod AnyLemmas
-pub mod AimLemmas
-pub mod IssueLemmas
-pub mod WriteLemmas
-pub mod DataLemmas
-pub mod PostLemmas
-pub mod TakeLemmas
-pub mod SendLemmas
+mod CmdLemmas
+mod SlotLemmas
+mod FillLemmas
+mod AnyLemmas
+mod AimLemmas
+mod IssueLemmas
+mod WriteLemmas
+mod DataLemmas
+mod PostLemmas
+mod TakeLemmas
+mod SendLemmas
+pub mod Door

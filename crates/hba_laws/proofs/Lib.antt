@@ -1,8 +1,9 @@
-pub mod soundness
-pub mod prd_tables
-pub mod histories
-pub mod isolation
-pub mod completed
-pub mod placed
-pub mod gathered
-pub mod faults
+mod soundness
+mod prd_tables
+mod histories
+mod isolation
+mod completed
+mod placed
+mod gathered
+mod faults
+pub mod Door

@@ -1,10 +1,11 @@
-pub mod AgreeLemmas
-pub mod MemoryLemmas
-pub mod OverlapLemmas
-pub mod PartsLemmas
-pub mod PlaceLemmas
-pub mod PrdLemmas
-pub mod ScatterLemmas
-pub mod SpotLemmas
-pub mod WriteLemmas
-pub mod WrittenLemmas
+mod AgreeLemmas
+mod MemoryLemmas
+mod OverlapLemmas
+mod PartsLemmas
+mod PlaceLemmas
+mod PrdLemmas
+mod ScatterLemmas
+mod SpotLemmas
+mod WriteLemmas
+mod WrittenLemmas
+pub mod Door

@@ -14,7 +14,7 @@ use Rattle.hba_driver.specs.declared.request.Request.{Request}
 use Rattle.hba_driver.specs.Drivers.{AreRequests, Entry, entry_at}
 use Rattle.hba_driver.specs.HostTurns.{DoesAll, Host, HostTurn, Took, Pushed, Ticked, Submitted, Polled, Put, given_in, polled_in}
 use Rattle.hba_driver.specs.Laws.{TurnsKeep}
-use Rattle.hba_driver.proofs.requests.HistoryLemmas.{each_run_keeps, poll_facts, requests_turn}
+use Rattle.hba_driver.proofs.Door.{each_run_keeps, poll_facts, requests_turn}
 use Rattle.host_thread.specs.declared.plan.Planned.{Planned}
 use Rattle.host_thread.specs.declared.plan.State.{State}
 use Rattle.host_thread.specs.declared.plan.State.TheVariants as state

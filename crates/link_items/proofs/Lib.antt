@@ -1,1 +1,2 @@
-pub mod OrderLemmas
+mod OrderLemmas
+pub mod Door

@@ -4,7 +4,7 @@ use Rattle.std.specs.Prelude.{All}
 use Rattle.std.proofs.lemmas.List.Elements.{All-cons, All-nil}
 use Rattle.fis_view.specs.Frames.{Stamped}
 use Rattle.multiplier.specs.Orders.{InDeviceOrder, InStampedOrder}
-use Rattle.link_items.proofs.OrderLemmas as orders
+use Rattle.link_items.proofs.Door as orders
 use Rattle.pm_thread.specs.Runs.{PortSeats, IsUnused}
 
 pub device_first : (f : Stamped) → f.stamp.number ≡ 0 → InDeviceOrder (f ∷ [])

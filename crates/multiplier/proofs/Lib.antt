@@ -1,14 +1,15 @@
-pub mod ArbiterLemmas
-pub mod Holds
-pub mod Ports
-pub mod Gone
-pub mod Sound
-pub mod GiveLemmas
-pub mod PutBack
-pub mod UpSteps
-pub mod PassingLemmas
-pub mod Removals
-pub mod OrderLemmas
-pub mod StampLemmas
-pub mod TurnLemmas
-pub mod Forwarding
+mod ArbiterLemmas
+mod Holds
+mod Ports
+mod Gone
+mod Sound
+mod GiveLemmas
+mod PutBack
+mod UpSteps
+mod PassingLemmas
+mod Removals
+mod OrderLemmas
+mod StampLemmas
+mod TurnLemmas
+mod Forwarding
+pub mod Door

@@ -15,7 +15,7 @@ use Rattle.fis_view.specs.Seen.{seen, kind_of, kind_of_type, may_have, view_as}
 use Rattle.pm_registers.specs.RegisterMap as map
 use Rattle.pm_registers.specs.Port.{opening_port, inserted, removed, ShowsTruly}
 use Rattle.pm_registers.specs.declared.port.PortRegisters.{PortRegisters}
-use Rattle.pm_registers.proofs.ShownLemmas.{keeps_sound, write_sound, write_devices}
+use Rattle.pm_registers.proofs.Door.{keeps_sound, write_devices, write_sound}
 use Rattle.pm_registers.specs.Calls.{Inserts, Removes}
 use Rattle.pm_control.specs.Answers.{IsAnswer, IsNotice, registers_left, registers_after_request}
 use Rattle.pm_control.specs.Requests.{request_in}

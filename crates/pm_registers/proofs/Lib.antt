@@ -1,4 +1,5 @@
-pub mod BitLemmas
-pub mod RegisterLemmas
-pub mod LawLemmas
-pub mod ShownLemmas
+mod BitLemmas
+mod RegisterLemmas
+mod LawLemmas
+mod ShownLemmas
+pub mod Door

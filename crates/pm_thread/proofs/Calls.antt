@@ -11,8 +11,7 @@ use Rattle.multiplier.specs.Orders.{InDeviceOrder}
 use Rattle.multiplier.specs.State.{PmState, IsSound as IsSoundPm, opening, port_at}
 use Rattle.multiplier.specs.Passing.{Call, DoesAll, Past, all_past, past_after, to_port}
 use Rattle.multiplier.specs.Stamping.{taken_by, taken_of, IsStamped}
-use Rattle.multiplier.proofs.Sound.{opens_sound}
-use Rattle.multiplier.proofs.StampLemmas.{begins_stamped, goes_up_stamped}
+use Rattle.multiplier.proofs.Door.{begins_stamped, goes_up_stamped, opens_sound}
 use Rattle.pm_thread.specs.Runs.{PmView, IsSound, frames_at, presence_at, commands_at, told_by, told_of, heard_by, heard_of, none_past}
 
 pub does_more : (past : Past) (old mid new : PmState) (calls more : List Call) → DoesAll past old calls mid

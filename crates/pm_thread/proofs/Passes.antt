@@ -13,9 +13,7 @@ use Rattle.multiplier.specs.Orders.{InDeviceOrder, InStampedOrder, of_connection
 use Rattle.multiplier.specs.State.{PmState, IsSound as IsSoundPm, opening, port_at, rising}
 use Rattle.multiplier.specs.Passing.{Call, FromHost, FromDevice, Came, Gone, NextUp, PutBackUp, NextDown, PutBackDown, Does, DoesAll, Past, Suits, all_past, past_after, came_by, came_in, held_of, lost_up, of_conn}
 use Rattle.multiplier.specs.Stamping.{taken_by, taken_of}
-use Rattle.multiplier.proofs.Gone.{never_up_to}
-use Rattle.multiplier.proofs.Removals.{apart, one_step, pass_in_order, step_gone}
-use Rattle.multiplier.proofs.Sound.{opens_sound}
+use Rattle.multiplier.proofs.Door.{apart, never_up_to, one_step, opens_sound, pass_in_order, step_gone}
 use Rattle.pm_thread.specs.Runs.{PmView, IsSound, frames_at, none_past}
 use Rattle.pm_thread.specs.Passing.{Passes, risen}
 use Rattle.pm_thread.proofs.Calls.{none_held, stamped_run}

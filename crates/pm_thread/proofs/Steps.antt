@@ -16,7 +16,7 @@ use Rattle.multiplier.specs.Rules.{CameRule, CanPutBackDown, CanPutBackUp, FromD
 use Rattle.multiplier.specs.Passing.{Call, FromHost, FromDevice, Came, Gone, NextUp, PutBackUp, NextDown, PutBackDown, DoesAll, EndsWith, Past, all_past, lost_from, made_by, to_port}
 use Rattle.multiplier.specs.Stamping.{taken_by, taken_of}
 use Rattle.multiplier.specs.declared.multiplier.Passed.{Passed}
-use Rattle.multiplier.proofs.PassingLemmas.{last_gone}
+use Rattle.multiplier.proofs.Door.{last_gone}
 use Rattle.pm_thread.specs.Runs.{PmView, PortSeats, IsSound, IsUnused, frames_at, presence_at, commands_at, heard_of, none_past}
 use Rattle.pm_thread.proofs.Seats.{at_kept, at_more, each_at, none_at}
 use Rattle.pm_thread.proofs.Calls.{down_more, does_more, past_more, sound_more, stamped_run}

@@ -1,1 +1,2 @@
-pub mod ErrorsLemmas
+mod ErrorsLemmas
+pub mod Door

@@ -1,13 +1,14 @@
-pub mod FlagLemmas
-pub mod ByteLemmas
-pub mod ApartLemmas
-pub mod StretchLemmas
-pub mod MergeLemmas
-pub mod MaskLemmas
-pub mod TableLemmas
-pub mod FreeLemmas
-pub mod CallLemmas
-pub mod FitLemmas
-pub mod MoveLemmas
-pub mod NewLemmas
-pub mod SetLemmas
+mod FlagLemmas
+mod ByteLemmas
+mod ApartLemmas
+mod StretchLemmas
+mod MergeLemmas
+mod MaskLemmas
+mod TableLemmas
+mod FreeLemmas
+mod CallLemmas
+mod FitLemmas
+mod MoveLemmas
+mod NewLemmas
+mod SetLemmas
+pub mod Door

@@ -13,9 +13,7 @@ use Rattle.disk_model.specs.Ledger.{ShowsPage, Wanted, ledger}
 use Rattle.hba_laws.specs.Agreement.{IsHistoryOf, IssueAgrees, is_for}
 use Rattle.hba_laws.specs.Client.{Touches, own}
 use Rattle.hba_laws.specs.History.{Answered, History, Issued, Sent, Transfer, is_at, issued, unless, waiting_in}
-use Rattle.hba_laws.proofs.histories.AgreeLemmas.{at_is}
-use Rattle.hba_laws.proofs.histories.StandLemmas.{some_inj}
-use Rattle.hba_laws.proofs.placed.WithinLemmas.{the_transfer}
+use Rattle.hba_laws.proofs.Door.{at_is, some_inj, the_transfer}
 use Rattle.disk_simulation.specs.Anew.{IsAwaited}
 use Rattle.disk_simulation.specs.Aside as aside
 use Rattle.disk_simulation.specs.Aside.{AreUnqueued, IsAside}
@@ -31,7 +29,7 @@ use Rattle.hba_driver.specs.Orders.{log_fields}
 use Rattle.hba_driver.specs.Served.{IsServed}
 use Rattle.hba_driver.specs.Slot30.{IsApart30, IsAt30, IsSent30, IsUnsought, LogSent, Off, ReadsLog, Resets, Stage30, is_faulty}
 use Rattle.hba_driver.specs.Tended.{Awaits, IsAtStage, IsLiveAt, IsReleasing, IsTended, IsTendedBy, Logs, Releases}
-use Rattle.hba_driver.proofs.recovers.ApartPushes.{alone_issue, is_alone}
+use Rattle.hba_driver.proofs.Door.{alone_issue, is_alone}
 use Rattle.disk_recovery.proofs.together.TogetherBegins.{log_begins_served, reset_begins_served}
 use Rattle.disk_recovery.proofs.honest.TurnLemmas.{plain_since}
 use Rattle.disk_recovery.specs.Apart.{AsideAt, LogBegins, ResetBegins, ServesFrom}

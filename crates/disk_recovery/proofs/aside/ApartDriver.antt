@@ -11,7 +11,7 @@ use Rattle.fis_view.specs.Frames.{IsFrame, Stamped, marked}
 use Rattle.fis_view.specs.Table.{H2d, field}
 use Rattle.fis_view.specs.Table as name
 use Rattle.fis_view.specs.declared.build.H2dFields.{H2dFields}
-use Rattle.hba_commands.proofs.RequestLemmas.{built_long}
+use Rattle.hba_commands.proofs.Door.{built_long}
 use Rattle.slots.specs.Slots.{has_bit}
 use Rattle.hba_fbs.specs.Sending.{Data, Gives, Order as Goes, Outgoing, outgoing}
 use Rattle.hba_fbs.specs.Taking.{ignores, is_running, port_of}
@@ -19,9 +19,9 @@ use Rattle.hba_fbs.specs.Views.{DeviceView, stopped_view, view_of}
 use Rattle.disk_model.specs.declared.request.Request.TheVariants as asked
 use Rattle.disk_model.specs.Anew.{IsRequest}
 use Rattle.disk_model.specs.Requests.{command_request, names_error_log, request_of}
-use Rattle.disk_simulation.proofs.link.MarkedFiles.{marks_ask_nothing}
+use Rattle.disk_simulation.proofs.Door.{marks_ask_nothing}
 use Rattle.hba_laws.specs.Client.{Touches}
-use Rattle.hba_laws.proofs.histories.StandLemmas.{some_inj}
+use Rattle.hba_laws.proofs.Door.{some_inj}
 use Rattle.hba_driver.specs.declared.mode.Mode.TheVariants.{Switching}
 use Rattle.hba_driver.specs.declared.path.Recovery.{Recovery}
 use Rattle.hba_driver.specs.declared.path.Recovery.TheVariants.{Log, Reset}
@@ -42,18 +42,9 @@ use Rattle.hba_driver.specs.Steady.{IsCalmTick, IsClearTick, IsFine, IsFlushTick
 use Rattle.hba_driver.specs.Tended.{Awaits, Fine, Identifies, IsLiveAt, IsTended, IsTendedBy, Logs, Releases, Spoilt, TendsOn}
 use Rattle.hba_driver.specs.Ticks.{acted, after_tick, cleared_plan, done_ended, due, effects_due, from_reset, plan_after, recovering, seen, turn}
 use Rattle.hba_driver.specs.Turns.{control_news, control_seen, control_turn, early_due, fault_due, opening_due, plain_turn, restart_due, turn_of}
-use Rattle.hba_driver.proofs.recovers.ApartPushes.{pushes_on, stays_on}
-use Rattle.hba_driver.proofs.recovers.ApartTakes.{takes_lead}
-use Rattle.hba_driver.proofs.recovers.ApartTicks.{cleared_faulty, ticks_lead}
-use Rattle.hba_driver.proofs.recovers.ApartViews.{clearing_own_view, clearing_view}
-use Rattle.hba_driver.proofs.issued.EndingLemmas.{MayClear, MayEnd, may_end}
-use Rattle.hba_driver.proofs.modes.RowMode.{skipped_as}
-use Rattle.hba_driver.proofs.steady.SteadyLemmas.{set_other}
-use Rattle.hba_driver.proofs.steady.SteadyTurns.{calm_or_flush}
-use Rattle.hba_driver.proofs.modes.SwitchLemmas.{sight_is, tick_acts}
-use Rattle.hba_driver.proofs.anew.TendedTurns.{turn_tended}
-use Rattle.hba_driver.proofs.slot31.Tick31Lemmas.{faulty_shown}
-use Rattle.hba_driver.proofs.recovers.UnsoughtLemmas.{stays_unsought}
+use Rattle.hba_driver.proofs.Door.{calm_or_flush, cleared_faulty, clearing_own_view, clearing_view, faulty_shown}
+use Rattle.hba_driver.proofs.Door.{may_end, MayClear, MayEnd, pushes_on, set_other, sight_is, skipped_as, stays_on}
+use Rattle.hba_driver.proofs.Door.{stays_unsought, takes_lead, tick_acts, ticks_lead, turn_tended}
 use Rattle.disk_recovery.proofs.honest.FisLemmas.{fields_read, request_by}
 use Rattle.disk_recovery.proofs.honest.PushLemmas.{frame_by}
 use Rattle.disk_recovery.proofs.aside.BesideLemmas.{IsUnticked, plan_same}

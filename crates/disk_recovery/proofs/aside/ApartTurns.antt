@@ -13,12 +13,11 @@ use Rattle.disk_model.specs.Histories.{Happening, Received, Sent}
 use Rattle.disk_model.specs.Ledger.{IsSize, Ledger, ShowsPage, Signs, Wanted, ledger}
 use Rattle.disk_model.specs.Runs.{IsDiskRun}
 use Rattle.disk_simulation.specs.Line.{Asked, BothBegin, GoesUp, IsTaken, Line, LinesGoOn, Loose, OnLine}
-use Rattle.disk_simulation.proofs.link.LineLemmas.{lines_go_on}
-use Rattle.disk_simulation.proofs.link.MarkedFiles.{marks_ask_nothing}
+use Rattle.disk_simulation.proofs.Door.{lines_go_on, marks_ask_nothing}
 use Rattle.hba_driver.specs.HostTurns.{Does, DoesAll, Host, HostTurn, Pushed, Ticked, Took}
 use Rattle.hba_driver.specs.Slot30.{Cleared, Faulty, Goes30, IsAt30, IsNext30, IsOn30, IsUnsought, LogSent, Off, On, Stage30, TicksOn30}
 use Rattle.hba_driver.specs.Slot30.{Turns30, sent30}
-use Rattle.hba_driver.proofs.issued.ServedLemmas.{turns_serve}
+use Rattle.hba_driver.proofs.Door.{turns_serve}
 use Rattle.disk_recovery.specs.Ends.{Apart, AreFloors, EndsAfter, IsBesideTurn, IsRunning, IsSetAside}
 use Rattle.disk_recovery.specs.Stages.{Fits, Leans}
 use Rattle.disk_recovery.proofs.aside.ApartDriver.{MayBe30, leads, requests, resets, still_off}

@@ -12,11 +12,10 @@ use Rattle.hba_laws.specs.Delivering.{issued_below, touched, touches_after}
 use Rattle.hba_laws.specs.History.{History, is_at, unless, waiting_in}
 use Rattle.hba_laws.specs.Hosts as event
 use Rattle.hba_laws.specs.Hosts.{HostEvent, Runs}
-use Rattle.hba_laws.proofs.histories.IssueLemmas.{history_below, own_app, own_below_is, with_issued}
+use Rattle.hba_laws.proofs.Door.{history_below, own_app, own_below_is, with_issued}
 use Rattle.disk_simulation.specs.Elsewhere.{IsElsewhere, LeavesDevice}
 use Rattle.disk_simulation.specs.Files.{IsFineFile}
-use Rattle.disk_simulation.proofs.others.ElsewhereLemmas.{others_leave_device}
-use Rattle.disk_simulation.proofs.task_files.FilesLeft.{files_are_left}
+use Rattle.disk_simulation.proofs.Door.{files_are_left, others_leave_device}
 use Rattle.hba_driver.specs.declared.path.TaskFile.{TaskFile}
 use Rattle.hba_driver.specs.declared.plan.Plan.{Plan}
 use Rattle.hba_driver.specs.Drivers.{Driver, device_at}
@@ -26,10 +25,8 @@ use Rattle.hba_driver.specs.Served.{AreBounded}
 use Rattle.hba_driver.specs.Sights.{file_shown}
 use Rattle.hba_driver.specs.Steady.{IsCalmTick, IsFine, IsSteadyPlan, IsSteadyTurn, Issues, slot_in}
 use Rattle.hba_driver.specs.Ticks.{after_tick, done_ended, seen, turn}
-use Rattle.hba_driver.proofs.steady.BesideLemmas.{tick_beside}
-use Rattle.hba_driver.proofs.goes_on.PageLemmas.{poll_plan}
-use Rattle.hba_driver.proofs.steady.SteadyLemmas.{PlanKeeps, act_keeps, keeps_then, of_turn, turn_keeps}
-use Rattle.hba_driver.proofs.steady.SteadyTurns.{acted_plan, signed_by, Signs}
+use Rattle.hba_driver.proofs.Door.{act_keeps, acted_plan, keeps_then, of_turn, PlanKeeps, poll_plan, signed_by, Signs}
+use Rattle.hba_driver.proofs.Door.{tick_beside, turn_keeps}
 use Rattle.disk_recovery.specs.Kept.{IsCalmTurn}
 use Rattle.disk_recovery.proofs.honest.AwayLemmas.{AreAway, beside_away}
 

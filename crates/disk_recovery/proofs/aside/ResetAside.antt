@@ -21,19 +21,9 @@ use Rattle.hba_driver.specs.Slot30.{IsAt30, IsOn30, Sets}
 use Rattle.hba_driver.specs.Steady.{IsCalmAct}
 use Rattle.hba_driver.specs.Tended.{Awaits, Fine, Identifies, IsAtStage, IsReleasing, IsResetTurn, IsTendedBy, Logs, Releases, Spoilt, TendsOn}
 use Rattle.hba_driver.specs.Ticks.{done_ended, due, effects_due, seen}
-use Rattle.hba_driver.proofs.recovers.ApartViews.{Issues30, step30}
-use Rattle.hba_driver.proofs.events.DrivenLemmas.{not_below, tick_is}
-use Rattle.hba_driver.proofs.ticks.DueLemmas.{Due, MayStep, Runs, runs_turn}
-use Rattle.hba_driver.proofs.events.EventLemmas.{beside, sound_beside}
-use Rattle.hba_driver.proofs.ticks.LifeLemmas.{due_seen}
-use Rattle.hba_driver.proofs.events.OpenLemmas.{IsUp, up_of}
-use Rattle.hba_driver.proofs.issued.ServedLemmas.{seen_served}
-use Rattle.hba_driver.proofs.issued.ServingLemmas.{not_busy}
-use Rattle.hba_driver.proofs.anew.SetsLemmas.{each_reset_is_driven}
-use Rattle.hba_driver.proofs.modes.SwitchLemmas.{tick_acts}
-use Rattle.hba_driver.proofs.anew.TendedLemmas.{at_stage, stage_is, unworked}
-use Rattle.hba_driver.proofs.anew.TendedTurns.{turn_tended}
-use Rattle.hba_driver.proofs.issued.TickingLemmas.{free_slot}
+use Rattle.hba_driver.proofs.Door.{at_stage, beside, Due, due_seen, each_reset_is_driven, free_slot, Issues30, IsUp}
+use Rattle.hba_driver.proofs.Door.{MayStep, not_below, not_busy, Runs, runs_turn, seen_served, sound_beside, stage_is}
+use Rattle.hba_driver.proofs.Door.{step30, tick_acts, tick_is, turn_tended, unworked, up_of}
 use Rattle.disk_recovery.specs.Together.{IsServedOn, ResetsAt}
 use Rattle.disk_recovery.proofs.together.TogetherParts.{calm_turns_go_on}
 use Rattle.disk_recovery.specs.Resets.{ResetSetsAside}

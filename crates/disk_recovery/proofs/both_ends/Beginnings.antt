@@ -6,7 +6,7 @@ use Rattle.hba_fbs.specs.Views.{DeviceView, view_of}
 use Rattle.disk_model.specs.Anew.{OwesOnly}
 use Rattle.disk_model.specs.Histories.{Happening, Plugged, Received, Sent}
 use Rattle.disk_model.specs.Ledger.{Ledger, ShowsPage, Signs, Wanted, ledger, ledger_after}
-use Rattle.disk_model.proofs.AnewLemmas.{begins_anew}
+use Rattle.disk_model.proofs.Door.{begins_anew}
 use Rattle.hba_laws.specs.Client.{Touches, own}
 use Rattle.hba_laws.specs.History.{History}
 use Rattle.hba_laws.specs.Hosts as event
@@ -15,10 +15,7 @@ use Rattle.disk_simulation.specs.Anew as anew
 use Rattle.disk_simulation.specs.Hosted.{IsHosted}
 use Rattle.disk_simulation.specs.Hosted as since_new
 use Rattle.disk_simulation.specs.Line.{BothBegin}
-use Rattle.disk_simulation.proofs.anew.AnewJoins.{opens_signing}
-use Rattle.disk_simulation.proofs.task_files.FileLaws.{both_have_begun}
-use Rattle.disk_simulation.proofs.phases.PhaseLemmas.{none_is}
-use Rattle.disk_simulation.proofs.link.WatchedLemmas.{watches_on}
+use Rattle.disk_simulation.proofs.Door.{both_have_begun, none_is, opens_signing, watches_on}
 use Rattle.hba_driver.specs.declared.path.Recovery.{Recovery}
 use Rattle.hba_driver.specs.declared.path.Recovery.TheVariants.{Log, Reset}
 use Rattle.hba_driver.specs.declared.path.Stage.TheVariants.{AwaitReset, ReadLog, ReleaseReset}
@@ -29,8 +26,7 @@ use Rattle.hba_driver.specs.Events.{shared_by}
 use Rattle.hba_driver.specs.HostTurns.{Host}
 use Rattle.hba_driver.specs.Slot30.{IsApart30, IsAt30, IsOn30, IsUnsought, LogSent, Off, ReadsLog, Resets}
 use Rattle.hba_driver.specs.Tended.{IsAtStage, IsBegun, IsReleasing, IsUnreset}
-use Rattle.hba_driver.proofs.anew.TendedLemmas.{stage_is}
-use Rattle.hba_driver.proofs.anew.TendedTurns.{steady_tends}
+use Rattle.hba_driver.proofs.Door.{stage_is, steady_tends}
 use Rattle.disk_recovery.proofs.together.TogetherBegins.{asked_of, steady_not}
 use Rattle.disk_recovery.specs.Apart.{ServesFrom}
 use Rattle.disk_recovery.specs.Kept.{IsServedHonestly}

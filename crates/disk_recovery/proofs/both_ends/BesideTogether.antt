@@ -16,9 +16,7 @@ use Rattle.disk_simulation.specs.Line.{EachReply, IsNoSignature, IsUnsigned, IsW
 use Rattle.disk_simulation.specs.Outcomes.{HasFineFile}
 use Rattle.disk_simulation.specs.Together.{AtMostAccepts, InTalk, IsOwnReply, IsWaited, Pages, Queues, Replies, Shows}
 use Rattle.disk_simulation.specs.Watched.{IsWatched}
-use Rattle.disk_simulation.proofs.anew.AnewJoins.{hosted_on_is_kept}
-use Rattle.disk_simulation.proofs.task_files.FilesLeft.{files_are_left}
-use Rattle.disk_simulation.proofs.link.LooseLemmas.{lines_begin}
+use Rattle.disk_simulation.proofs.Door.{files_are_left, hosted_on_is_kept, lines_begin}
 use Rattle.hba_driver.specs.declared.path.Path.{Path}
 use Rattle.hba_driver.specs.declared.path.Recovery.{Recovery}
 use Rattle.hba_driver.specs.declared.path.Recovery.TheVariants.{Log, Reset}
@@ -34,10 +32,8 @@ use Rattle.hba_driver.specs.Slot30.{IsOn30, Sets}
 use Rattle.hba_driver.specs.Steady.{IsFine, IsSteadyPlan, IsSteadyTurn}
 use Rattle.hba_driver.specs.Tended.{Awaits, Fine, Identifies, IsAskedOn, IsAsking, IsAtStage, IsReleasing, IsResetTurn, IsTendedBy}
 use Rattle.hba_driver.specs.Tended.{Logs, Releases, Spoilt, TendsOn}
-use Rattle.hba_driver.proofs.issued.IssuingLemmas.{From}
-use Rattle.hba_driver.proofs.issued.ServedLemmas.{turns_serve}
-use Rattle.hba_driver.proofs.anew.TendedLemmas.{at_stage, recovering_ready, stage_is, unworked}
-use Rattle.hba_driver.proofs.anew.TendedTurns.{issued_live, turn_tended}
+use Rattle.hba_driver.proofs.Door.{at_stage, From, issued_live, recovering_ready, stage_is, turn_tended, turns_serve}
+use Rattle.hba_driver.proofs.Door.{unworked}
 use Rattle.disk_recovery.specs.Kept.{IsCalmTurn, given_to}
 use Rattle.disk_recovery.specs.Steady.{HasSigned}
 use Rattle.disk_recovery.specs.Together.{GivesOnAnew, IsServedOn, ResetsAt, ServesOnAnew}

@@ -8,7 +8,7 @@ use Rattle.disk_model.specs.declared.plan.DiskPlan.{DiskPlan}
 use Rattle.disk_model.specs.Histories.{Happening, Received, Sent}
 use Rattle.disk_model.specs.Ledger.{ledger}
 use Rattle.hba_laws.specs.Client.{Touches}
-use Rattle.disk_simulation.proofs.link.WatchedLemmas.{watches_on}
+use Rattle.disk_simulation.proofs.Door.{watches_on}
 use Rattle.hba_driver.specs.HostTurns.{DoesAll, Host, HostTurn, Pushed, Took}
 use Rattle.disk_recovery.specs.Ends.{Apart, AreEnds, AreFloors, DisksLeaveEnds, EndsAfter, EndsGoOn, IsBesideTurn, IsRunning, IsTogether, Together}
 use Rattle.disk_recovery.specs.Ends.{TurnsLeaveEnds}

@@ -5,13 +5,12 @@ use Rattle.disk_model.specs.declared.plan.DiskPlan.{DiskPlan}
 use Rattle.disk_model.specs.Anew.{StayWritten}
 use Rattle.disk_model.specs.Histories.{Happening}
 use Rattle.disk_model.specs.Ledger.{ledger}
-use Rattle.disk_model.proofs.WrittenLemmas.{writes_stay}
+use Rattle.disk_model.proofs.Door.{writes_stay}
 use Rattle.hba_laws.specs.Client.{Touches, own}
 use Rattle.hba_laws.specs.History.{History}
 use Rattle.disk_simulation.specs.Anew.{IsKeptOn}
 use Rattle.disk_simulation.specs.Same.{SlotCommand}
-use Rattle.disk_simulation.proofs.anew.AnewJoins.{hosted_on_is_kept}
-use Rattle.disk_simulation.proofs.link.WatchedLemmas.{watched_is_ahead}
+use Rattle.disk_simulation.proofs.Door.{hosted_on_is_kept, watched_is_ahead}
 use Rattle.hba_driver.specs.Events.{shared_by}
 use Rattle.hba_driver.specs.HostTurns.{Host}
 use Rattle.disk_recovery.specs.Together.{AreCountedOn}

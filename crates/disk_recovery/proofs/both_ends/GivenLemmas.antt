@@ -8,11 +8,11 @@ use Rattle.hba_fbs.specs.Tables.{prds_of}
 use Rattle.disk_model.specs.Histories.{Received}
 use Rattle.hba_laws.specs.Client.{Touches}
 use Rattle.hba_laws.specs.Sound.{IsHost}
-use Rattle.hba_laws.proofs.histories.EventLemmas.{GoesOut, goes_out}
+use Rattle.hba_laws.proofs.Door.{goes_out, GoesOut}
 use Rattle.hba_driver.specs.Events.{IsSoundHost, shared_by}
 use Rattle.hba_driver.specs.HostTurns.{Does, Host, Pushed}
 use Rattle.hba_driver.specs.Served.{IsServed}
-use Rattle.hba_driver.proofs.events.TurnLemmas.{sound_shared}
+use Rattle.hba_driver.proofs.Door.{sound_shared}
 use Rattle.disk_recovery.specs.Kept.{given_to}
 use Rattle.disk_recovery.proofs.honest.PushLemmas.{HasLast, OutTold, given_elsewhere, given_here, out_last, out_told}
 

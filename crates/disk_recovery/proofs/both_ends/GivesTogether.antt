@@ -14,11 +14,7 @@ use Rattle.hba_laws.specs.Client.{Touches, own}
 use Rattle.hba_laws.specs.Delivering.{touches_after}
 use Rattle.disk_simulation.specs.Outcomes.{HasFineFile}
 use Rattle.disk_simulation.specs.Watched.{GavePlain, IsPlain}
-use Rattle.disk_simulation.proofs.anew.AnewJoins.{hosted_on_is_kept}
-use Rattle.disk_simulation.proofs.task_files.FilesLeft.{files_are_left}
-use Rattle.disk_simulation.proofs.link.LooseLemmas.{not_base}
-use Rattle.disk_simulation.proofs.task_files.OutcomeLemmas.{nothing_is_given}
-use Rattle.disk_simulation.proofs.link.WatchedLemmas.{watches_on}
+use Rattle.disk_simulation.proofs.Door.{files_are_left, hosted_on_is_kept, not_base, nothing_is_given, watches_on}
 use Rattle.hba_driver.specs.Events.{events_over, shared_by}
 use Rattle.hba_driver.specs.HostTurns.{Does, DoesAll, Host, Pushed}
 use Rattle.disk_recovery.specs.Kept.{given_to}

@@ -22,12 +22,8 @@ use Rattle.disk_simulation.specs.Heard.{IsTakenWell}
 use Rattle.disk_simulation.specs.Line.{Failed, IsWatchedWell, LinesBegin, Loose}
 use Rattle.disk_simulation.specs.Outcomes.{HasFineFile}
 use Rattle.disk_simulation.specs.Watched.{IsWatched}
-use Rattle.disk_simulation.proofs.task_files.FileLaws.{files_stay_fine}
-use Rattle.disk_simulation.proofs.phases.FollowedLemmas.{next_or_fails}
-use Rattle.disk_simulation.proofs.link.LooseLemmas.{lines_begin, next_of_disk}
-use Rattle.disk_simulation.proofs.phases.PhaseLemmas.{error_faults, none_is}
-use Rattle.disk_simulation.proofs.anew.SignsLemmas.{view_signed}
-use Rattle.disk_simulation.proofs.link.WatchedLemmas.{watches_on}
+use Rattle.disk_simulation.proofs.Door.{began_unset, error_faults, files_stay_fine, lines_begin, next_of_disk}
+use Rattle.disk_simulation.proofs.Door.{next_or_fails, none_is, not_yet, view_signed, watches_on}
 use Rattle.hba_driver.specs.declared.plan.Device.TheVariants.{Ready}
 use Rattle.hba_driver.specs.Drivers.{Driver, device_at}
 use Rattle.hba_driver.specs.Events.{events_over, shared_by}
@@ -36,8 +32,7 @@ use Rattle.hba_driver.specs.Orders.{control_port}
 use Rattle.hba_driver.specs.Slot30.{Faulty, IsAt30, IsUnsought}
 use Rattle.hba_driver.specs.Steady.{detects}
 use Rattle.hba_driver.specs.Tended.{IsAtStage, IsReleasing, IsUnreset}
-use Rattle.hba_driver.proofs.recovers.ApartTakes.{takes_lead}
-use Rattle.hba_driver.proofs.issued.ServedLemmas.{turns_serve}
+use Rattle.hba_driver.proofs.Door.{takes_lead, turns_serve}
 use Rattle.disk_recovery.specs.Together.{ServesOnAnew}
 use Rattle.disk_recovery.proofs.unasked.FaultyLemmas.{faults_set_aside, report_fault}
 use Rattle.disk_recovery.proofs.together.ResetLemmas.{signed_unreset, taken_unreset}
@@ -46,7 +41,6 @@ use Rattle.disk_recovery.proofs.honest.TurnLemmas.{after}
 use Rattle.disk_recovery.proofs.unasked.UnaskedLemmas.{stays_unasked}
 use Rattle.disk_recovery.specs.Ends.{Apart, EndsAfter, IsOnTime, IsRunning, IsSetAside, IsTogether, Resetting, Steady, Together}
 use Rattle.disk_recovery.specs.Stages.{GoesByReset}
-use Rattle.disk_simulation.proofs.task_files.OutcomeLemmas.{began_unset, not_yet}
 use Rattle.disk_recovery.proofs.coming.ErrorLemmas.{IsHearing, careful_on, hears_signature, hears_unreset, is_resetting, next_signs, report_heard}
 use Rattle.disk_recovery.proofs.coming.ErrorLemmas.{sought_is_unasked, stale_ignored, together_hears}
 use Rattle.disk_recovery.proofs.coming.StaleLemmas.{by_stale}

@@ -35,12 +35,8 @@ use Rattle.hba_driver.specs.HostTurns.{Does, DoesAll, Host, HostTurn, Polled, Pu
 use Rattle.hba_driver.specs.Sights.{file_shown}
 use Rattle.hba_driver.specs.Steady.{IsCalmTick, IsClearTick, IsFlushTick}
 use Rattle.hba_driver.specs.Ticks.{effects_due}
-use Rattle.hba_driver.proofs.events.DrivenLemmas.{tick_is}
-use Rattle.hba_driver.proofs.issued.EndingLemmas.{MayClear, MayEnd, may_end}
-use Rattle.hba_driver.proofs.goes_on.PageLemmas.{poll_plan}
-use Rattle.hba_driver.proofs.modes.RowMode.{spares_as}
-use Rattle.hba_driver.proofs.steady.SteadyTurns.{calm_or_flush}
-use Rattle.hba_driver.proofs.events.TurnLemmas.{each_run_tells, turns_are_events}
+use Rattle.hba_driver.proofs.Door.{calm_or_flush, each_run_tells, may_end, MayClear, MayEnd, poll_plan, spares_as}
+use Rattle.hba_driver.proofs.Door.{tick_is, turns_are_events}
 
 -- no fault of the device stands
 abbrev pub IsUnfaulted : ℕ → Port → Type 0

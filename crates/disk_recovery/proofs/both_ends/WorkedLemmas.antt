@@ -2,7 +2,7 @@
 -- it recovers.
 use Rattle.std.proofs.Common.{◌≡◌, ℕ, List, [], ◌∷◌, ◌++◌, refl, sym, subst, inl, inr}
 use Rattle.disk_model.specs.Histories.{Happening}
-use Rattle.disk_simulation.proofs.link.LooseLemmas.{not_base}
+use Rattle.disk_simulation.proofs.Door.{not_base}
 use Rattle.hba_driver.specs.declared.path.Recovery.{Recovery}
 use Rattle.hba_driver.specs.declared.plan.Device.TheVariants.{Recovering}
 use Rattle.hba_driver.specs.declared.plan.Plan.{Plan}

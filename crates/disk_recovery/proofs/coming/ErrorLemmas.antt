@@ -32,26 +32,20 @@ use Rattle.disk_model.specs.Laws.{AnswersFirst, ErrsRight, FailsNext, IsRegister
 use Rattle.disk_model.specs.Ledger.{IsSize, Ledger, Moving, Reply, Signs, ledger, listens, listens_down}
 use Rattle.disk_model.specs.Requests.{request_of}
 use Rattle.disk_model.specs.Runs.{IsDiskRun}
-use Rattle.disk_model.proofs.CrossLemmas.{AreFit, alone, asks_fits, never_empty}
-use Rattle.disk_model.proofs.EndsLemmas.{Ties, run_before, sent_right, tie_comes, tie_gives, tie_sends, tie_takes}
-use Rattle.disk_model.proofs.EntersLemmas.{AreApart}
-use Rattle.disk_model.proofs.ErrorLaws.{errs_right}
+use Rattle.disk_model.proofs.Door.{alone, AreApart, AreFit, asks_fits, errs_right, never_empty, run_before}
+use Rattle.disk_model.proofs.Door.{sent_right, tie_comes, tie_gives, tie_sends, tie_takes, Ties}
 use Rattle.hba_laws.specs.Client.{Touches, own}
-use Rattle.disk_simulation.proofs.link.LooseLemmas.{careful_before, next_of_disk, since_of}
+use Rattle.disk_simulation.proofs.Door.{careful_before, hosted_on_is_kept, marks_ask_nothing, next_anew, next_of_disk}
+use Rattle.disk_simulation.proofs.Door.{next_or_fails, run_to, same_first, since_of, watches_on}
 use Rattle.disk_simulation.specs.Anew.{IsKeptOn, IsNextRight}
 use Rattle.disk_simulation.specs.Files.{IsOfDisk}
 use Rattle.disk_simulation.specs.Line.{IsAskedAlike, IsWatchedWell, ToSign}
 use Rattle.disk_simulation.specs.Watched.{Erred, Fine, IsWatched, IsWatchedTo, WatchesOn}
-use Rattle.disk_simulation.proofs.anew.AnewHonest.{next_anew}
-use Rattle.disk_simulation.proofs.anew.AnewJoins.{hosted_on_is_kept}
-use Rattle.disk_simulation.proofs.phases.FollowedLemmas.{next_or_fails, run_to, same_first}
-use Rattle.disk_simulation.proofs.link.MarkedFiles.{marks_ask_nothing}
-use Rattle.disk_simulation.proofs.link.WatchedLemmas.{watches_on}
 use Rattle.hba_driver.specs.Events.{shared_by}
 use Rattle.hba_driver.specs.HostTurns.{Does, Host, Took}
 use Rattle.hba_driver.specs.Steady.{detects}
 use Rattle.hba_driver.specs.Tended.{IsAtStage, IsReleasing}
-use Rattle.hba_driver.proofs.modes.ModeLemmas.{ignores_as}
+use Rattle.hba_driver.proofs.Door.{ignores_as}
 use Rattle.disk_recovery.specs.Together.{IsServedOn}
 use Rattle.disk_recovery.specs.Unasked.{IsUnasked, OwesSignature}
 use Rattle.disk_recovery.proofs.unasked.UnaskedLemmas.{IsItsSignature, signs_only}

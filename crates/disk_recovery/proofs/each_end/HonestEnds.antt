@@ -19,15 +19,12 @@ use Rattle.disk_simulation.specs.Followed.{IsFollowed}
 use Rattle.disk_simulation.specs.Honest.{BroughtSectors, IsDoneHonestly, IsOnMedium}
 use Rattle.disk_simulation.specs.Phases as phase
 use Rattle.disk_simulation.specs.Watched.{IsWatched}
-use Rattle.disk_simulation.proofs.anew.AnewJoins.{hosted_on_is_kept}
-use Rattle.disk_simulation.proofs.phases.AsideLemmas.{aside_is_kept}
-use Rattle.disk_simulation.proofs.phases.PhaseLemmas.{each_done}
-use Rattle.disk_simulation.proofs.link.WatchedLemmas.{watches_on}
+use Rattle.disk_simulation.proofs.Door.{aside_is_kept, each_done, hosted_on_is_kept, watches_on}
 use Rattle.hba_driver.specs.Drivers.{Entry, entry_at}
 use Rattle.hba_driver.specs.Events.{shared_by}
 use Rattle.hba_driver.specs.HostTurns.{Does, Host, Took}
 use Rattle.hba_driver.specs.Orders.{is_queued}
-use Rattle.hba_driver.proofs.events.TurnLemmas.{sound_shared}
+use Rattle.hba_driver.proofs.Door.{sound_shared}
 use Rattle.disk_recovery.specs.Steady.{command_of}
 use Rattle.disk_recovery.proofs.apart.ApartBegins.{aside_at}
 use Rattle.disk_recovery.specs.Ends.{Apart, AreEnds, EachEndIsHonest, IsOnTime, IsRunning, IsSetAside, IsTogether, Together, since_floor}

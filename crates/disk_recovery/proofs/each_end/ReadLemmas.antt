@@ -26,11 +26,9 @@ use Rattle.disk_model.specs.Ledger.{ledger, ledger_after, listens}
 use Rattle.disk_model.specs.Ledger.{listens_down, listens_up, mixes, moves, reads_log, refuses, restarts, sends_data, sets_up, starts_moving, takes_data, with_auto}
 use Rattle.disk_model.specs.Requests.{request_of}
 use Rattle.disk_model.specs.Runs.{IsDiskRun}
-use Rattle.disk_model.proofs.AnewLemmas.{ends_agree_anew}
-use Rattle.disk_model.proofs.MovesLemmas.{moves_right}
-use Rattle.disk_model.proofs.ShowsLemmas.{write_of_auto}
+use Rattle.disk_model.proofs.Door.{ends_agree_anew, moves_right, write_of_auto}
 use Rattle.disk_simulation.specs.Followed.{IsFollowed}
-use Rattle.disk_simulation.proofs.phases.FollowedLemmas.{run_to}
+use Rattle.disk_simulation.proofs.Door.{run_to}
 
 -- ## What a disk asks for is data of a write
 

@@ -9,11 +9,9 @@ use Rattle.disk_model.specs.Ends.{Rests, reports, with_down}
 use Rattle.disk_model.specs.Histories.{Happening, Sent}
 use Rattle.disk_model.specs.Ledger.{IsSize, Ledger, ledger, listens}
 use Rattle.disk_model.specs.Runs.{IsDiskRun}
-use Rattle.disk_model.proofs.CrossLemmas.{AreFit}
-use Rattle.disk_model.proofs.EndsLemmas.{Ties}
-use Rattle.disk_model.proofs.ErrorLaws.{errs_right}
+use Rattle.disk_model.proofs.Door.{AreFit, errs_right, Ties}
 use Rattle.disk_simulation.specs.Watched.{Erred, Fine, IsWatchedTo}
-use Rattle.disk_simulation.proofs.phases.FollowedLemmas.{run_to, same_first}
+use Rattle.disk_simulation.proofs.Door.{run_to, same_first}
 use Rattle.disk_recovery.specs.Flushes.{flushes_among}
 use Rattle.disk_recovery.proofs.coming.ErrorLemmas.{IsAsked, asked_with, error_asked, ties_anew}
 use Rattle.disk_recovery.proofs.flushes.FlushLemmas.{first_up, none_flushes, quiet_up, right_later}

@@ -24,15 +24,11 @@ use Rattle.disk_simulation.specs.Anew.{IsKeptOn, IsNextRight}
 use Rattle.disk_simulation.specs.Followed.{IsFollowed}
 use Rattle.disk_simulation.specs.Together.{is_sent}
 use Rattle.disk_simulation.specs.Watched.{IsWatched}
-use Rattle.disk_simulation.proofs.anew.AnewJoins.{hosted_on_is_kept}
-use Rattle.disk_simulation.proofs.phases.FollowedLemmas.{next_or_fails}
-use Rattle.disk_simulation.proofs.link.WatchedLemmas.{watches_on}
+use Rattle.disk_simulation.proofs.Door.{hosted_on_is_kept, next_or_fails, watches_on}
 use Rattle.hba_driver.specs.Events.{shared_by}
 use Rattle.hba_driver.specs.HostTurns.{Does, Host, Took}
 use Rattle.hba_driver.specs.Slot30.{is_faulty}
-use Rattle.hba_driver.proofs.recovers.ApartPushes.{is_alone}
-use Rattle.hba_driver.proofs.modes.RowMode.{skipped_as}
-use Rattle.hba_driver.proofs.events.TurnLemmas.{sound_shared}
+use Rattle.hba_driver.proofs.Door.{is_alone, skipped_as, sound_shared}
 use Rattle.disk_recovery.specs.Ends.{Apart, AreEnds, IsOnTime, IsRunning, IsSetAside, IsTogether, Together}
 use Rattle.disk_recovery.specs.Flushes.{AreEndsSince, Floor, FlushesAreTaken, flushes_among, flushes_taken, write_floors}
 use Rattle.disk_recovery.proofs.aside.ApartDriver.{faulty_ignored}

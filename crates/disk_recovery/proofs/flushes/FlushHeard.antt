@@ -12,7 +12,7 @@ use Rattle.fis_view.specs.declared.view.Fis.{Fis}
 use Rattle.fis_view.specs.declared.view.Fis.TheVariants as view
 use Rattle.fis_view.specs.declared.view.FisFault.{FisFault}
 use Rattle.fis_view.specs.declared.view.FisFault.TheVariants.{WrongLength}
-use Rattle.fis_view.proofs.MarkLemmas.{is_marked}
+use Rattle.fis_view.proofs.Door.{is_marked}
 use Rattle.port_errors.specs.declared.cause.DeviceCause.TheVariants as cause
 use Rattle.slots.specs.Commands.{completed}
 use Rattle.slots.specs.Data.{after_arrive, may_activate}
@@ -38,8 +38,8 @@ use Rattle.hba_laws.specs.History as event
 use Rattle.hba_laws.specs.History.{Answered, Event, History, Transfer, completes, is_all_filled, filled, is_at, issued, waiting_in}
 use Rattle.hba_laws.specs.Hosts.{Host, TakesFrame}
 use Rattle.hba_laws.specs.Sound.{IsHost}
-use Rattle.hba_laws.proofs.completed.DoneLemmas.{done_is_completed}
-use Rattle.disk_simulation.proofs.together.TogetherLemmas.{no_end}
+use Rattle.hba_laws.proofs.Door.{done_is_completed}
+use Rattle.disk_simulation.proofs.Door.{no_end}
 
 -- ---- which FISes answer
 

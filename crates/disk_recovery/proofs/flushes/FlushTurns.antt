@@ -8,7 +8,7 @@ use Rattle.fis_view.specs.Frames.{IsFrame, Stamped, marked}
 use Rattle.fis_view.specs.Seen.{seen}
 use Rattle.fis_view.specs.declared.view.Fis.{Fis}
 use Rattle.fis_view.specs.declared.view.FisFault.{FisFault}
-use Rattle.hba_commands.proofs.RequestLemmas.{built_long}
+use Rattle.hba_commands.proofs.Door.{built_long}
 use Rattle.hba_commands.specs.Requests.{kind_of, request_of as fields_request, work_of}
 use Rattle.hba_commands.specs.declared.command.Command as issued_command
 use Rattle.host_memory.specs.Memory.{Memory}
@@ -40,12 +40,10 @@ use Rattle.hba_laws.specs.History.{Event, History, Issued, Sent, SentControl, Se
 use Rattle.hba_laws.specs.Hosts as event
 use Rattle.hba_laws.specs.Hosts.{HostEvent, Runs}
 use Rattle.hba_laws.specs.Sound.{IsHost}
-use Rattle.hba_laws.proofs.histories.EventLemmas.{GoesOut, goes_out}
-use Rattle.hba_laws.proofs.placed.SpareLemmas.{NotIssue, issued_before}
-use Rattle.hba_laws.proofs.histories.StandLemmas.{some_inj}
+use Rattle.hba_laws.proofs.Door.{goes_out, GoesOut, issued_before, NotIssue, some_inj}
 use Rattle.disk_simulation.specs.Line.{IsAskedAlike}
 use Rattle.disk_simulation.specs.Together.{is_sent}
-use Rattle.disk_simulation.proofs.link.MarkedFiles.{marks_ask_nothing}
+use Rattle.disk_simulation.proofs.Door.{marks_ask_nothing}
 use Rattle.hba_driver.specs.Drivers.{Entry, entry_at}
 use Rattle.hba_driver.specs.Events.{events_over, gave, pushed_by, shared_by}
 use Rattle.hba_driver.specs.HostTurns.{Does, DoesAll, Host, HostTurn, Pushed, Submitted, Took}
@@ -54,8 +52,7 @@ use Rattle.hba_driver.specs.Orders.{request_fields}
 use Rattle.hba_driver.specs.declared.request.Work as driver_work
 use Rattle.hba_driver.specs.declared.request.Work.TheVariants as work
 use Rattle.hba_driver.specs.Served.{IsBuiltOf, IsServed, RunServes}
-use Rattle.hba_driver.proofs.issued.IssuingLemmas.{From}
-use Rattle.hba_driver.proofs.events.TurnLemmas.{each_run_tells, sound_shared}
+use Rattle.hba_driver.proofs.Door.{each_run_tells, From, sound_shared}
 use Rattle.disk_recovery.proofs.honest.FisLemmas.{flush_is, request_kind}
 use Rattle.disk_recovery.proofs.honest.PushLemmas.{HasLast, OutTold, out_last, out_told, short_frame}
 use Rattle.disk_recovery.proofs.honest.TurnLemmas.{after}

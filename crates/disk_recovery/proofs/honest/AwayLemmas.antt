@@ -14,14 +14,14 @@ use Rattle.hba_laws.specs.Client.{Touches, own}
 use Rattle.hba_laws.specs.Delivering.{touched, touches_after}
 use Rattle.hba_laws.specs.History.{History, Transfer, issued}
 use Rattle.hba_laws.specs.Hosts.{Does, Flushed, Gave, Host, HostEvent, Runs, Took, Wrote}
-use Rattle.hba_laws.proofs.histories.IssueLemmas.{own_app}
+use Rattle.hba_laws.proofs.Door.{own_app}
 use Rattle.disk_simulation.specs.Calm.{AreCalm, IsCalm}
 use Rattle.disk_simulation.specs.Elsewhere.{IsElsewhere, LeavesDevice, WritesElsewhere}
 use Rattle.disk_simulation.specs.Together.{with_command}
-use Rattle.disk_simulation.proofs.others.ElsewhereLemmas.{others_leave_device}
+use Rattle.disk_simulation.proofs.Door.{others_leave_device}
 use Rattle.disk_simulation.specs.Same.{SlotCommand}
 use Rattle.hba_driver.specs.Steady.{AreBeside, IsBeside, Issues, WritesBeside}
-use Rattle.hba_driver.proofs.issued.IssuingLemmas.{bit_other, issued_cases}
+use Rattle.hba_driver.proofs.Door.{bit_other, issued_cases}
 
 -- ---- events that are none of the disk's
 

@@ -11,14 +11,14 @@ use Rattle.fis_view.specs.Frames.{IsFrame, Stamped, marked}
 use Rattle.fis_view.specs.Seen.{seen}
 use Rattle.fis_view.specs.Table.{H2d}
 use Rattle.fis_view.specs.declared.view.Fis.TheVariants as view
-use Rattle.fis_view.proofs.MarkLemmas.{port_bits, port_field}
+use Rattle.fis_view.proofs.Door.{port_bits, port_field}
 use Rattle.host_memory.specs.Memory.{Memory}
-use Rattle.hba_commands.proofs.RequestLemmas.{built_long}
+use Rattle.hba_commands.proofs.Door.{built_long}
 use Rattle.hba_commands.specs.declared.command.Command as issued_command
 use Rattle.slots.specs.Slots.{Issue, holds, is_control, issue_at, match_some, own_issue, slots_of}
 use Rattle.slots.specs.Work.{is_dma, is_queued}
 use Rattle.slots.specs.declared.work.Work.{Work}
-use Rattle.slots.proofs.MaskLemmas.{lowest_is}
+use Rattle.slots.proofs.Door.{lowest_is}
 use Rattle.hba_fbs.specs.Sending.{Data, Gives, Nothing, Order, Outgoing, data_due, data_fis, data_with, gathered, is_due, next_receiver, next_to_send, order_due, outgoing}
 use Rattle.slots.specs.Data.{payload, payload_len}
 use Rattle.slots.specs.declared.table.Context.{Context}
@@ -38,19 +38,14 @@ use Rattle.hba_laws.specs.History as told_as
 use Rattle.hba_laws.specs.History.{Event, History, Transfer, issued}
 use Rattle.hba_laws.specs.Hosts as event
 use Rattle.hba_laws.specs.Sound.{IsHost}
-use Rattle.hba_laws.proofs.histories.EventLemmas.{GoesOut, goes_out, own_one}
-use Rattle.hba_laws.proofs.histories.IssueLemmas.{own_app}
-use Rattle.hba_laws.proofs.placed.SpareLemmas.{out_none, was_there}
-use Rattle.hba_laws.proofs.histories.StandLemmas.{some_inj}
-use Rattle.hba_laws.proofs.histories.ViewLemmas.{HasContext, IsOwn, is_own, own_here}
+use Rattle.hba_laws.proofs.Door.{goes_out, GoesOut, HasContext, is_own, IsOwn, out_none, own_app, own_here, own_one}
+use Rattle.hba_laws.proofs.Door.{some_inj, was_there}
 use Rattle.disk_simulation.specs.Answers.{IsAlone}
 use Rattle.disk_simulation.specs.Elsewhere.{IsForOther, LeavesDevice}
 use Rattle.disk_simulation.specs.Hosted.{IsHosted, asks, gives, sends, stays}
 use Rattle.disk_simulation.specs.Joined.{IsAskedBy}
 use Rattle.disk_simulation.specs.Together.{NoneQueued}
-use Rattle.disk_simulation.proofs.others.ElsewhereLemmas.{others_leave_device}
-use Rattle.disk_simulation.proofs.anew.HostedLemmas.{hosted_is_kept}
-use Rattle.disk_simulation.proofs.joined.OutLemmas.{begun_none}
+use Rattle.disk_simulation.proofs.Door.{begun_none, hosted_is_kept, others_leave_device}
 use Rattle.disk_simulation.specs.Same.{SlotCommand}
 use Rattle.hba_driver.specs.declared.request.Work as driver_work
 use Rattle.hba_driver.specs.declared.request.Work.TheVariants as work
@@ -60,13 +55,8 @@ use Rattle.hba_driver.specs.HostTurns.{Does, Host, Pushed}
 use Rattle.hba_driver.specs.Orders as orders
 use Rattle.hba_driver.specs.Served.{IsBuiltOf, IsFisOf, IsServed, RunServes}
 use Rattle.hba_driver.specs.Steady.{IsAskedOf, IsOpenAt}
-use Rattle.hba_driver.proofs.issued.IssueLemmas.{told_of}
-use Rattle.hba_driver.proofs.issued.IssuingLemmas.{From}
-use Rattle.hba_driver.proofs.steady.RowLemmas.{rows_stay}
-use Rattle.hba_driver.proofs.issued.ServedLemmas.{turns_serve}
-use Rattle.hba_driver.proofs.events.SoundLemmas.{sound_turn}
-use Rattle.hba_driver.proofs.steady.SteadyTurns.{issued_unended, steady_fields, steps_alone, turn_steady}
-use Rattle.hba_driver.proofs.events.TurnLemmas.{sound_shared}
+use Rattle.hba_driver.proofs.Door.{From, issued_unended, rows_stay, sound_shared, sound_turn, steady_fields}
+use Rattle.hba_driver.proofs.Door.{steps_alone, told_of, turn_steady, turns_serve}
 use Rattle.disk_recovery.specs.Kept.{IsServedHonestly, PushesGoOn, PushesKeep, given_to}
 use Rattle.disk_recovery.specs.Steady.{HasSigned}
 use Rattle.disk_recovery.proofs.honest.FisLemmas.{flush_is, identify_control, identify_is, identify_kind, identify_moves, request_asks, request_control, request_kind, request_moves}

@@ -15,23 +15,16 @@ use Rattle.hba_laws.specs.Delivering.{touched}
 use Rattle.hba_laws.specs.History.{History}
 use Rattle.hba_laws.specs.Hosts as event
 use Rattle.hba_laws.specs.Sound.{IsHost}
-use Rattle.hba_laws.proofs.histories.IssueLemmas.{own_app}
-use Rattle.hba_laws.proofs.placed.SpareLemmas.{took_none, was_there}
+use Rattle.hba_laws.proofs.Door.{own_app, took_none, was_there}
 use Rattle.disk_simulation.specs.Hosted.{IsHosted, IsKept, hears}
 use Rattle.disk_simulation.specs.Together.{told}
-use Rattle.disk_simulation.proofs.joined.HeardLemmas.{heard_as_told}
-use Rattle.disk_simulation.proofs.anew.HostedLemmas.{hosted_is_kept}
-use Rattle.disk_simulation.proofs.joined.MarkedLemmas.{marks_tell_nothing}
+use Rattle.disk_simulation.proofs.Door.{heard_as_told, hosted_is_kept, marks_tell_nothing}
 use Rattle.hba_driver.specs.Drivers.{Driver, entry_at}
 use Rattle.hba_driver.specs.Events.{shared_by}
 use Rattle.hba_driver.specs.HostTurns.{Does, Took}
 use Rattle.hba_driver.specs.Served.{RunServes}
 use Rattle.hba_driver.specs.Steady.{IsAskedOf}
-use Rattle.hba_driver.proofs.steady.RowLemmas.{rows_stay}
-use Rattle.hba_driver.proofs.issued.ServedLemmas.{turns_serve}
-use Rattle.hba_driver.proofs.events.SoundLemmas.{sound_turn}
-use Rattle.hba_driver.proofs.steady.SteadyTurns.{turn_steady}
-use Rattle.hba_driver.proofs.events.TurnLemmas.{sound_shared}
+use Rattle.hba_driver.proofs.Door.{rows_stay, sound_shared, sound_turn, turn_steady, turns_serve}
 use Rattle.disk_recovery.specs.Kept.{TakesKeep}
 use Rattle.disk_recovery.specs.Steady.{HasSigned}
 use Rattle.disk_recovery.proofs.honest.SignLemmas.{ledger_more, signed_register, signed_sent}

@@ -12,11 +12,9 @@ use Rattle.hba_laws.specs.Client.{Touches, own}
 use Rattle.hba_laws.specs.Delivering.{history_after, touches_after}
 use Rattle.hba_laws.specs.History.{History, Transfer, issued}
 use Rattle.hba_laws.specs.Hosts.{HostEvent}
-use Rattle.hba_laws.proofs.histories.EventLemmas.{histories_are_parts}
-use Rattle.hba_laws.proofs.histories.StandLemmas.{some_inj}
+use Rattle.hba_laws.proofs.Door.{histories_are_parts, some_inj}
 use Rattle.disk_simulation.specs.Hosted.{IsHosted, plugged}
-use Rattle.disk_simulation.proofs.others.CalmLemmas.{calm_runs_keep}
-use Rattle.disk_simulation.proofs.anew.HostedLemmas.{hosted_is_kept}
+use Rattle.disk_simulation.proofs.Door.{calm_runs_keep, hosted_is_kept}
 use Rattle.disk_simulation.specs.Same.{SlotCommand}
 use Rattle.hba_driver.specs.declared.mode.Mode.TheVariants.{Switching}
 use Rattle.hba_driver.specs.Drivers.{Driver, Entry, entry_at, rephased}
@@ -28,16 +26,10 @@ use Rattle.hba_driver.specs.Sights.{file_shown}
 use Rattle.hba_driver.specs.Steady.{HasSignature, IsAskedOf, IsSteady, slot_in}
 use Rattle.hba_driver.specs.Submits.{new_entry, next_slot}
 use Rattle.hba_driver.specs.Ticks.{after_tick}
-use Rattle.hba_driver.proofs.steady.BesideLemmas.{tick_beside}
-use Rattle.hba_driver.proofs.requests.HistoryLemmas.{PollFacts, back_of, free_other, freed, poll_facts}
-use Rattle.hba_driver.proofs.issued.IssuingLemmas.{From}
-use Rattle.hba_driver.proofs.ticks.LifeLemmas.{keeps_tick}
-use Rattle.hba_driver.proofs.calls.RequestLemmas.{set_cases}
-use Rattle.hba_driver.proofs.steady.RowLemmas.{flush_row, opens_row, rows_stay}
-use Rattle.hba_driver.proofs.issued.ServedLemmas.{turns_serve}
-use Rattle.hba_driver.proofs.events.SoundLemmas.{hosts_stay_sound, sound_turn}
-use Rattle.hba_driver.proofs.requests.StandLemmas.{in_slots}
-use Rattle.hba_driver.proofs.steady.SteadyTurns.{DriverKeeps, flush_steady, issued_unended, opens_steady, turn_steady, Signs}
+use Rattle.hba_driver.proofs.Door.{back_of, DriverKeeps, flush_row, flush_steady, free_other, freed, From}
+use Rattle.hba_driver.proofs.Door.{hosts_stay_sound, in_slots, issued_unended, keeps_tick, opens_row, opens_steady}
+use Rattle.hba_driver.proofs.Door.{poll_facts, PollFacts, rows_stay, set_cases, Signs, sound_turn, tick_beside}
+use Rattle.hba_driver.proofs.Door.{turn_steady, turns_serve}
 use Rattle.disk_recovery.specs.Kept.{CalmTurnsKeep, FlushOpens, IsCalmTurn, IsServedHonestly, OpensHonestly, ServesOn}
 use Rattle.disk_recovery.specs.Steady.{AreNamed, IsAskedSigned, IsRowSigned, command_of}
 use Rattle.disk_recovery.proofs.honest.AwayLemmas.{AreAway, CalmEnds, IsNewOrOld, beside_away, calm_ends}

@@ -35,8 +35,8 @@ use Rattle.hba_fbs.specs.Views.{DeviceView, view_of}
 use Rattle.hba_laws.specs.Hosts.{Host, TakesFrame}
 use Rattle.disk_simulation.specs.Anew.{IsSignedWell}
 use Rattle.disk_simulation.specs.Heard.{IsTakenWell}
-use Rattle.disk_simulation.proofs.anew.SignsLemmas.{view_signed}
-use Rattle.hba_driver.proofs.goes_on.StopLemmas.{either}
+use Rattle.disk_simulation.proofs.Door.{view_signed}
+use Rattle.hba_driver.proofs.Door.{either}
 
 -- ---- what a device sends
 

@@ -8,16 +8,14 @@ use Rattle.slots.specs.declared.table.Context.{Context}
 use Rattle.hba_fbs.specs.Views.{view_of}
 use Rattle.disk_model.specs.Histories.{Happening, Plugged}
 use Rattle.disk_model.specs.Ledger.{Reply, ShowsPage, Signs, ledger}
-use Rattle.disk_model.proofs.AnewLemmas.{begins_anew}
+use Rattle.disk_model.proofs.Door.{begins_anew}
 use Rattle.hba_laws.specs.Agreement.{IsHistoryOf, work_of_issue, work_of_transfer}
 use Rattle.hba_laws.specs.Client.{Touches, own}
 use Rattle.hba_laws.specs.Delivering.{touches_after}
 use Rattle.hba_laws.specs.History.{Transfer, issued}
 use Rattle.disk_simulation.specs.Anew.{IsAwaited}
 use Rattle.disk_simulation.specs.Anew as anew
-use Rattle.disk_simulation.proofs.anew.AnewJoins.{hosted_since_new, opens_after, opens_signing}
-use Rattle.disk_simulation.proofs.joined.HeardLemmas.{IsThere, there_by}
-use Rattle.disk_simulation.proofs.anew.HostedLemmas.{no_context}
+use Rattle.disk_simulation.proofs.Door.{hosted_since_new, IsThere, no_context, opens_after, opens_signing, there_by}
 use Rattle.disk_simulation.specs.Same.{SlotCommand}
 use Rattle.hba_driver.specs.declared.path.Path.{Path}
 use Rattle.hba_driver.specs.declared.path.Recovery.{Recovery}
@@ -33,15 +31,8 @@ use Rattle.hba_driver.specs.HostTurns.{Does, Host, Ticked}
 use Rattle.hba_driver.specs.Served.{IsServed, RunServes}
 use Rattle.hba_driver.specs.Steady.{IsAskedOf, IsFine, IsSteady, IsSteadyPlan}
 use Rattle.hba_driver.specs.Tended.{Awaits, Fine, Identifies, IsAskedOn, IsAsking, IsAtStage, IsBegun, IsLiveAt, IsReleasing, IsTended, IsTendedBy, Logs, Releases, Spoilt}
-use Rattle.hba_driver.proofs.anew.FlushLemmas.{flush_unreset}
-use Rattle.hba_driver.proofs.issued.IssuingLemmas.{From}
-use Rattle.hba_driver.proofs.steady.RowLemmas.{flush_row}
-use Rattle.hba_driver.proofs.issued.ServedLemmas.{turns_serve}
-use Rattle.hba_driver.proofs.events.SoundLemmas.{sound_turn}
-use Rattle.hba_driver.proofs.requests.StandLemmas.{in_slots}
-use Rattle.hba_driver.proofs.steady.SteadyTurns.{flush_steady, issued_unended}
-use Rattle.hba_driver.proofs.anew.TendedLemmas.{stage_is, unworked}
-use Rattle.hba_driver.proofs.anew.TendedTurns.{issued_live, steady_tends}
+use Rattle.hba_driver.proofs.Door.{flush_row, flush_steady, flush_unreset, From, in_slots, issued_live}
+use Rattle.hba_driver.proofs.Door.{issued_unended, sound_turn, stage_is, steady_tends, turns_serve, unworked}
 use Rattle.disk_recovery.specs.Steady.{HasSigned}
 use Rattle.disk_recovery.specs.Together.{FlushOpensOn, IsServedOn, LogBeginsServed, ResetBeginsServed, ServedSinceFlush, SpoiltIsFree}
 use Rattle.disk_recovery.proofs.honest.TurnLemmas.{after, no_issue, no_transfer, plain}

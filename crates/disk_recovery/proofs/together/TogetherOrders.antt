@@ -8,8 +8,8 @@ use Rattle.fis_view.specs.Seen.{kind_of, may_have, seen, view_as}
 use Rattle.fis_view.specs.Table as table
 use Rattle.fis_view.specs.Table.{Kind}
 use Rattle.fis_view.specs.declared.view.FisFault.TheVariants.{WrongLength}
-use Rattle.fis_view.proofs.MarkLemmas.{is_marked}
-use Rattle.hba_commands.proofs.RequestLemmas.{built_long}
+use Rattle.fis_view.proofs.Door.{is_marked}
+use Rattle.hba_commands.proofs.Door.{built_long}
 use Rattle.hba_commands.specs.declared.command.Command as issued_command
 use Rattle.slots.specs.Slots.{Issue, is_control, issue_at, own_issue, slots_of}
 use Rattle.slots.specs.Work.{is_dma, is_queued}
@@ -22,19 +22,17 @@ use Rattle.disk_model.specs.Ends.{Fits, FitsAll}
 use Rattle.disk_model.specs.Histories.{Happening, Received}
 use Rattle.disk_model.specs.Ledger.{Ledger, empty, ledger, ledger_after}
 use Rattle.disk_model.specs.Requests.{request_of}
-use Rattle.disk_model.proofs.AnewLemmas.{after_more}
+use Rattle.disk_model.proofs.Door.{after_more}
 use Rattle.hba_laws.specs.Client.{Touches, own}
 use Rattle.hba_laws.specs.History.{History, Transfer, issued}
 use Rattle.hba_laws.specs.Hosts as event
 use Rattle.hba_laws.specs.Sound.{IsHost}
-use Rattle.hba_laws.proofs.histories.EventLemmas.{GoesOut}
-use Rattle.hba_laws.proofs.histories.StandLemmas.{some_inj}
-use Rattle.hba_laws.proofs.histories.ViewLemmas.{own_here}
+use Rattle.hba_laws.proofs.Door.{GoesOut, own_here, some_inj}
 use Rattle.disk_simulation.specs.Answers.{IsAlone}
 use Rattle.disk_simulation.specs.Anew.{IsHostedOn}
 use Rattle.disk_simulation.specs.Anew as anew
 use Rattle.disk_simulation.specs.Together.{is_sent}
-use Rattle.disk_simulation.proofs.anew.AnewJoins.{hosted_on_is_kept}
+use Rattle.disk_simulation.proofs.Door.{hosted_on_is_kept}
 use Rattle.hba_driver.specs.declared.path.Path.{Path}
 use Rattle.hba_driver.specs.declared.path.Stage.{Stage}
 use Rattle.hba_driver.specs.declared.path.Stage.TheVariants.{AssertReset, AwaitReset, Identify, ReadLog, ReleaseReset}
@@ -48,9 +46,7 @@ use Rattle.hba_driver.specs.Orders as orders
 use Rattle.hba_driver.specs.Paths.{stage_fields}
 use Rattle.hba_driver.specs.Served.{IsBuiltOf}
 use Rattle.hba_driver.specs.Tended.{Awaits, Fine, Identifies, IsAsking, IsAtStage, IsBegun, IsLiveAt, IsReleasing, IsTendedBy, Logs, Releases, Spoilt}
-use Rattle.hba_driver.proofs.issued.IssuingLemmas.{From}
-use Rattle.hba_driver.proofs.anew.TendedLemmas.{at_stage}
-use Rattle.hba_driver.proofs.anew.TendedTurns.{issued_live}
+use Rattle.hba_driver.proofs.Door.{at_stage, From, issued_live}
 use Rattle.disk_recovery.specs.Steady.{HasSigned}
 use Rattle.disk_simulation.specs.Watched.{IsPlain, IsPlainRequest}
 use Rattle.disk_simulation.specs.Same.{SlotCommand}

@@ -9,7 +9,7 @@ use Rattle.std.proofs.lemmas.List.FromFn.{length-map-range_with_len}
 use Rattle.fis_view.specs.Frames.{IsFrame, IsPayload, Stamped, marked}
 use Rattle.fis_view.specs.Seen.{seen}
 use Rattle.fis_view.specs.declared.view.Fis.TheVariants as view
-use Rattle.fis_view.proofs.FrameLemmas.{payload_seen}
+use Rattle.fis_view.proofs.Door.{payload_seen}
 use Rattle.hba_commands.specs.declared.command.Command as issued_command
 use Rattle.slots.specs.Slots.{holds, is_control, issue_at}
 use Rattle.slots.specs.Work.{is_dma, is_queued}
@@ -26,26 +26,18 @@ use Rattle.hba_laws.specs.History as told_as
 use Rattle.hba_laws.specs.History.{Event, History}
 use Rattle.hba_laws.specs.Hosts as event
 use Rattle.hba_laws.specs.Sound.{IsHost}
-use Rattle.hba_laws.proofs.histories.EventLemmas.{GoesOut, goes_out, own_one}
-use Rattle.hba_laws.proofs.histories.IssueLemmas.{own_app}
-use Rattle.hba_laws.proofs.placed.SpareLemmas.{out_none, was_there}
-use Rattle.hba_laws.proofs.histories.ViewLemmas.{HasContext, IsOwn, is_own}
+use Rattle.hba_laws.proofs.Door.{goes_out, GoesOut, HasContext, is_own, IsOwn, out_none, own_app, own_one, was_there}
 use Rattle.disk_simulation.specs.Anew.{IsHostedOn, IsKeptOn, asks, gives, sends, stays}
 use Rattle.disk_simulation.specs.Elsewhere.{IsForOther, LeavesDevice}
 use Rattle.disk_simulation.specs.Joined.{IsAskedBy}
-use Rattle.disk_simulation.proofs.anew.AnewJoins.{hosted_on_is_kept}
-use Rattle.disk_simulation.proofs.others.ElsewhereLemmas.{others_leave_device}
-use Rattle.disk_simulation.proofs.joined.OutLemmas.{begun_none}
+use Rattle.disk_simulation.proofs.Door.{begun_none, hosted_on_is_kept, others_leave_device}
 use Rattle.hba_driver.specs.Drivers.{Driver, device_at, entry_at}
 use Rattle.hba_driver.specs.Events.{shared_by}
 use Rattle.hba_driver.specs.HostTurns.{Does, Host, Pushed}
 use Rattle.hba_driver.specs.Served.{RunServes}
 use Rattle.hba_driver.specs.Steady.{IsFine}
 use Rattle.hba_driver.specs.Tended.{IsAskedOn, IsAtStage, IsBegun, IsReleasing, IsTended}
-use Rattle.hba_driver.proofs.steady.RowLemmas.{rows_stay}
-use Rattle.hba_driver.proofs.issued.ServedLemmas.{turns_serve}
-use Rattle.hba_driver.proofs.events.SoundLemmas.{sound_turn}
-use Rattle.hba_driver.proofs.events.TurnLemmas.{sound_shared}
+use Rattle.hba_driver.proofs.Door.{rows_stay, sound_shared, sound_turn, turns_serve}
 use Rattle.disk_recovery.specs.Kept.{given_to}
 use Rattle.disk_recovery.specs.Steady.{HasSigned}
 use Rattle.disk_simulation.specs.Watched.{GavePlain, IsPlain}

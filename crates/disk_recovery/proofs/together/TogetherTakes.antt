@@ -18,15 +18,12 @@ use Rattle.hba_laws.specs.Delivering.{by_device, event_heard, touched}
 use Rattle.hba_laws.specs.History.{History}
 use Rattle.hba_laws.specs.Hosts as event
 use Rattle.hba_laws.specs.Sound.{IsHost}
-use Rattle.hba_laws.proofs.histories.IssueLemmas.{own_app}
-use Rattle.hba_laws.proofs.placed.SpareLemmas.{took_none, was_there}
+use Rattle.hba_laws.proofs.Door.{own_app, took_none, was_there}
 use Rattle.disk_simulation.specs.Anew.{IsHostedOn, IsKeptOn, IsSignedWell}
 use Rattle.disk_simulation.specs.Anew as anew
 use Rattle.disk_simulation.specs.Together.{told}
-use Rattle.disk_simulation.proofs.anew.AnewJoins.{hosted_on_is_kept}
-use Rattle.disk_simulation.proofs.joined.HeardLemmas.{heard_as_told}
-use Rattle.disk_simulation.proofs.joined.MarkedLemmas.{marks_tell_nothing}
-use Rattle.disk_simulation.proofs.anew.SignsLemmas.{IsSigned, signature_is_none, signed}
+use Rattle.disk_simulation.proofs.Door.{heard_as_told, hosted_on_is_kept, IsSigned, marks_tell_nothing}
+use Rattle.disk_simulation.proofs.Door.{signature_is_none, signed}
 use Rattle.disk_simulation.specs.Same.{SlotCommand}
 use Rattle.hba_driver.specs.Drivers.{Driver, device_at, entry_at}
 use Rattle.hba_driver.specs.Events.{shared_by}
@@ -35,10 +32,7 @@ use Rattle.hba_driver.specs.Served.{RunServes}
 use Rattle.hba_driver.specs.Sights.{is_ata, last_d2h}
 use Rattle.hba_driver.specs.Steady.{HasSignature, IsFine}
 use Rattle.hba_driver.specs.Tended.{IsAskedOn, IsAtStage, IsBegun, IsReleasing, IsTended, IsUnreset}
-use Rattle.hba_driver.proofs.steady.RowLemmas.{rows_stay}
-use Rattle.hba_driver.proofs.issued.ServedLemmas.{turns_serve}
-use Rattle.hba_driver.proofs.events.SoundLemmas.{sound_turn}
-use Rattle.hba_driver.proofs.events.TurnLemmas.{sound_shared}
+use Rattle.hba_driver.proofs.Door.{rows_stay, sound_shared, sound_turn, turns_serve}
 use Rattle.disk_recovery.specs.Together.{IgnoredKeepOn, IsServedOn, ServesOnAnew, SignaturesKeepOn, TakesKeepOn}
 use Rattle.disk_recovery.specs.Steady.{HasSigned}
 use Rattle.disk_recovery.proofs.together.ResetLemmas.{signed_unreset, taken_unreset}

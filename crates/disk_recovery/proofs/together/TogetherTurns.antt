@@ -19,15 +19,12 @@ use Rattle.hba_laws.specs.History.{History}
 use Rattle.hba_laws.specs.Hosts as event
 use Rattle.hba_laws.specs.Hosts.{HostEvent, Runs}
 use Rattle.hba_laws.specs.Sound.{AreHosts}
-use Rattle.hba_laws.proofs.histories.EventLemmas.{histories_are_parts}
-use Rattle.hba_laws.proofs.histories.IssueLemmas.{history_below, own_app, own_below_is, with_issued}
+use Rattle.hba_laws.proofs.Door.{histories_are_parts, history_below, own_app, own_below_is, with_issued}
 use Rattle.disk_simulation.specs.Anew.{IsHostedOn}
 use Rattle.disk_simulation.specs.Calm.{AreCalm, IsCalm, IssuesFor, WritesIssues}
 use Rattle.disk_simulation.specs.Elsewhere.{IsElsewhere, LeavesDevice}
 use Rattle.disk_simulation.specs.Together.{is_sent}
-use Rattle.disk_simulation.proofs.anew.AnewJoins.{hosted_on_is_kept}
-use Rattle.disk_simulation.proofs.phases.CalmOn.{calm_leaves_together}
-use Rattle.disk_simulation.proofs.others.ElsewhereLemmas.{others_leave_device}
+use Rattle.disk_simulation.proofs.Door.{calm_leaves_together, hosted_on_is_kept, others_leave_device}
 use Rattle.disk_simulation.specs.Same.{SlotCommand}
 use Rattle.hba_driver.specs.Drivers.{entry_at}
 use Rattle.hba_driver.specs.Events.{events_over, shared_by}
@@ -35,12 +32,8 @@ use Rattle.hba_driver.specs.HostTurns.{DoesAll, Host, HostTurn, Took, Pushed, Ti
 use Rattle.hba_driver.specs.Served.{RunServes}
 use Rattle.hba_driver.specs.Steady.{HasSignature, IsSteadyTurn, Issues, slot_in}
 use Rattle.hba_driver.specs.Tended.{IsSteplessTurn, IsTended, TendsOn}
-use Rattle.hba_driver.proofs.steady.BesideLemmas.{tick_beside}
-use Rattle.hba_driver.proofs.issued.IssuingLemmas.{asked_is}
-use Rattle.hba_driver.proofs.steady.RowLemmas.{rows_stay}
-use Rattle.hba_driver.proofs.issued.ServedLemmas.{turns_serve}
-use Rattle.hba_driver.proofs.events.SoundLemmas.{sound_turn}
-use Rattle.hba_driver.proofs.anew.TendedTurns.{stepless_slot, turn_tended}
+use Rattle.hba_driver.proofs.Door.{asked_is, rows_stay, sound_turn, stepless_slot, tick_beside, turn_tended}
+use Rattle.hba_driver.proofs.Door.{turns_serve}
 use Rattle.disk_recovery.specs.Kept.{IsCalmTurn}
 use Rattle.disk_recovery.specs.Together.{CalmTurnsKeepOn, IsServedOn, ServesOnAnew}
 use Rattle.disk_recovery.proofs.honest.AwayLemmas.{AreAway, CalmEnds, beside_away, calm_ends}

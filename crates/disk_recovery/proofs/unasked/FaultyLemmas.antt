@@ -25,14 +25,13 @@ use Rattle.hba_fbs.specs.declared.state.DeviceState.{DeviceState}
 use Rattle.disk_model.specs.Ends.{IsRight}
 use Rattle.disk_model.specs.Ledger.{Ledger, ledger}
 use Rattle.disk_simulation.specs.Files.{IsOfDisk}
-use Rattle.disk_simulation.proofs.link.MarkedFiles.{disk_marked}
-use Rattle.disk_simulation.proofs.joined.MarkedLemmas.{marks_tell_nothing}
+use Rattle.disk_simulation.proofs.Door.{disk_marked, marks_tell_nothing}
 use Rattle.hba_driver.specs.declared.plan.Device.TheVariants.{Absent}
 use Rattle.hba_driver.specs.Drivers.{Driver, device_at}
 use Rattle.hba_driver.specs.Events.{IsSoundHost}
 use Rattle.hba_driver.specs.HostTurns.{Does, Host, Took}
 use Rattle.hba_driver.specs.Steady.{detects}
-use Rattle.hba_driver.proofs.modes.RowMode.{heard_as}
+use Rattle.hba_driver.proofs.Door.{heard_as}
 use Rattle.disk_recovery.specs.Unasked.{FaultsSetAside, OwesSignature}
 use Rattle.disk_recovery.proofs.unasked.UnaskedLemmas.{none_at, signs_only}
 

@@ -21,14 +21,12 @@ use Rattle.disk_model.specs.Ends.{IsRight, PageAsked}
 use Rattle.disk_model.specs.Histories.{Happening, Plugged, Sent}
 use Rattle.disk_model.specs.Laws.{ActivatesRight, AnswersFirst, SetsUpRight, ShowsFirst, StartsOne}
 use Rattle.disk_model.specs.Ledger.{Ledger, Moving, Names, Reply, Signs, empty, ledger, listens_up}
-use Rattle.disk_model.proofs.AnewLemmas.{begins_anew}
+use Rattle.disk_model.proofs.Door.{begins_anew}
 use Rattle.hba_laws.specs.Agreement.{IsHistoryOf}
 use Rattle.hba_laws.specs.Client.{Touches, own}
 use Rattle.hba_laws.specs.History.{Transfer, issued}
 use Rattle.hba_laws.specs.Sound.{IsHost}
-use Rattle.hba_laws.proofs.histories.EventLemmas.{GoesOut, goes_out}
-use Rattle.hba_laws.proofs.histories.StandLemmas.{the}
-use Rattle.hba_laws.proofs.placed.WithinLemmas.{the_transfer}
+use Rattle.hba_laws.proofs.Door.{goes_out, GoesOut, the, the_transfer}
 use Rattle.disk_simulation.specs.Files.{IsOfDisk}
 use Rattle.hba_driver.specs.declared.path.Path.{Path}
 use Rattle.hba_driver.specs.declared.path.Recovery.{Recovery}
@@ -44,14 +42,11 @@ use Rattle.hba_driver.specs.Served.{IsServed}
 use Rattle.hba_driver.specs.Slot30.{Resets}
 use Rattle.hba_driver.specs.Steady.{IsSteadyTurn}
 use Rattle.hba_driver.specs.Tended.{Awaits, Fine, Identifies, IsTended, IsTendedBy, Logs, Releases, Spoilt}
-use Rattle.hba_driver.proofs.issued.IssuingLemmas.{From}
-use Rattle.hba_driver.proofs.anew.TendedTurns.{issued_live}
-use Rattle.hba_driver.proofs.events.TurnLemmas.{sound_shared}
+use Rattle.hba_driver.proofs.Door.{From, issued_live, sound_shared, turn_was}
 use Rattle.disk_recovery.specs.Kept.{IsCalmTurn, given_to}
 use Rattle.disk_recovery.proofs.honest.PushLemmas.{HasLast, OutData, OutTold, given_elsewhere, out_data, out_last, out_told}
 use Rattle.disk_recovery.proofs.honest.SignLemmas.{ledger_more}
 use Rattle.disk_recovery.specs.Unasked.{EachStaysUnasked, IsUnasked, OwesSignature}
-use Rattle.hba_driver.proofs.steady.AbsentLemmas.{turn_was}
 
 -- ---- what may come of it
 

@@ -10,7 +10,7 @@ use Rattle.fis_view.specs.Seen.{seen}
 use Rattle.fis_view.specs.declared.view.Fis.{Fis}
 use Rattle.fis_view.specs.declared.view.Fis.TheVariants as view
 use Rattle.fis_view.specs.declared.view.FisFault.{FisFault}
-use Rattle.fis_view.proofs.MarkLemmas.{is_marked}
+use Rattle.fis_view.proofs.Door.{is_marked}
 use Rattle.port_errors.specs.declared.cause.DeviceCause.TheVariants as cause
 use Rattle.slots.specs.Commands.{completed}
 use Rattle.slots.specs.Data.{may_activate}
@@ -35,15 +35,13 @@ use Rattle.disk_model.specs.Anew.{StayWritten}
 use Rattle.disk_model.specs.Ends.{EndsAgree, reports}
 use Rattle.disk_model.specs.Histories.{Happening, Plugged}
 use Rattle.disk_model.specs.Ledger.{Ledger, Written, ledger}
-use Rattle.disk_model.proofs.AnewLemmas.{ends_agree_anew, linked_since_new}
-use Rattle.disk_model.proofs.LaterLemmas.{later_tells_of_all}
-use Rattle.disk_model.proofs.WrittenLemmas.{writes_stay}
+use Rattle.disk_model.proofs.Door.{ends_agree_anew, later_tells_of_all, linked_since_new, writes_stay}
 use Rattle.hba_laws.specs.Delivering.{completes_now, event_heard, event_of, event_taken}
 use Rattle.hba_laws.specs.History as event
 use Rattle.hba_laws.specs.History.{Event, History, Named, Transfer, completes, is_at, issued, waiting_in}
 use Rattle.hba_laws.specs.Hosts.{Host, TakesFrame}
 use Rattle.hba_laws.specs.Sound.{IsHost}
-use Rattle.hba_laws.proofs.completed.DoneLemmas.{done_is_completed}
+use Rattle.hba_laws.proofs.Door.{done_is_completed}
 use Rattle.disk_simulation.specs.Anew.{HonestStays, NextIsRightAnew, ReportsHonestlyAnew}
 use Rattle.disk_simulation.specs.Honest.{IsOnMedium}
 use Rattle.disk_simulation.specs.Joined.{IsJoined, ReportsHonestly}

@@ -17,8 +17,7 @@ use Rattle.disk_model.specs.Anew.{IsCarefulSince, IsClear, OwesOnly}
 use Rattle.disk_model.specs.Ends.{FitsAll}
 use Rattle.disk_model.specs.Histories.{Happening, Plugged, Received, Sent}
 use Rattle.disk_model.specs.Ledger.{Ledger, ShowsPage, Signs, Wanted, empty, ledger, ledger_after, listens}
-use Rattle.disk_model.proofs.AnewLemmas.{after_more, begins_anew}
-use Rattle.disk_model.proofs.EndsLemmas.{FitsOne, ledger_push}
+use Rattle.disk_model.proofs.Door.{after_more, begins_anew, FitsOne, ledger_push}
 use Rattle.hba_laws.specs.Agreement.{ContextAgrees, IsHistoryOf, work_of_transfer}
 use Rattle.hba_laws.specs.History as event
 use Rattle.hba_laws.specs.History.{History, Transfer, issued}

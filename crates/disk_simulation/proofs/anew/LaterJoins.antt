@@ -7,8 +7,7 @@ use Rattle.disk_model.specs.Ends.{AreEntered, EndsAgree, IsBits, IsRight}
 use Rattle.disk_model.specs.Histories.{Happening, Plugged}
 use Rattle.disk_model.specs.Later.{IsReadThere, TellsOfAll}
 use Rattle.disk_model.specs.Ledger.{Ledger, Names, Written, ledger}
-use Rattle.disk_model.proofs.AnewLemmas.{ends_agree_anew}
-use Rattle.disk_model.proofs.LaterLemmas.{later_is_linked, later_tells_of_all}
+use Rattle.disk_model.proofs.Door.{ends_agree_anew, later_is_linked, later_tells_of_all}
 use Rattle.hba_laws.specs.History.{History, filled}
 use Rattle.disk_simulation.specs.Anew.{IsNextRight}
 use Rattle.disk_simulation.specs.Answers.{ByRead, ByWrite, HasEnded}

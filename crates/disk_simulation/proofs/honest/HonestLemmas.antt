@@ -19,7 +19,7 @@ use Rattle.disk_model.specs.Chunks.{sectors_at}
 use Rattle.disk_model.specs.Ends.{AreEntered, AreRight, EndsAgree, IsBits, IsRight}
 use Rattle.disk_model.specs.Histories.{Happening, Sent}
 use Rattle.disk_model.specs.Ledger.{IsRead, Ledger, Names, ReadOut, Written, ledger, listens, medium_with}
-use Rattle.disk_model.proofs.EndsLemmas.{ends_agree}
+use Rattle.disk_model.proofs.Door.{ends_agree}
 use Rattle.hba_laws.specs.History.{History, Named, Transfer, completes, filled, is_all_filled, issued}
 use Rattle.disk_simulation.specs.Same.{IsReadOf, IsWriteOf, SlotCommand, Stand}
 use Rattle.disk_simulation.specs.Answers.{ByRead, ByWrite, HasEnded}

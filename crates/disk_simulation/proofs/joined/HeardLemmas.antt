@@ -23,7 +23,7 @@ use Rattle.slots.specs.declared.answer.SetupError.{SetupError}
 use Rattle.slots.specs.declared.answer.SetupError.TheVariants as refused
 use Rattle.slots.specs.declared.table.Context.{Context}
 use Rattle.slots.specs.declared.work.Work.{Work}
-use Rattle.slots.proofs.MaskLemmas.{has_bit_mask}
+use Rattle.slots.proofs.Door.{has_bit_mask}
 use Rattle.hba_fbs.specs.declared.hearing.Fault.{Fault}
 use Rattle.hba_fbs.specs.declared.hearing.Fault.TheVariants as fault
 use Rattle.hba_fbs.specs.declared.hearing.Happening.{Happening}
@@ -47,9 +47,7 @@ use Rattle.hba_laws.specs.Delivering.{by_device, event_heard}
 use Rattle.hba_laws.specs.History as event
 use Rattle.hba_laws.specs.History.{Event, History, Transfer, completes, filled, is_all_filled, is_at, issued, waiting_in}
 use Rattle.hba_laws.specs.Hosts.{Host, TakesFrame}
-use Rattle.hba_laws.proofs.histories.HearLemmas.{payload_is}
-use Rattle.hba_laws.proofs.histories.StepLemmas.{whole_is}
-use Rattle.hba_laws.proofs.histories.ViewLemmas.{IsOwn, is_own, own_below}
+use Rattle.hba_laws.proofs.Door.{is_own, IsOwn, own_below, payload_is, whole_is}
 use Rattle.disk_simulation.specs.Together.{IsHeard, NoneQueued, Same, told}
 use Rattle.disk_simulation.specs.Heard.{HeardAsTold, IsTakenWell}
 use Rattle.disk_simulation.proofs.together.TogetherLemmas.{set_up_now}

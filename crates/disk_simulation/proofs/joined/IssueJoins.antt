@@ -19,10 +19,9 @@ use Rattle.hba_laws.specs.Client.{own}
 use Rattle.hba_laws.specs.Delivering.{issued_below, touched}
 use Rattle.hba_laws.specs.History.{History, Issued, Transfer, issued}
 use Rattle.hba_laws.specs.Hosts.{Host, Wrote}
-use Rattle.hba_laws.proofs.histories.EventLemmas.{step}
-use Rattle.hba_laws.proofs.histories.IssueLemmas.{asked_free, history_below, own_below_is, transfer_of, with_issued}
-use Rattle.hba_laws.proofs.histories.ViewLemmas.{IsOwn, ext, is_own, issue_below, own_below, own_issued}
-use Rattle.slots.proofs.TableLemmas.{own_at}
+use Rattle.hba_laws.proofs.Door.{asked_free, ext, history_below, is_own, IsOwn, issue_below, own_below, own_below_is}
+use Rattle.hba_laws.proofs.Door.{own_issued, step, transfer_of, with_issued}
+use Rattle.slots.proofs.Door.{own_at}
 use Rattle.disk_simulation.specs.Anew.{KeepsSlots}
 use Rattle.disk_simulation.specs.Same.{InLife, SlotCommand}
 use Rattle.disk_simulation.specs.Together.{Same, is_sent, with_command}

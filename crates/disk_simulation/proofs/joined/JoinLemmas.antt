@@ -36,16 +36,13 @@ use Rattle.hba_fbs.specs.Views.{DeviceView, view_of}
 use Rattle.disk_model.specs.Ends.{IsFree, IsRight, MovesOther}
 use Rattle.disk_model.specs.Laws.{ActivatesRight, AsksOnce, CarriesNext, CarriesRight, SetsUpRight, bytes_named}
 use Rattle.disk_model.specs.Ledger.{Ledger, Moving, activates, answered, is_auto, listens_up, sets_up, with_auto}
-use Rattle.disk_model.proofs.CrossLemmas.{bits_up}
-use Rattle.disk_model.proofs.ShowsLemmas.{write_of_auto}
+use Rattle.disk_model.proofs.Door.{bits_up, write_of_auto}
 use Rattle.hba_laws.specs.Agreement.{ContextAgrees, IsHistoryOf, IsTold, end_of, IssueAgrees, SetupAgrees, is_for, work_of_transfer}
 use Rattle.hba_laws.specs.Client.{own}
 use Rattle.hba_laws.specs.History as event
 use Rattle.hba_laws.specs.History.{Event, History, Transfer, carried, is_at, is_set_up, issued, last_setup, unless, waiting_in}
 use Rattle.hba_laws.specs.Hosts.{TakesFrame, Took}
-use Rattle.hba_laws.proofs.histories.AgreeLemmas.{unless_some}
-use Rattle.hba_laws.proofs.histories.EventLemmas.{step}
-use Rattle.hba_laws.proofs.histories.ViewLemmas.{IsOwn, is_own, own_freed}
+use Rattle.hba_laws.proofs.Door.{is_own, IsOwn, own_freed, step, unless_some}
 use Rattle.disk_simulation.specs.Same.{InLife, IsMovingAt, SlotCommand}
 use Rattle.disk_simulation.specs.Together.{NoneQueued, Same, is_sent, told}
 use Rattle.disk_simulation.specs.Heard.{IsToldSo}

@@ -10,7 +10,7 @@ use Rattle.fis_view.specs.declared.view.Fis.{Fis}
 use Rattle.fis_view.specs.declared.view.Fis.TheVariants as view
 use Rattle.fis_view.specs.declared.view.FisFault.{FisFault}
 use Rattle.fis_view.specs.declared.view.FisFault.TheVariants.{WrongLength}
-use Rattle.fis_view.proofs.MarkLemmas.{is_marked}
+use Rattle.fis_view.proofs.Door.{is_marked}
 use Rattle.disk_model.specs.declared.request.Command.{Command}
 use Rattle.disk_model.specs.declared.request.Request.{Request}
 use Rattle.disk_model.specs.Ends.{Fits, FitsData, FitsRequest, IsRight}

@@ -9,7 +9,7 @@ use Rattle.std.proofs.lemmas.List.FromFn.{length-map-range_with_len}
 use Rattle.fis_view.specs.Frames.{IsPayload, Stamped}
 use Rattle.fis_view.specs.Seen.{seen}
 use Rattle.fis_view.specs.declared.view.Fis.TheVariants as view
-use Rattle.fis_view.proofs.FrameLemmas.{payload_seen}
+use Rattle.fis_view.proofs.Door.{payload_seen}
 use Rattle.slots.specs.Commands.{is_slot, sent_issue, with_sent}
 use Rattle.slots.specs.Data.{gone_over, moved_on, moved_over, payload_len}
 use Rattle.slots.specs.Slots.{DeviceSlots, Issue, freed, holds, is_control, issue_at, match_some, own_issue, slots_of, waiting}
@@ -29,7 +29,7 @@ use Rattle.disk_model.specs.Ends.{Fits, FitsData, FitsRequest, IsAskedFor, IsFre
 use Rattle.disk_model.specs.Histories as told_of
 use Rattle.disk_model.specs.Ledger.{Ledger, Moving, asks, listens, listens_down, takes_data}
 use Rattle.disk_model.specs.Requests.{request_of}
-use Rattle.disk_model.proofs.CrossLemmas.{opens_free}
+use Rattle.disk_model.proofs.Door.{opens_free}
 use Rattle.hba_laws.specs.Agreement.{IsHistoryOf, IsTold, IssueAgrees, work_of_transfer}
 use Rattle.hba_laws.specs.Client.{By, own}
 use Rattle.hba_laws.specs.Delivering.{begun_by, event_sent, is_control_issue, touched_by_out}
@@ -37,8 +37,7 @@ use Rattle.hba_laws.specs.History as event
 use Rattle.hba_laws.specs.History.{Event, History, Transfer, carried, is_at, is_set_up, issued, last_setup, unless, waiting_in}
 use Rattle.hba_laws.specs.Hosts.{Does, Gave, Host}
 use Rattle.hba_laws.specs.Sound.{IsHost}
-use Rattle.hba_laws.proofs.histories.EventLemmas.{GoesOut, goes_out, own_one, step}
-use Rattle.hba_laws.proofs.histories.ViewLemmas.{HasContext, IsOwn, is_own, none_waits, own_here}
+use Rattle.hba_laws.proofs.Door.{goes_out, GoesOut, HasContext, is_own, IsOwn, none_waits, own_here, own_one, step}
 use Rattle.disk_simulation.specs.Together.{NothingWaits, QueuesOne, Same, is_sent}
 use Rattle.disk_simulation.specs.Joined.{AreShort, IsAskedBy, IsJoined, JoinsCommands, JoinsData, JoinsGiven, JoinsOthers, SentAgrees}
 use Rattle.disk_simulation.proofs.joined.HeardLemmas.{IsThere, there_by}

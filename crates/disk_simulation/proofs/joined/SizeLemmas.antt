@@ -17,17 +17,10 @@ use Rattle.disk_model.specs.Histories.{Happening, Plugged, Received, Sent}
 use Rattle.disk_model.specs.Ledger.{IsSize, Moving, ledger}
 use Rattle.disk_model.specs.Runs.{IsDiskRun, IsTurn, moment}
 use Rattle.disk_model.specs.Sendings.{Sending, Shows, answer_sent}
-use Rattle.disk_model.proofs.AgreeLemmas.{Asked, Fresh, IsReading, IsWriting, Moves, SetUp, Stage, at}
-use Rattle.disk_model.proofs.AnewLemmas.{linked_since_new}
-use Rattle.disk_model.proofs.FaultLemmas.{can_be_done}
-use Rattle.disk_model.proofs.GeometryLemmas.{ChunkPart, chunk_part, some_chunks}
-use Rattle.disk_model.proofs.LawLemmas.{agrees, begun_by, last_may, same_turn, sized_by}
-use Rattle.disk_model.proofs.QueueLemmas.{IsIn, IsQueue}
-use Rattle.disk_model.proofs.SendLemmas.{sends_left_next}
-use Rattle.disk_model.proofs.ShowsLemmas.{TellsSetup}
-use Rattle.disk_model.proofs.StartLemmas.{picked_in}
-use Rattle.disk_model.proofs.StoreLemmas.{IsSized}
-use Rattle.disk_model.proofs.TransferLemmas.{setup_of_chunk}
+use Rattle.disk_model.proofs.Door.{agrees, Asked, at, begun_by, can_be_done, chunk_part, ChunkPart, Fresh, IsIn}
+use Rattle.disk_model.proofs.Door.{IsQueue, IsReading, IsSized, IsWriting, last_may, linked_since_new, Moves}
+use Rattle.disk_model.proofs.Door.{picked_in, same_turn, sends_left_next, SetUp, setup_of_chunk, sized_by}
+use Rattle.disk_model.proofs.Door.{some_chunks, Stage, TellsSetup}
 use Rattle.disk_simulation.specs.Joined.{IsShort}
 use Rattle.disk_simulation.specs.Hosted.{NextIsShort}
 

@@ -16,9 +16,7 @@ use Rattle.disk_model.specs.Histories.{Happening, Received, Sent}
 use Rattle.disk_model.specs.Laws.{AnswersFirst, AnswersRight}
 use Rattle.disk_model.specs.Ledger.{IsSize, Ledger, LogOf, Reply, ShowsPage, Signs, Wanted, asks, awaits_page, given_up, ledger, listens, listens_down, mixes, reads_log, restarts}
 use Rattle.disk_model.specs.Runs.{IsDiskRun}
-use Rattle.disk_model.proofs.AnewLemmas.{resting_is_silent}
-use Rattle.disk_model.proofs.AnswerLaws.{answers_right}
-use Rattle.disk_model.proofs.EndsLemmas.{ledger_push}
+use Rattle.disk_model.proofs.Door.{answers_right, ledger_push, resting_is_silent}
 use Rattle.disk_simulation.specs.Line.{Speaks, Asked, Both, BothBegin, ComesTo, EachReply, Failed, GoesUp, Held, IsAsked, IsBoth, IsFailed, IsHeld, IsLoose, IsNoSignature, IsReleasing, IsResting, IsTaken, IsUnsigned, Line, LinesGoOn, Loose, NoneSigns, OnLine, Releasing, Resting, StandsAt}
 use Rattle.disk_simulation.specs.Watched.{ArePlain, IsErred, IsPlain}
 use Rattle.disk_simulation.proofs.phases.FollowedLemmas.{same_first}

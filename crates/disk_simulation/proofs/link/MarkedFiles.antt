@@ -9,7 +9,7 @@ use Rattle.fis_view.specs.Seen.{seen, view_as}
 use Rattle.fis_view.specs.declared.view.Fis.{Fis}
 use Rattle.fis_view.specs.declared.view.Fis.TheVariants as view
 use Rattle.fis_view.specs.declared.view.FisFault.{FisFault}
-use Rattle.fis_view.proofs.MarkLemmas.{is_marked}
+use Rattle.fis_view.proofs.Door.{is_marked}
 use Rattle.hba_fbs.specs.Posting.{is_signature, signs}
 use Rattle.disk_model.specs.declared.request.Request.{Request}
 use Rattle.disk_model.specs.Anew.{IsRequest}

@@ -17,7 +17,7 @@ use Rattle.disk_model.specs.Ends.{Fits, FitsRequest, reports}
 use Rattle.disk_model.specs.Histories.{Happening, Received, Sent}
 use Rattle.disk_model.specs.Ledger.{Accepts, Finishes, IdentifyData, Ledger, LogOf, Moving, Refuses, Reply, ShowsPage, activates, answered, answers, asks, awaits, awaits_page, ends, has_error, is_auto, ledger, listens_down, listens_up, mixes, moves, opens, reads_log, refuses, sends_data, sets_up, starts_moving, takes_data, with_auto}
 use Rattle.disk_model.specs.Requests.{request_of}
-use Rattle.disk_model.proofs.EndsLemmas.{ledger_push}
+use Rattle.disk_model.proofs.Door.{ledger_push}
 use Rattle.disk_simulation.specs.Line.{EachReply, IsNoSignature, IsUnsigned}
 use Rattle.disk_simulation.specs.Watched.{IsErred, IsPlain, IsPlainRequest}
 

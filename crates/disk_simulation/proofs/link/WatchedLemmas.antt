@@ -11,8 +11,7 @@ use Rattle.disk_model.specs.Histories.{Happening, Plugged, Received, Sent}
 use Rattle.disk_model.specs.Fronts.{IsFront}
 use Rattle.disk_model.specs.Ledger.{IsSize, Ledger, Written, ledger}
 use Rattle.disk_model.specs.Runs.{IsDiskRun}
-use Rattle.disk_model.proofs.AnewLemmas.{ends_agree_anew, resting_is_silent}
-use Rattle.disk_model.proofs.FrontLemmas.{host_is_ahead}
+use Rattle.disk_model.proofs.Door.{ends_agree_anew, host_is_ahead, resting_is_silent}
 use Rattle.disk_simulation.specs.Followed.{IsFollowed}
 use Rattle.disk_simulation.specs.Watched.{ArePlain, Erred, Fine, GavePlain, IsErred, IsErredSince, IsLastError, IsPlain, IsPlainSince, IsWatched, IsWatchedTo, WatchedIsAhead, WatchesOn}
 use Rattle.disk_simulation.proofs.phases.FollowedLemmas.{IsBefore, follows_failed, follows_linked, one_more, run_to, same_first}

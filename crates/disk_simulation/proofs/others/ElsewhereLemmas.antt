@@ -17,7 +17,7 @@ use Rattle.hba_laws.specs.Client.{By, Stops, own}
 use Rattle.hba_laws.specs.Delivering.{begun_by, by_device, event_sent, event_taken, touched_by_clear, touched_by_out, touched_by_write}
 use Rattle.hba_laws.specs.History.{Emptied, Event, SetUp}
 use Rattle.hba_laws.specs.Hosts.{Flushed, Gave, Host, Stored, TakesFrame, Took, Wrote}
-use Rattle.hba_laws.proofs.histories.IssueLemmas.{other_below}
+use Rattle.hba_laws.proofs.Door.{other_below}
 use Rattle.disk_simulation.specs.Elsewhere.{IsForOther, OthersLeaveDevice, WritesElsewhere}
 
 other_event : (n dev : ℕ) (o : Option Event) → n ≢ dev → own n (by_device dev o) ≡ []

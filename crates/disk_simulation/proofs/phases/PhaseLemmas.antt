@@ -10,7 +10,7 @@ use Rattle.fis_view.specs.Seen.{kind_of, may_have, seen}
 use Rattle.fis_view.specs.declared.view.Fis.{Fis}
 use Rattle.fis_view.specs.declared.view.Fis.TheVariants as view
 use Rattle.fis_view.specs.declared.view.FisFault.{FisFault}
-use Rattle.fis_view.proofs.MarkLemmas.{is_marked}
+use Rattle.fis_view.proofs.Door.{is_marked}
 use Rattle.port_errors.specs.declared.cause.DeviceCause.TheVariants as cause
 use Rattle.slots.specs.Commands.{completed}
 use Rattle.hba_fbs.specs.declared.hearing.Fault.{Fault}

@@ -23,7 +23,7 @@ use Rattle.std.specs.List.{list_any}
 use Rattle.hba_laws.specs.Client.{Touches, own}
 use Rattle.hba_laws.specs.Delivering.{touches_after}
 use Rattle.hba_laws.specs.History.{Transfer, issued}
-use Rattle.hba_laws.proofs.histories.StandLemmas.{some_inj}
+use Rattle.hba_laws.proofs.Door.{some_inj}
 use Rattle.hba_driver.specs.declared.effect.Effect.{Effect}
 use Rattle.hba_driver.specs.declared.effect.Effect.TheVariants as effect
 use Rattle.hba_driver.specs.declared.mode.Mode.{Mode}

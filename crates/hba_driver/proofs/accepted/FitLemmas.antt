@@ -8,11 +8,11 @@ use Rattle.host_memory.specs.Memory.{Memory}
 use Rattle.host_memory.specs.Place.{total_of}
 use Rattle.host_memory.specs.Reading.{AgreeFrom, have_overlap, prds_at, read_fault}
 use Rattle.host_memory.specs.declared.table.Prd.{Prd}
-use Rattle.host_memory.proofs.AgreeLemmas.{agree_within, says_the_same}
+use Rattle.host_memory.proofs.Door.{agree_within, says_the_same}
 use Rattle.hba_commands.specs.Commands.{is_proper, total_at, total_if_sound}
 use Rattle.hba_commands.specs.Requests.{request_of, sectors, work_of}
 use Rattle.hba_commands.specs.Writing.{header_for, is_usable}
-use Rattle.hba_laws.proofs.soundness.KeptLemmas.{client_lens}
+use Rattle.hba_laws.proofs.Door.{client_lens}
 use Rattle.hba_driver.specs.declared.mode.Mode.{Mode}
 use Rattle.hba_driver.specs.declared.request.Request.{Request}
 use Rattle.hba_driver.specs.declared.request.Work.{Work}

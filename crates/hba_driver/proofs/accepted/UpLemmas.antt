@@ -23,7 +23,7 @@ use Rattle.hba_commands.specs.Writing.{header_for}
 use Rattle.slots.specs.Slots.{holds as issue_holds}
 use Rattle.slots.specs.Slots.{Issue, Slots, has_bit, issue_at, lowest, new_issue, own_issue, slots_of}
 use Rattle.slots.specs.Table.{IsIssue, IsTable}
-use Rattle.slots.proofs.MaskLemmas.{lowest_is}
+use Rattle.slots.proofs.Door.{lowest_is}
 use Rattle.hba_fbs.specs.declared.error.WriteError.{WriteError}
 use Rattle.hba_fbs.specs.declared.error.WriteError.TheVariants as refusal
 use Rattle.hba_fbs.specs.declared.register.Register.TheVariants.{Sact, Ci, Sntf, Fbs}
@@ -34,9 +34,9 @@ use Rattle.hba_fbs.specs.Offsets.{register_at}
 use Rattle.hba_fbs.specs.Registers.{own_refusal, running_if, written}
 use Rattle.hba_fbs.specs.Views.{DeviceView, Port, view_of}
 use Rattle.hba_fbs.specs.Writing.{Accepts, apart_refusal, is_apart, refusal_of, slots_refusal, view_after, view_cleared, write_refusal}
-use Rattle.hba_fbs.proofs.AimLemmas.{aimed_chosen, aimed_first}
+use Rattle.hba_fbs.proofs.Door.{aimed_chosen, aimed_first}
 use Rattle.port_errors.specs.Errors.{cleared_device}
-use Rattle.hba_laws.proofs.histories.ViewLemmas.{is_own, own_here, own_in, own_issued}
+use Rattle.hba_laws.proofs.Door.{is_own, own_here, own_in, own_issued}
 use Rattle.hba_driver.specs.declared.effect.Effect.{Effect}
 use Rattle.hba_driver.specs.declared.effect.Effect.TheVariants as effect
 use Rattle.hba_driver.specs.declared.mode.Mode.{Mode}

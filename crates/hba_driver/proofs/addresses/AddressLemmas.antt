@@ -8,7 +8,7 @@ use Rattle.std.proofs.lemmas.List.FromFn.{get_or-map-range_with_len, length-map-
 use Rattle.std.proofs.lemmas.Nat.Bits.{bit_at-zero}
 use Rattle.fis_view.specs.Frames.{Stamped}
 use Rattle.fis_view.specs.Table.{H2d}
-use Rattle.fis_view.proofs.MarkLemmas.{port_bits, port_field}
+use Rattle.fis_view.proofs.Door.{port_bits, port_field}
 use Rattle.host_memory.specs.Memory.{Memory}
 use Rattle.hba_commands.specs.declared.command.Command.{Command}
 use Rattle.hba_commands.specs.Commands.{cfis_at, command_at, command_in, command_under, has_table, is_proper, suits, total_at}
@@ -17,7 +17,7 @@ use Rattle.hba_commands.specs.Requests.{kind_of, request_at, request_in, work_of
 use Rattle.slots.specs.Data.{payload}
 use Rattle.slots.specs.Slots.{DeviceSlots, Issue, context_of, has_bit, issue_at, match_some, no_own_slots, own_issue, slots_of}
 use Rattle.slots.specs.Table.{IsIssue}
-use Rattle.slots.proofs.TableLemmas.{Owns}
+use Rattle.slots.proofs.Door.{Owns}
 use Rattle.hba_fbs.specs.declared.error.WriteError.TheVariants as refusal
 use Rattle.hba_fbs.specs.declared.register.Register.{Register}
 use Rattle.hba_fbs.specs.declared.register.Register.TheVariants.{Cmd, Ci, Fbs}
@@ -29,11 +29,8 @@ use Rattle.hba_fbs.specs.Sending.{Data, Gives, Nothing, Order, Outgoing, Unreada
 use Rattle.hba_fbs.specs.Taking.{ignores, port_of}
 use Rattle.hba_fbs.specs.Views.{DeviceView, Port, last_command, stopped_view, view_of}
 use Rattle.hba_fbs.specs.Writing.{Accepts, cleared_by, commands_after, is_device, refusal_of, view_after}
-use Rattle.hba_laws.proofs.histories.IssueLemmas.{asked_free}
-use Rattle.hba_laws.proofs.isolation.OutgoingLemmas.{data_is, order_filled, order_is}
-use Rattle.hba_laws.proofs.isolation.SlotLemmas.{KeepsOwn, keeps_fed, keeps_moved, keeps_sent}
-use Rattle.hba_laws.proofs.histories.StandLemmas.{some_inj, the}
-use Rattle.hba_laws.proofs.histories.ViewLemmas.{is_own, own_in, own_issued}
+use Rattle.hba_laws.proofs.Door.{asked_free, data_is, is_own, keeps_fed, keeps_moved, keeps_sent, KeepsOwn}
+use Rattle.hba_laws.proofs.Door.{order_filled, order_is, own_in, own_issued, some_inj, the}
 use Rattle.hba_driver.specs.declared.effect.Effect.{Effect}
 use Rattle.hba_driver.specs.declared.effect.Effect.TheVariants as effect
 use Rattle.hba_driver.specs.Addressed.{AreAddressed, FramesAreAddressed, IsAddressed}

@@ -5,7 +5,7 @@ use Rattle.std.proofs.lemmas.List.FromFn.{get_or-map-range_with_len}
 use Rattle.host_memory.specs.Memory.{Memory}
 use Rattle.slots.specs.Slots.{has_bit, issue_at}
 use Rattle.hba_fbs.specs.Views.{Port, view_of}
-use Rattle.hba_laws.proofs.histories.StandLemmas.{some_inj}
+use Rattle.hba_laws.proofs.Door.{some_inj}
 use Rattle.hba_driver.specs.declared.mode.Mode.{Mode}
 use Rattle.hba_driver.specs.declared.path.Path.{Path}
 use Rattle.hba_driver.specs.declared.path.Recovery.TheVariants.{Reset}

@@ -4,9 +4,9 @@ use Rattle.std.specs.Prelude.{if◌then◌else◌}
 use Rattle.std.specs.Option.{is_some, option_map}
 use Rattle.std.proofs.lemmas.List.{get_or_default, get_or-replicate, length-replicate, same_lists}
 use Rattle.std.proofs.lemmas.List.FromFn.{fill_by_all}
-use Rattle.slots.proofs.MaskLemmas.{none_below}
+use Rattle.slots.proofs.Door.{none_below}
 use Rattle.slots.specs.Slots.{lowest_below}
-use Rattle.hba_fbs.proofs.FillLemmas.{FilledTo, filled_all, filled_set}
+use Rattle.hba_fbs.proofs.Door.{filled_all, filled_set, FilledTo}
 use Rattle.hba_driver.specs.declared.slot.Head.{Head}
 use Rattle.hba_driver.specs.declared.slot.Phase.{Phase}
 use Rattle.hba_driver.specs.Drivers.{Entry, entry_at, holds, rephase, rephase_all, rephased}

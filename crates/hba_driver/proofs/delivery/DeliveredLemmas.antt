@@ -4,7 +4,7 @@ use Rattle.std.specs.Prelude.{true, slice_index}
 use Rattle.std.proofs.lemmas.List.{get_or-replicate, length-replicate}
 use Rattle.host_memory.specs.Memory.{client_start, is_memory_size, zeros}
 use Rattle.host_memory.specs.Place.{LiesInClient, place}
-use Rattle.host_memory.proofs.PlaceLemmas.{place_inside}
+use Rattle.host_memory.proofs.Door.{place_inside}
 use Rattle.slots.specs.Slots.{has_bit}
 use Rattle.hba_fbs.specs.declared.report.TakeReport.{TakeReport}
 use Rattle.hba_fbs.specs.Taking.{port_of}
@@ -14,12 +14,8 @@ use Rattle.hba_laws.specs.History.{Transfer}
 use Rattle.hba_laws.specs.Hosts as event
 use Rattle.hba_laws.specs.Hosts.{HostEvent, TakesFrame}
 use Rattle.hba_laws.specs.Sound as sound
-use Rattle.hba_laws.proofs.placed.ClientLemmas.{client_is_touched, data_is_within}
-use Rattle.hba_laws.proofs.completed.DoneLemmas.{done_is_completed}
-use Rattle.hba_laws.proofs.histories.EventLemmas.{histories_are_parts}
-use Rattle.hba_laws.proofs.completed.OnceLemmas.{completes_once}
-use Rattle.hba_laws.proofs.placed.ReadLemmas.{done_reads_stand}
-use Rattle.hba_laws.proofs.placed.SpareLemmas.{spared_tables_read}
+use Rattle.hba_laws.proofs.Door.{client_is_touched, completes_once, data_is_within, done_is_completed}
+use Rattle.hba_laws.proofs.Door.{done_reads_stand, histories_are_parts, spared_tables_read}
 use Rattle.hba_driver.specs.declared.mode.Mode.{Mode}
 use Rattle.hba_driver.specs.Delivered.{HasCome, HostDelivers, IsAtItsPlace, IssuesAreApart, TookDelivers, TurnsDeliver, touches_of, zero_at}
 use Rattle.hba_driver.specs.Drivers.{new_driver_in}

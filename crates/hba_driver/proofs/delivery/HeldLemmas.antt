@@ -23,7 +23,7 @@ use Rattle.hba_laws.specs.History as happened
 use Rattle.hba_laws.specs.Hosts as event
 use Rattle.hba_laws.specs.Hosts.{HostEvent, Runs}
 use Rattle.hba_laws.specs.Sent.{AreBeside, HoldsWrites, IsWriting, SparesWrites}
-use Rattle.hba_laws.proofs.gathered.GatherLemmas.{order_quiet, quiet_holds, write_quiet}
+use Rattle.hba_laws.proofs.Door.{order_quiet, quiet_holds, write_quiet}
 use Rattle.hba_driver.specs.declared.effect.Effect.{Effect}
 use Rattle.hba_driver.specs.declared.effect.Effect.TheVariants as effect
 use Rattle.hba_driver.specs.declared.path.Path.{Path}

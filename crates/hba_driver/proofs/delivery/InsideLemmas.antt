@@ -10,14 +10,13 @@ use Rattle.host_memory.specs.Memory.{Memory}
 use Rattle.host_memory.specs.Place.{AreInside, LiesInClient}
 use Rattle.host_memory.specs.declared.table.Prd.{Prd}
 use Rattle.slots.specs.Slots.{Issue, issue_at, own_issue, owned_by, slots_of}
-use Rattle.slots.proofs.TableLemmas.{own_at}
+use Rattle.slots.proofs.Door.{own_at}
 use Rattle.hba_fbs.specs.Views.{Port}
 use Rattle.hba_laws.specs.Agreement.{AreHistoriesOf, work_of_issue, work_of_transfer}
 use Rattle.hba_laws.specs.Client.{Touches, own}
 use Rattle.hba_laws.specs.History.{Transfer, issued}
 use Rattle.hba_laws.specs.Hosts as event
-use Rattle.hba_laws.proofs.soundness.SoundLemmas.{sizes_stay}
-use Rattle.hba_laws.proofs.histories.ViewLemmas.{own_in}
+use Rattle.hba_laws.proofs.Door.{own_in, sizes_stay}
 use Rattle.hba_driver.specs.declared.effect.Effect.{Effect}
 use Rattle.hba_driver.specs.declared.effect.Effect.TheVariants as effect
 use Rattle.hba_driver.specs.declared.mode.Mode.{Mode}

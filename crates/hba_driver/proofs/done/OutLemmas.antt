@@ -39,12 +39,8 @@ use Rattle.hba_laws.specs.Delivering.{ReportsDone, begun_by, by_device, complete
 use Rattle.hba_laws.specs.History.{Answered, Carried, Emptied, Event, History, Issued, Named, PioSetUp, Sent, SentControl, SetUp, Transfer, completes, issued, unless}
 use Rattle.hba_laws.specs.Hosts as event
 use Rattle.hba_laws.specs.Hosts.{TakesFrame}
-use Rattle.hba_laws.proofs.placed.ClientLemmas.{histories_step}
-use Rattle.hba_laws.proofs.completed.DoneLemmas.{done_is_completed}
-use Rattle.hba_laws.proofs.histories.IssueLemmas.{asked_free}
-use Rattle.hba_laws.proofs.histories.StandLemmas.{some_inj}
-use Rattle.hba_laws.proofs.histories.ViewLemmas.{is_own, own_below, own_in, own_issued}
-use Rattle.hba_laws.proofs.placed.WithinLemmas.{the_transfer}
+use Rattle.hba_laws.proofs.Door.{asked_free, done_is_completed, histories_step, is_own, own_below, own_in, own_issued}
+use Rattle.hba_laws.proofs.Door.{some_inj, the_transfer}
 use Rattle.hba_driver.specs.declared.effect.Effect.{Effect}
 use Rattle.hba_driver.specs.declared.effect.Effect.TheVariants as effect
 use Rattle.hba_driver.specs.declared.mode.Mode.{Mode}

@@ -6,8 +6,7 @@ use Rattle.std.proofs.lemmas.Bool.{cases_Bool, false≢true, true≢false}
 use Rattle.slots.specs.Slots.{issue_at}
 use Rattle.hba_fbs.specs.declared.report.TakeReport.{TakeReport}
 use Rattle.hba_fbs.specs.Views.{Port}
-use Rattle.hba_laws.proofs.histories.StandLemmas.{some_inj}
-use Rattle.hba_laws.proofs.histories.ViewLemmas.{own_in}
+use Rattle.hba_laws.proofs.Door.{own_in, some_inj}
 use Rattle.hba_driver.specs.declared.mode.Mode.{Mode}
 use Rattle.hba_driver.specs.declared.request.Outcome.TheVariants.{Done}
 use Rattle.hba_driver.specs.Seeing.{Sight}

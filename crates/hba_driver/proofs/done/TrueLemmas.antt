@@ -10,8 +10,7 @@ use Rattle.host_memory.specs.Memory.{is_memory_size}
 use Rattle.hba_commands.specs.Requests.{request_of, work_of}
 use Rattle.slots.specs.Slots.{has_bit, is_control, is_pio, issue_at, new_issue}
 use Rattle.hba_fbs.specs.Views.{Port}
-use Rattle.hba_laws.proofs.histories.StandLemmas.{some_inj}
-use Rattle.hba_laws.proofs.histories.ViewLemmas.{own_in}
+use Rattle.hba_laws.proofs.Door.{own_in, some_inj}
 use Rattle.hba_driver.specs.declared.effect.Effect.{Effect}
 use Rattle.hba_driver.specs.declared.mode.Mode.{Mode}
 use Rattle.hba_driver.specs.declared.order.Order.{Order}

@@ -9,7 +9,7 @@ use Rattle.std.proofs.lemmas.Nat.Bits.{bit_at-lt, bit_at_or}
 use Rattle.slots.specs.Commands.{is_unanswered, slots_where}
 use Rattle.slots.specs.Slots.{Issue, has_bit, holds as issue_holds, is_queued_issue, issue_at}
 use Rattle.slots.specs.Table.{IsIssue, IsTable}
-use Rattle.slots.proofs.MaskLemmas.{has_bit_mask}
+use Rattle.slots.proofs.Door.{has_bit_mask}
 use Rattle.host_memory.specs.Memory.{Memory}
 use Rattle.hba_fbs.specs.Offsets.{register_at}
 use Rattle.hba_fbs.specs.Reading.{value_of}

@@ -5,7 +5,7 @@ use Rattle.std.specs.List.{list_all}
 use Rattle.std.proofs.lemmas.List.{ext_get_or, get_or-drop, get_or-take, length-drop, length-replicate, length-take}
 use Rattle.host_memory.specs.Memory.{IsHostMemory, Memory, overwritten}
 use Rattle.host_memory.specs.Reading.{AgreeFrom}
-use Rattle.host_memory.proofs.AgreeLemmas.{length-overwritten}
+use Rattle.host_memory.proofs.Door.{length-overwritten}
 use Rattle.hba_commands.specs.Writing.{IsWritten}
 use Rattle.fis_view.specs.declared.build.H2dFields.{H2dFields}
 use Rattle.host_memory.specs.declared.table.Prd.{Prd}

@@ -15,8 +15,7 @@ use Rattle.hba_fbs.specs.Sending.{outgoing}
 use Rattle.hba_fbs.specs.Taking.{PostsIn, admitted, ignores, port_of, row_for}
 use Rattle.hba_fbs.specs.Views.{Port}
 use Rattle.hba_laws.specs.Hosts as event
-use Rattle.hba_laws.proofs.soundness.KeptLemmas.{client_lens}
-use Rattle.hba_laws.proofs.soundness.SoundLemmas.{opens_sound}
+use Rattle.hba_laws.proofs.Door.{client_lens, opens_sound}
 use Rattle.hba_driver.specs.declared.effect.Effect.{Effect}
 use Rattle.hba_driver.specs.declared.mode.Mode.{Mode}
 use Rattle.hba_driver.specs.declared.path.TaskFile.{TaskFile}

@@ -34,7 +34,7 @@ use Rattle.hba_fbs.specs.Views.{Port, view_of}
 use Rattle.hba_fbs.specs.Writing.{errors_after, refusal_of}
 use Rattle.hba_laws.specs.Delivering.{HaveTables, touches_after}
 use Rattle.hba_laws.specs.Isolation.{fails_by_bus}
-use Rattle.hba_laws.proofs.placed.SpareLemmas.{spared_tables_read}
+use Rattle.hba_laws.proofs.Door.{spared_tables_read}
 use Rattle.hba_driver.specs.declared.effect.Effect.{Effect}
 use Rattle.hba_driver.specs.declared.effect.Effect.TheVariants as effect
 use Rattle.hba_driver.specs.declared.mode.Mode.TheVariants.{Switching}

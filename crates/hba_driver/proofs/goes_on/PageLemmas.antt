@@ -8,7 +8,7 @@ use Rattle.fis_view.specs.Seen.{seen as seen_in}
 use Rattle.fis_view.specs.declared.build.H2dFields.{H2dFields}
 use Rattle.host_memory.specs.Memory.{IsHostMemory, Memory}
 use Rattle.host_memory.specs.Reading.{read_fault}
-use Rattle.host_memory.proofs.AgreeLemmas.{says_the_same}
+use Rattle.host_memory.proofs.Door.{says_the_same}
 use Rattle.hba_fbs.specs.declared.report.TakeReport.{TakeReport}
 use Rattle.hba_fbs.specs.Taking.{admitted, ignores, port_of, row_for}
 use Rattle.hba_fbs.specs.Views.{Port}

@@ -16,9 +16,7 @@ use Rattle.hba_fbs.specs.Views.{last_command}
 use Rattle.hba_laws.specs.Client.{own}
 use Rattle.hba_laws.specs.Delivering.{HaveTables}
 use Rattle.hba_laws.specs.History.{Transfer, issued}
-use Rattle.hba_laws.proofs.histories.StandLemmas.{the}
-use Rattle.hba_laws.proofs.histories.ViewLemmas.{is_own, own_below, own_in}
-use Rattle.hba_laws.proofs.placed.WithinLemmas.{the_transfer}
+use Rattle.hba_laws.proofs.Door.{is_own, own_below, own_in, the, the_transfer}
 use Rattle.hba_driver.specs.declared.path.Path.{Path}
 use Rattle.hba_driver.specs.Drivers.{Driver}
 use Rattle.hba_driver.specs.Effects.{prds_with, table_of}

@@ -8,8 +8,7 @@ use Rattle.host_memory.specs.Memory.{client_start}
 use Rattle.host_memory.specs.Place.{place, total_of}
 use Rattle.host_memory.specs.Reading.{have_overlap, share_with}
 use Rattle.host_memory.specs.declared.table.Prd.{Prd}
-use Rattle.host_memory.proofs.OverlapLemmas.{apart_from_overlap, list_any-true, share_with-true}
-use Rattle.host_memory.proofs.PlaceLemmas.{place_has, place_injective}
+use Rattle.host_memory.proofs.Door.{apart_from_overlap, list_any-true, place_has, place_injective, share_with-true}
 use Rattle.hba_laws.specs.Client.{AreApart, AreOne, By, IsKept, IsSpared, Touches, is_in}
 use Rattle.hba_laws.specs.Delivering.{by_device}
 use Rattle.hba_laws.specs.History.{Event, Transfer, issued}

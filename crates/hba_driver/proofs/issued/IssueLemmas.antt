@@ -8,10 +8,10 @@ use Rattle.fis_view.specs.Built.{IsBuilt, h2d_given}
 use Rattle.fis_view.specs.Table.{H2d}
 use Rattle.host_memory.specs.Memory.{Memory}
 use Rattle.host_memory.specs.Reading.{AgreeFrom}
-use Rattle.host_memory.proofs.AgreeLemmas.{says_the_same}
+use Rattle.host_memory.proofs.Door.{says_the_same}
 use Rattle.hba_commands.specs.Commands.{cfis_at}
 use Rattle.hba_commands.specs.Requests.{request_at}
-use Rattle.hba_commands.proofs.AgreeLemmas.{header_same}
+use Rattle.hba_commands.proofs.Door.{header_same}
 use Rattle.slots.specs.Slots.{Issue, issue_at, own_issue, slots_of}
 use Rattle.slots.specs.Table.{IsIssue, IsTable}
 use Rattle.hba_fbs.specs.Views.{last_command}
@@ -22,10 +22,7 @@ use Rattle.hba_laws.specs.History.{Transfer, issued}
 use Rattle.hba_laws.specs.Hosts as event
 use Rattle.hba_laws.specs.Hosts.{HostEvent, Runs}
 use Rattle.hba_laws.specs.Sound as sound
-use Rattle.hba_laws.proofs.placed.ClientLemmas.{histories_step}
-use Rattle.hba_laws.proofs.placed.SpareLemmas.{NoneIssues, was_there}
-use Rattle.hba_laws.proofs.histories.ViewLemmas.{own_here, own_in}
-use Rattle.hba_laws.proofs.placed.WithinLemmas.{the_transfer}
+use Rattle.hba_laws.proofs.Door.{histories_step, NoneIssues, own_here, own_in, the_transfer, was_there}
 use Rattle.hba_driver.specs.declared.mode.Mode.{Mode}
 use Rattle.hba_driver.specs.declared.mode.Mode.TheVariants.{Switching, CommandBased}
 use Rattle.hba_driver.specs.Drivers.{Driver, Entry}

@@ -24,7 +24,7 @@ use Rattle.hba_commands.specs.Writing.{header_for}
 use Rattle.slots.specs.Slots.{Issue, has_bit, issue_at, lowest, owned_by, own_issue, slots_of}
 use Rattle.slots.specs.Slots.{holds as issue_holds}
 use Rattle.slots.specs.declared.work.Work.{Work}
-use Rattle.slots.proofs.MaskLemmas.{none_below}
+use Rattle.slots.proofs.Door.{none_below}
 use Rattle.hba_fbs.specs.declared.error.WriteError.{WriteError}
 use Rattle.hba_fbs.specs.declared.error.WriteError.TheVariants as refusal
 use Rattle.hba_fbs.specs.declared.register.Register.TheVariants.{Ci}
@@ -33,18 +33,15 @@ use Rattle.hba_fbs.specs.Registers.{own_refusal}
 use Rattle.hba_fbs.specs.Tables.{is_readable, prds_of}
 use Rattle.hba_fbs.specs.Views.{Port, last_command}
 use Rattle.hba_fbs.specs.Writing.{apart_refusal, commands_after, is_apart, refusal_of, slots_refusal}
-use Rattle.hba_fbs.proofs.SlotLemmas.{own_at}
+use Rattle.hba_fbs.proofs.Door.{own_at}
 use Rattle.hba_laws.specs.Agreement.{AreHistoriesOf, work_of_issue, work_of_transfer}
 use Rattle.hba_laws.specs.Client.{IsKept, Touches, own}
 use Rattle.hba_laws.specs.Delivering.{issued_below, issued_in, touched}
 use Rattle.hba_laws.specs.History.{History, Transfer, issued}
 use Rattle.hba_laws.specs.Hosts as event
 use Rattle.hba_laws.specs.Sound as sound
-use Rattle.hba_laws.proofs.placed.ClientLemmas.{histories_step}
-use Rattle.hba_laws.proofs.histories.IssueLemmas.{history_below, other_below, own_app, own_below_is, transfer_of, with_issued}
-use Rattle.hba_laws.proofs.histories.StandLemmas.{some_inj}
-use Rattle.hba_laws.proofs.prd_tables.TableLemmas.{stands_readable}
-use Rattle.hba_laws.proofs.histories.ViewLemmas.{own_in}
+use Rattle.hba_laws.proofs.Door.{histories_step, history_below, other_below, own_app, own_below_is, own_in, some_inj}
+use Rattle.hba_laws.proofs.Door.{stands_readable, transfer_of, with_issued}
 use Rattle.hba_driver.specs.declared.path.Path.{Path}
 use Rattle.hba_driver.specs.Drivers.{Driver, Entry, entry_at}
 use Rattle.hba_driver.specs.Effects.{table_of}

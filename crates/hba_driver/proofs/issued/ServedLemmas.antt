@@ -13,7 +13,7 @@ use Rattle.hba_commands.specs.declared.command.Command.{Command}
 use Rattle.hba_commands.specs.Headers.{header_place}
 use Rattle.slots.specs.Slots.{Issue, has_bit, holds as issue_holds, issue_at}
 use Rattle.slots.specs.Work.{is_dma, is_read as work_reads}
-use Rattle.slots.proofs.MaskLemmas.{lowest_is}
+use Rattle.slots.proofs.Door.{lowest_is}
 use Rattle.hba_fbs.specs.declared.report.TakeReport.{TakeReport}
 use Rattle.hba_fbs.specs.Sending.{Outgoing, gathered, outgoing}
 use Rattle.hba_fbs.specs.Sending as out
@@ -26,8 +26,7 @@ use Rattle.hba_laws.specs.History.{Sent, SentControl, SetUp, Transfer, issued}
 use Rattle.hba_laws.specs.Hosts as event
 use Rattle.hba_laws.specs.Hosts.{HostEvent}
 use Rattle.hba_laws.specs.Sound as sound
-use Rattle.hba_laws.proofs.completed.DoneLemmas.{opens_untold}
-use Rattle.hba_laws.proofs.placed.SpareLemmas.{NoneIssues, gives_commands, out_none, took_none}
+use Rattle.hba_laws.proofs.Door.{gives_commands, NoneIssues, opens_untold, out_none, took_none}
 use Rattle.hba_driver.specs.declared.mode.Mode.{Mode}
 use Rattle.hba_driver.specs.declared.mode.Mode.TheVariants.{Switching, CommandBased}
 use Rattle.hba_driver.specs.declared.plan.Device.{Device}

@@ -25,8 +25,7 @@ use Rattle.hba_laws.specs.History.{Emptied, Transfer, issued}
 use Rattle.hba_laws.specs.Hosts as event
 use Rattle.hba_laws.specs.Hosts.{HostEvent}
 use Rattle.hba_laws.specs.Sound as sound
-use Rattle.hba_laws.proofs.placed.SpareLemmas.{NoneIssues, NotIssue, clear_none, falls_none}
-use Rattle.hba_laws.proofs.histories.StandLemmas.{the}
+use Rattle.hba_laws.proofs.Door.{clear_none, falls_none, NoneIssues, NotIssue, the}
 use Rattle.hba_driver.specs.declared.effect.Effect.{Effect}
 use Rattle.hba_driver.specs.declared.effect.Effect.TheVariants as effect
 use Rattle.hba_driver.specs.declared.path.Path.{Path}

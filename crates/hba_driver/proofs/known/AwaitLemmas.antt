@@ -30,8 +30,7 @@ use Rattle.hba_fbs.specs.Tables.{is_sound}
 use Rattle.hba_fbs.specs.Taking.{admitted, heard, heard_now, heard_report, heard_view, ignores, place_in, port_of, row_for, wrote_by}
 use Rattle.hba_fbs.specs.Views.{DeviceView, Port, last_command, view_of}
 use Rattle.hba_fbs.specs.Writing.{commands_after, refusal_of, write_refusal}
-use Rattle.hba_laws.proofs.isolation.OutgoingLemmas.{data_is_own}
-use Rattle.hba_laws.proofs.histories.ViewLemmas.{is_own}
+use Rattle.hba_laws.proofs.Door.{data_is_own, is_own}
 use Rattle.hba_driver.specs.declared.effect.Effect.{Effect}
 use Rattle.hba_driver.specs.declared.effect.Effect.TheVariants as effect
 use Rattle.hba_driver.specs.Effects.{Acts, ActsAll, Tries}

@@ -19,7 +19,7 @@ use Rattle.hba_fbs.specs.Issuing.{asked, commands_with}
 use Rattle.hba_fbs.specs.Offsets.{register_at}
 use Rattle.hba_fbs.specs.Views.{Port, last_command}
 use Rattle.hba_fbs.specs.Writing.{commands_after}
-use Rattle.hba_laws.proofs.histories.ViewLemmas.{own_in}
+use Rattle.hba_laws.proofs.Door.{own_in}
 use Rattle.hba_driver.specs.declared.mode.Mode.TheVariants.{Switching}
 use Rattle.hba_driver.specs.Effects.{ActsAll, prds_with, sending, table_of}
 use Rattle.hba_driver.specs.Known.{is_identify}

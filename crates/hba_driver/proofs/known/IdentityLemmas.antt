@@ -32,8 +32,7 @@ use Rattle.hba_fbs.specs.Hearing as hearing
 use Rattle.hba_fbs.specs.Status.{is_busy, is_error, is_quiet, with_file}
 use Rattle.hba_fbs.specs.Taking.{wrote_by}
 use Rattle.hba_laws.specs.History.{unless}
-use Rattle.hba_laws.proofs.histories.ViewLemmas.{IsOwn, own_freed}
-use Rattle.hba_laws.proofs.histories.StandLemmas.{some_inj}
+use Rattle.hba_laws.proofs.Door.{IsOwn, own_freed, some_inj}
 
 -- ---- slot 30 of a device
 

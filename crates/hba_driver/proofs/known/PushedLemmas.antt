@@ -14,7 +14,7 @@ use Rattle.hba_commands.specs.Headers.{header_at}
 use Rattle.hba_commands.specs.Requests.{kind_of, request_at, request_of, work_of}
 use Rattle.hba_commands.specs.declared.command.Command.{Command}
 use Rattle.slots.specs.Slots.{Issue, has_bit, issue_at, match_some, own_issue, slots_of}
-use Rattle.slots.proofs.TableLemmas.{Owns}
+use Rattle.slots.proofs.Door.{Owns}
 use Rattle.hba_fbs.specs.declared.register.Register.TheVariants.{Ci, Fbs}
 use Rattle.hba_fbs.specs.declared.registers.Registers.{Registers}
 use Rattle.hba_fbs.specs.Issuing.{asked, commands_with}
@@ -27,11 +27,7 @@ use Rattle.hba_fbs.specs.Views.{Port, last_command}
 use Rattle.hba_fbs.specs.Writing.{commands_after}
 use Rattle.hba_laws.specs.Client.{own}
 use Rattle.hba_laws.specs.History.{Transfer, issued}
-use Rattle.hba_laws.proofs.isolation.OutgoingLemmas.{order_is}
-use Rattle.hba_laws.proofs.placed.SpareLemmas.{gives_commands}
-use Rattle.hba_laws.proofs.histories.StandLemmas.{some_inj}
-use Rattle.hba_laws.proofs.histories.ViewLemmas.{own_here}
-use Rattle.hba_laws.proofs.placed.WithinLemmas.{the_transfer}
+use Rattle.hba_laws.proofs.Door.{gives_commands, order_is, own_here, some_inj, the_transfer}
 use Rattle.hba_driver.specs.declared.mode.Mode.TheVariants.{Switching}
 use Rattle.hba_driver.specs.declared.path.Stage.{Stage}
 use Rattle.hba_driver.specs.declared.path.Stage.TheVariants.{Identify, ReadLog, AssertReset, ReleaseReset, AwaitReset}

@@ -15,7 +15,7 @@ use Rattle.hba_fbs.specs.Reading.{shown_device}
 use Rattle.hba_fbs.specs.Taking.{PostsIn, PostsOf, ignores, is_ignored, is_running, passes_over, port_cause, row_for, stops_with}
 use Rattle.hba_fbs.specs.Views.{DeviceView, Port, view_of}
 use Rattle.hba_fbs.specs.Writing.{is_apart}
-use Rattle.hba_fbs.proofs.AimLemmas.{aimed_chosen}
+use Rattle.hba_fbs.proofs.Door.{aimed_chosen}
 use Rattle.hba_laws.specs.Hosts.{Host}
 use Rattle.hba_laws.specs.Isolation.{Issued, written_to}
 use Rattle.hba_laws.specs.Parts.{own_row}

@@ -21,7 +21,7 @@ use Rattle.slots.specs.Slots.{DeviceSlots, Issue, context_of, context_unless, fr
 use Rattle.slots.specs.Work.{is_dma, is_queued}
 use Rattle.slots.specs.declared.table.Context.{Context}
 use Rattle.slots.specs.declared.work.Work.{Work}
-use Rattle.slots.proofs.MaskLemmas.{lowest_is}
+use Rattle.slots.proofs.Door.{lowest_is}
 use Rattle.hba_fbs.specs.Sending.{Data, Gives, Nothing, Order as Goes, Outgoing, Sends, data_due, data_with, is_due, is_ready, next_receiver, next_to_send, order_due, outgoing, resets, view_sent}
 use Rattle.hba_fbs.specs.Tables.{sound_command}
 use Rattle.hba_fbs.specs.Views.{DeviceView, Port, last_command, view_of}
@@ -29,10 +29,8 @@ use Rattle.hba_laws.specs.Agreement.{work_of_issue, work_of_transfer}
 use Rattle.hba_laws.specs.Client.{Touches, own}
 use Rattle.hba_laws.specs.History.{Transfer, issued}
 use Rattle.hba_laws.specs.Isolation.{may_leave, next_own}
-use Rattle.hba_laws.proofs.isolation.OutgoingLemmas.{IsOrder, order_is, order_is_own}
-use Rattle.hba_laws.proofs.histories.StandLemmas.{some_inj}
-use Rattle.hba_laws.proofs.histories.ViewLemmas.{at_same, held, is_own, own_freed, own_set}
-use Rattle.hba_laws.proofs.placed.WithinLemmas.{the_transfer}
+use Rattle.hba_laws.proofs.Door.{at_same, held, is_own, IsOrder, order_is, order_is_own, own_freed, own_set, some_inj}
+use Rattle.hba_laws.proofs.Door.{the_transfer}
 use Rattle.hba_driver.specs.declared.plan.Device.TheVariants.{Ready, Recovering}
 use Rattle.hba_driver.specs.declared.plan.Plan.{Plan}
 use Rattle.hba_driver.specs.declared.request.Request.{Request}

@@ -19,7 +19,7 @@ use Rattle.slots.specs.declared.answer.Answered.TheVariants as answer
 use Rattle.slots.specs.declared.answer.SetupError.{SetupError}
 use Rattle.slots.specs.declared.answer.SetupError.TheVariants as refused
 use Rattle.slots.specs.declared.table.Context.{Context}
-use Rattle.slots.proofs.MaskLemmas.{lowest_is}
+use Rattle.slots.proofs.Door.{lowest_is}
 use Rattle.port_errors.specs.declared.cause.DeviceCause.TheVariants as cause
 use Rattle.hba_fbs.specs.declared.hearing.Happening.TheVariants as happening
 use Rattle.hba_fbs.specs.declared.hearing.Heard.{Heard}
@@ -33,8 +33,7 @@ use Rattle.hba_fbs.specs.Status.{after_reset, is_busy, is_error, with_file}
 use Rattle.hba_fbs.specs.Taking.{heard_view, ignores, is_running, port_of, view_after_hearing}
 use Rattle.hba_fbs.specs.Views.{DeviceView, Port, last_command, view_of}
 use Rattle.hba_laws.specs.Client.{Touches}
-use Rattle.hba_laws.proofs.histories.StandLemmas.{some_inj}
-use Rattle.hba_laws.proofs.histories.ViewLemmas.{held, own_freed}
+use Rattle.hba_laws.proofs.Door.{held, own_freed, some_inj}
 use Rattle.hba_driver.specs.Drivers.{Driver}
 use Rattle.hba_driver.specs.Events.{IsSoundHost, shared_by}
 use Rattle.hba_driver.specs.HostTurns.{Does, Host, Took}

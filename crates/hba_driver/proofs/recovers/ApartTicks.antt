@@ -10,7 +10,7 @@ use Rattle.port_errors.specs.declared.cause.Stop.{Stop}
 use Rattle.slots.specs.Slots.{Issue, has_bit, issue_at, match_some, own_issue}
 use Rattle.hba_fbs.specs.Views.{DeviceView, Port, last_command, stopped_view, view_of}
 use Rattle.hba_laws.specs.Client.{Touches}
-use Rattle.hba_laws.proofs.histories.ViewLemmas.{own_in}
+use Rattle.hba_laws.proofs.Door.{own_in}
 use Rattle.hba_driver.specs.declared.mode.Mode.TheVariants.{Switching}
 use Rattle.hba_driver.specs.declared.order.Order.{Order}
 use Rattle.hba_driver.specs.declared.path.Stage.{Stage}

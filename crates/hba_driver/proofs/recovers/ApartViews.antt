@@ -25,9 +25,8 @@ use Rattle.hba_fbs.specs.Offsets.{register_at}
 use Rattle.hba_fbs.specs.Registers.{written}
 use Rattle.hba_fbs.specs.Views.{DeviceView, Port, last_command, stopped_view, view_of}
 use Rattle.hba_fbs.specs.Writing.{Accepts, commands_after, errors_after, refusal_of, view_after, view_cleared}
-use Rattle.hba_fbs.proofs.AimLemmas.{aimed_chosen}
-use Rattle.hba_laws.proofs.histories.StandLemmas.{some_inj}
-use Rattle.hba_laws.proofs.histories.ViewLemmas.{own_in}
+use Rattle.hba_fbs.proofs.Door.{aimed_chosen}
+use Rattle.hba_laws.proofs.Door.{own_in, some_inj}
 use Rattle.hba_driver.specs.declared.effect.Effect.TheVariants as effect
 use Rattle.hba_driver.specs.declared.mode.Mode.TheVariants.{Switching}
 use Rattle.hba_driver.specs.declared.order.Order.{Order}

@@ -32,8 +32,7 @@ use Rattle.hba_laws.specs.Hosts.{HostEvent}
 use Rattle.hba_laws.specs.Isolation.{Cleared, Emptied, Issued, OwnEvent, Rewritten, stops, lowers_st, own_events, part_after, part_after_all, written_to}
 use Rattle.hba_laws.specs.Parts.{DevicePart, part_of}
 use Rattle.hba_laws.specs.Sound as sound
-use Rattle.hba_laws.proofs.isolation.IsolationLemmas.{fold_of_own}
-use Rattle.hba_laws.proofs.histories.StandLemmas.{some_inj}
+use Rattle.hba_laws.proofs.Door.{fold_of_own, some_inj}
 use Rattle.hba_driver.specs.declared.effect.Effect.TheVariants as effect
 use Rattle.hba_driver.specs.declared.mode.Mode.TheVariants.{Switching}
 use Rattle.hba_driver.specs.declared.order.Order.{Order}

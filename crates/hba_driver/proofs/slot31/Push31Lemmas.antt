@@ -19,17 +19,15 @@ use Rattle.slots.specs.Slots.{DeviceSlots, Issue, context_of, context_unless, fr
 use Rattle.slots.specs.Work.{is_dma, is_queued, needs_all}
 use Rattle.slots.specs.declared.table.Context.{Context}
 use Rattle.slots.specs.declared.work.Work.{Work}
-use Rattle.slots.proofs.MaskLemmas.{lowest_is}
+use Rattle.slots.proofs.Door.{lowest_is}
 use Rattle.hba_fbs.specs.Sending.{Data, Gives, Order as Goes, Outgoing, Sends, is_ready, next_receiver, next_to_send, outgoing, resets, view_sent}
 use Rattle.hba_fbs.specs.Views.{DeviceView, last_command, view_of}
 use Rattle.hba_laws.specs.Client.{own}
 use Rattle.hba_laws.specs.History.{Transfer, issued}
 use Rattle.hba_laws.specs.Isolation.{may_leave, next_own}
 use Rattle.hba_laws.specs.Parts.{DevicePart}
-use Rattle.hba_laws.proofs.isolation.OutgoingLemmas.{IsOrder, data_is_own, order_is, order_is_own}
-use Rattle.hba_laws.proofs.histories.StandLemmas.{some_inj}
-use Rattle.hba_laws.proofs.histories.ViewLemmas.{at_same, held, is_own, own_freed, own_set}
-use Rattle.hba_laws.proofs.placed.WithinLemmas.{the_transfer}
+use Rattle.hba_laws.proofs.Door.{at_same, data_is_own, held, is_own, IsOrder, order_is, order_is_own, own_freed}
+use Rattle.hba_laws.proofs.Door.{own_set, some_inj, the_transfer}
 use Rattle.hba_driver.specs.declared.order.Order.{Order}
 use Rattle.hba_driver.specs.declared.order.Order.TheVariants.{ResetOn, ResetOff, AwaitSignature, Watch}
 use Rattle.hba_driver.specs.Drivers.{Driver, IsPath}

@@ -4,7 +4,7 @@ use Rattle.std.specs.Prelude.{◌==◌, is_some, nat_le}
 use Rattle.std.proofs.lemmas.Bool.{and_from, and_parts, cases_Bool, false≢true, true≢false}
 use Rattle.std.proofs.lemmas.Bool.Decides.{nat_tests}
 use Rattle.slots.specs.Slots.{has_bit, lowest_below, match_some}
-use Rattle.slots.proofs.MaskLemmas.{lowest_is}
+use Rattle.slots.proofs.Door.{lowest_is}
 use Rattle.hba_driver.specs.declared.order.Order.{Order}
 use Rattle.hba_driver.specs.declared.order.Order.TheVariants.{ResetOn, AwaitSignature, CountPorts, Enable, Open, Scan, Clear, Detect, Watch}
 use Rattle.hba_driver.specs.declared.path.TaskFile.{TaskFile}

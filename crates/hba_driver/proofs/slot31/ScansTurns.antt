@@ -20,7 +20,7 @@ use Rattle.hba_fbs.specs.Views.{DeviceView, Port}
 use Rattle.hba_laws.specs.Hosts as event
 use Rattle.hba_laws.specs.Isolation.{Came, OwnEvent, Went, own_events, part_after_all, row_with}
 use Rattle.hba_laws.specs.Parts.{DevicePart, part_of, with_view}
-use Rattle.hba_laws.proofs.histories.ViewLemmas.{own_in}
+use Rattle.hba_laws.proofs.Door.{own_in}
 use Rattle.hba_driver.specs.declared.order.Order.{Order}
 use Rattle.hba_driver.specs.declared.order.Order.TheVariants.{Scan}
 use Rattle.hba_driver.specs.declared.plan.Plan.{Plan}

@@ -7,11 +7,10 @@ use Rattle.host_memory.specs.Memory.{Memory}
 use Rattle.port_errors.specs.Errors.{Errors, cause_of, cleared_device, named_by, shown as errors_shown}
 use Rattle.port_errors.specs.declared.cause.Stop.{Stop}
 use Rattle.slots.specs.Slots.{Issue, has_bit, issue_at, lowest_below, match_some, own_issue}
-use Rattle.slots.proofs.MaskLemmas.{lowest_is}
+use Rattle.slots.proofs.Door.{lowest_is}
 use Rattle.hba_fbs.specs.Views.{Port}
 use Rattle.hba_laws.specs.Parts.{DevicePart}
-use Rattle.hba_laws.proofs.histories.StandLemmas.{the}
-use Rattle.hba_laws.proofs.histories.ViewLemmas.{own_in}
+use Rattle.hba_laws.proofs.Door.{own_in, the}
 use Rattle.hba_driver.specs.declared.mode.Mode.TheVariants.{Switching}
 use Rattle.hba_driver.specs.declared.order.Order.{Order}
 use Rattle.hba_driver.specs.declared.order.Order.TheVariants.{ResetOn, ResetOff, AwaitSignature, CountPorts, Enable, Open, Scan, Clear, Detect, Watch}

@@ -15,7 +15,7 @@ use Rattle.slots.specs.Work.{is_queued, needs_all}
 use Rattle.slots.specs.declared.answer.Answered.{Answered}
 use Rattle.slots.specs.declared.answer.Answered.TheVariants as answer
 use Rattle.slots.specs.declared.table.Context.{Context}
-use Rattle.slots.proofs.MaskLemmas.{mask_none, mask_same}
+use Rattle.slots.proofs.Door.{mask_none, mask_same}
 use Rattle.hba_fbs.specs.declared.hearing.Fault.TheVariants as fault
 use Rattle.hba_fbs.specs.declared.hearing.Happening.TheVariants as happening
 use Rattle.hba_fbs.specs.declared.hearing.Heard.{Heard}
@@ -29,8 +29,7 @@ use Rattle.hba_fbs.specs.Views.{DeviceView, Port, view_of}
 use Rattle.hba_laws.specs.Hosts as event
 use Rattle.hba_laws.specs.Isolation.{Came, after_fis, part_after, part_after_all, row_with, skips}
 use Rattle.hba_laws.specs.Parts.{DevicePart, part_of, with_view}
-use Rattle.hba_laws.proofs.histories.StandLemmas.{some_inj}
-use Rattle.hba_laws.proofs.histories.ViewLemmas.{own_freed}
+use Rattle.hba_laws.proofs.Door.{own_freed, some_inj}
 use Rattle.hba_driver.specs.declared.order.Order.{Order}
 use Rattle.hba_driver.specs.declared.order.Order.TheVariants.{ResetOff, AwaitSignature}
 use Rattle.hba_driver.specs.Drivers.{Driver}

@@ -13,7 +13,7 @@ use Rattle.fis_view.specs.declared.view.FisFault.{FisFault}
 use Rattle.fis_view.specs.declared.view.FisFault.TheVariants.{WrongLength}
 use Rattle.host_memory.specs.Memory.{Memory, client_start, zeros}
 use Rattle.host_memory.specs.Reading.{AgreeFrom}
-use Rattle.host_memory.proofs.AgreeLemmas.{agree_beside}
+use Rattle.host_memory.proofs.Door.{agree_beside}
 use Rattle.rx_area.specs.Area as rx
 use Rattle.rx_area.specs.declared.area.Posted.TheVariants as posted
 use Rattle.hba_fbs.specs.Hearing.{is_admitted}

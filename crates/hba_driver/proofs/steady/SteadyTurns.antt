@@ -12,7 +12,7 @@ use Rattle.fis_view.specs.Seen.{seen as seen_in}
 use Rattle.host_memory.specs.Memory.{Memory}
 use Rattle.slots.specs.Slots.{match_some}
 use Rattle.hba_fbs.specs.Views.{Port}
-use Rattle.hba_laws.proofs.histories.StandLemmas.{some_inj}
+use Rattle.hba_laws.proofs.Door.{some_inj}
 use Rattle.hba_driver.specs.declared.mode.Mode.TheVariants.{CommandBased, Switching}
 use Rattle.hba_driver.specs.declared.mode.Mode.{Mode}
 use Rattle.hba_driver.specs.declared.order.Order.{Order}

@@ -10,8 +10,7 @@ use Rattle.host_memory.specs.Memory.{Memory, client_start}
 use Rattle.host_memory.specs.Place.{LiesInClient, place, total_of}
 use Rattle.host_memory.specs.Reading.{first_fault, have_overlap, read_fault}
 use Rattle.host_memory.specs.declared.table.Prd.{Prd}
-use Rattle.host_memory.proofs.PlaceLemmas.{place_inside}
-use Rattle.host_memory.proofs.PrdLemmas.{inside_from_faults}
+use Rattle.host_memory.proofs.Door.{inside_from_faults, place_inside}
 use Rattle.hba_commands.specs.declared.command.Command.{Command}
 use Rattle.slots.specs.Data.{payload, payload_len}
 use Rattle.slots.specs.Work.{is_dma, is_read}

@@ -3,7 +3,7 @@ use Rattle.std.proofs.Common.{◌≡◌, ℕ, ◌+◌, ◌-◌, ◌<◌, ◌≤�
 use Rattle.std.specs.Prelude.{slice_get}
 use Rattle.std.proofs.lemmas.Bool.{eqb-true}
 use Rattle.host_memory.specs.Place.{place, written}
-use Rattle.host_memory.proofs.WrittenLemmas.{written_elsewhere}
+use Rattle.host_memory.proofs.Door.{written_elsewhere}
 use Rattle.slots.specs.Slots.{match_some}
 use Rattle.hba_laws.specs.Client.{AreWithin, By, Filling, FillsWithin, IsReading, IsWithin, Puts, Stops, Touch, Touches, client, filling, own}
 use Rattle.hba_laws.specs.History.{Carried, Event, History, Issued, Transfer, filled, filled_from, is_set_up, issued, next_number, none_filled}

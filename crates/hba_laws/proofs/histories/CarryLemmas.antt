@@ -9,7 +9,7 @@ use Rattle.slots.specs.Bytes.{any_over, came_of, is_over, is_within, none_over, 
 use Rattle.slots.specs.Data.{moved_on, moved_over}
 use Rattle.slots.specs.Slots.{Issue, holds, new_issue}
 use Rattle.slots.specs.declared.table.Context.{Context}
-use Rattle.slots.proofs.ByteLemmas.{any_at, count_more, length_with_bytes, over_none, over_with_bytes}
+use Rattle.slots.proofs.Door.{any_at, count_more, length_with_bytes, over_none, over_with_bytes}
 use Rattle.hba_laws.specs.Agreement.{Agrees, ContextAgrees, IssueAgrees, SetupAgrees, is_for, is_pio_issue}
 use Rattle.hba_laws.specs.History.{Carried, History, Issued, Setup, Transfer, bytes_of, filled, filled_from, is_at, is_set_up, last_setup, next_number, unless, waiting_in}
 use Rattle.hba_laws.proofs.histories.StandLemmas.{some_inj}

@@ -9,7 +9,7 @@ use Rattle.slots.specs.Slots.{DeviceSlots, Issue, context_unless, freed, holds, 
 use Rattle.slots.specs.declared.table.Context.{Context}
 use Rattle.slots.specs.Table.{IsIssue}
 use Rattle.slots.specs.Work.{is_queued, needs_all}
-use Rattle.slots.proofs.ByteLemmas.{whole_dwords}
+use Rattle.slots.proofs.Door.{whole_dwords}
 use Rattle.hba_fbs.specs.Hearing.{block_ended}
 use Rattle.hba_fbs.specs.Status.{is_quiet}
 use Rattle.hba_laws.specs.Agreement.{Agrees, AreIssued, SetupAgrees, is_pio_issue}

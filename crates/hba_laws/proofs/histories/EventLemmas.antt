@@ -15,8 +15,7 @@ use Rattle.slots.specs.Work.{is_dma, is_read}
 use Rattle.slots.specs.declared.table.Context.{Context}
 use Rattle.slots.specs.declared.work.Kind.{Kind}
 use Rattle.slots.specs.declared.work.Kind.TheVariants.{QueuedRead, PioIn, DmaIn}
-use Rattle.slots.proofs.MaskLemmas.{lowest_is}
-use Rattle.slots.proofs.TableLemmas.{own_at}
+use Rattle.slots.proofs.Door.{lowest_is, own_at}
 use Rattle.slots.specs.Slots.{owned_by}
 use Rattle.hba_fbs.specs.declared.register.Register.{Register}
 use Rattle.hba_fbs.specs.declared.register.Register.TheVariants.{Clb, Cmd, Ci, Fbs}

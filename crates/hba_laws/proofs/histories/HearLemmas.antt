@@ -21,7 +21,7 @@ use Rattle.slots.specs.declared.answer.Answered.{Answered}
 use Rattle.slots.specs.declared.answer.Answered.TheVariants as answer
 use Rattle.slots.specs.declared.answer.SetupError.{SetupError}
 use Rattle.slots.specs.declared.table.Context.{Context}
-use Rattle.slots.proofs.MaskLemmas.{lowest_is}
+use Rattle.slots.proofs.Door.{lowest_is}
 use Rattle.hba_fbs.specs.declared.hearing.Heard.{Heard}
 use Rattle.hba_fbs.specs.declared.hearing.Happening.TheVariants as happening
 use Rattle.hba_fbs.specs.declared.report.Wrote.{Wrote}

@@ -7,7 +7,7 @@ use Rattle.host_memory.specs.Memory.{Memory}
 use Rattle.hba_commands.specs.declared.command.Command.{Command}
 use Rattle.hba_commands.specs.Commands.{command_at}
 use Rattle.slots.specs.Slots.{DeviceSlots, Issue, has_bit, issue_at, lowest, new_issue, own_issue}
-use Rattle.slots.proofs.MaskLemmas.{none_below}
+use Rattle.slots.proofs.Door.{none_below}
 use Rattle.std.proofs.lemmas.Nat.Bits.{bit_at-zero}
 use Rattle.hba_fbs.specs.declared.error.WriteError.{WriteError}
 use Rattle.hba_fbs.specs.declared.error.WriteError.TheVariants as refusal

@@ -6,7 +6,7 @@ use Rattle.std.proofs.lemmas.Bool.{cases_Bool, eq-eqb, eqb-true, false≢true, a
 use Rattle.std.proofs.lemmas.List.Folds.{list_all_at}
 use Rattle.std.proofs.lemmas.List.FromFn.{get_or-range_with_len, length-range_with_len}
 use Rattle.host_memory.specs.Place.{place, written}
-use Rattle.host_memory.proofs.WrittenLemmas.{written_at, written_elsewhere}
+use Rattle.host_memory.proofs.Door.{written_at, written_elsewhere}
 use Rattle.slots.specs.Slots.{has_bit, match_some}
 use Rattle.slots.specs.Work.{is_queued, is_read, needs_all}
 use Rattle.slots.specs.declared.work.Kind.{Kind}

@@ -16,8 +16,7 @@ use Rattle.slots.specs.declared.table.Context.{Context}
 use Rattle.slots.specs.declared.work.Kind.{Kind}
 use Rattle.slots.specs.declared.work.Kind.TheVariants.{QueuedRead, QueuedWrite, DmaIn, DmaOut, PioIn, PioOut, Control}
 use Rattle.slots.specs.declared.work.Work.{Work}
-use Rattle.slots.proofs.MaskLemmas.{lowest_found, lowest_is}
-use Rattle.slots.proofs.NewLemmas.{get-free}
+use Rattle.slots.proofs.Door.{get-free, lowest_found, lowest_is}
 use Rattle.hba_laws.specs.Agreement.{Agrees, AreIssued, ContextAgrees, IssueAgrees, work_of_issue, work_of_transfer}
 use Rattle.hba_laws.specs.Delivering.{begun_by}
 use Rattle.hba_laws.specs.History.{Answered, Emptied, Event, History, Named, PioSetUp, Sent, SentControl, SetUp, Transfer, completes, filled, is_all_filled, is_at, issued, unless, waiting_in}

@@ -8,8 +8,7 @@ use Rattle.hba_commands.specs.declared.command.Command.{Command}
 use Rattle.slots.specs.Slots.{DeviceSlots, Issue, Slots, freed, holds, is_waiting, issue_at, issues_unless, own_issue, owned_by, slots_of, waiting, with_own_issue}
 use Rattle.slots.specs.Table.{IsContext, IsContextOf, IsIssue, IsTable}
 use Rattle.slots.specs.declared.table.Context.{Context}
-use Rattle.slots.proofs.MaskLemmas.{get-unless, length-unless, none_below}
-use Rattle.slots.proofs.TableLemmas.{own_at, owned_own}
+use Rattle.slots.proofs.Door.{get-unless, length-unless, none_below, own_at, owned_own}
 use Rattle.hba_fbs.specs.Issuing.{issue_with, issued_slots, issues_with}
 use Rattle.hba_laws.specs.History.{unless}
 

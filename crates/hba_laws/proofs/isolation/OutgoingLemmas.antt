@@ -10,8 +10,8 @@ use Rattle.port_errors.specs.declared.cause.DeviceCause.{DeviceCause}
 use Rattle.slots.specs.Commands.{may_begin, may_go}
 use Rattle.slots.specs.Data.{payload}
 use Rattle.slots.specs.Slots.{Issue, context_of, has_bit, holds, is_control, issue_at, mask_below, match_some, own_issue, slots_of, waiting}
-use Rattle.slots.proofs.MaskLemmas.{MaskBelow, lowest_before, lowest_found, lowest_is, mask_none, mask_same, mask_set, none_below}
-use Rattle.slots.proofs.TableLemmas.{Owns, own_at, owned_same, owns_where}
+use Rattle.slots.proofs.Door.{lowest_before, lowest_found, lowest_is, mask_none, mask_same, mask_set, MaskBelow}
+use Rattle.slots.proofs.Door.{none_below, own_at, owned_same, Owns, owns_where}
 use Rattle.hba_fbs.specs.Sending.{Data, Nothing, Order, data_due, data_with, faulty_devices, is_ready, next_receiver, next_to_send, order_due, outgoing, ready_devices, is_due}
 use Rattle.hba_fbs.specs.Tables.{is_readable, sound_command}
 use Rattle.hba_fbs.specs.Taking.{is_running}

@@ -13,7 +13,7 @@ use Rattle.slots.specs.Data.{activated, after_arrive, after_payload, arrive_answ
 use Rattle.slots.specs.Setup.{after_setup_pio, begun, came, new_context, pio_fault, pio_issue, whole_context, with_own_context}
 use Rattle.slots.specs.Work.{is_dma}
 use Rattle.slots.specs.Slots.{sent_pio}
-use Rattle.slots.proofs.MaskLemmas.{get-unless, length-unless}
+use Rattle.slots.proofs.Door.{get-unless, length-unless}
 use Rattle.std.specs.Prelude.{is_some, is_ok}
 use Rattle.hba_fbs.specs.declared.hearing.Happening.{Happening}
 use Rattle.hba_fbs.specs.declared.hearing.Happening.TheVariants as happening

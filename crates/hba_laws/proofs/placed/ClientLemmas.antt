@@ -12,10 +12,8 @@ use Rattle.host_memory.specs.Reading.{first_fault, have_overlap, read_fault}
 use Rattle.host_memory.specs.declared.table.Prd.{Prd}
 use Rattle.host_memory.specs.declared.table.PrdError.{PrdError}
 use Rattle.host_memory.specs.declared.table.PrdError.TheVariants.{OutsideStructure, Overlap}
-use Rattle.host_memory.proofs.AgreeLemmas.{length-overwritten, overwritten_beside}
-use Rattle.host_memory.proofs.OverlapLemmas.{apart_from_overlap}
-use Rattle.host_memory.proofs.PrdLemmas.{inside_from_faults}
-use Rattle.host_memory.proofs.WrittenLemmas.{scattered}
+use Rattle.host_memory.proofs.Door.{apart_from_overlap, inside_from_faults, length-overwritten, overwritten_beside}
+use Rattle.host_memory.proofs.Door.{scattered}
 use Rattle.hba_commands.specs.declared.command.Command.{Command}
 use Rattle.slots.specs.Data.{receiving_slot}
 use Rattle.slots.specs.Work.{is_dma, is_read}

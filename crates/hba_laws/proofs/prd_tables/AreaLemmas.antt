@@ -6,7 +6,7 @@ use Rattle.std.proofs.lemmas.List.{length-take-le, get_or_append_left, get_or-ap
 use Rattle.fis_view.specs.declared.view.Fis.{Fis}
 use Rattle.host_memory.specs.Memory.{overwritten}
 use Rattle.host_memory.specs.Reading.{AgreeFrom, LieApart}
-use Rattle.host_memory.proofs.AgreeLemmas.{agree_beside, length-overwritten, overwritten_beside}
+use Rattle.host_memory.proofs.Door.{agree_beside, length-overwritten, overwritten_beside}
 use Rattle.rx_area.specs.Area.{row_of}
 use Rattle.hba_fbs.specs.Posting.{area_at}
 use Rattle.hba_fbs.specs.Taking.{PostsIn, PostsOf}

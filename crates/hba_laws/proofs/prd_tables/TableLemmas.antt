@@ -13,7 +13,7 @@ use Rattle.host_memory.specs.Place.{total_of}
 use Rattle.host_memory.specs.Reading.{AgreeFrom, LieApart, SaysTheSame, prds_at, read_fault}
 use Rattle.host_memory.specs.declared.table.Prd.{Prd}
 use Rattle.host_memory.specs.declared.table.PrdError.{PrdError}
-use Rattle.host_memory.proofs.AgreeLemmas.{says_the_same}
+use Rattle.host_memory.proofs.Door.{says_the_same}
 use Rattle.slots.specs.Slots.{Issue, match_some, own_issue}
 use Rattle.hba_fbs.specs.Tables.{is_readable, prds_of}
 use Rattle.hba_fbs.specs.Taking.{admitted, ignores, port_of, row_for}

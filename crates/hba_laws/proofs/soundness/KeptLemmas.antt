@@ -9,7 +9,7 @@ use Rattle.fis_view.specs.declared.view.Fis.TheVariants as view
 use Rattle.hba_commands.specs.declared.command.Command.{Command}
 use Rattle.host_memory.specs.Memory.{Memory, client_start, overwritten}
 use Rattle.host_memory.specs.Place.{Scatters}
-use Rattle.host_memory.proofs.AgreeLemmas.{length-overwritten}
+use Rattle.host_memory.proofs.Door.{length-overwritten}
 use Rattle.hba_fbs.specs.declared.hearing.Heard.{Heard}
 use Rattle.hba_fbs.specs.declared.register.Register.{Register}
 use Rattle.hba_fbs.specs.declared.register.Register.TheVariants.{Fb, Fbs}

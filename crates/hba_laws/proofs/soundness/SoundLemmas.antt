@@ -9,14 +9,15 @@ use Rattle.fis_view.specs.Seen.{seen}
 use Rattle.fis_view.specs.declared.view.Fis.{Fis}
 use Rattle.fis_view.specs.declared.view.Fis.TheVariants as view
 use Rattle.host_memory.specs.Memory.{Memory, client_start, zeros}
-use Rattle.host_memory.proofs.MemoryLemmas.{zeros_sized}
+use Rattle.host_memory.proofs.Door.{zeros_sized}
 use Rattle.port_errors.specs.Errors.{AreErrors, Errors, after_clear, cause_of, cleared_device, is_reported, lowest_marked, no_errors, with_port, without}
 use Rattle.port_errors.specs.declared.cause.DeviceCause.{DeviceCause}
 use Rattle.port_errors.specs.declared.cause.PortCause.{PortCause}
 use Rattle.port_errors.specs.declared.cause.PortCause.TheVariants.{Bus}
-use Rattle.port_errors.proofs.ErrorsLemmas.{after_clear_none, after_clear_some, cleared_below, with_device_keeps, without_other, without_reported}
+use Rattle.port_errors.proofs.Door.{after_clear_none, after_clear_some, cleared_below, with_device_keeps}
+use Rattle.port_errors.proofs.Door.{without_other, without_reported}
 use Rattle.slots.specs.Slots.{has_bit}
-use Rattle.slots.proofs.NewLemmas.{new_table}
+use Rattle.slots.proofs.Door.{new_table}
 use Rattle.hba_fbs.specs.declared.error.WriteError.{WriteError}
 use Rattle.hba_fbs.specs.declared.hearing.Fault.{Fault}
 use Rattle.hba_fbs.specs.declared.hearing.Fault.TheVariants as fault
@@ -31,8 +32,7 @@ use Rattle.hba_fbs.specs.Sending.{Gives, Nothing, Outgoing, Unreadable, outgoing
 use Rattle.hba_fbs.specs.Taking.{admitted, errors_alone, errors_in, errors_with, heard_now, ignores, port_of, posted_of, settled}
 use Rattle.hba_fbs.specs.Views.{Port, view_of}
 use Rattle.hba_fbs.specs.Writing.{errors_after, refusal_of, slots_refusal}
-use Rattle.hba_fbs.proofs.CmdLemmas.{cmd_are}
-use Rattle.hba_fbs.proofs.SlotLemmas.{none_have}
+use Rattle.hba_fbs.proofs.Door.{cmd_are, none_have}
 use Rattle.hba_laws.specs.Hosts.{Does, Flushed, Gave, Host, HostEvent, Took, Wrote}
 use Rattle.hba_laws.specs.Sound.{OpensSound, RegistersStaySound, SizesStay}
 use Rattle.hba_laws.proofs.soundness.KeptLemmas.{client_lens, structure_lens}

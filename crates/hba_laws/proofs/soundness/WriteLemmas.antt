@@ -13,8 +13,7 @@ use Rattle.hba_commands.specs.declared.command.Command.{Command}
 use Rattle.host_memory.specs.Memory.{Memory}
 use Rattle.slots.specs.Slots.{DeviceSlots, Issue, Slots, has_bit, issue_at, lowest_below, own_issue, owned_by, slots_of}
 use Rattle.slots.specs.Table.{IsTable}
-use Rattle.slots.proofs.MaskLemmas.{none_below}
-use Rattle.slots.proofs.TableLemmas.{own_at}
+use Rattle.slots.proofs.Door.{none_below, own_at}
 use Rattle.hba_fbs.specs.declared.error.WriteError.{WriteError}
 use Rattle.hba_fbs.specs.declared.error.WriteError.TheVariants as refusal
 use Rattle.hba_fbs.specs.declared.register.Register.TheVariants.{Ci, Fb, Fbs}

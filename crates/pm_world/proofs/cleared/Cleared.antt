@@ -13,8 +13,7 @@ use Rattle.pm_registers.specs.declared.port.PortRegisters.{PortRegisters}
 use Rattle.pm_registers.specs.Port.{ShowsTruly, bit_n, bit_x, controlled, det, inserted, is_open, met, opened, opening_port, passes, port_written, removed}
 use Rattle.pm_registers.specs.RegisterMap as map
 use Rattle.pm_registers.specs.RegisterMap.{RegisterMap, after_write, control_port, control_written, forwards, register_at, settled, summary, with_port as with_registers, written}
-use Rattle.pm_registers.proofs.RegisterLemmas.{either}
-use Rattle.pm_registers.proofs.ShownLemmas.{shows_inserted, shows_removed, shows_written}
+use Rattle.pm_registers.proofs.Door.{either, shows_inserted, shows_removed, shows_written}
 use Rattle.pm_control.specs.Answers.{registers_after_request}
 use Rattle.pm_control.specs.Requests.{request_in}
 use Rattle.pm_control.specs.declared.request.Request.{Request}
@@ -25,8 +24,7 @@ use Rattle.multiplier.specs.Rules.{FromHostRule, ToControl, ToDevice, ToNobody, 
 use Rattle.multiplier.specs.State.{PmState, passes_to, pm_port, port_at}
 use Rattle.multiplier.specs.declared.multiplier.Passed.{Passed}
 use Rattle.multiplier.specs.declared.multiplier.Passed.TheVariants as passed
-use Rattle.multiplier.proofs.GiveLemmas.{Gives, FromPort, Notice, Answer as Answers, gives}
-use Rattle.multiplier.proofs.Ports.{at, kept_part, other_port}
+use Rattle.multiplier.proofs.Door.{Answer as Answers, at, FromPort, Gives, gives, kept_part, Notice, other_port}
 use Rattle.disk_model.specs.declared.unit.Unit.{Unit}
 use Rattle.pm_world.specs.Cleared.{EachWaits, NewDevicesWait, PassesNone, clears_x, is_cleared, is_up_from}
 use Rattle.pm_world.specs.Downward.{fell_to}

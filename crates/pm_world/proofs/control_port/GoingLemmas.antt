@@ -7,8 +7,7 @@ use Rattle.multiplier.specs.Arbiter.{control_port}
 use Rattle.hba_driver.specs.Going.{IsOfControl}
 use Rattle.hba_driver.specs.HostTurns.{Took}
 use Rattle.hba_driver.specs.Slot31.{Asks, IsNotice31, MayBe31, MayCome31, Signs, Stage31}
-use Rattle.hba_driver.proofs.goes_on.GoingLemmas.{goes_on}
-use Rattle.hba_driver.proofs.slot31.Turn31Lemmas.{control_in31}
+use Rattle.hba_driver.proofs.Door.{control_in31, goes_on}
 use Rattle.pm_world.specs.Places.{Places, new_world}
 use Rattle.pm_world.specs.Rules.{CameRule, DiskSendRule, DiskTakeRule, GoneRule, InjectRule, PmDownRule, PmFromDeviceRule, PmPresenceRule, Rule}
 use Rattle.pm_world.specs.declared.step.Step.{Step}

@@ -16,15 +16,13 @@ use Rattle.multiplier.specs.Rules.{FromHostRule, ToControl, ToDevice, ToNobody, 
 use Rattle.multiplier.specs.State.{PmState, control_stamp, passes_to, pm_port, port_at}
 use Rattle.multiplier.specs.declared.multiplier.Passed.{Passed}
 use Rattle.multiplier.specs.declared.multiplier.Passed.TheVariants as passed
-use Rattle.multiplier.proofs.GiveLemmas.{Gives, FromPort, Notice, Answer as Answers, gives}
+use Rattle.multiplier.proofs.Door.{Answer as Answers, FromPort, Gives, gives, Notice}
 use Rattle.hba_driver.specs.declared.mode.Mode.TheVariants.{Switching}
 use Rattle.hba_driver.specs.HostTurns.{Does, Host, HostTurn, Ticks, Took, Pushed, Ticked, Submitted, Polled, Put}
 use Rattle.hba_driver.specs.declared.request.Request.{Request as Asked}
 use Rattle.hba_driver.specs.Slot31.{Asks, Follows31, IsAt31, IsNext31, IsNotice31, MayBe31, MayCome31, Pushes31, Resets, Rests, Signs, Stage31, TakesOn, TicksOn, Turns31, Waits, is_quiet, orders_clear}
-use Rattle.hba_driver.proofs.addresses.AddressLemmas.{AreOfTheir, none_issued, turn_addressed, turn_their}
-use Rattle.hba_driver.proofs.goes_on.GoingLemmas.{IsGoing, going_opens, going_turn}
-use Rattle.hba_driver.proofs.slot31.Push31Lemmas.{begins_srst, ends_srst}
-use Rattle.hba_driver.proofs.slot31.Turn31Lemmas.{control_in31, opens31, turn31}
+use Rattle.hba_driver.proofs.Door.{AreOfTheir, begins_srst, control_in31, ends_srst, going_opens, going_turn, IsGoing}
+use Rattle.hba_driver.proofs.Door.{none_issued, opens31, turn31, turn_addressed, turn_their}
 use Rattle.pm_world.specs.Places.{IsOrderly, Place, Places, Queue, is_config, new_world, with_host}
 use Rattle.pm_world.specs.Rules.{CameRule, DiskSendRule, DiskTakeRule, GoneRule, HostPushRule, HostTakeRule, InjectRule, OnDevice, OnDeviceAndMultiplier, Outcome, PmDownRule, PmFromDeviceRule, PmFromHostRule, PmPresenceRule, PmUpRule, PollRule, PutRule, Rule, Run, SubmitRule, TickRule, recorded}
 use Rattle.pm_world.specs.declared.link.Change.{Change}

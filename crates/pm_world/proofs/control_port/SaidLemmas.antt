@@ -8,7 +8,7 @@ use Rattle.fis_view.specs.Table.{Bits, C, Control, Count, D2h, Error, H2d, Lba, 
 use Rattle.fis_view.specs.declared.build.D2hFields.{D2hFields}
 use Rattle.fis_view.specs.declared.build.H2dFields.{H2dFields}
 use Rattle.fis_view.specs.declared.frame.Stamp.{Stamp}
-use Rattle.fis_view.proofs.MarkLemmas.{port_bits, port_field}
+use Rattle.fis_view.proofs.Door.{port_bits, port_field}
 use Rattle.hba_fbs.specs.Posting.{is_signature}
 use Rattle.hba_fbs.specs.Status.{is_busy, is_error}
 use Rattle.pm_registers.specs.RegisterMap.{RegisterMap, read_at}

@@ -10,8 +10,7 @@ use Rattle.multiplier.specs.Rules.{FromDeviceRule, FromHostRule, NextUpRule}
 use Rattle.multiplier.specs.Passing.{lost_from}
 use Rattle.multiplier.specs.Rules.{with_device as connected, without_device}
 use Rattle.multiplier.specs.State.{PmState, falling, held, next_place, passes_to, pm_port, port_at, with_port}
-use Rattle.multiplier.proofs.Gone.{left_is as stayed}
-use Rattle.multiplier.proofs.Ports.{other_port, this_port}
+use Rattle.multiplier.proofs.Door.{left_is as stayed, other_port, this_port}
 use Rattle.multiplier.specs.declared.multiplier.Passed.{Passed}
 use Rattle.multiplier.specs.declared.multiplier.Passed.TheVariants as passed
 use Rattle.hba_driver.specs.HostTurns.{Host}

@@ -11,7 +11,7 @@ use Rattle.multiplier.specs.Passing.{falls, lost_from}
 use Rattle.multiplier.specs.State.{PmState, falling, passes_to, port_at}
 use Rattle.multiplier.specs.declared.multiplier.Passed.{Passed}
 use Rattle.multiplier.specs.declared.multiplier.Passed.TheVariants as passed
-use Rattle.multiplier.proofs.Gone.{up_to_is}
+use Rattle.multiplier.proofs.Door.{up_to_is}
 use Rattle.pm_world.specs.Places.{IsOrderly, KnowsItsConnections, Places}
 use Rattle.pm_world.specs.Rules.{Rule, Run}
 use Rattle.pm_world.specs.Runs.{Telling, over}

@@ -8,13 +8,11 @@ use Rattle.fis_view.specs.Frames.{marked}
 use Rattle.disk_model.specs.Histories.{Received}
 use Rattle.disk_model.specs.Histories as history
 use Rattle.hba_driver.specs.HostTurns.{Does}
-use Rattle.hba_driver.proofs.anew.FlushLemmas.{flush_unreset}
+use Rattle.hba_driver.proofs.Door.{act_clears, flush_unreset}
 use Rattle.disk_recovery.specs.Flushes.{bare_floors}
-use Rattle.disk_recovery.proofs.flushes.FlushTurns.{since_begins}
-use Rattle.disk_recovery.proofs.honest.TurnLemmas.{none_issued}
-use Rattle.disk_model.proofs.AnewLemmas.{begins_anew}
+use Rattle.disk_recovery.proofs.Door.{flush_begins, flush_unfaulted, IsUnfaulted, none_issued, since_begins}
+use Rattle.disk_model.proofs.Door.{begins_anew}
 use Rattle.pm_world.proofs.serving.TouchedLemmas.{touched_served}
-use Rattle.disk_recovery.proofs.both_ends.Beginnings.{flush_begins}
 use Rattle.pm_world.specs.PathEnds.{IsAtHost}
 use Rattle.pm_world.proofs.honest.FlushLemmas.{flush_orders}
 use Rattle.pm_world.proofs.control_port.LineLemmas.{IsNow, opening_now, run_now}
@@ -36,7 +34,6 @@ use Rattle.hba_driver.specs.Events.{IsSoundHost}
 use Rattle.hba_driver.specs.HostTurns.{HostTurn, Ticked, sight_in}
 use Rattle.hba_driver.specs.Steady.{IsFlushTick}
 use Rattle.hba_driver.specs.Ticks.{due}
-use Rattle.hba_driver.proofs.ticks.ServeLemmas.{act_clears}
 use Rattle.pm_world.specs.Cleared.{is_cleared}
 use Rattle.pm_world.specs.Downward.{pushed_by}
 use Rattle.pm_world.specs.Places.{Places, is_config, new_world}
@@ -64,7 +61,6 @@ use Rattle.pm_world.proofs.upward.FrameMoves.{rule_moves}
 use Rattle.pm_world.proofs.meant.OrderLemmas.{Knows}
 use Rattle.pm_world.proofs.meant.OrderTurns.{opening_knows, order_step}
 use Rattle.pm_world.proofs.serving.TouchedLemmas.{GoesTouched, touched_over}
-use Rattle.disk_recovery.proofs.both_ends.Unfaulted.{IsUnfaulted, flush_unfaulted}
 use Rattle.pm_world.proofs.honest.UnfaultedLemmas.{step_unfaulted}
 
 -- ## Lists

@@ -14,7 +14,7 @@ use Rattle.slots.specs.declared.work.Work.{Work}
 use Rattle.hba_fbs.specs.declared.report.TakeReport.{TakeReport}
 use Rattle.hba_fbs.specs.Taking.{port_of}
 use Rattle.hba_fbs.specs.Views.{last_command, view_of}
-use Rattle.hba_fbs.proofs.SlotLemmas as slot_lemmas
+use Rattle.hba_fbs.proofs.Door as slot_lemmas
 use Rattle.disk_model.specs.declared.plan.DiskPlan.{DiskPlan}
 use Rattle.disk_model.specs.declared.request.Command.{Command}
 use Rattle.disk_model.specs.declared.unit.Unit.{Unit}
@@ -26,7 +26,7 @@ use Rattle.disk_model.specs.Ledger.{IsSize, Written, ledger, medium_with}
 use Rattle.disk_model.specs.Runs.{IsDiskRun, moment}
 use Rattle.disk_model.specs.Runs as runs
 use Rattle.disk_model.specs.Units.{StandsFor, plan_of}
-use Rattle.disk_model.proofs.MomentLemmas.{moment_after-append}
+use Rattle.disk_model.proofs.Door.{before_is_front, moment_after-append, writes_stay}
 use Rattle.hba_laws.specs.Agreement.{work_of_issue, work_of_transfer}
 use Rattle.hba_laws.specs.Client.{own}
 use Rattle.hba_laws.specs.Delivering.{completes_now, event_taken}
@@ -45,7 +45,7 @@ use Rattle.hba_driver.specs.Served.{IsIssueOf, IsOrdered, IsRequest, IsServed, I
 use Rattle.disk_simulation.specs.Honest.{IsDoneHonestly, IsOnMedium}
 use Rattle.disk_recovery.specs.Steady.{command_of}
 use Rattle.fis_view.specs.Frames.{marked}
-use Rattle.disk_recovery.proofs.each_end.HonestEnds.{each_end_is_honest}
+use Rattle.disk_recovery.proofs.Door.{each_end_is_honest, flushes_are_taken, request_kind, request_pio}
 use Rattle.pm_world.proofs.honest.EndsSteps.{HasEnds, running}
 use Rattle.pm_world.proofs.control_port.LineLemmas.{IsNow}
 use Rattle.pm_world.specs.Units.{LivesOn, MaySendAll}
@@ -61,13 +61,8 @@ use Rattle.pm_world.proofs.serving.TookLemmas.{host_takes, plain_frame}
 use Rattle.pm_world.proofs.serving.TouchedLemmas.{touched_delivers, touched_served, touched_sound}
 use Rattle.disk_model.specs.Fronts.{IsFront}
 use Rattle.disk_model.specs.Anew.{StayWritten}
-use Rattle.disk_model.proofs.FrontLemmas.{before_is_front}
-use Rattle.disk_model.proofs.WrittenLemmas.{writes_stay}
 use Rattle.disk_recovery.specs.Ends.{since_floor}
 use Rattle.disk_recovery.specs.Flushes.{Floor, flushes_taken, write_floors}
-use Rattle.disk_recovery.proofs.flushes.FlushEnds.{flushes_are_taken}
-use Rattle.disk_recovery.proofs.flushes.FlushTurns.{request_pio}
-use Rattle.disk_recovery.proofs.honest.FisLemmas.{request_kind}
 
 -- ## The disk's run
 

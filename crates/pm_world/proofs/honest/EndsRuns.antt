@@ -12,9 +12,9 @@ use Rattle.disk_model.specs.declared.unit.Unit.{Unit}
 use Rattle.disk_model.specs.Histories.{Happening, Plugged, Sent}
 use Rattle.disk_model.specs.Ledger.{IsSize}
 use Rattle.disk_model.specs.Runs.{IsDiskRun}
-use Rattle.disk_simulation.proofs.phases.FollowedLemmas.{run_to}
+use Rattle.disk_simulation.proofs.Door.{run_to}
 use Rattle.disk_recovery.specs.Flushes.{AreEndsSince, AreFloorsOf, Floor, IsFloor, bare_floors}
-use Rattle.disk_recovery.proofs.flushes.FlushTurns.{ends_since_go_on, floors_rise_since, floors_stay}
+use Rattle.disk_recovery.proofs.Door.{ends_since_go_on, floors_rise_since, floors_stay, none_in_slot, none_issued}
 use Rattle.hba_driver.specs.HostTurns.{Host, HostTurn}
 use Rattle.multiplier.specs.State.{port_at}
 use Rattle.pm_registers.specs.RegisterMap as registers
@@ -47,8 +47,7 @@ use Rattle.pm_world.proofs.honest.EndsSteps.{HasEnds, HasEndsOn, IsNoTurn, IsUnf
 use Rattle.pm_world.proofs.honest.ExactLemmas.{GoesExact, IsOpenFor, cleared_exact, open_at, open_step}
 use Rattle.pm_world.proofs.honest.FlushedLemmas.{unflushed}
 use Rattle.pm_world.proofs.honest.WaitingLemmas.{IsWaiting, all_sent, waits_on}
-use Rattle.disk_recovery.proofs.honest.TurnLemmas.{none_in_slot, none_issued}
-use Rattle.disk_model.proofs.AnewLemmas.{begins_anew}
+use Rattle.disk_model.proofs.Door.{begins_anew}
 use Rattle.hba_driver.specs.Steady.{IsAskedOf, IsSteady}
 use Rattle.pm_world.proofs.serving.HostLemmas.{HostOn}
 use Rattle.pm_world.proofs.serving.TouchedLemmas.{touched_served}

@@ -21,11 +21,10 @@ use Rattle.hba_driver.specs.declared.request.Request.{Request}
 use Rattle.hba_driver.specs.Events.{events_over, shared_by}
 use Rattle.hba_driver.specs.HostTurns.{DoesAll, Host, HostTurn, Polled, Pushed, Put, Submitted, Ticked, Took, Tooks}
 use Rattle.hba_driver.specs.Steady.{IsFlushTick}
-use Rattle.hba_driver.proofs.addresses.AddressLemmas.{turn_addressed}
-use Rattle.hba_driver.proofs.goes_on.GoingLemmas.{goes_on}
+use Rattle.hba_driver.proofs.Door.{goes_on, turn_addressed}
 use Rattle.disk_recovery.specs.Ends.{IsBesideTurn, IsRunning}
 use Rattle.disk_recovery.specs.Flushes.{AreEndsSince, EndsSinceAfter, Floor}
-use Rattle.disk_recovery.proofs.flushes.FlushTurns.{ends_since_go_on}
+use Rattle.disk_recovery.proofs.Door.{ends_since_go_on}
 use Rattle.pm_world.specs.Places.{Places, Queue}
 use Rattle.pm_world.specs.Rules.{Rule}
 use Rattle.pm_world.specs.HostTouches.{AreTouched, goes}

@@ -5,8 +5,7 @@ use Rattle.std.proofs.Common.{Ok}
 use Rattle.std.proofs.lemmas.Bool.{eq-eqb, true≢false}
 use Rattle.hba_driver.specs.declared.mode.Mode.TheVariants.{Switching}
 use Rattle.hba_driver.specs.Events.{IsSoundHost}
-use Rattle.hba_driver.proofs.events.SoundLemmas.{hosts_stay_sound}
-use Rattle.hba_driver.proofs.steady.SteadyTurns.{calm_or_flush}
+use Rattle.hba_driver.proofs.Door.{calm_or_flush, hosts_stay_sound}
 use Rattle.disk_model.specs.declared.unit.Unit.{Unit}
 use Rattle.pm_world.proofs.serving.FirstLemmas.{OpensWell, is_taken_of}
 use Rattle.pm_world.specs.Places.{Places, is_config, new_world}
@@ -21,7 +20,7 @@ use Rattle.pm_world.proofs.turns.Delivery.{sized}
 use Rattle.pm_world.proofs.turns.HostFold.{run_does}
 use Rattle.pm_world.proofs.upward.Law.{run_append}
 use Rattle.pm_world.specs.PortsGoOn.{PortGoesOn}
-use Rattle.disk_recovery.proofs.both_ends.Unfaulted.{IsUnfaulted, never_cleared}
+use Rattle.disk_recovery.proofs.Door.{IsUnfaulted, never_cleared}
 use Rattle.pm_world.proofs.honest.UnfaultedLemmas.{IsHeardUnfaulted}
 
 -- ## Steps

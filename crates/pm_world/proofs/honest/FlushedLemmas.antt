@@ -5,9 +5,8 @@ use Rattle.disk_model.specs.declared.unit.Unit.{Unit}
 use Rattle.hba_driver.specs.HostTurns.{Does, Host, Ticked, sight_in}
 use Rattle.hba_driver.specs.Steady.{IsFlushTick}
 use Rattle.hba_driver.specs.Ticks.{done_ended}
-use Rattle.hba_driver.proofs.events.DrivenLemmas.{not_below}
-use Rattle.hba_driver.proofs.ticks.DueLemmas.{Runs, runs_turn}
-use Rattle.disk_recovery.proofs.both_ends.Unfaulted.{opened_stays}
+use Rattle.hba_driver.proofs.Door.{not_below, Runs, runs_turn}
+use Rattle.disk_recovery.proofs.Door.{opened_stays}
 use Rattle.pm_world.specs.Places.{Places, is_config, new_world}
 use Rattle.pm_world.specs.Rules.{Rule, Run}
 use Rattle.pm_world.specs.declared.step.Answer.{Answer}

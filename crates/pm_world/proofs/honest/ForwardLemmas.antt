@@ -12,7 +12,7 @@ use Rattle.pm_registers.specs.Port.{bit_n, bit_x, controlled, det, inserted, is_
 use Rattle.pm_registers.specs.RegisterMap as map
 use Rattle.pm_registers.specs.RegisterMap.{RegisterMap, after_write, control_port, control_written, forwards, register_at, settled, summary}
 use Rattle.pm_registers.specs.RegisterMap.{with_port as with_registers, written}
-use Rattle.pm_registers.proofs.RegisterLemmas.{either}
+use Rattle.pm_registers.proofs.Door.{either}
 use Rattle.pm_control.specs.Answers.{registers_after_request}
 use Rattle.pm_control.specs.Requests.{request_in}
 use Rattle.pm_control.specs.declared.request.Request.{Request}

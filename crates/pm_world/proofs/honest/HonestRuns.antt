@@ -17,7 +17,7 @@ use Rattle.disk_model.specs.Runs.{IsDiskRun}
 use Rattle.disk_model.specs.Units.{plan_of}
 use Rattle.hba_driver.specs.declared.mode.Mode.TheVariants.{Switching}
 use Rattle.hba_driver.specs.HostTurns.{HostTurn}
-use Rattle.disk_simulation.proofs.phases.FollowedLemmas.{run_to}
+use Rattle.disk_simulation.proofs.Door.{run_to}
 use Rattle.pm_world.specs.Disks.{Before, DiskRun, EndedSince, FlushedSince, HonestDisks, IsLeftAlone, IsNewDisk, Since, WasSubmitted, disk_history, host_turns}
 use Rattle.pm_world.specs.Places.{IsOrderly, Places, is_config, new_world}
 use Rattle.pm_world.specs.Rules.{Rule, Run}
@@ -59,8 +59,8 @@ use Rattle.hba_driver.specs.declared.slot.Phase.TheVariants.{Waits}
 use Rattle.hba_driver.specs.declared.request.Request.{Request}
 use Rattle.hba_driver.specs.declared.request.Ticket.{Ticket}
 use Rattle.disk_recovery.specs.Flushes.{AreFloorsOf, Floor, IsFloor, bare_floor, bare_floors, floor_for, floor_of, flushes_taken}
-use Rattle.disk_recovery.proofs.flushes.FlushTurns.{floor_stays}
-use Rattle.hba_driver.proofs.accepted.AcceptLemmas as accept
+use Rattle.disk_recovery.proofs.Door.{floor_stays}
+use Rattle.hba_driver.proofs.Door as accept
 use Rattle.pm_world.proofs.reported.ReportedLemmas.{StoodIn, SubmittedIn, later_of, renamed, step_stood, submitted_over}
 use Rattle.pm_world.proofs.control_port.LineLemmas.{IsNow}
 

@@ -11,7 +11,7 @@ use Rattle.disk_model.specs.Anew.{IsRequest}
 use Rattle.disk_model.specs.Histories.{Happening, Plugged, Received, Sent}
 use Rattle.disk_model.specs.Requests.{request_of}
 use Rattle.disk_recovery.specs.Flushes.{asks_flush, flushes_taken, is_flush, one_if}
-use Rattle.disk_recovery.proofs.flushes.FlushLemmas.{flushes_more}
+use Rattle.disk_recovery.proofs.Door.{flushes_more}
 use Rattle.pm_world.specs.HonestEnds.{TookFlush}
 
 asks_it : (r : Request) → asks_flush r ≡ true → r ≡ asked.Flush

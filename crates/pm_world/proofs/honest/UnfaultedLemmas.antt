@@ -14,7 +14,7 @@ use Rattle.pm_world.specs.declared.step.Step.TheVariants as step
 use Rattle.pm_world.specs.declared.step.Answer.{Answer}
 use Rattle.pm_world.specs.declared.step.Answer.TheVariants as answer
 use Rattle.pm_world.proofs.turns.HostFold.{rule_does}
-use Rattle.disk_recovery.proofs.both_ends.Unfaulted.{AreUnfaulted, IsUnfaulted, turns_unfaulted}
+use Rattle.disk_recovery.proofs.Door.{AreUnfaulted, IsUnfaulted, turns_unfaulted}
 
 -- if the host takes a FIS of the device, no fault was heard
 abbrev pub IsHeardUnfaulted : ℕ → Answer → Type 0

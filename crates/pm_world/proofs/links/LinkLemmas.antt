@@ -8,7 +8,7 @@ use Rattle.ruled_links.specs.Links.{IsLink}
 use Rattle.pm_ports.specs.Port.{PortState, came_refusal as port_came_refusal, gone_refusal as port_gone_refusal, is_gone, left_in, only_if, with_connection, with_removal}
 use Rattle.multiplier.specs.Rules.{with_device as connected, without_device}
 use Rattle.multiplier.specs.State.{PmState, port_at}
-use Rattle.multiplier.proofs.Ports.{kept_part, other_port, this_port}
+use Rattle.multiplier.proofs.Door.{kept_part, other_port, this_port}
 use Rattle.pm_world.specs.Links.{GoesOnBut, without}
 use Rattle.pm_world.specs.Rules.{recorded}
 use Rattle.pm_world.specs.declared.link.Change.{Change}

@@ -16,9 +16,8 @@ use Rattle.multiplier.specs.Arbiter.{control_port}
 use Rattle.multiplier.specs.State.{PmState, port_at, rising, stamped}
 use Rattle.multiplier.specs.declared.multiplier.Passed.{Passed}
 use Rattle.multiplier.specs.declared.multiplier.Passed.TheVariants as passed
-use Rattle.multiplier.proofs.GiveLemmas.{Gives, FromPort, Notice, Answer as Answers, gives}
-use Rattle.multiplier.proofs.Ports.{at, has_up, kept_part, other_port, this_port}
-use Rattle.multiplier.proofs.PutBack.{gives_held}
+use Rattle.multiplier.proofs.Door.{Answer as Answers, at, FromPort, Gives, gives, gives_held, has_up, kept_part}
+use Rattle.multiplier.proofs.Door.{Notice, other_port, this_port}
 use Rattle.hba_driver.specs.HostTurns.{Host}
 use Rattle.hba_driver.specs.declared.request.Request.{Request}
 use Rattle.pm_world.specs.Downward.{times}

@@ -17,8 +17,8 @@ use Rattle.hba_driver.specs.Known.{is_request}
 use Rattle.hba_driver.specs.Queued.{IsCommandOf}
 use Rattle.hba_driver.specs.Submits.{new_entry}
 use Rattle.hba_driver.specs.Tended.{IsLiveAt}
-use Rattle.hba_driver.proofs.accepted.AcceptLemmas as accept
-use Rattle.hba_driver.proofs.known.AsksLemmas.{IsAsking, asking_opens}
+use Rattle.hba_driver.proofs.Door as accept
+use Rattle.hba_driver.proofs.Door.{asking_opens, IsAsking}
 use Rattle.multiplier.specs.State.{falling, port_at}
 use Rattle.pm_world.specs.Cleared.{PassesNone, is_up_from}
 use Rattle.pm_world.specs.Downward.{falling_to, fell_to, on_down_link, pushed_by}

@@ -16,11 +16,8 @@ use Rattle.hba_driver.specs.HostTurns.{Does, Host, HostTurn, Polled, Pushed, Put
 use Rattle.hba_driver.specs.Scans.{Finds, IsFound, ScansOn, found}
 use Rattle.hba_driver.specs.Slot31.{Asks, Fails, Follows31, IsAt31, IsNext31, MayBe31, Resets, Rests, Signs, Stage31, Stands31, TakesOn, TicksOn, Waits, is_idle, is_pending, is_quiet}
 use Rattle.hba_driver.specs.Slot31 as slot31
-use Rattle.hba_driver.proofs.addresses.AddressLemmas.{AreOfTheir, none_issued, turn_addressed}
-use Rattle.hba_driver.proofs.goes_on.GoingLemmas.{IsGoing, going_opens}
-use Rattle.hba_driver.proofs.goes_on.PageLemmas.{poll_plan}
-use Rattle.hba_driver.proofs.slot31.ScansTurns.{found_opens, scans_on}
-use Rattle.hba_driver.proofs.slot31.Turn31Lemmas.{opens31}
+use Rattle.hba_driver.proofs.Door.{AreOfTheir, found_opens, going_opens, IsGoing, none_issued, opens31, poll_plan}
+use Rattle.hba_driver.proofs.Door.{scans_on, turn_addressed}
 use Rattle.disk_model.specs.declared.unit.Unit.{Unit}
 use Rattle.pm_control.specs.Requests.{request_in}
 use Rattle.pm_registers.specs.Bits.{shares}

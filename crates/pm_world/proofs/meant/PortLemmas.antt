@@ -11,8 +11,7 @@ use Rattle.pm_registers.specs.declared.port.PortRegisters.{PortRegisters}
 use Rattle.pm_registers.specs.Port.{bit_n, bit_x, controlled, det, inserted, is_open, met, opened, opening_port, port_written, pscr, removed}
 use Rattle.pm_registers.specs.RegisterMap as map
 use Rattle.pm_registers.specs.RegisterMap.{RegisterMap, after_write, control_written, register_at, settled, summary, with_port as with_registers, written}
-use Rattle.pm_registers.proofs.LawLemmas.{summary_agrees}
-use Rattle.pm_registers.proofs.RegisterLemmas.{either}
+use Rattle.pm_registers.proofs.Door.{either, summary_agrees}
 use Rattle.pm_control.specs.Answers.{registers_after_request}
 use Rattle.pm_control.specs.declared.request.Request.{Request}
 use Rattle.pm_control.specs.declared.request.Request.TheVariants.{Write}

@@ -26,7 +26,7 @@ use Rattle.pm_control.specs.declared.request.Request.TheVariants.{Read, Write, U
 use Rattle.pm_registers.specs.Bits.{shares}
 use Rattle.pm_registers.specs.Port.{bit_x}
 use Rattle.pm_registers.specs.RegisterMap.{RegisterMap, asks, summary}
-use Rattle.pm_registers.proofs.BitLemmas.{bits_where_fits}
+use Rattle.pm_registers.proofs.Door.{bits_where_fits}
 use Rattle.pm_world.specs.Cleared.{clears_x}
 use Rattle.pm_world.proofs.control_port.SaidLemmas.{asks_end, asks_reset}
 use Rattle.pm_world.proofs.meant.PortLemmas.{WritesChanges}

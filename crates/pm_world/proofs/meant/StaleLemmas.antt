@@ -8,7 +8,7 @@ use Rattle.std.proofs.lemmas.Bool.{cases_Bool, cases_eq, false≢true, eq-eqb, e
 use Rattle.std.proofs.lemmas.Option.{same_Some}
 use Rattle.fis_view.specs.Frames.{Stamped, marked}
 use Rattle.fis_view.specs.Table.{C, Command, Count, H2d, field}
-use Rattle.fis_view.proofs.MarkLemmas.{is_marked_from}
+use Rattle.fis_view.proofs.Door.{is_marked_from}
 use Rattle.slots.specs.Slots.{match_some}
 use Rattle.slots.specs.declared.work.Kind.{Kind}
 use Rattle.slots.specs.declared.work.Kind.TheVariants.{Control}

@@ -9,7 +9,7 @@ use Rattle.disk_model.specs.Histories.{DiskOf, Happening}
 use Rattle.disk_model.specs.Ledger.{ledger, medium_with}
 use Rattle.disk_model.specs.Runs.{DiskStandsFor, IsDiskRun, moment}
 use Rattle.disk_model.specs.Units.{StandsFor, plan_of}
-use Rattle.disk_model.proofs.LawLemmas.{agrees}
+use Rattle.disk_model.proofs.Door.{agrees}
 use Rattle.hba_driver.specs.declared.mode.Mode.TheVariants.{Switching}
 use Rattle.pm_world.specs.Disks.{IsNewDisk}
 use Rattle.pm_world.specs.Media.{HasMedium, MediaAreOfWrites}

@@ -14,8 +14,7 @@ use Rattle.disk_model.specs.Histories.{DiskOf, Happening}
 use Rattle.disk_model.specs.Last.{LieOn, Lies, NoneCovers}
 use Rattle.disk_model.specs.Ledger.{IsSize, Written, ledger, medium_with}
 use Rattle.disk_model.specs.Runs.{DiskStandsFor, IsDiskRun, moment}
-use Rattle.disk_model.proofs.LastLemmas.{lie_on, shows_the_last}
-use Rattle.disk_model.proofs.LawLemmas.{agrees}
+use Rattle.disk_model.proofs.Door.{agrees, lie_on, shows_the_last}
 use Rattle.pm_world.proofs.honest.DisksLemmas.{part_front}
 use Rattle.hba_laws.specs.Client.{own}
 use Rattle.hba_laws.specs.History.{filled}

@@ -8,7 +8,7 @@ use Rattle.std.proofs.lemmas.Option.{slice_get-get_or}
 use Rattle.host_memory.specs.Memory.{client_start, is_memory_size}
 use Rattle.host_memory.specs.Place.{LiesInClient, place, total_of}
 use Rattle.host_memory.specs.declared.table.Prd.{Prd}
-use Rattle.host_memory.proofs.PlaceLemmas.{place_inside}
+use Rattle.host_memory.proofs.Door.{place_inside}
 use Rattle.slots.specs.Slots.{match_some}
 use Rattle.slots.specs.Work.{is_read as is_reading}
 use Rattle.hba_fbs.specs.Taking.{port_of}
@@ -18,8 +18,7 @@ use Rattle.hba_laws.specs.Delivering.{completes_now, event_taken}
 use Rattle.hba_laws.specs.History.{History, Transfer, completes, filled, issued}
 use Rattle.hba_laws.specs.Hosts as event
 use Rattle.hba_laws.specs.Sent.{AreGathered, HoldsWrites, IsWriting}
-use Rattle.hba_laws.proofs.gathered.GatherLemmas.{data_is_gathered}
-use Rattle.hba_laws.proofs.gathered.SentLemmas.{sent_stands_in_place}
+use Rattle.hba_laws.proofs.Door.{data_is_gathered, sent_stands_in_place}
 use Rattle.hba_driver.specs.declared.mode.Mode.TheVariants.{Switching}
 use Rattle.hba_driver.specs.declared.request.Request.{Request}
 use Rattle.hba_driver.specs.declared.request.Ticket.{Ticket}
@@ -33,13 +32,8 @@ use Rattle.hba_driver.specs.HostTurns.{Does, DoesAll, Host, HostTurn, Submitted,
 use Rattle.hba_driver.specs.Requests.{is_mismatch}
 use Rattle.hba_driver.specs.Served.{IsIssueOf, IsOrdered, IsRequest, IsServed, IsStep}
 use Rattle.hba_driver.specs.Submits.{end_of, new_entry}
-use Rattle.hba_driver.proofs.requests.ComeLemmas.{Fresh, comes_from}
-use Rattle.hba_driver.proofs.delivery.HeldLemmas.{turns_hold_writes}
-use Rattle.hba_driver.proofs.requests.HistoryLemmas.{each_run_keeps}
-use Rattle.hba_driver.proofs.delivery.InsideLemmas.{HaveGoodPrds, as_long, good_since, issue_inside}
-use Rattle.hba_driver.proofs.events.SoundLemmas.{hosts_stay_sound}
-use Rattle.hba_driver.proofs.requests.StandLemmas.{in_slots}
-use Rattle.hba_driver.proofs.calls.SubmitLemmas.{is_taken}
+use Rattle.hba_driver.proofs.Door.{as_long, comes_from, each_run_keeps, Fresh, good_since, HaveGoodPrds}
+use Rattle.hba_driver.proofs.Door.{hosts_stay_sound, in_slots, is_taken, issue_inside, turns_hold_writes}
 use Rattle.pm_world.specs.Places.{Places, is_config, new_world}
 use Rattle.pm_world.specs.Rules.{Run}
 use Rattle.pm_world.specs.Runs.{IsStepOf, over}

@@ -5,8 +5,8 @@ use Rattle.std.specs.Prelude.{if◌then◌else◌, is_none, slice_get, slice_set
 use Rattle.std.proofs.lemmas.Bool.{cases_eq, eq-eqb, true≢false}
 use Rattle.std.proofs.lemmas.Option.{same_Some}
 use Rattle.disk_model.specs.declared.unit.Unit.{Unit}
-use Rattle.multiplier.proofs.Gone.{not_up_to}
-use Rattle.multiplier.proofs.Ports as ports
+use Rattle.multiplier.proofs.Door as ports
+use Rattle.multiplier.proofs.Door.{not_up_to}
 use Rattle.multiplier.specs.Rules.{with_device as connected, without_device}
 use Rattle.multiplier.specs.State.{PmState, port_at}
 use Rattle.pm_ports.specs.Port.{PortState, came_refusal as port_came_refusal, gone_refusal as port_gone_refusal, with_connection, with_removal}

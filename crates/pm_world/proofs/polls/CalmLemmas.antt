@@ -28,9 +28,8 @@ use Rattle.hba_driver.specs.HostTurns.{Does, Host, HostTurn, Pushed, Submitted, 
 use Rattle.hba_driver.specs.Laws.{GoesOn}
 use Rattle.hba_driver.specs.Served.{IsOrdered, IsRequest, IsServed, IsStep, RunServes}
 use Rattle.hba_driver.specs.Steady.{slot_in}
-use Rattle.hba_driver.proofs.steady.BesideLemmas.{tick_beside}
-use Rattle.hba_driver.proofs.steady.SteadyTurns.{begun_calm, begun_slot}
-use Rattle.disk_recovery.proofs.honest.AwayLemmas.{CalmEnds, beside_away, calm_ends}
+use Rattle.hba_driver.proofs.Door.{begun_calm, begun_slot, tick_beside}
+use Rattle.disk_recovery.proofs.Door.{beside_away, calm_ends, CalmEnds}
 
 -- nothing is issued in slot s for device n
 abbrev pub IsFreed : (n s : ℕ) → Touches → Type 0

@@ -10,17 +10,14 @@ use Rattle.host_memory.specs.Memory.{Memory, client_start, is_memory_size}
 use Rattle.host_memory.specs.Place.{LiesInClient, place, total_of, written}
 use Rattle.host_memory.specs.Reading.{LieApart, share_with}
 use Rattle.host_memory.specs.declared.table.Prd.{Prd}
-use Rattle.host_memory.proofs.AgreeLemmas.{overwritten_beside}
-use Rattle.host_memory.proofs.OverlapLemmas.{list_any-true, share_with-true}
-use Rattle.host_memory.proofs.PlaceLemmas.{place_has}
-use Rattle.host_memory.proofs.WrittenLemmas.{written_elsewhere}
+use Rattle.host_memory.proofs.Door.{list_any-true, overwritten_beside, place_has, share_with-true, written_elsewhere}
 use Rattle.hba_fbs.specs.declared.report.TakeReport.{TakeReport}
 use Rattle.hba_fbs.specs.Taking.{port_of}
 use Rattle.hba_laws.specs.Client.{AreWithin, By, Filling, FillsWithin, IsWithin, Touches, client, filling, own}
 use Rattle.hba_laws.specs.Delivering.{by_device, event_taken, touches_after}
 use Rattle.hba_laws.specs.History as event
 use Rattle.hba_laws.specs.History.{Event, Transfer, issued}
-use Rattle.hba_laws.proofs.histories.StandLemmas.{filling_is, if_there}
+use Rattle.hba_laws.proofs.Door.{filling_is, if_there}
 use Rattle.slots.specs.Slots.{match_some}
 use Rattle.slots.specs.Work.{is_read as is_reading}
 use Rattle.hba_driver.specs.Delivered.{zero_at}
@@ -32,13 +29,9 @@ use Rattle.hba_driver.specs.Laws.{gives}
 use Rattle.hba_driver.specs.Paths.{reads_page}
 use Rattle.hba_driver.specs.Requests.{in_use, is_used_by, share_bytes}
 use Rattle.hba_driver.specs.Served.{IsIssueOf, IsOrdered, IsRequest, IsServed, IsStep, RunServes}
-use Rattle.hba_driver.proofs.requests.HistoryLemmas.{lives_turn, none_gives}
-use Rattle.hba_driver.proofs.delivery.InsideLemmas.{as_long, tick_client}
-use Rattle.hba_driver.proofs.issued.ServedLemmas.{turns_serve}
-use Rattle.hba_driver.proofs.requests.StandLemmas.{in_slots}
-use Rattle.hba_driver.proofs.calls.SubmitLemmas.{none_conflict}
+use Rattle.hba_driver.proofs.Door.{as_long, begun_later, in_slots, lives_turn, none_conflict, none_gives, tick_client}
+use Rattle.hba_driver.proofs.Door.{turns_serve}
 use Rattle.pm_world.specs.HostTouches.{AreTouched, goes}
-use Rattle.hba_driver.proofs.steady.SteadyTurns.{begun_later}
 use Rattle.pm_world.proofs.polls.CalmLemmas.{IsFreed, turn_freed}
 use Rattle.pm_world.proofs.serving.TouchedLemmas.{AreKept, touched_kept, touched_served, touched_sound}
 

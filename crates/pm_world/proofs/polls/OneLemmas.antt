@@ -14,7 +14,7 @@ use Rattle.hba_driver.specs.declared.slot.Phase.TheVariants.{Waits}
 use Rattle.hba_driver.specs.Drivers.{Driver, Entry, entry_at, has_ended_in, rephased}
 use Rattle.hba_driver.specs.HostTurns.{Host, Ticks, sight_in}
 use Rattle.hba_driver.specs.Sights.{file_shown}
-use Rattle.hba_driver.proofs.ticks.ServeLemmas.{ticks_serve}
+use Rattle.hba_driver.proofs.Door.{ticks_serve}
 use Rattle.pm_world.specs.Cleared.{PassesNone, is_cleared, is_up_from}
 use Rattle.pm_world.specs.Downward.{fell_to}
 use Rattle.pm_world.specs.Places.{IsOrderly, Places, is_config, new_world}

@@ -39,13 +39,9 @@ use Rattle.hba_commands.specs.Requests.{request_of, work_of}
 use Rattle.host_memory.specs.declared.table.Prd.{Prd}
 use Rattle.hba_driver.specs.Requests.{is_mismatch}
 use Rattle.hba_driver.specs.Submits.{new_entry}
-use Rattle.hba_driver.proofs.accepted.AcceptLemmas as accept
-use Rattle.hba_driver.proofs.accepted.AcceptLemmas.{IsOnWay, way_opens}
-use Rattle.hba_driver.proofs.requests.HistoryLemmas.{PollFacts, each_run_keeps, poll_facts}
-use Rattle.hba_driver.proofs.delivery.InsideLemmas.{as_long}
-use Rattle.hba_driver.proofs.done.ReportLemmas.{AllStand, Stands}
-use Rattle.hba_driver.proofs.requests.StandLemmas.{in_slots}
-use Rattle.hba_driver.proofs.calls.SubmitLemmas.{is_taken}
+use Rattle.hba_driver.proofs.Door as accept
+use Rattle.hba_driver.proofs.Door.{AllStand, as_long, each_run_keeps, in_slots, is_taken, IsOnWay, poll_facts}
+use Rattle.hba_driver.proofs.Door.{PollFacts, Stands, way_opens}
 use Rattle.pm_world.specs.Places.{Places, is_config, new_world}
 use Rattle.pm_world.specs.Rules.{Rule, Run}
 use Rattle.pm_world.specs.Runs.{IsStepOf, over}

@@ -14,7 +14,7 @@ use Rattle.multiplier.specs.Arbiter.{control_port}
 use Rattle.multiplier.specs.Passing.{falls}
 use Rattle.multiplier.specs.State.{PmState, passes_to, port_at}
 use Rattle.multiplier.specs.declared.multiplier.Passed.TheVariants as passed
-use Rattle.multiplier.proofs.GiveLemmas.{Gives, FromPort, Notice, Answer as Answers, gives}
+use Rattle.multiplier.proofs.Door.{Answer as Answers, FromPort, Gives, gives, Notice}
 use Rattle.disk_model.specs.declared.unit.Unit.{Unit}
 use Rattle.hba_driver.specs.declared.mode.Mode.TheVariants.{Switching}
 use Rattle.pm_world.specs.Cleared.{is_cleared}

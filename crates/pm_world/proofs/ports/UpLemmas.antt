@@ -5,7 +5,7 @@ use Rattle.std.proofs.lemmas.Bool.{eqb-true}
 use Rattle.fis_view.specs.Frames.{Stamped}
 use Rattle.hba_fbs.specs.declared.report.TakeReport.{TakeReport}
 use Rattle.multiplier.specs.declared.multiplier.Passed.{Passed}
-use Rattle.multiplier.proofs.GiveLemmas.{gives}
+use Rattle.multiplier.proofs.Door.{gives}
 use Rattle.pm_world.specs.Cleared.{is_up_from}
 use Rattle.pm_world.specs.Places.{IsOrderly, Places, Queue}
 use Rattle.pm_world.specs.Rules.{CameRule, DiskSendRule, DiskTakeRule, GoneRule, InjectRule, PmDownRule, PmFromDeviceRule, PmPresenceRule, Rule}

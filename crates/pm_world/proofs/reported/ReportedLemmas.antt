@@ -16,9 +16,8 @@ use Rattle.hba_driver.specs.Drivers.{Entry, entry_at, has_ended_in, rephased}
 use Rattle.hba_driver.specs.Laws.{Goes}
 use Rattle.hba_driver.specs.HostTurns.{DoesAll, Host, HostTurn, Pushed, Submitted, Took}
 use Rattle.hba_driver.specs.Submits.{new_entry}
-use Rattle.hba_driver.proofs.accepted.AcceptLemmas.{IsOnWay, way_turn}
-use Rattle.hba_driver.proofs.requests.ComeLemmas.{Fresh, comes_from}
-use Rattle.hba_driver.proofs.done.ReportLemmas.{AllStand, Reports, all_wider, turn_stands}
+use Rattle.hba_driver.proofs.Door.{all_wider, AllStand, comes_from, free_other, Fresh, IsOnWay, Reports, turn_stands}
+use Rattle.hba_driver.proofs.Door.{way_turn}
 use Rattle.pm_world.specs.Places.{Places}
 use Rattle.pm_world.specs.Rules.{CameRule, DiskSendRule, DiskTakeRule, GoneRule, InjectRule, PmDownRule, PmFromDeviceRule, PmPresenceRule, Rule, Run}
 use Rattle.pm_world.specs.Turns.{turn_of}
@@ -30,7 +29,6 @@ use Rattle.pm_world.proofs.turns.HostFold.{rule_does}
 use Rattle.pm_world.proofs.steps.Steps.{at_both, at_device}
 use Rattle.pm_world.specs.Runs.{IsStepOf, Telling, over}
 use Rattle.pm_world.specs.Units.{happens}
-use Rattle.hba_driver.proofs.requests.HistoryLemmas.{free_other}
 
 -- ## Steps of a run
 

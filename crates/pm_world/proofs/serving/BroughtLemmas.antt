@@ -17,7 +17,7 @@ use Rattle.hba_driver.specs.Delivered.{IsAtItsPlace, TookDelivers}
 use Rattle.hba_driver.specs.Events.{shared_by}
 use Rattle.hba_driver.specs.HostTurns.{Host}
 use Rattle.disk_simulation.specs.Honest.{BroughtSectors}
-use Rattle.disk_simulation.proofs.together.TogetherLemmas.{no_end, not_pio}
+use Rattle.disk_simulation.proofs.Door.{no_end, not_pio}
 use Rattle.pm_world.specs.Brought.{IsBrought}
 use Rattle.disk_simulation.specs.Same.{SlotCommand}
 

@@ -24,7 +24,7 @@ use Rattle.hba_driver.specs.Events.{shared_by}
 use Rattle.hba_driver.specs.HostTurns.{HostTurn}
 use Rattle.hba_driver.specs.Steady.{IsCalmTick, IsFlushTick}
 use Rattle.disk_simulation.specs.Hosted.{IsKept}
-use Rattle.disk_simulation.proofs.anew.HostedLemmas.{hosted_is_kept}
+use Rattle.disk_simulation.proofs.Door.{hosted_is_kept}
 use Rattle.pm_world.specs.Places.{Places}
 use Rattle.pm_world.specs.Rules.{Rule}
 use Rattle.pm_world.specs.Turns.{IsOfItsPort, turn_of}

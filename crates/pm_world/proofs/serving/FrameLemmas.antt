@@ -30,8 +30,8 @@ use Rattle.hba_laws.specs.Client.{Touches}
 use Rattle.hba_laws.specs.Hosts as event
 use Rattle.hba_laws.specs.Hosts.{Does, Flushed, Gave, HostEvent, Put, Rewrote, Runs, Stored, TakesFrame, Took, Wrote}
 use Rattle.hba_laws.specs.Sound.{AreHosts, IsHost}
-use Rattle.hba_laws.proofs.isolation.OutgoingLemmas as outgoing_lemmas
-use Rattle.hba_laws.proofs.placed.SpareLemmas.{gives_commands}
+use Rattle.hba_laws.proofs.Door as outgoing_lemmas
+use Rattle.hba_laws.proofs.Door.{gives_commands}
 use Rattle.hba_driver.specs.Events.{IsSoundHost, events_over, shared_by}
 use Rattle.hba_driver.specs.HostTurns.{Host, HostTurn, Pushes}
 use Rattle.pm_world.specs.HostTouches.{AreTouched, goes, opens}

@@ -22,9 +22,7 @@ use Rattle.hba_driver.specs.Steady.{IsCalmTick, IsFlushTick}
 use Rattle.disk_simulation.specs.Heard.{IsTakenWell}
 use Rattle.disk_simulation.specs.Joined.{IsShort}
 use Rattle.disk_recovery.specs.Kept.{CalmTurnsKeep, FlushOpens, IsCalmTurn, IsServedHonestly, OpensHonestly, PushesKeep, ServesOn, TakesKeep, given_to}
-use Rattle.disk_recovery.proofs.honest.PushLemmas.{pushes_keep}
-use Rattle.disk_recovery.proofs.honest.TakeLemmas.{takes_keep}
-use Rattle.disk_recovery.proofs.honest.TurnLemmas.{calm_turns_keep, flush_opens, opens_honestly}
+use Rattle.disk_recovery.proofs.Door.{calm_turns_keep, flush_opens, opens_honestly, pushes_keep, takes_keep}
 use Rattle.pm_world.specs.Places.{Places, Queue}
 use Rattle.pm_world.specs.Rules.{CameRule, DiskSendRule, DiskTakeRule, GoneRule, InjectRule, PmDownRule, PmFromDeviceRule, PmPresenceRule, Rule}
 use Rattle.pm_world.specs.Turns.{turn_of}

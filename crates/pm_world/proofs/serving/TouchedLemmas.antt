@@ -5,7 +5,7 @@ use Rattle.std.specs.Prelude.{true, slice_index}
 use Rattle.std.proofs.lemmas.List.{append-nil, get_or-replicate, length-replicate}
 use Rattle.host_memory.specs.Memory.{client_start, is_memory_size, zeros}
 use Rattle.host_memory.specs.Place.{LiesInClient, place}
-use Rattle.host_memory.proofs.PlaceLemmas.{place_inside}
+use Rattle.host_memory.proofs.Door.{place_inside}
 use Rattle.slots.specs.Slots.{has_bit}
 use Rattle.hba_fbs.specs.declared.report.TakeReport.{TakeReport}
 use Rattle.hba_fbs.specs.Taking.{port_of}
@@ -15,19 +15,15 @@ use Rattle.hba_laws.specs.History.{Transfer}
 use Rattle.hba_laws.specs.Hosts as event
 use Rattle.hba_laws.specs.Hosts.{TakesFrame}
 use Rattle.hba_laws.specs.Sound as sound
-use Rattle.hba_laws.proofs.placed.ClientLemmas.{client_is_touched, data_is_within}
-use Rattle.hba_laws.proofs.completed.DoneLemmas.{done_is_completed}
-use Rattle.hba_laws.proofs.placed.ReadLemmas.{done_reads_stand}
-use Rattle.hba_laws.proofs.placed.SpareLemmas.{spared_tables_read}
+use Rattle.hba_laws.proofs.Door.{client_is_touched, data_is_within, done_is_completed, done_reads_stand}
+use Rattle.hba_laws.proofs.Door.{spared_tables_read}
 use Rattle.hba_driver.specs.declared.mode.Mode.TheVariants.{Switching}
 use Rattle.hba_driver.specs.Delivered.{IsAtItsPlace, TookDelivers, zero_at}
 use Rattle.hba_driver.specs.Events.{IsSoundHost, events_over, opening_host, shared_by}
 use Rattle.hba_driver.specs.HostTurns.{Does, DoesAll, Host, HostTurn, Took}
 use Rattle.hba_driver.specs.Served.{IsIssueOf, IsServed, RunServes}
 use Rattle.hba_driver.specs.Submits.{end_of}
-use Rattle.hba_driver.proofs.delivery.InsideLemmas.{HaveGoodPrds, as_long, good_since, issue_inside}
-use Rattle.hba_driver.proofs.issued.ServedLemmas.{turns_serve}
-use Rattle.hba_driver.proofs.events.SoundLemmas.{hosts_stay_sound}
+use Rattle.hba_driver.proofs.Door.{as_long, good_since, HaveGoodPrds, hosts_stay_sound, issue_inside, turns_serve}
 use Rattle.pm_world.proofs.turns.HostFold.{does-append}
 use Rattle.pm_world.specs.HostTouches.{AreTouched, goes, opens}
 

@@ -20,8 +20,8 @@ use Rattle.multiplier.specs.Rules.{with_device as connected, without_device}
 use Rattle.multiplier.specs.declared.given.Source.TheVariants as source
 use Rattle.multiplier.specs.declared.multiplier.Passed.{Passed}
 use Rattle.multiplier.specs.declared.multiplier.Passed.TheVariants as passed
-use Rattle.multiplier.proofs.Gone.{still_up_to}
-use Rattle.multiplier.proofs.Ports as ports
+use Rattle.multiplier.proofs.Door as ports
+use Rattle.multiplier.proofs.Door.{still_up_to}
 use Rattle.hba_driver.specs.declared.mode.Mode.{Mode}
 use Rattle.pm_world.specs.DevicePaths.{ReachedAreOrderly}
 use Rattle.pm_world.specs.Places.{KnowsItsConnections, Places, Place, Queue, IsOrderly, is_config, new_world_in, opening, with_device, with_multiplier, with_upward, with_downward, with_host}

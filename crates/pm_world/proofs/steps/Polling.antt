@@ -2,7 +2,7 @@
 use Rattle.std.proofs.Common.{◌≡◌, ℕ, true, List, Option, Some, None, refl}
 use Rattle.std.specs.Prelude.{slice_set}
 use Rattle.slots.specs.Slots.{match_some}
-use Rattle.slots.proofs.MaskLemmas.{lowest_is}
+use Rattle.slots.proofs.Door.{lowest_is}
 use Rattle.hba_driver.specs.Drivers.{Driver, Entry, entry_at, has_ended, has_ended_in, holds}
 use Rattle.hba_driver.specs.Submits.{after_poll, completed, completion_at, completion_of, lowest_ended}
 use Rattle.hba_driver.specs.declared.slot.Head.{Head}

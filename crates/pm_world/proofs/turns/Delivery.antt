@@ -5,7 +5,7 @@ use Rattle.host_memory.specs.Memory.{is_memory_size}
 use Rattle.hba_driver.specs.declared.mode.Mode.{Mode}
 use Rattle.hba_driver.specs.Delivered.{HasCome, touches_of}
 use Rattle.hba_driver.specs.HostTurns.{Does, DoesAll, Host, HostTurn, Took}
-use Rattle.hba_driver.proofs.delivery.DeliveredLemmas.{turns_deliver}
+use Rattle.hba_driver.proofs.Door.{turns_deliver}
 use Rattle.pm_world.specs.IssuedApart.{AreKeptApart, IsApart, IsKeptApart, KeepsApart}
 use Rattle.pm_world.specs.Delivery.{Delivers, EachDelivers, HasDelivered, Tells}
 use Rattle.pm_world.specs.Places.{Places, is_config, new_world_in, opening_host_in}

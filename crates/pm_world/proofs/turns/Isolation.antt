@@ -1,13 +1,11 @@
 -- For the field `isolates` of `laws`. Over every run each device is isolated.
 use Rattle.std.proofs.Common.{List, length}
 use Rattle.hba_laws.specs.Isolation.{AreOfDevices}
-use Rattle.hba_laws.proofs.isolation.AlikeLemmas.{histories_by_own}
-use Rattle.hba_laws.proofs.isolation.IsolationLemmas.{fold_of_own}
+use Rattle.hba_laws.proofs.Door.{fold_of_own, histories_by_own}
 use Rattle.hba_driver.specs.declared.mode.Mode.{Mode}
 use Rattle.hba_driver.specs.Events.{AreEvents, IsSoundHostIn, events_over, shared_by}
 use Rattle.hba_driver.specs.HostTurns.{DoesAll, Host, HostTurn}
-use Rattle.hba_driver.proofs.events.SoundLemmas.{hosts_stay_sound}
-use Rattle.hba_driver.proofs.events.TurnLemmas.{each_run_tells, turns_are_events}
+use Rattle.hba_driver.proofs.Door.{each_run_tells, hosts_stay_sound, turns_are_events}
 use Rattle.pm_world.specs.Isolation.{AreFoldsOfOwn, AreHistoriesOfOwn, AreIsolated, Isolates}
 use Rattle.pm_world.specs.Places.{Places, new_world_in, opening_host_in}
 use Rattle.pm_world.specs.Rules.{Run}

@@ -11,8 +11,7 @@ use Rattle.hba_driver.specs.declared.request.Ticket.{Ticket}
 use Rattle.hba_driver.specs.HostTurns.{DoesAll, Host, HostTurn, Took, Pushed, Ticked, Submitted, Polled, Put, given_in, polled_in}
 use Rattle.hba_driver.specs.HostTurns.{polled_by as turn_polls}
 use Rattle.hba_driver.specs.Laws.{AreOnce, TurnsKeep}
-use Rattle.hba_driver.proofs.requests.HistoryLemmas.{each_run_keeps}
-use Rattle.hba_driver.proofs.events.SoundLemmas.{hosts_stay_sound}
+use Rattle.hba_driver.proofs.Door.{each_run_keeps, hosts_stay_sound}
 use Rattle.pm_world.specs.Places.{Places, new_world_in, opening_host_in}
 use Rattle.pm_world.specs.Rules.{CameRule, GoneRule, DiskSendRule, InjectRule, DiskTakeRule, PmPresenceRule, PmFromDeviceRule, PmDownRule, Rule, Run}
 use Rattle.pm_world.specs.Runs.{over}

@@ -4,8 +4,7 @@ use Rattle.std.specs.Prelude.{Ok}
 use Rattle.host_memory.specs.Memory.{is_memory_size}
 use Rattle.hba_driver.specs.declared.mode.Mode.{Mode}
 use Rattle.hba_driver.specs.HostTurns.{Does, DoesAll, Host, HostTurn, Polled}
-use Rattle.hba_driver.proofs.accepted.AcceptLemmas.{writes_are_accepted}
-use Rattle.hba_driver.proofs.done.TrueLemmas.{done_is_true}
+use Rattle.hba_driver.proofs.Door.{done_is_true, writes_are_accepted}
 use Rattle.pm_world.specs.TrueAnswers.{EachIsTrue, IsTrue, TellsTruth}
 use Rattle.pm_world.specs.Places.{Places, new_world_in, opening_host_in}
 use Rattle.pm_world.specs.Rules.{Rule, Run}

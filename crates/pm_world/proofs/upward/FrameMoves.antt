@@ -14,9 +14,8 @@ use Rattle.multiplier.specs.Rules.{with_device as connected, without_device}
 use Rattle.multiplier.specs.State.{PmState, held as goes_next, next_place, passes_to, pm_port, port_at, rising, stamped, with_port}
 use Rattle.multiplier.specs.declared.multiplier.Passed.{Passed}
 use Rattle.multiplier.specs.declared.multiplier.Passed.TheVariants as passed
-use Rattle.multiplier.proofs.Gone.{not_up_to}
-use Rattle.multiplier.proofs.Removals.{apart}
-use Rattle.multiplier.proofs.Ports as ports
+use Rattle.multiplier.proofs.Door as ports
+use Rattle.multiplier.proofs.Door.{apart, not_up_to}
 use Rattle.hba_driver.specs.HostTurns.{Host}
 use Rattle.hba_driver.specs.declared.request.Request.{Request}
 use Rattle.pm_world.specs.Places.{KnowsItsConnections, Places, Place, Queue, IsOrderly, IsTold, frame_of, pushed, with_device, with_multiplier, with_upward, with_downward, with_host}

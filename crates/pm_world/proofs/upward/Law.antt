@@ -6,7 +6,7 @@ use Rattle.std.proofs.lemmas.List.{append-nil}
 use Rattle.fis_view.specs.Frames.{Stamped, marked}
 use Rattle.multiplier.specs.Arbiter.{control_port}
 use Rattle.multiplier.specs.State.{port_at, rising}
-use Rattle.multiplier.proofs.Gone.{up_to, up_to_is}
+use Rattle.multiplier.proofs.Door.{up_to, up_to_is}
 use Rattle.pm_world.specs.Laws.{FromEachWorld}
 use Rattle.pm_world.specs.Places.{Places, IsOrderly, IsTold}
 use Rattle.pm_world.specs.Rules.{Rule, Run}

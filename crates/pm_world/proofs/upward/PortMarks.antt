@@ -11,8 +11,7 @@ use Rattle.fis_view.specs.Frames.{Stamped, IsFrame, marked}
 use Rattle.fis_view.specs.Table.{Kind, Name, PmPort, D2h, Bits, places}
 use Rattle.fis_view.specs.declared.build.D2hFields.{D2hFields}
 use Rattle.fis_view.specs.declared.frame.Stamp.{Stamp}
-use Rattle.fis_view.proofs.FrameLemmas.{frame_bounds}
-use Rattle.fis_view.proofs.MarkLemmas.{port_bits, port_field, port_written}
+use Rattle.fis_view.proofs.Door.{frame_bounds, port_bits, port_field, port_written}
 use Rattle.disk_model.specs.declared.unit.Unit.{Unit as Device}
 use Rattle.pm_registers.specs.RegisterMap.{RegisterMap, after_notice}
 use Rattle.pm_registers.specs.declared.words.RegisterError.{RegisterError}
@@ -29,7 +28,7 @@ use Rattle.multiplier.specs.State.{PmState, control_stamp, counted, held, next_p
 use Rattle.multiplier.specs.declared.given.Source.TheVariants as source
 use Rattle.multiplier.specs.declared.multiplier.Passed.{Passed}
 use Rattle.multiplier.specs.declared.multiplier.Passed.TheVariants as passed
-use Rattle.multiplier.proofs.ArbiterLemmas.{served_below}
+use Rattle.multiplier.proofs.Door.{served_below}
 use Rattle.hba_fbs.specs.Taking.{Hears, heard_report, ignores, port_of}
 use Rattle.hba_fbs.specs.Views.{Port}
 use Rattle.hba_fbs.specs.declared.report.TakeReport.{TakeReport}

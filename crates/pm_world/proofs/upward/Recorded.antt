@@ -14,9 +14,9 @@ use Rattle.pm_ports.specs.declared.port.GoneError.TheVariants.{NotThere}
 use Rattle.pm_ports.specs.declared.port.PortError.TheVariants.{AlreadyThere, OldConnection}
 use Rattle.multiplier.specs.Arbiter.{control_port}
 use Rattle.multiplier.specs.State.{PmState, port_at, rising}
-use Rattle.multiplier.proofs.Gone.{up_to}
+use Rattle.multiplier.proofs.Door as ports
+use Rattle.multiplier.proofs.Door.{up_to}
 use Rattle.multiplier.specs.Rules.{with_device as connected, without_device}
-use Rattle.multiplier.proofs.Ports as ports
 use Rattle.pm_world.specs.Downward.{times}
 use Rattle.pm_world.specs.Links.{changed_by, is_recorded, on_presence}
 use Rattle.pm_world.specs.Places.{Places, Place, IsOrderly, is_config, new_world_in, opening, with_device, with_downward, with_host, with_multiplier, with_upward}

@@ -1,6 +1,6 @@
 use Rattle.std.proofs.Common.{length, subst, List}
 use Rattle.guest_bytes.specs.declared.moves.Move.{Move}
-use Rattle.hba_fbs.proofs.SendLemmas.{on_err}
+use Rattle.hba_fbs.proofs.Door.{on_err}
 use Rattle.ahci_port.specs.Sending.{AreFetched, MayBeMissed}
 use Rattle.ahci_port.proofs.GatherLemmas.{all_fetched, missed_next, one_more}
 use Rattle.ahci_port.proofs.sending.gather.Goals as goal

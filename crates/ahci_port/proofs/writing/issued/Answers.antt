@@ -1,6 +1,6 @@
 use Rattle.std.proofs.Common.{Bool, ℕ, arith, sym, ap, ◌∙◌}
 use Rattle.slots.specs.Slots.{mask_below}
-use Rattle.slots.proofs.MaskLemmas.{mask_none, mask_set, mask_same}
+use Rattle.slots.proofs.Door.{mask_none, mask_same, mask_set}
 use Rattle.hba_fbs.specs.Issuing.{is_busy}
 use Rattle.ahci_port.proofs.writing.issued.Goals.{then-is_issued, else-is_issued}
 use Rattle.ahci_port.proofs.writing.issued.Goals as goal

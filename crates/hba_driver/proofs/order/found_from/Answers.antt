@@ -1,6 +1,6 @@
 use Rattle.std.proofs.Common.{◌&&◌, nat_le, arith, sym, ◌∙◌, below_more}
 use Rattle.slots.specs.Slots.{has_bit}
-use Rattle.slots.proofs.MaskLemmas.{lowest_found, lowest_none}
+use Rattle.slots.proofs.Door.{lowest_found, lowest_none}
 use Rattle.hba_driver.proofs.order.found_from.Goals as goal
 
 pub returns-then-is_found-clause-value : goal.returns-then-is_found-clause-value

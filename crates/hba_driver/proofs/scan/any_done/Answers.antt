@@ -1,6 +1,6 @@
 use Rattle.std.proofs.Common.{arith, ap, sym, ◌∙◌, below_more}
 use Rattle.std.specs.Option.{is_some}
-use Rattle.slots.proofs.MaskLemmas.{lowest_found, lowest_none}
+use Rattle.slots.proofs.Door.{lowest_found, lowest_none}
 use Rattle.hba_driver.specs.Drivers.{entry_at, holds}
 use Rattle.hba_driver.specs.Ticks.{any_done, is_done}
 use Rattle.hba_driver.proofs.calls.ScanLemmas.{entry_read}

@@ -1,5 +1,5 @@
 use Rattle.std.proofs.Common.{not, ap, sym, ◌∙◌}
-use Rattle.host_memory.proofs.OverlapLemmas.{in_order_apart}
+use Rattle.host_memory.proofs.Door.{in_order_apart}
 use Rattle.hba_driver.proofs.span.have_overlap.Goals as goal
 
 pub returns-else-not-lie_in_order : goal.returns-else-not-lie_in_order

@@ -1,6 +1,6 @@
 use Rattle.std.proofs.Common.{arith, ap, sym, ◌∙◌, below_more}
 use Rattle.std.specs.Option.{is_some}
-use Rattle.slots.proofs.MaskLemmas.{lowest_found, lowest_none}
+use Rattle.slots.proofs.Door.{lowest_found, lowest_none}
 use Rattle.hba_fbs.specs.Issuing.{is_beside}
 use Rattle.hba_fbs.proofs.issue.any_beside.Goals as goal
 

@@ -2,7 +2,7 @@ use Rattle.std.proofs.Common.{◌≡◌, ◌<◌, Bool, ℕ, arith, sym, ap, ◌
 use Rattle.std.specs.Option.{is_some}
 use Rattle.port_errors.specs.Errors.{cause_of}
 use Rattle.slots.specs.Slots.{mask_below}
-use Rattle.slots.proofs.MaskLemmas.{mask_none, mask_set, mask_same, mask_fits}
+use Rattle.slots.proofs.Door.{mask_fits, mask_none, mask_same, mask_set}
 use Rattle.hba_fbs.proofs.sending.faulty_devices.Goals.{then-faulty, else-faulty}
 use Rattle.hba_fbs.proofs.sending.faulty_devices.Goals as goal
 

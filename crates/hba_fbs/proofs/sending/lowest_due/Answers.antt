@@ -1,5 +1,5 @@
 use Rattle.std.proofs.Common.{arith, sym, ◌∙◌}
-use Rattle.slots.proofs.MaskLemmas.{lowest_found, lowest_none}
+use Rattle.slots.proofs.Door.{lowest_found, lowest_none}
 use Rattle.hba_fbs.specs.Sending.{is_due}
 use Rattle.hba_fbs.proofs.sending.lowest_due.Goals as goal
 

@@ -1,7 +1,7 @@
 use Rattle.std.proofs.Common.{ℕ, Bool, arith, ap, sym, ◌∙◌, below_more}
 use Rattle.std.specs.Option.{is_none, is_some}
 use Rattle.slots.specs.Slots.{own_issue, slots_of}
-use Rattle.slots.proofs.MaskLemmas.{lowest_found, lowest_none}
+use Rattle.slots.proofs.Door.{lowest_found, lowest_none}
 use Rattle.hba_fbs.proofs.SlotLemmas.{own_at}
 use Rattle.hba_fbs.proofs.take.owns_none.Goals as goal
 

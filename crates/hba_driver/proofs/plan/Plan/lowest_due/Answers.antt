@@ -1,5 +1,5 @@
 use Rattle.std.proofs.Common.{arith, sym, ◌∙◌, below_more}
-use Rattle.slots.proofs.MaskLemmas.{lowest_found, lowest_none}
+use Rattle.slots.proofs.Door.{lowest_found, lowest_none}
 use Rattle.hba_driver.specs.Turns.{is_due}
 use Rattle.hba_driver.proofs.plan.Plan.lowest_due.Goals as goal
 

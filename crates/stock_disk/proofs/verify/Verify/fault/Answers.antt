@@ -5,7 +5,7 @@ use Rattle.disk_model.specs.declared.answer.Fault.TheVariants.{Failed}
 use Rattle.disk_model.specs.declared.plan.DiskPlan.{DiskPlan}
 use Rattle.disk_model.specs.Chunks.{fault_of, first_bad}
 use Rattle.disk_model.specs.Insides.{lower_bad}
-use Rattle.disk_model.proofs.BadLemmas.{lowest_is_first}
+use Rattle.disk_model.proofs.Door.{lowest_is_first}
 use Rattle.stock_disk.specs.Verifies.{as_read}
 use Rattle.stock_disk.specs.declared.verify.Verify.{Verify}
 use Rattle.stock_disk.proofs.verify.Verify.fault.Goals as goal
