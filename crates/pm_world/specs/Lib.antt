@@ -19,7 +19,6 @@ pub mod Line
 pub mod PortsGoOn
 pub mod PathEnds
 pub mod DevicePaths
-pub mod Brought
 pub mod HostTouches
 pub mod HonestEnds
 pub mod Disks

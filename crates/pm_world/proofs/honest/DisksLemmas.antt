@@ -53,7 +53,7 @@ use Rattle.pm_world.specs.Places.{Place, Places}
 use Rattle.pm_world.specs.Rules.{Rule}
 use Rattle.pm_world.specs.declared.step.Step.{Step}
 use Rattle.pm_world.specs.declared.step.Answer.TheVariants as answer
-use Rattle.pm_world.specs.Brought.{IsBrought, StandsThere}
+use Rattle.pm_world.proofs.serving.Brought.{IsBrought, StandsThere}
 use Rattle.pm_world.specs.ReadBack.{IsPart}
 use Rattle.pm_world.specs.HonestEnds.{EndsHonestly, ReadsSectors, StandsAt, WritesSectors}
 use Rattle.pm_world.proofs.serving.BroughtLemmas.{brought_there}

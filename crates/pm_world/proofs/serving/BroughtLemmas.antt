@@ -18,7 +18,7 @@ use Rattle.hba_driver.specs.Events.{shared_by}
 use Rattle.hba_driver.specs.HostTurns.{Host}
 use Rattle.disk_simulation.specs.Honest.{BroughtSectors}
 use Rattle.disk_simulation.proofs.Door.{no_end, not_pio}
-use Rattle.pm_world.specs.Brought.{IsBrought}
+use Rattle.pm_world.proofs.serving.Brought.{IsBrought}
 use Rattle.disk_simulation.specs.Same.{SlotCommand}
 
 -- what completes a queued command fills nothing
