@@ -12,7 +12,8 @@ pub use Rattle.hba_laws.proofs.histories.StepLemmas.{whole_is}
 pub use Rattle.hba_laws.proofs.histories.HearLemmas.{payload_is}
 pub use Rattle.hba_laws.proofs.histories.IssueLemmas.{asked_free, history_below, other_below, own_app, own_below_is}
 pub use Rattle.hba_laws.proofs.histories.IssueLemmas.{transfer_of, with_issued}
-pub use Rattle.hba_laws.proofs.histories.EventLemmas.{goes_out, GoesOut, histories_are_parts, own_one, step}
+pub use Rattle.hba_laws.proofs.histories.EventLemmas.{goes_out, histories_are_parts, own_one, step}
+unfoldable pub use Rattle.hba_laws.proofs.histories.EventLemmas.{GoesOut}
 pub use Rattle.hba_laws.proofs.isolation.OutgoingLemmas.{data_is, data_is_own, IsOrder, order_filled, order_is}
 pub use Rattle.hba_laws.proofs.isolation.OutgoingLemmas.{order_is_own}
 pub use Rattle.hba_laws.proofs.isolation.SlotLemmas.{keeps_fed, keeps_moved, keeps_sent, KeepsOwn}
@@ -22,8 +23,10 @@ pub use Rattle.hba_laws.proofs.completed.OnceLemmas.{completes_once}
 pub use Rattle.hba_laws.proofs.completed.DoneLemmas.{done_is_completed, opens_untold}
 pub use Rattle.hba_laws.proofs.placed.WithinLemmas.{the_transfer}
 pub use Rattle.hba_laws.proofs.placed.ClientLemmas.{client_is_touched, data_is_within, histories_step}
-pub use Rattle.hba_laws.proofs.placed.SpareLemmas.{clear_none, falls_none, gives_commands, issued_before, NoneIssues}
-pub use Rattle.hba_laws.proofs.placed.SpareLemmas.{NotIssue, out_none, spared_tables_read, took_none, was_there}
+pub use Rattle.hba_laws.proofs.placed.SpareLemmas.{clear_none, falls_none, gives_commands, issued_before}
+unfoldable pub use Rattle.hba_laws.proofs.placed.SpareLemmas.{NoneIssues}
+pub use Rattle.hba_laws.proofs.placed.SpareLemmas.{out_none, spared_tables_read, took_none, was_there}
+unfoldable pub use Rattle.hba_laws.proofs.placed.SpareLemmas.{NotIssue}
 pub use Rattle.hba_laws.proofs.placed.ReadLemmas.{done_reads_stand}
 pub use Rattle.hba_laws.proofs.gathered.SentLemmas.{sent_stands_in_place}
 pub use Rattle.hba_laws.proofs.gathered.GatherLemmas.{data_is_gathered, order_quiet, quiet_holds, write_quiet}
