@@ -200,7 +200,7 @@ module _ (host : event.Host) (is : IsHost host) (read : CanBeRead host) where
 
   receiver_low : (dev : ℕ) → next_receiver host.port ≡ Some dev → dev < 16
   unfolding next_receiver
-  receiver_low dev h = (Rattle.slots.proofs.MaskLemmas.lowest_is (Rattle.hba_fbs.specs.Sending.is_due host.port.slots host.port.errors) 16 dev h).below
+  receiver_low dev h = (Rattle.slots.proofs.Door.lowest_is (Rattle.hba_fbs.specs.Sending.is_due host.port.slots host.port.errors) 16 dev h).below
 
   spares_port : SparesPort host
   spares_port = record { hears = hears; gives = out_spares (not (is_running host.port)) (next_receiver host.port) (next_to_send host.port) receiver_low }
