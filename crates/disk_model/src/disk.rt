@@ -7,6 +7,7 @@ ghost use Rattle.disk_model.specs.Disks.{opening, opening_medium, without};
 ghost use Rattle.disk_model.specs.Histories.{DiskOf};
 ghost use Rattle.disk_model.specs.Runs.{DiskStandsFor, disk_plan, is_size};
 
+mod quiet;
 mod receive;
 mod send;
 
@@ -15,6 +16,7 @@ use crate::device::Device;
 use crate::plan::DiskPlan;
 use crate::request::{Command, Request};
 use fis_view::{Fis, Frame, Stamp};
+pub use quiet::Due;
 use std::alloc::{AllocError, Global};
 use std::collections::VecDeque;
 use std::marker::Model;
@@ -184,7 +186,7 @@ impl Disk {
 impl Device for Disk {
     ghost use Rattle.disk_model.specs.Disks.{after};
     ghost use Rattle.disk_model.specs.Histories.{GoesOn, IsSilent, Plugged, Received, SendsNext};
-    ghost use Rattle.disk_model.specs.Insides.{HasTurn, WantsRoom};
+    ghost use Rattle.disk_model.specs.Insides.{Gives, HasTurn, WantsRoom};
     ghost use Rattle.disk_model.specs.Runs.{DiskMaySend, DiskStandsFor, disk_plan};
     ghost use Rattle.std.specs.Prelude.{IfNone, IfSome, IsOk, OnErr};
 
@@ -221,6 +223,7 @@ impl Device for Disk {
             IsSilent disk_plan DiskStandsFor DiskMaySend self.old)) }
         ensures same { IfOk result (λ out. IfNone out (self.new ≡ self.old)) }
         ensures err { OnErr result (self.new ≡ self.old) }
+        ensures gives { IfOk result (λ out. Gives self.old out self.new) }
         // it takes memory for a frame to send, and for nothing else
         ensures no_memory { OnErr result (HasTurn self.old) }
     {

@@ -7,6 +7,9 @@
 //! A [`Disk`] keeps sectors in memory and queues reads and writes by tag (native command queuing). A
 //! [`Scripted`] device sends what a script says. A [`Unit`] is one of the two.
 //!
+//! Who stands before a disk and speaks for it asks what the disk sends next, [`Disk::due`], and has it sent to
+//! nobody, [`Disk::drop_next`].
+//!
 //! The ledger of `specs/Ledger.antt` is what the FISes of a disk's run tell by themselves. Laws about every
 //! run tie the disk to it: [`medium_is_of_ended_writes`], [`reads_are_of_their_start`],
 //! [`setups_name_what_moves`], [`answers_each_command_once`], [`answers_commands_in_order`],
@@ -28,7 +31,7 @@ mod unit;
 
 pub use answer::{Fault, Page};
 pub use device::Device;
-pub use disk::{Disk, DiskError};
+pub use disk::{Disk, DiskError, Due};
 pub use laws::{
     answers_commands_in_order, answers_each_command_once, data_lies_where_it_is_put,
     disks_begin_anew, disks_in_reset_take_no_command, ends_tell_the_same, ends_tell_the_same_anew,
@@ -37,5 +40,6 @@ pub use laws::{
     reads_have_the_first_writes, setups_name_what_moves,
 };
 pub use plan::{DiskPlan, Order, Profile};
+pub use request::Command;
 pub use scripted::Scripted;
 pub use unit::Unit;

@@ -88,7 +88,7 @@ fn asking_frame(
 }
 
 /// A write with `left` chunks left, after `gone` FISes that ask for the first of them were sent.
-fn asked(command: Command, left: u32, gone: u8) -> Waiting
+pub(super) fn asked(command: Command, left: u32, gone: u8) -> Waiting
     ensures { result ≡ record { command = command; left = left; gone = gone } }
 {
     Waiting {
@@ -98,14 +98,14 @@ fn asked(command: Command, left: u32, gone: u8) -> Waiting
     }
 }
 
-fn zeros(alloc: Global, len: u32) -> Result<Vec<u8>, AllocError>
+pub(super) fn zeros(alloc: Global, len: u32) -> Result<Vec<u8>, AllocError>
     ensures { IfOk result (λ v. v.items ≡ replicate len 0) }
 {
     vec![in alloc; 0; len as usize]
 }
 
 /// The read after its next FIS, if that is not its last.
-fn moved_on(reading: Reading) -> Reading
+pub(super) fn moved_on(reading: Reading) -> Reading
     requires some { 0 < reading.left }
     requires more { reading.set_up ≡ true → 1 < reading.left }
     ensures { result ≡ moved reading }
@@ -132,7 +132,7 @@ fn moved_on(reading: Reading) -> Reading
 
 impl Disk {
     /// The command that starts next.
-    fn pick(&self) -> Option<Command>
+    pub(super) fn pick(&self) -> Option<Command>
         ensures { result ≡ picked self.now.plan.order self.now.now.queued }
     {
         match self.plan.order {
