@@ -1,17 +1,16 @@
 //! Tests as lists of steps: what is done with a host port, and what it answers then.
 //!
-//! A test that is a list has one assertion, so it is proved with little work.
+//! A list is data, and `play` has the only assertion. So a test is proved with little work.
 
+use super::fises::{answer, block, counting, data, register, setup};
 use super::rig::Rig;
-use super::sending::command;
-use super::taking::{answer, counting, data, issue, prd, reset, setup, unknown};
-use fis_view::{Frame, FrameError, Stamp};
+use fis_view::{Frame, FrameError, H2dFields, Stamp};
 use hba_fbs::{TakeReport, WriteError, Wrote};
+use host_memory::Prd;
 use port_errors::{DeviceCause, PortCause};
 use rx_area::Posted;
-use std::alloc::AllocError;
+use std::alloc::Global;
 use std::process::Abort;
-use std::test::Fail;
 
 /// A FIS of a device.
 #[derive(Clone, Copy)]
@@ -24,19 +23,42 @@ pub(super) enum Sent {
     Sector(u8, u8),
     /// The bytes 0, 1, .. 255, 0, .. as Data of device 3.
     Counting,
-    /// A FIS of an unknown type of a device.
-    Unknown(u8),
-    /// Any of 4 bytes.
-    Four([u8; 4]),
-    /// Any of 8 bytes.
-    Eight([u8; 8]),
-    /// Any of 20 bytes.
-    Twenty([u8; 20]),
+    /// The first bytes of a sector of Data of a device: how many after the first four.
+    Part(u8, u8, usize),
+    /// A PIO Setup with this byte 1, this E_Status and this transfer count.
+    Block(u8, u8, u16),
+    /// A Register FIS of device 2 with this Status, this Error, the lowest byte of Count and the three lowest of LBA.
+    Register(u8, u8, u8, [u8; 3]),
+    /// Any bytes.
+    Bytes(&'static [u8]),
+}
+
+/// What is told of a FIS.
+#[derive(Clone, Copy)]
+pub(super) enum Told {
+    /// It is ignored.
+    Ignored,
+    /// It is heard, and no more than posted.
+    Heard(Posted),
+    /// By it these slots become free.
+    Done(Posted, u32),
+    /// It makes its device faulty.
+    Faulty(Posted, DeviceCause),
+    /// It stops the port.
+    Stops(PortCause),
+    /// It brings a sector of a slot, from this offset on.
+    Brings(u8, u32),
+    /// It does so, and the slot becomes free.
+    BringsLast(u8, u32),
 }
 
 /// A step of a test.
 #[derive(Clone, Copy)]
 pub(super) enum Step {
+    /// The port opens anew, and runs with switching and its received area at 1000h.
+    Starts,
+    /// The port opens anew.
+    Opens,
     /// A value is written to an offset, and taken.
     Writes(u32, u32),
     /// A value is written to an offset, and refused with this error.
@@ -46,83 +68,87 @@ pub(super) enum Step {
     /// A FIS is taken, whatever the port makes of it.
     Takes(Sent),
     /// A FIS is taken, and this is told of it.
-    Tells(Sent, TakeReport),
-    /// A sector of Data of a device, all of whose bytes are this one, is taken and goes to these bytes of a slot.
-    Carries(u8, u8, Wrote),
+    Tells(Sent, Told),
+    /// A FIS makes its device faulty for this cause, moves nothing and ends nothing.
+    Fails(Sent, DeviceCause),
+    /// A FIS makes its device faulty for this cause and ends nothing.
+    Faults(Sent, DeviceCause),
+    /// A FIS is no fault, and by it these slots become free.
+    Ends(Sent, u32),
+    /// A sector of Data of a device, all of whose bytes are this one, goes to a slot, from this offset on.
+    Carries(u8, u8, u8, u32),
+    /// Device 2 brings so many runs of four bytes of its read in slot 0, with a gap after each, and none is a fault.
+    BringsRuns(u16),
     /// This many bytes, from this address of the client area on, are this one.
     Holds(usize, usize, u8),
     /// The byte at this address of the structure area is this one.
     Posts(usize, u8),
-    /// A command of a device, in this slot, of two sectors for this address, is issued and goes out.
-    Issues(u8, u8, u8, u32),
+    /// The byte at this address of host memory becomes this one.
+    Puts(u32, u8),
+    /// The byte at this address of the structure area becomes this one.
+    Spoils(usize, u8),
+    /// A command without data of a device is written to a slot, and not issued.
+    Lists(u8, u8),
+    /// A queued read of a device, of one sector, is written to a slot, its table to this address, and not issued.
+    ListsRead(u8, u8, u32),
+    /// A command of a device, in this slot, of this code and with these PRDs is issued and goes out.
+    Issues(u8, u8, u8, &'static [Prd]),
     /// A queued read of a device, in this slot, of two sectors for this address, is issued, goes out and is answered.
     Reads(u8, u8, u32),
     /// A command of a device, in this slot, that moves no data is issued.
     Queues(u8, u8),
     /// A Control of a device, in this slot, with SRST set is issued.
     QueuesControl(u8, u8),
-    /// A queued write of sector 8 of device 2, of 512 bytes, is issued in slot 0.
-    QueuesWrite,
+    /// A queued write of device 2, from sector 8 on, of this many sectors from 101000h on is issued in slot 0.
+    QueuesWrite(u16),
+    /// A command of device 2 in a slot, of this code, for sectors from 8 on, this many of them, is issued for 101000h.
+    Moves(u8, u8, u16),
+    /// The same of another device, for 104000h.
+    MovesOf(u8, u8, u8, u16),
+    /// A command of device 2 in slot 0 of this code, with this Count and room for so many sectors, is written there.
+    ListsOf(u8, u16, u32),
     /// A software reset of a device begins.
     Resets(u8),
-    /// The byte at this address of the structure area becomes this one.
-    Spoils(usize, u8),
     /// A device is flushed, and these of its slots become free.
     Flushes(u8, u32),
     /// Whether a device is in software reset.
     IsResetting(u8, bool),
     /// Whether a device is marked as signed.
     IsSigned(u8, bool),
-    /// The next frame begins with these three bytes, and its stamp is of its device and has this
-    /// number.
-    Gives(u32, [u8; 3]),
-    /// The same for all bytes of a command.
-    GivesCommand(u32, [u8; 20]),
+    /// No device is faulty, or device 2 alone for this cause. No cause stops the port.
+    Marks(Option<DeviceCause>),
+    /// Devices 2 and 4 are faulty for these causes, and no other device.
+    MarksBoth(DeviceCause, DeviceCause),
+    /// No device is faulty. This stopped the port.
+    IsStopped(Option<PortCause>),
+    /// The next frame begins with these bytes, and its stamp is of its device and has this number.
+    Gives(u32, &'static [u8]),
     /// The next frame is a sector of Data of device 2. These are its first and its last byte.
     GivesSector(u8, u8),
+    /// The next frame has this first byte, is for this device, and has so many bytes.
+    GivesOf(u8, u8, usize),
     /// No frame goes out.
     GivesNone,
 }
 
-/// What is told of a FIS that is heard and does no more than this.
-pub(super) fn told(dev: u8, posted: Posted) -> TakeReport {
-    TakeReport {
-        dev,
-        ignored: false,
-        posted,
-        fault: None,
-        stopped: None,
-        wrote: None,
-        done: 0,
+/// What a command of a device in a slot says.
+pub(super) fn command(dev: u8, command: u8, lba: u64, slot: u8) -> H2dFields {
+    let queued = command == 0x60 || command == 0x61;
+    H2dFields {
+        pm_port: dev,
+        c: command != 0,
+        command,
+        features: if queued { 1 } else { 0 },
+        lba,
+        device: if queued { 0x40 } else { 0 },
+        count: if queued { u16::from(slot) * 8 } else { 0 },
+        icc: 0,
+        control: if command == 0 { 4 } else { 0 },
     }
 }
 
-/// What is told of a FIS that is ignored.
-pub(super) fn ignored(dev: u8) -> TakeReport {
-    TakeReport {
-        ignored: true,
-        ..told(dev, Posted::Nothing)
-    }
-}
-
-/// What is told of a FIS by which these slots become free.
-pub(super) fn done(dev: u8, posted: Posted, done: u32) -> TakeReport {
-    TakeReport {
-        done,
-        ..told(dev, posted)
-    }
-}
-
-/// What is told of a FIS that makes its device faulty.
-pub(super) fn fault(dev: u8, posted: Posted, cause: DeviceCause) -> TakeReport {
-    TakeReport {
-        fault: Some(cause),
-        ..told(dev, posted)
-    }
-}
-
-/// A sector's bytes of a slot, from this number on.
-pub(super) fn sector_at(slot: u8, offset: u32) -> Wrote {
+/// A sector's bytes of a slot, from this offset on.
+fn sector_at(slot: u8, offset: u32) -> Wrote {
     Wrote {
         slot,
         offset,
@@ -130,25 +156,36 @@ pub(super) fn sector_at(slot: u8, offset: u32) -> Wrote {
     }
 }
 
-/// What is told of Data that goes to these bytes of a slot.
-pub(super) fn wrote(dev: u8, bytes: Wrote) -> TakeReport {
-    TakeReport {
-        wrote: Some(bytes),
-        ..told(dev, Posted::Nothing)
+/// All of what is told of a FIS of a device.
+fn report(dev: u8, told: Told) -> TakeReport {
+    let mut report = TakeReport {
+        dev,
+        ignored: false,
+        posted: Posted::Nothing,
+        fault: None,
+        stopped: None,
+        wrote: None,
+        done: 0,
+    };
+    match told {
+        Told::Ignored => report.ignored = true,
+        Told::Heard(posted) => report.posted = posted,
+        Told::Done(posted, done) => {
+            report.posted = posted;
+            report.done = done;
+        }
+        Told::Faulty(posted, cause) => {
+            report.posted = posted;
+            report.fault = Some(cause);
+        }
+        Told::Stops(cause) => report.stopped = Some(cause),
+        Told::Brings(slot, offset) => report.wrote = Some(sector_at(slot, offset)),
+        Told::BringsLast(slot, offset) => {
+            report.wrote = Some(sector_at(slot, offset));
+            report.done = 1_u32.wrapping_shl(u32::from(slot));
+        }
     }
-}
-
-/// What is told of a Data FIS without bytes.
-pub(super) fn without_bytes(dev: u8) -> TakeReport {
-    fault(dev, Posted::Nothing, DeviceCause::BadFis)
-}
-
-/// What is told of a DMA Activate of the control port, which stops the port.
-pub(super) fn stopping() -> TakeReport {
-    TakeReport {
-        stopped: Some(PortCause::BadControl),
-        ..told(15, Posted::Nothing)
-    }
+    report
 }
 
 fn is_frame(frame: &Frame, number: u32, begin: &[u8]) -> bool {
@@ -161,127 +198,275 @@ fn is_frame(frame: &Frame, number: u32, begin: &[u8]) -> bool {
     frame.bytes().starts_with(begin) && frame.stamp() == stamp
 }
 
-/// The next frame, asked for once more if memory was refused: it goes out then, with its number,
-/// once.
-fn at_last(rig: &mut Rig) -> Result<Option<Frame>, AllocError> {
-    match rig.next_out() {
-        Err(_) => rig.next_out(),
-        given => given,
-    }
-}
-
-fn gives(rig: &mut Rig, number: u32, begin: &[u8]) -> Result<bool, AllocError> {
-    match at_last(rig)? {
-        Some(frame) => Ok(is_frame(&frame, number, begin)),
-        None => Ok(false),
-    }
-}
-
 fn is_sector(frame: &Frame, first: u8, last: u8) -> bool {
     let bytes = frame.bytes();
-    bytes.len() == 516 && bytes.starts_with(&[0x46, 2, 0, 0, first]) && bytes[515] == last
+    bytes.len() == 516 && bytes.starts_with(&[0x46, 2, 0, 0, first]) && bytes.last() == Some(&last)
 }
 
-fn gives_sector(rig: &mut Rig, first: u8, last: u8) -> Result<bool, AllocError> {
-    match at_last(rig)? {
-        Some(frame) => Ok(is_sector(&frame, first, last)),
-        None => Ok(false),
+fn is_of(frame: &Frame, first: u8, dev: u8, len: usize) -> bool {
+    let bytes = frame.bytes();
+    bytes.len() == len && bytes.first() == Some(&first) && frame.pm_port() == dev
+}
+
+/// Whether a frame, if there is one, is what a step wants of it.
+fn is_wanted(frame: Option<&Frame>, step: Step) -> bool {
+    match (frame, step) {
+        (None, Step::GivesNone) => true,
+        (Some(frame), Step::Gives(number, begin)) => is_frame(frame, number, begin),
+        (Some(frame), Step::GivesSector(first, last)) => is_sector(frame, first, last),
+        (Some(frame), Step::GivesOf(first, dev, len)) => is_of(frame, first, dev, len),
+        _ => false,
     }
 }
 
-fn take_once(rig: &mut Rig, sent: Sent) -> Result<TakeReport, FrameError> {
+/// Whether this is told: this cause of a fault, these slots that became free, and that no byte was written.
+fn is_told(
+    told: Result<TakeReport, FrameError>,
+    cause: Option<DeviceCause>,
+    done: u32,
+    unwritten: bool,
+) -> bool {
+    match told {
+        Ok(report) => {
+            report.fault == cause
+                && report.stopped.is_none()
+                && report.done == done
+                && (report.wrote.is_none() || !unwritten)
+        }
+        Err(_) => false,
+    }
+}
+
+/// The device that sends a FIS.
+fn dev_of(sent: Sent) -> u8 {
     match sent {
-        Sent::Answer(dev) => rig.take(&answer(dev)),
-        Sent::Setup(dev, to_host, slot, offset, count) => {
-            rig.take(&setup(dev, to_host, slot, offset, count))
-        }
-        Sent::Sector(dev, byte) => rig.take(&data(dev, byte)),
-        Sent::Counting => rig.take(&counting()),
-        Sent::Unknown(dev) => rig.take(&unknown(dev)),
-        Sent::Four(fis) => rig.take(&fis),
-        Sent::Eight(fis) => rig.take(&fis),
-        Sent::Twenty(fis) => rig.take(&fis),
-    }
-}
-
-/// A FIS is taken, once more if memory was refused.
-fn takes(rig: &mut Rig, sent: Sent) -> Result<TakeReport, FrameError> {
-    match take_once(rig, sent) {
-        Err(_) => take_once(rig, sent),
-        told => told,
-    }
-}
-
-/// A queued read of two sectors is issued, goes out and is answered.
-pub(super) fn reads(
-    rt: &impl Abort,
-    rig: &mut Rig,
-    dev: u8,
-    slot: u8,
-    address: u32,
-) -> Result<(), Fail> {
-    issue(rt, rig, dev, slot, 0x60, &[prd(address, 1024)])?;
-    rig.take_all(&[&answer(dev)])?;
-    Ok(())
-}
-
-/// What is done with the port alone.
-fn acts(rt: &impl Abort, rig: &mut Rig, step: Step) -> Result<(), Fail> {
-    match step {
-        Step::Issues(dev, slot, command, address) => {
-            issue(rt, rig, dev, slot, command, &[prd(address, 1024)])?;
-        }
-        Step::Reads(dev, slot, address) => reads(rt, rig, dev, slot, address)?,
-        Step::Queues(dev, slot) => rig.issue(rt, slot, &command(dev, 0xE4, 0, slot), &[]),
-        Step::QueuesControl(dev, slot) => rig.issue(rt, slot, &command(dev, 0, 0, slot), &[]),
-        Step::QueuesWrite => rig.issue(rt, 0, &command(2, 0x61, 8, 0), &[prd(0x10_1000, 512)]),
-        Step::Resets(dev) => reset(rt, rig, dev)?,
-        Step::Spoils(at, byte) => rig.put_structure(at, byte),
-        _ => {}
-    }
-    Ok(())
-}
-
-/// Whether a step is as it says.
-fn passes(rt: &impl Abort, rig: &mut Rig, step: Step) -> Result<bool, Fail> {
-    acts(rt, rig, step)?;
-    match step {
-        Step::Writes(offset, value) => Ok(rig.write(offset, value) == Ok(())),
-        Step::Refuses(offset, value, error) => Ok(rig.write(offset, value) == Err(error)),
-        Step::Shows(offset, value) => Ok(rig.read(offset) == Some(value)),
-        Step::Takes(sent) => {
-            let _ = takes(rig, sent)?;
-            Ok(true)
-        }
-        Step::Tells(sent, report) => Ok(takes(rig, sent)? == report),
-        Step::Carries(dev, byte, bytes) => {
-            Ok(takes(rig, Sent::Sector(dev, byte))? == wrote(dev, bytes))
-        }
-        Step::Holds(at, count, byte) => Ok(rig.are(at, count, byte)),
-        Step::Posts(at, byte) => Ok(rig.structure_at(at) == Some(byte)),
-        Step::IsResetting(dev, is) => Ok(rig.resetting(rt, dev) == is),
-        Step::IsSigned(dev, is) => Ok(rig.signed(rt, dev) == is),
-        Step::Gives(number, begin) => Ok(gives(rig, number, &begin)?),
-        Step::GivesCommand(number, bytes) => Ok(gives(rig, number, &bytes)?),
-        Step::GivesSector(first, last) => Ok(gives_sector(rig, first, last)?),
-        Step::Flushes(dev, free) => Ok(rig.flush_device(rt, dev) == free),
-        Step::GivesNone => Ok(rig.next_out()?.is_none()),
-        _ => Ok(true),
+        Sent::Answer(second) | Sent::Setup(second, ..) | Sent::Sector(second, _) => second % 16,
+        Sent::Part(second, ..) | Sent::Block(second, ..) => second % 16,
+        Sent::Counting => 3,
+        Sent::Register(..) => 2,
+        Sent::Bytes([_, second, ..]) => *second % 16,
+        Sent::Bytes(_) => 0,
     }
 }
 
 impl Rig {
-    /// The number of the first step that is not as it says.
-    pub(super) fn first_failing(
-        &mut self,
-        rt: &impl Abort,
-        steps: &[Step],
-    ) -> Result<Option<usize>, Fail> {
-        for (i, step) in steps.iter().enumerate() {
-            if !passes(rt, self, *step)? {
-                return Ok(Some(i));
+    /// A FIS is taken, once more if memory was refused.
+    fn hears(&mut self, bytes: &[u8]) -> Result<TakeReport, FrameError> {
+        match self.take(bytes) {
+            Err(_) => self.take(bytes),
+            told => told,
+        }
+    }
+
+    fn hears_sent(&mut self, sent: Sent) -> Result<TakeReport, FrameError> {
+        match sent {
+            Sent::Answer(dev) => self.hears(&answer(dev)),
+            Sent::Setup(dev, to_host, slot, offset, count) => {
+                self.hears(&setup(dev, to_host, slot, offset, count))
+            }
+            Sent::Sector(dev, byte) => self.hears(&data(dev, byte)),
+            Sent::Counting => self.hears(&counting()),
+            Sent::Part(dev, byte, len) => {
+                let fis = data(dev, byte);
+                self.hears(fis.get(..len.saturating_add(4)).unwrap_or(&[]))
+            }
+            Sent::Block(second, ends, count) => self.hears(&block(second, ends, count)),
+            Sent::Register(status, error, count, lba) => {
+                self.hears(&register(2, status, error, count, lba))
+            }
+            Sent::Bytes(bytes) => self.hears(bytes),
+        }
+    }
+
+    fn tells(&mut self, sent: Sent, told: Told) -> bool {
+        self.hears_sent(sent) == Ok(report(dev_of(sent), told))
+    }
+
+    /// Whether this is told of bytes that come from a device.
+    pub(super) fn is_told(&mut self, bytes: &[u8], dev: u8, told: Told) -> bool {
+        self.hears(bytes) == Ok(report(dev, told))
+    }
+
+    fn brings_runs(&mut self, count: u16) -> bool {
+        for run in 0..count {
+            let setup = Sent::Setup(2, true, 0, run.wrapping_mul(8), 4);
+            let is_good = is_told(self.hears_sent(setup), None, 0, true)
+                && is_told(self.hears_sent(Sent::Part(2, 0x11, 4)), None, 0, false);
+            if !is_good {
+                return false;
             }
         }
-        Ok(None)
+        true
     }
+
+    /// Whether the next frame is what a step wants.
+    fn gives(&mut self, step: Step) -> bool {
+        match self.next_out() {
+            Ok(frame) => is_wanted(frame.as_ref(), step),
+            Err(_) => false,
+        }
+    }
+
+    /// A frame goes out.
+    pub(super) fn sends(&mut self) -> bool {
+        matches!(self.next_out(), Ok(Some(_)))
+    }
+
+    /// A command of a device is issued and goes out. A queued one moves two sectors if one PRD stands for it, and else
+    /// one.
+    pub(super) fn issues(&mut self, dev: u8, slot: u8, code: u8, prds: &[Prd]) -> bool {
+        let queued = code == 0x60;
+        let sectors = if prds.len() == 1 { 2 } else { 1 };
+        let fields = H2dFields {
+            features: if queued { sectors } else { 0 },
+            device: 0x40,
+            ..command(dev, code, 0x100, slot)
+        };
+        self.issue(slot, &fields, prds) && self.sends()
+    }
+
+    /// A queued read of two sectors is issued, goes out and is answered.
+    pub(super) fn reads(&mut self, dev: u8, slot: u8, address: u32) -> bool {
+        let prd = Prd {
+            address,
+            bytes: 1024,
+        };
+        self.issues(dev, slot, 0x60, &[prd]) && self.hears(&answer(dev)).is_ok()
+    }
+
+    fn queues_write(&mut self, sectors: u16) -> bool {
+        let fields = H2dFields {
+            features: sectors,
+            ..command(2, 0x61, 8, 0)
+        };
+        let prd = Prd {
+            address: 0x10_1000,
+            bytes: 512 * u32::from(sectors),
+        };
+        self.issue(0, &fields, &[prd])
+    }
+
+    fn marks_two(&self, second: Option<DeviceCause>, fourth: Option<DeviceCause>) -> bool {
+        let mut causes = [None; 16];
+        causes[2] = second;
+        causes[4] = fourth;
+        self.marks(&causes) && self.port_cause().is_none()
+    }
+
+    fn is_stopped(&self, cause: Option<PortCause>) -> bool {
+        self.marks(&[None; 16]) && self.port_cause() == cause
+    }
+
+    /// A command that moves as many sectors as its Count says.
+    fn moves(&mut self, dev: u8, slot: u8, code: u8, sectors: u16, address: u32) -> bool {
+        let fields = H2dFields {
+            count: sectors,
+            ..command(dev, code, 8, slot)
+        };
+        let bytes = 512 * u32::from(sectors);
+        self.issue(slot, &fields, &[Prd { address, bytes }])
+    }
+
+    fn lists(&mut self, code: u8, count: u16, sectors: u32) -> bool {
+        let fields = H2dFields {
+            count,
+            ..command(2, code, 8, 0)
+        };
+        let prd = Prd {
+            address: 0x10_1000,
+            bytes: 512 * (sectors % 0x1000),
+        };
+        self.write_slot(0, 0x2000, &fields, &[prd])
+    }
+
+    /// What is done with the slots, and whether it went well. Other steps do nothing here.
+    fn acts(&mut self, step: Step) -> bool {
+        match step {
+            Step::Starts => self.start(),
+            Step::Opens => self.open(),
+            Step::Spoils(at, byte) => self.put_structure(at, byte),
+            Step::Puts(address, byte) => return self.put_client(address, byte),
+            Step::Lists(dev, slot) => {
+                let table = 0x2000 + 0x1000 * u32::from(slot);
+                return self.write_slot(slot, table, &command(dev, 0xE4, 0, slot), &[]);
+            }
+            Step::ListsRead(dev, slot, table) => {
+                let prd = Prd {
+                    address: 0x10_1000,
+                    bytes: 512,
+                };
+                return self.write_slot(slot, table, &command(dev, 0x60, 0x100, slot), &[prd]);
+            }
+            Step::Issues(dev, slot, code, prds) => return self.issues(dev, slot, code, prds),
+            Step::Reads(dev, slot, address) => return self.reads(dev, slot, address),
+            Step::Queues(dev, slot) => return self.issue(slot, &command(dev, 0xE4, 0, slot), &[]),
+            Step::QueuesControl(dev, slot) => {
+                return self.issue(slot, &command(dev, 0, 0, slot), &[]);
+            }
+            Step::QueuesWrite(sectors) => return self.queues_write(sectors),
+            Step::Moves(slot, code, sectors) => {
+                return self.moves(2, slot, code, sectors, 0x10_1000);
+            }
+            Step::MovesOf(dev, slot, code, sectors) => {
+                return self.moves(dev, slot, code, sectors, 0x10_4000);
+            }
+            Step::ListsOf(code, count, sectors) => return self.lists(code, count, sectors),
+            Step::Resets(dev) => return self.resets(dev),
+            _ => {}
+        }
+        true
+    }
+
+    /// A software reset of a device begins.
+    pub(super) fn resets(&mut self, dev: u8) -> bool {
+        self.issue(0, &command(dev, 0, 0, 0), &[]) && self.sends()
+    }
+
+    /// Whether a step is as it says.
+    fn passes(&mut self, step: Step) -> bool {
+        match step {
+            Step::Writes(offset, value) => self.writes(offset, value),
+            Step::Refuses(offset, value, error) => self.write(offset, value) == Err(error),
+            Step::Shows(offset, value) => self.shows(offset, value),
+            Step::Takes(sent) => self.hears_sent(sent).is_ok(),
+            Step::Tells(sent, told) => self.tells(sent, told),
+            Step::Fails(sent, cause) => is_told(self.hears_sent(sent), Some(cause), 0, true),
+            Step::Faults(sent, cause) => is_told(self.hears_sent(sent), Some(cause), 0, false),
+            Step::Ends(sent, done) => is_told(self.hears_sent(sent), None, done, false),
+            Step::Carries(dev, byte, slot, offset) => {
+                self.tells(Sent::Sector(dev, byte), Told::Brings(slot, offset))
+            }
+            Step::BringsRuns(count) => self.brings_runs(count),
+            Step::Holds(at, count, byte) => self.are(at, count, byte),
+            Step::Posts(at, byte) => self.posts(at, byte),
+            Step::Flushes(dev, free) => self.flushes(dev, free),
+            Step::IsResetting(dev, is) => self.resetting(dev) == is,
+            Step::IsSigned(dev, is) => self.signed(dev) == is,
+            Step::Marks(cause) => self.marks_two(cause, None),
+            Step::MarksBoth(second, fourth) => self.marks_two(Some(second), Some(fourth)),
+            Step::IsStopped(cause) => self.is_stopped(cause),
+            Step::Gives(..) | Step::GivesSector(..) | Step::GivesOf(..) | Step::GivesNone => {
+                self.gives(step)
+            }
+            _ => self.acts(step),
+        }
+    }
+
+    /// The number of the first step that is not as it says.
+    pub(super) fn play(&mut self, steps: &[Step]) -> Option<usize> {
+        for (i, step) in steps.iter().enumerate() {
+            if !self.passes(*step) {
+                return Some(i);
+            }
+        }
+        None
+    }
+}
+
+/// Each step of a port that opened is as it says.
+pub(super) fn play(rt: &impl Abort, alloc: Global, steps: &[Step]) {
+    let Ok(mut rig) = Rig::new(alloc) else {
+        panic!(rt; "out of memory");
+    };
+    assert_eq!(rt; rig.play(steps), None, "the number of a step");
 }

@@ -2,11 +2,10 @@
 //! FISes of a device and what they do to PxTFD and PxIS. Linux 6.1 (drivers/ata) made what is written
 //! to PxFBS, PxSACT and PxCI, and the signatures.
 
+use super::fises::register;
 use super::rig::Rig;
-use super::taking::{answer, prd, reset};
-use fis_view::H2dFields;
-use std::process::Abort;
-use std::test::Fail;
+use super::steps::command;
+use host_memory::{MemoryError, Prd};
 
 /// PxIS.TFES, Task File Error Status.
 const TFES: u32 = 0x4000_0000;
@@ -406,120 +405,116 @@ fn bits_of(emulated: u32, asks: u32) -> u32 {
     }
 }
 
-/// Each FIS is taken by a port of its own: PxTFD and PxIS then.
-fn shows(rt: &impl Abort, rig: &Rig, file: u32, interrupts: u32, number: usize) {
-    let shown = [(0x20, file), (0x10, interrupts)];
-    assert_eq!(rt; rig.first_other(&shown), None, "{number}");
+/// A port of its own takes a FIS: PxTFD and PxIS then.
+fn is_told(rig: &mut Rig, row: &Row) -> bool {
+    let (fis, file, emulated) = *row;
+    rig.start();
+    let asks = u32::from(fis[1] & 0x40 != 0);
+    rig.take(&fis).is_ok() && rig.shows(0x20, file) && rig.shows(0x10, bits_of(emulated, asks))
 }
 
 #[test]
-fn registers_are_told(rt: HostRuntime) -> Result<(), Fail> {
+fn registers_are_told(rt: HostRuntime) -> Result<(), MemoryError> {
     let mut rig = Rig::new(rt.alloc())?;
     for (number, row) in REGISTERS.iter().enumerate() {
-        let (fis, file, emulated) = *row;
-        rig.start();
-        let _ = rig.take(&fis)?;
-        let asks = u32::from(fis[1] & 0x40 != 0);
-        shows(&rt, &rig, file, bits_of(emulated, asks), number);
+        assert!(rt; is_told(&mut rig, row), "{number}");
     }
     Ok(())
 }
 
 /// A PIO Setup that nothing asked for.
+fn is_fault(rig: &mut Rig, row: &Row) -> bool {
+    rig.start();
+    match rig.take(&row.0) {
+        Ok(report) => report.fault.is_some() && rig.shows(0x20, row.1),
+        Err(_) => false,
+    }
+}
+
 #[test]
-fn blocks_are_told(rt: HostRuntime) -> Result<(), Fail> {
+fn blocks_are_told(rt: HostRuntime) -> Result<(), MemoryError> {
     let mut rig = Rig::new(rt.alloc())?;
     for (number, row) in BLOCKS.iter().enumerate() {
-        let (fis, file, _) = *row;
-        rig.start();
-        let report = rig.take(&fis)?;
-        assert!(rt; report.fault.is_some(), "{number}");
-        assert_eq!(rt; rig.read(0x20), Some(file), "{number}");
+        assert!(rt; is_fault(&mut rig, row), "{number}");
     }
     Ok(())
 }
 
-/// A Register FIS of device 0 with this Status.
-fn status(status: u8) -> [u8; 20] {
-    let mut fis = answer(0);
-    fis[2] = status;
-    fis
+/// The same after a Register FIS of device 0 with this Status.
+fn are_told(rig: &mut Rig, row: &([u8; 8], u8, u32, u32)) -> bool {
+    let (fis, before, file, emulated) = *row;
+    rig.start();
+    rig.take(&register(0, before, 0, 0, [0, 0, 0])).is_ok()
+        && rig.take(&fis).is_ok()
+        && rig.shows(0x20, file)
+        && rig.shows(0x10, bits_of(emulated, 8))
 }
 
 #[test]
-fn bits_are_told(rt: HostRuntime) -> Result<(), Fail> {
+fn bits_are_told(rt: HostRuntime) -> Result<(), MemoryError> {
     let mut rig = Rig::new(rt.alloc())?;
     for (number, row) in BITS.iter().enumerate() {
-        let (fis, before, file, emulated) = *row;
-        rig.start();
-        rig.take_all(&[&status(before), &fis])?;
-        shows(&rt, &rig, file, bits_of(emulated, 8), number);
+        assert!(rt; are_told(&mut rig, row), "{number}");
     }
     Ok(())
 }
 
-/// A Register FIS with this value in Count and LBA.
-fn signature(value: u32) -> [u8; 20] {
-    let bytes = value.to_le_bytes();
-    let mut fis = answer(0);
-    fis[3] = 1;
-    fis[4] = bytes[1];
-    fis[5] = bytes[2];
-    fis[6] = bytes[3];
-    fis[12] = bytes[0];
-    fis
+/// Values in Count and LBA after a software reset, and whether the port takes the FIS as a signature. The driver
+/// looks only at LBA 15:8 and 23:16. The port also requires 01h in Count and LBA 7:0.
+static SIGNATURES: [(u32, bool); 5] = [
+    (0xABCD_0101, true),
+    (0, false),
+    (0x6996_0101, true),
+    (0x9669_0000, false),
+    (0x9669_0101, true),
+];
+
+/// Whether a Register FIS with this value ends a reset, and PxSIG shows it.
+fn is_signature(rig: &mut Rig, value: u32, ends: bool) -> bool {
+    let [count, low, middle, high] = value.to_le_bytes();
+    let fis = register(0, 0x50, 1, count, [low, middle, high]);
+    rig.start();
+    let is_taken = rig.resets(0)
+        && match rig.take(&fis) {
+            Ok(report) => report.ignored != ends,
+            Err(_) => false,
+        };
+    is_taken && rig.shows(0x24, if ends { value } else { 0xFFFF_FFFF })
 }
 
-/// PxSIG after a software reset, and whether the port takes the FIS as a signature. The driver looks
-/// only at LBA 15:8 and 23:16. The port also requires 01h in Count and LBA 7:0.
 #[test]
-fn signatures_are_told(rt: HostRuntime) -> Result<(), Fail> {
+fn signatures_are_told(rt: HostRuntime) -> Result<(), MemoryError> {
     let mut rig = Rig::new(rt.alloc())?;
-    for (value, ends) in [
-        (0xABCD_0101_u32, true),
-        (0, false),
-        (0x6996_0101, true),
-        (0x9669_0000, false),
-        (0x9669_0101, true),
-    ] {
-        rig.start();
-        reset(&rt, &mut rig, 0)?;
-        let report = rig.take(&signature(value))?;
-        assert_eq!(rt; report.ignored, !ends, "{value}");
-        let shown = if ends { value } else { 0xFFFF_FFFF };
-        assert_eq!(rt; rig.read(0x24), Some(shown), "{value}");
+    for (value, ends) in &SIGNATURES {
+        assert!(rt; is_signature(&mut rig, *value, *ends), "{value}");
     }
     Ok(())
 }
 
-/// A queued command of one sector, in the slot and for the device of a row.
-fn write_row(rt: &impl Abort, rig: &mut Rig, slot: u8, dev: u8, write: bool) {
-    let fields = H2dFields {
-        pm_port: dev,
-        c: true,
-        command: if write { 0x61 } else { 0x60 },
-        features: 1,
-        lba: 0,
-        device: 0x40,
-        count: u16::from(slot) * 8,
-        icc: 0,
-        control: 8,
+/// Whether a queued command of one sector, in the slot and for the device of a row, is issued as the driver does it.
+fn is_issued(rig: &mut Rig, row: &(u8, u8, bool, u32, u32)) -> bool {
+    let (slot, dev, write, switching, armed) = *row;
+    let mut fields = command(dev, if write { 0x61 } else { 0x60 }, 0, slot);
+    fields.control = 8;
+    let prd = Prd {
+        address: 0x10_1000,
+        bytes: 512,
     };
-    rig.write_slot(rt, slot, 0x2000, &fields, &[prd(0x10_1000, 512)]);
+    rig.start();
+    rig.write_slot(slot, 0x2000, &fields, &[prd])
+        && rig.writes(0x40, switching)
+        && rig.shows(0x40, switching)
+        && rig.writes(0x34, armed)
+        && rig.shows(0x40, switching)
+        && rig.writes(0x38, armed)
+        && rig.shows(0x38, armed)
 }
 
 #[test]
-fn commands_are_issued_as_by_a_driver(rt: HostRuntime) -> Result<(), Fail> {
+fn commands_are_issued_as_by_a_driver(rt: HostRuntime) -> Result<(), MemoryError> {
     let mut rig = Rig::new(rt.alloc())?;
-    for (slot, dev, write, switching, armed) in ISSUES {
-        rig.start();
-        write_row(&rt, &mut rig, slot, dev, write);
-        let rows = [
-            (0x40, switching, Ok(()), 0x40, switching),
-            (0x34, armed, Ok(()), 0x40, switching),
-            (0x38, armed, Ok(()), 0x38, armed),
-        ];
-        assert_eq!(rt; rig.first_wrong(&rows), None, "{slot}");
+    for (number, row) in ISSUES.iter().enumerate() {
+        assert!(rt; is_issued(&mut rig, row), "{number}");
     }
     Ok(())
 }
