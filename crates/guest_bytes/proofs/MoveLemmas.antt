@@ -10,7 +10,7 @@ use Rattle.guest_bytes.specs.declared.entry.Segment.{Segment}
 use Rattle.guest_bytes.specs.declared.moves.Move.{Move}
 use Rattle.guest_bytes.specs.Guest.{Single, single, singles_from, singles, total_of, place, named, Delivers, IsNamed, GoesOnlyToItsTable}
 use Rattle.guest_bytes.specs.Entries.{IsSegment}
-use Rattle.guest_bytes.specs.Moves.{moves_of, IsMove, HoldMoves, Fetches}
+use Rattle.guest_bytes.specs.Moves.{moves_at, moves_of, IsMove, HoldMoves, Fetches}
 
 -- ---- places
 
@@ -221,6 +221,27 @@ delivers_from table offset next skip len moves hold same is payload long =
 pub named_passed : (table : List Segment) (k skip : ℕ) (d : Segment) (bytes : List ℕ) → k < length table → (get_or table k d).bytes ≤ skip
     → named (drop k table) skip bytes ≡ named (drop (k + 1) table) (skip - (get_or table k d).bytes) bytes
 named_passed table k skip d bytes there past = ap (λ (t : List Segment). named t skip bytes) (drop_more table k d there) ∙ named_later (get_or table k d) (drop (k + 1) table) skip bytes past
+
+-- ---- which moves they are
+
+-- they begin in the first entry, if that has the byte at the offset
+moves_begin : (table : List Segment) (skip len : ℕ) → Begins table skip → moves_at table skip len ≡ moves_of table skip 0 len
+unfolding moves_at moves_of
+moves_begin [] skip len begins = refl
+moves_begin (s ∷ rest) skip len begins = cond-true (nat_lt skip s.bytes) (moves_of (s ∷ rest) skip 0 len) (moves_at rest (skip - s.bytes) len) (lt-ltb skip s.bytes begins)
+
+moves_later : (s : Segment) (rest : List Segment) (skip len : ℕ) → s.bytes ≤ skip → moves_at (s ∷ rest) skip len ≡ moves_at rest (skip - s.bytes) len
+unfolding moves_at
+moves_later s rest skip len h = cond-false (nat_lt skip s.bytes) (moves_of (s ∷ rest) skip 0 len) (moves_at rest (skip - s.bytes) len) (le-ltb skip s.bytes h)
+
+-- one entry is passed over
+pub moves_passed : (table : List Segment) (k skip len : ℕ) (d : Segment) → k < length table → (get_or table k d).bytes ≤ skip
+    → moves_at (drop k table) skip len ≡ moves_at (drop (k + 1) table) (skip - (get_or table k d).bytes) len
+moves_passed table k skip len d there past = ap (λ (t : List Segment). moves_at t skip len) (drop_more table k d there) ∙ moves_later (get_or table k d) (drop (k + 1) table) skip len past
+
+pub are_from : (table : List Segment) (offset next skip len : ℕ) (moves : List Move) → HoldMoves table next skip 0 len
+    → moves_at table offset len ≡ moves_at (drop next table) skip len → moves ≡ moves_of (drop next table) skip 0 len → moves ≡ moves_at table offset len
+are_from table offset next skip len moves hold left is = is ∙ sym (moves_begin (drop next table) skip len (begins_at table next skip 0 len hold)) ∙ sym left
 
 -- ---- where a byte goes
 

@@ -1,7 +1,7 @@
 -- The entries of a table as they are read: AHCI 1.3.1, section 4.2.3.3, Physical Region Descriptor Table. A
 -- guest's memory may change at any time. All that is known of it is what a read may give (may_read) and which
 -- reads may be refused (may_miss).
-use Rattle.std.specs.Prelude.{◌≡◌, ℕ, ◌+◌, ◌*◌, ◌%◌, ◌^◌, ◌<◌, ◌≤◌, ◌⊎◌, Bool, nat_lt, List, [], ◌∷◌}
+use Rattle.std.specs.Prelude.{◌≡◌, ℕ, ◌+◌, ◌*◌, ◌%◌, ◌^◌, ◌<◌, ◌≤◌, ◌⊎◌, Bool, false, nat_lt, List, [], ◌∷◌}
 use Rattle.std.specs.Prelude.{length, take, drop, All}
 use Rattle.byteorder.specs.Endian.{little_number}
 use Rattle.guest_bytes.specs.declared.entry.Segment.{Segment}
@@ -55,9 +55,11 @@ pub record GoesAsFar (count len : ℕ) (table : List Segment) : Type 0 where
   pub needed : IsNeeded len table
   pub far : (length table ≡ count) ⊎ (len ≤ total_of table)
 
--- these entries were read, and the transfer has bytes in the ones behind them
+-- these entries were read, no byte of them lies past the last address, and the transfer has bytes in the ones
+-- behind them
 pub record IsBegun (may_read : ℕ → List ℕ → Type 0) (at count len : ℕ) (table : List Segment) : Type 0 where
   pub read : AreRead may_read at table
+  pub are : All IsSegment table
   pub few : length table < count
   pub more : total_of table < len
 
@@ -68,12 +70,13 @@ pub record IsMissing (may_read : ℕ → List ℕ → Type 0) (may_miss : ℕ �
   pub begun : IsBegun may_read at count len table
   pub missed : may_miss (at + 16 * length table) 16
 
--- the entry after these was read, and is to be kept
+-- the entry after these was read, has no byte past the last address, and is to be kept
 pub record IsToKeep (may_read : ℕ → List ℕ → Type 0) (at count len : ℕ) : Type 0 where
   pub table : List Segment
   pub begun : IsBegun may_read at count len table
   pub segment : Segment
   pub is : IsEntryAt may_read (at + 16 * length table) segment
+  pub whole : passes_end segment ≡ false
 
 -- the entry after these has bytes past the last address
 pub record PassesEnd (may_read : ℕ → List ℕ → Type 0) (at count len : ℕ) : Type 0 where

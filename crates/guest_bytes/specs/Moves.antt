@@ -1,6 +1,6 @@
 -- A run of a transfer's bytes as moves, one for each entry of the table that it touches (AHCI 1.3.1,
 -- section 4.2.3.3, Physical Region Descriptor Table).
-use Rattle.std.specs.Prelude.{◌≡◌, ℕ, ◌+◌, ◌-◌, ◌^◌, ◌<◌, ◌≤◌, min, List, [], ◌∷◌, zero, suc}
+use Rattle.std.specs.Prelude.{◌≡◌, ℕ, ◌+◌, ◌-◌, ◌^◌, ◌<◌, ◌≤◌, min, nat_lt, if◌then◌else◌, List, [], ◌∷◌, zero, suc}
 use Rattle.std.specs.Prelude.{All, length, slice_get, Some, take, drop}
 use Rattle.guest_bytes.specs.declared.entry.Segment.{Segment}
 use Rattle.guest_bytes.specs.declared.moves.Move.{Move}
@@ -19,6 +19,13 @@ moves_of (s ∷ rest) skip done zero = []
 moves_of (s ∷ rest) skip done (suc n) =
     let len = min (s.bytes - skip) (suc n) in
     (record { at = s.address + skip; from = done; len = len }) ∷ moves_of rest 0 (done + len) (suc n - len)
+
+-- The moves of a payload of len bytes, of which the first is byte offset of the transfer. The entries that lie
+-- wholly before it have none.
+unfoldable pub moves_at : List Segment → (offset len : ℕ) → List Move
+moves_at [] offset len = []
+moves_at (s ∷ rest) offset len =
+    if nat_lt offset s.bytes then moves_of (s ∷ rest) offset 0 len else moves_at rest (offset - s.bytes) len
 
 -- what holds for every value: byte skip is in the first of the entries that are left
 pub record HoldMoves (segments : List Segment) (next skip done len : ℕ) : Type 0 where

@@ -4,7 +4,7 @@ ghost use Rattle.std.specs.Prelude.{◌≡◌, ◌+◌, ◌*◌, ◌<◌, ◌≤
 ghost use Rattle.std.specs.Result.{IsErrOf};
 ghost use Rattle.guest_bytes.specs.Guest.{Delivers, total_of};
 ghost use Rattle.guest_bytes.specs.Entries.{AreRead, IsTable, GoesAsFar, IsMissing, IsPastEnd, IsToKeep};
-ghost use Rattle.guest_bytes.specs.Moves.{HoldMoves, IsMove, moves_of};
+ghost use Rattle.guest_bytes.specs.Moves.{HoldMoves, IsMove, moves_at, moves_of};
 
 use crate::entry::{Segment, read_entry};
 use crate::guest::{Guest, NotThere};
@@ -84,6 +84,7 @@ impl GuestTable {
             → IsMissing (G.may_read guest.now) (G.may_miss guest.now) at count len }
         ensures past_end { IsErrOf result TableError.PastEnd
             → IsPastEnd (G.may_read guest.now) at count len }
+        ensures ends { 2 ^ 64 ≤ at + 16 * count → IsErrOf result TableError.PastEnd }
         ensures out_of_memory { IsErrOf result TableError.OutOfMemory
             → IsToKeep (G.may_read guest.now) at count len }
     {
@@ -131,6 +132,7 @@ impl GuestTable {
     /// on. Bytes past the end of the table go nowhere.
     pub fn moves(&self, offset: u64, len: usize) -> Moves<'_>
         ensures delivers { Delivers self.now offset len result }
+        ensures are { result ≡ moves_at self.now offset len }
         ensures each { All (IsMove len) result }
         ensures few { length result ≤ length self.now }
     {
