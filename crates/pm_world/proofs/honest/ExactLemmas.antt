@@ -421,7 +421,7 @@ exact_step n c below old new s a down up firm rule there stays clean met live x 
     let passes : passes_to old.multiplier n ≡ Some c = live_passes n c old met live in
     let t : TellsOf n c old s a new = tells_of n c old s a new there stays clean rule in
     let g : IsThere n c new × GoesOnPath n c old a new (happens n old s a new) down up =
-    unit_paths_go_on n c old new s a down up device firm.orderly rule there stays clean x.wire in (
+    unit_paths_go_on n c old new s a down up device firm.orderly rule there stays clean x.path in (
       g.0,
       record {
         heard = g.1.heard;

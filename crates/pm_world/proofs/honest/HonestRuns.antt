@@ -368,7 +368,7 @@ module _ (config : Config) (units : List Unit) (n sectors : ℕ) (plan : DiskPla
 
     module _ (floors : ℕ → Floor) (h : IsServing config units fits n below plan sectors disk.size before first_run within right d.conn floors now since turns) where
       next : IsNextOf n d.conn port conn bytes h.ends.up
-      next = taken_next n d.conn below now new s port conn number bytes report h.ends.down h.ends.up h.opens.firm.orderly rule here h.ends.exact.wire
+      next = taken_next n d.conn below now new s port conn number bytes report h.ends.down h.ends.up h.opens.firm.orderly rule here h.ends.exact.path
 
       its : Rule now s (Ok (answer.Took n conn number (marked next.plain n) report)) new
       its =

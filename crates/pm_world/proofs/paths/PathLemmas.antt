@@ -592,7 +592,7 @@ module _ (n c : ℕ) (old new : Places) (s : Step) (down up : List (List ℕ)) (
       record {
         heard = Sent k.plain ∷ [];
         is = heard_as (port == n) bytes k.plain here k.marks;
-        moves = Takes number k.plain k.later report (took_as port conn number bytes k.plain report (eqb-true port n here) k.own k.marks) refl refl k.first k.wire;
+        moves = Takes number k.plain k.later report (took_as port conn number bytes k.plain report (eqb-true port n here) k.own k.marks) refl refl k.first k.path;
       }
   takes_one port conn number bytes report false other rule =
       nothing_done (answer.Took port conn number bytes report) refl (unheard_as (port == n) bytes [] other refl)
