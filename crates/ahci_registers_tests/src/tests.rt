@@ -1,12 +1,18 @@
 //! Values from AHCI 1.3.1, and the orders in which libahci (Linux 6.1) reads and writes these registers.
 
+mod steps;
+
 use ahci_registers::{
-    Capabilities, Detected, Effect, GlobalControl, GlobalWrite, Lines, LinkAction, LinkControl,
-    LinkWrite, PortCommand, PortInterrupts, Register, SataError, interrupts_follow_events,
-    link_follows_writes,
+    Capabilities, Detected, Effect, GlobalControl, LinkAction, PortCommand, PortInterrupts,
+    Register, SataError, interrupts_follow_events, link_follows_writes,
 };
 use bitflags::Flags;
-use std::process::Abort;
+use steps::Cause::{Bits, Stopped, TaskFile, Unknown};
+use steps::Step::{
+    Acts, Causes, Detects, Ghc, Line, Links, Serr, Shows, Thaws, WritesGhc, WritesIs, WritesPxie,
+    WritesPxis, WritesSerr,
+};
+use steps::{Step, play};
 
 /// The offsets of AHCI 1.3.1, sections 3.1 and 3.3.
 static OFFSETS: [(Register, u32); 22] = [
@@ -39,224 +45,167 @@ const ALL: u32 = 0x7DC0_007F;
 /// DEF_PORT_IRQ of libahci: what it enables in PxIE at a port with a multiplier. OFS and INFS are not in it.
 const DEF_PORT_IRQ: u32 = 0x78C0_007F;
 
+/// Whether a register stands at its offset, and none at the bytes after that.
+fn stands_at(register: Register, offset: u32) -> bool {
+    Register::at(offset) == Some(register)
+        && register.offset() == offset
+        && Register::at(offset.wrapping_add(1)).is_none()
+        && Register::at(offset.wrapping_add(2)).is_none()
+}
+
+static NO_REGISTERS: [u32; 12] = [
+    0x14, 0x18, 0x1C, 0x20, 0x28, 0x2C, 0x11C, 0x144, 0x170, 0x180, 0x228, 0xF00,
+];
+
 #[test]
 fn registers_stand_at_their_offsets(rt: HostRuntime) {
-    for (register, offset) in OFFSETS {
-        assert_eq!(rt; Register::at(offset), Some(register));
-        assert_eq!(rt; register.offset(), offset);
-        assert_eq!(rt; Register::at(offset + 1), None);
-        assert_eq!(rt; Register::at(offset + 2), None);
+    for (register, offset) in &OFFSETS {
+        assert!(rt; stands_at(*register, *offset), "{offset}");
     }
-    for offset in [
-        0x14, 0x18, 0x1C, 0x20, 0x28, 0x2C, 0x11C, 0x144, 0x170, 0x180, 0x228, 0xF00,
-    ] {
-        assert_eq!(rt; Register::at(offset), None);
+    for offset in &NO_REGISTERS {
+        assert!(rt; Register::at(*offset).is_none(), "{offset}");
     }
+}
+
+/// The registers that never change.
+fn are_fixed() -> bool {
+    Register::Cap.fixed() == Some(0xE137_1F00)
+        && Register::Pi.fixed() == Some(1)
+        && Register::Vs.fixed() == Some(0x0001_0301)
+        && Register::Cap2.fixed() == Some(0)
+        && Register::Ghc.fixed().is_none()
+}
+
+/// All named bits. With NCS 31 and ISS 3 those of CAP are all of it.
+fn are_named() -> bool {
+    Capabilities::all().bits() == 0xE107_0000
+        && GlobalControl::all().bits() == 0x8000_0003
+        && PortCommand::all().bits() == 0x0042_C01F
+        && SataError::all().bits() == 0x0601_0000
+        && PortInterrupts::all().bits() == ALL
 }
 
 #[test]
 fn constants_are_those_of_the_controller(rt: HostRuntime) {
-    assert_eq!(rt; Register::Cap.fixed(), Some(0xE137_1F00));
-    assert_eq!(rt; Register::Pi.fixed(), Some(1));
-    assert_eq!(rt; Register::Vs.fixed(), Some(0x0001_0301));
-    assert_eq!(rt; Register::Cap2.fixed(), Some(0));
-    assert_eq!(rt; Register::Ghc.fixed(), None);
-    // the named bits, NCS 31 and ISS 3 are all of CAP
-    assert_eq!(rt; Capabilities::all().bits(), 0xE107_0000);
-    assert_eq!(rt; GlobalControl::all().bits(), 0x8000_0003);
-    assert_eq!(rt; PortCommand::all().bits(), 0x0042_C01F);
-    assert_eq!(rt; SataError::all().bits(), 0x0601_0000);
-    assert_eq!(rt; PortInterrupts::all().bits(), ALL);
+    assert!(rt; are_fixed() && are_named());
 }
 
-/// The interrupts as libahci starts a controller: GHC.HR and IE, and the port thawed.
-fn thawed(rt: &impl Abort) -> Lines {
-    let mut lines = Lines::new();
-    assert_eq!(rt;
-        lines.write_ghc(0x8000_0001),
-        GlobalWrite {
-            reset: true,
-            message: false
-        }
-    );
-    assert_eq!(rt; lines.ghc(), 0x8000_0000);
-    assert_eq!(rt;
-        lines.write_ghc(0x8000_0002),
-        GlobalWrite {
-            reset: false,
-            message: false
-        }
-    );
-    assert_eq!(rt; lines.ghc(), 0x8000_0002);
-    thaw(rt, &mut lines, false);
-    lines
-}
-
-/// `ahci_thaw`: what PxIS reads is written back, then IS, then PxIE.
-fn thaw(rt: &impl Abort, lines: &mut Lines, tells: bool) {
-    lines.write_pxis(lines.pxis());
-    assert_eq!(rt; lines.write_is(1), false);
-    assert_eq!(rt; lines.write_pxie(DEF_PORT_IRQ), tells);
-    assert_eq!(rt; lines.pxie(), DEF_PORT_IRQ);
-}
+static SERVED: [Step; 7] = [
+    Line(false, 0),
+    Causes(Bits, true),
+    Line(true, 1),
+    Shows(8),
+    // PxIS is read and written back, IS last
+    WritesPxis(8),
+    Line(false, 0),
+    WritesIs(1, false),
+];
 
 #[test]
 fn a_cause_is_served(rt: HostRuntime) {
-    let mut lines = thawed(&rt);
-    assert_eq!(rt; (lines.line(), lines.is()), (false, 0));
-    assert_eq!(rt; lines.caused(PortInterrupts::SDBS), true);
-    assert_eq!(rt; (lines.line(), lines.is(), lines.pxis()), (true, 1, 8));
-    // PxIS is read and written back, IS last
-    lines.write_pxis(8);
-    assert_eq!(rt; (lines.line(), lines.is(), lines.pxis()), (false, 0, 0));
-    assert_eq!(rt; lines.write_is(1), false);
+    play(&rt, &SERVED);
 }
+
+/// PxIS reads 8 between the two causes, and that is written back.
+static BETWEEN: [Step; 10] = [
+    Causes(Bits, true),
+    Shows(8),
+    Causes(TaskFile, true),
+    WritesPxis(8),
+    Line(true, 1),
+    Shows(0x4000_0000),
+    WritesIs(1, true),
+    WritesIs(0xFFFF_FFFE, false),
+    WritesPxis(0x4000_0000),
+    Line(false, 0),
+];
 
 #[test]
 fn a_cause_between_read_and_clear_is_told_again(rt: HostRuntime) {
-    let mut lines = thawed(&rt);
-    assert_eq!(rt; lines.caused(PortInterrupts::SDBS), true);
-    let read = lines.pxis();
-    assert_eq!(rt; lines.caused(PortInterrupts::TFES), true);
-    lines.write_pxis(read);
-    assert_eq!(rt; (lines.line(), lines.pxis()), (true, 0x4000_0000));
-    assert_eq!(rt; lines.write_is(1), true);
-    assert_eq!(rt; lines.write_is(0xFFFF_FFFE), false);
-    lines.write_pxis(0x4000_0000);
-    assert_eq!(rt; lines.line(), false);
+    play(&rt, &BETWEEN);
 }
+
+static FROZEN: [Step; 14] = [
+    // ahci_freeze
+    WritesPxie(0, false, 0),
+    Causes(Stopped, false),
+    Line(false, 0),
+    Shows(0x0800_0000),
+    Thaws,
+    Shows(0),
+    // what comes while it is frozen, and is not cleared, is told when PxIE is written
+    WritesPxie(0, false, 0),
+    Causes(Stopped, false),
+    WritesPxie(u32::MAX, true, ALL),
+    Line(true, 1),
+    WritesGhc(0, false, false),
+    Line(false, 1),
+    WritesGhc(2, false, true),
+    Ghc(0x8000_0002),
+];
 
 #[test]
 fn a_frozen_port_is_silent(rt: HostRuntime) {
-    let mut lines = thawed(&rt);
-    // ahci_freeze
-    assert_eq!(rt; lines.write_pxie(0), false);
-    assert_eq!(rt; lines.caused(PortInterrupts::IFS), false);
-    assert_eq!(rt;
-        (lines.line(), lines.is(), lines.pxis()),
-        (false, 0, 0x0800_0000)
-    );
-    thaw(&rt, &mut lines, false);
-    assert_eq!(rt; lines.pxis(), 0);
-    // what comes while it is frozen, and is not cleared, is told when PxIE is written
-    assert_eq!(rt; lines.write_pxie(0), false);
-    assert_eq!(rt; lines.caused(PortInterrupts::IFS), false);
-    assert_eq!(rt; lines.write_pxie(u32::MAX), true);
-    assert_eq!(rt; (lines.line(), lines.pxie()), (true, ALL));
-    assert_eq!(rt;
-        lines.write_ghc(0),
-        GlobalWrite {
-            reset: false,
-            message: false
-        }
-    );
-    assert_eq!(rt; (lines.line(), lines.is()), (false, 1));
-    assert_eq!(rt;
-        lines.write_ghc(2),
-        GlobalWrite {
-            reset: false,
-            message: true
-        }
-    );
+    play(&rt, &FROZEN);
 }
+
+static ERRORS: [Step; 13] = [
+    Causes(Unknown, true),
+    Shows(0x10),
+    Serr(0x0200_0000),
+    WritesPxis(u32::MAX),
+    Shows(0x10),
+    WritesIs(1, true),
+    WritesSerr(0x0401_0000),
+    Shows(0x10),
+    Serr(0x0200_0000),
+    WritesSerr(0x0200_0000),
+    Shows(0),
+    Serr(0),
+    Line(false, 0),
+];
 
 #[test]
 fn errors_stand_until_pxserr_is_written(rt: HostRuntime) {
-    let mut lines = thawed(&rt);
-    assert_eq!(rt; lines.caused(PortInterrupts::UFS), true);
-    assert_eq!(rt; (lines.pxis(), lines.serr()), (0x10, 0x0200_0000));
-    lines.write_pxis(u32::MAX);
-    assert_eq!(rt; (lines.pxis(), lines.serr()), (0x10, 0x0200_0000));
-    assert_eq!(rt; lines.write_is(1), true);
-    lines.write_serr(0x0401_0000);
-    assert_eq!(rt; (lines.pxis(), lines.serr()), (0x10, 0x0200_0000));
-    lines.write_serr(0x0200_0000);
-    assert_eq!(rt; (lines.pxis(), lines.serr(), lines.line()), (0, 0, false));
+    play(&rt, &ERRORS);
 }
+
+static HARD_RESET: [Step; 13] = [
+    Links(0x133, 0),
+    // frozen and stopped; then sata_link_hardreset: DET 1, with IPM 3, for a millisecond, and DET 0
+    WritesPxie(0, false, 0),
+    Acts(0x301, false, Effect::LinkReset, false),
+    Links(0, 0x301),
+    Serr(0x0001_0000),
+    Detects(LinkAction::Comreset, Detected::NoDevice),
+    Acts(0x301, false, Effect::Nothing, false),
+    Acts(0x300, false, Effect::LinkUp, false),
+    // PxSSTS is polled for DET 3, and PxSERR is written back
+    Links(0x133, 0x300),
+    Serr(0x0401_0000),
+    Shows(0x0040_0040),
+    WritesSerr(0x0401_0000),
+    Thaws,
+];
 
 #[test]
 fn a_hard_reset_shows_the_link(rt: HostRuntime) {
-    let mut lines = thawed(&rt);
-    let mut link = LinkControl::new();
-    assert_eq!(rt; (link.status(), link.control()), (0x133, 0));
-    // frozen and stopped; then sata_link_hardreset: DET 1, with IPM 3, for a millisecond, and DET 0
-    assert_eq!(rt; lines.write_pxie(0), false);
-    let begun = link.write(0x301, false, &mut lines);
-    assert_eq!(rt;
-        begun,
-        LinkWrite {
-            effect: Effect::LinkReset,
-            message: false
-        }
-    );
-    assert_eq!(rt;
-        (link.status(), link.control(), lines.serr()),
-        (0, 0x301, 0x0001_0000)
-    );
-    assert_eq!(rt; link.action(), LinkAction::Comreset);
-    assert_eq!(rt; link.detected(), Detected::NoDevice);
-    let again = link.write(0x301, false, &mut lines);
-    assert_eq!(rt;
-        again,
-        LinkWrite {
-            effect: Effect::Nothing,
-            message: false
-        }
-    );
-    let ended = link.write(0x300, false, &mut lines);
-    assert_eq!(rt;
-        ended,
-        LinkWrite {
-            effect: Effect::LinkUp,
-            message: false
-        }
-    );
-    // PxSSTS is polled for DET 3, and PxSERR is written back
-    assert_eq!(rt; (link.status(), link.control()), (0x133, 0x300));
-    assert_eq!(rt; (lines.serr(), lines.pxis()), (0x0401_0000, 0x0040_0040));
-    lines.write_serr(0x0401_0000);
-    thaw(&rt, &mut lines, false);
+    play(&rt, &HARD_RESET);
 }
+
+static LEFT_ALONE: [Step; 7] = [
+    Acts(0xFFFF_F321, true, Effect::Nothing, false),
+    Links(0x133, 0x320),
+    Acts(4, false, Effect::LinkReset, true),
+    Links(4, 4),
+    Detects(LinkAction::Disable, Detected::Offline),
+    Acts(1, false, Effect::LinkReset, false),
+    Acts(0, false, Effect::LinkUp, true),
+];
 
 #[test]
 fn det_is_left_alone_while_st_is_1(rt: HostRuntime) {
-    let mut lines = thawed(&rt);
-    let mut link = LinkControl::new();
-    let ignored = link.write(0xFFFF_F321, true, &mut lines);
-    assert_eq!(rt;
-        ignored,
-        LinkWrite {
-            effect: Effect::Nothing,
-            message: false
-        }
-    );
-    assert_eq!(rt; (link.control(), link.status()), (0x320, 0x133));
-    let offline = link.write(4, false, &mut lines);
-    assert_eq!(rt;
-        offline,
-        LinkWrite {
-            effect: Effect::LinkReset,
-            message: true
-        }
-    );
-    assert_eq!(rt; (link.control(), link.status()), (4, 4));
-    assert_eq!(rt; link.detected(), Detected::Offline);
-    let reset = link.write(1, false, &mut lines);
-    assert_eq!(rt;
-        reset,
-        LinkWrite {
-            effect: Effect::LinkReset,
-            message: false
-        }
-    );
-    let back = link.write(0, false, &mut lines);
-    assert_eq!(rt;
-        back,
-        LinkWrite {
-            effect: Effect::LinkUp,
-            message: true
-        }
-    );
+    play(&rt, &LEFT_ALONE);
 }
 
 #[test]

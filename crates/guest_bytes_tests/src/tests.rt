@@ -3,10 +3,49 @@ ghost use Rattle.std.specs.Prelude.{◌≡◌};
 use guest_bytes::{
     FlatError, FlatGuest, GuestTable, Move, NotThere, TableError, bytes_go_only_to_their_table,
 };
-use std::alloc::Global;
+use std::alloc::{AllocError, Global};
+use std::marker::Model;
+use std::process::Abort;
 use std::test::Fail;
 
-// An entry as it lies in a table: an address of 64 bits, and the field of the byte count, which is one less.
+/// A move: the address, the first byte of the payload and how many.
+type Bytes = (u64, usize, usize);
+
+/// A step of a test.
+#[derive(Clone, Copy)]
+enum Step {
+    /// An entry of an address of 64 bits, and the field of the byte count, is put at an address.
+    Lists(u64, u64, u32),
+    /// A table at an address, of so many entries, read for so many bytes, has this total.
+    Totals(u64, u16, u64, u64),
+    /// A table is refused.
+    Refuses(u64, u16, u64, TableError),
+    /// The moves of so many bytes of the table of three entries that is read for 9 bytes, from this one on.
+    Moves(u64, usize, &'static [Bytes]),
+    /// The first move of a table of one entry that is read for a sector.
+    Begins(Bytes),
+}
+
+/// A guest of 1 KiB from 1,0000,0000h on, with a table of three entries at its byte 80h: 5 odd bytes, 3 bytes above 4 GiB,
+/// and one byte that lies over the first. Clauses see it as a number, and its functions have no contract, so a test is
+/// proved with little work.
+#[derive(Drop)]
+struct Rig {
+    alloc: Global,
+    guest: FlatGuest,
+}
+
+impl Model for Rig {
+    ghost use Rattle.std.specs.Prelude.{ℕ};
+
+    ghost Value = { ℕ };
+
+    ghost view = { λ _. 0 };
+}
+
+const TABLE: u64 = 0x1_0000_0080;
+
+/// An entry as it lies in a table: an address of 64 bits, and the field of the byte count, which is one less.
 fn entry(address: u64, field: u32) -> [u8; 16] {
     let a = address.to_le_bytes();
     let c = field.to_le_bytes();
@@ -15,150 +54,273 @@ fn entry(address: u64, field: u32) -> [u8; 16] {
     ]
 }
 
-// A guest of 1 KiB from 1,0000,0000h on, with a table of three entries: 5 odd bytes, 3 bytes above 4 GiB,
-// and one byte that lies over the first.
-fn guest(alloc: Global) -> Result<FlatGuest, Fail> {
-    let mut guest = FlatGuest::new(alloc, 0x1_0000_0000, 0x400)?;
-    guest.put(0x1_0000_0080, &entry(0x1_0000_0003, 4))?;
-    guest.put(0x1_0000_0090, &entry(0x1_0000_0101, 0x8000_0002))?;
-    guest.put(0x1_0000_00A0, &entry(0x1_0000_0003, 0))?;
-    Ok(guest)
-}
-
 fn to(at: u64, from: usize, len: usize) -> Move
     ensures { result ≡ record { at = at; from = from; len = len } }
 {
     Move { at, from, len }
 }
 
-/// The address has 64 bits, and the interrupt bit beside the byte count is not part of it.
-#[test]
-fn a_payload_goes_to_its_places(rt: HostRuntime) -> Result<(), Fail> {
-    let guest = guest(rt.alloc())?;
-    let table = GuestTable::read(rt.alloc(), &guest, 0x1_0000_0080, 3, 9)?;
-    assert_eq!(rt; table.total(), 9);
-    let mut moves = table.moves(2, 5);
-    assert_eq!(rt; moves.next(), Some(to(0x1_0000_0005, 0, 3)));
-    assert_eq!(rt; moves.next(), Some(to(0x1_0000_0101, 3, 2)));
-    assert_eq!(rt; moves.next(), None);
-    assert_eq!(rt; table.moves(0, 0).next(), None);
+/// Whether these are all moves of so many bytes, from this one on.
+fn are_moves(table: &GuestTable, offset: u64, count: usize, wanted: &[Bytes]) -> bool {
+    let mut moves = table.moves(offset, count);
+    for (at, from, len) in wanted.iter() {
+        if moves.next() != Some(to(*at, *from, *len)) {
+            return false;
+        }
+    }
+    moves.next().is_none()
+}
+
+impl Rig {
+    fn new(alloc: Global) -> Result<Rig, FlatError> {
+        Ok(Rig {
+            alloc,
+            guest: FlatGuest::new(alloc, 0x1_0000_0000, 0x400)?,
+        })
+    }
+
+    fn table(&self, at: u64, count: u16, len: u64) -> Result<GuestTable, TableError> {
+        GuestTable::read(self.alloc, &self.guest, at, count, len)
+    }
+
+    fn lists(&mut self, at: u64, address: u64, field: u32) -> bool {
+        self.guest.put(at, &entry(address, field)).is_ok()
+    }
+
+    fn opens(&mut self) -> bool {
+        self.lists(TABLE, 0x1_0000_0003, 4)
+            && self.lists(TABLE + 16, 0x1_0000_0101, 0x8000_0002)
+            && self.lists(TABLE + 32, 0x1_0000_0003, 0)
+    }
+
+    fn totals(&self, at: u64, count: u16, len: u64, total: u64) -> bool {
+        match self.table(at, count, len) {
+            Ok(table) => table.total() == total,
+            Err(_) => false,
+        }
+    }
+
+    fn moves(&self, offset: u64, count: usize, wanted: &[Bytes]) -> bool {
+        match self.table(TABLE, 3, 9) {
+            Ok(table) => are_moves(&table, offset, count, wanted),
+            Err(_) => false,
+        }
+    }
+
+    fn begins(&self, (at, from, len): Bytes) -> bool {
+        match self.table(TABLE, 1, 512) {
+            Ok(table) => table.moves(0, 512).next() == Some(to(at, from, len)),
+            Err(_) => false,
+        }
+    }
+
+    fn refuses(&self, at: u64, count: u16, len: u64, error: TableError) -> bool {
+        match self.table(at, count, len) {
+            Ok(_) => false,
+            Err(found) => found == error,
+        }
+    }
+
+    /// Whether a step is as it says.
+    fn passes(&mut self, step: Step) -> bool {
+        match step {
+            Step::Lists(at, address, field) => self.lists(at, address, field),
+            Step::Totals(at, count, len, total) => self.totals(at, count, len, total),
+            Step::Refuses(at, count, len, error) => self.refuses(at, count, len, error),
+            Step::Moves(offset, count, wanted) => self.moves(offset, count, wanted),
+            Step::Begins(wanted) => self.begins(wanted),
+        }
+    }
+
+    /// The number of the first step that is not as it says.
+    fn first_wrong(&mut self, steps: &[Step]) -> Option<usize> {
+        for (i, step) in steps.iter().enumerate() {
+            if !self.passes(*step) {
+                return Some(i);
+            }
+        }
+        None
+    }
+
+    /// Whether the bytes from this one on are these.
+    fn holds(&self, at: usize, wanted: &[u8]) -> bool {
+        match self.guest.bytes().get(at..) {
+            Some(rest) => rest.starts_with(wanted),
+            None => false,
+        }
+    }
+
+    /// Writes over the table, and carries out the moves that it had.
+    fn is_overwritten(&mut self) -> bool {
+        let payload = [1, 2, 3, 4, 5, 6, 7, 8, 9];
+        self.guest.put(TABLE, &[0xFF; 48]).is_ok()
+            && self
+                .guest
+                .carry_out(to(0x1_0000_0003, 0, 5), &payload)
+                .is_ok()
+            && self
+                .guest
+                .carry_out(to(0x1_0000_0101, 5, 3), &payload)
+                .is_ok()
+            && self
+                .guest
+                .carry_out(to(0x1_0000_0003, 8, 1), &payload)
+                .is_ok()
+    }
+
+    /// Whether a payload is read from two places, with its last byte left, and none from outside.
+    fn is_fetched(&mut self) -> bool {
+        let mut payload = [0xEE; 6];
+        self.guest.put(0x1_0000_0003, &[1, 2, 3, 4, 5]).is_ok()
+            && self.guest.put(0x1_0000_0101, &[6, 7, 8]).is_ok()
+            && to(0x1_0000_0004, 0, 4)
+                .fetch(&self.guest, &mut payload)
+                .is_ok()
+            && to(0x1_0000_0101, 4, 1)
+                .fetch(&self.guest, &mut payload)
+                .is_ok()
+            && payload == [2, 3, 4, 5, 6, 0xEE]
+            && to(0x1_0000_03FF, 0, 2).fetch(&self.guest, &mut payload) == Err(NotThere)
+    }
+}
+
+/// Each step of the guest is as it says.
+fn play(rt: &impl Abort, alloc: Global, steps: &[Step]) -> Result<(), FlatError> {
+    let mut rig = Rig::new(alloc)?;
+    assert!(rt; rig.opens());
+    assert_eq!(rt; rig.first_wrong(steps), None, "the number of a step");
     Ok(())
 }
 
+/// The address has 64 bits, and the interrupt bit beside the byte count is not part of it.
+static GOES: [Step; 3] = [
+    Step::Totals(TABLE, 3, 9, 9),
+    Step::Moves(2, 5, &[(0x1_0000_0005, 0, 3), (0x1_0000_0101, 3, 2)]),
+    Step::Moves(0, 0, &[]),
+];
+
 #[test]
-fn what_is_past_the_table_goes_nowhere(rt: HostRuntime) -> Result<(), Fail> {
-    let guest = guest(rt.alloc())?;
-    let table = GuestTable::read(rt.alloc(), &guest, 0x1_0000_0080, 3, 9)?;
-    let mut moves = table.moves(8, 4);
-    assert_eq!(rt; moves.next(), Some(to(0x1_0000_0003, 0, 1)));
-    assert_eq!(rt; moves.next(), None);
-    assert_eq!(rt; table.moves(9, 4).next(), None);
-    assert_eq!(rt; table.moves(u64::MAX, 4).next(), None);
-    Ok(())
+fn a_payload_goes_to_its_places(rt: HostRuntime) -> Result<(), FlatError> {
+    play(&rt, rt.alloc(), &GOES)
+}
+
+static PAST: [Step; 3] = [
+    Step::Moves(8, 4, &[(0x1_0000_0003, 0, 1)]),
+    Step::Moves(9, 4, &[]),
+    Step::Moves(u64::MAX, 4, &[]),
+];
+
+#[test]
+fn what_is_past_the_table_goes_nowhere(rt: HostRuntime) -> Result<(), FlatError> {
+    play(&rt, rt.alloc(), &PAST)
 }
 
 /// The table is read as far as the command goes. Entries after that need not be memory.
-#[test]
-fn a_table_is_read_as_far_as_its_command(rt: HostRuntime) -> Result<(), Fail> {
-    let guest = guest(rt.alloc())?;
-    let table = GuestTable::read(rt.alloc(), &guest, 0x1_0000_0080, u16::MAX, 8)?;
-    assert_eq!(rt; table.total(), 8);
-    let none = GuestTable::read(rt.alloc(), &guest, 0, u16::MAX, 0)?;
-    assert_eq!(rt; none.total(), 0);
-    let empty = GuestTable::read(rt.alloc(), &guest, 0, 0, 512)?;
-    assert_eq!(rt; empty.total(), 0);
-    Ok(())
-}
+static AS_FAR: [Step; 3] = [
+    Step::Totals(TABLE, u16::MAX, 8, 8),
+    Step::Totals(0, u16::MAX, 0, 0),
+    Step::Totals(0, 0, 512, 0),
+];
 
 #[test]
-fn refuses_tables(rt: HostRuntime) -> Result<(), Fail> {
-    let mut guest = guest(rt.alloc())?;
-    let outside = GuestTable::read(rt.alloc(), &guest, 0x1_0000_03F8, 1, 512).err();
-    assert_eq!(rt; outside, Some(TableError::NotThere));
-    let high = GuestTable::read(rt.alloc(), &guest, u64::MAX - 127, 8, 512).err();
-    assert_eq!(rt; high, Some(TableError::PastEnd));
-    guest.put(0x1_0000_0080, &entry(u64::MAX, 0))?;
-    let last = GuestTable::read(rt.alloc(), &guest, 0x1_0000_0080, 1, 512)?;
-    assert_eq!(rt; last.moves(0, 512).next(), Some(to(u64::MAX, 0, 1)));
-    guest.put(0x1_0000_0080, &entry(u64::MAX, 1))?;
-    let past = GuestTable::read(rt.alloc(), &guest, 0x1_0000_0080, 1, 512).err();
-    assert_eq!(rt; past, Some(TableError::PastEnd));
-    Ok(())
+fn a_table_is_read_as_far_as_its_command(rt: HostRuntime) -> Result<(), FlatError> {
+    play(&rt, rt.alloc(), &AS_FAR)
+}
+
+static REFUSED: [Step; 6] = [
+    Step::Refuses(0x1_0000_03F8, 1, 512, TableError::NotThere),
+    Step::Refuses(u64::MAX - 127, 8, 512, TableError::PastEnd),
+    Step::Lists(TABLE, u64::MAX, 0),
+    Step::Begins((u64::MAX, 0, 1)),
+    Step::Lists(TABLE, u64::MAX, 1),
+    Step::Refuses(TABLE, 1, 512, TableError::PastEnd),
+];
+
+#[test]
+fn refuses_tables(rt: HostRuntime) -> Result<(), FlatError> {
+    play(&rt, rt.alloc(), &REFUSED)
 }
 
 /// Entries may overlap: of two bytes for one place the later one stands. What the guest writes over
 /// its table after it was read changes no move.
 #[test]
 fn a_table_is_kept_as_it_was_read(rt: HostRuntime) -> Result<(), Fail> {
-    let mut guest = guest(rt.alloc())?;
-    let table = GuestTable::read(rt.alloc(), &guest, 0x1_0000_0080, 3, 9)?;
-    guest.put(0x1_0000_0080, &[0xFF; 48])?;
-    let payload = [1, 2, 3, 4, 5, 6, 7, 8, 9];
-    guest.carry_out(to(0x1_0000_0003, 0, 5), &payload)?;
-    guest.carry_out(to(0x1_0000_0101, 5, 3), &payload)?;
-    guest.carry_out(to(0x1_0000_0003, 8, 1), &payload)?;
-    let mut moves = table.moves(0, 9);
-    assert_eq!(rt; moves.next(), Some(to(0x1_0000_0003, 0, 5)));
-    assert_eq!(rt; moves.next(), Some(to(0x1_0000_0101, 5, 3)));
-    assert_eq!(rt; moves.next(), Some(to(0x1_0000_0003, 8, 1)));
-    assert_eq!(rt; guest.bytes().get(2..9), Some(&[0, 9, 2, 3, 4, 5, 0][..]));
-    assert_eq!(rt; guest.bytes().get(0x100..0x105), Some(&[0, 6, 7, 8, 0][..]));
+    let mut rig = Rig::new(rt.alloc())?;
+    assert!(rt; rig.opens());
+    let table = rig.table(TABLE, 3, 9)?;
+    assert!(rt; rig.is_overwritten());
+    let wanted = [
+        (0x1_0000_0003, 0, 5),
+        (0x1_0000_0101, 5, 3),
+        (0x1_0000_0003, 8, 1),
+    ];
+    assert!(rt; are_moves(&table, 0, 9, &wanted));
+    assert!(rt; rig.holds(2, &[0, 9, 2, 3, 4, 5, 0]) && rig.holds(0x100, &[0, 6, 7, 8, 0]));
     Ok(())
 }
 
 /// In the other direction the moves say from where a payload to the device is read.
 #[test]
-fn a_payload_comes_from_its_places(rt: HostRuntime) -> Result<(), Fail> {
-    let mut guest = guest(rt.alloc())?;
-    guest.put(0x1_0000_0003, &[1, 2, 3, 4, 5])?;
-    guest.put(0x1_0000_0101, &[6, 7, 8])?;
-    let mut payload = [0xEE; 6];
-    to(0x1_0000_0004, 0, 4).fetch(&guest, &mut payload)?;
-    to(0x1_0000_0101, 4, 1).fetch(&guest, &mut payload)?;
-    assert_eq!(rt; payload, [2, 3, 4, 5, 6, 0xEE]);
-    let outside = to(0x1_0000_03FF, 0, 2).fetch(&guest, &mut payload);
-    assert_eq!(rt; outside, Err(NotThere));
+fn a_payload_comes_from_its_places(rt: HostRuntime) -> Result<(), FlatError> {
+    let mut rig = Rig::new(rt.alloc())?;
+    assert!(rt; rig.opens() && rig.is_fetched());
     Ok(())
 }
 
+/// Whether the last byte of all addresses is put, and none after it or before it.
+fn is_last(last: &mut FlatGuest) -> bool {
+    last.put(u64::MAX, &[7]).is_ok()
+        && last.bytes().first().copied() == Some(7)
+        && last.put(u64::MAX, &[7, 8]) == Err(NotThere)
+        && last.put(u64::MAX - 1, &[7]) == Err(NotThere)
+        && last.carry_out(to(0, 0, 1), &[7]) == Err(NotThere)
+}
+
 #[test]
-fn a_block_has_two_ends(rt: HostRuntime) -> Result<(), Fail> {
-    let past = FlatGuest::new(rt.alloc(), u64::MAX, 2).err();
-    assert_eq!(rt; past, Some(FlatError::PastEnd));
+fn a_block_has_two_ends(rt: HostRuntime) -> Result<(), FlatError> {
+    assert!(rt;
+        matches!(
+            FlatGuest::new(rt.alloc(), u64::MAX, 2),
+            Err(FlatError::PastEnd)
+        )
+    );
     let mut last = FlatGuest::new(rt.alloc(), u64::MAX, 1)?;
-    last.put(u64::MAX, &[7])?;
-    assert_eq!(rt; last.bytes().first().copied(), Some(7));
-    assert_eq!(rt; last.put(u64::MAX, &[7, 8]), Err(NotThere));
-    assert_eq!(rt; last.put(u64::MAX - 1, &[7]), Err(NotThere));
-    assert_eq!(rt; last.carry_out(to(0, 0, 1), &[7]), Err(NotThere));
+    assert!(rt; is_last(&mut last));
     Ok(())
+}
+
+/// Whether a table gives its first move, or memory is refused.
+fn is_table(read: Result<GuestTable, TableError>) -> bool {
+    match read {
+        Err(error) => error == TableError::OutOfMemory,
+        Ok(table) => {
+            table.keeps_rules();
+            table.moves(0, 4).next() == Some(to(0, 0, 1))
+        }
+    }
 }
 
 /// If an allocation is refused, that is the answer.
 #[test]
 fn memory_may_be_refused(rt: HostRuntime) {
-    match FlatGuest::new(rt.alloc(), 0, 64) {
-        Err(error) => assert_eq!(rt; error, FlatError::OutOfMemory),
-        Ok(guest) => match GuestTable::read(rt.alloc(), &guest, 0, 4, 4) {
-            Err(error) => assert_eq!(rt; error, TableError::OutOfMemory),
-            Ok(table) => {
-                table.keeps_rules();
-                bytes_go_only_to_their_table();
-                assert_eq!(rt; table.moves(0, 4).next(), Some(to(0, 0, 1)));
-            }
-        },
-    }
+    bytes_go_only_to_their_table();
+    let is_answered = match FlatGuest::new(rt.alloc(), 0, 64) {
+        Err(error) => error == FlatError::OutOfMemory,
+        Ok(guest) => is_table(GuestTable::read(rt.alloc(), &guest, 0, 4, 4)),
+    };
+    assert!(rt; is_answered);
 }
 
 #[test]
-fn errors_say_what_is_wrong(rt: HostRuntime) -> Result<(), Fail> {
-    let texts = [
-        TableError::NotThere.to_string(rt.alloc())?,
-        TableError::PastEnd.to_string(rt.alloc())?,
-        TableError::OutOfMemory.to_string(rt.alloc())?,
-    ];
-    assert_eq!(rt; texts[0].as_str(), "table outside the guest's memory");
-    assert_eq!(rt; texts[1].as_str(), "past the last address");
-    assert_eq!(rt; texts[2].as_str(), "out of memory");
+fn errors_say_what_is_wrong(rt: HostRuntime) -> Result<(), AllocError> {
+    let text = format!(in rt.alloc();
+        "{}, {}, {}",
+        TableError::NotThere,
+        TableError::PastEnd,
+        TableError::OutOfMemory
+    )?;
+    assert!(rt;
+        text.as_str() == "table outside the guest's memory, past the last address, out of memory"
+    );
     Ok(())
 }

@@ -1,79 +1,75 @@
-use byteorder::{ByteOrder, LittleEndian};
 use host_memory::{
     HostMemory, MemoryError, Outside, PrdError, PrdTable, Run, scatters_are_single_writes,
     tables_are_of_their_bytes,
 };
-use std::alloc::Global;
+use std::alloc::{AllocError, Global};
+use std::marker::Model;
+use std::process::Abort;
 use std::test::Fail;
 
 const MIB: u32 = 0x10_0000;
 
-// Two entries of a table, each as its address, the upper half of the address and the field of the byte count.
-fn table(first: [u32; 3], second: [u32; 3]) -> [u8; 32] {
+/// An entry of a table: its address, the upper half of the address and the field of the byte count.
+type Entry = (u32, u32, u32);
+
+/// A step of a test.
+#[derive(Clone, Copy)]
+enum Step {
+    /// Bytes are put at an address.
+    Puts(u32, &'static [u8]),
+    /// They are not, as they lie outside.
+    CannotPut(u32, &'static [u8]),
+    /// The byte at an address, if it lies in the client area.
+    Shows(usize, Option<u8>),
+    /// An entry with this number is written to the table at 2000h.
+    Lists(usize, Entry),
+    /// The bytes 0, 1, .. 255, 0, .. are delivered by the table, which is of 512 bytes.
+    Delivers,
+    /// The lengths of the parts of so many bytes of the transfer of a table of so many entries, from this one on.
+    Parts(u16, u32, u32, &'static [usize]),
+    /// These bytes joined.
+    Joins(u16, u32, u32, &'static [u8]),
+    /// The rest of an entry of a table of three, from this byte of the transfer on, is filled with AAh: where it begins, and
+    /// how many bytes it has.
+    Fills(u32, Option<(usize, usize)>),
+}
+
+/// A memory of 2 MiB. Clauses see it as a number, and its functions have no contract, so a test is proved with little
+/// work.
+#[derive(Drop)]
+struct Rig {
+    alloc: Global,
+    memory: HostMemory,
+}
+
+impl Model for Rig {
+    ghost use Rattle.std.specs.Prelude.{ℕ};
+
+    ghost Value = { ℕ };
+
+    ghost view = { λ _. 0 };
+}
+
+/// The bytes of an entry.
+fn entry_bytes((address, upper, field): Entry) -> [u8; 16] {
+    let a = address.to_le_bytes();
+    let u = upper.to_le_bytes();
+    let f = field.to_le_bytes();
+    [
+        a[0], a[1], a[2], a[3], u[0], u[1], u[2], u[3], 0, 0, 0, 0, f[0], f[1], f[2], f[3],
+    ]
+}
+
+/// The bytes of two entries.
+fn table(first: Entry, second: Entry) -> [u8; 32] {
     let mut bytes = [0; 32];
-    LittleEndian::write_u32(&mut bytes[0..4], first[0]);
-    LittleEndian::write_u32(&mut bytes[4..8], first[1]);
-    LittleEndian::write_u32(&mut bytes[12..16], first[2]);
-    LittleEndian::write_u32(&mut bytes[16..20], second[0]);
-    LittleEndian::write_u32(&mut bytes[20..24], second[1]);
-    LittleEndian::write_u32(&mut bytes[28..32], second[2]);
+    bytes[..16].copy_from_slice(&entry_bytes(first));
+    bytes[16..].copy_from_slice(&entry_bytes(second));
     bytes
 }
 
-fn byte_at(memory: &HostMemory, address: usize) -> Option<u8> {
-    let index = address.checked_sub(0x10_0000)?;
-    memory.client().get(index).copied()
-}
-
-#[test]
-fn finds_memory_that_is_there(rt: HostRuntime) {
-    for len in [2097152, 16777216] {
-        match HostMemory::new(rt.alloc(), len) {
-            Ok(memory) => {
-                assert_eq!(rt; memory.structure().len(), 1048576);
-                assert_eq!(rt; memory.client().len(), len as usize - 1048576);
-            }
-            // Where an allocation is made to fail.
-            Err(error) => assert_eq!(rt; error, MemoryError::OutOfMemory),
-        }
-    }
-}
-
-/// A structure area alone is not a memory; odd sizes and sizes past the limits are refused.
-#[test]
-fn refuses_sizes(rt: HostRuntime) {
-    for len in [0, 1_048_576, 2_097_150, 2_097_153, 16_777_217, 16_777_218] {
-        let error = HostMemory::new(rt.alloc(), len).err();
-        assert_eq!(rt; error, Some(MemoryError::BadSize));
-    }
-}
-
-#[test]
-fn puts_client_bytes(rt: HostRuntime) -> Result<(), Fail> {
-    let mut memory = HostMemory::new(rt.alloc(), 0x20_0000)?;
-    memory.put_client(0x10_0000, &[1, 2])?;
-    memory.put_client(0x1F_FFFF, &[3])?;
-    memory.put_client(0x20_0000, &[])?;
-    assert_eq!(rt; memory.put_client(0x1F_FFFF, &[4, 5]), Err(Outside));
-    assert_eq!(rt; memory.put_client(0x20_0000, &[4]), Err(Outside));
-    assert_eq!(rt; memory.put_client(0x20_0001, &[]), Err(Outside));
-    assert_eq!(rt; memory.put_client(0x0F_FFFF, &[]), Err(Outside));
-    assert_eq!(rt; memory.put_client(u32::MAX, &[4]), Err(Outside));
-    for (address, byte) in [
-        (0x10_0000, 1),
-        (0x10_0001, 2),
-        (0x10_0002, 0),
-        (0x1F_FFFE, 0),
-        (0x1F_FFFF, 3),
-    ] {
-        assert_eq!(rt; byte_at(&memory, address), Some(byte), "{address:x}");
-    }
-    assert_eq!(rt; byte_at(&memory, 0x20_0000), None);
-    Ok(())
-}
-
-// Writes the bytes to the places of the two entries at 2000h, if they are the whole transfer, and returns its
-// length.
+/// Writes the bytes to the places of the two entries at 2000h, if they are the whole transfer, and returns its
+/// length.
 fn deliver(memory: &mut HostMemory, bytes: &[u8]) -> Result<u32, PrdError> {
     let (structure, client) = memory.split();
     let table = match PrdTable::read(structure, client.len() as u32, 0x2000, 2) {
@@ -88,37 +84,8 @@ fn deliver(memory: &mut HostMemory, bytes: &[u8]) -> Result<u32, PrdError> {
     Ok(total)
 }
 
-#[test]
-fn scatters_a_transfer(rt: HostRuntime) -> Result<(), Fail> {
-    tables_are_of_their_bytes();
-    scatters_are_single_writes();
-    let mut memory = HostMemory::new(rt.alloc(), 0x20_0000)?;
-    let prds = table([0x10_1000, 0, 0x12B], [0x10_2000, 0, 0xD3]);
-    memory.structure_mut()[0x2000..0x2020].copy_from_slice(&prds);
-    memory.put_client(0x10_112C, &[0xEE])?;
-    let mut data = [0u8; 512];
-    for (i, byte) in data.iter_mut().enumerate() {
-        *byte = (i % 256) as u8;
-    }
-    assert_eq!(rt; deliver(&mut memory, &data)?, 512);
-    for (address, byte) in [
-        (0x10_0FFF, 0),
-        (0x10_1000, 0),
-        (0x10_1001, 1),
-        (0x10_112B, 0x2B),
-        (0x10_112C, 0xEE),
-        (0x10_1FFF, 0),
-        (0x10_2000, 0x2C),
-        (0x10_20D3, 0xFF),
-        (0x10_20D4, 0),
-    ] {
-        assert_eq!(rt; byte_at(&memory, address), Some(byte), "{address:x}");
-    }
-    Ok(())
-}
-
-// The lengths of the parts of these bytes of the transfer whose table, of this many entries, lies at 2000h,
-// and the parts joined.
+/// The lengths of the parts of these bytes of the transfer whose table, of this many entries, lies at 2000h,
+/// and the parts joined.
 fn parts_of(
     alloc: Global,
     memory: &HostMemory,
@@ -143,37 +110,8 @@ fn parts_of(
     Ok((sizes, joined))
 }
 
-#[test]
-fn gives_parts(rt: HostRuntime) -> Result<(), Fail> {
-    let mut memory = HostMemory::new(rt.alloc(), 0x20_0000)?;
-    let prds = table([0x10_1000, 0, 0x12B], [0x10_2000, 0, 0xD3]);
-    memory.structure_mut()[0x2000..0x2020].copy_from_slice(&prds);
-    memory.put_client(0x10_1000, &[1, 2])?;
-    memory.put_client(0x10_112A, &[3, 4, 0xEE])?;
-    memory.put_client(0x10_2000, &[5, 6])?;
-    memory.put_client(0x10_20D2, &[7, 8, 0xEE])?;
-    for (offset, len, count, first) in [
-        (0, 2, 1, [1, 2].as_slice()),
-        (298, 4, 2, [3, 4, 5, 6].as_slice()),
-        (298, 2, 1, [3, 4].as_slice()),
-        (300, 2, 1, [5, 6].as_slice()),
-        (510, 2, 1, [7, 8].as_slice()),
-        (1, 1, 1, [2].as_slice()),
-        (512, 0, 0, [].as_slice()),
-        (300, 0, 0, [].as_slice()),
-    ] {
-        let (parts, joined) = parts_of(rt.alloc(), &memory, 2, offset, len)?;
-        assert_eq!(rt; parts.len(), count, "{offset} {len}");
-        assert_eq!(rt; joined.as_slice(), first, "{offset} {len}");
-    }
-    let (parts, joined) = parts_of(rt.alloc(), &memory, 2, 0, 512)?;
-    assert_eq!(rt; parts.len(), 2);
-    assert_eq!(rt; joined.len(), 512);
-    Ok(())
-}
-
-// Fills the rest of an entry, from this byte of the transfer on. Its table of three entries lies at 2000h.
-// Returns where that rest begins and how many bytes it has.
+/// Fills the rest of an entry, from this byte of the transfer on. Its table of three entries lies at 2000h.
+/// Returns where that rest begins and how many bytes it has.
 fn fill_from(memory: &mut HostMemory, offset: u32, byte: u8) -> Option<Run> {
     let (structure, client) = memory.split();
     let client_len = client.len() as u32;
@@ -187,142 +125,316 @@ fn fill_from(memory: &mut HostMemory, offset: u32, byte: u8) -> Option<Run> {
     Some(run)
 }
 
-#[test]
-fn gives_a_run_to_be_written(rt: HostRuntime) -> Result<(), Fail> {
-    let mut memory = HostMemory::new(rt.alloc(), 0x20_0000)?;
-    let first = table([0x10_1000, 0, 1], [0x10_2000, 0, 5]);
-    let last = table([0x10_3000, 0, 503], [0, 0, 0]);
-    memory.structure_mut()[0x2000..0x2020].copy_from_slice(&first);
-    memory.structure_mut()[0x2020..0x2040].copy_from_slice(&last);
-    for (offset, want) in [
-        (
-            4,
-            Some(Run {
-                start: 0x2002,
-                len: 4,
-            }),
-        ),
-        (
-            1,
-            Some(Run {
-                start: 0x1001,
-                len: 1,
-            }),
-        ),
-        (
-            511,
-            Some(Run {
-                start: 0x31F7,
-                len: 1,
-            }),
-        ),
-        (512, None),
-    ] {
-        assert_eq!(rt; fill_from(&mut memory, offset, 0xAA), want, "{offset}");
+/// The bytes 0, 1, .. 255, 0, ..
+fn counting() -> [u8; 512] {
+    let mut data = [0u8; 512];
+    for (i, byte) in data.iter_mut().enumerate() {
+        *byte = (i % 256) as u8;
     }
-    for (address, byte) in [
-        (0x10_1000, 0),
-        (0x10_1001, 0xAA),
-        (0x10_1002, 0),
-        (0x10_2001, 0),
-        (0x10_2002, 0xAA),
-        (0x10_2005, 0xAA),
-        (0x10_2006, 0),
-        (0x10_31F6, 0),
-        (0x10_31F7, 0xAA),
-        (0x10_31F8, 0),
-    ] {
-        assert_eq!(rt; byte_at(&memory, address), Some(byte), "{address:x}");
+    data
+}
+
+impl Rig {
+    fn shows(&self, address: usize, byte: Option<u8>) -> bool {
+        match address.checked_sub(0x10_0000) {
+            Some(index) => self.memory.client().get(index).copied() == byte,
+            None => byte.is_none(),
+        }
     }
+
+    fn lists(&mut self, number: usize, entry: Entry) -> bool {
+        let at = number.wrapping_mul(16).wrapping_add(0x2000);
+        let Some(rest) = self.memory.structure_mut().get_mut(at..) else {
+            return false;
+        };
+        let Some(place) = rest.get_mut(..16) else {
+            return false;
+        };
+        place.copy_from_slice(&entry_bytes(entry));
+        true
+    }
+
+    fn parts(&self, count: u16, offset: u32, len: u32, sizes: &[usize]) -> bool {
+        match parts_of(self.alloc, &self.memory, count, offset, len) {
+            Ok((found, joined)) => found.as_slice() == sizes && joined.len() == len as usize,
+            Err(_) => false,
+        }
+    }
+
+    fn joins(&self, count: u16, offset: u32, len: u32, bytes: &[u8]) -> bool {
+        match parts_of(self.alloc, &self.memory, count, offset, len) {
+            Ok((_, joined)) => joined.as_slice() == bytes,
+            Err(_) => false,
+        }
+    }
+
+    fn fills(&mut self, offset: u32, wanted: Option<(usize, usize)>) -> bool {
+        match fill_from(&mut self.memory, offset, 0xAA) {
+            Some(Run { start, len }) => wanted == Some((start, len)),
+            None => wanted.is_none(),
+        }
+    }
+
+    /// Whether a step is as it says.
+    fn passes(&mut self, step: Step) -> bool {
+        match step {
+            Step::Puts(address, bytes) => self.memory.put_client(address, bytes) == Ok(()),
+            Step::CannotPut(address, bytes) => {
+                self.memory.put_client(address, bytes) == Err(Outside)
+            }
+            Step::Shows(address, byte) => self.shows(address, byte),
+            Step::Lists(number, entry) => self.lists(number, entry),
+            Step::Delivers => deliver(&mut self.memory, &counting()) == Ok(512),
+            Step::Parts(count, offset, len, sizes) => self.parts(count, offset, len, sizes),
+            Step::Joins(count, offset, len, bytes) => self.joins(count, offset, len, bytes),
+            Step::Fills(offset, wanted) => self.fills(offset, wanted),
+        }
+    }
+
+    /// The number of the first step that is not as it says.
+    fn first_wrong(&mut self, steps: &[Step]) -> Option<usize> {
+        for (i, step) in steps.iter().enumerate() {
+            if !self.passes(*step) {
+                return Some(i);
+            }
+        }
+        None
+    }
+}
+
+/// Each step of a memory of 2 MiB is as it says.
+fn play(rt: &impl Abort, alloc: Global, steps: &[Step]) -> Result<(), MemoryError> {
+    let memory = HostMemory::new(alloc, 0x20_0000)?;
+    let mut rig = Rig { alloc, memory };
+    assert_eq!(rt; rig.first_wrong(steps), None, "the number of a step");
     Ok(())
 }
 
-#[test]
-fn gives_a_part_for_each_entry(rt: HostRuntime) -> Result<(), Fail> {
-    let mut memory = HostMemory::new(rt.alloc(), 0x20_0000)?;
-    let first = table([0x10_1000, 0, 1], [0x10_2000, 0, 5]);
-    let last = table([0x10_3000, 0, 503], [0, 0, 0]);
-    memory.structure_mut()[0x2000..0x2020].copy_from_slice(&first);
-    memory.structure_mut()[0x2020..0x2040].copy_from_slice(&last);
-    for (offset, len, want) in [
-        (0, 12, [2, 6, 4].as_slice()),
-        (1, 7, [1, 6].as_slice()),
-        (2, 510, [6, 504].as_slice()),
-        (8, 504, [504].as_slice()),
-        (512, 0, [].as_slice()),
-    ] {
-        let (sizes, joined) = parts_of(rt.alloc(), &memory, 3, offset, len)?;
-        assert_eq!(rt; sizes.as_slice(), want, "{offset} {len}");
-        assert_eq!(rt; joined.len(), len as usize, "{offset} {len}");
+/// Whether there is a memory of a size, in its two areas. Memory that is refused tells nothing.
+fn has_areas(alloc: Global, len: u32) -> bool {
+    match HostMemory::new(alloc, len) {
+        Ok(memory) => {
+            memory.structure().len() == 1_048_576
+                && memory.client().len() == (len as usize).saturating_sub(1_048_576)
+        }
+        // Where an allocation is made to fail.
+        Err(error) => error == MemoryError::OutOfMemory,
     }
-    Ok(())
+}
+
+#[test]
+fn finds_memory_that_is_there(rt: HostRuntime) {
+    assert!(rt; has_areas(rt.alloc(), 2_097_152) && has_areas(rt.alloc(), 16_777_216));
+}
+
+fn is_bad_size(alloc: Global, len: u32) -> bool {
+    matches!(HostMemory::new(alloc, len), Err(MemoryError::BadSize))
+}
+
+/// A structure area alone is not a memory; odd sizes and sizes past the limits are refused.
+#[test]
+fn refuses_sizes(rt: HostRuntime) {
+    for len in [0, 1_048_576, 2_097_150, 2_097_153, 16_777_217, 16_777_218] {
+        assert!(rt; is_bad_size(rt.alloc(), len), "{len}");
+    }
+}
+
+static PUTS: [Step; 14] = [
+    Step::Puts(0x10_0000, &[1, 2]),
+    Step::Puts(0x1F_FFFF, &[3]),
+    Step::Puts(0x20_0000, &[]),
+    Step::CannotPut(0x1F_FFFF, &[4, 5]),
+    Step::CannotPut(0x20_0000, &[4]),
+    Step::CannotPut(0x20_0001, &[]),
+    Step::CannotPut(0x0F_FFFF, &[]),
+    Step::CannotPut(u32::MAX, &[4]),
+    Step::Shows(0x10_0000, Some(1)),
+    Step::Shows(0x10_0001, Some(2)),
+    Step::Shows(0x10_0002, Some(0)),
+    Step::Shows(0x1F_FFFE, Some(0)),
+    Step::Shows(0x1F_FFFF, Some(3)),
+    Step::Shows(0x20_0000, None),
+];
+
+#[test]
+fn puts_client_bytes(rt: HostRuntime) -> Result<(), MemoryError> {
+    play(&rt, rt.alloc(), &PUTS)
+}
+
+static SCATTERS: [Step; 13] = [
+    Step::Lists(0, (0x10_1000, 0, 0x12B)),
+    Step::Lists(1, (0x10_2000, 0, 0xD3)),
+    Step::Puts(0x10_112C, &[0xEE]),
+    Step::Delivers,
+    Step::Shows(0x10_0FFF, Some(0)),
+    Step::Shows(0x10_1000, Some(0)),
+    Step::Shows(0x10_1001, Some(1)),
+    Step::Shows(0x10_112B, Some(0x2B)),
+    Step::Shows(0x10_112C, Some(0xEE)),
+    Step::Shows(0x10_1FFF, Some(0)),
+    Step::Shows(0x10_2000, Some(0x2C)),
+    Step::Shows(0x10_20D3, Some(0xFF)),
+    Step::Shows(0x10_20D4, Some(0)),
+];
+
+#[test]
+fn scatters_a_transfer(rt: HostRuntime) -> Result<(), MemoryError> {
+    tables_are_of_their_bytes();
+    scatters_are_single_writes();
+    play(&rt, rt.alloc(), &SCATTERS)
+}
+
+static PARTS: [Step; 23] = [
+    Step::Lists(0, (0x10_1000, 0, 0x12B)),
+    Step::Lists(1, (0x10_2000, 0, 0xD3)),
+    Step::Puts(0x10_1000, &[1, 2]),
+    Step::Puts(0x10_112A, &[3, 4, 0xEE]),
+    Step::Puts(0x10_2000, &[5, 6]),
+    Step::Puts(0x10_20D2, &[7, 8, 0xEE]),
+    Step::Parts(2, 0, 2, &[2]),
+    Step::Joins(2, 0, 2, &[1, 2]),
+    Step::Parts(2, 298, 4, &[2, 2]),
+    Step::Joins(2, 298, 4, &[3, 4, 5, 6]),
+    Step::Parts(2, 298, 2, &[2]),
+    Step::Joins(2, 298, 2, &[3, 4]),
+    Step::Parts(2, 300, 2, &[2]),
+    Step::Joins(2, 300, 2, &[5, 6]),
+    Step::Parts(2, 510, 2, &[2]),
+    Step::Joins(2, 510, 2, &[7, 8]),
+    Step::Parts(2, 1, 1, &[1]),
+    Step::Joins(2, 1, 1, &[2]),
+    Step::Parts(2, 512, 0, &[]),
+    Step::Joins(2, 512, 0, &[]),
+    Step::Parts(2, 300, 0, &[]),
+    Step::Joins(2, 300, 0, &[]),
+    Step::Parts(2, 0, 512, &[300, 212]),
+];
+
+#[test]
+fn gives_parts(rt: HostRuntime) -> Result<(), MemoryError> {
+    play(&rt, rt.alloc(), &PARTS)
+}
+
+/// Entries of 2, 6 and 504 bytes.
+static RUNS: [Step; 17] = [
+    Step::Lists(0, (0x10_1000, 0, 1)),
+    Step::Lists(1, (0x10_2000, 0, 5)),
+    Step::Lists(2, (0x10_3000, 0, 503)),
+    Step::Fills(4, Some((0x2002, 4))),
+    Step::Fills(1, Some((0x1001, 1))),
+    Step::Fills(511, Some((0x31F7, 1))),
+    Step::Fills(512, None),
+    Step::Shows(0x10_1000, Some(0)),
+    Step::Shows(0x10_1001, Some(0xAA)),
+    Step::Shows(0x10_1002, Some(0)),
+    Step::Shows(0x10_2001, Some(0)),
+    Step::Shows(0x10_2002, Some(0xAA)),
+    Step::Shows(0x10_2005, Some(0xAA)),
+    Step::Shows(0x10_2006, Some(0)),
+    Step::Shows(0x10_31F6, Some(0)),
+    Step::Shows(0x10_31F7, Some(0xAA)),
+    Step::Shows(0x10_31F8, Some(0)),
+];
+
+#[test]
+fn gives_a_run_to_be_written(rt: HostRuntime) -> Result<(), MemoryError> {
+    play(&rt, rt.alloc(), &RUNS)
+}
+
+static EACH_ENTRY: [Step; 8] = [
+    Step::Lists(0, (0x10_1000, 0, 1)),
+    Step::Lists(1, (0x10_2000, 0, 5)),
+    Step::Lists(2, (0x10_3000, 0, 503)),
+    Step::Parts(3, 0, 12, &[2, 6, 4]),
+    Step::Parts(3, 1, 7, &[1, 6]),
+    Step::Parts(3, 2, 510, &[6, 504]),
+    Step::Parts(3, 8, 504, &[504]),
+    Step::Parts(3, 512, 0, &[]),
+];
+
+#[test]
+fn gives_a_part_for_each_entry(rt: HostRuntime) -> Result<(), MemoryError> {
+    play(&rt, rt.alloc(), &EACH_ENTRY)
+}
+
+const GOOD: Entry = (0x10_1000, 0, 511);
+
+const BEYOND: Entry = (0x1F_FE02, 0, 511);
+
+const BAD: Entry = (0x10_3001, 0, 511);
+
+/// Two entries, and why their table is refused.
+static TABLES: [(Entry, Entry, Option<PrdError>); 14] = [
+    (GOOD, (0x10_1200, 0, 511), None),
+    (GOOD, (0x1F_FE00, 0, 511), None),
+    (GOOD, (0x10_11FE, 0, 511), Some(PrdError::Overlap)),
+    ((0x10_11FE, 0, 511), GOOD, Some(PrdError::Overlap)),
+    (GOOD, BEYOND, Some(PrdError::OutsideClient)),
+    (GOOD, (0x0F_FFFE, 0, 1), Some(PrdError::OutsideClient)),
+    (GOOD, BAD, Some(PrdError::BadEntry)),
+    (GOOD, (0x10_3000, 1, 511), Some(PrdError::BadEntry)),
+    (GOOD, (0x10_3000, 0, 510), Some(PrdError::BadEntry)),
+    // entry by entry, and a bad entry is not checked further
+    (BEYOND, BAD, Some(PrdError::OutsideClient)),
+    (BAD, BEYOND, Some(PrdError::BadEntry)),
+    (GOOD, (0x1F_FE03, 0, 511), Some(PrdError::BadEntry)),
+    // and the entries against each other last
+    (BEYOND, BEYOND, Some(PrdError::OutsideClient)),
+    (BAD, BAD, Some(PrdError::BadEntry)),
+];
+
+/// Whether a table of so many entries, at this place of these bytes, is refused for this.
+fn is_refused(bytes: &[u8], at: u32, count: u16, wanted: Option<PrdError>) -> bool {
+    PrdTable::read(bytes, MIB, at, count).err() == wanted
 }
 
 #[test]
 fn refuses_tables(rt: HostRuntime) {
-    let good = [0x10_1000, 0, 511];
-    let beyond = [0x1F_FE02, 0, 511];
-    let bad = [0x10_3001, 0, 511];
-    let outside = Some(PrdError::OutsideClient);
-    let bad_entry = Some(PrdError::BadEntry);
-    let overlap = Some(PrdError::Overlap);
-    for (first, second, want) in [
-        (good, [0x10_1200, 0, 511], None),
-        (good, [0x1F_FE00, 0, 511], None),
-        (good, [0x10_11FE, 0, 511], overlap),
-        ([0x10_11FE, 0, 511], good, overlap),
-        (good, beyond, outside),
-        (good, [0x0F_FFFE, 0, 1], outside),
-        (good, bad, bad_entry),
-        (good, [0x10_3000, 1, 511], bad_entry),
-        (good, [0x10_3000, 0, 510], bad_entry),
-        // entry by entry, and a bad entry is not checked further
-        (beyond, bad, outside),
-        (bad, beyond, bad_entry),
-        (good, [0x1F_FE03, 0, 511], bad_entry),
-        // and the entries against each other last
-        (beyond, beyond, outside),
-        (bad, bad, bad_entry),
-    ] {
-        let bytes = table(first, second);
-        let refused = PrdTable::read(&bytes, MIB, 0, 2).err();
-        assert_eq!(rt; refused, want, "{first:?} {second:?}");
+    for (number, (first, second, wanted)) in TABLES.iter().enumerate() {
+        assert!(rt;
+            is_refused(&table(*first, *second), 0, 2, *wanted),
+            "{number}"
+        );
     }
-    let bytes = table(bad, beyond);
-    assert_eq!(rt;
-        PrdTable::read(&bytes, MIB, 1, 2).err(),
-        Some(PrdError::OutsideStructure)
-    );
-    assert_eq!(rt;
-        PrdTable::read(&bytes, MIB, 33, 0).err(),
-        Some(PrdError::OutsideStructure)
-    );
-    assert_eq!(rt; PrdTable::read(&bytes, MIB, 32, 0).err(), None);
+    let bytes = table(BAD, BEYOND);
+    let outside = Some(PrdError::OutsideStructure);
+    assert!(rt; is_refused(&bytes, 1, 2, outside) && is_refused(&bytes, 33, 0, outside));
+    assert!(rt; is_refused(&bytes, 32, 0, None));
+}
+
+/// Whether two entries at 101000h and 103000h share a byte with one that begins here, told either way.
+fn shares(first: u32, wanted: bool) -> Result<bool, PrdError> {
+    let one = table(GOOD, (0x10_3000, 0, 511));
+    let one = PrdTable::read(&one, MIB, 0, 2)?;
+    let other = table((0x10_8000, 0, 1), (first, 0, 511));
+    let other = PrdTable::read(&other, MIB, 0, 2)?;
+    Ok(one.overlaps(&other) == wanted && other.overlaps(&one) == wanted)
 }
 
 #[test]
-fn finds_common_places(rt: HostRuntime) -> Result<(), Fail> {
-    let one = table([0x10_1000, 0, 511], [0x10_3000, 0, 511]);
-    let one = PrdTable::read(&one, MIB, 0, 2)?;
-    for (first, want) in [
+fn finds_common_places(rt: HostRuntime) -> Result<(), PrdError> {
+    for (first, wanted) in [
         (0x10_11FE, true),
         (0x10_1200, false),
         (0x10_2E00, false),
         (0x10_2E02, true),
     ] {
-        let other = table([0x10_8000, 0, 1], [first, 0, 511]);
-        let other = PrdTable::read(&other, MIB, 0, 2)?;
-        assert_eq!(rt; one.overlaps(&other), want, "{first:x}");
-        assert_eq!(rt; other.overlaps(&one), want, "{first:x}");
+        assert!(rt; shares(first, wanted)?, "{first}");
     }
     Ok(())
 }
 
 #[test]
-fn says_what_is_wrong(rt: HostRuntime) -> Result<(), Fail> {
-    let text = format!(in rt.alloc(); "{}, {}", Outside, MemoryError::OutOfMemory)?;
-    assert_eq!(rt; text.as_str(), "outside the client area, out of memory");
-    let text = format!(in rt.alloc(); "{}, {}", PrdError::BadEntry, PrdError::Overlap)?;
-    assert_eq!(rt; text.as_str(), "bad entry, entries overlap");
+fn says_what_is_wrong(rt: HostRuntime) -> Result<(), AllocError> {
+    let text = format!(in rt.alloc();
+        "{}, {}, {}, {}",
+        Outside,
+        MemoryError::OutOfMemory,
+        PrdError::BadEntry,
+        PrdError::Overlap
+    )?;
+    assert!(rt;
+        text.as_str() == "outside the client area, out of memory, bad entry, entries overlap"
+    );
     Ok(())
 }

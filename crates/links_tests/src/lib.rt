@@ -1,5 +1,5 @@
-//! The tests of links between threads, of what goes over them, and of the workers at their ends. They stand in a crate of
-//! their own, since a crate with tests is proved twice.
+//! The tests of links between threads, and of the runner of workers. They stand in a crate of their own, since a crate with
+//! tests is proved twice.
 #![tactic(auto)]
 
 #[cfg(test)]

@@ -9,3 +9,4 @@ mod of_pm_ports;
 mod of_pm_registers;
 mod of_port_errors;
 mod of_rx_area;
+mod pm_steps;

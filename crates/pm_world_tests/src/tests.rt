@@ -1,7 +1,6 @@
 //! What no clause says: values from outside, that calls succeed, and what refused memory leaves.
 
 mod dropping;
-mod echo;
 mod found;
 mod going;
 mod memory;
@@ -11,4 +10,3 @@ mod rig;
 mod running;
 mod sizes;
 mod steps;
-mod writing;

@@ -4,7 +4,6 @@ use fis_view::{
     PioSetupFields, SetBitsFields, d2h, dma_activate, dma_setup, h2d, payload, pio_setup, set_bits,
 };
 use std::alloc::{AllocError, Global};
-use std::process::Abort;
 use std::test::Fail;
 
 const COMMAND: H2dFields = H2dFields {
@@ -63,101 +62,125 @@ const BLOCK: PioSetupFields = PioSetupFields {
     transfer: 512,
 };
 
-/// The frame of each builder, if there was memory for it.
-fn all_built(alloc: Global) -> [Result<Frame, AllocError>; 6] {
-    [
-        h2d(alloc, &COMMAND, STAMP),
-        d2h(alloc, &ANSWER, STAMP),
-        set_bits(alloc, &DONE, STAMP),
-        dma_activate(alloc, &ACTIVATE, STAMP),
-        dma_setup(alloc, &SETUP, STAMP),
-        pio_setup(alloc, &BLOCK, STAMP),
-    ]
+/// Each builder.
+#[derive(Clone, Copy)]
+enum Builder {
+    Command,
+    Answer,
+    Done,
+    Activate,
+    Setup,
+    Block,
+}
+
+fn built(alloc: Global, builder: Builder) -> Result<Frame, AllocError> {
+    match builder {
+        Builder::Command => h2d(alloc, &COMMAND, STAMP),
+        Builder::Answer => d2h(alloc, &ANSWER, STAMP),
+        Builder::Done => set_bits(alloc, &DONE, STAMP),
+        Builder::Activate => dma_activate(alloc, &ACTIVATE, STAMP),
+        Builder::Setup => dma_setup(alloc, &SETUP, STAMP),
+        Builder::Block => pio_setup(alloc, &BLOCK, STAMP),
+    }
 }
 
 /// Their bytes.
-const BYTES: [&[u8]; 6] = [
-    &READ,
-    &[
-        0x34, 0x4F, 0x50, 1, 1, 2, 3, 0xA0, 4, 5, 6, 0, 7, 8, 0, 0, 0, 0, 0, 0,
-    ],
-    &[0xA1, 0xC3, 0x77, 4, 0x20, 0, 0, 0x80],
-    &[0x39, 2, 0, 0],
-    &[
-        0x41, 0xA3, 0, 0, 5, 0, 0, 0, 0, 0, 0, 1, 0, 0, 0, 0, 0, 4, 0, 0, 0, 2, 0, 0, 0, 0, 0, 0,
-    ],
-    &[
-        0x5F, 0x61, 0x58, 2, 1, 2, 3, 0xA0, 4, 5, 6, 0, 1, 0, 0, 0x50, 0, 2, 0, 0,
-    ],
+static BYTES: [(Builder, &[u8]); 6] = [
+    (Builder::Command, &READ),
+    (
+        Builder::Answer,
+        &[
+            0x34, 0x4F, 0x50, 1, 1, 2, 3, 0xA0, 4, 5, 6, 0, 7, 8, 0, 0, 0, 0, 0, 0,
+        ],
+    ),
+    (Builder::Done, &[0xA1, 0xC3, 0x77, 4, 0x20, 0, 0, 0x80]),
+    (Builder::Activate, &[0x39, 2, 0, 0]),
+    (
+        Builder::Setup,
+        &[
+            0x41, 0xA3, 0, 0, 5, 0, 0, 0, 0, 0, 0, 1, 0, 0, 0, 0, 0, 4, 0, 0, 0, 2, 0, 0, 0, 0, 0,
+            0,
+        ],
+    ),
+    (
+        Builder::Block,
+        &[
+            0x5F, 0x61, 0x58, 2, 1, 2, 3, 0xA0, 4, 5, 6, 0, 1, 0, 0, 0x50, 0, 2, 0, 0,
+        ],
+    ),
 ];
 
-/// Whether a frame was made and has these bytes and the stamp.
-fn is_made(made: &Result<Frame, AllocError>, bytes: &[u8]) -> Result<bool, AllocError> {
-    match made {
-        Ok(frame) => Ok(frame.bytes() == bytes && frame.stamp() == STAMP),
-        Err(_) => Err(AllocError),
-    }
+/// Whether a frame has these bytes and the stamp.
+fn is(frame: &Frame, bytes: &[u8]) -> bool {
+    frame.bytes() == bytes && frame.stamp() == STAMP
 }
 
 #[test]
 fn build_the_bytes_of_the_standard(rt: HostRuntime) -> Result<(), Fail> {
-    for (made, bytes) in all_built(rt.alloc()).iter().zip(BYTES.iter()) {
-        assert!(rt; is_made(made, bytes)?, "{bytes:?}");
+    for (builder, bytes) in &BYTES {
+        let frame = built(rt.alloc(), *builder)?;
+        assert!(rt; is(&frame, bytes), "{bytes:?}");
     }
     Ok(())
-}
-
-/// The number of bytes of the Data FIS that carries these.
-fn len_of(alloc: Global, data: &[u8]) -> Result<usize, FrameError> {
-    Ok(payload(alloc, 0, data, STAMP)?.bytes().len())
 }
 
 #[test]
 fn builds_a_payload(rt: HostRuntime) -> Result<(), Fail> {
     let frame = payload(rt.alloc(), 0xF2, &[1, 2, 3, 4], STAMP)?;
-    assert_eq!(rt; frame.bytes(), [0x46, 2, 0, 0, 1, 2, 3, 4].as_slice());
-    assert_eq!(rt; frame.stamp(), STAMP);
+    assert!(rt; is(&frame, &[0x46, 2, 0, 0, 1, 2, 3, 4]));
     Ok(())
+}
+
+/// Whether a Data FIS of so many bytes is made, or refused.
+fn is_refused(alloc: Global, count: usize, refused: bool) -> bool {
+    let bytes = [0; 8196];
+    match payload(alloc, 0, bytes.get(..count).unwrap_or(&[]), STAMP) {
+        Ok(frame) => !refused && frame.bytes().len() == count.saturating_add(4),
+        Err(fault) => refused && fault == FrameError::BadLength,
+    }
 }
 
 #[test]
-fn refuses_other_payloads(rt: HostRuntime) -> Result<(), Fail> {
-    let alloc = rt.alloc();
-    assert_eq!(rt; len_of(alloc, &[0; 8192])?, 8196);
-    let bytes = [0; 8196];
-    for data in [bytes.as_slice(), &bytes[..6], &bytes[..0]] {
-        assert_eq!(rt; len_of(alloc, data).err(), Some(FrameError::BadLength));
+fn refuses_other_payloads(rt: HostRuntime) {
+    for (count, refused) in [(8192, false), (8196, true), (6, true), (0, true)] {
+        assert!(rt; is_refused(rt.alloc(), count, refused), "{count}");
     }
-    Ok(())
 }
 
-/// 1 if memory was refused. Any other refusal of a valid length is a failure.
-fn refused(rt: &impl Abort, made: Result<Frame, FrameError>) -> usize {
+/// 1 if memory was refused, 2 for any other refusal.
+fn refused(made: Result<Frame, FrameError>) -> usize {
     match made {
         Ok(_) => 0,
-        Err(fault) => {
-            assert_eq!(rt; fault, FrameError::OutOfMemory);
-            1
+        Err(FrameError::OutOfMemory) => 1,
+        Err(_) => 2,
+    }
+}
+
+/// How many calls were refused memory; a refusal of another kind counts as two.
+fn all_refused(alloc: Global) -> usize {
+    let mut count = refused(payload(alloc, 0, &[0; 4], STAMP));
+    for (builder, _) in &BYTES {
+        if built(alloc, *builder).is_err() {
+            count = count.saturating_add(1);
         }
     }
+    match Frame::from_bytes(alloc, &READ, STAMP) {
+        Ok(frame) => {
+            if frame.copy(alloc).is_err() {
+                count = count.saturating_add(1);
+            }
+        }
+        Err(_) => count = count.saturating_add(1),
+    }
+    if Bytes::from_slice(alloc, &READ).is_err() {
+        count = count.saturating_add(1);
+    }
+    count
 }
 
 /// Refuses the first, second, .. allocation in turn. Each of them belongs to one call, and only that call
 /// fails.
 #[test]
 fn each_refused_allocation_is_answered(rt: HostRuntime) {
-    let alloc = rt.alloc();
-    let mut count = refused(&rt, payload(alloc, 0, &[0; 4], STAMP));
-    for made in all_built(alloc) {
-        count = refused(&rt, made.map_err(FrameError::from)).saturating_add(count);
-    }
-    let frame = Frame::from_bytes(alloc, &READ, STAMP);
-    if let Ok(frame) = &frame {
-        count = refused(&rt, frame.copy(alloc).map_err(FrameError::from)).saturating_add(count);
-    }
-    count = refused(&rt, frame).saturating_add(count);
-    if Bytes::from_slice(alloc, &READ).is_err() {
-        count = count.saturating_add(1);
-    }
-    assert!(rt; count <= 1);
+    assert!(rt; all_refused(rt.alloc()) <= 1);
 }

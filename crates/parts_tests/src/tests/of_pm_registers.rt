@@ -1,160 +1,136 @@
 //! What no clause says: values from outside, and that calls succeed.
 
-ghost use Rattle.std.specs.Prelude.{◌<◌, ◌≡◌};
-
+use super::pm_steps::Step::{
+    Clears, Connects, Forwards, Inserts, IsDue, Opens, Raises, Refuses, Removes, Shows, Writes,
+};
+use super::pm_steps::{Step, play};
 use pm_registers::{
     CONTROL_PORT, DET_MASK, DET_OFFLINE, FEATURE_NOTIFICATION, GSCR_ENABLED, GSCR_MASK,
-    GSCR_SUMMARY, PSCR_CONTROL, PSCR_ERROR, PSCR_STATUS, PmRegisters, RegisterError, SERROR_F,
-    SERROR_N, SERROR_X, STATUS_ESTABLISHED, registers_follow_calls,
+    GSCR_SUMMARY, PSCR_CONTROL, PSCR_ERROR, PSCR_STATUS, RegisterError, SERROR_F, SERROR_N,
+    SERROR_X, STATUS_ESTABLISHED, registers_follow_calls,
 };
-use std::test::Fail;
+use std::alloc::AllocError;
+
+static OPENING: [Step; 16] = [
+    Shows(15, 0, 0x1001_5241),
+    Shows(15, 1, 0xE),
+    Shows(15, 2, 4),
+    Shows(15, 32, 0),
+    Shows(15, 33, 0x0400_FFFF),
+    Shows(15, 64, 8),
+    Shows(15, 96, 0),
+    Shows(0, 0, 4),
+    Shows(0, 1, 0),
+    Shows(0, 2, 4),
+    Shows(3, 0, 4),
+    Shows(3, 1, 0),
+    Shows(3, 2, 4),
+    IsDue(false),
+    Forwards(0, false),
+    Forwards(15, false),
+];
 
 #[test]
 fn opens_as_the_table_says(rt: HostRuntime) {
     registers_follow_calls();
-    let registers = PmRegisters::new(4);
-    let opening = [
-        (15, 0, 0x1001_5241),
-        (15, 1, 0xE),
-        (15, 2, 4),
-        (15, 32, 0),
-        (15, 33, 0x0400_FFFF),
-        (15, 64, 8),
-        (15, 96, 0),
-        (0, 0, 4),
-        (0, 1, 0),
-        (0, 2, 4),
-        (3, 0, 4),
-        (3, 1, 0),
-        (3, 2, 4),
-    ];
-    for (port, register, value) in opening {
-        assert_eq!(rt;
-            registers.read(port, register),
-            Ok(value),
-            "{port}, {register}"
-        );
-    }
-    assert!(rt; !registers.notice_due());
-    assert!(rt; !registers.forwards(0));
-    assert!(rt; !registers.forwards(15));
+    play(&rt, rt.alloc(), &OPENING);
 }
+
+static ONES_CLEAR: [Step; 13] = [
+    Writes(2, PSCR_CONTROL, 0),
+    Shows(2, PSCR_STATUS, 0),
+    Inserts(2),
+    Forwards(2, false),
+    Raises(2, 1),
+    Shows(2, PSCR_ERROR, 0x0401_0001),
+    Writes(2, PSCR_ERROR, 0x0401_0000),
+    Shows(2, PSCR_ERROR, 1),
+    Shows(2, PSCR_STATUS, 0x133),
+    Forwards(2, true),
+    Raises(2, SERROR_F),
+    Shows(2, PSCR_ERROR, 0x0200_0001),
+    Forwards(2, true),
+];
 
 #[test]
-fn ones_clear_errors(rt: HostRuntime) -> Result<(), Fail> {
-    let mut registers = PmRegisters::new(4);
-    registers.write(2, PSCR_CONTROL, 0)?;
-    assert_eq!(rt; registers.read(2, PSCR_STATUS), Ok(0));
-    registers.insert(2);
-    assert!(rt; !registers.forwards(2));
-    registers.raise(2, 1);
-    assert_eq!(rt; registers.read(2, PSCR_ERROR), Ok(0x0401_0001));
-    registers.write(2, PSCR_ERROR, 0x0401_0000)?;
-    assert_eq!(rt; registers.read(2, PSCR_ERROR), Ok(1));
-    assert_eq!(rt; registers.read(2, PSCR_STATUS), Ok(0x133));
-    assert!(rt; registers.forwards(2));
-    registers.raise(2, SERROR_F);
-    assert_eq!(rt; registers.read(2, PSCR_ERROR), Ok(0x0200_0001));
-    assert!(rt; registers.forwards(2));
-    Ok(())
+fn ones_clear_errors(rt: HostRuntime) {
+    play(&rt, rt.alloc(), &ONES_CLEAR);
 }
+
+static EXCHANGE: [Step; 18] = [
+    Opens(1),
+    Writes(0, PSCR_CONTROL, 0),
+    Inserts(0),
+    Writes(0, PSCR_ERROR, 0xFFFF_FFFF),
+    Writes(0, PSCR_CONTROL, DET_OFFLINE),
+    Shows(0, PSCR_STATUS, 4),
+    Removes(0),
+    Inserts(0),
+    Shows(0, PSCR_STATUS, 4),
+    Shows(0, PSCR_ERROR, 0),
+    Writes(0, PSCR_CONTROL, 0),
+    Shows(0, PSCR_STATUS, STATUS_ESTABLISHED),
+    Shows(0, PSCR_ERROR, SERROR_N | SERROR_X),
+    Forwards(0, false),
+    Writes(0, PSCR_CONTROL, 0x301),
+    Shows(0, PSCR_STATUS, 0),
+    Writes(0, PSCR_CONTROL, DET_MASK),
+    Shows(0, PSCR_CONTROL, 0xF),
+];
 
 #[test]
-fn an_exchange_behind_a_closed_port_shows_as_it_opens(rt: HostRuntime) -> Result<(), Fail> {
-    let mut registers = PmRegisters::new(1);
-    registers.write(0, PSCR_CONTROL, 0)?;
-    registers.insert(0);
-    registers.write(0, PSCR_ERROR, 0xFFFF_FFFF)?;
-    registers.write(0, PSCR_CONTROL, DET_OFFLINE)?;
-    assert_eq!(rt; registers.read(0, PSCR_STATUS), Ok(4));
-    registers.remove(0);
-    registers.insert(0);
-    assert_eq!(rt; registers.read(0, PSCR_STATUS), Ok(4));
-    assert_eq!(rt; registers.read(0, PSCR_ERROR), Ok(0));
-    registers.write(0, PSCR_CONTROL, 0)?;
-    assert_eq!(rt; registers.read(0, PSCR_STATUS), Ok(STATUS_ESTABLISHED));
-    assert_eq!(rt; registers.read(0, PSCR_ERROR), Ok(SERROR_N | SERROR_X));
-    assert!(rt; !registers.forwards(0));
-    registers.write(0, PSCR_CONTROL, 0x301)?;
-    assert_eq!(rt; registers.read(0, PSCR_STATUS), Ok(0));
-    registers.write(0, PSCR_CONTROL, DET_MASK)?;
-    assert_eq!(rt; registers.read(0, PSCR_CONTROL), Ok(0xF));
-    Ok(())
+fn an_exchange_behind_a_closed_port_shows_as_it_opens(rt: HostRuntime) {
+    play(&rt, rt.alloc(), &EXCHANGE);
 }
 
-/// Opens a port to a device, and clears its SError.
-fn connect(registers: &mut PmRegisters, n: u8) -> Result<(), RegisterError>
-    requires { n < registers.old.ports }
-    ensures { registers.new.ports ≡ registers.old.ports }
-{
-    registers.write(n, PSCR_CONTROL, 0)?;
-    registers.insert(n);
-    registers.write(n, PSCR_ERROR, 0x0401_0000)
-}
+static TWO_REMOVALS: [Step; 22] = [
+    Connects(1),
+    Connects(2),
+    Writes(CONTROL_PORT, GSCR_MASK, 0x0401_0000),
+    Writes(CONTROL_PORT, GSCR_ENABLED, 0xFFFF_FFFF),
+    Shows(CONTROL_PORT, GSCR_ENABLED, FEATURE_NOTIFICATION),
+    IsDue(false),
+    Removes(1),
+    Removes(2),
+    Shows(CONTROL_PORT, GSCR_SUMMARY, 6),
+    IsDue(true),
+    Clears,
+    IsDue(false),
+    Shows(CONTROL_PORT, GSCR_SUMMARY, 6),
+    Inserts(1),
+    IsDue(false),
+    Writes(CONTROL_PORT, GSCR_MASK, 0),
+    Writes(CONTROL_PORT, GSCR_MASK, 0x0400_0000),
+    Shows(CONTROL_PORT, GSCR_SUMMARY, 2),
+    IsDue(true),
+    Writes(CONTROL_PORT, GSCR_ENABLED, 0),
+    Writes(CONTROL_PORT, GSCR_MASK, 0),
+    IsDue(true),
+];
 
 #[test]
-fn two_removals_make_one_notice(rt: HostRuntime) -> Result<(), Fail> {
-    let mut registers = PmRegisters::new(4);
-    connect(&mut registers, 1)?;
-    connect(&mut registers, 2)?;
-    registers.write(CONTROL_PORT, GSCR_MASK, 0x0401_0000)?;
-    registers.write(CONTROL_PORT, GSCR_ENABLED, 0xFFFF_FFFF)?;
-    assert_eq!(rt;
-        registers.read(CONTROL_PORT, GSCR_ENABLED),
-        Ok(FEATURE_NOTIFICATION)
-    );
-    assert!(rt; !registers.notice_due());
-    registers.remove(1);
-    registers.remove(2);
-    assert_eq!(rt; registers.read(CONTROL_PORT, GSCR_SUMMARY), Ok(6));
-    assert!(rt; registers.notice_due());
-    registers.clear_notice();
-    assert!(rt; !registers.notice_due());
-    assert_eq!(rt; registers.read(CONTROL_PORT, GSCR_SUMMARY), Ok(6));
-    registers.insert(1);
-    assert!(rt; !registers.notice_due());
-    registers.write(CONTROL_PORT, GSCR_MASK, 0)?;
-    registers.write(CONTROL_PORT, GSCR_MASK, 0x0400_0000)?;
-    assert_eq!(rt; registers.read(CONTROL_PORT, GSCR_SUMMARY), Ok(2));
-    assert!(rt; registers.notice_due());
-    registers.write(CONTROL_PORT, GSCR_ENABLED, 0)?;
-    registers.write(CONTROL_PORT, GSCR_MASK, 0)?;
-    assert!(rt; registers.notice_due());
-    Ok(())
+fn two_removals_make_one_notice(rt: HostRuntime) {
+    play(&rt, rt.alloc(), &TWO_REMOVALS);
 }
 
+static REFUSED: [Step; 10] = [
+    Refuses(9, 99, RegisterError::NoPort),
+    Refuses(4, 0, RegisterError::NoPort),
+    Refuses(16, 0, RegisterError::NoPort),
+    Refuses(15, 3, RegisterError::NoRegister),
+    Refuses(15, 99, RegisterError::NoRegister),
+    Refuses(3, 3, RegisterError::NoRegister),
+    Writes(CONTROL_PORT, GSCR_SUMMARY, 7),
+    Writes(0, PSCR_STATUS, 7),
+    Shows(CONTROL_PORT, GSCR_SUMMARY, 0),
+    Shows(0, PSCR_STATUS, 4),
+];
+
 #[test]
-fn refuses_ports_before_registers(rt: HostRuntime) -> Result<(), Fail> {
-    let mut registers = PmRegisters::new(4);
-    let refused = [
-        (9, 99, RegisterError::NoPort),
-        (4, 0, RegisterError::NoPort),
-        (16, 0, RegisterError::NoPort),
-        (15, 3, RegisterError::NoRegister),
-        (15, 99, RegisterError::NoRegister),
-        (3, 3, RegisterError::NoRegister),
-    ];
-    for (port, register, error) in refused {
-        assert_eq!(rt;
-            registers.read(port, register),
-            Err(error),
-            "{port}, {register}"
-        );
-        assert_eq!(rt;
-            registers.write(port, register, 1),
-            Err(error),
-            "{port}, {register}"
-        );
-    }
-    registers.write(CONTROL_PORT, GSCR_SUMMARY, 7)?;
-    registers.write(0, PSCR_STATUS, 7)?;
-    assert_eq!(rt; registers.read(CONTROL_PORT, GSCR_SUMMARY), Ok(0));
-    assert_eq!(rt; registers.read(0, PSCR_STATUS), Ok(4));
+fn refuses_ports_before_registers(rt: HostRuntime) -> Result<(), AllocError> {
+    play(&rt, rt.alloc(), &REFUSED);
     let text = format!(in rt.alloc(); "{}, {}", RegisterError::NoPort, RegisterError::NoRegister)?;
-    assert_eq!(rt; text.as_str(), "no such port, no such register");
-    assert_eq!(rt;
-        (RegisterError::NoPort as u8, RegisterError::NoRegister as u8),
-        (1, 2)
-    );
+    assert!(rt; text.as_str() == "no such port, no such register");
+    assert!(rt; RegisterError::NoPort as u8 == 1 && RegisterError::NoRegister as u8 == 2);
     Ok(())
 }

@@ -80,6 +80,8 @@ fn a_shut_gate_leaves_all_open(rt: HostRuntime) -> Result<(), Fail> {
     let partial = partial_by(&rt, alloc, failure, RunError::GateShut)?;
     assert!(rt; partial.states.iter().all(|state| state.is_open()));
     assert!(rt; partial.units.len() == 2 && !is_written(&partial.units));
+    // The seats are given, whatever came of it.
+    assert!(rt; links.are_given());
     Ok(())
 }
 

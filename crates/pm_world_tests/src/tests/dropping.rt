@@ -2,43 +2,10 @@
 
 use super::rig::{Act, Told};
 use super::steps::Seen::{Comes, Does, Dropped, Rows};
-use super::steps::{all_held, plays};
-use fis_view::{Frame, FrameError, Stamp};
+use super::steps::{Seen, plays};
 use hba_driver::Work;
-use multiplier::{Multiplier, Passed};
-use std::alloc::Global;
+use multiplier::Passed;
 use std::test::Fail;
-
-/// The queued read of one sector that the host sends to port 3.
-const READ: [u8; 20] = [
-    0x27, 0x83, 0x60, 1, 0, 1, 0, 0x40, 0, 0, 0, 0, 0x28, 0, 0, 0, 0, 0, 0, 0,
-];
-
-fn read(alloc: Global) -> Result<Frame, FrameError> {
-    let stamp = Stamp {
-        port: 3,
-        conn: 0,
-        number: 0,
-        shown: [0; 15],
-    };
-    Frame::from_bytes(alloc, &READ, stamp)
-}
-
-/// A multiplier without devices drops the read, and counts it.
-fn drops(alloc: Global, pm: &mut Multiplier) -> Result<bool, FrameError> {
-    let passed = pm.from_host(alloc, read(alloc)?);
-    Ok(matches!(passed, Ok(Passed::Dropped)) && pm.dropped() == 1)
-}
-
-/// Port 3 is there and has no device, and then it is not there.
-#[test]
-fn closed_ports_drop(rt: HostRuntime) -> Result<(), Fail> {
-    let alloc = rt.alloc();
-    let four = drops(alloc, &mut Multiplier::new(4))?;
-    let three = drops(alloc, &mut Multiplier::new(3))?;
-    all_held(&rt, &[four, three]);
-    Ok(())
-}
 
 /// The command of a read of the disk is on the host's link.
 const ASKS: &[(Act, Told)] = &[
@@ -56,10 +23,11 @@ const CLOSES: &[(Act, Told)] = &[
 ];
 
 /// What is dropped leaves the host's link, and is counted once.
+static LEAVE: [Seen; 4] = [Comes, Rows(ASKS), Rows(CLOSES), Dropped(1)];
+
 #[test]
 fn dropped_frames_leave_their_link(rt: HostRuntime) -> Result<(), Fail> {
-    let steps = [Comes, Rows(ASKS), Rows(CLOSES), Dropped(1)];
-    plays(&rt, rt.alloc(), 1, &steps)
+    plays(&rt, rt.alloc(), 1, &LEAVE)
 }
 
 /// It goes to its port, and on to the link of the disk.
@@ -86,22 +54,26 @@ const COMES_AGAIN: &[(Act, Told)] = &[
     (Act::Came(0), Told::Came(0, 2)),
 ];
 
+/// The disk goes while the frame is on its link.
+const GOES: Seen = Does(Act::Gone(0), Told::Gone(0, 1));
+
+static SEEN: [Seen; 4] = [Comes, Rows(ASKS), Rows(PASSES), Rows(TAKES)];
+
+static OUT: [Seen; 5] = [Comes, Rows(ASKS), Rows(PASSES), GOES, Rows(DROPS)];
+
+static OTHER: [Seen; 6] = [
+    Comes,
+    Rows(ASKS),
+    Rows(PASSES),
+    GOES,
+    Rows(COMES_AGAIN),
+    Rows(DROPS),
+];
+
 /// A disk that is not plugged in, or plugged in under another connection, does not see the frame.
 #[test]
 fn other_connections_are_dropped(rt: HostRuntime) -> Result<(), Fail> {
-    let alloc = rt.alloc();
-    let goes = Does(Act::Gone(0), Told::Gone(0, 1));
-    let seen = [Comes, Rows(ASKS), Rows(PASSES), Rows(TAKES)];
-    plays(&rt, alloc, 1, &seen)?;
-    let out = [Comes, Rows(ASKS), Rows(PASSES), goes, Rows(DROPS)];
-    plays(&rt, alloc, 1, &out)?;
-    let other = [
-        Comes,
-        Rows(ASKS),
-        Rows(PASSES),
-        goes,
-        Rows(COMES_AGAIN),
-        Rows(DROPS),
-    ];
-    plays(&rt, alloc, 1, &other)
+    plays(&rt, rt.alloc(), 1, &SEEN)?;
+    plays(&rt, rt.alloc(), 1, &OUT)?;
+    plays(&rt, rt.alloc(), 1, &OTHER)
 }

@@ -2,7 +2,7 @@
 
 use super::rig::{Act, Rig, Told};
 use super::steps::Seen::{Asks, Comes, Counts, Does, Rows, Settles, WaitsToBeSeen};
-use super::steps::plays;
+use super::steps::{Seen, plays};
 use hba_driver::{Completion, Outcome, Ticket, Work};
 use pm_world::StepError;
 use std::test::Fail;
@@ -99,25 +99,26 @@ const COMES: &[(Act, Told)] = &[
 
 /// A device goes during a read, and its request ends as removed. It comes again under the next
 /// connection.
+static GOES_AND_COMES: [Seen; 16] = [
+    Comes,
+    Counts(1, 1, (3, 3)),
+    Asks,
+    Rows(SERVES),
+    Rows(GOES),
+    Settles,
+    Counts(1, 1, (6, 4)),
+    Does(Act::Poll, REMOVED),
+    Rows(COMES),
+    WaitsToBeSeen,
+    Counts(1, 2, (1, 0)),
+    Does(Act::PmUp, Told::Up(1)),
+    Does(Act::HostTake, Told::Took(1, 2, 0)),
+    Settles,
+    Counts(1, 2, (3, 3)),
+    Counts(1, 1, (6, 4)),
+];
+
 #[test]
 fn a_device_goes_and_comes_again(rt: HostRuntime) -> Result<(), Fail> {
-    let steps = [
-        Comes,
-        Counts(1, 1, (3, 3)),
-        Asks,
-        Rows(SERVES),
-        Rows(GOES),
-        Settles,
-        Counts(1, 1, (6, 4)),
-        Does(Act::Poll, REMOVED),
-        Rows(COMES),
-        WaitsToBeSeen,
-        Counts(1, 2, (1, 0)),
-        Does(Act::PmUp, Told::Up(1)),
-        Does(Act::HostTake, Told::Took(1, 2, 0)),
-        Settles,
-        Counts(1, 2, (3, 3)),
-        Counts(1, 1, (6, 4)),
-    ];
-    plays(&rt, rt.alloc(), 2, &steps)
+    plays(&rt, rt.alloc(), 2, &GOES_AND_COMES)
 }

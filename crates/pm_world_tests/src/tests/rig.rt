@@ -3,7 +3,6 @@
 //! Clauses see a `Rig` as a number, and no function of the tests has a contract. So a test is proved
 //! with little work, whatever is proved of a world.
 
-use super::echo::Echo;
 use disk_model::{Disk, DiskPlan, Unit};
 use fis_view::Bytes;
 use hba_driver::{Completion, Request, SubmitError, Work};
@@ -101,15 +100,6 @@ pub(super) fn telling(answer: &Answer) -> Told {
         Answer::Refused(refusal) => Told::Refused(*refusal),
         Answer::Polled(completion) => Told::Polled(*completion),
         Answer::Put => Told::Put,
-    }
-}
-
-/// The bytes that an answer tells, if it tells any.
-fn bytes_of(answer: Answer) -> Option<Bytes> {
-    match answer {
-        Answer::Sent { bytes, .. } => Some(bytes),
-        Answer::Took { bytes, .. } => Some(bytes),
-        _ => None,
     }
 }
 
@@ -271,19 +261,6 @@ fn register_of(world: &World, port: u8, register: u16) -> Option<u32> {
     world.multiplier().registers().read(port, register).ok()
 }
 
-/// A register of the host port.
-fn host_register(world: &World, offset: u32) -> Option<u32> {
-    world.host().read(offset).ok()
-}
-
-/// The sector of a disk.
-fn sector_of(world: &World, n: u8, lba: u32) -> Option<&[u8]> {
-    match world.unit(n)? {
-        Unit::Disk(disk) => disk.sector(lba),
-        Unit::Scripted(_) => None,
-    }
-}
-
 /// A world with the counts of its answers.
 #[derive(Drop)]
 pub(super) struct Rig {
@@ -291,10 +268,6 @@ pub(super) struct Rig {
     world: World,
     ports: u8,
     counts: Counts,
-    /// What the last answer told of bytes.
-    bytes: Option<Bytes>,
-    /// What follows the answers, if a test is to see frames on their way down.
-    echo: Option<Box<Echo>>,
 }
 
 impl Model for Rig {
@@ -309,24 +282,12 @@ impl Rig {
     /// A rig of this many disks, none of which is plugged in.
     pub(super) fn new(alloc: Global, ports: u8, capacity: usize) -> Result<Rig, WorldError> {
         let world = world(alloc, ports, capacity)?;
-        Ok(Rig::of(alloc, world, ports, None))
-    }
-
-    /// A rig of three disks, none of which is plugged in, with an echo that follows.
-    pub(super) fn shown(alloc: Global, echo: Box<Echo>) -> Result<Rig, WorldError> {
-        let world = world(alloc, 3, 1)?;
-        Ok(Rig::of(alloc, world, 3, Some(echo)))
-    }
-
-    fn of(alloc: Global, world: World, ports: u8, echo: Option<Box<Echo>>) -> Rig {
-        Rig {
+        Ok(Rig {
             alloc,
             world,
             ports,
             counts: Counts::new(alloc),
-            bytes: None,
-            echo,
-        }
+        })
     }
 
     /// Whether all disks come, and all steps are done that can be done.
@@ -350,22 +311,10 @@ impl Rig {
         }
     }
 
-    /// Puts these bytes at this address, and tells what came of it.
-    pub(super) fn puts(&mut self, at: u32, bytes: &[u8]) -> Told {
-        let mut copied = Bytes::from_slice(self.alloc, bytes);
-        if copied.is_err() {
-            copied = Bytes::from_slice(self.alloc, bytes);
-        }
-        match copied {
-            Ok(bytes) => self.gives(&Step::Put(at, bytes)),
-            Err(_) => Told::Stopped(StepError::OutOfMemory),
-        }
-    }
-
     /// Gives the world a step, and tells what came of it.
     pub(super) fn gives(&mut self, step: &Step) -> Told {
         match give(&mut self.world, self.alloc, step) {
-            Ok(answer) => self.notes(step, answer),
+            Ok(answer) => self.notes(&answer),
             Err(e) => Told::Stopped(e),
         }
     }
@@ -384,20 +333,12 @@ impl Rig {
         run_into(&mut self.world, self.alloc, steps, answers)
     }
 
-    /// Counts the answer and keeps its bytes. An echo that cannot follow is let go.
-    fn notes(&mut self, step: &Step, answer: Answer) -> Told {
-        let told = telling(&answer);
-        if self.counts.note(&answer).is_err() {
-            let _ = self.counts.note(&answer);
+    /// Counts the answer.
+    fn notes(&mut self, answer: &Answer) -> Told {
+        let told = telling(answer);
+        if self.counts.note(answer).is_err() {
+            let _ = self.counts.note(answer);
         }
-        let follows = match &mut self.echo {
-            Some(echo) => echo.follow(self.alloc, step, &answer),
-            None => true,
-        };
-        if !follows {
-            self.echo = None;
-        }
-        self.bytes = bytes_of(answer);
         told
     }
 
@@ -446,17 +387,6 @@ impl Rig {
         true
     }
 
-    /// What the last answer told of bytes.
-    pub(super) fn bytes(&self) -> Option<&[u8]> {
-        let bytes = self.bytes.as_ref()?;
-        Some(bytes.as_slice())
-    }
-
-    pub(super) fn echo(&self) -> Option<&Echo> {
-        let echo: &Echo = self.echo.as_ref()?;
-        Some(echo)
-    }
-
     pub(super) fn rows(&self) -> &[ConnCount] {
         self.counts.rows()
     }
@@ -473,11 +403,6 @@ impl Rig {
     /// A register of the multiplier (port 15) or of one of its ports.
     pub(super) fn register(&self, port: u8, register: u16) -> Option<u32> {
         register_of(&self.world, port, register)
-    }
-
-    /// A register of the host port.
-    pub(super) fn host_register(&self, offset: u32) -> Option<u32> {
-        host_register(&self.world, offset)
     }
 
     /// How many frames the multiplier dropped on their way down.
@@ -498,10 +423,5 @@ impl Rig {
             holds &= byte_at(&self.world, at.wrapping_add(i)) == Some(opening);
         }
         holds
-    }
-
-    /// The sector of a disk.
-    pub(super) fn sector(&self, n: u8, lba: u32) -> Option<&[u8]> {
-        sector_of(&self.world, n, lba)
     }
 }

@@ -1,161 +1,129 @@
 //! Commands of each kind, and each reason that makes one bad.
 
-use super::{LIST, fields, write};
-use fis_view::H2dFields;
-use hba_commands::Command;
-use host_memory::{HostMemory, Prd};
+use super::{Rig, fields};
+use host_memory::{MemoryError, Prd};
 use slots::{Kind, Work};
-use std::process::Abort;
-use std::test::Fail;
 
 const TABLE: u32 = 0x2000;
 
-fn prd(bytes: u32) -> Prd {
-    Prd {
+/// Its PM Port, C, command, features and count.
+type Given = (u8, bool, u8, u16, u16);
+
+/// Writes a command in slot 3, with one PRD of so many bytes, or with none.
+fn writes(rig: &mut Rig, given: Given, bytes: u32) -> bool {
+    let (pm_port, c, command, features, count) = given;
+    let fields = fields(pm_port, c, command, features, count);
+    let prd = Prd {
         address: 0x10_1000,
         bytes,
+    };
+    if bytes == 0 {
+        rig.writes(3, TABLE, &fields, &[])
+    } else {
+        rig.writes(3, TABLE, &fields, &[prd])
     }
 }
 
-fn work(kind: Kind, len: u32) -> Work {
-    Work { kind, len }
+/// What is read of the command in slot 3.
+fn work(rig: &Rig, armed: bool) -> Option<Work> {
+    Some(rig.command(3, armed)?.work)
 }
 
-/// What is read of a command in slot 3 after it is written.
-fn written(
-    rt: &impl Abort,
-    memory: &mut HostMemory,
-    fields: &H2dFields,
-    prds: &[Prd],
-    armed: bool,
-) -> Option<Work> {
-    write(rt, memory, 3, TABLE, fields, prds);
-    Some(Command::read(memory, LIST, 3, armed)?.work)
+/// Commands, the bytes of their PRD, whether they are armed, and what is read of them. READ LOG EXT with another count is
+/// treated like any other command.
+static KINDS: [(Given, u32, bool, Kind, u32); 11] = [
+    ((14, true, 0x60, 16, 24), 8192, true, Kind::QueuedRead, 8192),
+    (
+        (2, true, 0x61, 256, 24),
+        0x2_0000,
+        true,
+        Kind::QueuedWrite,
+        0x2_0000,
+    ),
+    ((2, true, 0x2F, 0, 1), 512, false, Kind::PioIn, 512),
+    ((2, true, 0xEC, 7, 7), 512, false, Kind::PioIn, 512),
+    ((2, true, 0xC8, 0, 2), 1024, false, Kind::DmaIn, 1024),
+    (
+        (2, true, 0x35, 0, 256),
+        0x2_0000,
+        false,
+        Kind::DmaOut,
+        0x2_0000,
+    ),
+    (
+        (2, true, 0x20, 0, 0),
+        0x2_0000,
+        false,
+        Kind::PioIn,
+        0x2_0000,
+    ),
+    ((2, true, 0x30, 0, 1), 512, false, Kind::PioOut, 512),
+    ((15, true, 0x2F, 0, 2), 0, false, Kind::NoData, 0),
+    ((15, true, 0xE4, 2, 1), 0, false, Kind::NoData, 0),
+    ((15, false, 0x60, 16, 24), 0, false, Kind::Control, 0),
+];
+
+/// Whether a row is read as it says, armed so, and is bad if it is armed otherwise.
+fn is_read(rig: &mut Rig, row: &(Given, u32, bool, Kind, u32)) -> bool {
+    let (given, bytes, armed, kind, len) = *row;
+    writes(rig, given, bytes)
+        && work(rig, armed) == Some(Work { kind, len })
+        && work(rig, !armed).is_none()
 }
 
 #[test]
-fn reads_each_kind(rt: HostRuntime) -> Result<(), Fail> {
-    let mut memory = HostMemory::new(rt.alloc(), 0x20_0000)?;
-    for (given, prds, armed, want) in [
-        (
-            fields(14, true, 0x60, 16, 24),
-            [prd(8192)].as_slice(),
-            true,
-            work(Kind::QueuedRead, 8192),
-        ),
-        (
-            fields(2, true, 0x61, 256, 24),
-            [prd(0x2_0000)].as_slice(),
-            true,
-            work(Kind::QueuedWrite, 0x2_0000),
-        ),
-        (
-            fields(2, true, 0x2F, 0, 1),
-            [prd(512)].as_slice(),
-            false,
-            work(Kind::PioIn, 512),
-        ),
-        (
-            fields(2, true, 0xEC, 7, 7),
-            [prd(512)].as_slice(),
-            false,
-            work(Kind::PioIn, 512),
-        ),
-        (
-            fields(2, true, 0xC8, 0, 2),
-            [prd(1024)].as_slice(),
-            false,
-            work(Kind::DmaIn, 1024),
-        ),
-        (
-            fields(2, true, 0x35, 0, 256),
-            [prd(0x2_0000)].as_slice(),
-            false,
-            work(Kind::DmaOut, 0x2_0000),
-        ),
-        (
-            fields(2, true, 0x20, 0, 0),
-            [prd(0x2_0000)].as_slice(),
-            false,
-            work(Kind::PioIn, 0x2_0000),
-        ),
-        (
-            fields(2, true, 0x30, 0, 1),
-            [prd(512)].as_slice(),
-            false,
-            work(Kind::PioOut, 512),
-        ),
-        // READ LOG EXT with another count is treated like any other command
-        (
-            fields(15, true, 0x2F, 0, 2),
-            [].as_slice(),
-            false,
-            work(Kind::NoData, 0),
-        ),
-        (
-            fields(15, true, 0xE4, 2, 1),
-            [].as_slice(),
-            false,
-            work(Kind::NoData, 0),
-        ),
-        (
-            fields(15, false, 0x60, 16, 24),
-            [].as_slice(),
-            false,
-            work(Kind::Control, 0),
-        ),
-    ] {
-        let read = written(&rt, &mut memory, &given, prds, armed);
-        assert_eq!(rt; read, Some(want), "{given:?}");
-        assert_eq!(rt;
-            written(&rt, &mut memory, &given, prds, !armed),
-            None,
-            "{given:?}"
-        );
+fn reads_each_kind(rt: HostRuntime) -> Result<(), MemoryError> {
+    let mut rig = Rig::new(rt.alloc())?;
+    for (number, row) in KINDS.iter().enumerate() {
+        assert!(rt; is_read(&mut rig, row), "{number}");
     }
     Ok(())
 }
 
-fn set(rt: &impl Abort, memory: &mut HostMemory, at: usize, value: u8) {
-    assert!(rt; at < 0x10_0000);
-    memory.structure_mut()[at] = value;
+const READ: Given = (2, true, 0x60, 16, 24);
+
+const NOTHING: Given = (2, true, 0xE4, 0, 0);
+
+const CONTROL: Given = (2, false, 0, 0, 0);
+
+/// Good commands, the bytes of their PRD, the place of a byte and what it becomes, and whether the command is still good.
+static BYTES: [(Given, u32, usize, u8, bool); 15] = [
+    // bit R is ignored
+    (READ, 8192, 0x1061, 0x21, true),
+    (CONTROL, 0, 0x1061, 0x24, true),
+    // CFL, W, C, PMP
+    (READ, 8192, 0x1060, 4, false),
+    (READ, 8192, 0x1060, 0x45, false),
+    (NOTHING, 0, 0x1060, 0x45, false),
+    (CONTROL, 0, 0x1060, 0x45, false),
+    (READ, 8192, 0x1061, 0x24, false),
+    (NOTHING, 0, 0x1061, 0x24, false),
+    (READ, 8192, 0x1061, 0x30, false),
+    // the table's address, its upper half, and past the structure area
+    (NOTHING, 0, 0x106A, 0x10, false),
+    (READ, 8192, 0x106C, 1, false),
+    // the FIS's type and port
+    (READ, 8192, 0x2000, 0x34, false),
+    (READ, 8192, 0x2001, 0x83, false),
+    // the entry's address and count
+    (READ, 8192, 0x2080, 1, false),
+    (READ, 8192, 0x208C, 0xFD, false),
+];
+
+/// Whether the command of a row is good, and then, with its byte changed, what the row says.
+fn is_judged(rig: &mut Rig, row: &(Given, u32, usize, u8, bool)) -> bool {
+    let (given, bytes, at, value, is_good) = *row;
+    let armed = given.2 == 0x60;
+    let was_good = writes(rig, given, bytes) && work(rig, armed).is_some();
+    rig.put(at, value);
+    was_good && work(rig, armed).is_some() == is_good
 }
 
 #[test]
-fn refuses_bad_bytes(rt: HostRuntime) -> Result<(), Fail> {
-    let mut memory = HostMemory::new(rt.alloc(), 0x20_0000)?;
-    let read = fields(2, true, 0x60, 16, 24);
-    let nothing = fields(2, true, 0xE4, 0, 0);
-    let control = fields(2, false, 0, 0, 0);
-    let entries = [prd(8192)];
-    let entries = entries.as_slice();
-    for (given, prds, at, value, is_some) in [
-        // bit R is ignored
-        (&read, entries, 0x1061, 0x21, true),
-        (&control, [].as_slice(), 0x1061, 0x24, true),
-        // CFL, W, C, PMP
-        (&read, entries, 0x1060, 4, false),
-        (&read, entries, 0x1060, 0x45, false),
-        (&nothing, [].as_slice(), 0x1060, 0x45, false),
-        (&control, [].as_slice(), 0x1060, 0x45, false),
-        (&read, entries, 0x1061, 0x24, false),
-        (&nothing, [].as_slice(), 0x1061, 0x24, false),
-        (&read, entries, 0x1061, 0x30, false),
-        // the table's address, its upper half, and past the structure area
-        (&nothing, [].as_slice(), 0x106A, 0x10, false),
-        (&read, entries, 0x106C, 1, false),
-        // the FIS's type and port
-        (&read, entries, 0x2000, 0x34, false),
-        (&read, entries, 0x2001, 0x83, false),
-        // the entry's address and count
-        (&read, entries, 0x2080, 1, false),
-        (&read, entries, 0x208C, 0xFD, false),
-    ] {
-        let armed = given.command == 0x60;
-        assert!(rt; written(&rt, &mut memory, given, prds, armed).is_some());
-        set(&rt, &mut memory, at, value);
-        let command = Command::read(&memory, LIST, 3, armed);
-        assert_eq!(rt; command.is_some(), is_some, "{at:x} {value:x}");
+fn refuses_bad_bytes(rt: HostRuntime) -> Result<(), MemoryError> {
+    let mut rig = Rig::new(rt.alloc())?;
+    for (number, row) in BYTES.iter().enumerate() {
+        assert!(rt; is_judged(&mut rig, row), "{number}");
     }
     Ok(())
 }
