@@ -1,3 +1,3 @@
 -- The lemmas of this crate that proofs of other crates use. What else stands under proofs/ may change at any time, and is
 -- not seen from outside.
-pub use Rattle.link_items.proofs.OrderLemmas.{device_counts, device_first, device_goes_on, host_first}
+pub use Rattle.link_items.proofs.OrderLemmas.{device_counts, device_goes_on}
