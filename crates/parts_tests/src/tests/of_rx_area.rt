@@ -37,6 +37,9 @@ fn count_set(bytes: &[u8]) -> usize {
 
 /// Whether a FIS of these bytes is posted so.
 fn posts(memory: &mut [u8; RX_AREA], dev: u8, bytes: &[u8], wanted: Posted) -> bool {
+    if bytes.len() < 4 || 8196 < bytes.len() || bytes.len() % 4 != 0 {
+        return false;
+    }
     match Fis::of(bytes) {
         Ok(fis) => dev < 16 && post_into(memory, dev, &fis) == wanted,
         Err(_) => false,

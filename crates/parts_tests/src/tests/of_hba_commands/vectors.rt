@@ -77,7 +77,7 @@ fn has_command(rig: &Rig, row: &Row, len: u64) -> bool {
     };
     let work = Work {
         kind,
-        len: (len / 512).saturating_mul(512) as u32,
+        len: u32::try_from(len / 512).unwrap_or(0).saturating_mul(512),
     };
     match rig.command(row.slot, armed) {
         Some(command) => is_command(&command, row, work, table, len),
