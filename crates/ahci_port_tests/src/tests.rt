@@ -2,6 +2,8 @@
 
 mod bad;
 mod linux;
+mod of_ahci_registers;
+mod of_guest_bytes;
 mod rig;
 mod sectors;
 mod steps;
@@ -58,11 +60,7 @@ static HOLDS: [Step; 22] = [
 /// The registers as a driver finds them, and after a reset of the controller.
 #[test]
 fn registers_read_as_the_standard_says(rt: HostRuntime) -> Result<(), Fail> {
-    play(
-        &rt,
-        rt.alloc(),
-        &[&OPENS, &HOLDS],
-    )
+    play(&rt, rt.alloc(), &[&OPENS, &HOLDS])
 }
 
 static RESETS_THE_LINK: [Step; 18] = [
@@ -92,6 +90,11 @@ fn a_comreset_leaves_no_command(rt: HostRuntime) -> Result<(), Fail> {
     play(
         &rt,
         rt.alloc(),
-        &[&STARTS, &sectors::ISSUES_READ, &[Sends(sectors::READ, &RESETS_THE_LINK],
+        &[
+            &STARTS,
+            &sectors::ISSUES_READ,
+            &[Sends(sectors::READ)],
+            &RESETS_THE_LINK,
+        ],
     )
 }

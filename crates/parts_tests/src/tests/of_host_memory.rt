@@ -1,3 +1,5 @@
+//! What no clause says: values from outside, and that calls succeed.
+
 use host_memory::{
     HostMemory, MemoryError, Outside, PrdError, PrdTable, Run, scatters_are_single_writes,
     tables_are_of_their_bytes,
