@@ -2,15 +2,16 @@
 
 mod bad;
 mod linux;
+mod of_ahci_registers;
+mod of_guest_bytes;
 mod rig;
 mod sectors;
 mod steps;
 
 use ahci_registers::Effect;
-use rig::Rig;
 use std::test::Fail;
 use steps::Step::{IsSilent, Links, Reads, Sends, Writes};
-use steps::{STARTS, Step, plays};
+use steps::{STARTS, Step, play};
 
 static OPENS: [Step; 12] = [
     Reads(0x00, 0xE137_1F00),
@@ -59,9 +60,7 @@ static HOLDS: [Step; 22] = [
 /// The registers as a driver finds them, and after a reset of the controller.
 #[test]
 fn registers_read_as_the_standard_says(rt: HostRuntime) -> Result<(), Fail> {
-    let mut rig = Rig::new(rt.alloc())?;
-    plays(&rt, &mut rig, &OPENS)?;
-    plays(&rt, &mut rig, &HOLDS)
+    play(&rt, rt.alloc(), &[&OPENS, &HOLDS])
 }
 
 static RESETS_THE_LINK: [Step; 18] = [
@@ -88,9 +87,14 @@ static RESETS_THE_LINK: [Step; 18] = [
 
 #[test]
 fn a_comreset_leaves_no_command(rt: HostRuntime) -> Result<(), Fail> {
-    let mut rig = Rig::new(rt.alloc())?;
-    plays(&rt, &mut rig, &STARTS)?;
-    plays(&rt, &mut rig, &sectors::ISSUES_READ)?;
-    plays(&rt, &mut rig, &[Sends(sectors::READ)])?;
-    plays(&rt, &mut rig, &RESETS_THE_LINK)
+    play(
+        &rt,
+        rt.alloc(),
+        &[
+            &STARTS,
+            &sectors::ISSUES_READ,
+            &[Sends(sectors::READ)],
+            &RESETS_THE_LINK,
+        ],
+    )
 }

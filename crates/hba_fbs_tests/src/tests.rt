@@ -16,7 +16,7 @@ mod vectors;
 use hba_fbs::{NoRegister, Register, WriteError};
 use host_memory::{MemoryError, Prd};
 use rig::Rig;
-use std::alloc::AllocError;
+use std::alloc::{AllocError, Global};
 use steps::Sent::{Block, Bytes};
 use steps::Step::{
     Flushes, IsResetting, Issues, ListsRead, Refuses, Shows, Spoils, Starts, Takes, Writes,
@@ -349,26 +349,33 @@ fn slots_are_issued_all_or_none(rt: HostRuntime) {
     play(&rt, rt.alloc(), &SLOTS);
 }
 
-/// The numbers and the texts of the refusals.
+/// The refusals with their numbers and their texts.
+static TEXTS: [(u8, WriteError, &str); 7] = [
+    (1, WriteError::NoRegister, "no such register"),
+    (2, WriteError::Stopped, "the port is stopped"),
+    (3, WriteError::Running, "the port is running"),
+    (4, WriteError::SlotBusy, "slot is in use"),
+    (5, WriteError::WrongDevice, "a header names another device"),
+    (6, WriteError::BadTable, "bad table"),
+    (
+        8,
+        WriteError::OtherDevice,
+        "a header names another device than the active one",
+    ),
+];
+
+/// Whether a refusal has its number and its text.
+fn has_text(alloc: Global, row: &(u8, WriteError, &str)) -> Result<bool, AllocError> {
+    let (number, error, wanted) = *row;
+    let text = error.to_string(alloc)?;
+    Ok(error as u8 == number && text.as_str() == wanted)
+}
+
 #[test]
 fn refusals_have_numbers_and_texts(rt: HostRuntime) -> Result<(), AllocError> {
-    let alloc = rt.alloc();
-    for (number, error, text) in [
-        (1_u8, WriteError::NoRegister, "no such register"),
-        (2, WriteError::Stopped, "the port is stopped"),
-        (3, WriteError::Running, "the port is running"),
-        (4, WriteError::SlotBusy, "slot is in use"),
-        (5, WriteError::WrongDevice, "a header names another device"),
-        (6, WriteError::BadTable, "bad table"),
-        (
-            8,
-            WriteError::OtherDevice,
-            "a header names another device than the active one",
-        ),
-    ] {
-        assert_eq!(rt; error as u8, number);
-        assert_eq!(rt; error.to_string(alloc)?.as_str(), text);
+    for row in &TEXTS {
+        assert!(rt; has_text(rt.alloc(), row)?);
     }
-    assert_eq!(rt; NoRegister.to_string(alloc)?.as_str(), "no such register");
+    assert!(rt; NoRegister.to_string(rt.alloc())?.as_str() == "no such register");
     Ok(())
 }

@@ -1,11 +1,11 @@
 //! Commands that cannot be served.
 
-use super::rig::{AREA, BASE, Rig};
+use super::rig::{AREA, BASE};
 use super::sectors::{ACCEPTED, ISSUES_READ, READ};
 use super::steps::Step::{
     Alarms, Command, Fills, Holds, Ignores, IsSilent, Line, Reads, Sends, Takes, Writes,
 };
-use super::steps::{STARTS, Step, plays};
+use super::steps::{STARTS, Step, play};
 use std::test::Fail;
 
 static IS_BAD: [Step; 16] = [
@@ -30,10 +30,7 @@ static IS_BAD: [Step; 16] = [
 /// Such a command stops the port until ST falls. Its slot shows in PxCI.
 #[test]
 fn a_bad_command_stops_the_port(rt: HostRuntime) -> Result<(), Fail> {
-    let mut rig = Rig::new(rt.alloc())?;
-    plays(&rt, &mut rig, &STARTS)?;
-    plays(&rt, &mut rig, &ISSUES_READ)?;
-    plays(&rt, &mut rig, &IS_BAD)
+    play(&rt, rt.alloc(), &[&STARTS, &ISSUES_READ, &IS_BAD])
 }
 
 static IS_NO_MEMORY: [Step; 8] = [
@@ -50,9 +47,7 @@ static IS_NO_MEMORY: [Step; 8] = [
 /// Memory that is not there is a host bus error.
 #[test]
 fn a_table_may_be_no_memory(rt: HostRuntime) -> Result<(), Fail> {
-    let mut rig = Rig::new(rt.alloc())?;
-    plays(&rt, &mut rig, &STARTS)?;
-    plays(&rt, &mut rig, &IS_NO_MEMORY)
+    play(&rt, rt.alloc(), &[&STARTS, &IS_NO_MEMORY])
 }
 
 /// READ NATIVE MAX ADDRESS, which moves no data, for devices 1 and 2.
@@ -100,8 +95,5 @@ static TWO_DEVICES: [Step; 7] = [
 
 #[test]
 fn one_device_works_at_a_time(rt: HostRuntime) -> Result<(), Fail> {
-    let mut rig = Rig::new(rt.alloc())?;
-    plays(&rt, &mut rig, &STARTS)?;
-    plays(&rt, &mut rig, &ONE_DEVICE)?;
-    plays(&rt, &mut rig, &TWO_DEVICES)
+    play(&rt, rt.alloc(), &[&STARTS, &ONE_DEVICE, &TWO_DEVICES])
 }

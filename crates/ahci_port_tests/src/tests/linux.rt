@@ -1,13 +1,12 @@
 //! The order in which Linux 6.1 (libahci, libata-pmp) reads and writes registers.
 
-use super::rig::{AREA, BUFFER, Rig};
+use super::rig::{AREA, BUFFER};
 use super::steps::Step::{
     Alarms, Command, Control, Entry, Holds, IsSilent, Line, Links, Reads, Sends, Takes,
     TakesSector, Writes,
 };
-use super::steps::{Step, plays};
+use super::steps::{Step, play};
 use ahci_registers::Effect;
-use std::process::Abort;
 use std::test::Fail;
 
 /// The controller is found and reset, and the port is started (ahci_init_controller, ahci_port_start).
@@ -176,17 +175,6 @@ static RESETS_A_DISK: [Step; 20] = [
     Writes(0x118, 0x42_4017),
     Reads(0x118, 0x42_C017),
 ];
-
-fn attaches(rt: &impl Abort, rig: &mut Rig) -> Result<(), Fail> {
-    plays(rt, rig, &STARTS)?;
-    plays(rt, rig, &RESETS_THE_LINK)?;
-    plays(rt, rig, &KICKS)?;
-    plays(rt, rig, &RESETS_THE_MULTIPLIER)?;
-    plays(rt, rig, &ASKS_THE_MULTIPLIER)?;
-    plays(rt, rig, &SWITCHES)?;
-    plays(rt, rig, &RESETS_A_DISK)
-}
-
 /// READ FPDMA QUEUED of one sector for device 2, tag 0, and for device 3, tag 1.
 const READ_2: &str = "2782600110000040000000000000000000000000";
 
@@ -256,11 +244,22 @@ static THE_OTHER_IS_DONE: [Step; 14] = [
 
 #[test]
 fn one_disk_fails_and_the_other_goes_on(rt: HostRuntime) -> Result<(), Fail> {
-    let mut rig = Rig::new(rt.alloc())?;
-    attaches(&rt, &mut rig)?;
-    plays(&rt, &mut rig, &ISSUES_TWO)?;
-    plays(&rt, &mut rig, &ONE_FAILS)?;
-    plays(&rt, &mut rig, &THE_OTHER_IS_DONE)
+    play(
+        &rt,
+        rt.alloc(),
+        &[
+            &STARTS,
+            &RESETS_THE_LINK,
+            &KICKS,
+            &RESETS_THE_MULTIPLIER,
+            &ASKS_THE_MULTIPLIER,
+            &SWITCHES,
+            &RESETS_A_DISK,
+            &ISSUES_TWO,
+            &ONE_FAILS,
+            &THE_OTHER_IS_DONE,
+        ],
+    )
 }
 
 /// Both fail before the first interrupt is served. Each is shown with its cause.
@@ -285,8 +284,19 @@ static BOTH_FAIL: [Step; 16] = [
 
 #[test]
 fn both_disks_fail_at_once(rt: HostRuntime) -> Result<(), Fail> {
-    let mut rig = Rig::new(rt.alloc())?;
-    attaches(&rt, &mut rig)?;
-    plays(&rt, &mut rig, &ISSUES_TWO)?;
-    plays(&rt, &mut rig, &BOTH_FAIL)
+    play(
+        &rt,
+        rt.alloc(),
+        &[
+            &STARTS,
+            &RESETS_THE_LINK,
+            &KICKS,
+            &RESETS_THE_MULTIPLIER,
+            &ASKS_THE_MULTIPLIER,
+            &SWITCHES,
+            &RESETS_A_DISK,
+            &ISSUES_TWO,
+            &BOTH_FAIL,
+        ],
+    )
 }

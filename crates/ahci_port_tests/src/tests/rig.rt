@@ -84,9 +84,8 @@ impl Rig {
     }
 
     /// Writes bytes of the guest.
-    pub(super) fn put(&mut self, at: u64, bytes: &[u8]) -> Result<(), Fail> {
-        self.guest.put(at, bytes)?;
-        Ok(())
+    pub(super) fn put(&mut self, at: u64, bytes: &[u8]) -> bool {
+        self.guest.put(at, bytes).is_ok()
     }
 
     /// A byte of the guest.
@@ -105,7 +104,7 @@ impl Rig {
         bits: u8,
         entries: u8,
         cfis: &[u8],
-    ) -> Result<(), Fail> {
+    ) -> bool {
         let table = 0x1000 + 0x100 * u32::from(slot);
         let place = table.to_le_bytes();
         let head = [
@@ -126,12 +125,11 @@ impl Rig {
             0,
             0,
         ];
-        self.put(BASE + 32 * u64::from(slot), &head)?;
-        self.put(BASE + u64::from(table), cfis)
+        self.put(BASE + 32 * u64::from(slot), &head) && self.put(BASE + u64::from(table), cfis)
     }
 
     /// An entry of a slot's table.
-    pub(super) fn entry(&mut self, slot: u8, at: u8, address: u64, bytes: u32) -> Result<(), Fail> {
+    pub(super) fn entry(&mut self, slot: u8, at: u8, address: u64, bytes: u32) -> bool {
         let a = address.to_le_bytes();
         let c = bytes.saturating_sub(1).to_le_bytes();
         let entry = [
@@ -180,7 +178,7 @@ impl Rig {
     }
 
     /// The bytes that a text spells in hexadecimal.
-    pub(super) fn bytes_of(&self, text: &str) -> Result<Vec<u8>, Fail> {
-        Ok(hex::decode(self.alloc, text)?)
+    pub(super) fn bytes_of(&self, text: &str) -> Option<Vec<u8>> {
+        hex::decode(self.alloc, text).ok()
     }
 }

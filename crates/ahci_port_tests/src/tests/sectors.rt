@@ -1,11 +1,11 @@
 //! Sectors that are read and written.
 
-use super::rig::{AREA, BASE, BUFFER, Rig};
+use super::rig::{AREA, BASE, BUFFER};
 use super::steps::Step::{
     Command, Entry, Fills, Holds, IsSilent, Line, Reads, Sends, SendsSector, Takes, TakesSector,
     Writes,
 };
-use super::steps::{STARTS, Step, plays};
+use super::steps::{STARTS, Step, play};
 use std::test::Fail;
 
 /// READ FPDMA QUEUED of one sector for device 2, tag 0.
@@ -70,11 +70,7 @@ static IS_DONE: [Step; 12] = [
 
 #[test]
 fn a_sector_is_read(rt: HostRuntime) -> Result<(), Fail> {
-    let mut rig = Rig::new(rt.alloc())?;
-    plays(&rt, &mut rig, &STARTS)?;
-    plays(&rt, &mut rig, &ISSUES_READ)?;
-    plays(&rt, &mut rig, &READS)?;
-    plays(&rt, &mut rig, &IS_DONE)
+    play(&rt, rt.alloc(), &[&STARTS, &ISSUES_READ, &READS, &IS_DONE])
 }
 
 static WRITES: [Step; 18] = [
@@ -101,9 +97,7 @@ static WRITES: [Step; 18] = [
 
 #[test]
 fn a_sector_is_written(rt: HostRuntime) -> Result<(), Fail> {
-    let mut rig = Rig::new(rt.alloc())?;
-    plays(&rt, &mut rig, &STARTS)?;
-    plays(&rt, &mut rig, &WRITES)
+    play(&rt, rt.alloc(), &[&STARTS, &WRITES])
 }
 
 static WRITES_OVER: [Step; 12] = [
@@ -125,8 +119,5 @@ static WRITES_OVER: [Step; 12] = [
 /// What a guest writes over header, FIS and table once they were read changes nothing.
 #[test]
 fn a_table_stays_as_it_was_read(rt: HostRuntime) -> Result<(), Fail> {
-    let mut rig = Rig::new(rt.alloc())?;
-    plays(&rt, &mut rig, &STARTS)?;
-    plays(&rt, &mut rig, &ISSUES_READ)?;
-    plays(&rt, &mut rig, &WRITES_OVER)
+    play(&rt, rt.alloc(), &[&STARTS, &ISSUES_READ, &WRITES_OVER])
 }

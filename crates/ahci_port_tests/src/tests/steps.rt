@@ -6,6 +6,7 @@ use super::rig::Rig;
 use ahci_port::{Took, Written};
 use ahci_registers::Effect;
 use fis_view::{Frame, FrameError};
+use std::alloc::Global;
 use std::process::Abort;
 use std::test::Fail;
 
@@ -46,127 +47,136 @@ pub(super) enum Step {
     Ignores(&'static str),
 }
 
-fn writes(rig: &mut Rig, offset: u32, value: u32, wanted: Effect) -> bool {
-    rig.write(offset, value).effect == wanted
-}
-
-fn alarms(rig: &mut Rig, offset: u32, value: u32) -> bool {
-    let wanted = Written {
-        effect: Effect::Nothing,
-        message: true,
-    };
-    rig.write(offset, value) == wanted
-}
-
-fn command(rig: &mut Rig, slot: u8, dev: u8, bits: u8, entries: u8, fis: &str) -> Result<(), Fail> {
-    let bytes = rig.bytes_of(fis)?;
-    rig.command(slot, dev, bits, entries, &bytes)
-}
-
-fn fills(rig: &mut Rig, at: u64, count: usize, byte: u8) -> Result<(), Fail> {
-    let room = [byte; 512];
-    match room.get(..count) {
-        Some(bytes) => rig.put(at, bytes),
-        None => Ok(()),
-    }
-}
-
-// What the guest does by itself.
-fn acts(rig: &mut Rig, step: Step) -> Result<(), Fail> {
-    match step {
-        Step::Command(slot, dev, entries, fis) => command(rig, slot, dev, 0, entries, fis),
-        Step::Control(slot, dev, fis) => command(rig, slot, dev, 5, 0, fis),
-        Step::Entry(slot, at, address, bytes) => rig.entry(slot, at, address, bytes),
-        Step::Fills(at, count, byte) => fills(rig, at, count, byte),
-        _ => Ok(()),
-    }
-}
-
-fn sends(rig: &mut Rig, fis: &str) -> Result<bool, Fail> {
-    let wanted = rig.bytes_of(fis)?;
-    match rig.next()? {
-        Some(frame) => Ok(frame.bytes() == wanted.as_slice()),
-        None => Ok(false),
-    }
-}
-
 fn is_sector(frame: &Frame, dev: u8, some: [u8; 3]) -> bool {
+    let [first, fourth, last] = some;
     let bytes = frame.bytes();
     bytes.len() == 516
-        && bytes.starts_with(&[0x46, dev, 0, 0])
-        && [bytes[4], bytes[7], bytes[515]] == some
-}
-
-fn sends_sector(rig: &mut Rig, dev: u8, some: [u8; 3]) -> Result<bool, Fail> {
-    match rig.next()? {
-        Some(frame) => Ok(is_sector(&frame, dev, some)),
-        None => Ok(false),
-    }
-}
-
-// Takes a frame, once more if memory was refused.
-fn take(rig: &mut Rig, bytes: &[u8]) -> Result<Option<Took>, FrameError> {
-    match rig.take(bytes) {
-        Err(_) => rig.take(bytes),
-        took => took,
-    }
+        && bytes.starts_with(&[0x46, dev, 0, 0, first])
+        && bytes.get(7) == Some(&fourth)
+        && bytes.last() == Some(&last)
 }
 
 // What was to be written is memory, and the frame was ignored, or not.
-fn is_taken(took: Option<Took>, ignored: bool) -> bool {
+fn is_taken(took: Result<Option<Took>, FrameError>, ignored: bool) -> bool {
     match took {
-        Some(took) => took.report.ignored == ignored,
-        None => false,
+        Ok(Some(took)) => took.report.ignored == ignored,
+        _ => false,
     }
 }
 
-fn takes(rig: &mut Rig, fis: &str, ignored: bool) -> Result<bool, Fail> {
-    let bytes = rig.bytes_of(fis)?;
-    Ok(is_taken(take(rig, &bytes)?, ignored))
-}
-
-fn takes_sector(rig: &mut Rig, dev: u8, byte: u8) -> Result<bool, FrameError> {
-    let mut bytes = [byte; 516];
-    bytes[0] = 0x46;
-    bytes[1] = dev;
-    bytes[2] = 0;
-    bytes[3] = 0;
-    Ok(is_taken(take(rig, &bytes)?, false))
-}
-
-// Whether a step is as it says.
-fn passes(rig: &mut Rig, step: Step) -> Result<bool, Fail> {
-    acts(rig, step)?;
-    match step {
-        Step::Writes(offset, value) => Ok(writes(rig, offset, value, Effect::Nothing)),
-        Step::Links(offset, value, wanted) => Ok(writes(rig, offset, value, wanted)),
-        Step::Alarms(offset, value) => Ok(alarms(rig, offset, value)),
-        Step::Reads(offset, value) => Ok(rig.read(offset) == value),
-        Step::Line(raised) => Ok(rig.line() == raised),
-        Step::Holds(at, byte) => Ok(rig.byte(at) == Some(byte)),
-        Step::Sends(fis) => sends(rig, fis),
-        Step::SendsSector(dev, some) => sends_sector(rig, dev, some),
-        Step::IsSilent => Ok(rig.next()?.is_none()),
-        Step::Takes(fis) => takes(rig, fis, false),
-        Step::TakesSector(dev, byte) => Ok(takes_sector(rig, dev, byte)?),
-        Step::Ignores(fis) => takes(rig, fis, true),
-        _ => Ok(true),
+impl Rig {
+    fn does(&mut self, offset: u32, value: u32, wanted: Effect) -> bool {
+        self.write(offset, value).effect == wanted
     }
-}
 
-// The number of the first step that is not as it says.
-fn first_failing(rig: &mut Rig, steps: &[Step]) -> Result<Option<usize>, Fail> {
-    for (i, step) in steps.iter().enumerate() {
-        if !passes(rig, *step)? {
-            return Ok(Some(i));
+    fn alarms(&mut self, offset: u32, value: u32) -> bool {
+        let wanted = Written {
+            effect: Effect::Nothing,
+            message: true,
+        };
+        self.write(offset, value) == wanted
+    }
+
+    fn lists(&mut self, slot: u8, dev: u8, (bits, entries): (u8, u8), fis: &str) -> bool {
+        match self.bytes_of(fis) {
+            Some(bytes) => self.command(slot, dev, bits, entries, &bytes),
+            None => false,
         }
     }
-    Ok(None)
+
+    fn fills(&mut self, at: u64, count: usize, byte: u8) -> bool {
+        let room = [byte; 512];
+        match room.get(..count) {
+            Some(bytes) => self.put(at, bytes),
+            None => false,
+        }
+    }
+
+    // Takes a frame, once more if memory was refused.
+    fn hears(&mut self, bytes: &[u8]) -> Result<Option<Took>, FrameError> {
+        match self.take(bytes) {
+            Err(_) => self.take(bytes),
+            took => took,
+        }
+    }
+
+    fn takes(&mut self, fis: &str, ignored: bool) -> bool {
+        match self.bytes_of(fis) {
+            Some(bytes) => is_taken(self.hears(&bytes), ignored),
+            None => false,
+        }
+    }
+
+    fn takes_sector(&mut self, dev: u8, byte: u8) -> bool {
+        let mut bytes = [byte; 516];
+        bytes[0] = 0x46;
+        bytes[1] = dev;
+        bytes[2] = 0;
+        bytes[3] = 0;
+        is_taken(self.hears(&bytes), false)
+    }
+
+    // Whether the next frame, if there is one, is what a step wants of it.
+    fn is_wanted(&self, frame: Option<&Frame>, step: Step) -> bool {
+        match (frame, step) {
+            (None, Step::IsSilent) => true,
+            (Some(frame), Step::SendsSector(dev, some)) => is_sector(frame, dev, some),
+            (Some(frame), Step::Sends(fis)) => match self.bytes_of(fis) {
+                Some(wanted) => frame.bytes() == wanted.as_slice(),
+                None => false,
+            },
+            _ => false,
+        }
+    }
+
+    fn sends(&mut self, step: Step) -> bool {
+        match self.next() {
+            Ok(frame) => self.is_wanted(frame.as_ref(), step),
+            Err(_) => false,
+        }
+    }
+
+    // Whether a step is as it says.
+    fn passes(&mut self, step: Step) -> bool {
+        match step {
+            Step::Writes(offset, value) => self.does(offset, value, Effect::Nothing),
+            Step::Links(offset, value, wanted) => self.does(offset, value, wanted),
+            Step::Alarms(offset, value) => self.alarms(offset, value),
+            Step::Reads(offset, value) => self.read(offset) == value,
+            Step::Line(raised) => self.line() == raised,
+            Step::Command(slot, dev, entries, fis) => self.lists(slot, dev, (0, entries), fis),
+            Step::Control(slot, dev, fis) => self.lists(slot, dev, (5, 0), fis),
+            Step::Entry(slot, at, address, bytes) => self.entry(slot, at, address, bytes),
+            Step::Fills(at, count, byte) => self.fills(at, count, byte),
+            Step::Holds(at, byte) => self.byte(at) == Some(byte),
+            Step::Takes(fis) => self.takes(fis, false),
+            Step::TakesSector(dev, byte) => self.takes_sector(dev, byte),
+            Step::Ignores(fis) => self.takes(fis, true),
+            Step::Sends(_) | Step::SendsSector(..) | Step::IsSilent => self.sends(step),
+        }
+    }
+
+    // The number of the first step that is not as it says.
+    fn first_wrong(&mut self, steps: &[Step]) -> Option<usize> {
+        for (i, step) in steps.iter().enumerate() {
+            if !self.passes(*step) {
+                return Some(i);
+            }
+        }
+        None
+    }
 }
 
-/// Each step is as it says.
-pub(super) fn plays(rt: &impl Abort, rig: &mut Rig, steps: &[Step]) -> Result<(), Fail> {
-    assert_eq!(rt; first_failing(rig, steps)?, None);
+/// Each step of a new controller is as it says: those of each list, one after the other.
+pub(super) fn play(rt: &impl Abort, alloc: Global, lists: &[&[Step]]) -> Result<(), Fail> {
+    let mut rig = Rig::new(alloc)?;
+    for (list, steps) in lists.iter().enumerate() {
+        assert_eq!(rt;
+            rig.first_wrong(steps),
+            None,
+            "the number of a step of list {list}"
+        );
+    }
     Ok(())
 }
 

@@ -1,15 +1,11 @@
 //! Signature and reads.
 
-use super::scripted::STAMP;
 use super::steps::Step::{
     Commands, IsSilent, Plugs, Reads, ReadsLog, Resets, Sends, SendsSectors, Takes, Writes,
 };
 use super::steps::{Step, assert_disk};
-use disk_model::{Device, Disk, DiskError, DiskPlan};
-use fis_view::{Frame, H2dFields, h2d};
-use std::alloc::{AllocError, Global};
-use std::process::Abort;
-use std::test::Fail;
+use disk_model::{Disk, DiskError, DiskPlan};
+use fis_view::H2dFields;
 
 /// A command of the host.
 pub fn command(code: u8, features: u16, lba: u64, count: u16) -> H2dFields {
@@ -45,43 +41,6 @@ pub fn reset(srst: bool) -> H2dFields {
     }
 }
 
-/// Gives a command to a device. If memory is refused, it is given again, and answers as if nothing
-/// had happened.
-pub fn give(alloc: Global, unit: &mut impl Device, fields: &H2dFields) -> Result<(), AllocError> {
-    let frame = h2d(alloc, fields, STAMP)?;
-    give_frame(alloc, unit, &frame)
-}
-
-/// The same for a frame.
-pub fn give_frame(alloc: Global, unit: &mut impl Device, frame: &Frame) -> Result<(), AllocError> {
-    if unit.on_frame(alloc, frame).is_err() {
-        unit.on_frame(alloc, frame)?;
-    }
-    Ok(())
-}
-
-/// What the device sends next, asked for again if memory is refused.
-pub fn next(alloc: Global, unit: &mut impl Device) -> Result<Option<Frame>, AllocError> {
-    match unit.next_out(alloc, STAMP) {
-        Ok(out) => Ok(out),
-        Err(_) => unit.next_out(alloc, STAMP),
-    }
-}
-
-/// The device sends exactly these bytes next, which are given in hexadecimal.
-pub fn sends(
-    rt: &impl Abort,
-    alloc: Global,
-    unit: &mut impl Device,
-    wanted: &str,
-) -> Result<(), Fail> {
-    let frame = next(alloc, unit)?.ok_or("silent")?;
-    let text = hex::encode(alloc, frame.bytes())?;
-    assert_eq!(rt; text.as_str(), wanted);
-    assert_eq!(rt; frame.stamp(), STAMP);
-    Ok(())
-}
-
 /// The answer to a command that was queued.
 pub const ACCEPTED: &str = "3400500000000000000000000000000000000000";
 
@@ -103,7 +62,7 @@ static SIGNS: [Step; 11] = [
 ];
 
 #[test]
-fn signature_when_plugged_and_after_a_reset(rt: HostRuntime) -> Result<(), Fail> {
+fn signature_when_plugged_and_after_a_reset(rt: HostRuntime) -> Result<(), DiskError> {
     assert_disk(&rt, rt.alloc(), 16, DiskPlan::plain(), &SIGNS)
 }
 
@@ -135,7 +94,7 @@ static IN_RESET: [Step; 22] = [
 ];
 
 #[test]
-fn takes_no_command_in_reset(rt: HostRuntime) -> Result<(), Fail> {
+fn takes_no_command_in_reset(rt: HostRuntime) -> Result<(), DiskError> {
     assert_disk(&rt, rt.alloc(), 16, DiskPlan::plain(), &IN_RESET)
 }
 
@@ -151,7 +110,7 @@ static PLUGGED_IN_RESET: [Step; 7] = [
 ];
 
 #[test]
-fn plugging_ends_a_reset(rt: HostRuntime) -> Result<(), Fail> {
+fn plugging_ends_a_reset(rt: HostRuntime) -> Result<(), DiskError> {
     assert_disk(&rt, rt.alloc(), 16, DiskPlan::plain(), &PLUGGED_IN_RESET)
 }
 
@@ -174,7 +133,7 @@ static ONE_SECTOR: [Step; 6] = [
 ];
 
 #[test]
-fn read_of_one_sector(rt: HostRuntime) -> Result<(), Fail> {
+fn read_of_one_sector(rt: HostRuntime) -> Result<(), DiskError> {
     assert_disk(&rt, rt.alloc(), 0x200, DiskPlan::plain(), &ONE_SECTOR)
 }
 
@@ -190,7 +149,7 @@ static LAST_FIRST: [Step; 8] = [
 ];
 
 #[test]
-fn read_with_its_last_sector_first(rt: HostRuntime) -> Result<(), Fail> {
+fn read_with_its_last_sector_first(rt: HostRuntime) -> Result<(), DiskError> {
     let plan = DiskPlan {
         chunk: 512,
         last_first: true,

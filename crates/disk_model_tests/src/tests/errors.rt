@@ -3,8 +3,7 @@
 use super::disk::ACCEPTED;
 use super::steps::Step::{Commands, IsSilent, Reads, ReadsLog, Sends, SendsLog};
 use super::steps::{Step, assert_disk};
-use disk_model::DiskPlan;
-use std::test::Fail;
+use disk_model::{DiskError, DiskPlan};
 
 /// The PIO Setup before a page.
 const PAGE: &str = "5f60580000000000000000000000005000020000";
@@ -39,7 +38,7 @@ static FAILS: [Step; 25] = [
 ];
 
 #[test]
-fn bad_sector(rt: HostRuntime) -> Result<(), Fail> {
+fn bad_sector(rt: HostRuntime) -> Result<(), DiskError> {
     let mut plan = DiskPlan::plain();
     plan.bad.push(8);
     assert_disk(&rt, rt.alloc(), 16, plan, &FAILS)

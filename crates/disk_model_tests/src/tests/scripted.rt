@@ -4,7 +4,7 @@ use super::steps::Step::{IsSilent, Plugs, Sends, Takes};
 use super::steps::{Step, assert_steps};
 use disk_model::{Scripted, Unit};
 use fis_view::{Bytes, Stamp};
-use std::test::Fail;
+use std::alloc::AllocError;
 
 pub const STAMP: Stamp = Stamp {
     port: 3,
@@ -32,11 +32,12 @@ static IN_ORDER: [Step; 7] = [
 ];
 
 #[test]
-fn sends_its_script_in_order(rt: HostRuntime) -> Result<(), Fail> {
+fn sends_its_script_in_order(rt: HostRuntime) -> Result<(), AllocError> {
     let alloc = rt.alloc();
     let mut frames = Vec::new(alloc);
     for bytes in SCRIPT {
         frames.push(Bytes::from_slice(alloc, bytes)?)?;
     }
-    assert_steps(&rt, alloc, Unit::Scripted(Scripted::new(frames)), &IN_ORDER)
+    assert_steps(&rt, alloc, Unit::Scripted(Scripted::new(frames)), &IN_ORDER);
+    Ok(())
 }

@@ -2,13 +2,14 @@
 //!
 //! A test that is a list has one assertion, and so is proved by little.
 
-use super::disk::{command, give, give_frame, next, read, reset, write};
+use super::disk::{command, read, reset, write};
+use super::pages::is_identity;
 use super::scripted::STAMP;
-use disk_model::{Device, Disk, DiskPlan, Unit};
-use fis_view::{Frame, H2dFields, payload};
+use disk_model::{Device, Disk, DiskError, DiskPlan, Unit};
+use fis_view::{Frame, H2dFields, h2d, payload};
 use std::alloc::{AllocError, Global};
+use std::marker::Model;
 use std::process::Abort;
-use std::test::Fail;
 
 /// A step of a test.
 #[derive(Clone, Copy)]
@@ -35,6 +36,8 @@ pub(super) enum Step {
     SendsSectors(usize, usize),
     /// The device sends a page of the error log next: its bytes up to Count, in hexadecimal, and its last one.
     SendsLog(&'static str, u8),
+    /// The device sends IDENTIFY DEVICE data next, of a disk of 43,981 sectors, with auto-activate or without.
+    SendsIdentity(bool),
     /// The device has nothing to send.
     IsSilent,
     /// Each byte of a sector is this one.
@@ -55,33 +58,19 @@ fn given(step: Step) -> Option<H2dFields> {
     }
 }
 
-/// What is done with the device alone.
-fn acts(alloc: Global, unit: &mut Unit, step: Step) -> Result<(), Fail> {
-    if let Some(fields) = given(step) {
-        give(alloc, unit, &fields)?;
-    }
-    match step {
-        Step::Plugs => unit.plugged(alloc)?,
-        Step::Takes(text) => {
-            let frame = Frame::from_bytes(alloc, &hex::decode(alloc, text)?, STAMP)?;
-            give_frame(alloc, unit, &frame)?;
-        }
-        Step::TakesData(byte, len) => {
-            let bytes = vec![in alloc; byte; len]?;
-            give_frame(alloc, unit, &payload(alloc, 0, &bytes, STAMP)?)?;
-        }
-        _ => {}
-    }
-    Ok(())
+/// A device. Clauses see it as a number, and its functions have no contract, so a test is proved with little work.
+#[derive(Drop)]
+struct Rig {
+    alloc: Global,
+    unit: Unit,
 }
 
-/// Whether the next frame has just these bytes, and the stamp of the tests.
-fn sends(alloc: Global, unit: &mut Unit, wanted: &str) -> Result<bool, Fail> {
-    let wanted = hex::decode(alloc, wanted)?;
-    match next(alloc, unit)? {
-        Some(frame) => Ok(frame.bytes() == wanted.as_slice() && frame.stamp() == STAMP),
-        None => Ok(false),
-    }
+impl Model for Rig {
+    ghost use Rattle.std.specs.Prelude.{ℕ};
+
+    ghost Value = { ℕ };
+
+    ghost view = { λ _. 0 };
 }
 
 /// Whether each byte is that of its place in the sectors of a new disk from this one on.
@@ -100,25 +89,8 @@ fn are_new(bytes: &[u8], first: usize) -> bool {
     true
 }
 
-fn sends_sectors(
-    alloc: Global,
-    unit: &mut Unit,
-    first: usize,
-    count: usize,
-) -> Result<bool, AllocError> {
-    let Some(frame) = next(alloc, unit)? else {
-        return Ok(false);
-    };
-    match frame.bytes() {
-        [0x46, 0, 0, 0, sectors @ ..] => {
-            Ok(sectors.len() / 512 == count && sectors.len() % 512 == 0 && are_new(sectors, first))
-        }
-        _ => Ok(false),
-    }
-}
-
 /// Whether the bytes are a page that begins and ends so, and is zero between.
-fn is_log(page: &[u8], head: &[u8], last: u8) -> bool {
+pub(super) fn is_log(page: &[u8], head: &[u8], last: u8) -> bool {
     match page.strip_prefix(head) {
         Some([zeros @ .., end]) => {
             page.len() == 512 && *end == last && zeros.iter().all(|byte| *byte == 0)
@@ -127,59 +99,145 @@ fn is_log(page: &[u8], head: &[u8], last: u8) -> bool {
     }
 }
 
-fn sends_log(alloc: Global, unit: &mut Unit, head: &str, last: u8) -> Result<bool, Fail> {
-    let head = hex::decode(alloc, head)?;
-    match next(alloc, unit)? {
-        Some(frame) => Ok(is_log(&frame.bytes()[4..], &head, last)),
-        None => Ok(false),
-    }
-}
-
-/// The bytes of a sector; none where there is no such sector.
-fn sector(unit: &Unit, lba: u32) -> &[u8] {
-    match unit {
-        Unit::Disk(disk) => disk.sector(lba).unwrap_or(&[]),
-        Unit::Scripted(_) => &[],
-    }
-}
-
-/// Whether a step is as it says.
-fn passes(alloc: Global, unit: &mut Unit, step: Step) -> Result<bool, Fail> {
-    acts(alloc, unit, step)?;
-    match step {
-        Step::Sends(wanted) => sends(alloc, unit, wanted),
-        Step::SendsSectors(first, count) => Ok(sends_sectors(alloc, unit, first, count)?),
-        Step::SendsLog(head, last) => sends_log(alloc, unit, head, last),
-        Step::IsSilent => Ok(next(alloc, unit)?.is_none()),
-        Step::Holds(lba, byte) => {
-            let bytes = sector(unit, lba);
-            Ok(bytes.len() == 512 && bytes.iter().all(|found| *found == byte))
+/// Whether a frame carries sectors of a new disk: the first and how many.
+fn has_sectors(frame: &Frame, first: usize, count: usize) -> bool {
+    match frame.bytes() {
+        [0x46, 0, 0, 0, sectors @ ..] => {
+            sectors.len() / 512 == count && sectors.len() % 512 == 0 && are_new(sectors, first)
         }
-        Step::Begins(lba, byte) => Ok(sector(unit, lba).first() == Some(&byte)),
-        _ => Ok(true),
+        _ => false,
     }
 }
 
-/// The number of the first step that is not as it says.
-fn first_wrong(alloc: Global, unit: &mut Unit, steps: &[Step]) -> Result<Option<usize>, Fail> {
-    for (i, step) in steps.iter().enumerate() {
-        if !passes(alloc, unit, *step)? {
-            return Ok(Some(i));
+/// Whether a frame has just these bytes, which are in hexadecimal, and the stamp of the tests.
+fn is_frame(alloc: Global, frame: &Frame, wanted: &str) -> bool {
+    match hex::decode(alloc, wanted) {
+        Ok(wanted) => frame.bytes() == wanted.as_slice() && frame.stamp() == STAMP,
+        Err(_) => false,
+    }
+}
+
+/// Whether a frame carries a page that begins so, in hexadecimal, and ends so.
+fn has_log(alloc: Global, frame: &Frame, head: &str, last: u8) -> bool {
+    match (hex::decode(alloc, head), frame.bytes()) {
+        (Ok(head), [_, _, _, _, page @ ..]) => is_log(page, &head, last),
+        _ => false,
+    }
+}
+
+/// Whether a frame carries IDENTIFY DEVICE data of a disk of 43,981 sectors, with auto-activate or without.
+fn has_identity(frame: &Frame, auto: bool) -> bool {
+    match frame.bytes() {
+        [_, _, _, _, page @ ..] => is_identity(page, auto),
+        _ => false,
+    }
+}
+
+/// Whether the next frame, if there is one, is what a step wants of it.
+fn is_wanted(alloc: Global, frame: Option<&Frame>, step: Step) -> bool {
+    match (frame, step) {
+        (None, Step::IsSilent) => true,
+        (Some(frame), Step::Sends(wanted)) => is_frame(alloc, frame, wanted),
+        (Some(frame), Step::SendsSectors(first, count)) => has_sectors(frame, first, count),
+        (Some(frame), Step::SendsLog(head, last)) => has_log(alloc, frame, head, last),
+        (Some(frame), Step::SendsIdentity(auto)) => has_identity(frame, auto),
+        _ => false,
+    }
+}
+
+impl Rig {
+    /// Gives a frame. If memory is refused, it is given again, and answers as if nothing had happened.
+    fn gives(&mut self, frame: &Frame) -> bool {
+        self.unit.on_frame(self.alloc, frame).is_ok()
+            || self.unit.on_frame(self.alloc, frame).is_ok()
+    }
+
+    fn gives_fields(&mut self, fields: &H2dFields) -> bool {
+        match h2d(self.alloc, fields, STAMP) {
+            Ok(frame) => self.gives(&frame),
+            Err(_) => false,
         }
     }
-    Ok(None)
+
+    fn gives_bytes(&mut self, text: &str) -> bool {
+        let Ok(bytes) = hex::decode(self.alloc, text) else {
+            return false;
+        };
+        match Frame::from_bytes(self.alloc, &bytes, STAMP) {
+            Ok(frame) => self.gives(&frame),
+            Err(_) => false,
+        }
+    }
+
+    fn gives_data(&mut self, byte: u8, len: usize) -> bool {
+        let Ok(bytes) = Vec::from_elem(self.alloc, byte, len) else {
+            return false;
+        };
+        match payload(self.alloc, 0, &bytes, STAMP) {
+            Ok(frame) => self.gives(&frame),
+            Err(_) => false,
+        }
+    }
+
+    /// What the device sends next, asked for again if memory is refused.
+    fn next(&mut self) -> Result<Option<Frame>, AllocError> {
+        match self.unit.next_out(self.alloc, STAMP) {
+            Ok(out) => Ok(out),
+            Err(_) => self.unit.next_out(self.alloc, STAMP),
+        }
+    }
+
+    /// Whether the next frame is what a step wants.
+    fn sends(&mut self, step: Step) -> bool {
+        match self.next() {
+            Ok(frame) => is_wanted(self.alloc, frame.as_ref(), step),
+            Err(_) => false,
+        }
+    }
+
+    /// The bytes of a sector; none where there is no such sector.
+    fn sector(&self, lba: u32) -> &[u8] {
+        match &self.unit {
+            Unit::Disk(disk) => disk.sector(lba).unwrap_or(&[]),
+            Unit::Scripted(_) => &[],
+        }
+    }
+
+    fn holds(&self, lba: u32, byte: u8) -> bool {
+        let bytes = self.sector(lba);
+        bytes.len() == 512 && bytes.iter().all(|found| *found == byte)
+    }
+
+    /// Whether a step is as it says.
+    fn passes(&mut self, step: Step) -> bool {
+        if let Some(fields) = given(step) {
+            return self.gives_fields(&fields);
+        }
+        match step {
+            Step::Plugs => self.unit.plugged(self.alloc).is_ok(),
+            Step::Takes(text) => self.gives_bytes(text),
+            Step::TakesData(byte, len) => self.gives_data(byte, len),
+            Step::Holds(lba, byte) => self.holds(lba, byte),
+            Step::Begins(lba, byte) => self.sector(lba).first() == Some(&byte),
+            _ => self.sends(step),
+        }
+    }
+
+    /// The number of the first step that is not as it says.
+    fn first_wrong(&mut self, steps: &[Step]) -> Option<usize> {
+        for (i, step) in steps.iter().enumerate() {
+            if !self.passes(*step) {
+                return Some(i);
+            }
+        }
+        None
+    }
 }
 
 /// Each step of a device is as it says.
-pub(super) fn assert_steps(
-    rt: &impl Abort,
-    alloc: Global,
-    mut unit: Unit,
-    steps: &[Step],
-) -> Result<(), Fail> {
-    let wrong = first_wrong(alloc, &mut unit, steps)?;
-    assert_eq!(rt; wrong, None, "the number of a step");
-    Ok(())
+pub(super) fn assert_steps(rt: &impl Abort, alloc: Global, unit: Unit, steps: &[Step]) {
+    let mut rig = Rig { alloc, unit };
+    assert_eq!(rt; rig.first_wrong(steps), None, "the number of a step");
 }
 
 /// The same of a new disk of so many sectors.
@@ -189,11 +247,8 @@ pub(super) fn assert_disk(
     sectors: u32,
     plan: DiskPlan,
     steps: &[Step],
-) -> Result<(), Fail> {
-    assert_steps(
-        rt,
-        alloc,
-        Unit::Disk(Disk::new(alloc, sectors, plan)?),
-        steps,
-    )
+) -> Result<(), DiskError> {
+    let disk = Disk::new(alloc, sectors, plan)?;
+    assert_steps(rt, alloc, Unit::Disk(disk), steps);
+    Ok(())
 }

@@ -3,8 +3,7 @@
 use super::disk::ACCEPTED;
 use super::steps::Step::{Begins, Holds, IsSilent, Sends, Takes, TakesData};
 use super::steps::{Step, assert_disk};
-use disk_model::DiskPlan;
-use std::test::Fail;
+use disk_model::{DiskError, DiskPlan};
 
 static ONE_SECTOR: [Step; 14] = [
     Takes("2780610108000040000000000000000000000000"),
@@ -25,7 +24,7 @@ static ONE_SECTOR: [Step; 14] = [
 ];
 
 #[test]
-fn write_of_one_sector(rt: HostRuntime) -> Result<(), Fail> {
+fn write_of_one_sector(rt: HostRuntime) -> Result<(), DiskError> {
     assert_disk(&rt, rt.alloc(), 16, DiskPlan::plain(), &ONE_SECTOR)
 }
 
@@ -51,7 +50,7 @@ static AUTO: [Step; 16] = [
 ];
 
 #[test]
-fn write_with_auto_activate(rt: HostRuntime) -> Result<(), Fail> {
+fn write_with_auto_activate(rt: HostRuntime) -> Result<(), DiskError> {
     let plan = DiskPlan {
         chunk: 512,
         auto: true,

@@ -1,4 +1,6 @@
 //! A host port with its driver, and a multiplier with devices behind it, in a loop.
+//!
+//! Clauses see a `Rig` as a number. So a test is proved with little work.
 
 ghost use Rattle.std.specs.Prelude.{IsTrue, ◌<◌, ◌≤◌};
 
@@ -9,6 +11,7 @@ use hba_fbs::HostPort;
 use host_memory::{HostMemory, MemoryError, Prd};
 use multiplier::Multiplier;
 use std::alloc::{AllocError, Global};
+use std::marker::Model;
 use std::test::Fail;
 
 /// What a submit gives: a ticket, or why not.
@@ -36,6 +39,14 @@ pub(super) struct Rig {
     pub(super) sent: Vec<[u8; 20]>,
     /// The first bytes of each frame that it took.
     pub(super) taken: Vec<[u8; 20]>,
+}
+
+impl Model for Rig {
+    ghost use Rattle.std.specs.Prelude.{ℕ};
+
+    ghost Value = { ℕ };
+
+    ghost view = { λ _. 0 };
 }
 
 /// The first bytes of a frame, and then zeros.

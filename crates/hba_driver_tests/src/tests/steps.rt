@@ -43,6 +43,11 @@ pub(super) enum Step {
     Flushes(u8, Given),
     /// The same for any work, with a first sector, how many, and entries.
     Submits(u8, Work, u64, u16, Entries, Given),
+    /// Thirty writes of a sector from 103000h, in turn of device 0 and device 1, take the slots 0 to 29. Their tickets go
+    /// on from this one.
+    FillsSlots(u32),
+    /// The next thirty polls give these requests, which are done.
+    PollsAll(u32),
     /// The driver ticks: whether something was done.
     Ticks(bool),
     /// The driver does something, and the next frame has 20 bytes. These are its second to fourth.
@@ -125,10 +130,32 @@ fn does(rig: &mut Rig, step: Step) -> bool {
         Step::Ticks(is) => rig.tick() == is,
         Step::Opens(now) => rig.tick() && rig.opening() == now,
         Step::Polls(ticket, slot, outcome) => rig.polls(ticket, slot, outcome),
+        Step::PollsAll(first) => polls_all(rig, first),
         Step::PollsNone => rig.driver.poll().is_none(),
         Step::Sent(frames) => rig.has_sent(frames),
         _ => stands(rig, step),
     }
+}
+
+fn fills_slots(alloc: Global, rig: &mut Rig, first: u32) -> Result<bool, Fail> {
+    for slot in 0..30_u8 {
+        let ticket = first.wrapping_add(u32::from(slot));
+        let given = rig.submit(alloc, slot % 2, Work::Write, 0, 1, &[(0x10_3000, 512)])?;
+        if given != Ok(ticket) {
+            return Ok(false);
+        }
+    }
+    Ok(true)
+}
+
+fn polls_all(rig: &mut Rig, first: u32) -> bool {
+    for slot in 0..30_u8 {
+        let ticket = first.wrapping_add(u32::from(slot));
+        if !rig.polls(ticket, slot, Outcome::Done) {
+            return false;
+        }
+    }
+    true
 }
 
 /// What is submitted, and what that gives.
@@ -140,6 +167,7 @@ fn submits(alloc: Global, rig: &mut Rig, step: Step) -> Result<bool, Fail> {
         Step::Writes(dev, lba, at, given) => {
             Ok(rig.submit(alloc, dev, Work::Write, lba, 1, &[(at, 512)])? == given)
         }
+        Step::FillsSlots(first) => fills_slots(alloc, rig, first),
         Step::Flushes(dev, given) => Ok(rig.submit(alloc, dev, Work::Flush, 0, 0, &[])? == given),
         Step::Submits(dev, work, lba, sectors, entries, given) => {
             Ok(rig.submit(alloc, dev, work, lba, sectors, entries)? == given)

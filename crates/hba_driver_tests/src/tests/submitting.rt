@@ -1,8 +1,8 @@
 //! Requests that are taken, and each refusal in its order.
 
-use super::steps::Step::{PlugsDisks, Polls, Reads, Settles, Submits, Writes};
+use super::steps::Step::{FillsSlots, PlugsDisks, PollsAll, Reads, Settles, Submits, Writes};
 use super::steps::{Entries, Step, assert_steps};
-use hba_driver::{Driver, Outcome, SubmitError, Work};
+use hba_driver::{Driver, SubmitError, Work};
 use std::alloc::{AllocError, Global};
 use std::test::Fail;
 
@@ -64,32 +64,24 @@ fn flushes_move_no_sectors(rt: HostRuntime) -> Result<(), Fail> {
 /// The first of the last thirty tickets.
 const FIRST: u32 = 0xFFFF_FFFF - 29;
 
-/// No slot is free, before the requests have ended and after that.
-static FULL: [Step; 6] = [
+/// Thirty writes over two devices take the slots 0 to 29. No slot is free then, before the requests have ended and after
+/// that. In the end the last ticket was given.
+static SLOTS: [Step; 11] = [
+    PlugsDisks(2),
+    FillsSlots(FIRST),
     Reads(0, 0, 0x10_3000, Err(SubmitError::Overlap)),
     Writes(0, 0, 0x10_3000, Err(SubmitError::NoSlot)),
     Writes(1, 0, 0x10_3000, Err(SubmitError::NoSlot)),
     Settles,
     Writes(0, 0, 0x10_3000, Err(SubmitError::NoSlot)),
     Writes(1, 0, 0x10_3000, Err(SubmitError::NoSlot)),
-];
-
-/// The last ticket was given.
-static SPENT: [Step; 2] = [
+    PollsAll(FIRST),
     Writes(0, 0, 0x10_3000, Err(SubmitError::TicketsSpent)),
     Writes(1, 0, 0x10_3000, Err(SubmitError::TicketsSpent)),
 ];
 
-/// Thirty writes over two devices take the slots 0 to 29.
 #[test]
 fn slots_and_tickets_end(rt: HostRuntime) -> Result<(), Fail> {
-    let mut given = [PlugsDisks(2); 31];
-    let mut ended = [Settles; 30];
-    for slot in 0..30_u8 {
-        let ticket = FIRST + u32::from(slot);
-        given[slot as usize + 1] = Writes(slot % 2, 0, 0x10_3000, Ok(ticket));
-        ended[slot as usize] = Polls(ticket, slot, Outcome::Done);
-    }
     let driver = Driver::with_next_ticket(FIRST);
-    assert_steps(&rt, rt.alloc(), driver, 2, &[&given, &FULL, &ended, &SPENT])
+    assert_steps(&rt, rt.alloc(), driver, 2, &[&SLOTS])
 }

@@ -20,7 +20,7 @@ fn reads_that_fail(rt: HostRuntime) -> Result<(), Fail> {
     let input = frames(rt.alloc())?;
     let mut written = Vec::new(rt.alloc());
     let torn = Torn { bytes: &input };
-    assert_eq!(rt; serve(&rt, rt.alloc(), &["decode"], torn, &mut written), 4);
+    assert!(rt; serve(&rt, rt.alloc(), &["decode"], torn, &mut written) == 4);
     assert!(rt; written.is_empty());
     Ok(())
 }
@@ -29,29 +29,20 @@ fn reads_that_fail(rt: HostRuntime) -> Result<(), Fail> {
 fn writes_that_fail(rt: HostRuntime) -> Result<(), Fail> {
     let input = frames(rt.alloc())?;
     let mut whole = Full::after(rt.alloc(), 1000);
-    assert_eq!(rt;
-        serve(&rt, rt.alloc(), &["decode"], input.as_slice(), &mut whole),
-        0
-    );
+    assert!(rt; serve(&rt, rt.alloc(), &["decode"], input.as_slice(), &mut whole) == 0);
     let writes = 1000usize.saturating_sub(whole.left);
     assert!(rt; writes > 1);
     for left in 0..writes {
         let mut full = Full::after(rt.alloc(), left);
         let ended = serve(&rt, rt.alloc(), &["decode"], input.as_slice(), &mut full);
-        assert_eq!(rt; ended, 4, "after {left} writes");
+        assert!(rt; ended == 4, "after {left} writes");
         assert!(rt; whole.bytes.starts_with(&full.bytes), "after {left} writes");
-        assert_eq!(rt; full.refused, 1, "after {left} writes");
+        assert!(rt; full.refused == 1, "after {left} writes");
     }
     let mut refused = Full::after(rt.alloc(), 0);
-    assert_eq!(rt;
-        serve(&rt, rt.alloc(), &["run"], b"came".as_slice(), &mut refused),
-        4
-    );
+    assert!(rt; serve(&rt, rt.alloc(), &["run"], b"came".as_slice(), &mut refused) == 4);
     let mut refused = Full::after(rt.alloc(), 0);
-    assert_eq!(rt;
-        serve(&rt, rt.alloc(), &["fly"], b"".as_slice(), &mut refused),
-        4
-    );
+    assert!(rt; serve(&rt, rt.alloc(), &["fly"], b"".as_slice(), &mut refused) == 4);
     Ok(())
 }
 
@@ -59,18 +50,12 @@ fn writes_that_fail(rt: HostRuntime) -> Result<(), Fail> {
 fn writes_of_one_byte(rt: HostRuntime) -> Result<(), Fail> {
     let input = frames(rt.alloc())?;
     let mut whole = Vec::new(rt.alloc());
-    assert_eq!(rt;
-        serve(&rt, rt.alloc(), &["decode"], input.as_slice(), &mut whole),
-        0
-    );
+    assert!(rt; serve(&rt, rt.alloc(), &["decode"], input.as_slice(), &mut whole) == 0);
     let mut narrow = Narrow {
         bytes: Vec::new(rt.alloc()),
     };
-    assert_eq!(rt;
-        serve(&rt, rt.alloc(), &["decode"], input.as_slice(), &mut narrow),
-        0
-    );
-    assert_eq!(rt; narrow.bytes.as_slice(), whole.as_slice());
+    assert!(rt; serve(&rt, rt.alloc(), &["decode"], input.as_slice(), &mut narrow) == 0);
+    assert!(rt; narrow.bytes.as_slice() == whole.as_slice());
     Ok(())
 }
 

@@ -18,14 +18,14 @@ fn assert_decodes<R: Abort + AllocGlobal + Threads + Wait + Sync + Files + Eprin
 ) {
     let mut written = Vec::new(rt.alloc());
     let ended = serve(rt, rt.alloc(), &["decode"], input, &mut written);
-    assert_eq!(rt; written.as_slice(), output.as_bytes());
-    assert_eq!(rt; ended, status, "{output}");
+    assert!(rt; written.as_slice() == output.as_bytes());
+    assert!(rt; ended == status, "{output}");
 }
 
 #[test]
 fn the_longest_input(rt: HostRuntime) -> Result<(), Fail> {
     let input = longest_input(rt.alloc())?;
-    assert_eq!(rt; input.len(), LONGEST_INPUT);
+    assert!(rt; input.len() == LONGEST_INPUT);
     assert_decodes(&rt, &input, 0, "");
     Ok(())
 }

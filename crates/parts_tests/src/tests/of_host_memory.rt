@@ -1,3 +1,5 @@
+//! What no clause says: values from outside, and that calls succeed.
+
 use host_memory::{
     HostMemory, MemoryError, Outside, PrdError, PrdTable, Run, scatters_are_single_writes,
     tables_are_of_their_bytes,
@@ -154,18 +156,14 @@ impl Rig {
         true
     }
 
-    fn parts(&self, count: u16, offset: u32, len: u32, sizes: &[usize]) -> bool {
-        match parts_of(self.alloc, &self.memory, count, offset, len) {
-            Ok((found, joined)) => found.as_slice() == sizes && joined.len() == len as usize,
-            Err(_) => false,
-        }
+    fn parts(&self, count: u16, offset: u32, len: u32, sizes: &[usize]) -> Result<bool, Fail> {
+        let (found, joined) = parts_of(self.alloc, &self.memory, count, offset, len)?;
+        Ok(found.as_slice() == sizes && joined.len() == len as usize)
     }
 
-    fn joins(&self, count: u16, offset: u32, len: u32, bytes: &[u8]) -> bool {
-        match parts_of(self.alloc, &self.memory, count, offset, len) {
-            Ok((_, joined)) => joined.as_slice() == bytes,
-            Err(_) => false,
-        }
+    fn joins(&self, count: u16, offset: u32, len: u32, bytes: &[u8]) -> Result<bool, Fail> {
+        let (_, joined) = parts_of(self.alloc, &self.memory, count, offset, len)?;
+        Ok(joined.as_slice() == bytes)
     }
 
     fn fills(&mut self, offset: u32, wanted: Option<(usize, usize)>) -> bool {
@@ -176,7 +174,15 @@ impl Rig {
     }
 
     /// Whether a step is as it says.
-    fn passes(&mut self, step: Step) -> bool {
+    fn passes(&mut self, step: Step) -> Result<bool, Fail> {
+        match step {
+            Step::Parts(count, offset, len, sizes) => self.parts(count, offset, len, sizes),
+            Step::Joins(count, offset, len, bytes) => self.joins(count, offset, len, bytes),
+            _ => Ok(self.is_so(step)),
+        }
+    }
+
+    fn is_so(&mut self, step: Step) -> bool {
         match step {
             Step::Puts(address, bytes) => self.memory.put_client(address, bytes) == Ok(()),
             Step::CannotPut(address, bytes) => {
@@ -185,28 +191,28 @@ impl Rig {
             Step::Shows(address, byte) => self.shows(address, byte),
             Step::Lists(number, entry) => self.lists(number, entry),
             Step::Delivers => deliver(&mut self.memory, &counting()) == Ok(512),
-            Step::Parts(count, offset, len, sizes) => self.parts(count, offset, len, sizes),
-            Step::Joins(count, offset, len, bytes) => self.joins(count, offset, len, bytes),
             Step::Fills(offset, wanted) => self.fills(offset, wanted),
+            _ => false,
         }
     }
 
     /// The number of the first step that is not as it says.
-    fn first_wrong(&mut self, steps: &[Step]) -> Option<usize> {
+    fn first_wrong(&mut self, steps: &[Step]) -> Result<Option<usize>, Fail> {
         for (i, step) in steps.iter().enumerate() {
-            if !self.passes(*step) {
-                return Some(i);
+            if !self.passes(*step)? {
+                return Ok(Some(i));
             }
         }
-        None
+        Ok(None)
     }
 }
 
 /// Each step of a memory of 2 MiB is as it says.
-fn play(rt: &impl Abort, alloc: Global, steps: &[Step]) -> Result<(), MemoryError> {
+fn play(rt: &impl Abort, alloc: Global, steps: &[Step]) -> Result<(), Fail> {
     let memory = HostMemory::new(alloc, 0x20_0000)?;
     let mut rig = Rig { alloc, memory };
-    assert_eq!(rt; rig.first_wrong(steps), None, "the number of a step");
+    let wrong = rig.first_wrong(steps)?;
+    assert_eq!(rt; wrong, None, "the number of a step");
     Ok(())
 }
 
@@ -257,7 +263,7 @@ static PUTS: [Step; 14] = [
 ];
 
 #[test]
-fn puts_client_bytes(rt: HostRuntime) -> Result<(), MemoryError> {
+fn puts_client_bytes(rt: HostRuntime) -> Result<(), Fail> {
     play(&rt, rt.alloc(), &PUTS)
 }
 
@@ -278,7 +284,7 @@ static SCATTERS: [Step; 13] = [
 ];
 
 #[test]
-fn scatters_a_transfer(rt: HostRuntime) -> Result<(), MemoryError> {
+fn scatters_a_transfer(rt: HostRuntime) -> Result<(), Fail> {
     tables_are_of_their_bytes();
     scatters_are_single_writes();
     play(&rt, rt.alloc(), &SCATTERS)
@@ -311,7 +317,7 @@ static PARTS: [Step; 23] = [
 ];
 
 #[test]
-fn gives_parts(rt: HostRuntime) -> Result<(), MemoryError> {
+fn gives_parts(rt: HostRuntime) -> Result<(), Fail> {
     play(&rt, rt.alloc(), &PARTS)
 }
 
@@ -337,7 +343,7 @@ static RUNS: [Step; 17] = [
 ];
 
 #[test]
-fn gives_a_run_to_be_written(rt: HostRuntime) -> Result<(), MemoryError> {
+fn gives_a_run_to_be_written(rt: HostRuntime) -> Result<(), Fail> {
     play(&rt, rt.alloc(), &RUNS)
 }
 
@@ -353,7 +359,7 @@ static EACH_ENTRY: [Step; 8] = [
 ];
 
 #[test]
-fn gives_a_part_for_each_entry(rt: HostRuntime) -> Result<(), MemoryError> {
+fn gives_a_part_for_each_entry(rt: HostRuntime) -> Result<(), Fail> {
     play(&rt, rt.alloc(), &EACH_ENTRY)
 }
 

@@ -1,3 +1,5 @@
+//! What no clause of `guest_bytes` says: values from outside, and that calls succeed.
+
 ghost use Rattle.std.specs.Prelude.{◌≡◌};
 
 use guest_bytes::{

@@ -1,5 +1,0 @@
-//! The tests of `fis_view`. They have a crate of their own, because a crate with tests is proved twice.
-#![tactic(auto)]
-
-#[cfg(test)]
-mod tests;
