@@ -72,7 +72,7 @@ abbrev pub DiskToHost : StockValue → ℕ → Status → List ℕ → StockValu
 DiskToHost old room status.Done fis new = SendsNext stock_plan StockStandsFor StockMaySend old fis new
 DiskToHost old room status.Nothing fis new =
     IsSilent stock_plan StockStandsFor StockMaySend old × (new ≡ old)
-DiskToHost old room status.NoMemory fis new = MaySendBy old.front.owed old.disk × (new ≡ old)
+DiskToHost old room status.NoMemory fis new = MaySendBy old.front.owed old.front.serving old.disk × (new ≡ old)
 DiskToHost old room status.TooShort fis new = (room < 8196) × (new ≡ old)
 DiskToHost old room _ fis new = ⊥
 

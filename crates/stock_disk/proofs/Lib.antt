@@ -1,3 +1,5 @@
+pub mod LossLemmas
+pub mod DmaLemmas
 pub mod HistoryLemmas
 pub mod RunLemmas
 pub mod ModeLemmas

@@ -7,11 +7,14 @@ use Rattle.fis_view.specs.declared.view.Fis.TheVariants as view
 use Rattle.fis_view.specs.declared.view.FisFault.{FisFault}
 use Rattle.disk_model.specs.Ends.{reports}
 use Rattle.disk_model.specs.Histories.{Happening, Received, Sent, Plugged}
+use Rattle.disk_model.specs.Quiet.{is_at_rest}
+use Rattle.stock_disk.specs.declared.front.Course.{Course}
+use Rattle.stock_disk.specs.declared.front.Course.TheVariants.{Answers, Serves, Loses, Passes}
 use Rattle.stock_disk.specs.declared.front.Front.{Front}
 use Rattle.stock_disk.specs.declared.front.Own.{Own}
 use Rattle.stock_disk.specs.declared.front.Own.TheVariants.{Done, Active, Aborted, Verifies, LogFollows, LogData}
-use Rattle.stock_disk.specs.Faces.{after_sent, front_after, front_at}
-use Rattle.stock_disk.specs.Fronts.{answered, asks_log, ended, heard, hears, named, own_to, passed, told}
+use Rattle.stock_disk.specs.Faces.{StockValue, after_sent, front_after, value_after, value_at}
+use Rattle.stock_disk.specs.Fronts.{answered, asks_log, course, course_by, ended, heard, hears, named, own_to, passed, told}
 use Rattle.stock_disk.specs.Laws.{ErrorsAbort, NoneEndsMode, ends_mode}
 
 -- a command is aborted in the error mode
@@ -19,30 +22,33 @@ pub aborts : (front : Front) (f : List ℕ) → front.on ≡ true → front.fail
     → own_to front (Ok (view.RegH2D f)) ≡ Some Aborted
 aborts front f on failed command other = rw (on, command, failed, other) refl
 
-register_keeps : (front : Front) (f : List ℕ) (c : Bool) → front.on ≡ true → front.failed ≡ true → (field H2d C f == 1) ≡ c
-    → ends_mode (Ok (view.RegH2D f)) ≡ false → (heard front (Ok (view.RegH2D f))).failed ≡ true
-register_keeps front f true on failed is goes =
+register_keeps : (front : Front) (rest : Bool) (f : List ℕ) (c : Bool) → front.on ≡ true → front.failed ≡ true
+    → (field H2d C f == 1) ≡ c
+    → ends_mode (Ok (view.RegH2D f)) ≡ false → (heard front rest (Ok (view.RegH2D f))).failed ≡ true
+register_keeps front rest f true on failed is goes =
     let other : asks_log f ≡ false = rw is at goes in
     let own : own_to front (Ok (view.RegH2D f)) ≡ Some Aborted = aborts front f on failed is other in
-    ap (λ (o : Option Own). (hears front (Ok (view.RegH2D f)) o).failed) own ∙ failed
-register_keeps front f false on failed is goes =
+    ap (λ (o : Option Own). (hears front (Ok (view.RegH2D f)) (course_by front rest (Ok (view.RegH2D f)) o)).failed) own ∙ failed
+register_keeps front rest f false on failed is goes =
     let clear : (field H2d Control f / 4 % 2 == 1) ≡ false = rw is at goes in
     let own : own_to front (Ok (view.RegH2D f)) ≡ None = rw (on, is) refl in
+    let passes : course_by front rest (Ok (view.RegH2D f)) None ≡ Passes = rw is refl in
     let now : (passed front (Ok (view.RegH2D f))).failed ≡ true = rw (is, clear) failed in
-    ap (λ (o : Option Own). (hears front (Ok (view.RegH2D f)) o).failed) own ∙ now
+    ap (λ (o : Option Own). (hears front (Ok (view.RegH2D f)) (course_by front rest (Ok (view.RegH2D f)) o)).failed) own
+    ∙ ap (λ (c : Course). (hears front (Ok (view.RegH2D f)) c).failed) passes ∙ now
 
-hears_keeps : (front : Front) (fis : Result Fis FisFault) → front.on ≡ true → front.failed ≡ true → ends_mode fis ≡ false
-    → (heard front fis).failed ≡ true
-hears_keeps front (Ok (view.RegH2D f)) on failed goes =
-    register_keeps front f (field H2d C f == 1) on failed refl goes
-hears_keeps front (Ok (view.RegD2H f)) on failed goes = failed
-hears_keeps front (Ok (view.SetBits f)) on failed goes = failed
-hears_keeps front (Ok (view.DmaActivate f)) on failed goes = failed
-hears_keeps front (Ok (view.DmaSetup f)) on failed goes = failed
-hears_keeps front (Ok (view.PioSetup f)) on failed goes = failed
-hears_keeps front (Ok (view.Payload f)) on failed goes = failed
-hears_keeps front (Ok (view.Unknown f)) on failed goes = failed
-hears_keeps front (Err e) on failed goes = failed
+hears_keeps : (front : Front) (rest : Bool) (fis : Result Fis FisFault) → front.on ≡ true → front.failed ≡ true
+    → ends_mode fis ≡ false → (heard front rest fis).failed ≡ true
+hears_keeps front rest (Ok (view.RegH2D f)) on failed goes =
+    register_keeps front rest f (field H2d C f == 1) on failed refl goes
+hears_keeps front rest (Ok (view.RegD2H f)) on failed goes = failed
+hears_keeps front rest (Ok (view.SetBits f)) on failed goes = failed
+hears_keeps front rest (Ok (view.DmaActivate f)) on failed goes = failed
+hears_keeps front rest (Ok (view.DmaSetup f)) on failed goes = failed
+hears_keeps front rest (Ok (view.PioSetup f)) on failed goes = failed
+hears_keeps front rest (Ok (view.Payload f)) on failed goes = failed
+hears_keeps front rest (Ok (view.Unknown f)) on failed goes = failed
+hears_keeps front rest (Err e) on failed goes = failed
 
 ended_keeps : (front : Front) (f : List ℕ) → front.failed ≡ true → (ended front f).failed ≡ true
 ended_keeps front f failed = search (rules, failed)
@@ -57,7 +63,7 @@ told_keeps front (Ok (view.RegH2D f)) failed = failed
 told_keeps front (Ok (view.DmaActivate f)) failed = failed
 told_keeps front (Ok (view.DmaSetup f)) failed = failed
 told_keeps front (Ok (view.PioSetup f)) failed = failed
-told_keeps front (Ok (view.Payload f)) failed = failed
+told_keeps front (Ok (view.Payload f)) failed = search (rules, failed)
 told_keeps front (Ok (view.Unknown f)) failed = failed
 told_keeps front (Err e) failed = failed
 
@@ -85,9 +91,11 @@ passed_on front (Ok (view.Payload f)) = refl
 passed_on front (Ok (view.Unknown f)) = refl
 passed_on front (Err e) = refl
 
-hears_on : (front : Front) (fis : Result Fis FisFault) (own : Option Own) → (hears front fis own).on ≡ front.on
-hears_on front fis None = passed_on front fis
-hears_on front fis (Some own) = refl
+hears_on : (front : Front) (fis : Result Fis FisFault) (c : Course) → (hears front fis c).on ≡ front.on
+hears_on front fis Passes = passed_on front fis
+hears_on front fis (Answers own) = refl
+hears_on front fis (Serves dma) = refl
+hears_on front fis Loses = refl
 
 told_on : (front : Front) (fis : Result Fis FisFault) → (told front fis).on ≡ front.on
 told_on front (Ok (view.RegD2H f)) = search rules
@@ -96,7 +104,7 @@ told_on front (Ok (view.RegH2D f)) = refl
 told_on front (Ok (view.DmaActivate f)) = refl
 told_on front (Ok (view.DmaSetup f)) = refl
 told_on front (Ok (view.PioSetup f)) = refl
-told_on front (Ok (view.Payload f)) = refl
+told_on front (Ok (view.Payload f)) = search rules
 told_on front (Ok (view.Unknown f)) = refl
 told_on front (Err e) = refl
 
@@ -113,30 +121,32 @@ sent_on front None bytes = told_on front (seen bytes)
 sent_on front (Some own) bytes = answered_on front own
 
 -- whether the front answers at all stays
-pub after_on : (front : Front) (e : Happening) → (front_after front e).on ≡ front.on
-after_on front (Received bytes) = hears_on front (seen bytes) (own_to front (seen bytes))
-after_on front (Sent bytes) = sent_on front front.owed bytes
-after_on front Plugged = refl
+pub after_on : (s : StockValue) (e : Happening) → (front_after s e).on ≡ s.front.on
+after_on s (Received bytes) =
+    hears_on s.front (seen bytes) (course s.front (is_at_rest s.disk.now) (seen bytes))
+after_on s (Sent bytes) = sent_on s.front s.front.owed bytes
+after_on s Plugged = refl
 
 -- the front answers, and is in the error mode
 pub record Refuses (front : Front) : Type 0 where
   pub on : front.on ≡ true
   pub failed : front.failed ≡ true
 
-stays_failed : (front : Front) (h : List Happening) → Refuses front → NoneEndsMode h → Refuses (front_at front h)
-unfolding front_at NoneEndsMode
-stays_failed front [] now none = now
-stays_failed front (Received bytes ∷ h) now none =
-    stays_failed (front_after front (Received bytes)) h (record {
-      on = after_on front (Received bytes) ∙ now.on;
-      failed = hears_keeps front (seen bytes) now.on now.failed none.0;
+stays_failed : (s : StockValue) (h : List Happening) → Refuses s.front → NoneEndsMode h
+    → Refuses (value_at s h).front
+unfolding value_at NoneEndsMode
+stays_failed s [] now none = now
+stays_failed s (Received bytes ∷ h) now none =
+    stays_failed (value_after s (Received bytes)) h (record {
+      on = after_on s (Received bytes) ∙ now.on;
+      failed = hears_keeps s.front (is_at_rest s.disk.now) (seen bytes) now.on now.failed none.0;
     }) none.1
-stays_failed front (Sent bytes ∷ h) now none =
-    stays_failed (front_after front (Sent bytes)) h (record {
-      on = after_on front (Sent bytes) ∙ now.on;
-      failed = sent_keeps front front.owed bytes now.failed;
+stays_failed s (Sent bytes ∷ h) now none =
+    stays_failed (value_after s (Sent bytes)) h (record {
+      on = after_on s (Sent bytes) ∙ now.on;
+      failed = sent_keeps s.front s.front.owed bytes now.failed;
     }) none
-stays_failed front (Plugged ∷ h) now none = absurd none
+stays_failed s (Plugged ∷ h) now none = absurd none
 
 reports_fails : (front : Front) (fis : Result Fis FisFault) → reports fis ≡ true → (told front fis).failed ≡ true
 reports_fails front (Ok (view.SetBits f)) is = rw is refl
@@ -150,12 +160,12 @@ reports_fails front (Ok (view.Unknown f)) is = search (rules, is)
 reports_fails front (Err e) is = search (rules, is)
 
 pub errors_abort : ErrorsAbort
-unfolding front_at
-errors_abort front error between f on quiet is none command other =
-    let first : Refuses (front_after front (Sent error)) = record {
-      on = after_on front (Sent error) ∙ on;
-      failed = ap (λ (o : Option Own). (after_sent front o error).failed) quiet
-          ∙ reports_fails front (seen error) is;
+unfolding value_at
+errors_abort s error between f on quiet is none command other =
+    let first : Refuses (front_after s (Sent error)) = record {
+      on = after_on s (Sent error) ∙ on;
+      failed = ap (λ (o : Option Own). (after_sent s.front o error).failed) quiet
+          ∙ reports_fails s.front (seen error) is;
     } in
-    let now = stays_failed (front_after front (Sent error)) between first none in
-    aborts (front_at (front_after front (Sent error)) between) f now.on now.failed command other
+    let now = stays_failed (value_after s (Sent error)) between first none in
+    aborts (value_at (value_after s (Sent error)) between).front f now.on now.failed command other

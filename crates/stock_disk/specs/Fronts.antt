@@ -1,10 +1,11 @@
 -- What the front of a disk knows from the FISes on its link, and what it answers by itself (ACS-3, STANDBY
 -- IMMEDIATE, IDLE IMMEDIATE, STANDBY, IDLE, CHECK POWER MODE, SLEEP, FLUSH CACHE, SET FEATURES, READ LOG EXT,
--- READ VERIFY SECTOR(S), READ VERIFY SECTOR(S) EXT; Serial ATA 3.x, 13.6, native command queuing). What the
+-- READ VERIFY SECTOR(S), READ VERIFY SECTOR(S) EXT, READ DMA, WRITE DMA; Serial ATA 3.x, 13.6, native command queuing). What the
 -- host's registers tell of a disk is kept: BSY, which a command sets and its answer clears, and SActive, a bit
 -- for each tag.
 use Rattle.std.specs.Prelude.{ℕ, ◌-◌, ◌/◌, ◌%◌, ◌^◌, ◌==◌, ◌&&◌, ◌||◌, nat_le, bit_and, bit_or, Bool, true}
 use Rattle.std.specs.Prelude.{false, not, List, if◌then◌else◌, Option, Some, None, Result, Ok, option_map}
+use Rattle.std.specs.Prelude.{is_some, is_none}
 use Rattle.fis_view.specs.Table.{H2d, D2h, Bits, C, Command, Features, Lba, Count, Control, Status, SActive}
 use Rattle.fis_view.specs.Table.{field}
 use Rattle.fis_view.specs.declared.view.Fis.{Fis}
@@ -15,9 +16,13 @@ use Rattle.disk_model.specs.declared.plan.Profile.{Profile}
 use Rattle.disk_model.specs.declared.plan.Profile.TheVariants.{Bare, Stock}
 use Rattle.disk_model.specs.Requests.{names_error_log}
 use Rattle.disk_model.specs.Sendings.{Sending, Register, Carries, page_follows}
+use Rattle.stock_disk.specs.declared.dma.Dma.{Dma}
+use Rattle.stock_disk.specs.declared.front.Course.{Course}
+use Rattle.stock_disk.specs.declared.front.Course.TheVariants.{Answers, Serves, Loses, Passes}
 use Rattle.stock_disk.specs.declared.front.Front.{Front}
 use Rattle.stock_disk.specs.declared.front.Own.{Own}
 use Rattle.stock_disk.specs.declared.front.Own.TheVariants.{Done, Active, Aborted, Verifies, LogFollows, LogData}
+use Rattle.stock_disk.specs.Dmas.{dma_for}
 use Rattle.stock_disk.specs.Pages.{log_bytes, log_named}
 use Rattle.stock_disk.specs.Verifies.{verified, verify_28, verify_48}
 
@@ -111,13 +116,29 @@ abbrev pub own_to : Front → Result Fis FisFault → Option Own
 own_to front (Ok (view.RegH2D f)) = if front.on && (field H2d C f == 1) then answer_to front f else None
 own_to front _ = None
 
-abbrev pub is_none : Option Own → Bool
-is_none None = true
-is_none (Some own) = false
+-- The DMA command that the disk is to do: its plan has the stock profile and moves data upwards, 8,192 bytes at
+-- a time, and the disk is at rest.
+abbrev pub dma_to : Front → (rest : Bool) → List ℕ → Option Dma
+dma_to front rest f = if front.on && front.plain && is_idle front && rest then dma_for f else None
 
--- the FIS passes to the disk
-abbrev pub passes : Front → Result Fis FisFault → Bool
-passes front fis = is_none (own_to front fis)
+abbrev pub served_or_passed : Option Dma → Course
+served_or_passed None = Passes
+served_or_passed (Some dma) = Serves dma
+
+-- what is done with a command that the front does not answer; while the disk does a DMA command it is lost
+abbrev pub command_course : Front → (rest : Bool) → List ℕ → Course
+command_course front rest f =
+    if is_some front.serving then Loses else served_or_passed (dma_to front rest f)
+
+abbrev pub course_by : Front → (rest : Bool) → Result Fis FisFault → Option Own → Course
+course_by front rest fis (Some own) = Answers own
+course_by front rest (Ok (view.RegH2D f)) None =
+    if field H2d C f == 1 then command_course front rest f else Passes
+course_by front rest _ None = Passes
+
+-- what is done with a FIS of the host, before a disk that is at rest or not
+abbrev pub course : Front → (rest : Bool) → Result Fis FisFault → Course
+course front rest fis = course_by front rest fis (own_to front fis)
 
 -- ## What the front keeps
 
@@ -131,15 +152,18 @@ abbrev pub opening : DiskPlan → Front
 opening plan = record {
   on = is_stock plan.profile;
   auto = plan.auto;
+  plain = (plan.chunk == 8192) && not plan.last_first;
   failed = false;
   busy = false;
   outstanding = 0;
   owed = None;
+  serving = None;
 }
 
 -- only the signature is to come: SRST was set, or the disk was plugged in
 abbrev pub settles : Front → Front
-settles front = record front { failed = false; busy = true; outstanding = 0; owed = None }
+settles front =
+    record front { failed = false; busy = true; outstanding = 0; owed = None; serving = None }
 
 -- the bit of a queued command's tag
 abbrev pub tags_of : List ℕ → ℕ
@@ -169,23 +193,29 @@ abbrev pub answered : Front → Own → Front
 answered front (LogFollows log) = record front { owed = Some (LogData log) }
 answered front own = record front { busy = false; owed = None }
 
-abbrev pub hears : Front → Result Fis FisFault → Option Own → Front
-hears front fis None = passed front fis
-hears front fis (Some own) = owes front own
+-- the disk does this command, which is not answered yet
+abbrev pub serves : Front → Dma → Front
+serves front dma = record front { busy = true; serving = Some dma }
+
+abbrev pub hears : Front → Result Fis FisFault → Course → Front
+hears front fis (Answers own) = owes front own
+hears front fis (Serves dma) = serves front dma
+hears front fis Loses = front
+hears front fis Passes = passed front fis
 
 -- a FIS of the host came
-abbrev pub heard : Front → Result Fis FisFault → Front
-heard front fis = hears front fis (own_to front fis)
+abbrev pub heard : Front → (rest : Bool) → Result Fis FisFault → Front
+heard front rest fis = hears front fis (course front rest fis)
 
 -- an error ended all queued commands
 abbrev pub failing : Front → Front
-failing front = record front { failed = true; busy = false; outstanding = 0 }
+failing front = record front { failed = true; busy = false; outstanding = 0; serving = None }
 
--- ERR is bit 0 of Status. In an answer it ends the queued commands, if there are any.
+-- A Register FIS answers a command. ERR is bit 0 of Status, and ends the queued commands, if there are any.
 abbrev pub ended : Front → List ℕ → Front
 ended front f =
     (if (field D2h Status f % 2 == 1) && not (front.outstanding == 0) then failing front
-    else record front { busy = false })
+    else record front { busy = false; serving = None })
 
 -- a Set Device Bits FIS answers the tags that it names, or ends all queued commands
 abbrev pub named : Front → List ℕ → Front
@@ -193,9 +223,10 @@ named front f =
     (if field Bits Status f % 2 == 1 then failing front
     else record front { outstanding = bit_and front.outstanding (0xFFFFFFFF - field Bits SActive f) })
 
--- The disk sent a FIS. Data that comes while an answer is awaited is a page, which ends its command.
+-- A FIS was sent that is not the front's own answer. Data that comes while an answer is awaited is a page, which
+-- ends its command, or Data of a DMA command, whose end is a Register FIS.
 abbrev pub told : Front → Result Fis FisFault → Front
 told front (Ok (view.RegD2H f)) = ended front f
 told front (Ok (view.SetBits f)) = named front f
-told front (Ok (view.Payload f)) = record front { busy = false }
+told front (Ok (view.Payload f)) = if is_none front.serving then record front { busy = false } else front
 told front _ = front

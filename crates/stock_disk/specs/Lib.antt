@@ -1,5 +1,7 @@
 pub mod Pages
 pub mod Verifies
+pub mod Dmas
 pub mod Fronts
+pub mod Losses
 pub mod Faces
 pub mod Laws

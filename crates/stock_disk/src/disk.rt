@@ -1,16 +1,23 @@
 //! A disk behind its front.
 
-ghost use Rattle.std.specs.Prelude.{◌≡◌, ◌≤◌, ◌<◌, IfOk, IsErrOf, IsTrue, MatchOption, OnOk, [], length, ◌↔◌};
+ghost use Rattle.std.specs.Prelude.{◌≡◌, ◌≤◌, ◌<◌, IfOk, IfSome, IsErrOf, IsTrue, MatchOption, OnErr, OnOk, [], length, ◌↔◌};
+ghost use Rattle.std.specs.Prelude.{None, Some, false, true};
 ghost use Rattle.disk_model.specs.Chunks.{sectors_at};
 ghost use Rattle.disk_model.specs.Disks.{opening as opening_moment};
 ghost use Rattle.disk_model.specs.Histories.{DiskOf};
+ghost use Rattle.disk_model.specs.Insides.{HasTurn};
+ghost use Rattle.disk_model.specs.Quiet.{due_in, is_at_rest};
 ghost use Rattle.disk_model.specs.Runs.{is_size};
-ghost use Rattle.stock_disk.specs.Faces.{StockStandsFor, stock_plan};
+ghost use Rattle.disk_model.specs.Sendings.{Activates, Shows};
+ghost use Rattle.stock_disk.specs.Dmas.{dma_fault};
+ghost use Rattle.stock_disk.specs.Faces.{MaySendBy, OutOf, Served, StockStandsFor, WentOut, stock_plan};
 ghost use Rattle.stock_disk.specs.Fronts.{opening};
+ghost use Rattle.stock_disk.specs.Losses.{after_if, asked, begins, is_activate, is_setup};
 
-use crate::front::Front;
-use disk_model::{Device, Disk, DiskError, DiskPlan};
-use fis_view::{Frame, Stamp};
+use crate::dma::Dma;
+use crate::front::{Course, Front};
+use disk_model::{Device, Disk, DiskError, DiskPlan, Due};
+use fis_view::{DmaActivateFields, Frame, Stamp, dma_activate};
 use std::alloc::{AllocError, Global};
 use std::marker::Model;
 
@@ -51,6 +58,116 @@ fn copy_of(plan: &DiskPlan) -> DiskPlan
     match copy.bad.try_extend_from_slice(plan.bad.as_slice()) {
         Ok(()) => copy,
         Err(_) => unreachable!(),
+    }
+}
+
+/// A DMA Setup that is due is sent to nobody, unless it starts a write.
+fn drop_setup(disk: &mut Disk)
+    ensures { disk.new ≡ after_if (is_setup (due_in disk.old)) disk.old }
+{
+    if let Some(Due::Setup) = disk.due() {
+        disk.drop_next();
+    }
+}
+
+/// A DMA Activate that is due is sent to nobody.
+fn drop_activate(disk: &mut Disk)
+    ensures { disk.new ≡ after_if (is_activate (due_in disk.old)) disk.old }
+{
+    if let Some(Due::Activate) = disk.due() {
+        disk.drop_next();
+    }
+}
+
+/// A disk at rest begins a DMA command as a queued one, unless it cannot do it. The Register FIS that accepts a
+/// queued command and a read's first DMA Setup are sent to nobody.
+fn begin(disk: &mut Disk, dma: Dma)
+    requires rest { is_at_rest disk.old.now ≡ true }
+    requires count { 0 < dma.count }
+    ensures { disk.new ≡ begins (dma_fault disk.old dma) disk.old dma }
+{
+    let command = dma.queued();
+    if disk.fault(command).is_none() {
+        disk.begin(command);
+        drop_setup(disk);
+    }
+}
+
+/// The DMA Activate that stands for the DMA Setup of a write's chunk, and for its own DMA Activate if it has one.
+fn ask(disk: &mut Disk, starts: bool, alloc: Global, stamp: Stamp) -> Result<Frame, AllocError>
+    requires start { starts ≡ true → due_in disk.old ≡ Some Due.Start }
+    requires other { starts ≡ false → due_in disk.old ≡ Some Due.Setup }
+    ensures shows { IfOk result (λ f. Shows Activates f.bytes) }
+    ensures stamp { IfOk result (λ f. f.stamp ≡ stamp) }
+    ensures disk { OnOk result (disk.new ≡ asked disk.old) }
+    ensures err { OnErr result (disk.new ≡ disk.old) }
+{
+    let frame = dma_activate(alloc, &DmaActivateFields { pm_port: 0 }, stamp)?;
+    if starts {
+        disk.start(alloc)?;
+    } else {
+        disk.drop_next();
+    }
+    drop_activate(disk);
+    Ok(frame)
+}
+
+/// Gives what the disk sends next. A DMA Setup behind it is sent to nobody.
+fn pass(disk: &mut Disk, alloc: Global, stamp: Stamp) -> Result<Option<Frame>, AllocError>
+    ensures out { IfOk result (λ out. WentOut disk.old out disk.new) }
+    ensures stamp { IfOk result (λ out. IfSome out (λ frame. frame.stamp ≡ stamp)) }
+    ensures err { OnErr result (disk.new ≡ disk.old) }
+    ensures no_memory { OnErr result (HasTurn disk.old) }
+{
+    let Some(frame) = disk.next_out(alloc, stamp)? else {
+        return Ok(None);
+    };
+    drop_setup(disk);
+    Ok(Some(frame))
+}
+
+/// Gives the next FIS of a DMA command.
+fn next_served(
+    disk: &mut Disk,
+    dma: Dma,
+    alloc: Global,
+    stamp: Stamp,
+) -> Result<Option<Frame>, AllocError>
+    ensures served { IfOk result (λ out. Served disk.old dma out disk.new) }
+    ensures stamp { IfOk result (λ out. IfSome out (λ frame. frame.stamp ≡ stamp)) }
+    ensures err { OnErr result (disk.new ≡ disk.old) }
+    ensures no_memory { OnErr result (MaySendBy None (Some dma) disk.old) }
+{
+    if let Some(fault) = disk.fault(dma.queued()) {
+        return Ok(Some(dma.ending(alloc, Some(fault), stamp)?));
+    }
+    match disk.due() {
+        Some(Due::Start) => Ok(Some(ask(disk, true, alloc, stamp)?)),
+        Some(Due::Setup) => Ok(Some(ask(disk, false, alloc, stamp)?)),
+        Some(Due::Ended) => {
+            let frame = dma.ending(alloc, None, stamp)?;
+            disk.drop_next();
+            Ok(Some(frame))
+        }
+        _ => pass(disk, alloc, stamp),
+    }
+}
+
+/// Gives the disk's next FIS, or what stands for it while the disk does a DMA command.
+fn next_of_disk(
+    disk: &mut Disk,
+    serving: Option<Dma>,
+    alloc: Global,
+    stamp: Stamp,
+) -> Result<Option<Frame>, AllocError>
+    ensures out { IfOk result (λ out. OutOf serving disk.old out disk.new) }
+    ensures stamp { IfOk result (λ out. IfSome out (λ frame. frame.stamp ≡ stamp)) }
+    ensures err { OnErr result (disk.new ≡ disk.old) }
+    ensures no_memory { OnErr result (MaySendBy None serving disk.old) }
+{
+    match serving {
+        Some(dma) => next_served(disk, dma, alloc, stamp),
+        None => disk.next_out(alloc, stamp),
     }
 }
 
@@ -109,18 +226,24 @@ impl Device for StockDisk {
         ensures ok { OnOk result (
             GoesOn stock_plan StockStandsFor self.old (Received frame.now.bytes) self.new) }
         ensures err { OnErr result (self.new ≡ self.old) }
-        // a FIS passes to the disk, or the front answers it and the disk does not see it
+        // a FIS passes to the disk, or the disk does a DMA command, or the disk does not see it
         ensures took { OnOk result (Took self.old frame.now.bytes self.new) }
         // it takes memory only as the disk does, for what passes
         ensures no_memory { OnErr result (WantsRoomFor self.old frame.now.bytes) }
     {
         let fis = frame.fis();
-        match self.front.own_to(&fis) {
-            Some(own) => {
+        match self.front.course(self.disk.is_at_rest(), &fis) {
+            Course::Answers(own) => {
                 self.front = self.front.owing(own);
                 Ok(())
             }
-            None => {
+            Course::Serves(dma) => {
+                begin(&mut self.disk, dma);
+                self.front = self.front.doing(dma);
+                Ok(())
+            }
+            Course::Loses => Ok(()),
+            Course::Passes => {
                 self.disk.on_frame(alloc, frame)?;
                 self.front = self.front.passed(&fis);
                 Ok(())
@@ -136,10 +259,11 @@ impl Device for StockDisk {
             IsSilent stock_plan StockStandsFor StockMaySend self.old)) }
         ensures same { IfOk result (λ out. IfNone out (self.new ≡ self.old)) }
         ensures err { OnErr result (self.new ≡ self.old) }
-        // the front's own answer comes first, and else what the disk sends
+        // the front's own answer comes first, and else what the disk sends, or what stands for it
         ensures gave { IfOk result (λ out. IfSome out (λ frame. Gave self.old frame.bytes self.new)) }
         // it takes memory for a frame to send, and for nothing else
-        ensures no_memory { OnErr result (MaySendBy self.old.front.owed self.old.disk) }
+        ensures no_memory { OnErr result (
+            MaySendBy self.old.front.owed self.old.front.serving self.old.disk) }
     {
         match self.front.owed {
             Some(own) => {
@@ -148,7 +272,8 @@ impl Device for StockDisk {
                 Ok(Some(frame))
             }
             None => {
-                let Some(frame) = self.disk.next_out(alloc, stamp)? else {
+                let serving = self.front.serving;
+                let Some(frame) = next_of_disk(&mut self.disk, serving, alloc, stamp)? else {
                     return Ok(None);
                 };
                 self.front = self.front.told(&frame.fis());

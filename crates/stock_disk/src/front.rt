@@ -2,12 +2,13 @@
 //! native command queuing).
 
 ghost use Rattle.std.specs.Prelude.{◌≡◌, IfOk, false, true};
-ghost use Rattle.stock_disk.specs.Fronts.{answer_to, answer_with, answered, asks_log, done_for, ended, failing};
-ghost use Rattle.stock_disk.specs.Fronts.{has_feature, is_done, is_idle, is_mode, log_asked, named, opening};
-ghost use Rattle.stock_disk.specs.Fronts.{own_sent, own_to, passed, passed_command, passed_control, read_for};
-ghost use Rattle.stock_disk.specs.Fronts.{settles, tags_of, told};
+ghost use Rattle.stock_disk.specs.Fronts.{answer_to, answer_with, answered, asks_log, command_course, course};
+ghost use Rattle.stock_disk.specs.Fronts.{dma_to, done_for, ended, failing, has_feature, is_done, is_idle, is_mode};
+ghost use Rattle.stock_disk.specs.Fronts.{log_asked, named, opening, own_sent, own_to, passed, passed_command};
+ghost use Rattle.stock_disk.specs.Fronts.{passed_control, read_for, serves, settles, tags_of, told};
 ghost use Rattle.disk_model.specs.Sendings.{Register, Shows};
 
+use crate::dma::Dma;
 use crate::log::{Log, setup_frame};
 use crate::verify::Verify;
 use disk_model::{DiskPlan, Profile};
@@ -32,6 +33,19 @@ pub enum Own {
     LogData(Log),
 }
 
+/// What is done with a FIS of the host.
+#[derive(Clone, Copy, Debug, PartialEq, Eq)]
+pub enum Course {
+    /// The front answers it.
+    Answers(Own),
+    /// The disk does it as a queued command, for which the front speaks.
+    Serves(Dma),
+    /// It is a command, and comes while the disk does a DMA command. It has no answer.
+    Loses,
+    /// It passes to the disk.
+    Passes,
+}
+
 /// What the front keeps: what the host knows of the disk from its registers, and the answer that waits.
 #[derive(Clone, Copy, Debug, PartialEq, Eq)]
 pub struct Front {
@@ -39,6 +53,9 @@ pub struct Front {
     pub on: bool,
     /// Whether the DMA Setups of the disk's writes have auto-activate.
     pub auto: bool,
+    /// Whether the disk moves its data upwards, in chunks as long as Data FISes can be, so that it can do DMA
+    /// commands.
+    pub plain: bool,
     /// Whether an error ended all queued commands and its log has not been read.
     pub failed: bool,
     /// Whether a command or a reset waits for its answer, as BSY at the host tells.
@@ -47,6 +64,8 @@ pub struct Front {
     pub outstanding: u32,
     /// The front's own answer that waits to be sent.
     pub owed: Option<Own>,
+    /// The DMA command that waits for its answer.
+    pub serving: Option<Dma>,
 }
 
 /// Whether a mode of transfer is one of those in the IDENTIFY DEVICE data: PIO modes up to 4, multiword DMA
@@ -156,10 +175,12 @@ impl Front {
         Front {
             on: matches!(plan.profile, Profile::Stock(_)),
             auto: plan.auto,
+            plain: plan.chunk == 8192 && !plan.last_first,
             failed: false,
             busy: false,
             outstanding: 0,
             owed: None,
+            serving: None,
         }
     }
 
@@ -187,13 +208,50 @@ impl Front {
         }
     }
 
-    /// The front's own answer to a FIS of the host, None for one that passes to the disk.
-    pub(crate) fn own_to(self, fis: &Result<Fis<'_>, FisFault>) -> Option<Own>
+    /// The front's own answer to a FIS of the host, None for one that it does not answer.
+    fn own_to(self, fis: &Result<Fis<'_>, FisFault>) -> Option<Own>
         ensures { result ≡ own_to self fis.now }
     {
         match fis {
             Ok(Fis::RegH2D(fis)) if self.on && fis.c() => self.answer_to(fis),
             _ => None,
+        }
+    }
+
+    /// The DMA command that the disk is to do, None for another command.
+    fn dma_to(self, rest: bool, fis: &RegH2D<'_>) -> Option<Dma>
+        ensures { result ≡ dma_to self rest fis.now }
+    {
+        if self.on && self.plain && self.is_idle() && rest {
+            Dma::asked(fis)
+        } else {
+            None
+        }
+    }
+
+    /// What is done with a command that the front does not answer.
+    fn command_course(self, rest: bool, fis: &RegH2D<'_>) -> Course
+        ensures { result ≡ command_course self rest fis.now }
+    {
+        if self.serving.is_some() {
+            return Course::Loses;
+        }
+        match self.dma_to(rest, fis) {
+            Some(dma) => Course::Serves(dma),
+            None => Course::Passes,
+        }
+    }
+
+    /// What is done with a FIS of the host, before a disk that is at rest or not.
+    pub(crate) fn course(self, rest: bool, fis: &Result<Fis<'_>, FisFault>) -> Course
+        ensures { result ≡ course self rest fis.now }
+    {
+        if let Some(own) = self.own_to(fis) {
+            return Course::Answers(own);
+        }
+        match fis {
+            Ok(Fis::RegH2D(fis)) if fis.c() => self.command_course(rest, fis),
+            _ => Course::Passes,
         }
     }
 
@@ -229,6 +287,7 @@ impl Front {
             busy: true,
             outstanding: 0,
             owed: None,
+            serving: None,
             ..self
         }
     }
@@ -251,6 +310,17 @@ impl Front {
         Front {
             busy: true,
             owed: Some(own),
+            ..self
+        }
+    }
+
+    /// The front once the disk does this command.
+    pub(crate) fn doing(self, dma: Dma) -> Front
+        ensures { result ≡ serves self dma }
+    {
+        Front {
+            busy: true,
+            serving: Some(dma),
             ..self
         }
     }
@@ -280,11 +350,12 @@ impl Front {
             failed: true,
             busy: false,
             outstanding: 0,
+            serving: None,
             ..self
         }
     }
 
-    /// The front after an answer of the disk. One with ERR ends all queued commands.
+    /// The front after a Register FIS. One with ERR ends all queued commands.
     fn ended(self, fis: &RegD2H<'_>) -> Front
         ensures { result ≡ ended self fis.now }
     {
@@ -293,6 +364,7 @@ impl Front {
         } else {
             Front {
                 busy: false,
+                serving: None,
                 ..self
             }
         }
@@ -313,14 +385,15 @@ impl Front {
         }
     }
 
-    /// The front after a FIS that the disk sent.
+    /// The front after a FIS that was sent, and was not its own answer to a command. The data of a DMA command do
+    /// not end it.
     pub(crate) fn told(self, fis: &Result<Fis<'_>, FisFault>) -> Front
         ensures { result ≡ told self fis.now }
     {
         match fis {
             Ok(Fis::RegD2H(fis)) => self.ended(fis),
             Ok(Fis::SetBits(fis)) => self.set_bits(fis),
-            Ok(Fis::Payload(_)) => Front {
+            Ok(Fis::Payload(_)) if self.serving.is_none() => Front {
                 busy: false,
                 ..self
             },

@@ -65,7 +65,8 @@ fn fields(ext: bool, status: u8, error: u8, lba: u64) -> D2hFields
     }
 }
 
-fn fault_fields(ext: bool, fault: Option<Fault>) -> D2hFields
+/// The fields of an answer, with this fault or without one.
+pub(crate) fn fault_fields(ext: bool, fault: Option<Fault>) -> D2hFields
     ensures { result ≡ fault_fields ext fault }
 {
     match fault {

@@ -1,7 +1,7 @@
 //! Tests as lists of steps: what is done with a disk, and what it answers then.
 
 use disk_model::{Device, DiskPlan, Profile};
-use fis_view::{H2dFields, Stamp, h2d};
+use fis_view::{H2dFields, Stamp, h2d, payload};
 use std::alloc::Global;
 use std::process::Abort;
 use std::test::Fail;
@@ -41,6 +41,8 @@ pub(super) enum Step {
     Sets(u16, u16),
     /// A command is given: its code, its Device, its sector and its Count.
     Asks(u8, u8, u64, u16),
+    /// Data of this many bytes is given, all of which are this one.
+    Gives(usize, u8),
     /// READ LOG EXT of the NCQ Command Error log is given.
     ReadsLog,
     /// The Device Control register is given with this SRST.
@@ -94,6 +96,10 @@ pub(super) fn acts(alloc: Global, disk: &mut StockDisk, step: Step) -> Result<()
     }
     if let Step::Plugs = step {
         disk.plugged(alloc)?;
+    }
+    if let Step::Gives(count, byte) = step {
+        let bytes = vec![in alloc; byte; count]?;
+        disk.on_frame(alloc, &payload(alloc, 0, &bytes, STAMP)?)?;
     }
     Ok(())
 }
@@ -150,7 +156,18 @@ pub(super) fn assert_steps(
     plan: DiskPlan,
     steps: &[Step],
 ) -> Result<(), Fail> {
-    let mut disk = StockDisk::new(alloc, 16, plan)?;
+    assert_steps_of(rt, alloc, 16, plan, steps)
+}
+
+/// Each step of a new disk of this many sectors is as it says.
+pub(super) fn assert_steps_of(
+    rt: &impl Abort,
+    alloc: Global,
+    sectors: u32,
+    plan: DiskPlan,
+    steps: &[Step],
+) -> Result<(), Fail> {
+    let mut disk = StockDisk::new(alloc, sectors, plan)?;
     let wrong = first_wrong(alloc, &mut disk, steps)?;
     assert_eq!(rt; wrong, None, "the number of a step");
     Ok(())
