@@ -29,8 +29,9 @@ pub record Puts (slot : ℕ) (fields : H2dFields) (len : ℕ) (old new : Memory)
   pub client : new.client ≡ old.client
 
 -- The command of a slot is issued: the one whose header lies in the list that is in use. Its table is kept, and
--- the host port is given it as its own.
+-- the host port is given it as its own. After a bad command none is.
 pub record Issues (may_read : ℕ → List ℕ → Type 0) (slot : ℕ) (old new : ControllerState) : Type 0 where
+  pub goes_on : is_failed old.own ≡ false
   pub command : GuestCommand
   pub read : IsCommandAt may_read (old.own.list + 32 * slot) command
   pub put : Puts slot command.head.fields command.head.len old.memory new.memory
@@ -45,14 +46,18 @@ pub record Issues (may_read : ℕ → List ℕ → Type 0) (slot : ℕ) (old new
 
 -- ---- commands that cannot be served
 
--- A command cannot be read: a bad one stopped the port before, its header has no addresses, or it is refused as
--- it was read. Nothing changes.
+-- its header has no addresses, or it is refused as it was read
+abbrev pub ReadRefused : (ℕ → List ℕ → Type 0) → (ℕ → ℕ → Type 0) → ℕ → CommandError → Type 0
+ReadRefused may_read may_miss at error =
+    (2 ^ 64 ≤ at × (error ≡ refusal.NotThere)) ⊎ IsRefused may_read may_miss at error
+
+-- A command cannot be read: a bad one stopped the port before, and then nothing of it is read, or it is refused.
+-- Nothing changes.
 abbrev pub FetchRefused :
     (ℕ → List ℕ → Type 0) → (ℕ → ℕ → Type 0) → ℕ → CommandError → ControllerState → Type 0
 FetchRefused may_read may_miss slot error old =
     ((is_failed old.own ≡ true) × (error ≡ refusal.Bad))
-    ⊎ (2 ^ 64 ≤ old.own.list + 32 * slot × (error ≡ refusal.NotThere))
-    ⊎ IsRefused may_read may_miss (old.own.list + 32 * slot) error
+    ⊎ ((is_failed old.own ≡ false) × ReadRefused may_read may_miss (old.own.list + 32 * slot) error)
 
 pub record CannotBeRead (may_read : ℕ → List ℕ → Type 0) (may_miss : ℕ → ℕ → Type 0) (slot : ℕ)
     (error : CommandError) (old : ControllerState) (memory : Memory) : Type 0 where
@@ -63,6 +68,7 @@ pub record CannotBeRead (may_read : ℕ → List ℕ → Type 0) (may_miss : ℕ
 -- another device than the port serves then, or it is armed and not queued, or the other way round.
 pub record CannotBeGiven (may_read : ℕ → List ℕ → Type 0) (slot : ℕ) (error : CommandError)
     (old : ControllerState) (memory : Memory) : Type 0 where
+  pub goes_on : is_failed old.own ≡ false
   pub command : GuestCommand
   pub read : IsCommandAt may_read (old.own.list + 32 * slot) command
   pub put : Puts slot command.head.fields command.head.len old.memory memory

@@ -1,6 +1,6 @@
 -- What goes out next: AHCI 1.3.1, 5.3. Bytes of a write are read from the guest's memory before they go, from the
 -- places that the command's table named when it was issued (section 4.2.3.3).
-use Rattle.std.specs.Prelude.{◌≡◌, ℕ, ◌+◌, ◌-◌, ◌^◌, min, false, List, [], ◌∷◌, ◌++◌, length, bit_or}
+use Rattle.std.specs.Prelude.{◌≡◌, ℕ, ◌+◌, ◌-◌, ◌^◌, min, Bool, false, List, [], ◌∷◌, ◌++◌, length, bit_or}
 use Rattle.std.specs.Prelude.{Option, Some, None, MatchOption}
 use Rattle.guest_bytes.specs.Guest.{Delivers}
 use Rattle.guest_bytes.specs.Moves.{Fetches}
@@ -12,7 +12,7 @@ use Rattle.host_memory.specs.Place.{LiesInClient}
 use Rattle.ahci_registers.specs.Lines.{after, is_due}
 use Rattle.ahci_registers.specs.Lines.LineEvent.{Caused}
 use Rattle.hba_fbs.specs.Due.{due_of}
-use Rattle.hba_fbs.specs.Sending.{Gives, outgoing}
+use Rattle.hba_fbs.specs.Sending.{Gives, is_sent, outgoing}
 use Rattle.hba_fbs.specs.declared.due.Due.{Due}
 use Rattle.ahci_port.specs.Causes.{missing_causes, new_causes}
 use Rattle.ahci_port.specs.States.{ControllerState}
@@ -80,6 +80,10 @@ FillsFrom may_read (Some table) due old new = Fills may_read table due old new
 abbrev pub Prepares : (ℕ → List ℕ → Type 0) → ControllerState → Memory → Type 0
 Prepares may_read old memory = MatchOption (due_of old.port) (memory ≡ old.memory)
     (λ due. FillsFrom may_read (kept old due.slot) due old.memory memory)
+
+-- a frame is to go, once what is due is at hand
+abbrev pub is_to_go : ControllerState → Memory → Bool
+is_to_go old memory = is_sent (outgoing old.port memory)
 
 -- ---- the call
 

@@ -1,10 +1,11 @@
 //! Commands are issued.
 
-ghost use Rattle.std.specs.Prelude.{◌≡◌, ◌<◌, ◌+◌, ◌*◌, ◌^◌, ◌||◌, true, None, is_some, IfErr, IfOk, OnErr, OnOk};
+ghost use Rattle.std.specs.Prelude.{◌≡◌, ◌<◌, ◌+◌, ◌*◌, ◌^◌, ◌||◌, true, false, None, is_some, IfErr, IfOk, OnErr, OnOk};
 ghost use Rattle.ahci_registers.specs.Bits.{interrupt_bits};
 ghost use Rattle.hba_fbs.specs.Writing.{Accepts, refusal_of};
 ghost use Rattle.guest_commands.specs.Commands.{IsCommandAt};
 ghost use Rattle.ahci_port.specs.Issuing.{Attempts, FetchRefused, Issues, IssuesBelow, Refuses, Steps, WritesIssue, causes_for, fresh_slots};
+ghost use Rattle.ahci_port.specs.Own.{is_failed};
 
 use crate::bits::{has_bit, without};
 use crate::controller::Controller;
@@ -69,6 +70,7 @@ impl Controller {
         requires { slot < 32 }
         ensures ok { IfOk result
             (λ command. IsCommandAt (G.may_read guest.now) (self.now.own.list + 32 * slot) command) }
+        ensures goes_on { OnOk result (is_failed self.now.own ≡ false) }
         ensures err { IfErr result (λ error.
             FetchRefused (G.may_read guest.now) (G.may_miss guest.now) slot error self.now) }
     {

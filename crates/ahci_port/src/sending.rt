@@ -3,7 +3,7 @@
 ghost use Rattle.std.specs.Prelude.{◌≡◌, ◌-◌, ◌<◌, ◌≤◌, ◌⊎◌, Ok, true, false, length, IfErr, IfOk, OnErr, OnOk};
 ghost use Rattle.host_memory.specs.Memory.{client_start, overwritten};
 ghost use Rattle.host_memory.specs.Place.{LiesInClient};
-ghost use Rattle.ahci_port.specs.Sending.{AreGathered, Fills, FillsFrom, Gave, IsMissed, IsMissedIn, MayBeMissed, Misses, MissesIn, Prepares, Sends, nothing_sent};
+ghost use Rattle.ahci_port.specs.Sending.{AreGathered, Fills, FillsFrom, Gave, IsMissed, IsMissedIn, MayBeMissed, Misses, MissesIn, Prepares, Sends, is_to_go, nothing_sent};
 ghost use Rattle.ahci_port.specs.Taking.{is_deaf as is_deaf_of, kept as kept_of};
 
 use crate::causes::{new_bits, status};
@@ -127,6 +127,7 @@ impl Controller {
     fn give(&mut self, alloc: Global) -> Result<Sent, AllocError>
         ensures ok { IfOk result (λ sent. Gave self.old sent self.new) }
         ensures err { OnErr result (self.new ≡ self.old) }
+        ensures due { OnErr result (is_to_go self.old self.old.memory ≡ true) }
     {
         let was = status(&self.port);
         let frame = self.port.next_out(alloc, &self.memory)?;
@@ -146,6 +147,7 @@ impl Controller {
             → (self.new ≡ self.old) × (result ≡ Ok nothing_sent) }
         ensures refused { OnErr result (self.new ≡ record self.old { memory = self.new.memory }) }
         ensures prepared { OnErr result (Prepares (G.may_read guest.now) self.old self.new.memory) }
+        ensures due { OnErr result (is_to_go self.old self.new.memory ≡ true) }
     {
         if self.is_deaf() {
             return Ok(Sent {
