@@ -177,6 +177,9 @@ fn reads_a_long_payload(rt: HostRuntime) -> Result<(), Fail> {
 
 /// Whether these bytes are seen as a FIS of an unknown type, of this port.
 fn is_unknown(bytes: &[u8], port: u8) -> bool {
+    if bytes.len() < 4 || 8196 < bytes.len() || bytes.len() % 4 != 0 {
+        return false;
+    }
     match Fis::of(bytes) {
         Ok(Fis::Unknown(fis)) => fis.bytes() == bytes && fis.pm_port() == port,
         _ => false,
