@@ -30,3 +30,4 @@ pub use Rattle.disk_model.proofs.LaterLemmas.{later_is_linked, later_tells_of_al
 pub use Rattle.disk_model.proofs.PutLemmas.{lie_where_put}
 pub use Rattle.disk_model.proofs.FrontLemmas.{before_is_front, host_is_ahead}
 pub use Rattle.disk_model.proofs.LastLemmas.{lie_on, shows_the_last}
+pub use Rattle.disk_model.proofs.QuietLemmas.{turn_read, turn_start}

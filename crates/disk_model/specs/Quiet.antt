@@ -1,6 +1,7 @@
 -- What a disk sends next, by its kind, and what it is once that was sent to nobody (Serial ATA 3.x, 10.5, FIS
 -- types, and 13.6, native command queuing).
 use Rattle.std.specs.Prelude.{◌%◌, ◌==◌, ◌&&◌, Bool, if◌then◌else◌, [], ◌∷◌, length, Option}
+use Rattle.std.specs.Prelude.{not}
 use Rattle.std.specs.Prelude.{Some, None, is_some, is_none}
 use Rattle.disk_model.specs.declared.disk.quiet.Due.{Due}
 use Rattle.disk_model.specs.declared.disk.quiet.Due.TheVariants as due
@@ -33,10 +34,11 @@ due_in d = due_by d.now (turn d.plan d.sectors d.now)
 abbrev pub after_next : DiskValue → DiskValue
 after_next d = with_now d (after_turn d.now (turn d.plan d.sectors d.now))
 
--- no command is queued, no answer is owed, no transfer runs, and the disk takes commands
+-- no command is queued, no answer is owed, no transfer runs, and the disk takes commands and is in no reset
 abbrev pub is_at_rest : Moment → Bool
 is_at_rest m =
     (length m.queued == 0) && (length m.owed == 0) && is_none m.fault && is_none m.started && is_none m.writing
+    && not m.resetting
 
 -- a disk at rest, once this command was queued and its Register FIS was sent
 abbrev pub begun_with : DiskValue → Command → DiskValue

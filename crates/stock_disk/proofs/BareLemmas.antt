@@ -45,7 +45,7 @@ passed_owes front (Ok (view.Payload f)) none = none
 passed_owes front (Ok (view.Unknown f)) none = none
 passed_owes front (Err e) none = none
 
-told_owes : (front : Front) (fis : Result Fis FisFault) → front.owed ≡ None → (told front fis).owed ≡ None
+pub told_owes : (front : Front) (fis : Result Fis FisFault) → front.owed ≡ None → (told front fis).owed ≡ None
 told_owes front (Ok (view.RegD2H f)) none = search (rules, none)
 told_owes front (Ok (view.SetBits f)) none = search (rules, none)
 told_owes front (Ok (view.RegH2D f)) none = none
@@ -56,7 +56,7 @@ told_owes front (Ok (view.Payload f)) none = search (rules, none)
 told_owes front (Ok (view.Unknown f)) none = none
 told_owes front (Err e) none = none
 
-passed_serves : (front : Front) (fis : Result Fis FisFault) → front.serving ≡ None → (passed front fis).serving ≡ None
+pub passed_serves : (front : Front) (fis : Result Fis FisFault) → front.serving ≡ None → (passed front fis).serving ≡ None
 passed_serves front (Ok (view.RegH2D f)) none = search (rules, none)
 passed_serves front (Ok (view.RegD2H f)) none = none
 passed_serves front (Ok (view.SetBits f)) none = none
@@ -67,7 +67,7 @@ passed_serves front (Ok (view.Payload f)) none = none
 passed_serves front (Ok (view.Unknown f)) none = none
 passed_serves front (Err e) none = none
 
-told_serves : (front : Front) (fis : Result Fis FisFault) → front.serving ≡ None → (told front fis).serving ≡ None
+pub told_serves : (front : Front) (fis : Result Fis FisFault) → front.serving ≡ None → (told front fis).serving ≡ None
 told_serves front (Ok (view.RegD2H f)) none = search (rules, none)
 told_serves front (Ok (view.SetBits f)) none = search (rules, none)
 told_serves front (Ok (view.RegH2D f)) none = none

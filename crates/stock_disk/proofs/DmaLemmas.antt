@@ -16,8 +16,9 @@ use Rattle.stock_disk.specs.Fronts.{command_course, course, course_by, dma_to, i
 use Rattle.stock_disk.specs.Verifies.{verify_28, verify_48}
 use Rattle.stock_disk.proofs.LossLemmas.{IsDma}
 
--- the disk is at rest and does the command
-pub record IsServed (rest : Bool) (dma : Dma) : Type 0 where
+-- the front is idle, and the disk is at rest and does the command
+pub record IsServed (front : Front) (rest : Bool) (dma : Dma) : Type 0 where
+  pub idle : is_idle front ≡ true
   pub resting : rest ≡ true
   pub asks : IsDma dma
 
@@ -76,35 +77,37 @@ dma_asks f dma is =
 
 -- ## The course of a FIS
 
-last_true : (a b c d : Bool) → (a && b && c && d) ≡ true → d ≡ true
-last_true true true true d is = is
-last_true true true false d is = absurd (cc is)
-last_true true false c d is = absurd (cc is)
-last_true false b c d is = absurd (cc is)
+last_two : (a b c d : Bool) → (a && b && c && d) ≡ true → (c ≡ true) × (d ≡ true)
+last_two true true true true is = (refl, refl)
+last_two true true true false is = absurd (cc is)
+last_two true true false d is = absurd (cc is)
+last_two true false c d is = absurd (cc is)
+last_two false b c d is = absurd (cc is)
 
 served_some : (o : Option Dma) (dma : Dma) → served_or_passed o ≡ Serves dma → o ≡ Some dma
 served_some None dma is = absurd (cc is)
 served_some (Some d) dma is = let same : d ≡ dma = cc is in cc same
 
-by_test : (rest a : Bool) (f : List ℕ) (dma : Dma) → (a ≡ true → rest ≡ true)
-    → (if a then dma_for f else None) ≡ Some dma → IsServed rest dma
-by_test rest true f dma last is = record { resting = last refl; asks = dma_asks f dma is }
-by_test rest false f dma last is = absurd (cc is)
+by_test : (front : Front) (rest a : Bool) (f : List ℕ) (dma : Dma) → (a ≡ true → (is_idle front ≡ true) × (rest ≡ true))
+    → (if a then dma_for f else None) ≡ Some dma → IsServed front rest dma
+by_test front rest true f dma last is =
+    record { idle = (last refl).0; resting = (last refl).1; asks = dma_asks f dma is }
+by_test front rest false f dma last is = absurd (cc is)
 
 by_serving : (front : Front) (rest busy : Bool) (f : List ℕ) (dma : Dma)
-    → (if busy then Loses else served_or_passed (dma_to front rest f)) ≡ Serves dma → IsServed rest dma
+    → (if busy then Loses else served_or_passed (dma_to front rest f)) ≡ Serves dma → IsServed front rest dma
 by_serving front rest true f dma is = absurd (cc is)
 by_serving front rest false f dma is =
-    by_test rest (front.on && front.plain && is_idle front && rest) f dma
-    (last_true front.on front.plain (is_idle front) rest) (served_some (dma_to front rest f) dma is)
+    by_test front rest (front.on && front.plain && is_idle front && rest) f dma
+    (last_two front.on front.plain (is_idle front) rest) (served_some (dma_to front rest f) dma is)
 
 by_command : (front : Front) (rest c : Bool) (f : List ℕ) (dma : Dma)
-    → (if c then command_course front rest f else Passes) ≡ Serves dma → IsServed rest dma
+    → (if c then command_course front rest f else Passes) ≡ Serves dma → IsServed front rest dma
 by_command front rest true f dma is = by_serving front rest (is_some front.serving) f dma is
 by_command front rest false f dma is = absurd (cc is)
 
 by_own : (front : Front) (rest : Bool) (fis : Result Fis FisFault) (own : Option Own) (dma : Dma)
-    → course_by front rest fis own ≡ Serves dma → IsServed rest dma
+    → course_by front rest fis own ≡ Serves dma → IsServed front rest dma
 by_own front rest fis (Some own) dma is = absurd (cc is)
 by_own front rest (Ok (view.RegH2D f)) None dma is = by_command front rest (field H2d C f == 1) f dma is
 by_own front rest (Ok (view.RegD2H f)) None dma is = absurd (cc is)
@@ -117,5 +120,5 @@ by_own front rest (Ok (view.Unknown f)) None dma is = absurd (cc is)
 by_own front rest (Err e) None dma is = absurd (cc is)
 
 pub serves_is : (front : Front) (rest : Bool) (fis : Result Fis FisFault) (dma : Dma)
-    → course front rest fis ≡ Serves dma → IsServed rest dma
+    → course front rest fis ≡ Serves dma → IsServed front rest dma
 serves_is front rest fis dma is = by_own front rest fis (own_to front fis) dma is

@@ -4,3 +4,4 @@ pub mod HistoryLemmas
 pub mod RunLemmas
 pub mod ModeLemmas
 pub mod BareLemmas
+pub mod ServingLemmas

@@ -1,6 +1,6 @@
 -- What a disk does for a DMA command is a part of a run of a disk.
 use Rattle.std.proofs.Common.{rules, ◌≡◌, ◌%◌, ◌^◌, ◌<◌, ◌≤◌, ◌==◌, ◌&&◌, ℕ, Bool, true, false, List, [], ◌∷◌, ◌++◌, Option, Some, None, length, refl, ap, sym, subst, ◌∙◌, arith}
-use Rattle.std.specs.Prelude.{is_none, if◌then◌else◌}
+use Rattle.std.specs.Prelude.{is_none, not, if◌then◌else◌}
 use Rattle.std.specs.Int.{from_bool}
 use Rattle.fis_view.specs.Built.{IsBuilt, cut, h2d_given, set_bits_given}
 use Rattle.fis_view.specs.Table.{Name, Bits, Error, C, Command as Code, Features, Lba, Count, H2d, field, places}
@@ -304,6 +304,9 @@ pub record Rests (m : Moment) : Type 0 where
   pub queued : m.queued ≡ []
   pub owed : m.owed ≡ []
   pub fault : m.fault ≡ None
+  pub started : m.started ≡ None
+  pub writing : m.writing ≡ None
+  pub resetting : m.resetting ≡ false
 
 no_length : {A : Type 0} → (xs : List A) → (length xs == 0) ≡ true → xs ≡ []
 no_length [] is = refl
@@ -313,16 +316,28 @@ no_some : {A : Type 0} → (o : Option A) → is_none o ≡ true → o ≡ None
 no_some None is = refl
 no_some (Some x) is = absurd (cc is)
 
-first_three : (a b c d e : Bool) → (a && b && c && d && e) ≡ true → (a ≡ true) × (b ≡ true) × (c ≡ true)
-first_three true true true d e is = (refl, refl, refl)
-first_three true true false d e is = absurd (cc is)
-first_three true false c d e is = absurd (cc is)
-first_three false b c d e is = absurd (cc is)
+all_six : (a b c d e f : Bool) → (a && b && c && d && e && not f) ≡ true
+    → (a ≡ true) × (b ≡ true) × (c ≡ true) × (d ≡ true) × (e ≡ true) × (f ≡ false)
+all_six true true true true true false is = (refl, refl, refl, refl, refl, refl)
+all_six true true true true true true is = absurd (cc is)
+all_six true true true true false f is = absurd (cc is)
+all_six true true true false e f is = absurd (cc is)
+all_six true true false d e f is = absurd (cc is)
+all_six true false c d e f is = absurd (cc is)
+all_six false b c d e f is = absurd (cc is)
 
 pub at_rest : (m : Moment) → is_at_rest m ≡ true → Rests m
 at_rest m is =
-    let all = first_three (length m.queued == 0) (length m.owed == 0) (is_none m.fault) (is_none m.started) (is_none m.writing) is in
-    record { queued = no_length m.queued all.0; owed = no_length m.owed all.1; fault = no_some m.fault all.2 }
+    let all =
+    all_six (length m.queued == 0) (length m.owed == 0) (is_none m.fault) (is_none m.started) (is_none m.writing) m.resetting is in
+    record {
+      queued = no_length m.queued all.0;
+      owed = no_length m.owed all.1;
+      fault = no_some m.fault all.2;
+      started = no_some m.started all.3;
+      writing = no_some m.writing all.4;
+      resetting = all.5;
+    }
 
 -- the disk queues the command
 queues_it : (plan : DiskPlan) (sectors : ℕ) (m : Moment) (dma : Dma) → Rests m → IsDma dma

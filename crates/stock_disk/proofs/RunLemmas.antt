@@ -8,6 +8,7 @@ use Rattle.fis_view.specs.Seen.{seen}
 use Rattle.stock_disk.specs.declared.dma.Dma.{Dma}
 use Rattle.stock_disk.specs.declared.front.Course.{Course}
 use Rattle.stock_disk.specs.declared.front.Course.TheVariants.{Answers, Serves, Loses, Passes}
+use Rattle.stock_disk.specs.declared.front.Front.{Front}
 use Rattle.stock_disk.specs.declared.front.Own.{Own}
 use Rattle.stock_disk.specs.Dmas.{dma_fault}
 use Rattle.stock_disk.specs.Faces.{IsNext, StockValue, inner_heard, inner_of, inner_sent, inside, new_stock, value_after}
@@ -16,13 +17,14 @@ use Rattle.stock_disk.specs.Laws.{InsideIsDisk, MayHappen, Runs}
 use Rattle.stock_disk.proofs.DmaLemmas.{IsServed, serves_is}
 use Rattle.stock_disk.proofs.LossLemmas.{Runs-lists, runs_begun, runs_told}
 
-heard_runs : (d : DiskValue) (bytes : List ℕ) (c : Course) → ((dma : Dma) → c ≡ Serves dma → IsServed (is_at_rest d.now) dma)
+heard_runs : (front : Front) (d : DiskValue) (bytes : List ℕ) (c : Course)
+    → ((dma : Dma) → c ≡ Serves dma → IsServed front (is_at_rest d.now) dma)
     → DiskRuns d.plan d.sectors d.now (inner_heard d bytes c)
 unfolding DiskRuns
-heard_runs d bytes (Answers own) serves = tt
-heard_runs d bytes Loses serves = tt
-heard_runs d bytes Passes serves = (tt, tt)
-heard_runs d bytes (Serves dma) serves =
+heard_runs front d bytes (Answers own) serves = tt
+heard_runs front d bytes Loses serves = tt
+heard_runs front d bytes Passes serves = (tt, tt)
+heard_runs front d bytes (Serves dma) serves =
     let is = serves dma refl in
     runs_begun d (dma_fault d dma) dma is.resting is.asks
 
@@ -39,7 +41,7 @@ inner_runs : (s : StockValue) (e : Happening) → MayHappen s e
     → DiskRuns s.disk.plan s.disk.sectors s.disk.now (inner_of s e)
 unfolding DiskRuns
 inner_runs s (Received bytes) may =
-    heard_runs s.disk bytes (course s.front (is_at_rest s.disk.now) (seen bytes))
+    heard_runs s.front s.disk bytes (course s.front (is_at_rest s.disk.now) (seen bytes))
     (λ dma is. serves_is s.front (is_at_rest s.disk.now) (seen bytes) dma is)
 inner_runs s (Sent bytes) may = sent_runs s bytes s.front.owed s.front.serving refl refl may
 inner_runs s Plugged may = (tt, tt)

@@ -195,7 +195,7 @@ answered front own = record front { busy = false; owed = None }
 
 -- the disk does this command, which is not answered yet
 abbrev pub serves : Front → Dma → Front
-serves front dma = record front { busy = true; serving = Some dma }
+serves front dma = record front { failed = false; busy = true; serving = Some dma }
 
 abbrev pub hears : Front → Result Fis FisFault → Course → Front
 hears front fis (Answers own) = owes front own

@@ -1,5 +1,5 @@
 -- What holds of a disk behind its front over every list of events.
-use Rattle.std.specs.Prelude.{ℕ, ◌≡◌, ◌/◌, ◌%◌, ◌==◌, Bool, true, false, List, [], ◌∷◌, Some}
+use Rattle.std.specs.Prelude.{ℕ, ◌≡◌, ◌/◌, ◌%◌, ◌==◌, ◌≤◌, ◌⊎◌, Bool, true, false, List, [], ◌∷◌, ◌++◌, Some}
 use Rattle.std.specs.Prelude.{None, Result, Ok, if◌then◌else◌}
 use Rattle.fis_view.specs.Seen.{seen}
 use Rattle.fis_view.specs.Table.{H2d, C, Control, field}
@@ -8,12 +8,17 @@ use Rattle.fis_view.specs.declared.view.Fis.TheVariants as view
 use Rattle.fis_view.specs.declared.view.FisFault.{FisFault}
 use Rattle.disk_model.specs.declared.plan.DiskPlan.{DiskPlan}
 use Rattle.disk_model.specs.declared.plan.Profile.TheVariants.{Bare}
+use Rattle.disk_model.specs.Disks.{DiskValue}
 use Rattle.disk_model.specs.Ends.{reports}
 use Rattle.disk_model.specs.Histories.{Happening, Received, Sent, Plugged}
 use Rattle.disk_model.specs.Runs.{IsDiskRun}
+use Rattle.disk_model.specs.Sendings.{Activates, Register, Shows}
+use Rattle.stock_disk.specs.declared.dma.Dma.{Dma}
 use Rattle.stock_disk.specs.declared.front.Own.TheVariants.{Aborted}
-use Rattle.stock_disk.specs.Faces.{IsNext, StockValue, inside, new_stock, value_after, value_at}
+use Rattle.stock_disk.specs.Dmas.{dma_fault}
+use Rattle.stock_disk.specs.Faces.{IsNext, StockValue, front_after, inside, new_stock, value_after, value_at}
 use Rattle.stock_disk.specs.Fronts.{asks_log, own_to}
+use Rattle.stock_disk.specs.Verifies.{fault_fields}
 
 abbrev pub MayHappen : StockValue → Happening → Type 0
 MayHappen s (Sent bytes) = IsNext s bytes
@@ -64,3 +69,34 @@ ErrorsAbort =
     → s.front.owed ≡ None → reports (seen error) ≡ true → NoneEndsMode between → (field H2d C command == 1) ≡ true
     → asks_log command ≡ false
     → own_to (value_at s (Sent error ∷ between)).front (Ok (view.RegH2D command)) ≡ Some Aborted
+
+-- ## DMA commands
+
+-- the FIS is Data
+abbrev pub is_data : Result Fis FisFault → Bool
+is_data (Ok (view.Payload f)) = true
+is_data _ = false
+
+-- Data of a read, or a DMA Activate of a write
+abbrev pub IsMove : Dma → List ℕ → Type 0
+IsMove dma bytes =
+    ((is_data (seen bytes) ≡ true) × (dma.write ≡ false)) ⊎ (Shows Activates bytes × (dma.write ≡ true))
+
+-- the Register FIS that says how the command ended
+abbrev pub IsEnd : DiskValue → Dma → List ℕ → Type 0
+IsEnd d dma bytes = Shows (Register (fault_fields dma.ext (dma_fault d dma))) bytes
+
+-- the bytes go out, and the front stays as it is; or they end the command
+abbrev pub EndsOrWaits : StockValue → Dma → List ℕ → Type 0
+EndsOrWaits s dma bytes = (IsMove dma bytes × (front_after s (Sent bytes) ≡ s.front))
+    ⊎ (IsEnd s.disk dma bytes × ((front_after s (Sent bytes)).serving ≡ None))
+
+-- While a DMA command waits for its answer, only Data of a read and DMA Activates of a write go out, and it waits on.
+-- Then one Register FIS goes out, which says how the command ended: without an error, or with the error and the
+-- sector for which the disk cannot do it.
+abbrev pub DmaEnds : Type 0
+DmaEnds =
+    (plan : DiskPlan) (sectors : ℕ) (history : List Happening) (bytes : List ℕ) (dma : Dma) → 512 ≤ plan.chunk
+    → IsStockRun plan sectors (history ++ Sent bytes ∷ [])
+    → (value_at (new_stock plan sectors) history).front.serving ≡ Some dma
+    → EndsOrWaits (value_at (new_stock plan sectors) history) dma bytes

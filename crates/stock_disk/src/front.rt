@@ -319,6 +319,7 @@ impl Front {
         ensures { result ≡ serves self dma }
     {
         Front {
+            failed: false,
             busy: true,
             serving: Some(dma),
             ..self

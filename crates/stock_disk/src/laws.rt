@@ -1,6 +1,6 @@
 //! Laws about every run of a disk behind its front. The functions run no code.
 
-ghost use Rattle.stock_disk.specs.Laws.{BareIsDisk, ErrorsAbort, InsideIsDisk};
+ghost use Rattle.stock_disk.specs.Laws.{BareIsDisk, DmaEnds, ErrorsAbort, InsideIsDisk};
 
 /// What passes to the disk and what the disk sends, in every run of a disk behind its front, is a run of a
 /// disk.
@@ -17,4 +17,10 @@ pub fn errors_abort_commands()
 /// A disk without the stock profile takes and sends, behind its front, exactly what it takes and sends alone.
 pub fn bare_disks_have_no_front()
     ensures { BareIsDisk }
+{}
+
+/// While a DMA command waits for its answer, in every run of a disk behind its front, only Data of a read and DMA
+/// Activates of a write go out. Then one Register FIS goes out, which says how the command ended.
+pub fn dma_commands_end()
+    ensures { DmaEnds }
 {}

@@ -237,6 +237,7 @@ impl Disk {
         self.queue.is_empty()
             && self.answers.is_empty()
             && self.fault.is_none()
+            && !self.resetting
             && matches!(self.transfer, Transfer::Idle)
     }
 
