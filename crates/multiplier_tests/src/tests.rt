@@ -181,6 +181,32 @@ fn frames_go_down_with_pm_port_0(rt: HostRuntime) -> Result<(), Fail> {
     Ok(())
 }
 
+/// Port 0 is open from the start: the signature of its device goes up, and a frame with PM Port 0 goes down,
+/// though nobody wrote a register. The other ports are closed.
+#[test]
+fn port_0_is_open_from_the_start(rt: HostRuntime) -> Result<(), Fail> {
+    let alloc = rt.alloc();
+    let mut pm = Multiplier::with_port_0_open(4, Some(1));
+    comes(&mut pm, 1, 1)?;
+    for n in [0, 1] {
+        assert!(rt; holds(alloc, &mut pm, n)?);
+    }
+    assert_eq!(rt; turn(alloc, &mut pm)?, (0, 0));
+    assert!(rt; pm.next_up(alloc)?.is_none());
+    let mut at_0 = READ;
+    at_0[1] = 0x80;
+    assert_eq!(rt; pass(alloc, &mut pm, &at_0)?, Passed::Down(0));
+    assert_eq!(rt; pass(alloc, &mut pm, &READ)?, Passed::Dropped);
+    if !has_port(&pm, 0) {
+        return Err("no port 0".into());
+    }
+    let down = pm.next_down(0).ok_or("silent")?;
+    assert_eq!(rt; down.stamp().conn, 1);
+    let mut empty = Multiplier::with_port_0_open(4, None);
+    assert_eq!(rt; pass(alloc, &mut empty, &at_0)?, Passed::Dropped);
+    Ok(())
+}
+
 /// The notification of a device that came goes before the waiting answer, and has the later number.
 #[test]
 fn a_notification_goes_first(rt: HostRuntime) -> Result<(), Fail> {

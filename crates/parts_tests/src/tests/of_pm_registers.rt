@@ -40,6 +40,40 @@ fn opens_as_the_table_says(rt: HostRuntime) {
     assert!(rt; !registers.forwards(15));
 }
 
+/// For software that knows no multipliers: it writes no register, and FISes pass a device that was there.
+#[test]
+fn port_0_is_open_from_the_start(rt: HostRuntime) -> Result<(), Fail> {
+    let mut registers = PmRegisters::with_port_0_open(4, true);
+    for (port, register, value) in [
+        (0, PSCR_STATUS, STATUS_ESTABLISHED),
+        (0, PSCR_ERROR, 0),
+        (0, PSCR_CONTROL, 0),
+        (1, PSCR_STATUS, DET_OFFLINE),
+        (1, PSCR_CONTROL, DET_OFFLINE),
+        (15, GSCR_SUMMARY, 0),
+        (15, GSCR_MASK, 0x0400_FFFF),
+    ] {
+        assert_eq!(rt;
+            registers.read(port, register),
+            Ok(value),
+            "{port}, {register}"
+        );
+    }
+    assert!(rt; registers.forwards(0) && !registers.forwards(1));
+    registers.remove(0);
+    registers.insert(0);
+    // another device is an exchange, at this port too
+    assert_eq!(rt; registers.read(0, PSCR_ERROR), Ok(SERROR_N | SERROR_X));
+    assert!(rt; !registers.forwards(0));
+    registers.write(0, PSCR_ERROR, SERROR_X)?;
+    assert!(rt; registers.forwards(0));
+    let empty = PmRegisters::with_port_0_open(4, false);
+    assert_eq!(rt; empty.read(0, PSCR_STATUS), Ok(0));
+    assert_eq!(rt; empty.read(0, PSCR_CONTROL), Ok(0));
+    assert!(rt; !empty.forwards(0));
+    Ok(())
+}
+
 #[test]
 fn ones_clear_errors(rt: HostRuntime) -> Result<(), Fail> {
     let mut registers = PmRegisters::new(4);
