@@ -7,6 +7,7 @@
 /* A slice is a pointer and a length. */
 uint32_t gefsunk_fis_text(const uint8_t *fis, size_t len, uint8_t *room, size_t room_len, size_t *text_len);
 uint32_t gefsunk_pm_new(gef_pm *pm, uint8_t ports);
+uint32_t gefsunk_pm_new_with_port_0_open(gef_pm *pm, uint8_t ports, uint32_t is_there);
 uint32_t gefsunk_pm_free(gef_pm *pm);
 uint32_t gefsunk_pm_plug(gef_pm *pm, uint8_t port);
 uint32_t gefsunk_pm_unplug(gef_pm *pm, uint8_t port);
@@ -71,6 +72,10 @@ gef_status gef_fis_text(const uint8_t *fis, size_t len, char *text, size_t room)
 
 gef_status gef_pm_new(gef_pm *pm, uint8_t ports) {
     return pm ? (gef_status)gefsunk_pm_new(pm, ports) : GEF_NULL;
+}
+
+gef_status gef_pm_new_with_port_0_open(gef_pm *pm, uint8_t ports, uint32_t is_there) {
+    return pm ? (gef_status)gefsunk_pm_new_with_port_0_open(pm, ports, is_there) : GEF_NULL;
 }
 
 gef_status gef_pm_free(gef_pm *pm) {

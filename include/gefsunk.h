@@ -103,6 +103,15 @@ typedef struct gef_pm {
  */
 gef_status gef_pm_new(gef_pm *pm, uint8_t ports);
 
+/*
+ * The same for a host that knows no multipliers, as firmware that boots: port 0 is open from the start (Serial ATA 3.x,
+ * 16.3.3, booting with legacy software). Where is_there is not 0, a device is at port 0 already, and FISes pass it at
+ * once: its signature goes up, and FISes with PM Port 0 go down to it. A device that comes to port 0 later is announced
+ * as any other (gef_pm_plug): its FISes wait until the host has cleared SError of the port.
+ * Can return GEF_OPEN, GEF_BAD_PORTS, GEF_NO_MEMORY.
+ */
+gef_status gef_pm_new_with_port_0_open(gef_pm *pm, uint8_t ports, uint32_t is_there);
+
 /* Frees the multiplier with the FISes that it holds, and closes the handle. A second call returns GEF_CLOSED. */
 gef_status gef_pm_free(gef_pm *pm);
 

@@ -54,6 +54,7 @@ typedef struct gef_pump {
     uint8_t *memory;
     size_t len;
     uint64_t address;
+    uint32_t port_0_open;  /* 1: port 0 of the multiplier is open from each reset on, for a guest that knows none */
     gef_pump_writes write; /* writes there, whatever the address; null: the pump does, where all bytes lie in memory */
     gef_pump_shows show;   /* null: nobody looks */
     void *context;         /* the first argument of both */
@@ -225,6 +226,12 @@ static inline gef_status gef_pump_in(gef_pump *pump) {
     }
 }
 
+/* Makes the multiplier, with no device but the one at port 0 where that port is open. */
+static inline gef_status gef_pump_make(gef_pump *pump, gef_pm *pm, uint8_t ports) {
+    if (!ports) return GEF_OK;
+    return pump->port_0_open ? gef_pm_new_with_port_0_open(pm, ports, pump->plugged & 1) : gef_pm_new(pm, ports);
+}
+
 /* ---- what you call ----------------------------------------------------------------------------------------------- */
 
 /*
@@ -235,14 +242,15 @@ static inline gef_status gef_pump_in(gef_pump *pump) {
 static inline gef_status gef_pump_open(gef_pump *pump, uint8_t ports) {
     gef_status status = gef_hba_new(&pump->hba);
     if (status != GEF_OK) return status;
-    if (ports) status = gef_pm_new(&pump->pm, ports);
+    pump->plugged = 0;
+    status = gef_pump_make(pump, &pump->pm, ports);
     if (status != GEF_OK) {
         gef_hba_free(&pump->hba);
         return status;
     }
     gef_pump_forget(pump);
     pump->ports = ports;
-    pump->raised = pump->message = pump->moved = pump->plugged = pump->link = pump->is_reset_due = 0;
+    pump->raised = pump->message = pump->moved = pump->link = pump->is_reset_due = 0;
     return GEF_OK;
 }
 
@@ -257,12 +265,13 @@ static inline void gef_pump_close(gef_pump *pump) {
 
 /*
  * What is behind the controller begins anew, as after a reset of its link: the multiplier, and the disks plugged into
- * it. What is on its way is dropped; the media stay. gef_pump_write32 does this where a write resets the link.
+ * it. What is on its way is dropped; the media stay. gef_pump_write32 does this where a write resets the link. Call it
+ * once after the disks are plugged in where port_0_open is 1: from then on the guest reaches the disk at port 0.
  * Can return GEF_CLOSED (a disk was freed and not pulled), GEF_NO_MEMORY (the next call begins with it).
  */
 static inline gef_status gef_pump_reset(gef_pump *pump) {
     gef_pm anew = GEF_PM_CLOSED;
-    gef_status status = pump->ports ? gef_pm_new(&anew, pump->ports) : GEF_OK;
+    gef_status status = gef_pump_make(pump, &anew, pump->ports);
     uint8_t port;
     pump->is_reset_due = 1;
     if (status != GEF_OK) return status;
@@ -272,7 +281,7 @@ static inline gef_status gef_pump_reset(gef_pump *pump) {
     for (port = 0; port < GEF_PUMP_PORTS; port++) {
         if (!(pump->plugged >> port & 1)) continue;
         status = gef_disk_plug(&pump->disks[port]);
-        if (status == GEF_OK && pump->ports) status = gef_pm_plug(&pump->pm, port);
+        if (status == GEF_OK && pump->ports && (port || !pump->port_0_open)) status = gef_pm_plug(&pump->pm, port);
         if (status != GEF_OK) return status;
     }
     pump->is_reset_due = 0;

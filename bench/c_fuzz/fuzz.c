@@ -58,7 +58,7 @@ static int call(gef_pm *pm, int *is_open) {
     uint8_t *fis;
     switch (what % 12) {
     case 0:
-        status = gef_pm_new(pm, port);
+        status = room_len & 1 ? gef_pm_new_with_port_0_open(pm, port, what / 12) : gef_pm_new(pm, port);
         if (*is_open) return status == GEF_OPEN;
         *is_open = status == GEF_OK;
         return allowed(status, BIT(GEF_OK) | BIT(GEF_BAD_PORTS)) && (status == GEF_OK) == (port >= 1 && port <= 15);

@@ -20,6 +20,7 @@ int main(void) {
     show("sixteen ports", gef_pm_new(&pm, 16));
     show("four ports", gef_pm_new(&pm, 4));
     show("made twice", gef_pm_new(&pm, 4));
+    show("made twice, with port 0 open", gef_pm_new_with_port_0_open(&pm, 4, 1));
     show("port 4 of 4", gef_pm_plug(&pm, 4));
     show("unplugged before", gef_pm_unplug(&pm, 0));
     show("plugged", gef_pm_plug(&pm, 0));

@@ -4,6 +4,7 @@
  *
  *   -device gefsunk-ahci,disks=15,sectors=65536,log=FILE,record=FILE
  *   -device gefsunk-ahci,multiplier=off,disks=1
+ *   -device gefsunk-ahci,port0=on                   port 0 is open, for a guest that knows no multipliers
  *
  * BAR 5 has the registers of AHCI. BAR 0 has one register, the hand: a write pulls a disk, plugs in a new one, or holds all
  * FISes back for a while. All else is the pump's and the library's. Here bytes are written to the guest's memory where the
@@ -41,7 +42,7 @@ struct GefsunkAhci {
     Recording recording;
     /* properties */
     uint32_t ports, disks, sectors, chunk, flags, lines;
-    bool fbs, multiplier;
+    bool fbs, multiplier, port0;
     char *log, *record;
 };
 
@@ -211,6 +212,7 @@ static void realize(PCIDevice *dev, Error **errp)
     s->pump.write = bring;
     s->pump.show = show;
     s->pump.context = s;
+    s->pump.port_0_open = s->port0;
     s->out = s->log ? fopen(s->log, "w") : NULL;
     must(gef_pump_open(&s->pump, s->multiplier ? s->ports : 0));
     for (port = 0; port < s->disks; port++) {
@@ -236,6 +238,7 @@ static Property properties[] = {
     DEFINE_PROP_UINT32("lines", GefsunkAhci, lines, 100000),
     DEFINE_PROP_BOOL("fbs", GefsunkAhci, fbs, true),
     DEFINE_PROP_BOOL("multiplier", GefsunkAhci, multiplier, true),
+    DEFINE_PROP_BOOL("port0", GefsunkAhci, port0, false),
     DEFINE_PROP_STRING("log", GefsunkAhci, log),
     DEFINE_PROP_STRING("record", GefsunkAhci, record),
     DEFINE_PROP_END_OF_LIST(),

@@ -1,11 +1,11 @@
 -- What an export leaves behind a handle. Where the handle is closed, or has something of another kind, nothing is
 -- done. A handle stays open or closed, except where something is made or freed.
-use Rattle.std.specs.Prelude.{◌≡◌, ℕ, ◌≤◌, List, Option, Some, None}
+use Rattle.std.specs.Prelude.{◌≡◌, ℕ, ◌≤◌, ◌==◌, not, List, Option, Some, None}
 use Rattle.ahci_port.specs.Opening.{IsOpening}
 use Rattle.ahci_port.specs.States.{ControllerState}
 use Rattle.stock_disk.specs.Faces.{StockValue}
 use Rattle.gefsunk.specs.Disks.{DiskRefused, IsDiskOf}
-use Rattle.gefsunk.specs.Pms.{opening}
+use Rattle.gefsunk.specs.Pms.{opening, opening_with_port_0}
 use Rattle.gefsunk.specs.declared.kept.Kept.{Kept}
 use Rattle.gefsunk.specs.declared.kept.Kept.TheVariants as kept
 use Rattle.gefsunk.specs.declared.pm.Pm.{Pm}
@@ -50,6 +50,15 @@ MadePm None ports status.Done new = (1 ≤ ports) × (ports ≤ 15) × (new ≡ 
 MadePm None ports status.BadPorts new = ((1 ≤ ports) × (ports ≤ 15) → ⊥) × (new ≡ None)
 MadePm None ports status.NoMemory new = (1 ≤ ports) × (ports ≤ 15) × (new ≡ None)
 MadePm None ports _ new = ⊥
+
+-- one with port 0 open from the start, with a device at it where the number is not 0
+abbrev pub MadeOpenPm : Option Kept → (ports is_there : ℕ) → Status → Option Kept → Type 0
+MadeOpenPm (Some old) ports is_there answer new = (answer ≡ status.Open) × (new ≡ Some old)
+MadeOpenPm None ports is_there status.Done new =
+    (1 ≤ ports) × (ports ≤ 15) × (new ≡ Some (kept.Pm (opening_with_port_0 ports (not (is_there == 0)))))
+MadeOpenPm None ports is_there status.BadPorts new = ((1 ≤ ports) × (ports ≤ 15) → ⊥) × (new ≡ None)
+MadeOpenPm None ports is_there status.NoMemory new = (1 ≤ ports) × (ports ≤ 15) × (new ≡ None)
+MadeOpenPm None ports is_there _ new = ⊥
 
 -- a new disk, with this size, these chunks, flags, serial number and bad sectors
 abbrev pub HasDisk : (sectors size flags serial : ℕ) → List ℕ → Option Kept → Type 0

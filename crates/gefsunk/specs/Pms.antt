@@ -1,6 +1,6 @@
 -- What the calls on a multiplier do, by the rules of the multiplier (Serial ATA 3.x, 16.3). C does not see
 -- stamps: a FIS of the host has an empty one, and a FIS of a device has the connection that its port counted.
-use Rattle.std.specs.Prelude.{◌≡◌, ◌≢◌, ℕ, ◌+◌, ◌<◌, ◌==◌, if◌then◌else◌, min, true, false, List, replicate}
+use Rattle.std.specs.Prelude.{◌≡◌, ◌≢◌, ℕ, ◌+◌, ◌<◌, ◌==◌, if◌then◌else◌, min, Bool, true, false, List, replicate}
 use Rattle.std.specs.Prelude.{slice_index, slice_set, Some, None, Result, Ok, Err}
 use Rattle.fis_view.specs.Frames.{Stamped, is_frame}
 use Rattle.fis_view.specs.declared.frame.Stamp.{Stamp}
@@ -36,6 +36,16 @@ refused frame_error.OutOfMemory = status.NoMemory
 abbrev pub opening : ℕ → Pm
 opening ports =
     record { multiplier = state.opening ports; last = no_removals; seated = no_removals; given = no_stamp }
+
+-- one whose port 0 is open from the start, with the first device at it, or none
+abbrev pub opening_with_port_0 : ℕ → Bool → Pm
+opening_with_port_0 ports is_there =
+    record {
+      multiplier = state.opening_with_port_0 ports (if is_there then Some 1 else None);
+      last = slice_set no_removals 0 (if is_there then 1 else 0);
+      seated = slice_set no_removals 0 (if is_there then 1 else 0);
+      given = no_stamp;
+    }
 
 -- the port is a device port; there are at most fifteen
 abbrev pub has_port : Pm → ℕ → Type 0

@@ -4,7 +4,7 @@
 
 ghost use Rattle.std.specs.Prelude.{◌≡◌, ◌≢◌, ◌≤◌, length, take, true};
 ghost use Rattle.gefsunk.specs.Disks.{DiskFromHost, DiskPlug, DiskToHost, SectorRule};
-ghost use Rattle.gefsunk.specs.Exports.{AtDisk, AtHba, AtPm, FreedDisk, FreedHba, FreedPm, MadeDisk, MadeHba, MadePm};
+ghost use Rattle.gefsunk.specs.Exports.{AtDisk, AtHba, AtPm, FreedDisk, FreedHba, FreedPm, MadeDisk, MadeHba, MadeOpenPm, MadePm};
 ghost use Rattle.gefsunk.specs.Hbas.{DataRule, HbaRead, HbaTake, HbaWrite, LineRule, NextOut, block};
 ghost use Rattle.gefsunk.specs.Pms.{FromDevice, FromHost, Plug, ReadRule, ToDevice, ToHost, Unplug};
 ghost use Rattle.gefsunk.specs.Statuses.{is_code, status_of};
@@ -51,6 +51,33 @@ pub extern "C" fn gefsunk_pm_new(handle: &mut Handle, alloc: Global, ports: u8) 
         return Status::BadPorts.code();
     }
     match Box::new(alloc, Kept::Pm(Pm::new(ports))) {
+        Ok(kept) => {
+            *handle = Handle::open(kept);
+            Status::Done.code()
+        }
+        Err(_) => Status::NoMemory.code(),
+    }
+}
+
+/// Makes a multiplier whose port 0 is open from the start, with a device at it unless the number is 0, and
+/// opens the handle.
+#[unsafe(no_mangle)]
+pub extern "C" fn gefsunk_pm_new_with_port_0_open(
+    handle: &mut Handle,
+    alloc: Global,
+    ports: u8,
+    is_there: u32,
+) -> u32
+    ensures { MadeOpenPm handle.old.held.value ports is_there (status_of result) handle.new.held.value }
+{
+    if let Some(kept) = handle.take(alloc) {
+        *handle = Handle::open(kept);
+        return Status::Open.code();
+    }
+    if ports < 1 || ports > 15 {
+        return Status::BadPorts.code();
+    }
+    match Box::new(alloc, Kept::Pm(Pm::with_port_0_open(ports, is_there != 0))) {
         Ok(kept) => {
             *handle = Handle::open(kept);
             Status::Done.code()

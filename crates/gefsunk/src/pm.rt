@@ -1,7 +1,7 @@
 //! A port multiplier as the library for C keeps it: it counts the connections, which C does not see.
 
 ghost use Rattle.std.specs.Prelude.{◌≡◌, ◌≢◌, ◌↔◌, ◌≤◌, IsTrue, length, take};
-ghost use Rattle.gefsunk.specs.Pms.{FromDevice, FromHost, Plug, ReadRule, ToDevice, ToHost, Unplug, has_port, no_removals, opening, refused};
+ghost use Rattle.gefsunk.specs.Pms.{FromDevice, FromHost, Plug, ReadRule, ToDevice, ToHost, Unplug, has_port, no_removals, opening, opening_with_port_0, refused};
 
 use crate::status::Status;
 use fis_view::{Frame, FrameError, Stamp};
@@ -63,6 +63,22 @@ impl Pm {
             multiplier: Multiplier::new(ports),
             last: [0; 15],
             seated: [0; 15],
+            given: stamp(0, 0),
+        }
+    }
+
+    /// A multiplier whose port 0 is open from the start, with a device at it or none, as connection 1.
+    pub fn with_port_0_open(ports: u8, is_there: bool) -> Pm
+        requires some { 1 ≤ ports }
+        requires at_most { ports ≤ 15 }
+        ensures { result ≡ opening_with_port_0 ports is_there }
+    {
+        let mut connections = [0; 15];
+        connections[0] = u32::from(is_there);
+        Pm {
+            multiplier: Multiplier::with_port_0_open(ports, is_there.then_some(1)),
+            last: connections,
+            seated: connections,
             given: stamp(0, 0),
         }
     }

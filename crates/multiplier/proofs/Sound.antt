@@ -13,9 +13,9 @@ use Rattle.fis_view.specs.declared.view.FisFault.{FisFault}
 use Rattle.fis_view.specs.Table.{Kind, H2d, D2h, Activate, Setup, Data, Pio, Bits, Other}
 use Rattle.fis_view.specs.Seen.{seen, kind_of, kind_of_type, may_have, view_as}
 use Rattle.pm_registers.specs.RegisterMap as map
-use Rattle.pm_registers.specs.Port.{opening_port, inserted, removed, ShowsTruly}
+use Rattle.pm_registers.specs.Port.{opening_port, open_port, inserted, removed, ShowsTruly}
 use Rattle.pm_registers.specs.declared.port.PortRegisters.{PortRegisters}
-use Rattle.pm_registers.proofs.Door.{keeps_sound, write_devices, write_sound}
+use Rattle.pm_registers.proofs.Door.{keeps_sound, sound_set, write_devices, write_sound}
 use Rattle.pm_registers.specs.Calls.{Inserts, Removes}
 use Rattle.pm_control.specs.Answers.{IsAnswer, IsNotice, registers_left, registers_after_request}
 use Rattle.pm_control.specs.Requests.{request_in}
@@ -23,7 +23,7 @@ use Rattle.pm_control.specs.declared.request.Request.{Request}
 use Rattle.pm_control.specs.declared.request.Request.TheVariants.{Read, Write, Unknown, Reset, EndReset}
 use Rattle.pm_ports.specs.Port as port
 use Rattle.multiplier.specs.Arbiter.{control_port}
-use Rattle.multiplier.specs.State.{PmState, IsSound, IsSoundPort, IsPlace, ShowsRecorded, control_stamp, is_answer, is_notice, port_at, with_port, settled, stamped, opening}
+use Rattle.multiplier.specs.State.{PmState, IsSound, IsSoundPort, IsPlace, ShowsRecorded, control_stamp, is_answer, is_notice, port_at, with_port, settled, stamped, opening, opening_with_port_0, first_port}
 use Rattle.multiplier.specs.Rules.{with_device, without_device}
 use Rattle.multiplier.specs.declared.given.Given.{Given}
 use Rattle.multiplier.proofs.Ports.{at, each_port, this_port, other_port}
@@ -310,6 +310,49 @@ opens_sound ports most = record {
     opening_at zero n = refl
     opening_at (suc count) zero = refl
     opening_at (suc count) (suc n) = opening_at count n
+
+-- a new one with port 0 open: its other ports are those of any new one
+open_shows : (present : Bool) → ShowsTruly (open_port present)
+open_shows true = λ e. (refl, refl)
+open_shows false = λ e. absurd (omega (arith, e))
+
+first_sound : (device : Option ℕ) → ((conn : ℕ) → device ≡ Some conn → 1 ≤ conn) → IsSoundPort 0 (is_some device) (first_port device)
+first_sound None counted = record {
+  sound = record { counted = λ conn e. absurd cc; last = λ conn e. absurd cc; above = λ conn e. absurd cc; away = λ e. refl };
+  agrees = refl;
+  stamped = λ frame e. absurd cc;
+  stays = λ frame e. absurd cc;
+  meant = λ frame e. absurd cc;
+}
+first_sound (Some c) counted = record {
+  sound = record {
+    counted = λ conn e. let some : 1 ≤ conn = counted conn e in omega arith;
+    last = λ conn e. sym (same_Some c conn e);
+    above = λ conn e. let some : 1 ≤ conn = counted conn e in omega arith;
+    away = λ e. absurd cc;
+  };
+  agrees = refl;
+  stamped = λ frame e. absurd cc;
+  stays = λ frame e. absurd cc;
+  meant = λ frame e. absurd cc;
+}
+
+pub opens_with_port_0 : (ports : ℕ) (device : Option ℕ) → ports ≤ 15 → ((conn : ℕ) → device ≡ Some conn → 1 ≤ conn) → IsSound (opening_with_port_0 ports device)
+opens_with_port_0 ports device most counted =
+    let other = opens_sound ports most in
+    record {
+      served = other.served;
+      registers = sound_set (map.opening ports) 0 (open_port (is_some device)) other.registers (open_shows (is_some device));
+      room = refl;
+      ports = each;
+      answer = λ frame e. absurd cc;
+      shows = λ frame e. absurd cc;
+      given = tt;
+    }
+  where
+    each : (n : ℕ) → IsSoundPort n (map.port_at (map.opening_with_port_0 ports (is_some device)) n).present (port_at (opening_with_port_0 ports device) n)
+    each zero = first_sound device counted
+    each (suc n) = (opens_sound ports most).ports (suc n)
 
 -- ---- a device that came or went
 

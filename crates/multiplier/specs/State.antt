@@ -52,6 +52,18 @@ opening ports = record {
 abbrev pub port_at : PmState → ℕ → port.PortState
 port_at pm n = slice_index_or pm.ports n port.empty_port
 
+-- a port at which the device of this connection is present from the start, if there is one
+abbrev pub first_port : Option ℕ → port.PortState
+first_port (Some conn) = port.with_connection port.empty_port conn
+first_port None = port.empty_port
+
+-- a new multiplier for software that knows no multipliers (16.3.3): its port 0 is enabled
+abbrev pub opening_with_port_0 : ℕ → Option ℕ → PmState
+opening_with_port_0 ports device = record (opening ports) {
+  registers = map.opening_with_port_0 ports (is_some device);
+  ports = slice_set (replicate 15 port.empty_port) 0 (first_port device);
+}
+
 -- the same multiplier, with nothing that can be put back
 abbrev pub settled : PmState → PmState
 settled pm = record pm { given = None }

@@ -1,12 +1,12 @@
 //! The port multiplier.
 
-ghost use Rattle.std.specs.Prelude.{if◌then◌else◌, is_none, is_some, not, true, IfOk, IfSome, IsTrue, MatchOption, MatchResult, None, Ok, Some, replicate, ◌<◌, ◌≡◌, ◌≤◌, option_copied};
+ghost use Rattle.std.specs.Prelude.{if◌then◌else◌, is_none, is_some, not, true, IfOk, IfSome, IsTrue, MatchOption, MatchResult, None, Ok, Some, replicate, slice_set, ◌<◌, ◌≡◌, ◌≤◌, option_copied};
 ghost use Rattle.pm_ports.specs.Port.{empty_port, with_down};
 ghost use Rattle.pm_registers.specs.RegisterMap.{forwards};
 ghost use Rattle.multiplier.specs.Arbiter.{control_port};
 ghost use Rattle.multiplier.specs.Rules.{CameRule, CanPutBackDown, CanPutBackUp, ControlGives, DropsOnly, FromDeviceRule, FromHostRule, GoneRule, HasRoom, HasRoomFor, KeepsPorts, NextDownRule, NextUpRule, PortGives, ToControl, ToDevice, UndoesDown, UndoesUp, may_go_back, put_back, refilled};
 ghost use Rattle.multiplier.specs.declared.given.Source.TheVariants as source;
-ghost use Rattle.multiplier.specs.State.{IsSound, ShowsRecorded, control_stamp, counted, falling, held, is_answer, next_place, opening, passes_to, port_at, ready, removals, rising, stamped, with_port};
+ghost use Rattle.multiplier.specs.State.{IsSound, ShowsRecorded, control_stamp, counted, falling, first_port, held, is_answer, next_place, opening, opening_with_port_0, passes_to, port_at, ready, removals, rising, stamped, with_port};
 
 use crate::given::{Given, Source};
 use fis_view::{Frame, Stamp};
@@ -138,6 +138,21 @@ fn empty_ports() -> [Port; 15]
     Default::default()
 }
 
+/// Fifteen ports, at the first of which this connection is present, if there is one.
+fn ports_with(device: Option<u32>) -> [Port; 15]
+    requires { IfSome device (λ conn. 1 ≤ conn) }
+    ensures { result ≡ slice_set (replicate 15 empty_port) 0 (first_port device) }
+{
+    let mut ports = empty_ports();
+    if let Some(conn) = device {
+        match ports[0].came(conn) {
+            Ok(()) => {}
+            Err(_) => unreachable!(),
+        }
+    }
+    ports
+}
+
 impl Multiplier {
     /// A multiplier with this many device ports and no device. Port 0 is served first.
     pub fn new(ports: u8) -> Multiplier
@@ -149,6 +164,28 @@ impl Multiplier {
             registers: PmRegisters::new(ports),
             control: PmControl::new(),
             ports: empty_ports(),
+            answer: None,
+            served: CONTROL_PORT,
+            number: 0,
+            dropped: 0,
+            given: None,
+        }
+    }
+
+    /// A multiplier whose port 0 is open from the start, for software that knows no multipliers (16.3.3,
+    /// booting with legacy software), with the device of this connection at it, or none. FISes pass that
+    /// device at once. All else is as [`new`](Self::new) has it.
+    pub fn with_port_0_open(ports: u8, device: Option<u32>) -> Multiplier
+        requires some { 1 ≤ ports }
+        requires at_most { ports ≤ 15 }
+        requires counted { IfSome device (λ conn. 1 ≤ conn) }
+        ensures value { result ≡ opening_with_port_0 ports device }
+        ensures passes { passes_to result 0 ≡ device }
+    {
+        Multiplier {
+            registers: PmRegisters::with_port_0_open(ports, device.is_some()),
+            control: PmControl::new(),
+            ports: ports_with(device),
             answer: None,
             served: CONTROL_PORT,
             number: 0,

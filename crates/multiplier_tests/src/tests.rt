@@ -11,7 +11,7 @@ use pm_registers::{CONTROL_PORT, GSCR_SUMMARY, PSCR_ERROR, PSCR_STATUS};
 use std::alloc::AllocError;
 use steps::Step::{
     CannotGo, Comes, Drops, GivesDown, GivesDownNone, GivesUp, GivesUpNone, Goes, Has, HasNoRoom,
-    Opens, Passes, PutsBack, SendsUp, Shown, Turn, Writes,
+    Opens, OpensPort0, Passes, PutsBack, SendsUp, Shown, Turn, Writes,
 };
 use steps::{Step, play};
 
@@ -82,6 +82,28 @@ fn frames_go_down_with_pm_port_0(rt: HostRuntime) {
 const STATUS_IS_4: &[u8] = &[
     0x34, 0x4F, 0x50, 0, 0, 0, 0, 0, 0, 0, 0, 0, 0x04, 0, 0, 0, 0, 0, 0, 0,
 ];
+
+/// Port 0 is open from the start: the signature of its device goes up, and a frame with PM Port 0 goes down, though
+/// nobody wrote a register. The other ports are closed.
+static PORT_0: [Step; 8] = [
+    OpensPort0(Some(1)),
+    Comes(1, 1),
+    SendsUp(0, true),
+    SendsUp(1, true),
+    Turn(0),
+    GivesUpNone,
+    Passes(READ_DOWN, Passed::Down(0)),
+    Passes(READ, Passed::Dropped),
+];
+
+/// Where no device was there, port 0 drops.
+static PORT_0_EMPTY: [Step; 2] = [OpensPort0(None), Passes(READ_DOWN, Passed::Dropped)];
+
+#[test]
+fn port_0_is_open_from_the_start(rt: HostRuntime) {
+    play(&rt, rt.alloc(), &PORT_0);
+    play(&rt, rt.alloc(), &PORT_0_EMPTY);
+}
 
 /// The notification of a device that came goes before the waiting answer, and has the later number.
 static NOTICE_FIRST: [Step; 8] = [

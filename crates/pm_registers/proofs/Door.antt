@@ -4,4 +4,4 @@ pub use Rattle.pm_registers.proofs.BitLemmas.{bits_where_fits}
 pub use Rattle.pm_registers.proofs.RegisterLemmas.{either}
 pub use Rattle.pm_registers.proofs.LawLemmas.{summary_agrees}
 pub use Rattle.pm_registers.proofs.ShownLemmas.{keeps_sound, shows_inserted, shows_removed, shows_written}
-pub use Rattle.pm_registers.proofs.ShownLemmas.{write_devices, write_sound}
+pub use Rattle.pm_registers.proofs.ShownLemmas.{sound_set, write_devices, write_sound}

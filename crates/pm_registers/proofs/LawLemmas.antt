@@ -9,7 +9,7 @@ use Rattle.std.proofs.lemmas.List.{set_past}
 use Rattle.pm_registers.specs.declared.port.PortRegisters.{PortRegisters}
 use Rattle.pm_registers.specs.Bits.{without, shares, rises, bits_where}
 use Rattle.pm_registers.specs.Port.{opening_port, bit_n, bit_x, port_written, controlled, inserted, removed, raised, met, opened, is_open, det}
-use Rattle.pm_registers.specs.RegisterMap.{RegisterMap, opening, port_at, asks, summary, register_at, with_port, notifies, settled, control_written, written}
+use Rattle.pm_registers.specs.RegisterMap.{RegisterMap, port_at, asks, summary, register_at, with_port, notifies, settled, control_written, written}
 use Rattle.pm_registers.specs.Calls.{Call, Writes, Inserts, Removes, Raises, Notices, Restores, called, after, value_at, HasBit, SummaryAgrees, Notifies, MakesDue, NotifiedSince, ClearedByOnes}
 use Rattle.pm_registers.proofs.BitLemmas.{bits_where_fits}
 use Rattle.pm_registers.proofs.RegisterLemmas.{either, register_of_device, write_ports, written_due, control_bank}
@@ -259,11 +259,11 @@ due_backward m (call ∷ calls) (inr (b ∷ before, last, since, split, none, no
     subst (λ (c : Call). MakesDue last (after (called m c) before) (after (called m c) (before ++ last ∷ []))) first now in
     due_backward (called m call) calls (inr (before, last, since, rest, none, noted))
 
-pub due_since : (ports : ℕ) (calls : List Call) → ((after (opening ports) calls).due ≡ true) ↔ NotifiedSince (opening ports) calls
-due_since ports calls = (forward, λ h. due_backward (opening ports) calls (inr h))
+pub due_since : (m : RegisterMap) → m.due ≡ false → (calls : List Call) → ((after m calls).due ≡ true) ↔ NotifiedSince m calls
+due_since m none calls = (forward, λ h. due_backward m calls (inr h))
   where
-    forward : (after (opening ports) calls).due ≡ true → NotifiedSince (opening ports) calls
-    forward h = elim (due_forward (opening ports) calls h) [ inl rest ↦ absurd (both_ways false refl rest.0) | inr since ↦ since ]
+    forward : (after m calls).due ≡ true → NotifiedSince m calls
+    forward h = elim (due_forward m calls h) [ inl rest ↦ absurd (both_ways m.due none rest.0) | inr since ↦ since ]
 
 -- ---- bits of SError
 

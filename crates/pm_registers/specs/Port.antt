@@ -21,6 +21,11 @@ bit_x = 0x4000000
 abbrev pub opening_port : PortRegisters
 opening_port = record { status = 4; error = 0; control = 4; present = false }
 
+-- open, without a device, or with one whose link came up before anything was counted as a change
+abbrev pub open_port : Bool → PortRegisters
+open_port present =
+    record { status = (if present then 0x133 else 0); error = 0; control = 0; present = present }
+
 -- the registers by their numbers
 abbrev pub pscr : PortRegisters → ℕ → Option ℕ
 pscr p register = (if register == 0 then Some p.status else if register == 1 then Some p.error

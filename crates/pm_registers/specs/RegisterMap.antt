@@ -7,7 +7,7 @@ use Rattle.pm_registers.specs.Bits.{without, shares, rises, bits_where}
 use Rattle.pm_registers.specs.declared.port.PortRegisters.{PortRegisters}
 use Rattle.pm_registers.specs.declared.words.RegisterError.{RegisterError}
 use Rattle.pm_registers.specs.declared.words.RegisterError.TheVariants.{NoPort, NoRegister}
-use Rattle.pm_registers.specs.Port.{opening_port, pscr, port_written, inserted, removed, raised, passes}
+use Rattle.pm_registers.specs.Port.{opening_port, open_port, pscr, port_written, inserted, removed, raised, passes}
 use Rattle.pm_registers.specs.Port.{ShowsTruly}
 
 -- what a multiplier holds: the number of its device ports, GSCR[33], GSCR[96], the registers of the ports
@@ -107,6 +107,10 @@ may_change port register p r =
 
 abbrev pub with_port : RegisterMap → ℕ → PortRegisters → RegisterMap
 with_port m n p = record m { bank = slice_set m.bank n p }
+
+-- 16.3.3, booting with legacy software: device port 0 is enabled from the start
+abbrev pub opening_with_port_0 : ℕ → Bool → RegisterMap
+opening_with_port_0 ports present = with_port (opening ports) 0 (open_port present)
 
 -- bit 3 of GSCR[96]
 abbrev pub notifies : RegisterMap → Bool

@@ -1,7 +1,7 @@
 //! The registers of one device port, and what each event does to them.
 
 ghost use Rattle.std.specs.Prelude.{bit_and, ◌%◌, ◌≡◌};
-ghost use Rattle.pm_registers.specs.Port.{controlled, inserted, is_open, met, opened, opening_port, passes, port_written, pscr, raised, removed};
+ghost use Rattle.pm_registers.specs.Port.{controlled, inserted, is_open, met, open_port, opened, opening_port, passes, port_written, pscr, raised, removed};
 
 use crate::bits::cleared;
 use crate::words::{
@@ -32,6 +32,19 @@ impl PortRegisters {
             error: 0,
             control: DET_OFFLINE,
             present: false,
+        }
+    }
+
+    /// The registers of a port that is open when the multiplier starts. A device that is present then is no
+    /// exchange.
+    pub(crate) fn open(present: bool) -> PortRegisters
+        ensures { result ≡ open_port present }
+    {
+        PortRegisters {
+            status: if present { STATUS_ESTABLISHED } else { 0 },
+            error: 0,
+            control: 0,
+            present,
         }
     }
 

@@ -5,7 +5,7 @@ ghost use Rattle.std.specs.Result.{result_err};
 ghost use Rattle.pm_registers.specs.Bits.{shares, without, rises, bits_where};
 ghost use Rattle.pm_registers.specs.Calls.{Call, after};
 ghost use Rattle.pm_registers.specs.Port.{ShowsTruly};
-ghost use Rattle.pm_registers.specs.RegisterMap.{after_insert, after_notice, after_restore, after_raise, after_remove, after_rule, after_write, control_written, forwards, gscr, may_change, opening, port_at, read_at, register_at, settled, summary, with_port, write_rule};
+ghost use Rattle.pm_registers.specs.RegisterMap.{after_insert, after_notice, after_restore, after_raise, after_remove, after_rule, after_write, control_written, forwards, gscr, may_change, opening, opening_with_port_0, port_at, read_at, register_at, settled, summary, with_port, write_rule};
 
 use crate::bits::cleared;
 use crate::port::PortRegisters;
@@ -49,6 +49,20 @@ impl PmRegisters {
             bank: [PortRegisters::new(); 15],
             due: false,
         }
+    }
+
+    /// The registers of a multiplier that starts with device port 0 open, for software that knows no
+    /// multipliers (16.3.3, booting with legacy software), and with a device present at it or none. FISes pass
+    /// such a device without a write to its registers.
+    pub fn with_port_0_open(ports: u8, present: bool) -> PmRegisters
+        requires some { 1 ≤ ports }
+        requires at_most { ports ≤ 15 }
+        ensures value { result ≡ opening_with_port_0 ports present }
+        ensures passes { forwards result 0 ≡ present }
+    {
+        let mut registers = PmRegisters::new(ports);
+        registers.set_port(0, PortRegisters::open(present));
+        registers
     }
 
     /// The registers of device port `n`.

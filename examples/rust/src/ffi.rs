@@ -51,6 +51,7 @@ extern "C" {
     pub(crate) fn gef_fis_text(fis: *const u8, len: usize, text: *mut c_char, room: usize)
         -> c_int;
     pub(crate) fn gef_pm_new(pm: *mut Pm, ports: u8) -> c_int;
+    pub(crate) fn gef_pm_new_with_port_0_open(pm: *mut Pm, ports: u8, is_there: u32) -> c_int;
     pub(crate) fn gef_pm_free(pm: *mut Pm) -> c_int;
     pub(crate) fn gef_pm_plug(pm: *mut Pm, port: u8) -> c_int;
     pub(crate) fn gef_pm_unplug(pm: *mut Pm, port: u8) -> c_int;

@@ -35,6 +35,23 @@ impl Multiplier {
         Ok(Multiplier { handle })
     }
 
+    /// A multiplier whose port 0 is open from the start, for a host that knows no multipliers, with a device at
+    /// it or none.
+    ///
+    /// # Errors
+    /// [`Error::BadPorts`] and [`Error::NoMemory`].
+    pub fn with_port_0_open(ports: u8, is_there: bool) -> Result<Multiplier, Error> {
+        let mut handle = ffi::Pm {
+            mark: 0,
+            at: ptr::null_mut(),
+        };
+        // SAFETY: as in `new`.
+        Error::check(unsafe {
+            ffi::gef_pm_new_with_port_0_open(&mut handle, ports, u32::from(is_there))
+        })?;
+        Ok(Multiplier { handle })
+    }
+
     /// A device came to a port.
     ///
     /// # Errors

@@ -1,7 +1,7 @@
 //! What no clause says: values from outside, and that calls succeed.
 
 use super::pm_steps::Step::{
-    Clears, Connects, Forwards, Inserts, IsDue, Opens, Raises, Refuses, Removes, Shows, Writes,
+    Clears, Connects, Forwards, Inserts, IsDue, Opens, OpensPort0, Raises, Refuses, Removes, Shows, Writes,
 };
 use super::pm_steps::{Step, play};
 use pm_registers::{
@@ -55,6 +55,40 @@ static ONES_CLEAR: [Step; 13] = [
 #[test]
 fn ones_clear_errors(rt: HostRuntime) {
     play(&rt, rt.alloc(), &ONES_CLEAR);
+}
+
+/// For software that knows no multipliers: it writes no register, and FISes pass a device that was there. Another
+/// device is an exchange, at this port too.
+static PORT_0: [Step; 16] = [
+    OpensPort0(true),
+    Shows(0, PSCR_STATUS, STATUS_ESTABLISHED),
+    Shows(0, PSCR_ERROR, 0),
+    Shows(0, PSCR_CONTROL, 0),
+    Shows(1, PSCR_STATUS, DET_OFFLINE),
+    Shows(1, PSCR_CONTROL, DET_OFFLINE),
+    Shows(15, GSCR_SUMMARY, 0),
+    Shows(15, GSCR_MASK, 0x0400_FFFF),
+    Forwards(0, true),
+    Forwards(1, false),
+    Removes(0),
+    Inserts(0),
+    Shows(0, PSCR_ERROR, SERROR_N | SERROR_X),
+    Forwards(0, false),
+    Writes(0, PSCR_ERROR, SERROR_X),
+    Forwards(0, true),
+];
+
+static PORT_0_EMPTY: [Step; 4] = [
+    OpensPort0(false),
+    Shows(0, PSCR_STATUS, 0),
+    Shows(0, PSCR_CONTROL, 0),
+    Forwards(0, false),
+];
+
+#[test]
+fn port_0_is_open_from_the_start(rt: HostRuntime) {
+    play(&rt, rt.alloc(), &PORT_0);
+    play(&rt, rt.alloc(), &PORT_0_EMPTY);
 }
 
 static EXCHANGE: [Step; 18] = [

@@ -36,6 +36,8 @@ pub(super) const HOST: Stamp = Stamp {
 pub(super) enum Step {
     /// New registers of so many ports.
     Opens(u8),
+    /// New registers of four ports, of which port 0 is open from the start, and whether a device is there.
+    OpensPort0(bool),
     /// A register shows this.
     Shows(u8, u16, u32),
     /// A value is written to a register.
@@ -202,6 +204,7 @@ impl Rig {
     fn passes(&mut self, step: Step) -> bool {
         match step {
             Step::Opens(ports) => self.registers = opened(ports),
+            Step::OpensPort0(there) => self.registers = PmRegisters::with_port_0_open(4, there),
             Step::Clears => self.registers.clear_notice(),
             Step::Shows(port, register, value) => return self.shows(port, register, value),
             Step::Writes(port, register, value) => return self.writes(port, register, value),
