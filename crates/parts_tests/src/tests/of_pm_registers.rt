@@ -1,7 +1,8 @@
 //! What no clause says: values from outside, and that calls succeed.
 
 use super::pm_steps::Step::{
-    Clears, Connects, Forwards, Inserts, IsDue, Opens, OpensPort0, Raises, Refuses, Removes, Shows, Writes,
+    Clears, Connects, Forwards, Inserts, IsDue, Opens, OpensPort0, Raises, Refuses, Removes, Shows,
+    Writes,
 };
 use super::pm_steps::{Step, play};
 use pm_registers::{
