@@ -1,4 +1,4 @@
-pub mod Counts
+mod Fewer
 pub mod Ends
 pub mod Fits
 pub mod Frees

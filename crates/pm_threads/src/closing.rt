@@ -11,9 +11,9 @@ ghost use Rattle.pm_thread.specs.Runs.{IsRun as IsPmRun};
 ghost use Rattle.pm_threads.specs.Ends.{AreOfOneRun, EachArrives};
 ghost use Rattle.pm_threads.specs.Halts.{ends_of};
 ghost use Rattle.pm_threads.specs.Seats.{Handed};
-ghost use Rattle.pm_threads.specs.Summaries.{AreCounted, AreOutcomes, IsMadeOf, NoneAboveSent};
+ghost use Rattle.pm_threads.specs.Summaries.{AreOutcomes, IsMadeOf};
+ghost use Rattle.thread_counts.specs.Rows.{AreCounted, NoneAboveSent};
 
-use crate::counting::counted;
 use crate::finished::{Finished, Unfinished};
 use crate::meeting::meet_all;
 use crate::outcomes::outcomes;
@@ -28,6 +28,7 @@ use ruled_links::meet;
 use std::alloc::{AllocError, Global};
 use std::sync::Wait;
 use thiserror::Error;
+use thread_counts::counted;
 
 /// What came of a run.
 #[derive(Drop)]

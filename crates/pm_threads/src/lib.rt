@@ -7,7 +7,6 @@
 #![tactic(auto)]
 
 mod closing;
-mod counting;
 mod finished;
 mod links;
 mod meeting;

@@ -6,8 +6,8 @@ use Rattle.std.specs.List.{AllZip}
 use Rattle.ruled_links.specs.Lists.{IsPrefixOf}
 use Rattle.pm_thread.specs.Passing.{Passes}
 use Rattle.pm_threads.specs.Seats.{Handed}
-use Rattle.pm_threads.specs.Summaries.{AreCounted}
-use Rattle.pm_threads.proofs.Counts.{none_above}
+use Rattle.thread_counts.specs.Rows.{AreCounted}
+use Rattle.pm_threads.proofs.Fewer.{none_above}
 use Rattle.pm_threads.proofs.Ends.{all_arrive, link_prefix}
 use Rattle.pm_threads.proofs.closing.met.Goals as goal
 

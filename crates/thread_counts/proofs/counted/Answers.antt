@@ -3,9 +3,9 @@ use Rattle.std.specs.Prelude.{map}
 use Rattle.std.proofs.lemmas.List.{length-map}
 use Rattle.disk_model.specs.declared.unit.Unit.{Unit}
 use Rattle.disk_thread.specs.declared.worker.DiskEnd.{DiskEnd}
-use Rattle.pm_threads.specs.Summaries.{CountsAt}
-use Rattle.pm_threads.proofs.Counts.{UpTo, all_counted, map_at, up_to_more}
-use Rattle.pm_threads.proofs.counting.counted.Goals as goal
+use Rattle.thread_counts.specs.Rows.{CountsAt}
+use Rattle.thread_counts.proofs.RowLemmas.{UpTo, all_counted, map_at, up_to_more}
+use Rattle.thread_counts.proofs.counted.Goals as goal
 
 pub loop-port-preserved : goal.loop-port-preserved
 loop-port-preserved c =

@@ -1,7 +1,10 @@
-//! How many FISes were sent and taken.
+//! How many FISes were sent and taken in a run in threads.
+//!
+//! [`counted`] makes a row for each connection of each device from what its station gave and what the host took.
+#![tactic(auto)]
 
 ghost use Rattle.std.specs.Prelude.{◌≤◌, ◌<◌, length, map, IfOk, OnOk};
-ghost use Rattle.pm_threads.specs.Summaries.{AreCounted, CountsAt};
+ghost use Rattle.thread_counts.specs.Rows.{AreCounted, CountsAt};
 
 use disk_model::{Device, Unit};
 use disk_thread::{DiskEnd, Station};
@@ -31,8 +34,9 @@ fn count_at<'a, D: Device + Drop>(
     Ok(())
 }
 
-/// The rows of all devices.
-pub(crate) fn counted<'a>(
+/// The rows of all devices, sorted by port and connection: device n stands at place n. It refuses only where the
+/// allocator does.
+pub fn counted<'a>(
     alloc: Global,
     disks: &[DiskEnd<'a, Unit>],
     host: &HostWorker<'a>,

@@ -1,4 +1,4 @@
--- Rows of counts, port by port and connection by connection.
+-- For `counted`: rows of counts, port by port and connection by connection.
 use Rattle.std.proofs.Common.{◌≡◌, ℕ, zero, suc, ◌+◌, ◌<◌, ◌≤◌, List, [], ◌∷◌, ◌++◌, length, get_or, Option, Some, None, Bool, true, false, refl, sym, ap, subst, ◌∙◌, inl, inr, append_assoc, append-nil, length-append, arith}
 use Rattle.std.specs.Prelude.{◌&&◌, ◌==◌, ◌⊎◌, if◌then◌else◌, All, map, nat_le, nat_lt}
 use Rattle.std.specs.Option.{option_or, option_to_list}
@@ -10,16 +10,11 @@ use Rattle.std.proofs.lemmas.List.Elements.{All-push, filter-append}
 use Rattle.std.proofs.lemmas.List.Folds.{find-append}
 use Rattle.disk_model.specs.declared.unit.Unit.{Unit}
 use Rattle.fis_view.specs.Frames.{Stamped}
-use Rattle.ruled_links.specs.Lists.{IsPrefixOf}
 use Rattle.multiplier.specs.Orders.{of_connection, of_port}
-use Rattle.multiplier.specs.Passing.{of_conn}
-use Rattle.multiplier.specs.State.{rising}
-use Rattle.pm_thread.specs.Passing.{risen}
 use Rattle.pm_world.specs.Counting.{AreSorted, Precedes, is_of, row_of}
 use Rattle.pm_world.specs.declared.counts.ConnCount.{ConnCount}
 use Rattle.disk_thread.specs.Runs.{StationState, all_given, all_told, has_come}
-use Rattle.pm_threads.specs.Ends.{EachArrives, sent_at}
-use Rattle.pm_threads.specs.Summaries.{AreCounted, CountsAt, NoneAboveSent, at_place, given_at, told_at, row_for, rows_on}
+use Rattle.thread_counts.specs.Rows.{AreCounted, CountsAt, at_place, given_at, told_at, row_for, rows_on}
 
 -- ---- one of two rows
 
@@ -165,7 +160,7 @@ at_is part [] n other lt = absurd (omega (arith, lt))
 at_is part (s ∷ disks) zero other lt = refl
 at_is part (s ∷ disks) (suc n) other lt = at_is part disks n other (omega (arith, lt))
 
-at_past : {A : Type 0} (part : StationState Unit → List A) (disks : List (StationState Unit)) (n : ℕ) → length disks ≤ n → at_place part disks n ≡ []
+pub at_past : {A : Type 0} (part : StationState Unit → List A) (disks : List (StationState Unit)) (n : ℕ) → length disks ≤ n → at_place part disks n ≡ []
 at_past part [] n le = refl
 at_past part (s ∷ disks) zero le = absurd (omega (arith, le))
 at_past part (s ∷ disks) (suc n) le = at_past part disks n (omega (arith, le))
@@ -225,48 +220,3 @@ all_counted disks taken rows h = record {
   sorted = h.sorted;
   each = λ m c. h.each m c ∙ ap (λ b. if b then Some (row_for (given_at disks m) taken m c) else None) (came_of_some disks m c);
 }
-
--- ---- no more was taken than sent
-
-sent_of_given : (disks : List (StationState Unit)) (n : ℕ) → IsPrefixOf (sent_at disks n) (given_at disks n)
-sent_of_given [] n = ([], refl)
-sent_of_given (s ∷ disks) zero = (option_to_list s.hand, refl)
-sent_of_given (s ∷ disks) (suc n) = sent_of_given disks n
-
-prefix_fewer : {T : Type 0} (xs ys : List T) → IsPrefixOf xs ys → length xs ≤ length ys
-prefix_fewer xs ys h =
-    let long : length xs + length h.0 ≡ length ys = sym (length-append xs h.0) ∙ ap length h.1 in
-    omega (arith, long)
-
-fewer_on : (c : ℕ) (xs ys : List Stamped) → IsPrefixOf xs ys → length (of_connection c xs) ≤ length (of_connection c ys)
-fewer_on c xs ys h =
-    prefix_fewer (of_connection c xs) (of_connection c ys) (of_connection c h.0, sym (filter-append _ xs h.0) ∙ ap (of_connection c) h.1)
-
-none_some : {T : Type 0} (x : T) → None ≡ Some x → ⊥
-none_some x e = cc
-
-some_is : {T : Type 0} (x y : T) → Some x ≡ Some y → x ≡ y
-some_is x y e = cc
-
-false_true : false ≡ true → ⊥
-false_true e = cc
-
-pub none_above : (disks : List (StationState Unit)) (taken : List Stamped) (rows : List ConnCount) → length disks ≤ 15 → AreCounted rows disks taken
-    → EachArrives disks taken → NoneAboveSent rows
-none_above disks taken rows few counted arrives n c r is = by (has_come c (told_at disks n)) refl
-  where
-    by : (b : Bool) → has_come c (told_at disks n) ≡ b → r.taken ≤ r.sent
-    by false e =
-        absurd (none_some r (ap (λ x. if x then Some (row_for (given_at disks n) taken n c) else None) (sym e) ∙ sym (counted.each n c) ∙ is))
-    by true e = elim (cases_lt n (length disks)) [
-      | inl lt ↦
-          let row : r ≡ row_for (given_at disks n) taken n c =
-          some_is r (row_for (given_at disks n) taken n c)
-          (sym is ∙ counted.each n c ∙ ap (λ x. if x then Some (row_for (given_at disks n) taken n c) else None) e) in
-          let met = prefix_fewer (of_conn n c taken) (risen n c (sent_at disks n)) (arrives n c (omega (arith, lt, few))) in
-          let long = length-map (of_connection c (sent_at disks n)) (rising n) in
-          let fewer = fewer_on c (sent_at disks n) (given_at disks n) (sent_of_given disks n) in
-          let all : length (of_port n c taken) ≤ length (of_connection c (given_at disks n)) = omega (arith, met, long, fewer) in
-          subst (λ (x : ConnCount). x.taken ≤ x.sent) (sym row) all
-      | inr le ↦ absurd (let none : told_at disks n ≡ [] = at_past all_told disks n (omega (arith, le)) in false_true (sym (ap (has_come c) none) ∙ e))
-    ]
