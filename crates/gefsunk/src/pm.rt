@@ -1,6 +1,6 @@
 //! A port multiplier as the library for C keeps it: it counts the connections, which C does not see.
 
-ghost use Rattle.std.specs.Prelude.{◌≡◌, ◌≢◌, ◌↔◌, ◌≤◌, IsTrue, length, take};
+ghost use Rattle.std.specs.Prelude.{◌≡◌, ◌≢◌, ◌↔◌, ◌≤◌, IsTrue, drop, length, take};
 ghost use Rattle.gefsunk.specs.Pms.{FromDevice, FromHost, Plug, ReadRule, ToDevice, ToHost, Unplug, has_port, no_removals, opening, refused};
 
 use crate::status::Status;
@@ -161,6 +161,7 @@ impl Pm {
         ensures within { result ≡ Status.Done → len.new ≤ length room.old }
         ensures kept { result ≢ Status.Done
             → (room.new ≡ room.old) × (len.new ≡ len.old) × (port.new ≡ port.old) }
+        ensures rest { drop len.new room.new ≡ drop len.new room.old }
     {
         if room.len() < Frame::LONGEST {
             return Status::TooShort;
@@ -182,6 +183,7 @@ impl Pm {
         ensures rule { ToDevice self.old port (length room.old) result (take len.new room.new) self.new }
         ensures within { result ≡ Status.Done → len.new ≤ length room.old }
         ensures kept { result ≢ Status.Done → (room.new ≡ room.old) × (len.new ≡ len.old) }
+        ensures rest { drop len.new room.new ≡ drop len.new room.old }
     {
         if !self.has_port(port) {
             return Status::NoPort;
@@ -221,6 +223,7 @@ pub fn copied(frame: &Frame, room: &mut [u8]) -> usize
     ensures copied { take result room.new ≡ frame.now.bytes }
     ensures within { result ≤ length room.old }
     ensures room { length room.new ≡ length room.old }
+    ensures rest { drop result room.new ≡ drop result room.old }
 {
     let bytes = frame.bytes();
     room[..bytes.len()].copy_from_slice(bytes);
