@@ -5,8 +5,8 @@ use Rattle.std.proofs.lemmas.List.Elements.{All-head, All-tail}
 use Rattle.guest_bytes.specs.Moves.{Fetches, IsMove}
 use Rattle.guest_bytes.specs.declared.moves.Move.{Move}
 use Rattle.guest_bytes.specs.declared.entry.Segment.{Segment}
-use Rattle.guest_bytes.specs.Guest.{Delivers}
 use Rattle.ahci_port.specs.Sending.{AreFetched, MayBeMissed}
+use Rattle.ahci_port.specs.Taking.{Carries}
 
 -- so far these are read, of all of them, and the moves that are left lie in the payload
 pub record AreUnderWay (may_read : ℕ → List ℕ → Type 0) (all left : List Move) (first now : List ℕ) : Type 0 where
@@ -39,11 +39,11 @@ unfolding AreFetched
 all_fetched may_read all left first now none so_far = so_far.then_all now (subst (λ (l : List Move). AreFetched may_read l now now) (sym none) refl)
 
 -- the next one is not read
-pub missed_next : (may_read : ℕ → List ℕ → Type 0) (may_miss : ℕ → ℕ → Type 0) (table : List Segment) (offset : ℕ) (moves all left rest : List Move) (m : Move) (first now : List ℕ) → left ≡ m ∷ rest → all ≡ moves → AreUnderWay may_read all left first now → Delivers table offset (length first) moves → may_miss m.at m.len → MayBeMissed may_miss table offset (length first)
-missed_next may_read may_miss table offset moves all left rest m first now is same so_far delivers missed = record {
+pub missed_next : (may_read : ℕ → List ℕ → Type 0) (may_miss : ℕ → ℕ → Type 0) (table : List Segment) (offset : ℕ) (moves all left rest : List Move) (m : Move) (first now : List ℕ) → left ≡ m ∷ rest → all ≡ moves → AreUnderWay may_read all left first now → Carries table offset (length first) moves → may_miss m.at m.len → MayBeMissed may_miss table offset (length first)
+missed_next may_read may_miss table offset moves all left rest m first now is same so_far carries missed = record {
   before = so_far.done;
   m = m;
   rest = rest;
-  delivers = subst (λ (l : List Move). Delivers table offset (length first) l) (sym same ∙ so_far.split ∙ ap (λ (l : List Move). so_far.done ++ l) is) delivers;
+  carries = subst (λ (l : List Move). Carries table offset (length first) l) (sym same ∙ so_far.split ∙ ap (λ (l : List Move). so_far.done ++ l) is) carries;
   missed = missed;
 }

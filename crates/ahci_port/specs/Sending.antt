@@ -2,7 +2,6 @@
 -- places that the command's table named when it was issued (section 4.2.3.3).
 use Rattle.std.specs.Prelude.{◌≡◌, ℕ, ◌+◌, ◌-◌, ◌^◌, min, Bool, false, List, [], ◌∷◌, ◌++◌, length, bit_or}
 use Rattle.std.specs.Prelude.{Option, Some, None, MatchOption}
-use Rattle.guest_bytes.specs.Guest.{Delivers}
 use Rattle.guest_bytes.specs.Moves.{Fetches}
 use Rattle.guest_bytes.specs.declared.entry.Segment.{Segment}
 use Rattle.guest_bytes.specs.declared.moves.Move.{Move}
@@ -16,7 +15,7 @@ use Rattle.hba_fbs.specs.Sending.{Gives, is_sent, outgoing}
 use Rattle.hba_fbs.specs.declared.due.Due.{Due}
 use Rattle.ahci_port.specs.Causes.{missing_causes, new_causes}
 use Rattle.ahci_port.specs.States.{ControllerState}
-use Rattle.ahci_port.specs.Taking.{kept}
+use Rattle.ahci_port.specs.Taking.{Carries, kept}
 use Rattle.ahci_port.specs.declared.sending.Sent.{Sent}
 
 -- ---- bytes of the guest
@@ -39,7 +38,7 @@ pub record AreGathered (may_read : ℕ → List ℕ → Type 0) (table : List Se
   pub before : List ℕ
   pub long : length payload ≡ length before
   pub moves : List Move
-  pub delivers : Delivers table offset (length before) moves
+  pub carries : Carries table offset (length before) moves
   pub fetched : AreFetched may_read moves before payload
 
 -- a read of one of the runs in which these bytes of a transfer lie may be refused
@@ -47,7 +46,7 @@ pub record MayBeMissed (may_miss : ℕ → ℕ → Type 0) (table : List Segment
   pub before : List Move
   pub m : Move
   pub rest : List Move
-  pub delivers : Delivers table offset len (before ++ m ∷ rest)
+  pub carries : Carries table offset len (before ++ m ∷ rest)
   pub missed : may_miss m.at m.len
 
 -- and of those that are due, of which this is the table

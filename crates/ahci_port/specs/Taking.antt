@@ -5,6 +5,7 @@ use Rattle.std.specs.Prelude.{List, length, Option, Some, None, MatchOption, sli
 use Rattle.std.specs.Prelude.{slice_index_or, not}
 use Rattle.slots.specs.Slots.{match_some}
 use Rattle.guest_bytes.specs.Guest.{Delivers}
+use Rattle.guest_bytes.specs.Moves.{moves_at}
 use Rattle.guest_bytes.specs.declared.entry.Segment.{Segment}
 use Rattle.guest_bytes.specs.declared.moves.Move.{Move}
 use Rattle.rx_area.specs.Area.{start_of}
@@ -111,11 +112,17 @@ pub record Drops (old : ControllerState) (frame : List ℕ) (result : Took) (new
 abbrev pub kept : ControllerState → ℕ → Option (List Segment)
 kept c slot = match_some (slice_get c.tables slot) None (λ table. table)
 
+-- moves bring each byte of a transfer, from byte offset on, to its place, and there is one for each entry that has
+-- some of them
+pub record Carries (table : List Segment) (offset len : ℕ) (moves : List Move) : Type 0 where
+  pub delivers : Delivers table offset len moves
+  pub are : moves ≡ moves_at table offset len
+
 -- The bytes of the Data that was taken last go to the places that the table names which was read when the command
 -- of their slot was issued. Where there are none, there are no moves.
 abbrev pub BringsTo : Option (List Segment) → Wrote → Option (List Move) → Type 0
 BringsTo None w moves = moves ≡ None
-BringsTo (Some table) w moves = MatchOption moves ⊥ (Delivers table w.offset w.len)
+BringsTo (Some table) w moves = MatchOption moves ⊥ (Carries table w.offset w.len)
 
 abbrev pub Brings : ControllerState → Option (List Move) → Type 0
 Brings c moves = MatchOption c.brought (moves ≡ None) (λ w. BringsTo (kept c w.slot) w moves)

@@ -10,7 +10,7 @@ use Rattle.ahci_registers.specs.declared.link.Effect.{Effect}
 use Rattle.ahci_registers.specs.declared.link.Effect.TheVariants.{Nothing, LinkReset, LinkUp}
 use Rattle.ahci_port.specs.Accesses.{WritesAt}
 use Rattle.ahci_port.specs.Reading.{read_at}
-use Rattle.ahci_port.specs.Sending.{Misses, Prepares, Sends, nothing_sent}
+use Rattle.ahci_port.specs.Sending.{Misses, Prepares, Sends, is_to_go, nothing_sent}
 use Rattle.ahci_port.specs.States.{ControllerState}
 use Rattle.ahci_port.specs.Taking.{Brings, Drops, Takes, is_deaf}
 use Rattle.ahci_port.specs.declared.sending.Sent.{Sent}
@@ -57,13 +57,13 @@ HbaWrite old guest offset value answer link message new =
 
 -- ---- a FIS of a device
 
--- the FIS goes to the guest's memory whole, from there on
+-- the FIS goes to the guest's memory whole, from there on; else the address is 0
 abbrev pub ShowsPost : Option Move → FisTaken → Type 0
-ShowsPost None taken = taken.is_posted ≡ 0
+ShowsPost None taken = (taken.is_posted ≡ 0) × (taken.post_at ≡ 0)
 ShowsPost (Some m) taken = (taken.is_posted ≡ 1) × (taken.post_at ≡ m.at)
 
 abbrev pub ShowsCount : Option Counted → FisTaken → Type 0
-ShowsCount None taken = taken.is_counted ≡ 0
+ShowsCount None taken = (taken.is_counted ≡ 0) × (taken.count_at ≡ 0) × (taken.count ≡ 0)
 ShowsCount (Some c) taken = (taken.is_counted ≡ 1) × (taken.count_at ≡ c.at) × (taken.count ≡ c.count)
 
 -- what C sees of what was done
@@ -132,5 +132,6 @@ NextOut old guest room status.Nothing fis message new =
     Tells message × Gives old guest (record { frame = None; message = yes message }) new
 NextOut old guest room status.NoMemory fis message new =
     (is_deaf old ≡ true → ⊥) × (new ≡ record old { memory = new.memory }) × Prepares (MayRead guest) old new.memory
+    × (is_to_go old new.memory ≡ true)
 NextOut old guest room status.TooShort fis message new = (room < 8196) × (new ≡ old)
 NextOut old guest room _ fis message new = ⊥

@@ -1,6 +1,6 @@
 //! A disk as the library for C keeps it.
 
-ghost use Rattle.std.specs.Prelude.{◌≡◌, ◌≢◌, ◌≤◌, ◌<◌, IfErr, IfOk, length, take};
+ghost use Rattle.std.specs.Prelude.{◌≡◌, ◌≢◌, ◌≤◌, ◌<◌, IfErr, IfOk, drop, length, take};
 ghost use Rattle.gefsunk.specs.Disks.{DiskFromHost, DiskPlug, DiskRefused, DiskToHost, IsDiskOf, IsPlanOf, SectorRule, has_flag};
 
 use crate::pm::{copied, refused, stamp};
@@ -106,6 +106,7 @@ pub fn to_host(disk: &mut StockDisk, alloc: Global, room: &mut [u8], len: &mut u
     ensures rule { DiskToHost disk.old (length room.old) result (take len.new room.new) disk.new }
     ensures within { result ≡ Status.Done → len.new ≤ length room.old }
     ensures kept { result ≢ Status.Done → (room.new ≡ room.old) × (len.new ≡ len.old) }
+    ensures rest { drop len.new room.new ≡ drop len.new room.old }
 {
     if room.len() < Frame::LONGEST {
         return Status::TooShort;
@@ -123,7 +124,8 @@ pub fn to_host(disk: &mut StockDisk, alloc: Global, room: &mut [u8], len: &mut u
 /// Copies bytes to the front of the room.
 fn put(bytes: &[u8], room: &mut [u8])
     requires fits { length bytes.now ≤ length room.old }
-    ensures { take (length bytes.now) room.new ≡ bytes.now }
+    ensures put { take (length bytes.now) room.new ≡ bytes.now }
+    ensures rest { drop (length bytes.now) room.new ≡ drop (length bytes.now) room.old }
 {
     room[..bytes.len()].copy_from_slice(bytes);
 }
@@ -132,6 +134,7 @@ fn put(bytes: &[u8], room: &mut [u8])
 pub fn sector(disk: &StockDisk, lba: u32, room: &mut [u8]) -> Status
     ensures rule { SectorRule disk.now lba (length room.old) result (take 512 room.new) }
     ensures kept { result ≢ Status.Done → room.new ≡ room.old }
+    ensures rest { drop 512 room.new ≡ drop 512 room.old }
 {
     let Some(bytes) = disk.sector(lba) else {
         return Status::NoSector;

@@ -1,6 +1,6 @@
 //! A controller as the library for C keeps it.
 
-ghost use Rattle.std.specs.Prelude.{◌≡◌, ◌≢◌, ◌≤◌, ◌<◌, length, take};
+ghost use Rattle.std.specs.Prelude.{◌≡◌, ◌≢◌, ◌≤◌, ◌<◌, drop, length, take};
 ghost use Rattle.gefsunk.specs.Hbas.{DataRule, HbaRead, HbaTake, HbaWrite, LineRule, NextOut, Shows, link_of, number_of, place_of};
 
 use crate::guest::GuestBlock;
@@ -176,6 +176,7 @@ pub fn next_out(
     ensures within { result ≡ Status.Done → len.new ≤ length room.old }
     ensures kept { result ≢ Status.Done → (room.new ≡ room.old) × (len.new ≡ len.old) }
     ensures silent { result ≢ Status.Done → result ≢ Status.Nothing → message.new ≡ message.old }
+    ensures rest { drop len.new room.new ≡ drop len.new room.old }
 {
     if room.len() < Frame::LONGEST {
         return Status::TooShort;

@@ -2,7 +2,7 @@
 //! and returns the number of a [`Status`].
 #![tactic(auto)]
 
-ghost use Rattle.std.specs.Prelude.{◌≡◌, ◌≢◌, ◌≤◌, length, take, true};
+ghost use Rattle.std.specs.Prelude.{◌≡◌, ◌≢◌, ◌≤◌, drop, length, take, true};
 ghost use Rattle.gefsunk.specs.Disks.{DiskFromHost, DiskPlug, DiskToHost, SectorRule};
 ghost use Rattle.gefsunk.specs.Exports.{AtDisk, AtHba, AtPm, FreedDisk, FreedHba, FreedPm, MadeDisk, MadeHba, MadeOpenPm, MadePm};
 ghost use Rattle.gefsunk.specs.Hbas.{DataRule, HbaRead, HbaTake, HbaWrite, LineRule, NextOut, block};
@@ -34,6 +34,7 @@ use std::alloc::Global;
 pub extern "C" fn gefsunk_fis_text(fis: &[u8], room: &mut [u8], len: &mut usize) -> u32
     ensures rule { TextRule fis.now (status_of result) (length room.old) len.old len.new }
     ensures kept { status_of result ≢ status.Done → room.new ≡ room.old }
+    ensures rest { drop len.new room.new ≡ drop len.new room.old }
 {
     text::fis_text(fis, room, len).code()
 }
@@ -191,6 +192,7 @@ pub extern "C" fn gefsunk_pm_to_host(
     ensures within { status_of result ≡ status.Done → len.new ≤ length room.old }
     ensures kept { status_of result ≢ status.Done
         → (room.new ≡ room.old) × (len.new ≡ len.old) × (port.new ≡ port.old) }
+    ensures rest { drop len.new room.new ≡ drop len.new room.old }
 {
     let Some(mut kept) = handle.take(alloc) else {
         return Status::Closed.code();
@@ -216,6 +218,7 @@ pub extern "C" fn gefsunk_pm_to_device(
         (λ old new. ToDevice old port (length room.old) (status_of result) (take len.new room.new) new) }
     ensures within { status_of result ≡ status.Done → len.new ≤ length room.old }
     ensures kept { status_of result ≢ status.Done → (room.new ≡ room.old) × (len.new ≡ len.old) }
+    ensures rest { drop len.new room.new ≡ drop len.new room.old }
 {
     let Some(mut kept) = handle.take(alloc) else {
         return Status::Closed.code();
@@ -367,6 +370,7 @@ pub extern "C" fn gefsunk_disk_to_host(
         (λ old new. DiskToHost old (length room.old) (status_of result) (take len.new room.new) new) }
     ensures within { status_of result ≡ status.Done → len.new ≤ length room.old }
     ensures kept { status_of result ≢ status.Done → (room.new ≡ room.old) × (len.new ≡ len.old) }
+    ensures rest { drop len.new room.new ≡ drop len.new room.old }
 {
     let Some(mut kept) = handle.take(alloc) else {
         return Status::Closed.code();
@@ -391,6 +395,7 @@ pub extern "C" fn gefsunk_disk_sector(
         (λ old new. SectorRule old lba (length room.old) (status_of result) (take 512 room.new) × (new ≡ old)) }
     ensures known { is_code result ≡ true }
     ensures kept { status_of result ≢ status.Done → room.new ≡ room.old }
+    ensures rest { drop 512 room.new ≡ drop 512 room.old }
 {
     let Some(kept) = handle.take(alloc) else {
         return Status::Closed.code();
@@ -578,6 +583,7 @@ pub extern "C" fn gefsunk_hba_next_out(
     ensures kept { status_of result ≢ status.Done → (room.new ≡ room.old) × (len.new ≡ len.old) }
     ensures silent { status_of result ≢ status.Done → status_of result ≢ status.Nothing
         → message.new ≡ message.old }
+    ensures rest { drop len.new room.new ≡ drop len.new room.old }
 {
     let Some(mut kept) = handle.take(alloc) else {
         return Status::Closed.code();

@@ -1,6 +1,6 @@
 //! A port multiplier as the library for C keeps it: it counts the connections, which C does not see.
 
-ghost use Rattle.std.specs.Prelude.{◌≡◌, ◌≢◌, ◌↔◌, ◌≤◌, IsTrue, length, take};
+ghost use Rattle.std.specs.Prelude.{◌≡◌, ◌≢◌, ◌↔◌, ◌≤◌, IsTrue, drop, length, take};
 ghost use Rattle.gefsunk.specs.Pms.{FromDevice, FromHost, Plug, ReadRule, ToDevice, ToHost, Unplug, has_port, no_removals, opening, opening_with_port_0, refused};
 
 use crate::status::Status;
@@ -177,6 +177,7 @@ impl Pm {
         ensures within { result ≡ Status.Done → len.new ≤ length room.old }
         ensures kept { result ≢ Status.Done
             → (room.new ≡ room.old) × (len.new ≡ len.old) × (port.new ≡ port.old) }
+        ensures rest { drop len.new room.new ≡ drop len.new room.old }
     {
         if room.len() < Frame::LONGEST {
             return Status::TooShort;
@@ -198,6 +199,7 @@ impl Pm {
         ensures rule { ToDevice self.old port (length room.old) result (take len.new room.new) self.new }
         ensures within { result ≡ Status.Done → len.new ≤ length room.old }
         ensures kept { result ≢ Status.Done → (room.new ≡ room.old) × (len.new ≡ len.old) }
+        ensures rest { drop len.new room.new ≡ drop len.new room.old }
     {
         if !self.has_port(port) {
             return Status::NoPort;
@@ -237,6 +239,7 @@ pub fn copied(frame: &Frame, room: &mut [u8]) -> usize
     ensures copied { take result room.new ≡ frame.now.bytes }
     ensures within { result ≤ length room.old }
     ensures room { length room.new ≡ length room.old }
+    ensures rest { drop result room.new ≡ drop result room.old }
 {
     let bytes = frame.bytes();
     room[..bytes.len()].copy_from_slice(bytes);

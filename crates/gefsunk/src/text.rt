@@ -1,6 +1,6 @@
 //! A FIS as text, without a handle.
 
-ghost use Rattle.std.specs.Prelude.{◌≡◌, ◌≢◌, ◌≤◌, IsTrue, false, length, take};
+ghost use Rattle.std.specs.Prelude.{◌≡◌, ◌≢◌, ◌≤◌, IsTrue, false, drop, length, take};
 ghost use Rattle.gefsunk.specs.Texts.{TextRule};
 
 use crate::status::Status;
@@ -18,6 +18,7 @@ fn copied(text: &[u8], room: &mut [u8]) -> bool
     ensures fits { IsTrue result → length text.now ≤ length room.old }
     ensures put { IsTrue result → take (length text.now) room.new ≡ text.now }
     ensures kept { result ≡ false → room.new ≡ room.old }
+    ensures rest { drop (length text.now) room.new ≡ drop (length text.now) room.old }
 {
     if text.len() > room.len() {
         return false;
@@ -31,6 +32,7 @@ fn copied(text: &[u8], room: &mut [u8]) -> bool
 pub fn fis_text(fis: &[u8], room: &mut [u8], len: &mut usize) -> Status
     ensures rule { TextRule fis.now result (length room.old) len.old len.new }
     ensures kept { result ≢ Status.Done → room.new ≡ room.old }
+    ensures rest { drop len.new room.new ≡ drop len.new room.old }
 {
     if !is_frame_length(fis) {
         return Status::BadLength;

@@ -1,7 +1,7 @@
 -- A guest's command as it was read: AHCI 1.3.1, sections 4.2.2 (header) and 4.2.3 (command table), and of its
 -- FIS Serial ATA 3.x, 10.5.5. What lies in a guest's memory may change at any time, so it is known only by
 -- what a read may give (may_read).
-use Rattle.std.specs.Prelude.{◌≡◌, ℕ, ◌+◌, ◌^◌, ◌==◌, ◌<◌, ◌≤◌, Bool, true, false, List, length, Result, Ok}
+use Rattle.std.specs.Prelude.{◌≡◌, ℕ, ◌+◌, ◌*◌, ◌^◌, ◌==◌, ◌<◌, ◌≤◌, Bool, true, false, List, length, Result, Ok}
 use Rattle.fis_view.specs.Seen.{seen}
 use Rattle.fis_view.specs.declared.view.Fis.{Fis}
 use Rattle.fis_view.specs.declared.view.Fis.TheVariants as view
@@ -63,9 +63,10 @@ pub record IsHeadAt (may_read : ℕ → List ℕ → Type 0) (at : ℕ) (head : 
   pub room : head.header.table + 128 < 2 ^ 64
 
 -- The command whose header lies at an address: its entries, too, are what reads at their places may have given.
--- They go as far as the command's bytes, and have all of them.
+-- They go as far as the command's bytes, and have all of them. The whole table lies below the last address.
 pub record IsCommandAt (may_read : ℕ → List ℕ → Type 0) (at : ℕ) (command : GuestCommand) : Type 0 where
   pub head : IsHeadAt may_read at command.head
   pub entries : AreRead may_read (command.head.header.table + 128) command.table
   pub as_far : GoesAsFar command.head.header.entries command.head.len command.table
   pub enough : command.head.len ≤ total_of command.table
+  pub below : command.head.header.table + 128 + 16 * command.head.header.entries < 2 ^ 64

@@ -1,6 +1,6 @@
 //! A guest's command.
 
-ghost use Rattle.std.specs.Prelude.{◌≡◌, ◌+◌, ◌*◌, ◌<◌, ◌≤◌, IfErr, IfOk, OnErr};
+ghost use Rattle.std.specs.Prelude.{◌≡◌, ◌+◌, ◌*◌, ◌^◌, ◌<◌, ◌≤◌, IfErr, IfOk, OnErr, OnOk};
 ghost use Rattle.guest_bytes.specs.Entries.{AreRead, GoesAsFar};
 ghost use Rattle.guest_bytes.specs.Guest.{total_of};
 ghost use Rattle.guest_commands.specs.Commands.{IsCommandAt, IsFisAt, IsHeadAt};
@@ -109,6 +109,7 @@ fn read_table<G: Guest>(
     ensures entries { IfOk result (λ table. AreRead (G.may_read guest.now) at table) }
     ensures as_far { IfOk result (λ table. GoesAsFar count len table) }
     ensures enough { IfOk result (λ table. len ≤ total_of table) }
+    ensures below { OnOk result (at + 16 * count < 2 ^ 64) }
     ensures err { IfErr result
         (λ error. TableRefused (G.may_read guest.now) (G.may_miss guest.now) at count len error) }
 {

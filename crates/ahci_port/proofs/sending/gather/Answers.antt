@@ -13,7 +13,7 @@ returns-clause-ok g c = record {
   before = c.args.payload.now;
   long = c.loop-step.invariant.long;
   moves = c.moves-step-items.result;
-  delivers = c.moves-step-items.ensures.delivers;
+  carries = record { delivers = c.moves-step-items.ensures.delivers; are = c.moves-step-items.ensures.are };
   fetched = subst (λ (l : List Move). AreFetched (g.G.Guest.may_read c.args.guest.now) l c.args.payload.now c.loop-step.payload) c.into_iter-step-iterator.ensures.into_iter_gives
       (all_fetched _ _ _ _ _ c.in-None.ensures.steps.0 c.loop-step.invariant);
 }
@@ -22,5 +22,5 @@ pub returns-in_err-fetch-clause-err : goal.returns-in_err-fetch-clause-err
 returns-in_err-fetch-clause-err g c =
     let missed : MayBeMissed (g.G.Guest.may_miss c.args.guest.now) c.args.table.now c.args.offset (length c.args.payload.now) =
     missed_next (g.G.Guest.may_read c.args.guest.now) (g.G.Guest.may_miss c.args.guest.now) _ _ _ _ _ _ _ _ _ c.in-Some.ensures.steps c.into_iter-step-iterator.ensures.into_iter_gives
-    c.loop-step.invariant c.moves-step-items.ensures.delivers c.in_err-fetch.ensures.err in
+    c.loop-step.invariant (record { delivers = c.moves-step-items.ensures.delivers; are = c.moves-step-items.ensures.are }) c.in_err-fetch.ensures.err in
     on_err c.from_residual.result missed
