@@ -86,7 +86,7 @@ const STATUS_IS_4: &[u8] = &[
 /// Port 0 is open from the start: the signature of its device goes up, and a frame with PM Port 0 goes down, though
 /// nobody wrote a register. The other ports are closed.
 static PORT_0: [Step; 8] = [
-    OpensPort0(Some(1)),
+    OpensPort0(true),
     Comes(1, 1),
     SendsUp(0, true),
     SendsUp(1, true),
@@ -97,7 +97,7 @@ static PORT_0: [Step; 8] = [
 ];
 
 /// Where no device was there, port 0 drops.
-static PORT_0_EMPTY: [Step; 2] = [OpensPort0(None), Passes(READ_DOWN, Passed::Dropped)];
+static PORT_0_EMPTY: [Step; 2] = [OpensPort0(false), Passes(READ_DOWN, Passed::Dropped)];
 
 #[test]
 fn port_0_is_open_from_the_start(rt: HostRuntime) {

@@ -1,6 +1,6 @@
 //! What a run is given.
 
-ghost use Rattle.std.specs.Prelude.{◌≡◌, true, map, nat_lt, length, IfOk};
+ghost use Rattle.std.specs.Prelude.{◌≡◌, ◌==◌, ◌&&◌, true, map, nat_le, nat_lt, length, IfOk};
 ghost use Rattle.std.specs.List.{list_all};
 ghost use Rattle.host_memory.specs.Memory.{is_memory_size};
 ghost use Rattle.pm_threads.specs.Setups.{are_numbers, is_fitting, lies_in, memory_of};
@@ -41,18 +41,25 @@ fn lies_in_client(at: u32, count: usize, memory: u32) -> bool
     at >= CLIENT_START && at <= u64::from(memory) && count as u64 <= u64::from(memory) - at
 }
 
+/// Whether there may be this many ports, with a unit for each.
+fn ports_fit(ports: usize, units: usize) -> bool
+    ensures { result ≡ (nat_le 1 ports && nat_le ports 15 && (units == ports)) }
+{
+    ports >= 1 && ports <= 15 && units == ports
+}
+
+/// Whether a memory may have this many bytes.
+fn memory_fits(memory: u32) -> bool
+    ensures { result ≡ is_memory_size memory }
+{
+    memory >= 0x20_0000 && memory <= 0x100_0000 && memory % 2 == 0
+}
+
 /// Whether there may be this many ports, units, turns and bytes of memory.
 fn numbers_fit(ports: usize, units: usize, turns: u64, memory: u32) -> bool
     ensures { result ≡ are_numbers ports units turns memory }
 {
-    ports >= 1
-        && ports <= 15
-        && units == ports
-        && turns >= 1
-        && turns <= MAX_TURNS
-        && memory >= 0x20_0000
-        && memory <= 0x100_0000
-        && memory % 2 == 0
+    ports_fit(ports, units) && turns >= 1 && turns <= MAX_TURNS && memory_fits(memory)
 }
 
 /// Whether all puts lie in the client area.

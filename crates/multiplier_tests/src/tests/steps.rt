@@ -18,8 +18,8 @@ use std::process::Abort;
 pub(super) enum Step {
     /// Each of the first so many ports is opened to a device that comes under connection 1.
     Opens(u8),
-    /// A new multiplier, of which port 0 is open from the start to a device of this connection, if one is there.
-    OpensPort0(Option<u32>),
+    /// A new multiplier, of which port 0 is open from the start, and whether a device is there, under connection 1.
+    OpensPort0(bool),
     /// The control port writes a register of a port: the port, the register and the value.
     Writes(u8, u8, u32),
     /// A device comes to a port under this connection.
@@ -175,8 +175,9 @@ impl Rig {
         true
     }
 
-    fn opens_port_0(&mut self, conn: Option<u32>) -> bool {
-        self.pm = Multiplier::with_port_0_open(4, conn);
+    fn opens_port_0(&mut self, is_there: bool) -> bool {
+        let device = if is_there { Some(1) } else { None };
+        self.pm = Multiplier::with_port_0_open(4, device);
         true
     }
 
@@ -220,7 +221,7 @@ impl Rig {
     fn is_done(&mut self, step: Step) -> bool {
         match step {
             Step::Opens(ports) => self.opens(ports),
-            Step::OpensPort0(conn) => self.opens_port_0(conn),
+            Step::OpensPort0(is_there) => self.opens_port_0(is_there),
             Step::Writes(n, register, value) => self.writes(n, register, value),
             Step::Comes(n, conn) => comes(&mut self.pm, n, conn),
             Step::Goes(n, conn) => goes(&mut self.pm, n, conn) == Some(true),
