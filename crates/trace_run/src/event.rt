@@ -297,17 +297,25 @@ fn write_act<W: fmt::Write>(event: &Event<'_>, f: &mut fmt::Formatter<W>) -> fmt
     match event.act {
         Act::Came(n) | Act::Gone(n) => write!(f, "disk {n}"),
         Act::Records(n) => write!(f, "pm records at port {n}"),
+        Act::HostSends => write_down("down host -> pm", event.port, f),
+        Act::PmTakesDown => write_down("down pm takes", event.port, f),
+        Act::PmSendsDown(n) => write!(f, "down pm port {n} -> disk {n}"),
+        Act::DiskTakes(n) => write!(f, "down disk {n} takes"),
+        Act::Drives => write_down("driver", event.port, f),
+        upwards => write_up(upwards, f),
+    }
+}
+
+/// Writes who moved a FIS on its way up.
+fn write_up<W: fmt::Write>(act: Act, f: &mut fmt::Formatter<W>) -> fmt::Result {
+    match act {
         Act::DiskSends(n) => write!(f, "up disk {n} -> pm"),
         Act::PmTakesUp(n) => write!(f, "up pm takes at port {n}"),
         Act::PmSendsUp(15) => f.write_str("up pm control port -> host"),
         Act::PmSendsUp(n) => write!(f, "up pm port {n} -> host"),
         Act::HostTakes(15) => f.write_str("up host takes from pm control port"),
         Act::HostTakes(n) => write!(f, "up host takes from port {n}"),
-        Act::HostSends => write_down("down host -> pm", event.port, f),
-        Act::PmTakesDown => write_down("down pm takes", event.port, f),
-        Act::PmSendsDown(n) => write!(f, "down pm port {n} -> disk {n}"),
-        Act::DiskTakes(n) => write!(f, "down disk {n} takes"),
-        Act::Drives => write_down("driver", event.port, f),
+        _ => Ok(()),
     }
 }
 

@@ -88,6 +88,18 @@ impl Said {
             Said::Script(frames) => Ok(Unit::Scripted(Scripted::new(frames))),
         }
     }
+
+    /// It sends one more frame.
+    fn add(&mut self, alloc: Global, frame: Bytes) -> Result<(), AllocError> {
+        if let Said::Script(frames) = self {
+            frames.push(frame)?;
+            return Ok(());
+        }
+        let mut frames = Vec::new(alloc);
+        frames.push(frame)?;
+        *self = Said::Script(frames);
+        Ok(())
+    }
 }
 
 /// A world that is not built yet.
@@ -145,14 +157,7 @@ impl Opening {
         match setting {
             Setting::Ports(sizes) => self.sizes = sizes,
             Setting::Disk(port, shape) => *self.device(port)? = Said::Disk(shape),
-            Setting::Script(port, frame) => match self.device(port)? {
-                Said::Script(frames) => frames.push(frame)?,
-                said => {
-                    let mut frames = Vec::new(alloc);
-                    frames.push(frame)?;
-                    *said = Said::Script(frames);
-                }
-            },
+            Setting::Script(port, frame) => self.device(port)?.add(alloc, frame)?,
         }
         Ok(())
     }

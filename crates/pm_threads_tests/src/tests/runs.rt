@@ -3,7 +3,8 @@
 use super::setups::{planned, ran, setup};
 use disk_thread::{Gate, GateShut};
 use hba_driver::{Outcome, Work};
-use pm_threads::{Links, RunError, Setup, Summary};
+use host_thread::Planned;
+use pm_threads::{Links, Setup, Summary};
 use std::alloc::Global;
 use std::sync::Wait;
 use std::sync::atomic::{AtomicU64, Ordering};
@@ -16,21 +17,41 @@ const FROM: u32 = 0x10_2000;
 
 const BACK: u32 = 0x10_4000;
 
-/// Device 0 writes a sector and then reads it back. Each other device reads one.
-pub fn reading(alloc: Global, count: u8) -> Result<Setup, Fail> {
-    let mut given = setup(alloc, count)?;
-    given.puts.push((FROM, vec![in alloc; 0x5A; 512]?))?;
-    given
-        .plan
-        .push(planned(alloc, 0, Work::Write, FROM, false)?)?;
+/// One more request for one sector.
+fn add(plan: &mut Vec<Planned>, one: Result<Planned, Fail>) -> Result<(), Fail> {
+    plan.push(one?)?;
+    Ok(())
+}
+
+/// The requests of this many devices.
+fn requests(alloc: Global, count: u8) -> Result<Vec<Planned>, Fail> {
+    let mut plan = Vec::new(alloc);
+    add(&mut plan, planned(alloc, 0, Work::Write, FROM, false))?;
     for dev in 1..count {
         let place = 0x10_6000 + 0x1000 * u32::from(dev);
-        given
-            .plan
-            .push(planned(alloc, dev, Work::Read, place, false)?)?;
+        add(&mut plan, planned(alloc, dev, Work::Read, place, false))?;
     }
-    given.plan.push(planned(alloc, 0, Work::Read, BACK, true)?)?;
-    Ok(given)
+    add(&mut plan, planned(alloc, 0, Work::Read, BACK, true))?;
+    Ok(plan)
+}
+
+/// The bytes of a sector at their place.
+fn puts(alloc: Global) -> Result<Vec<(u32, Vec<u8>)>, Fail> {
+    let mut puts = Vec::new(alloc);
+    puts.push((FROM, vec![in alloc; 0x5A; 512]?))?;
+    Ok(puts)
+}
+
+/// Device 0 writes a sector and then reads it back. Each other device reads one.
+pub fn reading(alloc: Global, count: u8) -> Result<Setup, Fail> {
+    let plan = requests(alloc, count)?;
+    let puts = puts(alloc)?;
+    let given = setup(alloc, count)?;
+    Ok(Setup {
+        puts,
+        plan,
+        ..given
+    })
 }
 
 /// Whether all are done, and the bytes have come back.
@@ -84,24 +105,29 @@ impl Gate for AllEnter {
     }
 }
 
-/// What comes of it on new links.
-fn on_links<R: Threads + Wait + Sync, G: Gate + Sync>(
+/// Whether all is done on these links, once all disks are there.
+fn enter<R: Threads + Wait + Sync>(
     rt: &R,
     alloc: Global,
-    count: u8,
-    gate: &G,
-) -> Result<Result<Summary, RunError>, Fail> {
+    links: &mut Links,
+    (count, setup): (u8, Setup),
+) -> Result<bool, Fail> {
+    let gate = AllEnter::new(alloc, count)?;
+    let summary = ran(rt, alloc, links, setup, &gate)?;
+    Ok(is_done(&summary))
+}
+
+/// The same on new links.
+fn all_enter<R: Threads + Wait + Sync>(rt: &R, alloc: Global, count: u8) -> Result<bool, Fail> {
+    let setup = reading(alloc, count)?;
     let mut links = Links::new(alloc, count, 4)?;
-    Ok(ran(rt, alloc, &mut links, reading(alloc, count)?, gate))
+    enter(rt, alloc, &mut links, (count, setup))
 }
 
 #[test]
 fn all_disks_enter(rt: HostRuntime) -> Result<(), Fail> {
-    let alloc = rt.alloc();
     for count in [2, 15] {
-        let gate = AllEnter::new(alloc, count)?;
-        let summary = on_links(&rt, alloc, count, &gate)??;
-        assert!(rt; is_done(&summary), "at {count}");
+        assert!(rt; all_enter(&rt, rt.alloc(), count)?, "at {count}");
     }
     Ok(())
 }

@@ -78,24 +78,25 @@ pub fn ran<R: Threads + Wait + Sync, G: Gate + Sync>(
     })
 }
 
-/// What comes of it on links of one port.
+/// What is refused to a run with no request. Such a run ends at once.
 fn refusal<R: Threads + Wait + Sync>(
     rt: &R,
     alloc: Global,
     links: &mut Links,
-    setup: Setup,
-) -> Option<RunError> {
-    ran(rt, alloc, links, setup, &Door { open: true }).err()
+) -> Result<Option<RunError>, Fail> {
+    let setup = setup(alloc, 1)?;
+    Ok(ran(rt, alloc, links, setup, &Door { open: true }).err())
 }
 
 #[test]
 fn a_second_run(rt: HostRuntime) -> Result<(), Fail> {
-    let alloc = rt.alloc();
-    let mut links = Links::new(alloc, 1, 4)?;
-    // With no request a run ends at once.
-    assert_eq!(rt; refusal(&rt, alloc, &mut links, setup(alloc, 1)?), None);
-    assert!(rt; links.are_given());
-    let again = refusal(&rt, alloc, &mut links, setup(alloc, 1)?);
-    assert_eq!(rt; again, Some(RunError::BadSetup));
+    let mut links = Links::new(rt.alloc(), 1, 4)?;
+    let first = refusal(&rt, rt.alloc(), &mut links)?;
+    let are_given = links.are_given();
+    let again = refusal(&rt, rt.alloc(), &mut links)?;
+    assert_eq!(rt;
+        (first, are_given, again),
+        (None, true, Some(RunError::BadSetup))
+    );
     Ok(())
 }

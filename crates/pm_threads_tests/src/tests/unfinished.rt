@@ -11,6 +11,7 @@ use pm_threads::{
 use std::alloc::Global;
 use std::sync::Wait;
 use std::test::Fail;
+use std::thread::Threads;
 
 /// A disk at port 0, and at port 1 a script that sends nothing, so a read of device 1 is never taken.
 fn stuck(alloc: Global) -> Result<Setup, Fail> {
@@ -41,6 +42,20 @@ fn partial_by<R: Wait>(
     Ok(close_unfinished(rt, alloc, left_by(failure, error)?)?)
 }
 
+/// The summary of what is left of a run on these links, whose disks are at this door.
+fn partial<R: Threads + Wait + Sync>(
+    rt: &R,
+    alloc: Global,
+    links: &mut Links,
+    setup: Setup,
+    (door, error): (Door, RunError),
+) -> Result<PartialSummary, Fail> {
+    match run_threads(rt, alloc, links, setup, &door) {
+        Ok(_) => Err("it finished".into()),
+        Err(failure) => partial_by(rt, alloc, failure, error),
+    }
+}
+
 /// Whether sector 0 of the first device holds what was written.
 fn is_written(units: &[Unit]) -> bool {
     match units.first() {
@@ -49,35 +64,38 @@ fn is_written(units: &[Unit]) -> bool {
     }
 }
 
-#[test]
-fn open_requests_are_told(rt: HostRuntime) -> Result<(), Fail> {
-    let alloc = rt.alloc();
-    let mut links = Links::new(alloc, 2, 4)?;
-    let door = Door { open: true };
-    let Err(failure) = run_threads(&rt, alloc, &mut links, stuck(alloc)?, &door) else {
-        return Err("it finished".into());
-    };
-    let partial = partial_by(&rt, alloc, failure, RunError::TurnsSpent)?;
-    // In the order of the plan: the write of device 0, the read of device 1, and behind a barrier the read of
-    // device 0.
+/// In the order of the plan: the write of device 0, the read of device 1, and behind a barrier the read of
+/// device 0.
+fn are_in_order(partial: &PartialSummary) -> bool {
     let done = State::Ended(Ended::Polled(Outcome::Done));
     let want = [done, State::Waits, State::Waits];
-    assert_eq!(rt; partial.states.as_slice(), want.as_slice());
-    assert!(rt; partial.plan.len() == 3 && partial.plan[2].wait);
+    partial.states.as_slice() == want.as_slice()
+        && partial.plan.len() == 3
+        && partial.plan.get(2).is_some_and(|third| third.wait)
+}
+
+fn are_fewer(partial: &PartialSummary) -> bool {
+    partial.counts.iter().all(|row| row.taken <= row.sent)
+}
+
+#[test]
+fn open_requests_are_told(rt: HostRuntime) -> Result<(), Fail> {
+    let setup = stuck(rt.alloc())?;
+    let mut links = Links::new(rt.alloc(), 2, 4)?;
+    let want = (Door { open: true }, RunError::TurnsSpent);
+    let partial = partial(&rt, rt.alloc(), &mut links, setup, want)?;
+    assert!(rt; are_in_order(&partial));
     assert!(rt; partial.units.len() == 2 && is_written(&partial.units));
-    assert!(rt; partial.counts.iter().all(|row| row.taken <= row.sent));
+    assert!(rt; are_fewer(&partial));
     Ok(())
 }
 
 #[test]
 fn a_shut_gate_leaves_all_open(rt: HostRuntime) -> Result<(), Fail> {
-    let alloc = rt.alloc();
-    let mut links = Links::new(alloc, 2, 4)?;
-    let door = Door { open: false };
-    let Err(failure) = run_threads(&rt, alloc, &mut links, reading(alloc, 2)?, &door) else {
-        return Err("it finished".into());
-    };
-    let partial = partial_by(&rt, alloc, failure, RunError::GateShut)?;
+    let setup = reading(rt.alloc(), 2)?;
+    let mut links = Links::new(rt.alloc(), 2, 4)?;
+    let want = (Door { open: false }, RunError::GateShut);
+    let partial = partial(&rt, rt.alloc(), &mut links, setup, want)?;
     assert!(rt; partial.states.iter().all(|state| state.is_open()));
     assert!(rt; partial.units.len() == 2 && !is_written(&partial.units));
     // The seats are given, whatever came of it.
@@ -85,14 +103,23 @@ fn a_shut_gate_leaves_all_open(rt: HostRuntime) -> Result<(), Fail> {
     Ok(())
 }
 
+/// Whether a run with a unit too few is a bad setup, of which nothing is left.
+fn leaves_nothing<R: Threads + Wait + Sync>(
+    rt: &R,
+    alloc: Global,
+    links: &mut Links,
+    setup: Setup,
+) -> bool {
+    match run_threads(rt, alloc, links, setup, &Door { open: true }) {
+        Ok(_) => false,
+        Err(failure) => failure.error == RunError::BadSetup && failure.left.is_none(),
+    }
+}
+
 #[test]
 fn a_bad_setup_leaves_nothing(rt: HostRuntime) -> Result<(), Fail> {
-    let alloc = rt.alloc();
-    let mut links = Links::new(alloc, 2, 4)?;
-    let door = Door { open: true };
-    let Err(failure) = run_threads(&rt, alloc, &mut links, setup(alloc, 1)?, &door) else {
-        return Err("it finished".into());
-    };
-    assert!(rt; failure.error == RunError::BadSetup && failure.left.is_none());
+    let setup = setup(rt.alloc(), 1)?;
+    let mut links = Links::new(rt.alloc(), 2, 4)?;
+    assert!(rt; leaves_nothing(&rt, rt.alloc(), &mut links, setup));
     Ok(())
 }

@@ -9,6 +9,7 @@ use super::steps::all_held;
 use hba_driver::Work;
 use pm_world::{Answer, Step, StepError};
 use std::alloc::{AllocError, Global};
+use std::marker::Model;
 use std::test::Fail;
 
 /// Where the sector that is read goes.
@@ -112,38 +113,65 @@ fn ends_well(all: &[Told]) -> bool {
     sent.count() == 7 && all.last() == Some(&FIRST_DONE)
 }
 
+/// A world to which steps were given one by one, and what they told.
+#[derive(Drop)]
+struct Played {
+    steps: Vec<Step>,
+    all: Vec<Told>,
+    rig: Rig,
+}
+
+impl Model for Played {
+    ghost use Rattle.std.specs.Prelude.{ℕ};
+
+    ghost Value = { ℕ };
+
+    ghost view = { λ _. 0 };
+}
+
+impl Played {
+    /// A world of one disk, with all steps done.
+    fn new(alloc: Global) -> Result<Played, Fail> {
+        let steps = whole(alloc)?;
+        let mut rig = Rig::new(alloc, 1, 2)?;
+        let all = tell_all(&mut rig, alloc, &steps)?;
+        Ok(Played { steps, all, rig })
+    }
+
+    /// Whether the sector was read.
+    fn ends_well(&self) -> bool {
+        ends_well(&self.all) && self.rig.holds_sector(PLACE, 5)
+    }
+
+    /// Whether a run of the steps in another world tells the same, and reads the sector.
+    fn runs(&self, alloc: Global) -> Result<bool, Fail> {
+        let mut rig = Rig::new(alloc, 1, 2)?;
+        Ok(runs(&mut rig, &self.steps, &self.all) && rig.holds_sector(PLACE, 5))
+    }
+
+    /// The same, with answers that are appended.
+    fn runs_into(&self, alloc: Global) -> Result<bool, Fail> {
+        let mut rig = Rig::new(alloc, 1, 2)?;
+        let mut answers = Vec::new(alloc);
+        let is_same = runs_into(&mut rig, &self.steps, &self.all, &mut answers);
+        Ok(is_same && rig.holds_sector(PLACE, 5))
+    }
+}
+
 /// Steps in a world of one disk tell the same as a run of them in another.
 #[test]
 fn refused_memory_changes_nothing(rt: HostRuntime) -> Result<(), Fail> {
-    let alloc = rt.alloc();
-    let steps = whole(alloc)?;
-    let mut by_steps = Rig::new(alloc, 1, 2)?;
-    let all = tell_all(&mut by_steps, alloc, &steps)?;
-    let mut by_run = Rig::new(alloc, 1, 2)?;
-    let held = [
-        ends_well(&all),
-        by_steps.holds_sector(PLACE, 5),
-        runs(&mut by_run, &steps, &all),
-        by_run.holds_sector(PLACE, 5),
-    ];
-    all_held(&rt, &held);
+    let played = Played::new(rt.alloc())?;
+    let is_same = played.runs(rt.alloc())?;
+    all_held(&rt, &[played.ends_well(), is_same]);
     Ok(())
 }
 
 /// What was answered before memory was refused is not lost.
 #[test]
 fn answers_before_a_refusal_are_kept(rt: HostRuntime) -> Result<(), Fail> {
-    let alloc = rt.alloc();
-    let steps = whole(alloc)?;
-    let mut by_steps = Rig::new(alloc, 1, 2)?;
-    let all = tell_all(&mut by_steps, alloc, &steps)?;
-    let mut by_run = Rig::new(alloc, 1, 2)?;
-    let mut answers = Vec::new(alloc);
-    let held = [
-        ends_well(&all),
-        runs_into(&mut by_run, &steps, &all, &mut answers),
-        by_run.holds_sector(PLACE, 5),
-    ];
-    all_held(&rt, &held);
+    let played = Played::new(rt.alloc())?;
+    let is_same = played.runs_into(rt.alloc())?;
+    all_held(&rt, &[played.ends_well(), is_same]);
     Ok(())
 }

@@ -39,10 +39,10 @@ fn are_two(answers: &[Answer]) -> bool {
 }
 
 /// Whether this is what a run of the steps answers.
-fn comes_and_sends(rig: &mut Rig, steps: &[Step]) -> Result<bool, StepError> {
+fn comes_and_sends(rig: &mut Rig, steps: &[Step]) -> bool {
     match rig.runs(steps) {
-        Ok(answers) => Ok(are_two(&answers)),
-        Err((_, e)) => Err(e),
+        Ok(answers) => are_two(&answers),
+        Err(_) => false,
     }
 }
 
@@ -50,8 +50,7 @@ fn comes_and_sends(rig: &mut Rig, steps: &[Step]) -> Result<bool, StepError> {
 fn a_disk_comes_and_sends(rt: HostRuntime) -> Result<(), Fail> {
     let steps = steps(rt.alloc(), &[Act::Came(0), Act::DiskSend(0)])?;
     let mut rig = Rig::new(rt.alloc(), 1, 64)?;
-    let held = comes_and_sends(&mut rig, &steps)?;
-    all_held(&rt, &[held]);
+    all_held(&rt, &[comes_and_sends(&mut rig, &steps)]);
     Ok(())
 }
 

@@ -1,7 +1,11 @@
 use std::alloc::{AllocError, Global};
 use std::io;
-use std::io::{Read, Write};
+use std::io::{Eprint, Read, Write};
+use std::process::Abort;
+use std::rt::Files;
+use std::sync::Wait;
 use std::test::Fail;
+use std::thread::Threads;
 use trace::serve;
 
 const FRAME: &str = "27 83 60 01 00 01 00 40 00 00 00 00 28 00 00 00 00 00 00 00\n";
@@ -15,47 +19,95 @@ fn frames(alloc: Global) -> Result<Vec<u8>, AllocError> {
     Ok(input)
 }
 
+/// How the program ends on a writer that has so many writes left, and that writer.
+fn written<R: Abort + AllocGlobal + Threads + Wait + Sync + Files + Eprint>(
+    rt: &R,
+    words: &[&str],
+    input: &[u8],
+    left: usize,
+) -> (u8, Full) {
+    let mut full = Full::after(rt.alloc(), left);
+    let ended = serve(rt, rt.alloc(), words, input, &mut full);
+    (ended, full)
+}
+
+/// Whether it ends by the writer, which has a beginning of the whole.
+fn is_cut<R: Abort + AllocGlobal + Threads + Wait + Sync + Files + Eprint>(
+    rt: &R,
+    whole: &[u8],
+    input: &[u8],
+    left: usize,
+) -> bool {
+    let (ended, full) = written(rt, &["decode"], input, left);
+    ended == 4 && full.refused == 1 && whole.starts_with(&full.bytes)
+}
+
+/// Whether it ends by a writer that takes nothing.
+fn fails_at_once<R: Abort + AllocGlobal + Threads + Wait + Sync + Files + Eprint>(
+    rt: &R,
+    words: &[&str],
+    input: &[u8],
+) -> bool {
+    let (ended, _) = written(rt, words, input, 0);
+    ended == 4
+}
+
+/// Whether it ends by the reader, and writes nothing.
+fn is_torn<R: Abort + AllocGlobal + Threads + Wait + Sync + Files + Eprint>(
+    rt: &R,
+    input: &[u8],
+) -> bool {
+    let mut written = Vec::new(rt.alloc());
+    let torn = Torn { bytes: input };
+    serve(rt, rt.alloc(), &["decode"], torn, &mut written) == 4 && written.is_empty()
+}
+
+/// Whether a writer that takes a byte at a time has the whole in the end.
+fn is_whole<R: Abort + AllocGlobal + Threads + Wait + Sync + Files + Eprint>(
+    rt: &R,
+    whole: &[u8],
+    input: &[u8],
+) -> bool {
+    let mut narrow = Narrow {
+        bytes: Vec::new(rt.alloc()),
+    };
+    let ended = serve(rt, rt.alloc(), &["decode"], input, &mut narrow);
+    ended == 0 && narrow.bytes.as_slice() == whole
+}
+
 #[test]
 fn reads_that_fail(rt: HostRuntime) -> Result<(), Fail> {
     let input = frames(rt.alloc())?;
-    let mut written = Vec::new(rt.alloc());
-    let torn = Torn { bytes: &input };
-    assert!(rt; serve(&rt, rt.alloc(), &["decode"], torn, &mut written) == 4);
-    assert!(rt; written.is_empty());
+    assert!(rt; is_torn(&rt, &input));
     Ok(())
 }
 
 #[test]
 fn writes_that_fail(rt: HostRuntime) -> Result<(), Fail> {
     let input = frames(rt.alloc())?;
-    let mut whole = Full::after(rt.alloc(), 1000);
-    assert!(rt; serve(&rt, rt.alloc(), &["decode"], input.as_slice(), &mut whole) == 0);
+    let (ended, whole) = written(&rt, &["decode"], &input, 1000);
     let writes = 1000usize.saturating_sub(whole.left);
-    assert!(rt; writes > 1);
+    assert!(rt; ended == 0 && writes > 1);
     for left in 0..writes {
-        let mut full = Full::after(rt.alloc(), left);
-        let ended = serve(&rt, rt.alloc(), &["decode"], input.as_slice(), &mut full);
-        assert!(rt; ended == 4, "after {left} writes");
-        assert!(rt; whole.bytes.starts_with(&full.bytes), "after {left} writes");
-        assert!(rt; full.refused == 1, "after {left} writes");
+        assert!(rt;
+            is_cut(&rt, &whole.bytes, &input, left),
+            "after {left} writes"
+        );
     }
-    let mut refused = Full::after(rt.alloc(), 0);
-    assert!(rt; serve(&rt, rt.alloc(), &["run"], b"came".as_slice(), &mut refused) == 4);
-    let mut refused = Full::after(rt.alloc(), 0);
-    assert!(rt; serve(&rt, rt.alloc(), &["fly"], b"".as_slice(), &mut refused) == 4);
     Ok(())
+}
+
+#[test]
+fn first_writes_that_fail(rt: HostRuntime) {
+    assert!(rt; fails_at_once(&rt, &["run"], b"came"));
+    assert!(rt; fails_at_once(&rt, &["fly"], b""));
 }
 
 #[test]
 fn writes_of_one_byte(rt: HostRuntime) -> Result<(), Fail> {
     let input = frames(rt.alloc())?;
-    let mut whole = Vec::new(rt.alloc());
-    assert!(rt; serve(&rt, rt.alloc(), &["decode"], input.as_slice(), &mut whole) == 0);
-    let mut narrow = Narrow {
-        bytes: Vec::new(rt.alloc()),
-    };
-    assert!(rt; serve(&rt, rt.alloc(), &["decode"], input.as_slice(), &mut narrow) == 0);
-    assert!(rt; narrow.bytes.as_slice() == whole.as_slice());
+    let (ended, whole) = written(&rt, &["decode"], &input, 1000);
+    assert!(rt; ended == 0 && is_whole(&rt, &whole.bytes, &input));
     Ok(())
 }
 
