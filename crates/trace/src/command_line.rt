@@ -10,7 +10,7 @@ use trace_run::{Turns, Watch};
 use trace_text::value_within;
 
 /// What the program is asked to do.
-#[derive(Clone, Copy, Debug, PartialEq, Eq)]
+#[derive(Clone, Copy)]
 pub enum Mode {
     /// Say what the program does.
     Help,
@@ -21,7 +21,7 @@ pub enum Mode {
 }
 
 /// What one thread is asked to do.
-#[derive(Clone, Copy, Debug, PartialEq, Eq)]
+#[derive(Clone, Copy)]
 pub enum Task {
     /// Print each frame of the input in words.
     Decode,
@@ -33,14 +33,14 @@ pub enum Task {
 
 /// What the words after the program's name ask for, and where the input comes from: a file, or
 /// standard input if no file is named.
-#[derive(Debug, Drop)]
+#[derive(Drop)]
 pub struct Call<'a> {
     pub mode: Mode,
     pub file: Option<&'a str>,
 }
 
 /// Why the words are refused.
-#[derive(Debug, Drop)]
+#[derive(Drop)]
 pub enum Misuse {
     /// A word is not known, is missing, or stands where it may not.
     Words(Error),

@@ -76,7 +76,7 @@ fn tell_of_input<E: Eprint>(errors: &E, failure: Failure, file: Option<&str>) {
 }
 
 /// A file that cannot be read.
-#[derive(Debug, Drop)]
+#[derive(Drop)]
 struct Unread<'a> {
     path: Shown<'a>,
 }

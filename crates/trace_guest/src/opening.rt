@@ -10,7 +10,7 @@ use stock_disk::StockDisk;
 use trace_text::Shape;
 
 /// How large a board is.
-#[derive(Clone, Copy, Debug, PartialEq, Eq)]
+#[derive(Clone, Copy)]
 pub struct Sizes {
     /// Fan-out ports, 1 to 15.
     pub ports: u8,

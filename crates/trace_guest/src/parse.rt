@@ -13,7 +13,7 @@ const MOST_ROUNDS: u64 = 1_000_000;
 const MOST_BYTES: u64 = 67_108_864;
 
 /// What a line asks of the board once it is built.
-#[derive(Debug, Drop)]
+#[derive(Drop)]
 pub enum Action {
     /// To plug in the disk of this port.
     Came(u8),

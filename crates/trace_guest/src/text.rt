@@ -7,7 +7,7 @@ use std::fmt;
 use trace_text::FisShort;
 
 /// What a line of a scenario prints.
-#[derive(Debug, Drop)]
+#[derive(Drop)]
 pub enum Reply {
     /// The board is built.
     Board(Sizes),
@@ -60,7 +60,7 @@ impl fmt::Display for Sizes {
 }
 
 /// A FIS that went over the link, in a few words.
-#[derive(Debug, Drop)]
+#[derive(Drop)]
 pub struct Moved<'a> {
     /// `up` or `down`.
     pub way: &'a str,

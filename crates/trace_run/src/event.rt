@@ -10,7 +10,7 @@ use std::fmt;
 use trace_text::{FisShort, bit_of, named_slots};
 
 /// Who did what in a step.
-#[derive(Clone, Copy, Debug, PartialEq, Eq)]
+#[derive(Clone, Copy)]
 pub enum Act {
     /// The device at this port was plugged in.
     Came(u8),
@@ -78,7 +78,7 @@ impl Act {
 }
 
 /// What came of a step.
-#[derive(Clone, Copy, Debug, PartialEq, Eq)]
+#[derive(Clone, Copy)]
 pub enum Upshot {
     /// Nothing more than what the act says.
     Plain,
@@ -154,7 +154,7 @@ fn port_fault(cause: PortCause) -> &'static str {
 }
 
 /// The connection of a FIS, and its number there. A FIS of the host has only a number.
-#[derive(Clone, Copy, Debug, PartialEq, Eq)]
+#[derive(Clone, Copy)]
 pub struct Mark {
     pub conn: Option<u32>,
     pub number: u32,
@@ -170,7 +170,7 @@ impl fmt::Display for Mark {
 }
 
 /// A step that moved something.
-#[derive(Debug, Drop)]
+#[derive(Drop)]
 pub struct Event<'a> {
     /// Its number among the steps that moved something, from 1.
     pub number: u64,
@@ -189,14 +189,14 @@ pub struct Event<'a> {
 }
 
 /// What the driver changed in the registers of the host port.
-#[derive(Clone, Copy, Debug, PartialEq, Eq)]
+#[derive(Clone, Copy)]
 pub struct Change {
     pub before: Registers,
     pub after: Registers,
 }
 
 /// What the registers of the host port that the driver writes show.
-#[derive(Clone, Copy, Debug, PartialEq, Eq)]
+#[derive(Clone, Copy, PartialEq)]
 pub struct Registers {
     pub clb: u32,
     pub clbu: u32,
@@ -265,7 +265,7 @@ impl Event<'_> {
 }
 
 /// A step in one line of text.
-#[derive(Debug, Drop)]
+#[derive(Drop)]
 pub struct EventText<'a, 'b> {
     pub event: &'b Event<'a>,
     pub tickets: &'b Tickets,

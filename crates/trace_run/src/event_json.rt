@@ -7,7 +7,7 @@ use std::fmt;
 use trace_text::FisShort;
 
 /// A step as an object of JSON, in one line. No string of it needs an escape.
-#[derive(Debug, Drop)]
+#[derive(Drop)]
 pub struct EventJson<'a, 'b> {
     pub event: &'b Event<'a>,
     pub tickets: &'b Tickets,

@@ -14,7 +14,7 @@ use std::alloc::{AllocError, Global};
 use trace_text::Shape;
 
 /// How large a world is.
-#[derive(Clone, Copy, Debug, PartialEq, Eq)]
+#[derive(Clone, Copy)]
 pub struct Sizes {
     /// Fan-out ports, 1 to 15.
     pub ports: u8,

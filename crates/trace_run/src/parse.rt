@@ -32,7 +32,7 @@ pub enum Setting {
 }
 
 /// What a line asks of the host, or asks to see, whether the actors go step by step or in threads.
-#[derive(Debug, Drop)]
+#[derive(Drop)]
 pub enum Common {
     /// To give the driver this request for the device at this port.
     Submit(u8, Request),
@@ -43,7 +43,7 @@ pub enum Common {
 }
 
 /// What a line asks to see.
-#[derive(Clone, Copy, Debug, PartialEq, Eq)]
+#[derive(Clone, Copy)]
 pub enum View {
     /// What each connection sent and what was taken of it.
     Counts,
@@ -52,7 +52,7 @@ pub enum View {
 }
 
 /// What a line asks of the world once it is built.
-#[derive(Debug, Drop)]
+#[derive(Drop)]
 pub enum Action {
     /// One step of one actor.
     Step(Step),
@@ -69,7 +69,7 @@ pub enum Action {
 }
 
 /// What a line asks of a run in threads.
-#[derive(Debug, Drop)]
+#[derive(Drop)]
 pub enum Entry {
     /// What a line may ask in either kind of run.
     Common(Common),
@@ -88,15 +88,11 @@ impl Setting {
         opening: &Opening,
     ) -> Result<Option<Setting>, Failure> {
         let setting = match name {
-            b"ports" if opening.is_begun() => {
-                return Err(words.refused(Refusal::Order, Wanted::PortsFirst));
-            }
-            b"ports" => Setting::Ports(sizes(words, opening.has_modes())?),
+            b"ports" => ports(words, opening)?,
             b"disk" => disk(words, opening)?,
             b"script" => script(alloc, words, opening)?,
             _ => return Ok(None),
         };
-        words.end()?;
         Ok(Some(setting))
     }
 }
@@ -198,7 +194,17 @@ impl Common {
     }
 }
 
-/// The words after `ports`.
+/// The words after `ports`, which comes first.
+fn ports(words: &mut Words<'_>, opening: &Opening) -> Result<Setting, Failure> {
+    if opening.is_begun() {
+        return Err(words.refused(Refusal::Order, Wanted::PortsFirst));
+    }
+    let sizes = sizes(words, opening.has_modes())?;
+    words.end()?;
+    Ok(Setting::Ports(sizes))
+}
+
+/// The sizes of a world.
 fn sizes(words: &mut Words<'_>, has_modes: bool) -> Result<Sizes, Failure> {
     let ports = words.number(Quantity::Ports, 1, 15)? as u8;
     words.keyword(Keyword::Capacity)?;
@@ -225,7 +231,9 @@ fn disk(words: &mut Words<'_>, opening: &Opening) -> Result<Setting, Failure> {
         return Err(words.refused(Refusal::Order, Wanted::FreePort));
     }
     has_port(words, opening, port)?;
-    Ok(Setting::Disk(port, Shape::read(words, port)?))
+    let shape = Shape::read(words, port)?;
+    words.end()?;
+    Ok(Setting::Disk(port, shape))
 }
 
 /// Checks that the world has this port.
@@ -245,7 +253,9 @@ fn script(alloc: Global, words: &mut Words<'_>, opening: &Opening) -> Result<Set
         return Err(words.refused(Refusal::Order, Wanted::FreePort));
     }
     has_port(words, opening, port)?;
-    Ok(Setting::Script(port, words.bytes(alloc)?))
+    let frame = words.bytes(alloc)?;
+    words.end()?;
+    Ok(Setting::Script(port, frame))
 }
 
 /// The words after `inject`. The step itself refuses bytes that are no frame.
@@ -306,22 +316,86 @@ fn register(words: &mut Words<'_>) -> Result<Register, Failure> {
     }
 }
 
+/// A step that a line names.
+#[derive(Clone, Copy)]
+enum Named {
+    PmPresence,
+    DiskTake,
+    DiskSend,
+    PmFromDevice,
+    PmDown,
+    PmFromHost,
+    PmUp,
+    HostTake,
+    Tick,
+    HostPush,
+}
+
+static STEPS: [(&[u8], Named); 10] = [
+    (b"pmpresence", Named::PmPresence),
+    (b"disktake", Named::DiskTake),
+    (b"disksend", Named::DiskSend),
+    (b"pmfromdevice", Named::PmFromDevice),
+    (b"pmdown", Named::PmDown),
+    (b"pmfromhost", Named::PmFromHost),
+    (b"pmup", Named::PmUp),
+    (b"hosttake", Named::HostTake),
+    (b"tick", Named::Tick),
+    (b"hostpush", Named::HostPush),
+];
+
+impl Named {
+    /// The step of this name.
+    fn of(name: &[u8]) -> Option<Named> {
+        for (known, named) in STEPS.iter() {
+            if *known == name {
+                return Some(*named);
+            }
+        }
+        None
+    }
+
+    /// Whether a port is named after it.
+    fn has_port(self) -> bool {
+        matches!(
+            self,
+            Named::PmPresence
+                | Named::DiskTake
+                | Named::DiskSend
+                | Named::PmFromDevice
+                | Named::PmDown
+        )
+    }
+
+    /// The step, at this port if it has one.
+    fn at(self, port: u8) -> Step {
+        match self {
+            Named::PmPresence => Step::PmPresence(port),
+            Named::DiskTake => Step::DiskTake(port),
+            Named::DiskSend => Step::DiskSend(port),
+            Named::PmFromDevice => Step::PmFromDevice(port),
+            Named::PmDown => Step::PmDown(port),
+            Named::PmFromHost => Step::PmFromHost,
+            Named::PmUp => Step::PmUp,
+            Named::HostTake => Step::HostTake,
+            Named::Tick => Step::Tick,
+            Named::HostPush => Step::HostPush,
+        }
+    }
+}
+
 /// The words after `step`.
 fn step(words: &mut Words<'_>) -> Result<Step, Failure> {
     let Some(name) = words.next_word() else {
         return Err(words.refused(Refusal::Number, Wanted::StepName));
     };
-    match name {
-        b"pmpresence" => Ok(Step::PmPresence(words.port(LAST_NAME)?)),
-        b"disktake" => Ok(Step::DiskTake(words.port(LAST_NAME)?)),
-        b"disksend" => Ok(Step::DiskSend(words.port(LAST_NAME)?)),
-        b"pmfromdevice" => Ok(Step::PmFromDevice(words.port(LAST_NAME)?)),
-        b"pmdown" => Ok(Step::PmDown(words.port(LAST_NAME)?)),
-        b"pmfromhost" => Ok(Step::PmFromHost),
-        b"pmup" => Ok(Step::PmUp),
-        b"hosttake" => Ok(Step::HostTake),
-        b"tick" => Ok(Step::Tick),
-        b"hostpush" => Ok(Step::HostPush),
-        _ => Err(words.refused(Refusal::Command, Wanted::StepName)),
-    }
+    let Some(named) = Named::of(name) else {
+        return Err(words.refused(Refusal::Command, Wanted::StepName));
+    };
+    let port = if named.has_port() {
+        words.port(LAST_NAME)?
+    } else {
+        0
+    };
+    Ok(named.at(port))
 }

@@ -13,7 +13,7 @@ use std::io::Write;
 use trace_text::{Failure, Printer};
 
 /// What a line of a scenario prints.
-#[derive(Debug, Drop)]
+#[derive(Drop)]
 pub enum Reply {
     /// The world is built.
     World(Sizes),
@@ -73,7 +73,7 @@ pub enum Reply {
 }
 
 /// A frame of a connection, its bytes as digits.
-#[derive(Debug, Drop)]
+#[derive(Drop)]
 pub struct FrameText {
     port: u8,
     conn: u32,

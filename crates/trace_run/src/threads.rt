@@ -19,7 +19,7 @@ use std::thread::Threads;
 use trace_text::{Failure, Printer};
 
 /// How a run in threads went if nothing failed.
-#[derive(Clone, Copy, Debug, PartialEq, Eq)]
+#[derive(Clone, Copy)]
 pub enum Ending {
     /// All requests have ended.
     Done,
@@ -40,7 +40,7 @@ impl Ending {
 }
 
 /// A gate that each FIS passes.
-#[derive(Clone, Copy, Debug)]
+#[derive(Clone, Copy)]
 struct Open;
 
 impl Gate for Open {

@@ -5,7 +5,7 @@ use std::fmt;
 use trace_text::bit_of;
 
 /// What a request asks of its device.
-#[derive(Clone, Copy, Debug, PartialEq, Eq)]
+#[derive(Clone, Copy)]
 pub struct Asked {
     pub device: u8,
     pub work: Work,
@@ -25,14 +25,14 @@ impl fmt::Display for Asked {
 }
 
 /// A request in its slot.
-#[derive(Clone, Copy, Debug, PartialEq, Eq)]
+#[derive(Clone, Copy)]
 struct Held {
     ticket: u32,
     asked: Asked,
 }
 
 /// The requests that are not polled yet, by their slots.
-#[derive(Clone, Copy, Debug, PartialEq, Eq)]
+#[derive(Clone, Copy)]
 pub struct Tickets {
     by_slot: [Option<Held>; 32],
 }
@@ -83,7 +83,7 @@ impl Tickets {
 }
 
 /// Slots as words, each with its ticket.
-#[derive(Debug, Drop)]
+#[derive(Drop)]
 pub struct SlotList<'a> {
     pub mask: u32,
     pub tickets: &'a Tickets,
@@ -111,7 +111,7 @@ impl fmt::Display for SlotList<'_> {
 
 /// The slots of a mask with commas between them, in brackets; or the tickets of those slots that have
 /// one.
-#[derive(Debug, Drop)]
+#[derive(Drop)]
 pub struct SlotArray<'a> {
     pub mask: u32,
     pub tickets: Option<&'a Tickets>,

@@ -5,7 +5,7 @@ ghost use Rattle.std.specs.Prelude.{◌≤◌};
 use pm_threads::MAX_TURNS;
 
 /// In how many turns in a row of a worker nothing may move.
-#[derive(Clone, Copy, Debug, PartialEq, Eq)]
+#[derive(Clone, Copy)]
 pub struct Turns {
     pub count: u64,
     pub ghost has_count: { (1 ≤ count) × (count ≤ 16777216) },

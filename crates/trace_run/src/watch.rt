@@ -1,7 +1,7 @@
 //! What is written of the steps of a run.
 
 /// What is written of the steps of a run.
-#[derive(Clone, Copy, Debug, PartialEq, Eq)]
+#[derive(Clone, Copy)]
 pub struct Watch {
     /// Whether anything is.
     pub is_on: bool,

@@ -91,7 +91,7 @@ fn refuse<W: Write>(error: DecodeError, out: &mut W) -> Result<Option<DecodeErro
 }
 
 /// A line that is no frame, and why.
-#[derive(Debug, Drop)]
+#[derive(Drop)]
 struct LineNote<'a> {
     line: usize,
     text: &'a [u8],

@@ -4,7 +4,7 @@ use fis_view::{Fis, RegD2H, RegH2D};
 use std::fmt;
 
 /// A FIS in a few words: its kind, and the fields that tell what it does. Its port is left out.
-#[derive(Debug, Drop)]
+#[derive(Drop)]
 pub struct FisShort<'a, 'b>(pub &'b Fis<'a>);
 
 impl fmt::Display for FisShort<'_, '_> {

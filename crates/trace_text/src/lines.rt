@@ -15,7 +15,7 @@ pub struct Lines<'a> {
 }
 
 /// A block of lines.
-#[derive(Clone, Copy, Debug)]
+#[derive(Clone, Copy)]
 struct Block<'a> {
     /// What follows the line that begins it.
     rest: Option<&'a [u8]>,

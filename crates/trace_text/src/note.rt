@@ -6,7 +6,7 @@ use crate::wanted::Wanted;
 use std::fmt;
 
 /// Why a run ends, in one line that names the word for which the input is refused.
-#[derive(Debug, Drop)]
+#[derive(Drop)]
 pub struct Note<'a> {
     failure: Failure,
     input: &'a [u8],
@@ -38,7 +38,7 @@ impl fmt::Display for Note<'_> {
 }
 
 /// A word of a line, by its number, and what is wanted there.
-#[derive(Clone, Copy, Debug)]
+#[derive(Clone, Copy)]
 pub struct WordOf<'a> {
     pub text: &'a [u8],
     /// Counted from 1; 0 means the line as a whole.
@@ -78,7 +78,7 @@ fn word_of(text: &[u8], word: usize) -> Option<&[u8]> {
 const MOST_SHOWN: usize = 100;
 
 /// A word as text. What is not a printing character of ASCII is shown by its two hexadecimal digits.
-#[derive(Debug, Drop)]
+#[derive(Drop)]
 pub struct Shown<'a>(pub &'a [u8]);
 
 impl fmt::Display for Shown<'_> {

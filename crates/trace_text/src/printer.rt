@@ -22,7 +22,7 @@ pub struct Printer<'a> {
 }
 
 /// What a line of the scenario expects to be printed next.
-#[derive(Clone, Copy, Debug)]
+#[derive(Clone, Copy)]
 pub struct Expected<'a> {
     /// The line that expects it, counted from 1.
     pub line: usize,
@@ -107,7 +107,7 @@ impl<'a> Printer<'a> {
 }
 
 /// What was expected, and what was printed: None if nothing more was.
-#[derive(Debug, Drop)]
+#[derive(Drop)]
 pub struct Mismatch<'a> {
     expected: Expected<'a>,
     found: Option<&'a str>,
