@@ -12,45 +12,37 @@ fn is_kept(row: &[u8]) -> bool {
     matches!((numbers.nth(2), numbers.next()), (Some(sent), Some(taken)) if taken <= sent)
 }
 
-/// Whether these lines come next.
-fn come<'a>(lines: &mut impl Iterator<Item = &'a [u8]>, wanted: &[&str]) -> bool {
-    for line in wanted.iter() {
-        if lines.next() != Some(line.as_bytes()) {
-            return false;
-        }
-    }
-    true
+/// A line of what was written, counted from 0. It is empty if there are not so many.
+fn line(written: &[u8], n: usize) -> &[u8] {
+    written.split(|byte| *byte == b'\n').nth(n).unwrap_or(&[])
 }
 
-/// Whether the next line is a row of counts that begins in this way.
-fn comes_row<'a>(lines: &mut impl Iterator<Item = &'a [u8]>, wanted: &str) -> bool {
-    let row = lines.next().unwrap_or(&[]);
+fn is_line(written: &[u8], n: usize, wanted: &str) -> bool {
+    line(written, n) == wanted.as_bytes()
+}
+
+/// Whether a line is a row of counts that begins in this way.
+fn is_row(written: &[u8], n: usize, wanted: &str) -> bool {
+    let row = line(written, n);
     row.starts_with(wanted.as_bytes()) && is_kept(row)
 }
 
-/// Whether this was written: the read of the disk that is pulled may have been done before.
-fn is_told(written: &[u8]) -> bool {
-    let mut lines = written.split(|byte| *byte == b'\n');
-    let begun = come(
-        &mut lines,
-        &["ports 2 capacity 4 memory 2", "request 1 done"],
-    );
-    let read = lines.next();
-    let is_done = read == Some(b"request 2 done".as_slice());
-    let ended = is_done || read == Some(b"request 2 removed".as_slice());
-    let shown = come(
-        &mut lines,
-        &[
-            "request 3 done",
-            "104000 c0ffee00",
-            "port 0 conn 1 sent 11 taken 11",
-        ],
-    );
-    begun
-        && ended
-        && shown
-        && comes_row(&mut lines, "port 1 conn 1 sent 3 taken ")
-        && comes_row(&mut lines, "port 1 conn 2 sent ")
+/// Whether this was written first: the read of the disk that is pulled may have been done before.
+fn is_begun(written: &[u8]) -> bool {
+    let is_ended = is_line(written, 2, "request 2 done")
+        || is_line(written, 2, "request 2 removed");
+    is_line(written, 0, "ports 2 capacity 4 memory 2")
+        && is_line(written, 1, "request 1 done")
+        && is_ended
+        && is_line(written, 3, "request 3 done")
+}
+
+/// Whether the bytes and the counts are what was asked to be seen.
+fn is_shown(written: &[u8]) -> bool {
+    is_line(written, 4, "104000 c0ffee00")
+        && is_line(written, 5, "port 0 conn 1 sent 11 taken 11")
+        && is_row(written, 6, "port 1 conn 1 sent 3 taken ")
+        && is_row(written, 7, "port 1 conn 2 sent ")
 }
 
 #[test]
@@ -72,5 +64,5 @@ counts";
         input.as_bytes(),
         &mut written,
     );
-    assert!(rt; ended == 0 && is_told(&written));
+    assert!(rt; ended == 0 && is_begun(&written) && is_shown(&written));
 }
