@@ -116,7 +116,8 @@ gef_status gef_pm_new_with_port_0_open(gef_pm *pm, uint8_t ports, uint32_t is_th
 gef_status gef_pm_free(gef_pm *pm);
 
 /*
- * A device came to a port. If the host has enabled notifications, the multiplier notifies it; gef_pm_to_host gives the
+ * A device came to a port. If that sets the port's bit in register 32 of port 15, as at a port that is open and has no
+ * bit in SError, and the host has enabled notifications, the multiplier notifies it; gef_pm_to_host gives the
  * notification. No FIS of the device goes up, and none goes down to it, before the host has opened the port: by WRITE
  * PORT MULTIPLIER commands to port 15 it writes 0 to SControl of the port (2), and after that ones to its SError (1).
  * Can return GEF_CLOSED, GEF_NO_PORT, GEF_ALREADY_THERE, GEF_SPENT.
@@ -195,7 +196,7 @@ typedef struct gef_disk {
 #define GEF_DISK_AUTO 4u       /* auto-activate: no DMA Activate FIS is sent */
 #define GEF_DISK_STOCK 8u      /* IDENTIFY DEVICE data that drivers of operating systems read, and the answers they expect: */
                                /* commands after an error are aborted until its log is read; STANDBY, IDLE, SLEEP, FLUSH */
-                               /* CACHE, CHECK POWER MODE and SET FEATURES are ended */
+                               /* CACHE, CHECK POWER MODE, SET FEATURES and READ VERIFY are answered (docs/FORMATS.md) */
 
 /*
  * Makes a disk with 1 to 65,536 sectors of 512 bytes, and opens the handle. Byte i of sector L is (L + i) modulo 256 at
@@ -212,12 +213,13 @@ gef_status gef_disk_free(gef_disk *disk);
 
 /*
  * The disk is plugged in, as power comes: its queue and its answers are dropped, its medium stays, and it sends its
- * signature next. A new disk sends nothing before this call. Can return GEF_CLOSED, GEF_NO_MEMORY.
+ * signature next. A new disk sends nothing by itself before this call. Can return GEF_CLOSED.
  */
 gef_status gef_disk_plug(gef_disk *disk);
 
 /*
- * A FIS arrives from the host. The disk ignores what it does not know. GEF_NO_MEMORY: it was not taken; pass it again.
+ * A FIS arrives from the host. The disk ignores FISes that it does not know, and refuses commands that it does not know
+ * (Status 51h, Error 04h). GEF_NO_MEMORY: it was not taken; pass it again.
  * Can return GEF_CLOSED, GEF_BAD_LENGTH, GEF_NO_MEMORY.
  */
 gef_status gef_disk_from_host(gef_disk *disk, const uint8_t *fis, size_t len);
@@ -328,12 +330,12 @@ typedef struct gef_place {
     size_t len;
 } gef_place;
 
-/* Room for the places of any Data FIS. Drivers seldom need more than 20. */
+/* Room for the places of any Data FIS: each has a byte of it at least. */
 #define GEF_PLACES_ROOM 8192
 
 /*
  * Where the bytes of the FIS that gef_hba_take took last go: the places into the room, their number into *count. It changes
- * nothing. GEF_NOTHING: it brought no bytes.
+ * nothing. GEF_NOTHING: it brought no bytes, or PxCI was written or the controller reset (GHC.HR) since.
  * Can return GEF_CLOSED, GEF_TOO_SHORT, GEF_NOTHING. After GEF_TOO_SHORT the room has some of the places.
  */
 gef_status gef_hba_data(gef_hba *hba, gef_place *places, size_t room, size_t *count);

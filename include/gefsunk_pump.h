@@ -16,8 +16,8 @@
  * These functions are plain C over the calls of gefsunk.h, whose rules hold here too. Those calls are proved; this loop
  * is not. It takes no memory of its own. A null pump is not found out.
  *
- * Each function returns a gef_status: GEF_OK, or that of the call that stopped it. After GEF_NO_MEMORY nothing is lost:
- * what was under way is kept, and goes on with the next call.
+ * Each function but gef_pump_close returns a gef_status: GEF_OK, or that of the call that stopped it. After GEF_NO_MEMORY
+ * nothing is lost: what was under way is kept, and goes on with the next round.
  */
 #ifndef GEFSUNK_PUMP_H
 #define GEFSUNK_PUMP_H
@@ -267,7 +267,7 @@ static inline void gef_pump_close(gef_pump *pump) {
  * What is behind the controller begins anew, as after a reset of its link: the multiplier, and the disks plugged into
  * it. What is on its way is dropped; the media stay. gef_pump_write32 does this where a write resets the link. Call it
  * once after the disks are plugged in where port_0_open is 1: from then on the guest reaches the disk at port 0.
- * Can return GEF_CLOSED (a disk was freed and not pulled), GEF_NO_MEMORY (the next call begins with it).
+ * Can return GEF_CLOSED (a disk was freed and not pulled), GEF_NO_MEMORY (the next gef_pump_plug or round begins with it).
  */
 static inline gef_status gef_pump_reset(gef_pump *pump) {
     gef_pm anew = GEF_PM_CLOSED;
@@ -328,7 +328,7 @@ static inline gef_status gef_pump_unplug(gef_pump *pump, uint8_t port) {
 /*
  * The guest writes the register at an offset. No FIS moves in this call.
  * Can return GEF_NULL (memory is null), GEF_CLOSED, GEF_NO_MEMORY (the write is done, and the reset that it asks for
- * comes with the next call).
+ * comes with the next round).
  */
 static inline gef_status gef_pump_write32(gef_pump *pump, uint32_t offset, uint32_t value) {
     gef_memory memory = gef_pump_memory(pump);
