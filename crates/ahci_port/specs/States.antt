@@ -22,7 +22,7 @@ pub record ControllerState : Type 0 where
   -- by slot: the table of its command as it was read at the issue, and how many bytes came over since
   pub tables : List (Option (List Segment))
   pub counts : List ℕ
-  -- the bytes of the Data that was taken last, if nothing else was done since
+  -- the bytes of the Data that was taken last; none after another FIS, a write of PxCI or a reset of the controller
   pub brought : Option Wrote
 
 -- the table kept for a slot

@@ -31,7 +31,8 @@ pub struct Controller {
     pub(crate) tables: [Option<GuestTable>; 32],
     /// By slot: how many bytes came over since then.
     pub(crate) counts: [u32; 32],
-    /// The bytes of the Data that was taken last, if nothing else was done since.
+    /// The bytes of the Data that was taken last, if no other FIS was taken, PxCI not written and the controller
+    /// not reset since.
     pub(crate) brought: Option<Wrote>,
 }
 

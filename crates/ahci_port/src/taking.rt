@@ -181,7 +181,7 @@ impl Controller {
 
     /// Where the bytes of the Data that was taken last go, out of the frame from its byte 4 on: each to the place that the
     /// table names which was read as the command of their slot was issued. None where no Data was taken, or where commands
-    /// were issued since.
+    /// were issued or the controller was reset since.
     pub fn data(&self) -> Option<Moves<'_>>
         ensures { Brings self.now result }
     {

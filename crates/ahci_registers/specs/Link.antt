@@ -1,5 +1,5 @@
 -- The link of the host port: AHCI 1.3.1, sections 3.3.10 (PxSSTS), 3.3.11 (PxSCTL), 3.3.12 (PxSERR) and
--- 10.4.2 (Port Reset). A device is always there: a port multiplier, whose link comes up at once.
+-- 10.4.2 (Port Reset). The link comes up at once, as if a device were always there.
 use Rattle.std.specs.Prelude.{◌≡◌, ℕ, ◌+◌, ◌*◌, ◌/◌, ◌%◌, ◌==◌, ◌⊎◌, Bool, if◌then◌else◌}
 use Rattle.std.specs.Prelude.{List, [], ◌∷◌}
 use Rattle.ahci_registers.specs.Bits.{pcs, prcs}

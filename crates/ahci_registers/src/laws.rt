@@ -4,11 +4,12 @@ ghost use Rattle.ahci_registers.specs.Laws.{ErrorsStand, IsDueAtACause, IsRaised
 ghost use Rattle.ahci_registers.specs.LinkLaws.{FallsByAReset, RisesByLinkUp, StaysWhileStarted, UpSetsX};
 
 /// Laws of the interrupts over any list of events; the call runs no code. A cause stands until a write takes
-/// it, and the line is raised as long as the cause is enabled. A write takes the ones that are written and
-/// nothing else. A cause that came after PxIS was read, and was not among the bits read, still stands after
-/// those bits are written back. The bits that show PxSERR stand whatever is written to PxIS. A message is due
-/// at each enabled cause. If the line is raised at some time after a write of IS, a message was due at that
-/// write or since. Bits that do not exist read 0 in PxIS and PxIE.
+/// it, and the line is raised as long as PxIE enables the cause and GHC.IE is 1. A write takes the ones that
+/// are written and nothing else, except that GHC.HR takes all. A cause that came after PxIS was read, and was
+/// not among the bits read, still stands after those bits are written back, if no other write took it. The bits
+/// that show PxSERR stand whatever is written to PxIS. A message is due at each cause that PxIE enables, while
+/// GHC.IE is 1. If the line is raised at some time after a write of a one to IS, a message was due at that
+/// write or since. Bits that do not exist in PxIS and PxIE read 0, if they did before.
 pub fn interrupts_follow_events()
     ensures stands { StandsUntilTaken }
     ensures raised { IsRaisedUntilTaken }

@@ -1,8 +1,8 @@
 -- The laws of a disk's runs.
-use Rattle.std.proofs.Common.{◌≡◌, ◌==◌, ◌&&◌, eqb, ℕ, ◌*◌, ◌%◌, ◌^◌, ◌<◌, Bool, true, false, List, [], ◌∷◌, ◌++◌, Option, Some, None, Ok, Err, Result, drop, refl, ap, sym, subst, ◌∙◌, arith}
+use Rattle.std.proofs.Common.{◌≡◌, ◌==◌, ◌&&◌, eqb, ℕ, ◌*◌, ◌%◌, ◌^◌, ◌<◌, ◌≤◌, Bool, true, false, List, [], ◌∷◌, ◌++◌, Option, Some, None, Ok, Err, Result, drop, refl, ap, sym, subst, ◌∙◌, arith}
 use Rattle.std.specs.Prelude.{if◌then◌else◌, nat_le}
 use Rattle.std.proofs.lemmas.Bool.Decides.{nat_tests}
-use Rattle.std.proofs.lemmas.Bool.{and_parts}
+use Rattle.std.proofs.lemmas.Bool.{and_parts, leb-true}
 use Rattle.std.proofs.lemmas.List.FromFn.{length-map-range_with_len}
 use Rattle.std.proofs.Math.Pow.{pow-lt}
 use Rattle.fis_view.specs.Table.{H2d, C, Features, Count, Control, Bits, SActive, field}
@@ -12,6 +12,8 @@ use Rattle.fis_view.specs.declared.view.Fis.{Fis}
 use Rattle.fis_view.specs.declared.view.Fis.TheVariants as view
 use Rattle.fis_view.specs.declared.view.FisFault.{FisFault}
 use Rattle.disk_model.specs.declared.plan.DiskPlan.{DiskPlan}
+use Rattle.disk_model.specs.declared.plan.Profile.{Profile}
+use Rattle.disk_model.specs.declared.plan.Profile.TheVariants.{Bare, Stock}
 use Rattle.disk_model.specs.declared.request.Command.{Command}
 use Rattle.disk_model.specs.declared.request.Request.{Request}
 use Rattle.disk_model.specs.declared.answer.Answer.{Answer}
@@ -22,7 +24,7 @@ use Rattle.disk_model.specs.Requests.{Asks, queued_command, request_of, names_er
 use Rattle.disk_model.specs.Sendings.{Sending, Register, SetsBits, SetsUp, Activates, SetsUpPio, Carries, Shows, answer_sent}
 use Rattle.disk_model.specs.Chunks.{chunks, chunk_setup, fault_of, report, error_of}
 use Rattle.disk_model.specs.Disks.{Moment, Started, Writing, Turn, turn, read_turn, write_turn, pick_turn, begun, starts, picked, heard, after, moment_after, opening, opening_byte}
-use Rattle.disk_model.specs.Runs.{IsTurn, MayHappen, Runs, IsDiskRun, moment}
+use Rattle.disk_model.specs.Runs.{IsTurn, MayHappen, Runs, IsDiskRun, moment, most_sectors}
 use Rattle.disk_model.specs.Ledger.{Ledger, Moving, empty, listens, listens_down, ledger_after, ledger, with_writes, Names, AnswersOne, IsSize}
 use Rattle.disk_model.proofs.SendLemmas.{sends_left_next}
 use Rattle.disk_model.proofs.ShowsLemmas.{error_tells, sactive_tells}
@@ -115,10 +117,14 @@ opens_agreeing plan sectors = record {
   pages = tt;
 }
 
+few_by : (profile : Profile) (n : ℕ) → nat_le n (most_sectors profile) ≡ true → n ≤ 8388607
+few_by Bare n few = let most = leb-true n 65536 few in omega (arith, most)
+few_by (Stock serial) n few = leb-true n 8388607 few
+
 pub sized_by : (plan : DiskPlan) (sectors : ℕ) → IsSize plan sectors → IsSized plan sectors
 sized_by plan sectors size =
     let some : Bool = nat_le 1 sectors in
-    let few : Bool = nat_le sectors 65536 in
+    let few : Bool = nat_le sectors (most_sectors plan.profile) in
     let low : Bool = nat_le 512 plan.chunk in
     let high : Bool = nat_le plan.chunk 8192 in
     let all = and_parts (some && few && low && high) (plan.chunk % 512 == 0) size in
@@ -126,8 +132,7 @@ sized_by plan sectors size =
     let two = and_parts (some && few) low most.0 in
     let one = and_parts some few two.0 in
     let is_low : nat_le 512 plan.chunk ≡ true = two.1 in
-    let is_few : nat_le sectors 65536 ≡ true = one.1 in
-    record { low = grind (arith, nat_tests, is_low); most = grind (arith, nat_tests, is_few) }
+    record { low = grind (arith, nat_tests, is_low); most = few_by plan.profile sectors one.1 }
 
 pub agrees : (plan : DiskPlan) (sectors : ℕ) (h : List Happening) → IsSize plan sectors → IsDiskRun plan sectors h
     → Agrees plan sectors (moment plan sectors h) (ledger h)

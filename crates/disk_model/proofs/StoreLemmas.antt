@@ -18,7 +18,7 @@ use Rattle.disk_model.proofs.AgreeLemmas.{Agrees, Beside, Fresh, IsHeld, IsMovin
 -- what is known about the size of a disk
 pub record IsSized (plan : DiskPlan) (sectors : ℕ) : Type 0 where
   pub low : 512 ≤ plan.chunk
-  pub most : sectors ≤ 65536
+  pub most : sectors ≤ 8388607
 
 pub with_writes-append : (medium : List ℕ) (ws : List Written) (w : Written)
     → with_writes medium (ws ++ w ∷ []) ≡ put (with_writes medium ws) w.at w.bytes

@@ -68,7 +68,7 @@ IsStaged staged (Read r) = Unit {0}
 IsStaged staged (Write w) = length staged ≡ 512 * w.command.count
 
 pub record IsDisk (d : Inside) : Type 0 where
-  pub sectors : d.sectors ≤ 65536
+  pub sectors : d.sectors ≤ 8388607
   pub medium : length d.medium.items ≡ 512 * d.sectors
   pub low : 512 ≤ d.plan.chunk
   pub high : d.plan.chunk ≤ 8192

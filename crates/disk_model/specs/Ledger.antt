@@ -335,4 +335,4 @@ AnswersOne l _ = Unit {0}
 
 -- a size with which a disk can be made
 abbrev pub IsSize : DiskPlan → ℕ → Type 0
-IsSize plan sectors = is_size sectors plan.chunk ≡ true
+IsSize plan sectors = is_size plan.profile sectors plan.chunk ≡ true

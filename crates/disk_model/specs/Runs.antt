@@ -2,14 +2,21 @@
 -- queuing).
 use Rattle.std.specs.Prelude.{ℕ, ◌≡◌, ◌%◌, ◌==◌, ◌&&◌, Bool, nat_le, List, [], ◌∷◌, Some, None}
 use Rattle.disk_model.specs.declared.plan.DiskPlan.{DiskPlan}
+use Rattle.disk_model.specs.declared.plan.Profile.{Profile}
+use Rattle.disk_model.specs.declared.plan.Profile.TheVariants.{Bare, Stock}
 use Rattle.disk_model.specs.Histories.{Happening, Received, Sent, Plugged, Plan, Script, DiskOf}
 use Rattle.disk_model.specs.Sendings.{Shows}
 use Rattle.disk_model.specs.Disks.{Moment, DiskValue, Turn, turn, after, opening, moment_after}
 
--- a disk can have this many sectors and chunks of this size
-abbrev pub is_size : (sectors chunk : ℕ) → Bool
-is_size sectors chunk =
-    nat_le 1 sectors && nat_le sectors 65536 && nat_le 512 chunk && nat_le chunk 8192 && chunk % 512 == 0
+-- the most sectors that a disk can have: those of a stock disk are fewer than 2^32 bytes
+abbrev pub most_sectors : Profile → ℕ
+most_sectors Bare = 65536
+most_sectors (Stock serial) = 8388607
+
+-- a disk of this profile can have this many sectors, and chunks of this size
+abbrev pub is_size : Profile → (sectors chunk : ℕ) → Bool
+is_size profile sectors chunk = nat_le 1 sectors && nat_le sectors (most_sectors profile) && nat_le 512 chunk
+    && nat_le chunk 8192 && chunk % 512 == 0
 
 abbrev pub disk_plan : DiskValue → Plan
 disk_plan d = DiskOf d.plan d.sectors

@@ -5,7 +5,7 @@ ghost use Rattle.std.specs.List.{list_any};
 ghost use Rattle.disk_model.specs.Chunks.{put, sectors_at};
 ghost use Rattle.disk_model.specs.Disks.{opening, opening_medium, without};
 ghost use Rattle.disk_model.specs.Histories.{DiskOf};
-ghost use Rattle.disk_model.specs.Runs.{DiskStandsFor, disk_plan, is_size};
+ghost use Rattle.disk_model.specs.Runs.{DiskStandsFor, disk_plan, is_size, most_sectors};
 
 mod quiet;
 mod receive;
@@ -13,7 +13,7 @@ mod send;
 
 use crate::answer::{Answer, Fault};
 use crate::device::Device;
-use crate::plan::DiskPlan;
+use crate::plan::{DiskPlan, Profile};
 use crate::request::{Command, Request};
 use fis_view::{Fis, Frame, Stamp};
 pub use quiet::Due;
@@ -83,8 +83,8 @@ impl Model for Disk {
 /// Why a disk cannot be made.
 #[derive(Clone, Copy, Debug, PartialEq, Eq, Error)]
 pub enum DiskError {
-    /// The number of sectors is not from 1 to 65,536, or the chunk is not a multiple of 512 from 512 to
-    /// 8,192.
+    /// The number of sectors is not from 1 to the most for the disk's profile, or the chunk is not a multiple
+    /// of 512 from 512 to 8,192.
     #[error("bad size")]
     BadSize = 1,
     /// The allocator refused memory for the sectors.
@@ -103,9 +103,20 @@ impl From<AllocError> for DiskError {
     }
 }
 
+/// The most sectors that a disk of this profile can have.
+fn most_sectors(profile: Profile) -> u32
+    ensures most { result ≡ most_sectors profile }
+    ensures few { result ≤ 8388607 }
+{
+    match profile {
+        Profile::Bare => 65_536,
+        Profile::Stock(_) => 8_388_607,
+    }
+}
+
 /// The sectors of a new disk.
 fn new_medium(alloc: Global, sectors: u32) -> Result<Vec<u8>, AllocError>
-    requires { sectors ≤ 65536 }
+    requires { sectors ≤ 8388607 }
     ensures items { IfOk result (λ v. v.items ≡ opening_medium sectors) }
     ensures len { IfOk result (λ v. length v.items ≡ 512 * sectors) }
 {
@@ -139,18 +150,19 @@ fn is_queued(queue: &[Command], tag: u8) -> bool
 }
 
 impl Disk {
-    /// A disk with this many sectors of 512 bytes, 1 to 65,536. The sizes are tested before memory is asked
-    /// for.
+    /// A disk with this many sectors of 512 bytes: 1 to 65,536, with the stock profile to 8,388,607. The sizes
+    /// are tested before memory is asked for.
     pub fn new(alloc: Global, sectors: u32, plan: DiskPlan) -> Result<Disk, DiskError>
         ensures ok { IfOk result (λ d.
             d ≡ record { plan = plan; sectors = sectors; now = opening sectors }) }
         ensures plan { IfOk result (λ d. disk_plan d ≡ DiskOf plan sectors) }
         ensures opening { IfOk result (λ d. DiskStandsFor d []) }
-        ensures size { OnOk result (IsTrue (is_size sectors plan.chunk)) }
-        ensures bad_size { IsErrOf result DiskError.BadSize ↔ ¬ IsTrue (is_size sectors plan.chunk) }
+        ensures size { OnOk result (IsTrue (is_size plan.profile sectors plan.chunk)) }
+        ensures bad_size { IsErrOf result DiskError.BadSize ↔ ¬ IsTrue (is_size plan.profile sectors plan.chunk) }
     {
         let chunk = plan.chunk;
-        if sectors < 1 || 65536 < sectors || chunk < 512 || 8192 < chunk || chunk % 512 != 0 {
+        let most = most_sectors(plan.profile);
+        if sectors < 1 || most < sectors || chunk < 512 || 8192 < chunk || chunk % 512 != 0 {
             return Err(DiskError::BadSize);
         }
         let medium = new_medium(alloc, sectors)?;

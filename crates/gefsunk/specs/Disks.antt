@@ -38,22 +38,23 @@ pub record IsPlanOf (size flags serial : ℕ) (bads : List ℕ) (plan : DiskPlan
   pub profile : plan.profile ≡ profile_of flags serial
 
 -- a disk can be made so: its size, its chunks, at most 16 bad sectors, no other flag
-abbrev pub can_be : (sectors size flags : ℕ) → List ℕ → Bool
-can_be sectors size flags bads = is_size sectors size && nat_lt flags 16 && nat_le (length bads) 16
+abbrev pub can_be : (sectors size flags serial : ℕ) → List ℕ → Bool
+can_be sectors size flags serial bads =
+    is_size (profile_of flags serial) sectors size && nat_lt flags 16 && nat_le (length bads) 16
 
 -- a new disk, as C asks for it
 pub record IsDiskOf (count size flags serial : ℕ) (bads : List ℕ) (disk : StockValue) : Type 0 where
-  pub can_be : can_be count size flags bads ≡ true
+  pub can_be : can_be count size flags serial bads ≡ true
   pub plan : IsPlanOf size flags serial bads disk.disk.plan
   pub sectors : disk.disk.sectors ≡ count
   pub now : disk.disk.now ≡ opening count
   pub front : disk.front ≡ opening_front disk.disk.plan
 
 -- why there is no new disk
-abbrev pub DiskRefused : (sectors size flags : ℕ) → List ℕ → Status → Type 0
-DiskRefused sectors size flags bads status.BadDisk = can_be sectors size flags bads ≡ false
-DiskRefused sectors size flags bads status.NoMemory = can_be sectors size flags bads ≡ true
-DiskRefused sectors size flags bads _ = ⊥
+abbrev pub DiskRefused : (sectors size flags serial : ℕ) → List ℕ → Status → Type 0
+DiskRefused sectors size flags serial bads status.BadDisk = can_be sectors size flags serial bads ≡ false
+DiskRefused sectors size flags serial bads status.NoMemory = can_be sectors size flags serial bads ≡ true
+DiskRefused sectors size flags serial bads _ = ⊥
 
 -- the disk is plugged in
 abbrev pub DiskPlug : StockValue → Status → StockValue → Type 0

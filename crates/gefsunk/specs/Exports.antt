@@ -72,7 +72,7 @@ abbrev pub MadeDisk : Option Kept → (sectors size flags serial : ℕ) → List
 MadeDisk (Some old) sectors size flags serial bads answer new = (answer ≡ status.Open) × (new ≡ Some old)
 MadeDisk None sectors size flags serial bads status.Done new = HasDisk sectors size flags serial bads new
 MadeDisk None sectors size flags serial bads answer new =
-    DiskRefused sectors size flags bads answer × (new ≡ None)
+    DiskRefused sectors size flags serial bads answer × (new ≡ None)
 
 -- the multiplier is freed
 abbrev pub FreedPm : Option Kept → Status → Option Kept → Type 0

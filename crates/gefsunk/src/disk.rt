@@ -61,7 +61,7 @@ pub fn new_disk(
     bad: &[u32],
 ) -> Result<StockDisk, Status>
     ensures made { IfOk result (λ disk. IsDiskOf sectors chunk flags serial bad.now disk) }
-    ensures refused { IfErr result (λ e. DiskRefused sectors chunk flags bad.now e) }
+    ensures refused { IfErr result (λ e. DiskRefused sectors chunk flags serial bad.now e) }
 {
     if flags >= 16 {
         return Err(Status::BadDisk);

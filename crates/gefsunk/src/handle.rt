@@ -1,5 +1,5 @@
-//! What C holds of a multiplier or a disk: a struct in its own storage, with a pointer to a value that this library
-//! owns.
+//! What C holds of a multiplier, a disk or a controller: a struct in its own storage, with a pointer to a value that
+//! this library owns.
 //!
 //! Only four small functions handle pointers: [`Loose::of`], [`Held::from_loose`], [`Held::into_box`] and
 //! [`Held::nothing`]. Each of them is proved by hand. All others are proved from their contracts.
@@ -77,7 +77,7 @@ impl Held {
 }
 
 /// A handle, as C has it in its own storage. It is open if its mark says so. Then it has
-/// a multiplier or a disk.
+/// a multiplier, a disk or a controller.
 #[repr(C)]
 #[derive(Drop)]
 pub struct Handle {

@@ -47,7 +47,8 @@ pub enum Outcome {
     Aborted,
     /// The device was removed or replaced.
     Removed,
-    /// The port had a fault.
+    /// The port had a fault; with command-based switching also where a device had one, or the multiplier
+    /// notified the host while a command was issued.
     PortError,
 }
 

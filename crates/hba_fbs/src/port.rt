@@ -152,7 +152,7 @@ impl HostPort {
     }
 
     /// The first cause of a device's fault, None while it is not faulty. The cause stands until the device is
-    /// flushed, PxFBS.DEC clears it, or PxCMD.ST falls.
+    /// flushed, PxFBS.DEC clears it, PxCMD.ST falls, or the link or the port is reset.
     pub fn cause(&self, dev: u8) -> Option<DeviceCause>
         requires { dev < 16 }
         ensures { result ≡ (view_of dev self.now).fault }
@@ -162,7 +162,7 @@ impl HostPort {
 
     /// The first cause that stopped the whole port, None while no error of the port has stopped it. None too
     /// where a device did, without FIS-based switching: then `cause` names what it was. The cause stands until
-    /// PxCMD.ST falls.
+    /// PxCMD.ST falls, or the link or the port is reset.
     pub fn port_cause(&self) -> Option<PortCause>
         ensures { result ≡ port_cause_in self.now.errors.port }
     {

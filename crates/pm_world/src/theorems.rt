@@ -1,4 +1,5 @@
-//! Laws of runs. The functions do nothing when they run.
+//! Laws of runs. The functions do nothing when they run. A new world has FIS-based switching here, except in
+//! `paths_go_on`.
 
 mod bytes;
 mod connections;

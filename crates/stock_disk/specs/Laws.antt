@@ -91,9 +91,9 @@ abbrev pub EndsOrWaits : StockValue → Dma → List ℕ → Type 0
 EndsOrWaits s dma bytes = (IsMove dma bytes × (front_after s (Sent bytes) ≡ s.front))
     ⊎ (IsEnd s.disk dma bytes × ((front_after s (Sent bytes)).serving ≡ None))
 
--- While a DMA command waits for its answer, only Data of a read and DMA Activates of a write go out, and it waits on.
--- Then one Register FIS goes out, which says how the command ended: without an error, or with the error and the
--- sector for which the disk cannot do it.
+-- What goes out while a DMA command waits for its answer is Data of a read or a DMA Activate of a write, and it waits
+-- on; or it is the Register FIS that says how the command ended, without an error, or with the error and the sector for
+-- which the disk cannot do it, and then it waits no more.
 abbrev pub DmaEnds : Type 0
 DmaEnds =
     (plan : DiskPlan) (sectors : ℕ) (history : List Happening) (bytes : List ℕ) (dma : Dma) → 512 ≤ plan.chunk

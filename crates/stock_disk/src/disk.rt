@@ -172,16 +172,16 @@ fn next_of_disk(
 }
 
 impl StockDisk {
-    /// A disk with this many sectors of 512 bytes, 1 to 65,536. The sizes are tested before memory is asked
-    /// for.
+    /// A disk with this many sectors of 512 bytes: 1 to 65,536, with the stock profile to 8,388,607. The sizes
+    /// are tested before memory is asked for.
     pub fn new(alloc: Global, sectors: u32, plan: DiskPlan) -> Result<StockDisk, DiskError>
         ensures disk { IfOk result (λ s. s.disk
             ≡ record { plan = plan; sectors = sectors; now = opening_moment sectors }) }
         ensures front { IfOk result (λ s. s.front ≡ opening plan) }
         ensures plan { IfOk result (λ s. stock_plan s ≡ DiskOf plan sectors) }
         ensures opening { IfOk result (λ s. StockStandsFor s []) }
-        ensures size { OnOk result (IsTrue (is_size sectors plan.chunk)) }
-        ensures bad_size { IsErrOf result DiskError.BadSize ↔ ¬ IsTrue (is_size sectors plan.chunk) }
+        ensures size { OnOk result (IsTrue (is_size plan.profile sectors plan.chunk)) }
+        ensures bad_size { IsErrOf result DiskError.BadSize ↔ ¬ IsTrue (is_size plan.profile sectors plan.chunk) }
     {
         let front = Front::opening(&plan);
         let known = copy_of(&plan);

@@ -19,8 +19,9 @@ pub fn bare_disks_have_no_front()
     ensures { BareIsDisk }
 {}
 
-/// While a DMA command waits for its answer, in every run of a disk behind its front, only Data of a read and DMA
-/// Activates of a write go out. Then one Register FIS goes out, which says how the command ended.
+/// What goes out while a DMA command waits for its answer, in every run of a disk behind its front, is Data of a
+/// read, a DMA Activate of a write, or the Register FIS that says how the command ended. After that it waits no
+/// more.
 pub fn dma_commands_end()
     ensures { DmaEnds }
 {}

@@ -16,11 +16,11 @@ const LARGEST: u64 = 0xFFFF_FFFF;
 /// A disk that is not built yet.
 #[derive(Drop)]
 pub struct Shape {
-    /// Sectors, 1 to 65,536.
+    /// Sectors, 1 to 65,536, as every profile may have.
     pub sectors: u32,
     /// How it goes about its commands. A chunk is a multiple of 512 bytes, from 512 to 8,192.
     pub plan: DiskPlan,
-    pub ghost has_size: { is_size sectors plan.chunk ≡ true },
+    pub ghost has_size: { is_size plan.profile sectors plan.chunk ≡ true },
 }
 
 impl Shape {

@@ -4,7 +4,7 @@ use super::steps::Step::{
     Commands, IsSilent, Plugs, Reads, ReadsLog, Resets, Sends, SendsSectors, Takes, Writes,
 };
 use super::steps::{Step, assert_disk};
-use disk_model::{Disk, DiskError, DiskPlan};
+use disk_model::{Disk, DiskError, DiskPlan, Profile};
 use fis_view::H2dFields;
 
 /// A command of the host.
@@ -114,13 +114,37 @@ fn plugging_ends_a_reset(rt: HostRuntime) -> Result<(), DiskError> {
     assert_disk(&rt, rt.alloc(), 16, DiskPlan::plain(), &PLUGGED_IN_RESET)
 }
 
-/// A disk has at least one sector, and at most 65,536.
+/// A disk has at least one sector, and at most 65,536; with the stock profile at most 8,388,607.
 #[test]
 fn sizes_that_no_disk_has(rt: HostRuntime) {
-    for sectors in [0, 65_537, u32::MAX] {
-        let error = Disk::new(rt.alloc(), sectors, DiskPlan::plain()).err();
+    let stock = Profile::Stock(0);
+    for (sectors, profile) in [
+        (0, Profile::Bare),
+        (65_537, Profile::Bare),
+        (u32::MAX, Profile::Bare),
+        (0, stock),
+        (8_388_608, stock),
+    ] {
+        let plan = DiskPlan {
+            profile,
+            ..DiskPlan::plain()
+        };
+        let error = Disk::new(rt.alloc(), sectors, plan).err();
         assert_eq!(rt; error, Some(DiskError::BadSize));
     }
+}
+
+/// A stock disk has a sector behind those that another can have.
+#[test]
+fn a_larger_disk(rt: HostRuntime) -> Result<(), DiskError> {
+    let plan = DiskPlan {
+        profile: Profile::Stock(0),
+        ..DiskPlan::plain()
+    };
+    let disk = Disk::new(rt.alloc(), 65_537, plan)?;
+    let first = disk.sector(65_536).map(|bytes| bytes[1]);
+    assert_eq!(rt; first, Some(1));
+    Ok(())
 }
 
 static ONE_SECTOR: [Step; 6] = [

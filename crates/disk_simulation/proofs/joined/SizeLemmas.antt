@@ -15,7 +15,7 @@ use Rattle.disk_model.specs.Anew.{IsLinkedOn}
 use Rattle.disk_model.specs.Anew as link
 use Rattle.disk_model.specs.Histories.{Happening, Plugged, Received, Sent}
 use Rattle.disk_model.specs.Ledger.{IsSize, Moving, ledger}
-use Rattle.disk_model.specs.Runs.{IsDiskRun, IsTurn, moment}
+use Rattle.disk_model.specs.Runs.{IsDiskRun, IsTurn, moment, most_sectors}
 use Rattle.disk_model.specs.Sendings.{Sending, Shows, answer_sent}
 use Rattle.disk_model.proofs.Door.{agrees, Asked, at, begun_by, can_be_done, chunk_part, ChunkPart, Fresh, IsIn}
 use Rattle.disk_model.proofs.Door.{IsQueue, IsReading, IsSized, IsWriting, last_may, linked_since_new, Moves}
@@ -109,8 +109,8 @@ turn_short plan sectors medium queued fault resetting [] (Some s) (Some w) v b h
 
 chunk_high : (plan : DiskPlan) (sectors : ℕ) → IsSize plan sectors → plan.chunk ≤ 8192
 chunk_high plan sectors size =
-    let all = and_parts (nat_le 1 sectors && nat_le sectors 65536 && nat_le 512 plan.chunk && nat_le plan.chunk 8192) (plan.chunk % 512 == 0) size in
-    let most = and_parts (nat_le 1 sectors && nat_le sectors 65536 && nat_le 512 plan.chunk) (nat_le plan.chunk 8192) all.0 in
+    let all = and_parts (nat_le 1 sectors && nat_le sectors (most_sectors plan.profile) && nat_le 512 plan.chunk && nat_le plan.chunk 8192) (plan.chunk % 512 == 0) size in
+    let most = and_parts (nat_le 1 sectors && nat_le sectors (most_sectors plan.profile) && nat_le 512 plan.chunk) (nat_le plan.chunk 8192) all.0 in
     leb-true plan.chunk 8192 most.1
 
 sent_short : (plan : DiskPlan) (sectors : ℕ) (h : List Happening) (b : List ℕ) → IsSize plan sectors → IsDiskRun plan sectors (h ++ Sent b ∷ [])

@@ -17,16 +17,18 @@ pub fn writes_are_as_submitted()
 {}
 
 /// Read after write, in one run from a new world. A write is polled as done. Then a read of the same
-/// sectors is submitted to the same disk, and is polled as done. It brings the bytes that client
-/// memory had at the places of the write's PRDs when the write was submitted, except where another
-/// write ended in between.
+/// sectors is submitted to the same disk, and is polled as done. The disk was new in this world, and
+/// left alone from its plugging up to each of the two reports. Then the read brings the bytes that
+/// client memory had at the places of the write's PRDs when the write was submitted, except where
+/// another write ended in between.
 pub fn reads_follow_writes()
     ensures { ReadsFollowWrites }
 {}
 
 /// FLUSH after write, in one run from a new world: writes are polled as done, then a FLUSH is submitted to the
-/// same disk, and is polled as done. The disk took a FLUSH after this one was submitted. And the writes are on
-/// its medium with the bytes with which they were submitted, except where another write ended since.
+/// same disk, and is polled as done. The disk was new in this world, and left alone from its plugging up to
+/// each report. It took a FLUSH after this one was submitted. And the writes are on its medium with the bytes
+/// with which they were submitted, except where another write ended since.
 pub fn flushes_follow_writes()
     ensures { FlushesFollowWrites }
 {}

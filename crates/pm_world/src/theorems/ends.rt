@@ -41,8 +41,9 @@ pub fn polled_is_honest()
     ensures { HonestPolls }
 {}
 
-/// A read that was submitted after a write had ended brings the bytes that went over for the write,
-/// where no later write has them. They stay on the medium in the same way, whatever happens to the
+/// Of a disk that was new in the world, and left alone from its plugging up to the report: a read that
+/// was submitted after a write had ended brings the bytes that went over for the write, where no later
+/// write has them. They stay on the medium in the same way, whatever happens to the
 /// disk: the disk has them there in each world to which steps lead.
 pub fn reads_bring_writes()
     ensures reads { ReadsBringWrites }
