@@ -56,6 +56,7 @@ const char *gef_status_text(gef_status status) {
     case GEF_SPENT: return "the port takes no further device";
     case GEF_BAD_DISK: return "no disk can be like this";
     case GEF_NO_SECTOR: return "no such sector";
+    case GEF_IMAGE: return "the image failed";
     }
     return "no such answer";
 }

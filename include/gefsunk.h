@@ -59,7 +59,8 @@ typedef enum gef_status {
     GEF_NO_REGISTER = 15,   /* the port has no such register */
     GEF_SPENT = 16,         /* 4,294,967,295 devices came to this port: it takes no more */
     GEF_BAD_DISK = 17,      /* a disk cannot have this size, this chunk, these flags or so many bad sectors */
-    GEF_NO_SECTOR = 18      /* the disk has no such sector */
+    GEF_NO_SECTOR = 18,     /* the disk has no such sector */
+    GEF_IMAGE = 64          /* of gefsunk_image.h alone: an image was not read, written or flushed */
 } gef_status;
 
 /* A sentence for a log, never null. It stays valid as long as the program runs. */
@@ -199,10 +200,11 @@ typedef struct gef_disk {
                                /* CACHE, CHECK POWER MODE, SET FEATURES and READ VERIFY are answered (docs/FORMATS.md) */
 
 /*
- * Makes a disk with 1 to 65,536 sectors of 512 bytes, and opens the handle. Byte i of sector L is (L + i) modulo 256 at
- * first. chunk is the most bytes that one DMA Setup moves: a multiple of 512, from 512 to 8,192. serial ends the serial
- * number of a stock disk, as eight hexadecimal digits. bad lists bad_count sectors, at most 16, that cannot be read; it
- * may be null if bad_count is 0. Memory for all sectors is taken at once.
+ * Makes a disk with 1 to 65,536 sectors of 512 bytes, with GEF_DISK_STOCK up to 8,388,607 (512 bytes less than 4 GiB), and
+ * opens the handle. Byte i of sector L is (L + i) modulo 256 at first; gefsunk_image.h gives a disk sectors of yours. chunk
+ * is the most bytes that one DMA Setup moves: a multiple of 512, from 512 to 8,192. serial ends the serial number of a stock
+ * disk, as eight hexadecimal digits. bad lists bad_count sectors, at most 16, that cannot be read; it may be null if
+ * bad_count is 0. Memory for all sectors is taken at once.
  * Can return GEF_OPEN (free it first), GEF_BAD_DISK, GEF_NO_MEMORY.
  */
 gef_status gef_disk_new(gef_disk *disk, uint32_t sectors, uint16_t chunk, uint32_t flags, uint32_t serial,

@@ -24,6 +24,7 @@
 
 #include <string.h>
 #include "gefsunk.h"
+#include "gefsunk_image.h"
 
 #ifdef __cplusplus
 extern "C" {
@@ -64,6 +65,9 @@ typedef struct gef_pump {
     gef_pm pm;
     gef_disk disks[GEF_PUMP_PORTS];
 
+    /* Yours to set while the disk is not plugged in. A guest hears that a write has ended when it is in the image. */
+    gef_image *images[GEF_PUMP_PORTS]; /* null: the disk has none */
+
     /* Yours to read, after each function. */
     uint32_t raised;  /* 1: the interrupt line is up */
     uint32_t message; /* 1: a message (MSI) is due. It stays 1 until you set it to 0 */
@@ -73,7 +77,7 @@ typedef struct gef_pump {
 
     /* The pump's own. */
     uint8_t ports, down_port, asked;
-    uint32_t is_reset_due;
+    uint32_t is_reset_due, unsaved;
     gef_waiting out, in, down, up[GEF_PUMP_PORTS];
     gef_place places[GEF_PLACES_ROOM];
 } gef_pump;
@@ -110,6 +114,36 @@ static inline void gef_pump_forget(gef_pump *pump) {
     for (port = 0; port < GEF_PUMP_PORTS; port++) pump->up[port].len = 0;
 }
 
+/* To a disk, and past its image. */
+static inline gef_status gef_pump_to_disk(gef_pump *pump, uint8_t port, const gef_waiting *fis) {
+    gef_status status = gef_disk_from_host(&pump->disks[port], fis->fis, fis->len);
+    if (status == GEF_OK && pump->images[port]) gef_image_down(pump->images[port], fis->fis, fis->len);
+    return status;
+}
+
+/* The next FIS of a disk waits in its place. One that ends a command waits there until the image has what it should. */
+static inline gef_status gef_pump_of_disk(gef_pump *pump, uint8_t port) {
+    gef_waiting *up = &pump->up[port];
+    gef_status status = GEF_OK;
+    if (!up->len) {
+        status = gef_disk_to_host(&pump->disks[port], up->fis, GEF_FIS_ROOM, &up->len);
+        if (status != GEF_OK) return status;
+        pump->unsaved |= 1u << port;
+    }
+    if (pump->images[port] && pump->unsaved >> port & 1)
+        status = gef_image_up(pump->images[port], &pump->disks[port], up->fis, up->len);
+    if (status == GEF_OK) pump->unsaved &= ~(1u << port);
+    return status;
+}
+
+/* A disk is plugged in: its commands are gone, and its write cache is off. */
+static inline gef_status gef_pump_begin(gef_pump *pump, uint8_t port) {
+    gef_image *image = pump->images[port];
+    gef_status status = gef_disk_plug(&pump->disks[port]);
+    if (status == GEF_OK && image) image->open = image->is_due = image->is_cached = 0;
+    return status;
+}
+
 /*
  * To the other end of the link: the multiplier, or the one disk, which sees 0 as PM Port, as behind a multiplier. What it
  * sends has the PM Port of the FIS that it took last: drivers reset it at port 15, and wait for the answer from there.
@@ -120,7 +154,7 @@ static inline gef_status gef_pump_to_link(gef_pump *pump) {
     if (pump->ports) return gef_pm_from_host(&pump->pm, pump->out.fis, pump->out.len);
     if (!(pump->plugged & 1)) return GEF_DROPPED;
     pump->out.fis[1] &= 0xF0;
-    status = gef_disk_from_host(&pump->disks[0], pump->out.fis, pump->out.len);
+    status = gef_pump_to_disk(pump, 0, &pump->out);
     pump->out.fis[1] |= port;
     if (status == GEF_OK) pump->asked = port;
     return status;
@@ -132,9 +166,13 @@ static inline gef_status gef_pump_from_link(gef_pump *pump) {
     uint8_t port;
     if (pump->ports) return gef_pm_to_host(&pump->pm, pump->in.fis, GEF_FIS_ROOM, &pump->in.len, &port);
     if (!(pump->plugged & 1)) return GEF_NOTHING;
-    status = gef_disk_to_host(&pump->disks[0], pump->in.fis, GEF_FIS_ROOM, &pump->in.len);
-    if (status == GEF_OK) pump->in.fis[1] |= pump->asked;
-    return status;
+    status = gef_pump_of_disk(pump, 0);
+    if (status != GEF_OK) return status;
+    memcpy(pump->in.fis, pump->up[0].fis, pump->up[0].len);
+    pump->in.fis[1] |= pump->asked;
+    pump->in.len = pump->up[0].len;
+    pump->up[0].len = 0;
+    return GEF_OK;
 }
 
 /* From the controller to the other end: one FIS. */
@@ -160,7 +198,7 @@ static inline gef_status gef_pump_out(gef_pump *pump) {
 static inline gef_status gef_pump_deliver(gef_pump *pump) {
     gef_status status;
     if (!pump->down.len) return GEF_OK;
-    status = gef_disk_from_host(&pump->disks[pump->down_port], pump->down.fis, pump->down.len);
+    status = gef_pump_to_disk(pump, pump->down_port, &pump->down);
     if (status != GEF_OK) return status;
     pump->down.len = 0;
     pump->moved = 1;
@@ -180,11 +218,8 @@ static inline gef_status gef_pump_down(gef_pump *pump, uint8_t port) {
 /* From a disk to the multiplier: one FIS. */
 static inline gef_status gef_pump_up(gef_pump *pump, uint8_t port) {
     gef_waiting *up = &pump->up[port];
-    gef_status status;
-    if (!up->len) {
-        status = gef_disk_to_host(&pump->disks[port], up->fis, GEF_FIS_ROOM, &up->len);
-        if (status != GEF_OK) return status == GEF_NOTHING ? GEF_OK : status;
-    }
+    gef_status status = gef_pump_of_disk(pump, port);
+    if (status != GEF_OK) return status == GEF_NOTHING ? GEF_OK : status;
     status = gef_pm_from_device(&pump->pm, port, up->fis, up->len);
     if (status == GEF_FULL) return GEF_OK;
     if (status != GEF_OK && status != GEF_DROPPED) return status;
@@ -254,7 +289,7 @@ static inline gef_status gef_pump_open(gef_pump *pump, uint8_t ports) {
     return GEF_OK;
 }
 
-/* Frees all that was made: the disks, the multiplier and the controller. */
+/* Frees all that was made: the disks, the multiplier and the controller. Images are not saved: gef_image_save does that. */
 static inline void gef_pump_close(gef_pump *pump) {
     uint8_t port;
     for (port = 0; port < GEF_PUMP_PORTS; port++) gef_disk_free(&pump->disks[port]);
@@ -280,7 +315,7 @@ static inline gef_status gef_pump_reset(gef_pump *pump) {
     gef_pump_forget(pump);
     for (port = 0; port < GEF_PUMP_PORTS; port++) {
         if (!(pump->plugged >> port & 1)) continue;
-        status = gef_disk_plug(&pump->disks[port]);
+        status = gef_pump_begin(pump, port);
         if (status == GEF_OK && pump->ports && (port || !pump->port_0_open)) status = gef_pm_plug(&pump->pm, port);
         if (status != GEF_OK) return status;
     }
@@ -303,7 +338,7 @@ static inline gef_status gef_pump_plug(gef_pump *pump, uint8_t port) {
     if (status != GEF_OK) return status;
     if (!pump->ports && port) return GEF_NO_PORT;
     if (!pump->ports && pump->plugged & 1) return GEF_ALREADY_THERE;
-    status = gef_disk_plug(&pump->disks[port]);
+    status = gef_pump_begin(pump, port);
     if (status == GEF_OK)
         pump->plugged |= 1u << port;
     else
@@ -343,7 +378,8 @@ static inline gef_status gef_pump_write32(gef_pump *pump, uint32_t offset, uint3
 
 /*
  * One round: a FIS of the controller goes out. At each port a FIS goes down to the disk, one comes up, and all that the
- * multiplier has for the controller goes in. Can return GEF_NULL, GEF_CLOSED, GEF_NO_MEMORY.
+ * multiplier has for the controller goes in. Can return GEF_NULL, GEF_CLOSED, GEF_NO_MEMORY, GEF_IMAGE (an image failed:
+ * the end of the command waits, and the next call tries again).
  */
 static inline gef_status gef_pump_step(gef_pump *pump) {
     gef_status status = gef_pump_ready(pump);

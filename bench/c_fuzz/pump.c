@@ -4,7 +4,7 @@
  *     pump refused           plays a scene again and again, and refuses memory once each time: at the first allocation,
  *                            at the second, and so on. The guest and the disks must end as if it had been given.
  *     pump random SECONDS    plays a guest that does anything, while disks are pulled and plugged in. No call may fail,
- *                            and at the end nothing may move.
+ *                            and at the end nothing may move. What is saved of a disk must be its sectors.
  *
  * Link it with -Wl,--wrap=malloc,--wrap=realloc, and build it with the sanitizers. Status 1 where something is not so.
  */
@@ -253,15 +253,62 @@ static void write_guest(void *context, uint64_t at, const uint8_t *bytes, size_t
     if (at <= MEMORY && len <= MEMORY - at) memcpy(memory + at, bytes, len);
 }
 
+/* Images of some disks, in memory. */
+enum { PORTS = 4, IMAGE = 64 * 512 };
+static uint8_t media[PORTS][IMAGE], changed[PORTS][8];
+static gef_image images[PORTS];
+
+static int read_medium(void *medium, uint64_t at, uint8_t *bytes, size_t len) {
+    memcpy(bytes, (uint8_t *)medium + at, len);
+    return 0;
+}
+
+static int write_medium(void *medium, uint64_t at, const uint8_t *bytes, size_t len) {
+    memcpy((uint8_t *)medium + at, bytes, len);
+    return 0;
+}
+
+static int flush_medium(void *medium) {
+    (void)medium;
+    return 0;
+}
+
+static void load(unsigned port) {
+    gef_image *image = &images[port];
+    memset(image, 0, sizeof *image);
+    memset(changed[port], 0, sizeof changed[port]);
+    image->read = read_medium;
+    image->write = write_medium;
+    image->flush = flush_medium;
+    image->context = media[port];
+    image->sectors = 64;
+    image->changed = changed[port];
+    must("load", gef_image_load(image, &pump.disks[port]));
+    pump.images[port] = image;
+}
+
+/* What is saved of a disk is its sectors, and the disk is freed. */
+static void save(unsigned port) {
+    uint8_t sector[512];
+    uint32_t lba;
+    if (pump.images[port]) must("save", gef_image_save(pump.images[port], &pump.disks[port]));
+    for (lba = 0; pump.images[port] && lba < 64; lba++) {
+        must("sector", gef_disk_sector(&pump.disks[port], lba, sector, sizeof sector));
+        if (memcmp(sector, media[port] + 512 * lba, sizeof sector)) fail("an image lacks a sector", (int)lba);
+    }
+    pump.images[port] = 0;
+    must("free", gef_disk_free(&pump.disks[port]));
+}
+
 static void plug_or_pull(unsigned port) {
     static const uint16_t chunks[3] = {512, 1024, 8192};
     static const uint32_t bad[1] = {3};
     if (pump.plugged >> port & 1) {
         must("pull", gef_pump_unplug(&pump, (uint8_t)port));
-        if (pick(2)) must("free", gef_disk_free(&pump.disks[port]));
+        if (pick(2)) save(port);
         return;
     }
-    gef_disk_new(&pump.disks[port], 64, chunks[pick(3)], pick(16), port, bad, 1);
+    if (gef_disk_new(&pump.disks[port], 64, chunks[pick(3)], pick(16), port, bad, 1) == GEF_OK && pick(2)) load(port);
     must("plug", gef_pump_plug(&pump, (uint8_t)port));
 }
 
@@ -274,7 +321,7 @@ static void write_any(void) {
 }
 
 static void act(unsigned ports) {
-    static const uint8_t codes[6] = {0x60, 0x61, 0x61, 0xEC, 0x2F, 0xE5};
+    static const uint8_t codes[8] = {0x60, 0x61, 0x61, 0xEC, 0x2F, 0xE5, 0xEA, 0xEF};
     unsigned port = pick(ports ? ports : 1);
     switch (pick(12)) {
     case 0: plug_or_pull(port); break;
@@ -289,7 +336,7 @@ static void act(unsigned ports) {
     case 5: memory[pick((uint32_t)pump.len)] = (uint8_t)pick(256); break;
     case 6: write_register(IS, 0xFFFFFFFFu); break;
     case 7: must("step", gef_pump_settle(&pump, pick(4))); break;
-    default: queue(1 + pick(31), port, codes[pick(6)], (uint8_t)pick(64)); break;
+    default: queue(1 + pick(31), port, codes[pick(8)], (uint8_t)pick(64)); break;
     }
 }
 
@@ -315,6 +362,8 @@ static void play_random(double seconds) {
         settle();
         for (at = (unsigned)pump.len; at < MEMORY && !pump.write; at++)
             if (memory[at]) fail("written past the memory", (int)at);
+        for (at = 0; at < PORTS; at++)
+            if (pump.images[at]) save(at);
         gef_pump_close(&pump);
         lists++;
     } while (clock() < until);

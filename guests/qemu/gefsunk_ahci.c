@@ -5,10 +5,14 @@
  *   -device gefsunk-ahci,disks=15,sectors=65536,log=FILE,record=FILE
  *   -device gefsunk-ahci,multiplier=off,disks=1
  *   -device gefsunk-ahci,port0=on                   port 0 is open, for a guest that knows no multipliers
+ *   -device gefsunk-ahci,images=A:B:..              port 0 has the sectors of the file A, port 1 those of B, and so on
  *
  * BAR 5 has the registers of AHCI. BAR 0 has one register, the hand: a write pulls a disk, plugs in a new one, or holds all
  * FISes back for a while. All else is the pump's and the library's. Here bytes are written to the guest's memory where the
  * pump says, and the interrupt is raised.
+ *
+ * What a guest wrote to a disk with a file is in the file when the guest hears that the write ended. While a file cannot be
+ * written, the machine's disks stand still: the end of the write waits, and is tried again ten times a second.
  *
  * `log` gets the FISes on the link, at most `lines` of them, and `record` what the driver does (gefsunk_record.h).
  */
@@ -18,6 +22,7 @@
 #include "qemu/units.h"
 #include "qemu/main-loop.h"
 #include "qemu/module.h"
+#include "qemu/timer.h"
 #include "hw/boards.h"
 #include "hw/pci/pci.h"
 #include "hw/pci/msi.h"
@@ -35,7 +40,10 @@ struct GefsunkAhci {
     PCIDevice parent_obj;
     MemoryRegion registers, hand;
     QEMUBH *later;
+    QEMUTimer *again;
     gef_pump pump;
+    gef_image images[GEF_PUMP_PORTS];
+    int files[GEF_PUMP_PORTS];
     bool is_held;
     uint32_t serial, logged, raised;
     FILE *out;
@@ -43,7 +51,7 @@ struct GefsunkAhci {
     /* properties */
     uint32_t ports, disks, sectors, chunk, flags, lines;
     bool fbs, multiplier, port0;
-    char *log, *record;
+    char *log, *record, *names;
 };
 
 /* Anything but this is a mistake of this file. */
@@ -97,7 +105,14 @@ static void run_pump(void *opaque)
     unsigned round = 0;
     bool moved = !s->is_held;
     while (moved && (round++ < ROUNDS || s->recording.out)) {
-        must(gef_pump_step(&s->pump));
+        gef_status status = gef_pump_step(&s->pump);
+        if (status == GEF_IMAGE) {
+            warn_report_once("gefsunk-ahci: %s", gef_status_text(status));
+            timer_mod(s->again, qemu_clock_get_ms(QEMU_CLOCK_REALTIME) + 100);
+            moved = false;
+            break;
+        }
+        must(status);
         moved = s->pump.moved;
         record_round(&s->recording, moved);
     }
@@ -105,6 +120,55 @@ static void run_pump(void *opaque)
     if (moved) {
         qemu_bh_schedule(s->later);
     }
+}
+
+static int read_file(void *context, uint64_t at, uint8_t *bytes, size_t len)
+{
+    return pread(*(int *)context, bytes, len, at) != (ssize_t)len;
+}
+
+static int write_file(void *context, uint64_t at, const uint8_t *bytes, size_t len)
+{
+    return pwrite(*(int *)context, bytes, len, at) != (ssize_t)len;
+}
+
+static int flush_file(void *context)
+{
+    return fdatasync(*(int *)context);
+}
+
+/* The disk of a port has the sectors of a file. */
+static void open_image(GefsunkAhci *s, unsigned port, const char *name, Error **errp)
+{
+    gef_image *image = &s->images[port];
+    struct stat about;
+    s->files[port] = open(name, O_RDWR);
+    if (s->files[port] < 0 || fstat(s->files[port], &about) || about.st_size / 512 > 8388607 || about.st_size < 512) {
+        error_setg(errp, "%s: no file with 1 to 8,388,607 sectors", name);
+        return;
+    }
+    image->read = read_file;
+    image->write = write_file;
+    image->flush = flush_file;
+    image->context = &s->files[port];
+    image->sectors = about.st_size / 512;
+    image->changed = g_malloc0((image->sectors + 7) / 8);
+    s->pump.images[port] = image;
+}
+
+/* Files for the first ports, their names one after another with colons between them. */
+static void open_images(GefsunkAhci *s, Error **errp)
+{
+    char **names = g_strsplit(s->names ? s->names : "", ":", 0);
+    unsigned port;
+    for (port = 0; names[port] && !*errp; port++) {
+        if (port < s->disks) {
+            open_image(s, port, names[port], errp);
+        } else {
+            error_setg(errp, "more images than disks");
+        }
+    }
+    g_strfreev(names);
 }
 
 static uint64_t read_register(void *opaque, hwaddr at, unsigned size)
@@ -130,14 +194,25 @@ static void write_register(void *opaque, hwaddr at, uint64_t value, unsigned siz
 static void plug(GefsunkAhci *s, unsigned port, bool is_bad)
 {
     static const uint32_t bad[] = {5000};
-    must(gef_disk_new(&s->pump.disks[port], s->sectors, s->chunk, s->flags | GEF_DISK_STOCK, s->serial++, bad, is_bad));
+    gef_image *image = s->pump.images[port];
+    uint32_t sectors = image ? image->sectors : s->sectors;
+    must(gef_disk_new(&s->pump.disks[port], sectors, s->chunk, s->flags | GEF_DISK_STOCK, s->serial++, bad, is_bad));
+    if (image) {
+        must(gef_image_load(image, &s->pump.disks[port]));
+    }
     must(gef_pump_plug(&s->pump, port));
 }
 
+/* A disk that is pulled loses what a guest was not told to be on it. */
 static void pull(GefsunkAhci *s, unsigned port)
 {
+    gef_image *image = s->pump.images[port];
     must(gef_pump_unplug(&s->pump, port));
     must(gef_disk_free(&s->pump.disks[port]));
+    if (image) {
+        memset(image->changed, 0, (image->sectors + 7) / 8);
+        image->from = image->to = 0;
+    }
 }
 
 /*
@@ -199,6 +274,7 @@ static void begin_recording(GefsunkAhci *s)
 
 static void realize(PCIDevice *dev, Error **errp)
 {
+    ERRP_GUARD();
     GefsunkAhci *s = GEFSUNK_AHCI(dev);
     unsigned port;
     /* The controller reads the guest's memory as one block from address 0 on: so that it is one, it is no larger. */
@@ -214,12 +290,17 @@ static void realize(PCIDevice *dev, Error **errp)
     s->pump.context = s;
     s->pump.port_0_open = s->port0;
     s->out = s->log ? fopen(s->log, "w") : NULL;
+    open_images(s, errp);
+    if (*errp) {
+        return;
+    }
     must(gef_pump_open(&s->pump, s->multiplier ? s->ports : 0));
     for (port = 0; port < s->disks; port++) {
         plug(s, port, false);
     }
     begin_recording(s);
     s->later = qemu_bh_new(run_pump, s);
+    s->again = timer_new_ms(QEMU_CLOCK_REALTIME, run_pump, s);
     pci_config_set_prog_interface(dev->config, 1);
     pci_config_set_interrupt_pin(dev->config, 1);
     memory_region_init_io(&s->hand, OBJECT(s), &hand_ops, s, "gefsunk-hand", 16);
@@ -241,6 +322,7 @@ static Property properties[] = {
     DEFINE_PROP_BOOL("port0", GefsunkAhci, port0, false),
     DEFINE_PROP_STRING("log", GefsunkAhci, log),
     DEFINE_PROP_STRING("record", GefsunkAhci, record),
+    DEFINE_PROP_STRING("images", GefsunkAhci, names),
     DEFINE_PROP_END_OF_LIST(),
 };
 

@@ -1,6 +1,7 @@
 /*
  * A recording of what a driver does with the controller, and of what it gets: a scenario for `pm_trace guest`
- * (docs/SCENARIOS.md), which plays it again.
+ * (docs/SCENARIOS.md), which plays it again if the disks are behind a multiplier whose ports are closed at first, and have
+ * no images.
  *
  * Each read and write of a register is a line. Before a write that issues commands stands what the guest's memory has
  * of them: the command FIS in words, the header, the FIS, the PRDs, and the bytes of a queued write. The work of the

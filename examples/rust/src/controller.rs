@@ -209,8 +209,8 @@ impl Controller {
         })
     }
 
-    /// Where the bytes of the FIS that was taken last go, in order: no place where it brought none. Of two bytes for
-    /// one address the later one stays.
+    /// Where the bytes of the FIS that was taken last go, in order: no place where it brought none, or where PxCI was
+    /// written or the controller reset since. Of two bytes for one address the later one stays.
     ///
     /// # Errors
     /// [`Error::NoMemory`], for the list alone.

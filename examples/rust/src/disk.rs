@@ -57,7 +57,7 @@ pub struct Disk {
 unsafe impl Send for Disk {}
 
 impl Disk {
-    /// A disk with 1 to 65,536 sectors of 512 bytes.
+    /// A disk with 1 to 65,536 sectors of 512 bytes, a stock one with up to 8,388,607.
     ///
     /// # Errors
     /// [`Error::BadDisk`] and [`Error::NoMemory`].
@@ -84,7 +84,7 @@ impl Disk {
     /// The disk is plugged in: its medium stays, and it sends its signature next.
     ///
     /// # Errors
-    /// [`Error::NoMemory`].
+    /// None so far: it needs no memory.
     pub fn plug(&mut self) -> Result<(), Error> {
         // SAFETY: the handle is open, and this is its one copy.
         Error::check(unsafe { ffi::gef_disk_plug(&mut self.handle) })

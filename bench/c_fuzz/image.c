@@ -1,0 +1,262 @@
+/*
+ * What of a disk is in its image (gefsunk_image.h) when the process ends, or the image fails.
+ *
+ *     image cut      plays a host, in a process of its own that ends at the first write or flush of the image, then at the
+ *                    second, and so on. Each sector that the host heard to be flushed must be in the image, as it was
+ *                    flushed or as it was written later.
+ *     image fails    plays the host again and again. The first write or flush of the image fails, then the second, and so
+ *                    on. The host hears of no end until it is tried again, and at the end nothing is missing.
+ *
+ * Status 1 where something is not so.
+ */
+#define _DEFAULT_SOURCE
+#include <stdio.h>
+#include <stdlib.h>
+#include <string.h>
+#include <sys/mman.h>
+#include <sys/wait.h>
+#include <unistd.h>
+#include "gefsunk_image.h"
+
+enum { TAGS = 4, EACH = 20, SECTORS = TAGS * EACH, STEPS = 400 };
+
+/* What outlives the process: of the image what was flushed. A sector of version v has v in its first and its last four bytes. */
+typedef struct {
+    uint8_t image[512 * SECTORS];
+    uint32_t written[SECTORS]; /* the newest version that the host sent */
+    uint32_t flushed[SECTORS]; /* the newest one of which it heard that it is flushed */
+} world;
+
+static world *it;
+static unsigned calls, cut, failing; /* calls of the image so far; the one at which the process ends, or which fails */
+
+static void fail(const char *what, unsigned number) {
+    printf("%s: %u\n", what, number);
+    exit(1);
+}
+
+static void must(const char *what, gef_status status) {
+    if (status != GEF_OK) fail(what, (unsigned)status);
+}
+
+/* ---- the image --------------------------------------------------------------------------------------------------- */
+
+static uint8_t cache[512 * SECTORS]; /* what was written, and is lost if the process ends before it is flushed */
+
+static int read_image(void *context, uint64_t at, uint8_t *bytes, size_t len) {
+    (void)context;
+    memcpy(bytes, cache + at, len);
+    return 0;
+}
+
+/* A call that fails has written half of its sectors. */
+static int write_image(void *context, uint64_t at, const uint8_t *bytes, size_t len) {
+    (void)context;
+    calls++;
+    memcpy(cache + at, bytes, calls == failing ? len / 1024 * 512 : len);
+    if (calls == cut) _exit(0);
+    return calls == failing;
+}
+
+/* At the cut, half of all sectors have come to the image. */
+static int flush_image(void *context) {
+    (void)context;
+    calls++;
+    if (calls == failing) return 1;
+    memcpy(it->image, cache, calls == cut ? sizeof cache / 1024 * 512 : sizeof cache);
+    if (calls == cut) _exit(0);
+    return 0;
+}
+
+/* ---- a host ------------------------------------------------------------------------------------------------------ */
+
+static gef_disk disk;
+static gef_image image;
+static uint8_t changed[(SECTORS + 7) / 8];
+static uint32_t current[SECTORS]; /* the versions on the medium, as the host knows */
+static struct { uint32_t lba, count, is_fua; } sent[TAGS];
+static uint32_t outstanding, is_cached, is_flushing, seed;
+
+static unsigned any(unsigned below) {
+    seed = seed * 1103515245u + 12345u;
+    return (seed >> 16) % below;
+}
+
+/* The version of a sector in the image. */
+static uint32_t version(uint32_t sector) {
+    uint32_t first, last;
+    memcpy(&first, it->image + 512 * sector, 4);
+    memcpy(&last, it->image + 512 * sector + 508, 4);
+    if (first != last) fail("half a sector is in the image", sector);
+    return first;
+}
+
+/* What must be so at any time, and at the end. */
+static void look(int is_whole) {
+    uint32_t at;
+    for (at = 0; at < SECTORS; at++) {
+        uint32_t is = version(at);
+        if (is < it->flushed[at]) fail("a sector that was flushed is not in the image", at);
+        if (is > it->written[at]) fail("a sector is in the image that nobody wrote", at);
+        if (is_whole && is != it->written[at]) fail("a sector is missing at the end", at);
+    }
+}
+
+/* The host hears that the sectors of a tag, or all, are flushed. */
+static void hear(uint32_t lba, uint32_t count) {
+    uint32_t at;
+    for (at = lba; at < lba + count; at++) it->flushed[at] = current[at];
+    look(0);
+}
+
+static void ended(unsigned tag) {
+    uint32_t at;
+    for (at = sent[tag].lba; at < sent[tag].lba + sent[tag].count; at++) current[at] = it->written[at];
+    if (!is_cached || sent[tag].is_fua) hear(sent[tag].lba, sent[tag].count);
+}
+
+/* The disk asks for a part of a write. */
+static void give(const uint8_t *setup) {
+    unsigned tag = setup[4] & 31;
+    uint32_t at = gef_image_number(setup + 16), end = at + gef_image_number(setup + 20);
+    uint8_t fis[4 + 8192] = {0x46};
+    for (; at < end; at += 512) {
+        uint32_t sector = sent[tag].lba + at / 512;
+        uint8_t *bytes = fis + 4 + at - gef_image_number(setup + 16);
+        memcpy(bytes, &it->written[sector], 4);
+        memcpy(bytes + 508, &it->written[sector], 4);
+    }
+    must("data", gef_disk_from_host(&disk, fis, 4 + gef_image_number(setup + 20)));
+    gef_image_down(&image, fis, 4 + gef_image_number(setup + 20));
+}
+
+/* The host hears a FIS. */
+static void take(const uint8_t *fis, uint8_t *setup) {
+    unsigned tag;
+    if (fis[0] == 0x41) memcpy(setup, fis, 28);
+    if (fis[0] == 0x39 || (fis[0] == 0x41 && fis[1] & 0x80)) give(setup);
+    for (tag = 0; tag < TAGS; tag++) {
+        if (fis[0] != 0xA1 || !(fis[4] >> tag & 1)) continue;
+        outstanding &= ~(1u << tag);
+        ended(tag);
+    }
+    if (fis[0] == 0x34 && fis[2] & 1) fail("the disk reports an error", fis[3]);
+    if (fis[0] == 0x34 && is_flushing) hear(0, SECTORS);
+    if (fis[0] == 0x34) is_flushing = 0;
+}
+
+static void settle(unsigned most) {
+    static uint8_t fis[GEF_FIS_ROOM], setup[28];
+    size_t len;
+    while (most-- && gef_disk_to_host(&disk, fis, sizeof fis, &len) == GEF_OK) {
+        gef_status status = gef_image_up(&image, &disk, fis, len);
+        if (status == GEF_IMAGE && calls == failing) status = gef_image_up(&image, &disk, fis, len);
+        must("up", status);
+        take(fis, setup);
+    }
+}
+
+static void command(uint8_t code, uint8_t features, uint8_t lba, uint8_t device, uint8_t count) {
+    uint8_t fis[20] = {0x27, 0x80, 0, 0, 0, 0, 0, 0x40};
+    fis[2] = code;
+    fis[3] = features;
+    fis[4] = lba;
+    fis[7] |= device;
+    fis[12] = count;
+    must("command", gef_disk_from_host(&disk, fis, sizeof fis));
+    gef_image_down(&image, fis, sizeof fis);
+}
+
+static void write_some(unsigned tag) {
+    uint32_t at;
+    sent[tag].lba = tag * EACH + any(EACH);
+    sent[tag].count = 1 + any(tag * EACH + EACH - sent[tag].lba);
+    sent[tag].is_fua = any(32) == 0;
+    outstanding |= 1u << tag;
+    for (at = sent[tag].lba; at < sent[tag].lba + sent[tag].count; at++) it->written[at]++;
+    command(0x61, (uint8_t)sent[tag].count, (uint8_t)sent[tag].lba, sent[tag].is_fua ? 0x80 : 0, (uint8_t)(tag << 3));
+}
+
+/* The write cache goes on or off, or all is flushed. */
+static void rest(void) {
+    unsigned what = any(4);
+    settle(100000);
+    if (what == 0) {
+        is_cached = any(4) != 0;
+        command(0xEF, is_cached ? 0x02 : 0x82, 0, 0, 0);
+    } else {
+        is_flushing = 1;
+        command(what == 1 ? 0xE7 : 0xEA, 0, 0, 0, 0);
+    }
+    settle(100000);
+}
+
+static void play(void) {
+    unsigned step;
+    memset(it, 0, sizeof *it);
+    memset(cache, 0, sizeof cache);
+    memset(current, 0, sizeof current);
+    memset(&image, 0, sizeof image);
+    memset(changed, 0, sizeof changed);
+    calls = outstanding = is_cached = is_flushing = 0;
+    seed = 1;
+    image.read = read_image;
+    image.write = write_image;
+    image.flush = flush_image;
+    image.sectors = SECTORS;
+    image.changed = changed;
+    must("disk", gef_disk_new(&disk, SECTORS, 1024, GEF_DISK_STOCK, 0, 0, 0));
+    must("load", gef_image_load(&image, &disk));
+    must("plug", gef_disk_plug(&disk));
+    settle(100000);
+    for (step = 0; step < STEPS; step++) {
+        unsigned tag = any(TAGS);
+        if (any(12) == 0)
+            rest();
+        else if (!(outstanding >> tag & 1))
+            write_some(tag);
+        settle(any(6));
+    }
+    settle(100000);
+    is_flushing = 1;
+    command(0xEA, 0, 0, 0, 0);
+    settle(100000);
+    must("free", gef_disk_free(&disk));
+}
+
+/* ---- again and again --------------------------------------------------------------------------------------------- */
+
+/* Plays in a process of its own, which ends at a call of the image. 1 if it did not come so far. */
+static int play_cut(void) {
+    int status;
+    pid_t child = fork();
+    if (child == 0) {
+        play();
+        _exit(2);
+    }
+    if (child < 0 || waitpid(child, &status, 0) != child || !WIFEXITED(status)) fail("the process", cut);
+    if (WEXITSTATUS(status) == 1) fail("the host", cut);
+    return WEXITSTATUS(status) == 2;
+}
+
+int main(int argc, char **argv) {
+    int is_cut = argc == 2 && strcmp(argv[1], "cut") == 0, is_over = 0;
+    unsigned n;
+    if (!is_cut && !(argc == 2 && strcmp(argv[1], "fails") == 0)) return 2;
+    it = mmap(0, sizeof *it, PROT_READ | PROT_WRITE, MAP_SHARED | MAP_ANONYMOUS, -1, 0);
+    if (it == MAP_FAILED) return 2;
+    for (n = 1; !is_over; n++) {
+        if (is_cut) {
+            cut = n;
+            is_over = play_cut();
+            look(is_over);
+        } else {
+            failing = n;
+            play();
+            is_over = calls < n;
+            look(1);
+        }
+    }
+    printf("%u calls of the image, at each of which %s\n", n - 2, is_cut ? "the process ended" : "it failed");
+    return 0;
+}

@@ -1,0 +1,252 @@
+/*
+ * gefsunk_image.h - an image of a disk's sectors, which outlives the disk: in a file, or wherever you keep it.
+ *
+ *     static gef_image image;                      // zeroes
+ *     image.read = my_read;                        // functions of yours, by place and length in bytes
+ *     image.write = my_write;
+ *     image.flush = my_flush;
+ *     image.context = my_file;
+ *     image.sectors = bytes_of_my_file / 512;
+ *     image.changed = calloc((image.sectors + 7) / 8, 1);
+ *     gef_disk_new(&disk, image.sectors, 8192, GEF_DISK_STOCK, 0, 0, 0);
+ *     gef_image_load(&image, &disk);               // the disk has the sectors of the image
+ *     gef_disk_plug(&disk);
+ *
+ *     each FIS that goes to the disk:              gef_disk_from_host(&disk, fis, len), then gef_image_down(&image, fis, len)
+ *     each FIS of the disk, before it goes on:     gef_image_up(&image, &disk, fis, len)
+ *
+ * A disk of gefsunk.h says of itself that it has no write cache, so a host need not flush it. That stays true: what a host
+ * wrote is in the image before the host hears that the write has ended. If the host turns a write cache on (SET FEATURES
+ * 02h), it is there before the host hears that its next flush has ended. gef_image_up does that: if the FIS ends a
+ * write or a flush, the sectors that changed are written to the image, and then the image is flushed. If that fails, the
+ * FIS is still yours. Keep it, and call again later: until then the host waits for the end of its command. The pump of
+ * gefsunk_pump.h does all this for the images that it is given.
+ *
+ * These functions are plain C over the calls of gefsunk.h, whose rules hold here too. Those calls are proved; these
+ * functions are not. They take no memory. The disk's own medium is in memory, too: the image is a copy that is behind
+ * it by what the host was not told to be there.
+ */
+#ifndef GEFSUNK_IMAGE_H
+#define GEFSUNK_IMAGE_H
+
+#include <string.h>
+#include "gefsunk.h"
+
+#ifdef __cplusplus
+extern "C" {
+#endif
+
+/* Sectors that are loaded and saved at a time. */
+#define GEF_IMAGE_RUN 16u
+
+/* Behind the 32 tags: the number of a write that is no queued one. */
+#define GEF_IMAGE_DMA 32u
+
+/*
+ * Functions of yours: they move len bytes from a place on, a multiple of 512 each, or make sure that all that was
+ * written stays. They return 0, or anything else if they failed.
+ */
+typedef int (*gef_image_reads)(void *context, uint64_t at, uint8_t *bytes, size_t len);
+typedef int (*gef_image_writes)(void *context, uint64_t at, const uint8_t *bytes, size_t len);
+typedef int (*gef_image_flushes)(void *context);
+
+typedef struct gef_image {
+    /* Yours to set. */
+    gef_image_reads read;
+    gef_image_writes write;
+    gef_image_flushes flush;
+    void *context;     /* the first argument of all three */
+    uint32_t sectors;  /* those of the disk */
+    uint8_t *changed;  /* a bit for each sector, in (sectors + 7) / 8 bytes: zeroes at first */
+
+    /* The image's own. */
+    uint32_t from, to;  /* the sectors that may have changed lie between these two */
+    uint64_t open;      /* writes that have not ended: a bit for each tag, and one for a DMA command */
+    struct { uint32_t lba, count; } writes[GEF_IMAGE_DMA + 1];
+    uint8_t is_due;    /* the next command that ends does so when all is saved */
+    uint8_t is_cached; /* a write may end before */
+} gef_image;
+
+/* ---- parts of what follows --------------------------------------------------------------------------------------- */
+
+static inline uint32_t gef_image_number(const uint8_t *bytes) {
+    return bytes[0] | (uint32_t)bytes[1] << 8 | (uint32_t)bytes[2] << 16 | (uint32_t)bytes[3] << 24;
+}
+
+/* A part of the medium may change. */
+static inline void gef_image_mark(gef_image *image, uint32_t lba, uint32_t count) {
+    uint32_t at, end = lba + count;
+    for (at = lba; at < end; at++) image->changed[at / 8] |= (uint8_t)(1u << at % 8);
+    if (image->from == image->to || lba < image->from) image->from = lba;
+    if (end > image->to) image->to = end;
+}
+
+/* A write begins. The disk refuses one that passes its end. */
+static inline void gef_image_begin(gef_image *image, unsigned number, uint64_t lba, uint32_t count) {
+    if (lba >= image->sectors || count > image->sectors - lba) return;
+    image->writes[number].lba = (uint32_t)lba;
+    image->writes[number].count = count;
+    image->open |= (uint64_t)1 << number;
+    gef_image_mark(image, (uint32_t)lba, count);
+}
+
+/* The writes that end with this FIS: those that it names, and after an error all. */
+static inline uint64_t gef_image_ended(const uint8_t *fis) {
+    uint64_t dma = (uint64_t)1 << GEF_IMAGE_DMA;
+    if (fis[2] & 1) return dma | 0xFFFFFFFFu;
+    return fis[0] == 0x34 ? dma : gef_image_number(fis + 4);
+}
+
+/* The Data FIS that a write of the loading asks for. */
+static inline gef_status gef_image_give(gef_disk *disk, const uint8_t *bytes, size_t len, const uint8_t *setup) {
+    uint32_t offset = gef_image_number(setup + 16), count = gef_image_number(setup + 20);
+    uint8_t fis[4 + 512 * GEF_IMAGE_RUN] = { 0x46 };
+    if (offset > len || count > len - offset) return GEF_IMAGE;
+    memcpy(fis + 4, bytes + offset, count);
+    return gef_disk_from_host(disk, fis, 4 + count);
+}
+
+/* All that the disk sends for one write of the loading. */
+static inline gef_status gef_image_serve(gef_disk *disk, const uint8_t *bytes, size_t len) {
+    uint8_t fis[GEF_FIS_ROOM], setup[28] = { 0 };
+    size_t got;
+    gef_status status;
+    for (;;) {
+        status = gef_disk_to_host(disk, fis, sizeof fis, &got);
+        if (status != GEF_OK) return status == GEF_NOTHING ? GEF_IMAGE : status;
+        if ((fis[0] == 0x34 || fis[0] == 0xA1) && fis[2] & 1) return GEF_IMAGE;
+        if (fis[0] == 0xA1) return GEF_OK;
+        if (fis[0] == 0x41) memcpy(setup, fis, sizeof setup);
+        if (fis[0] != 0x39 && !(fis[0] == 0x41 && fis[1] & 0x80)) continue;
+        status = gef_image_give(disk, bytes, len, setup);
+        if (status != GEF_OK) return status;
+    }
+}
+
+/* Sectors are written to the disk, by WRITE FPDMA QUEUED. */
+static inline gef_status gef_image_put(gef_disk *disk, uint32_t lba, uint32_t count, const uint8_t *bytes) {
+    uint8_t fis[20] = { 0x27, 0x80, 0x61 };
+    gef_status status;
+    fis[3] = (uint8_t)count;
+    fis[4] = (uint8_t)lba;
+    fis[5] = (uint8_t)(lba >> 8);
+    fis[6] = (uint8_t)(lba >> 16);
+    fis[7] = 0x40;
+    fis[8] = (uint8_t)(lba >> 24);
+    status = gef_disk_from_host(disk, fis, sizeof fis);
+    return status == GEF_OK ? gef_image_serve(disk, bytes, 512 * (size_t)count) : status;
+}
+
+/* Saves the changed sectors from this one on, at most GEF_IMAGE_RUN of them, and says how many they are. */
+static inline gef_status gef_image_save_run(gef_image *image, gef_disk *disk, uint32_t lba, uint32_t *count) {
+    uint8_t bytes[512 * GEF_IMAGE_RUN];
+    gef_status status;
+    *count = 0;
+    while (*count < GEF_IMAGE_RUN && lba + *count < image->to) {
+        uint32_t at = lba + *count;
+        if (!(image->changed[at / 8] >> at % 8 & 1)) break;
+        status = gef_disk_sector(disk, at, bytes + 512 * *count, 512);
+        if (status != GEF_OK) return status;
+        ++*count;
+    }
+    if (*count && image->write(image->context, 512 * (uint64_t)lba, bytes, 512 * (size_t)*count)) return GEF_IMAGE;
+    return GEF_OK;
+}
+
+/* ---- what you call ----------------------------------------------------------------------------------------------- */
+
+/*
+ * The disk takes the sectors of the image. Call it for a new disk, before it is plugged in. If it fails, free the disk.
+ * Can return GEF_CLOSED, GEF_NO_MEMORY, GEF_IMAGE (the image cannot be read, or the disk has not as many sectors).
+ */
+static inline gef_status gef_image_load(gef_image *image, gef_disk *disk) {
+    uint8_t bytes[512 * GEF_IMAGE_RUN];
+    uint32_t at = 0, count;
+    gef_status status = GEF_OK;
+    while (status == GEF_OK && at < image->sectors) {
+        count = image->sectors - at < GEF_IMAGE_RUN ? image->sectors - at : GEF_IMAGE_RUN;
+        if (image->read(image->context, 512 * (uint64_t)at, bytes, 512 * (size_t)count)) return GEF_IMAGE;
+        status = gef_image_put(disk, at, count, bytes);
+        at += count;
+    }
+    return status;
+}
+
+/*
+ * The image takes the sectors that changed, and is flushed. Call it before you free the disk, or where you want to. If
+ * it fails, all that changed is saved by the next call. Can return GEF_CLOSED, GEF_IMAGE.
+ */
+static inline gef_status gef_image_save(gef_image *image, gef_disk *disk) {
+    uint32_t at = image->from, count;
+    while (at < image->to) {
+        gef_status status = gef_image_save_run(image, disk, at, &count);
+        if (status != GEF_OK) return status;
+        at += count ? count : 1;
+    }
+    if (image->flush(image->context)) return GEF_IMAGE;
+    if (image->to) memset(image->changed + image->from / 8, 0, (image->to - 1) / 8 - image->from / 8 + 1);
+    image->from = image->to = 0;
+    for (at = 0; at <= GEF_IMAGE_DMA; at++)
+        if (image->open >> at & 1) gef_image_mark(image, image->writes[at].lba, image->writes[at].count);
+    return GEF_OK;
+}
+
+/*
+ * The disk took this FIS. The sectors of a write count as changed from here on. The host turns the write cache on, or off
+ * again; a write that asks to be on the medium (FUA) turns it off, too.
+ */
+static inline void gef_image_down(gef_image *image, const uint8_t *fis, size_t len) {
+    uint64_t lba;
+    uint32_t count;
+    if (len != 20 || fis[0] != 0x27) return;
+    if (!(fis[1] & 0x80)) {
+        if (fis[15] & 4) image->open = 0; /* SRST ends all commands */
+        return;
+    }
+    lba = (gef_image_number(fis + 4) & 0xFFFFFF) | (uint64_t)(gef_image_number(fis + 8) & 0xFFFFFF) << 24;
+    count = fis[12] | (uint32_t)fis[13] << 8;
+    switch (fis[2]) {
+    case 0x61: /* WRITE FPDMA QUEUED */
+        count = fis[3] | (uint32_t)fis[11] << 8;
+        if (fis[7] & 0x80) image->is_cached = 0;
+        gef_image_begin(image, fis[12] >> 3, lba, count ? count : 65536);
+        break;
+    case 0x35: /* WRITE DMA EXT */
+        gef_image_begin(image, GEF_IMAGE_DMA, lba, count ? count : 65536);
+        break;
+    case 0xCA: /* WRITE DMA */
+        lba = (lba & 0xFFFFFF) | (uint64_t)(fis[7] & 0x0F) << 24;
+        gef_image_begin(image, GEF_IMAGE_DMA, lba, fis[12] ? fis[12] : 256);
+        break;
+    case 0xEF: /* SET FEATURES: the write cache is turned on, or off */
+        if (fis[3] == 0x02) image->is_cached = 1;
+        if (fis[3] == 0x82) image->is_cached = 0;
+        image->is_due = 1;
+        break;
+    case 0xE0: case 0xE2: case 0xE6: case 0xE7: case 0xEA: /* STANDBY, SLEEP, FLUSH CACHE */
+        image->is_due = 1;
+        break;
+    default:
+        break;
+    }
+}
+
+/*
+ * The disk sent this FIS. GEF_OK: it may go on to the host. Any other: keep it, and call again with it later.
+ * Can return GEF_CLOSED, GEF_IMAGE (the image cannot be written or flushed).
+ */
+static inline gef_status gef_image_up(gef_image *image, gef_disk *disk, const uint8_t *fis, size_t len) {
+    gef_status status;
+    if (len < 8 || (fis[0] != 0x34 && fis[0] != 0xA1)) return GEF_OK;
+    image->open &= ~gef_image_ended(fis);
+    if (!image->is_due && (image->is_cached || !image->to)) return GEF_OK;
+    status = gef_image_save(image, disk);
+    if (status == GEF_OK) image->is_due = 0;
+    return status;
+}
+
+#ifdef __cplusplus
+}
+#endif
+
+#endif
