@@ -3,149 +3,144 @@
 use super::rig::Rig;
 use super::steps::Sent::{Bytes, Sector, Setup};
 use super::steps::Step::{
-    BringsRuns, Fails, Flushes, Holds, IsStopped, Marks, MarksBoth, Posts, Reads, Shows, Spoils,
-    Starts, Takes, Tells, Writes,
+    BringsRuns, Fails, Flushes, Holds, IsStopped, Marks, MarksBoth, Reads, Shows, Spoils, Starts,
+    Takes, Tells, Writes,
 };
 use super::steps::Told::{Faulty, Heard, Stops};
 use super::steps::{Sent, Step, Told, play};
 use host_memory::MemoryError;
 use port_errors::{DeviceCause, PortCause};
 use rx_area::Posted;
+use std::process::Abort;
+
 /// Four bytes of Data of device 2.
 const DWORD: Sent = Bytes(&[0x46, 2, 0, 0, 0x11, 0x11, 0x11, 0x11]);
 
-/// Device 2 reads two sectors in slot 0, and has answered. Set Device Bits with ERR, Data that nothing asked for, Set
-/// Device Bits for a read whose bytes are missing, and Data without bytes.
-static CAUSES: [Step; 28] = [
-    Starts,
-    Reads(2, 0, 0x10_1000),
-    Fails(
-        Bytes(&[0xA1, 0x42, 0x41, 0x40, 0, 0, 0, 0]),
-        DeviceCause::TaskFile,
-    ),
-    Marks(Some(DeviceCause::TaskFile)),
-    Shows(0x10, 0x4000_0008),
-    Shows(0x40, 0x0002_F205),
-    Shows(0x34, 1),
-    Starts,
-    Reads(2, 0, 0x10_1000),
-    Fails(DWORD, DeviceCause::Stray),
-    Marks(Some(DeviceCause::Stray)),
-    Shows(0x10, 0x0800_0000),
-    Shows(0x40, 0x0002_F205),
-    Shows(0x34, 1),
-    Starts,
-    Reads(2, 0, 0x10_1000),
-    Fails(
-        Bytes(&[0xA1, 0x42, 0x50, 0, 1, 0, 0, 0]),
-        DeviceCause::Short,
-    ),
-    Marks(Some(DeviceCause::Short)),
-    Shows(0x10, 0x0800_0008),
-    Shows(0x40, 0x0002_F205),
-    Shows(0x34, 1),
-    Starts,
-    Reads(2, 0, 0x10_1000),
-    Fails(Bytes(&[0x46, 2, 0, 0]), DeviceCause::BadFis),
-    Marks(Some(DeviceCause::BadFis)),
-    Shows(0x10, 0x0800_0000),
-    Shows(0x40, 0x0002_F205),
-    Shows(0x34, 1),
+/// PxIS.SDBS.
+const SDBS: u32 = 0x8;
+/// PxIS.OFS.
+const OFS: u32 = 0x0100_0000;
+/// PxIS.IFS.
+const IFS: u32 = 0x0800_0000;
+/// PxIS.TFES.
+const TFES: u32 = 0x4000_0000;
+
+/// Device 2 reads two sectors in slot 0, and has answered.
+static READING: [Step; 2] = [Starts, Reads(2, 0, 0x10_1000)];
+
+/// A FIS of device 2, the cause of the fault, and the bits of PxIS.
+type Row = (Sent, DeviceCause, u32);
+
+/// Whether the FIS is a fault that moves nothing, and the read stays in its slot.
+fn is_fault(rig: &mut Rig, row: Row) -> bool {
+    let (sent, cause, interrupts) = row;
+    rig.passes_all(&[
+        Fails(sent, cause),
+        Marks(Some(cause)),
+        Shows(0x10, interrupts),
+        Shows(0x40, 0x0002_F205),
+        Shows(0x34, 1),
+    ])
+}
+
+/// The number of the first FIS that is not such a fault after these steps.
+fn first_other(rig: &mut Rig, before: &[Step], rows: &[Row]) -> Option<usize> {
+    for (i, row) in rows.iter().enumerate() {
+        if !rig.passes_all(before) || !is_fault(rig, *row) {
+            return Some(i);
+        }
+    }
+    None
+}
+
+/// Each FIS is such a fault after these steps.
+fn assert_faults(rt: &impl Abort, rig: &mut Rig, before: &[Step], rows: &[Row]) {
+    assert_eq!(rt; first_other(rig, before, rows), None, "the number of a row");
+}
+
+/// An error of device 2.
+const FAILED: Sent = Bytes(&[0xA1, 0x42, 0x41, 0x40, 0, 0, 0, 0]);
+/// The end of its read in slot 0.
+const ENDED: Sent = Bytes(&[0xA1, 0x42, 0x50, 0, 1, 0, 0, 0]);
+
+/// Data of device 2 without a byte.
+const EMPTY: Sent = Bytes(&[0x46, 2, 0, 0]);
+
+/// An error, Data that nothing asked for, an end with bytes missing, and Data without a byte.
+static CAUSES: [Row; 4] = [
+    (FAILED, DeviceCause::TaskFile, TFES | SDBS),
+    (DWORD, DeviceCause::Stray, IFS),
+    (ENDED, DeviceCause::Short, IFS | SDBS),
+    (EMPTY, DeviceCause::BadFis, IFS),
 ];
 
 #[test]
-fn faults_have_causes(rt: HostRuntime) {
-    play(&rt, rt.alloc(), &CAUSES);
+fn faults_have_causes(rt: HostRuntime) -> Result<(), MemoryError> {
+    let mut rig = Rig::new(rt.alloc())?;
+    assert_faults(&rt, &mut rig, &READING, &CAUSES);
+    Ok(())
 }
 
-/// DMA Setups for the read, at first and after a sector of it came, and Data that is longer than its
-/// setup.
-static SETUPS: [Step; 55] = [
-    Starts,
-    Reads(2, 0, 0x10_1000),
-    Fails(Setup(2, true, 1, 0, 512), DeviceCause::BadTag),
-    Marks(Some(DeviceCause::BadTag)),
-    Shows(0x10, 0x0800_0000),
-    Shows(0x40, 0x0002_F205),
-    Shows(0x34, 1),
-    Starts,
-    Reads(2, 0, 0x10_1000),
-    Fails(Setup(2, true, 0, 0, 2048), DeviceCause::Overflow),
-    Marks(Some(DeviceCause::Overflow)),
-    Shows(0x10, 0x0100_0000),
-    Shows(0x40, 0x0002_F205),
-    Shows(0x34, 1),
-    Starts,
-    Reads(2, 0, 0x10_1000),
-    Fails(Setup(2, true, 0, 0, 2), DeviceCause::BadFis),
-    Marks(Some(DeviceCause::BadFis)),
-    Shows(0x10, 0x0800_0000),
-    Shows(0x40, 0x0002_F205),
-    Shows(0x34, 1),
-    Starts,
-    Reads(2, 0, 0x10_1000),
-    Fails(Setup(2, false, 0, 0, 512), DeviceCause::WrongWay),
-    Marks(Some(DeviceCause::WrongWay)),
-    Shows(0x10, 0x0800_0000),
-    Shows(0x40, 0x0002_F205),
-    Shows(0x34, 1),
+/// DMA Setups for the read.
+static SETUPS: [Row; 4] = [
+    (Setup(2, true, 1, 0, 512), DeviceCause::BadTag, IFS),
+    (Setup(2, true, 0, 0, 2048), DeviceCause::Overflow, OFS),
+    (Setup(2, true, 0, 0, 2), DeviceCause::BadFis, IFS),
+    (Setup(2, false, 0, 0, 512), DeviceCause::WrongWay, IFS),
+];
+
+/// The first sector of the read came.
+static HALF_READ: [Step; 4] = [
     Starts,
     Reads(2, 0, 0x10_1000),
     Takes(Setup(2, true, 0, 0, 512)),
     Takes(Sector(2, 1)),
-    Fails(Setup(2, true, 0, 0, 512), DeviceCause::Twice),
-    Marks(Some(DeviceCause::Twice)),
-    Shows(0x10, 0x0800_0000),
-    Shows(0x40, 0x0002_F205),
-    Shows(0x34, 1),
-    Starts,
-    Reads(2, 0, 0x10_1000),
-    Takes(Setup(2, true, 0, 0, 512)),
-    Takes(Sector(2, 1)),
-    Fails(Setup(2, true, 0, 1020, 8), DeviceCause::Overflow),
-    Marks(Some(DeviceCause::Overflow)),
-    Shows(0x10, 0x0100_0000),
-    Shows(0x40, 0x0002_F205),
-    Shows(0x34, 1),
+];
+
+/// DMA Setups after that.
+static LATER_SETUPS: [Row; 2] = [
+    (Setup(2, true, 0, 0, 512), DeviceCause::Twice, IFS),
+    (Setup(2, true, 0, 1020, 8), DeviceCause::Overflow, OFS),
+];
+
+/// Half a sector of the read is set up.
+static SET_UP: [Step; 3] = [
     Starts,
     Reads(2, 0, 0x10_1000),
     Takes(Setup(2, true, 0, 0, 256)),
-    Fails(Sector(2, 2), DeviceCause::Overflow),
-    Marks(Some(DeviceCause::Overflow)),
-    Shows(0x10, 0x0100_0000),
-    Shows(0x40, 0x0002_F205),
-    Shows(0x34, 1),
-    Holds(0x1000, 512, 1),
 ];
 
+/// Data that is longer than its setup.
+static LONG_DATA: [Row; 1] = [(Sector(2, 2), DeviceCause::Overflow, OFS)];
+
 #[test]
-fn setups_that_are_faults(rt: HostRuntime) {
-    play(&rt, rt.alloc(), &SETUPS);
+fn setups_that_are_faults(rt: HostRuntime) -> Result<(), MemoryError> {
+    let mut rig = Rig::new(rt.alloc())?;
+    assert_faults(&rt, &mut rig, &READING, &SETUPS);
+    assert_faults(&rt, &mut rig, &HALF_READ, &LATER_SETUPS);
+    assert_faults(&rt, &mut rig, &SET_UP, &LONG_DATA);
+    assert!(rt; rig.are(0x1000, 512, 1));
+    Ok(())
 }
 
-/// Device 2 brings 64 runs of four bytes of its read, with a gap after each. A run that joins none of them is one too
-/// many. A run that fills a gap is not.
-static RUNS: [Step; 15] = [
-    Starts,
-    Reads(2, 0, 0x10_1000),
-    BringsRuns(64),
-    Marks(None),
+/// Device 2 brings 64 runs of four bytes of its read, with a gap after each.
+static RUNS: [Step; 4] = [Starts, Reads(2, 0, 0x10_1000), BringsRuns(64), Marks(None)];
+
+/// A run that fills a gap.
+static FILLS: [Step; 2] = [
     Tells(Setup(2, true, 0, 508, 4), Heard(Posted::Setup)),
     Marks(None),
-    Starts,
-    Reads(2, 0, 0x10_1000),
-    BringsRuns(64),
-    Marks(None),
-    Fails(Setup(2, true, 0, 512, 4), DeviceCause::Fragments),
-    Marks(Some(DeviceCause::Fragments)),
-    Shows(0x10, 0x0800_0000),
-    Shows(0x40, 0x0002_F205),
-    Shows(0x34, 1),
 ];
 
+/// A run that joins none of them.
+static ONE_MORE: [Row; 1] = [(Setup(2, true, 0, 512, 4), DeviceCause::Fragments, IFS)];
+
 #[test]
-fn too_many_runs_are_a_fault(rt: HostRuntime) {
-    play(&rt, rt.alloc(), &RUNS);
+fn too_many_runs_are_a_fault(rt: HostRuntime) -> Result<(), MemoryError> {
+    let mut rig = Rig::new(rt.alloc())?;
+    assert!(rt; rig.passes_all(&RUNS) && rig.passes_all(&FILLS));
+    assert_faults(&rt, &mut rig, &RUNS, &ONE_MORE);
+    Ok(())
 }
 
 /// A FIS of 68 bytes of an unknown type.
@@ -156,61 +151,56 @@ const LONG_UNKNOWN: Sent = Bytes(&[
 ]);
 
 /// It has no room in the received area.
-static UNKNOWN: [Step; 8] = [
-    Starts,
-    Reads(2, 0, 0x10_1000),
-    Fails(LONG_UNKNOWN, DeviceCause::BadFis),
-    Marks(Some(DeviceCause::BadFis)),
-    Shows(0x10, 0x0800_0000),
-    Shows(0x40, 0x0002_F205),
-    Shows(0x34, 1),
-    Posts(0x1260, 0),
-];
+static UNKNOWN: [Row; 1] = [(LONG_UNKNOWN, DeviceCause::BadFis, IFS)];
 
 #[test]
-fn a_long_unknown_fis_is_a_fault(rt: HostRuntime) {
-    play(&rt, rt.alloc(), &UNKNOWN);
+fn a_long_unknown_fis_is_a_fault(rt: HostRuntime) -> Result<(), MemoryError> {
+    let mut rig = Rig::new(rt.alloc())?;
+    assert_faults(&rt, &mut rig, &READING, &UNKNOWN);
+    assert!(rt; rig.posts(0x1260, 0));
+    Ok(())
 }
 
-/// FISes that the control port may not send, and a PRD whose address became odd after an accepted
-/// setup. What comes later is ignored and changes no cause. ST ends it when it falls.
-static PORT: [Step; 31] = [
-    Starts,
-    Reads(2, 0, 0x10_1000),
-    Tells(Bytes(&[0x39, 0x0F, 0, 0]), Stops(PortCause::BadControl)),
-    IsStopped(Some(PortCause::BadControl)),
-    Shows(0x10, 0x2800_0000),
-    Shows(0x40, 0xF201),
-    Shows(0x34, 1),
-    Holds(0, 0x10_0000, 0),
-    Starts,
-    Reads(2, 0, 0x10_1000),
-    Tells(Bytes(&[0xA1, 0xCF, 0, 0]), Stops(PortCause::BadControl)),
-    IsStopped(Some(PortCause::BadControl)),
-    Shows(0x10, 0x2800_0000),
-    Shows(0x40, 0xF201),
-    Shows(0x34, 1),
-    Holds(0, 0x10_0000, 0),
+/// A PRD whose address became odd after an accepted setup.
+static SPOILT: [Step; 4] = [
     Starts,
     Reads(2, 0, 0x10_1000),
     Tells(Setup(2, true, 0, 0, 512), Heard(Posted::Setup)),
     Spoils(0x2080, 1),
-    Tells(Sector(2, 0x77), Stops(PortCause::Bus)),
-    IsStopped(Some(PortCause::Bus)),
-    Shows(0x10, 0x2800_0000),
-    Shows(0x40, 0xF201),
-    Shows(0x34, 1),
-    Holds(0, 0x10_0000, 0),
+];
+
+/// Whether a FIS stops the port for this cause after these steps, and moves nothing. The read stays in its slot.
+fn is_stopped_by(rig: &mut Rig, before: &[Step], sent: Sent, cause: PortCause) -> bool {
+    rig.passes_all(before)
+        && rig.passes_all(&[
+            Tells(sent, Stops(cause)),
+            IsStopped(Some(cause)),
+            Shows(0x10, 0x2800_0000),
+            Shows(0x40, 0xF201),
+            Shows(0x34, 1),
+            Holds(0, 0x10_0000, 0),
+        ])
+}
+
+/// What comes after that is ignored and changes no cause. ST ends it when it falls.
+static STAYS_STOPPED: [Step; 5] = [
     Takes(Bytes(&[0x39, 0x0F, 0, 0])),
-    Takes(Bytes(&[0x46, 2, 0, 0])),
+    Takes(EMPTY),
     IsStopped(Some(PortCause::Bus)),
     Writes(0x18, 0x10),
     IsStopped(None),
 ];
 
+/// FISes that the control port may not send, and Data for a spoilt table.
 #[test]
-fn each_cause_of_the_port(rt: HostRuntime) {
-    play(&rt, rt.alloc(), &PORT);
+fn each_cause_of_the_port(rt: HostRuntime) -> Result<(), MemoryError> {
+    let mut rig = Rig::new(rt.alloc())?;
+    let (activate, short) = (Bytes(&[0x39, 0x0F, 0, 0]), Bytes(&[0xA1, 0xCF, 0, 0]));
+    let stopped = is_stopped_by(&mut rig, &READING, activate, PortCause::BadControl)
+        && is_stopped_by(&mut rig, &READING, short, PortCause::BadControl)
+        && is_stopped_by(&mut rig, &SPOILT, Sector(2, 0x77), PortCause::Bus);
+    assert!(rt; stopped && rig.passes_all(&STAYS_STOPPED));
+    Ok(())
 }
 
 /// Device 4 and device 2 are faulty. The causes stand whatever both send, until PxFBS.DEC clears the

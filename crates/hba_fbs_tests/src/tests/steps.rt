@@ -461,6 +461,11 @@ impl Rig {
         }
         None
     }
+
+    /// Whether all steps are as they say.
+    pub(super) fn passes_all(&mut self, steps: &[Step]) -> bool {
+        self.play(steps).is_none()
+    }
 }
 
 /// Each step of a port that opened is as it says.

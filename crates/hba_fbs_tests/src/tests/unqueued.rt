@@ -1,5 +1,6 @@
 //! Commands that move data with no DMA Setup: READ and WRITE DMA, PIO data-in of several sectors, PIO data-out.
 
+use super::rig::Rig;
 use super::steps::Sent::{Answer, Block, Bytes, Sector, Setup};
 use super::steps::Step::{
     Carries, Ends, Faults, Flushes, GivesNone, GivesOf, Holds, Issues, ListsOf, Moves, MovesOf,
@@ -8,34 +9,14 @@ use super::steps::Step::{
 use super::steps::Told::{BringsLast, Done, Faulty, Heard, Ignored};
 use super::steps::{Sent, Step, play};
 use hba_fbs::WriteError;
-use host_memory::Prd;
+use host_memory::{MemoryError, Prd};
 use port_errors::DeviceCause;
 use rx_area::Posted;
 
 const ACTIVATE: Sent = Bytes(&[0x39, 2, 0, 0]);
 
-/// READ DMA and READ DMA EXT: Data follows the command, from its byte 0 on, and a Register FIS ends it.
-static READS: [Step; 30] = [
-    Starts,
-    Moves(5, 0xC8, 2),
-    Faults(Sector(2, 1), DeviceCause::Stray),
-    Starts,
-    Moves(5, 0xC8, 2),
-    GivesOf(0x27, 2, 20),
-    Carries(2, 1, 5, 0),
-    Carries(2, 2, 5, 512),
-    Holds(0x1000, 512, 1),
-    Holds(0x1200, 512, 2),
-    Shows(0x38, 0x20),
-    Shows(0x20, 0xD0),
-    Tells(Answer(2), Done(Posted::D2h, 0x20)),
-    Shows(0x38, 0),
-    Faults(Sector(2, 3), DeviceCause::Stray),
-    Starts,
-    Moves(5, 0x25, 2),
-    Faults(Sector(2, 1), DeviceCause::Stray),
-    Starts,
-    Moves(5, 0x25, 2),
+/// A read of two sectors in slot 5 goes out. Data follows it, from its byte 0 on, and a Register FIS ends it.
+static READ: [Step; 10] = [
     GivesOf(0x27, 2, 20),
     Carries(2, 1, 5, 0),
     Carries(2, 2, 5, 512),
@@ -48,66 +29,66 @@ static READS: [Step; 30] = [
     Faults(Sector(2, 3), DeviceCause::Stray),
 ];
 
-#[test]
-fn data_of_read_dma_needs_no_setup(rt: HostRuntime) {
-    play(&rt, rt.alloc(), &READS);
+/// Whether Data is stray before a read by this command goes out, and then follows it.
+fn reads_by(rig: &mut Rig, code: u8) -> bool {
+    rig.passes_all(&[
+        Starts,
+        Moves(5, code, 2),
+        Faults(Sector(2, 1), DeviceCause::Stray),
+        Starts,
+        Moves(5, code, 2),
+    ]) && rig.passes_all(&READ)
 }
 
-/// A Count of eight bits: 0 stands for 256 sectors. One of sixteen bits may ask for more than a slot takes.
-static COUNTS: [Step; 48] = [
-    Starts,
-    Writes(0x40, 0x201),
-    ListsOf(0xC8, 0, 256),
-    Writes(0x38, 1),
-    Starts,
-    Writes(0x40, 0x201),
-    ListsOf(0xCA, 0x101, 1),
-    Writes(0x38, 1),
-    Starts,
-    Writes(0x40, 0x201),
-    ListsOf(0x25, 0x100, 256),
-    Writes(0x38, 1),
-    Starts,
-    Writes(0x40, 0x201),
-    ListsOf(0x25, 0x101, 257),
-    Refuses(0x38, 1, WriteError::BadTable),
-    Starts,
-    Writes(0x40, 0x201),
-    ListsOf(0x35, 0, 256),
-    Refuses(0x38, 1, WriteError::BadTable),
-    Starts,
-    Writes(0x40, 0x201),
-    ListsOf(0x20, 0, 256),
-    Writes(0x38, 1),
-    Starts,
-    Writes(0x40, 0x201),
-    ListsOf(0x24, 2, 2),
-    Writes(0x38, 1),
-    Starts,
-    Writes(0x40, 0x201),
-    ListsOf(0x30, 0, 256),
-    Writes(0x38, 1),
-    Starts,
-    Writes(0x40, 0x201),
-    ListsOf(0x34, 0x101, 257),
-    Refuses(0x38, 1, WriteError::BadTable),
-    Starts,
-    Writes(0x40, 0x201),
-    ListsOf(0xA1, 0, 1),
-    Writes(0x38, 1),
-    Starts,
-    Writes(0x40, 0x201),
-    ListsOf(0xC8, 2, 1),
-    Refuses(0x38, 1, WriteError::BadTable),
-    Starts,
-    Writes(0x40, 0x201),
-    ListsOf(0xC8, 1, 2),
-    Refuses(0x38, 1, WriteError::BadTable),
+/// READ DMA and READ DMA EXT.
+#[test]
+fn data_of_read_dma_needs_no_setup(rt: HostRuntime) -> Result<(), MemoryError> {
+    let mut rig = Rig::new(rt.alloc())?;
+    assert!(rt; reads_by(&mut rig, 0xC8));
+    assert!(rt; reads_by(&mut rig, 0x25));
+    Ok(())
+}
+
+/// A command, its Count, the sectors of its table, and whether it is issued. A Count of eight bits: 0 stands for 256
+/// sectors. One of sixteen bits may ask for more than a slot takes.
+static COUNTS: [(u8, u16, u32, bool); 12] = [
+    (0xC8, 0, 256, true),
+    (0xCA, 0x101, 1, true),
+    (0x25, 0x100, 256, true),
+    (0x25, 0x101, 257, false),
+    (0x35, 0, 256, false),
+    (0x20, 0, 256, true),
+    (0x24, 2, 2, true),
+    (0x30, 0, 256, true),
+    (0x34, 0x101, 257, false),
+    (0xA1, 0, 1, true),
+    (0xC8, 2, 1, false),
+    (0xC8, 1, 2, false),
 ];
 
+/// Whether a command is issued, or refused.
+fn counts(rig: &mut Rig, row: (u8, u16, u32, bool)) -> bool {
+    let (code, count, sectors, is_issued) = row;
+    let issue = if is_issued {
+        Writes(0x38, 1)
+    } else {
+        Refuses(0x38, 1, WriteError::BadTable)
+    };
+    rig.passes_all(&[
+        Starts,
+        Writes(0x40, 0x201),
+        ListsOf(code, count, sectors),
+        issue,
+    ])
+}
+
 #[test]
-fn counts_are_those_of_the_command(rt: HostRuntime) {
-    play(&rt, rt.alloc(), &COUNTS);
+fn counts_are_those_of_the_command(rt: HostRuntime) -> Result<(), MemoryError> {
+    let mut rig = Rig::new(rt.alloc())?;
+    for (i, row) in COUNTS.iter().enumerate() {
+        assert!(rt; counts(&mut rig, *row), "row {i}");
+    }
+    Ok(())
 }
 
 /// An answer of device 2 with ERR.
@@ -124,63 +105,35 @@ const BLOCK: Sent = Block(0x62, 0x50, 512);
 /// A PIO Setup towards device 2, with Status D0h at its end.
 const ASKS: Sent = Block(0x42, 0xD0, 512);
 
-/// An answer while bytes are missing, an error, Data or a DMA Activate the other way, a DMA Setup or PIO Setup, and a
-/// Data FIS longer than the table.
-static WRONG: [Step; 61] = [
-    Starts,
-    Moves(5, 0xC8, 2),
-    GivesOf(0x27, 2, 20),
-    Faults(Answer(2), DeviceCause::Short),
-    Shows(0x38, 0x20),
-    GivesNone,
-    Starts,
-    Moves(5, 0xCA, 2),
-    GivesOf(0x27, 2, 20),
-    Faults(Answer(2), DeviceCause::Short),
-    Shows(0x38, 0x20),
-    GivesNone,
-    Starts,
-    Moves(5, 0xC8, 2),
-    GivesOf(0x27, 2, 20),
-    Faults(FAILED, DeviceCause::TaskFile),
-    Shows(0x38, 0x20),
-    GivesNone,
-    Starts,
-    Moves(5, 0xCA, 2),
-    GivesOf(0x27, 2, 20),
-    Faults(Sector(2, 1), DeviceCause::Stray),
-    Shows(0x38, 0x20),
-    GivesNone,
-    Starts,
-    Moves(5, 0xC8, 2),
-    GivesOf(0x27, 2, 20),
-    Faults(ACTIVATE, DeviceCause::Stray),
-    Shows(0x38, 0x20),
-    GivesNone,
-    Starts,
-    Moves(5, 0xC8, 2),
-    GivesOf(0x27, 2, 20),
-    Faults(NAMED, DeviceCause::BadTag),
-    Shows(0x38, 0x20),
-    GivesNone,
-    Starts,
-    Moves(5, 0xCA, 2),
-    GivesOf(0x27, 2, 20),
-    Faults(NAMED, DeviceCause::BadTag),
-    Shows(0x38, 0x20),
-    GivesNone,
-    Starts,
-    Moves(5, 0xC8, 2),
-    GivesOf(0x27, 2, 20),
-    Faults(BLOCK, DeviceCause::BadTag),
-    Shows(0x38, 0x20),
-    GivesNone,
-    Starts,
-    Moves(5, 0xCA, 2),
-    GivesOf(0x27, 2, 20),
-    Faults(ASKS, DeviceCause::BadTag),
-    Shows(0x38, 0x20),
-    GivesNone,
+/// A command of device 2 that moves two sectors, what comes of it, and the cause of the fault: an answer while bytes are
+/// missing, an error, Data or a DMA Activate the other way, a DMA Setup or PIO Setup.
+static WRONG: [(u8, Sent, DeviceCause); 9] = [
+    (0xC8, Answer(2), DeviceCause::Short),
+    (0xCA, Answer(2), DeviceCause::Short),
+    (0xC8, FAILED, DeviceCause::TaskFile),
+    (0xCA, Sector(2, 1), DeviceCause::Stray),
+    (0xC8, ACTIVATE, DeviceCause::Stray),
+    (0xC8, NAMED, DeviceCause::BadTag),
+    (0xCA, NAMED, DeviceCause::BadTag),
+    (0xC8, BLOCK, DeviceCause::BadTag),
+    (0xCA, ASKS, DeviceCause::BadTag),
+];
+
+/// Whether that is a fault, after which the command has not ended and nothing goes out.
+fn is_wrong(rig: &mut Rig, row: (u8, Sent, DeviceCause)) -> bool {
+    let (code, sent, cause) = row;
+    rig.passes_all(&[
+        Starts,
+        Moves(5, code, 2),
+        GivesOf(0x27, 2, 20),
+        Faults(sent, cause),
+        Shows(0x38, 0x20),
+        GivesNone,
+    ])
+}
+
+/// A Data FIS longer than the table.
+static PAST_THE_TABLE: [Step; 7] = [
     Starts,
     Moves(5, 0xC8, 1),
     GivesOf(0x27, 2, 20),
@@ -191,25 +144,17 @@ static WRONG: [Step; 61] = [
 ];
 
 #[test]
-fn what_is_wrong_with_a_dma_transfer(rt: HostRuntime) {
-    play(&rt, rt.alloc(), &WRONG);
+fn what_is_wrong_with_a_dma_transfer(rt: HostRuntime) -> Result<(), MemoryError> {
+    let mut rig = Rig::new(rt.alloc())?;
+    for (i, row) in WRONG.iter().enumerate() {
+        assert!(rt; is_wrong(&mut rig, *row), "row {i}");
+    }
+    assert!(rt; rig.passes_all(&PAST_THE_TABLE));
+    Ok(())
 }
 
-/// WRITE DMA: each DMA Activate asks for at most 8,192 bytes.
-static WRITES: [Step; 22] = [
-    Starts,
-    Moves(0, 0xCA, 24),
-    GivesOf(0x27, 2, 20),
-    GivesNone,
-    Tells(ACTIVATE, Heard(Posted::Nothing)),
-    GivesOf(0x46, 2, 8196),
-    GivesNone,
-    Tells(ACTIVATE, Heard(Posted::Nothing)),
-    GivesOf(0x46, 2, 4100),
-    Tells(Answer(2), Done(Posted::D2h, 1)),
-    Faults(ACTIVATE, DeviceCause::Stray),
-    Starts,
-    Moves(0, 0x35, 24),
+/// A write of 24 sectors in slot 0 goes out. Each DMA Activate asks for at most 8,192 bytes.
+static WRITE: [Step; 9] = [
     GivesOf(0x27, 2, 20),
     GivesNone,
     Tells(ACTIVATE, Heard(Posted::Nothing)),
@@ -221,9 +166,18 @@ static WRITES: [Step; 22] = [
     Faults(ACTIVATE, DeviceCause::Stray),
 ];
 
+/// Whether a write by this command goes so.
+fn writes_by(rig: &mut Rig, code: u8) -> bool {
+    rig.passes_all(&[Starts, Moves(0, code, 24)]) && rig.passes_all(&WRITE)
+}
+
+/// WRITE DMA and WRITE DMA EXT.
 #[test]
-fn write_dma_waits_for_dma_activate(rt: HostRuntime) {
-    play(&rt, rt.alloc(), &WRITES);
+fn write_dma_waits_for_dma_activate(rt: HostRuntime) -> Result<(), MemoryError> {
+    let mut rig = Rig::new(rt.alloc())?;
+    assert!(rt; writes_by(&mut rig, 0xCA));
+    assert!(rt; writes_by(&mut rig, 0x35));
+    Ok(())
 }
 
 /// One sector in two halves, from 103000h on.
@@ -338,62 +292,32 @@ fn pio_data_goes_out_in_blocks(rt: HostRuntime) {
     play(&rt, rt.alloc(), &GOES);
 }
 
-/// A block the wrong way, one longer than the command, one longer than a Data FIS, one of no whole dwords, and the
-/// end with bytes missing.
-static BLOCKS: [Step; 41] = [
-    Starts,
-    Moves(4, 0x30, 32),
-    GivesOf(0x27, 2, 20),
-    Tells(
-        Block(0x62, 0xD0, 512),
-        Faulty(Posted::Pio, DeviceCause::WrongWay),
-    ),
-    GivesNone,
-    Starts,
-    Moves(4, 0x20, 32),
-    GivesOf(0x27, 2, 20),
-    Tells(ASKS, Faulty(Posted::Pio, DeviceCause::WrongWay)),
-    GivesNone,
-    Starts,
-    Moves(4, 0x30, 32),
-    GivesOf(0x27, 2, 20),
-    Tells(
-        Block(0x42, 0xD0, 0x4004),
-        Faulty(Posted::Pio, DeviceCause::Overflow),
-    ),
-    GivesNone,
-    Starts,
-    Moves(4, 0x30, 32),
-    GivesOf(0x27, 2, 20),
-    Tells(
-        Block(0x42, 0xD0, 0x2004),
-        Faulty(Posted::Pio, DeviceCause::BadFis),
-    ),
-    GivesNone,
-    Starts,
-    Moves(4, 0x30, 32),
-    GivesOf(0x27, 2, 20),
-    Tells(
-        Block(0x42, 0xD0, 510),
-        Faulty(Posted::Pio, DeviceCause::BadFis),
-    ),
-    GivesNone,
-    Starts,
-    Moves(4, 0x30, 32),
-    GivesOf(0x27, 2, 20),
-    Tells(
-        Block(0x42, 0xD0, 0),
-        Faulty(Posted::Pio, DeviceCause::BadFis),
-    ),
-    GivesNone,
-    Starts,
-    Moves(4, 0x20, 32),
-    GivesOf(0x27, 2, 20),
-    Tells(
-        Block(0x62, 0xD0, 0x4004),
-        Faulty(Posted::Pio, DeviceCause::Overflow),
-    ),
-    GivesNone,
+/// A command of device 2 that moves 32 sectors, the PIO Setup that follows it, and the cause of the fault: a block the
+/// wrong way, one longer than the command, one longer than a Data FIS, and those of no whole dwords or of no bytes.
+static BLOCKS: [(u8, Sent, DeviceCause); 7] = [
+    (0x30, Block(0x62, 0xD0, 512), DeviceCause::WrongWay),
+    (0x20, ASKS, DeviceCause::WrongWay),
+    (0x30, Block(0x42, 0xD0, 0x4004), DeviceCause::Overflow),
+    (0x30, Block(0x42, 0xD0, 0x2004), DeviceCause::BadFis),
+    (0x30, Block(0x42, 0xD0, 510), DeviceCause::BadFis),
+    (0x30, Block(0x42, 0xD0, 0), DeviceCause::BadFis),
+    (0x20, Block(0x62, 0xD0, 0x4004), DeviceCause::Overflow),
+];
+
+/// Whether the PIO Setup is posted and is a fault, after which nothing goes out.
+fn is_wrong_block(rig: &mut Rig, row: (u8, Sent, DeviceCause)) -> bool {
+    let (code, setup, cause) = row;
+    rig.passes_all(&[
+        Starts,
+        Moves(4, code, 32),
+        GivesOf(0x27, 2, 20),
+        Tells(setup, Faulty(Posted::Pio, cause)),
+        GivesNone,
+    ])
+}
+
+/// The end of a write with bytes missing.
+static ENDS_EARLY: [Step; 6] = [
     Starts,
     Moves(4, 0x30, 2),
     GivesOf(0x27, 2, 20),
@@ -403,8 +327,13 @@ static BLOCKS: [Step; 41] = [
 ];
 
 #[test]
-fn what_is_wrong_with_a_block(rt: HostRuntime) {
-    play(&rt, rt.alloc(), &BLOCKS);
+fn what_is_wrong_with_a_block(rt: HostRuntime) -> Result<(), MemoryError> {
+    let mut rig = Rig::new(rt.alloc())?;
+    for (i, row) in BLOCKS.iter().enumerate() {
+        assert!(rt; is_wrong_block(&mut rig, *row), "row {i}");
+    }
+    assert!(rt; rig.passes_all(&ENDS_EARLY));
+    Ok(())
 }
 
 /// The same without switching.
