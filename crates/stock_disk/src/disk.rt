@@ -267,7 +267,7 @@ impl Device for StockDisk {
     {
         match self.front.owed {
             Some(own) => {
-                let frame = own.frame(alloc, self.sectors, &self.plan, stamp)?;
+                let frame = own.frame(alloc, &self.disk, self.sectors, &self.plan, stamp)?;
                 self.front = self.front.answered(own);
                 Ok(Some(frame))
             }

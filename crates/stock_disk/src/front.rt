@@ -11,7 +11,7 @@ ghost use Rattle.disk_model.specs.Sendings.{Register, Shows};
 use crate::dma::Dma;
 use crate::log::{Log, setup_frame};
 use crate::verify::Verify;
-use disk_model::{DiskPlan, Profile};
+use disk_model::{Disk, DiskPlan, Profile};
 use fis_view::{D2hFields, Fis, FisFault, Frame, RegD2H, RegH2D, SetBits, Stamp, d2h};
 use std::alloc::{AllocError, Global};
 
@@ -427,14 +427,17 @@ fn answer_frame(
 }
 
 impl Own {
-    /// The FIS, before a disk with this many sectors and this plan.
+    /// The FIS, before this disk, which has this many sectors and this plan.
     pub(crate) fn frame(
         self,
         alloc: Global,
+        disk: &Disk,
         sectors: u32,
         plan: &DiskPlan,
         stamp: Stamp,
     ) -> Result<Frame, AllocError>
+        requires sectors { sectors ≡ disk.now.sectors }
+        requires plan { plan.now ≡ disk.now.plan }
         ensures shows { IfOk result (λ f. Shows (own_sent sectors plan.now self) f.bytes) }
         ensures stamp { IfOk result (λ f. f.stamp ≡ stamp) }
     {
@@ -442,7 +445,7 @@ impl Own {
             Own::Done => answer_frame(alloc, 0x50, 0, 0, stamp),
             Own::Active => answer_frame(alloc, 0x50, 0, 0xFF, stamp),
             Own::Aborted => answer_frame(alloc, 0x51, 4, 0, stamp),
-            Own::Verifies(verify) => d2h(alloc, &verify.answer(sectors, plan), stamp),
+            Own::Verifies(verify) => d2h(alloc, &verify.answer(disk), stamp),
             Own::LogFollows(_) => setup_frame(alloc, stamp),
             Own::LogData(log) => log.frame(alloc, sectors, plan, stamp),
         }

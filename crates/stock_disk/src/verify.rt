@@ -1,18 +1,10 @@
 //! READ VERIFY SECTOR(S) and READ VERIFY SECTOR(S) EXT (ACS-3).
 
-ghost use Rattle.std.specs.Prelude.{◌≡◌, None, false, fold, true};
-ghost use Rattle.disk_model.specs.Chunks.{fault_of};
-ghost use Rattle.disk_model.specs.Insides.{lower_bad};
+ghost use Rattle.std.specs.Prelude.{◌≡◌, false, true};
 ghost use Rattle.stock_disk.specs.Verifies.{as_read, fault_fields, verified, verify_28, verify_48, verify_fields};
 
-use disk_model::{DiskPlan, Fault};
+use disk_model::{Command, Disk, Fault};
 use fis_view::{D2hFields, RegH2D};
-
-/// The ID Not Found bit of the Error register.
-const IDNF: u8 = 0x10;
-
-/// The Uncorrectable Error bit of the Error register.
-const UNC: u8 = 0x40;
 
 /// Sectors to verify.
 #[derive(Clone, Copy, Debug, PartialEq, Eq)]
@@ -23,27 +15,6 @@ pub struct Verify {
     pub lba: u64,
     /// How many sectors, 1 to 65,536.
     pub count: u32,
-}
-
-/// The lower of the bad sector found so far and this one, if this one is to be verified.
-fn lower(verify: Verify, found: Option<u32>, bad: u32) -> Option<u32>
-    ensures { result ≡ lower_bad (as_read verify) found bad }
-{
-    let at = bad as u64;
-    if verify.lba <= at && at - verify.lba < verify.count as u64 {
-        match found {
-            Some(lowest) => Some(lowest.min(bad)),
-            None => Some(bad),
-        }
-    } else {
-        found
-    }
-}
-
-fn lowest_bad(bad: &[u32], verify: Verify) -> Option<u32>
-    ensures { result ≡ fold (lower_bad (as_read verify)) None bad.now }
-{
-    bad.iter().fold(None, |found, at| lower(verify, found, *at))
 }
 
 /// The fields of an answer. Of an LBA of 28 bits, Device has the highest four.
@@ -101,24 +72,22 @@ impl Verify {
         }
     }
 
-    /// Why a read of the sectors fails, on a disk with this many sectors and this plan.
-    fn fault(self, sectors: u32, plan: &DiskPlan) -> Option<Fault>
-        ensures { result ≡ fault_of plan.now sectors (as_read self) }
+    /// The read of the same sectors.
+    fn as_read(self) -> Command
+        ensures { result ≡ as_read self }
     {
-        let end = sectors as u64;
-        if end < self.lba || end - self.lba < self.count as u64 {
-            return Some(Fault::Failed(0, IDNF, self.lba));
-        }
-        match lowest_bad(plan.bad.as_slice(), self) {
-            Some(bad) => Some(Fault::Failed(0, UNC, bad as u64)),
-            None => None,
+        Command {
+            write: false,
+            tag: 0,
+            lba: self.lba,
+            count: self.count,
         }
     }
 
-    /// The fields of the answer, for a disk with this many sectors and this plan.
-    pub(crate) fn answer(self, sectors: u32, plan: &DiskPlan) -> D2hFields
-        ensures { result ≡ verified sectors plan.now self }
+    /// The fields of the answer: what this disk's own read of the sectors would fail with.
+    pub(crate) fn answer(self, disk: &Disk) -> D2hFields
+        ensures { result ≡ verified disk.now.sectors disk.now.plan self }
     {
-        fault_fields(self.ext, self.fault(sectors, plan))
+        fault_fields(self.ext, disk.fault(self.as_read()))
     }
 }
