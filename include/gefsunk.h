@@ -117,8 +117,8 @@ gef_status gef_pm_new_with_port_0_open(gef_pm *pm, uint8_t ports, uint32_t is_th
 gef_status gef_pm_free(gef_pm *pm);
 
 /*
- * A device came to a port. If that sets the port's bit in register 32 of port 15, as at a port that is open and has no
- * bit in SError, and the host has enabled notifications, the multiplier notifies it; gef_pm_to_host gives the
+ * A device came to a port. If that sets the port's bit in GSCR[32], as at a port that is open and has no bit in SError, and
+ * the host has enabled notifications (bit 3 of GSCR[96]), the multiplier notifies it; gef_pm_to_host gives the
  * notification. No FIS of the device goes up, and none goes down to it, before the host has opened the port: by WRITE
  * PORT MULTIPLIER commands to port 15 it writes 0 to SControl of the port (2), and after that ones to its SError (1).
  * Can return GEF_CLOSED, GEF_NO_PORT, GEF_ALREADY_THERE, GEF_SPENT.
@@ -126,7 +126,8 @@ gef_status gef_pm_free(gef_pm *pm);
 gef_status gef_pm_plug(gef_pm *pm, uint8_t port);
 
 /*
- * The device of a port went. Its FISes that wait at the port are dropped, in both directions.
+ * The device of a port went. Its FISes that wait at the port are dropped, in both directions. The host is notified only if
+ * it has set bit 16 of GSCR[33], too, which is 0 at first, and has cleared SError of the port since the last change there.
  * Can return GEF_CLOSED, GEF_NO_PORT, GEF_NOT_THERE.
  */
 gef_status gef_pm_unplug(gef_pm *pm, uint8_t port);
@@ -143,7 +144,9 @@ gef_status gef_pm_from_host(gef_pm *pm, const uint8_t *fis, size_t len);
 
 /*
  * A FIS arrives from the device at a port. GEF_OK: it waits at the port, and goes up in its turn once the port
- * forwards. GEF_FULL: another one waits there; you still own the FIS. GEF_DROPPED: the FIS is of a device that went.
+ * forwards. GEF_FULL: another one waits there; you still own the FIS. GEF_NOT_THERE: no device is there.
+ * The library takes each FIS for one of the device that is there now, so it cannot tell one that an earlier device sent:
+ * drop what is left of that before gef_pm_plug. GEF_DROPPED, for a FIS of a device that went, is not to be expected.
  * Can return GEF_CLOSED, GEF_NO_PORT, GEF_NOT_THERE, GEF_BAD_LENGTH, GEF_FULL, GEF_DROPPED, GEF_NO_MEMORY.
  */
 gef_status gef_pm_from_device(gef_pm *pm, uint8_t port, const uint8_t *fis, size_t len);
@@ -379,6 +382,7 @@ gef_status gef_hba_next_out(gef_hba *hba, const gef_memory *memory, uint8_t *fis
  *   - Each length is that of the memory behind its pointer, and pointers of one call do not overlap.
  *   - The fields of a handle are as the library left them, and you use an open handle through one copy only.
  *   - One call at a time on a handle.
+ *   - A FIS for gef_pm_from_device was sent by the device that is at the port, and by none before it.
  *   - The bytes of a gef_memory stay as they are during the call, and what the controller asks for is written before the
  *     guest goes on.
  *
