@@ -15,7 +15,7 @@ use Rattle.stock_disk.specs.declared.front.Own.{Own}
 use Rattle.stock_disk.specs.Faces.{StockValue, after_sent, front_after, inner_heard, inner_of, inner_sent, inside, new_stock, value_after}
 use Rattle.stock_disk.specs.Fronts.{command_course, course, course_by, hears, is_stock, own_to, passed, told}
 use Rattle.stock_disk.specs.Laws.{BareIsDisk}
-use Rattle.stock_disk.proofs.ModeLemmas.{after_on}
+use Rattle.stock_disk.proofs.ModeLemmas.{after_keeps}
 
 -- the front answers nothing, owes nothing, and serves nothing
 pub record IsOff (front : Front) : Type 0 where
@@ -107,14 +107,14 @@ after_off : (s : StockValue) (e : Happening) → IsOff s.front → IsOff (front_
 after_off s (Received bytes) off =
     let is = ap (hears s.front (seen bytes)) (all_pass s.front (is_at_rest s.disk.now) (seen bytes) off) in
     record {
-      on = after_on s (Received bytes) ∙ off.on;
+      on = (after_keeps s (Received bytes)).on ∙ off.on;
       owed = ap (λ (f : Front). f.owed) is ∙ passed_owes s.front (seen bytes) off.owed;
       serving = ap (λ (f : Front). f.serving) is ∙ passed_serves s.front (seen bytes) off.serving;
     }
 after_off s (Sent bytes) off =
     let is = ap (λ (o : Option Own). after_sent s.front o bytes) off.owed in
     record {
-      on = after_on s (Sent bytes) ∙ off.on;
+      on = (after_keeps s (Sent bytes)).on ∙ off.on;
       owed = ap (λ (f : Front). f.owed) is ∙ told_owes s.front (seen bytes) off.owed;
       serving = ap (λ (f : Front). f.serving) is ∙ told_serves s.front (seen bytes) off.serving;
     }

@@ -16,8 +16,9 @@ use Rattle.stock_disk.specs.Fronts.{command_course, course, course_by, dma_to, i
 use Rattle.stock_disk.specs.Verifies.{verify_28, verify_48}
 use Rattle.stock_disk.proofs.LossLemmas.{IsDma}
 
--- the front is idle, and the disk is at rest and does the command
+-- the front is idle, and the disk is at rest, moves data upwards in chunks of 8,192 bytes, and does the command
 pub record IsServed (front : Front) (rest : Bool) (dma : Dma) : Type 0 where
+  pub plain : front.plain ≡ true
   pub idle : is_idle front ≡ true
   pub resting : rest ≡ true
   pub asks : IsDma dma
@@ -77,21 +78,26 @@ dma_asks f dma is =
 
 -- ## The course of a FIS
 
-last_two : (a b c d : Bool) → (a && b && c && d) ≡ true → (c ≡ true) × (d ≡ true)
-last_two true true true true is = (refl, refl)
-last_two true true true false is = absurd (cc is)
-last_two true true false d is = absurd (cc is)
-last_two true false c d is = absurd (cc is)
-last_two false b c d is = absurd (cc is)
+last_three : (a b c d : Bool) → (a && b && c && d) ≡ true → (b ≡ true) × (c ≡ true) × (d ≡ true)
+last_three true true true true is = (refl, refl, refl)
+last_three true true true false is = absurd (cc is)
+last_three true true false d is = absurd (cc is)
+last_three true false c d is = absurd (cc is)
+last_three false b c d is = absurd (cc is)
 
 served_some : (o : Option Dma) (dma : Dma) → served_or_passed o ≡ Serves dma → o ≡ Some dma
 served_some None dma is = absurd (cc is)
 served_some (Some d) dma is = let same : d ≡ dma = cc is in cc same
 
-by_test : (front : Front) (rest a : Bool) (f : List ℕ) (dma : Dma) → (a ≡ true → (is_idle front ≡ true) × (rest ≡ true))
+by_test : (front : Front) (rest a : Bool) (f : List ℕ) (dma : Dma)
+    → (a ≡ true → (front.plain ≡ true) × (is_idle front ≡ true) × (rest ≡ true))
     → (if a then dma_for f else None) ≡ Some dma → IsServed front rest dma
-by_test front rest true f dma last is =
-    record { idle = (last refl).0; resting = (last refl).1; asks = dma_asks f dma is }
+by_test front rest true f dma last is = record {
+  plain = (last refl).0;
+  idle = (last refl).1;
+  resting = (last refl).2;
+  asks = dma_asks f dma is;
+}
 by_test front rest false f dma last is = absurd (cc is)
 
 by_serving : (front : Front) (rest busy : Bool) (f : List ℕ) (dma : Dma)
@@ -99,7 +105,7 @@ by_serving : (front : Front) (rest busy : Bool) (f : List ℕ) (dma : Dma)
 by_serving front rest true f dma is = absurd (cc is)
 by_serving front rest false f dma is =
     by_test front rest (front.on && front.plain && is_idle front && rest) f dma
-    (last_two front.on front.plain (is_idle front) rest) (served_some (dma_to front rest f) dma is)
+    (last_three front.on front.plain (is_idle front) rest) (served_some (dma_to front rest f) dma is)
 
 by_command : (front : Front) (rest c : Bool) (f : List ℕ) (dma : Dma)
     → (if c then command_course front rest f else Passes) ≡ Serves dma → IsServed front rest dma

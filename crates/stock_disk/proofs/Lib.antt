@@ -4,4 +4,7 @@ pub mod HistoryLemmas
 pub mod RunLemmas
 pub mod ModeLemmas
 pub mod BareLemmas
+pub mod PhaseLemmas
 pub mod ServingLemmas
+pub mod BegunLemmas
+pub mod ReadingLemmas

@@ -80,52 +80,60 @@ sent_keeps : (front : Front) (owed : Option Own) (bytes : List ℕ) → front.fa
 sent_keeps front None bytes failed = told_keeps front (seen bytes) failed
 sent_keeps front (Some own) bytes failed = answered_keeps front own failed
 
-passed_on : (front : Front) (fis : Result Fis FisFault) → (passed front fis).on ≡ front.on
-passed_on front (Ok (view.RegH2D f)) = search rules
-passed_on front (Ok (view.RegD2H f)) = refl
-passed_on front (Ok (view.SetBits f)) = refl
-passed_on front (Ok (view.DmaActivate f)) = refl
-passed_on front (Ok (view.DmaSetup f)) = refl
-passed_on front (Ok (view.PioSetup f)) = refl
-passed_on front (Ok (view.Payload f)) = refl
-passed_on front (Ok (view.Unknown f)) = refl
-passed_on front (Err e) = refl
+-- what of a front never changes
+pub record Keeps (old new : Front) : Type 0 where
+  pub on : new.on ≡ old.on
+  pub plain : new.plain ≡ old.plain
 
-hears_on : (front : Front) (fis : Result Fis FisFault) (c : Course) → (hears front fis c).on ≡ front.on
-hears_on front fis Passes = passed_on front fis
-hears_on front fis (Answers own) = refl
-hears_on front fis (Serves dma) = refl
-hears_on front fis Loses = refl
+same : (front : Front) → Keeps front front
+same front = record { on = refl; plain = refl }
 
-told_on : (front : Front) (fis : Result Fis FisFault) → (told front fis).on ≡ front.on
-told_on front (Ok (view.RegD2H f)) = search rules
-told_on front (Ok (view.SetBits f)) = search rules
-told_on front (Ok (view.RegH2D f)) = refl
-told_on front (Ok (view.DmaActivate f)) = refl
-told_on front (Ok (view.DmaSetup f)) = refl
-told_on front (Ok (view.PioSetup f)) = refl
-told_on front (Ok (view.Payload f)) = search rules
-told_on front (Ok (view.Unknown f)) = refl
-told_on front (Err e) = refl
+passed_keeps : (front : Front) (fis : Result Fis FisFault) → Keeps front (passed front fis)
+passed_keeps front (Ok (view.RegH2D f)) = record { on = search rules; plain = search rules }
+passed_keeps front (Ok (view.RegD2H f)) = same front
+passed_keeps front (Ok (view.SetBits f)) = same front
+passed_keeps front (Ok (view.DmaActivate f)) = same front
+passed_keeps front (Ok (view.DmaSetup f)) = same front
+passed_keeps front (Ok (view.PioSetup f)) = same front
+passed_keeps front (Ok (view.Payload f)) = same front
+passed_keeps front (Ok (view.Unknown f)) = same front
+passed_keeps front (Err e) = same front
 
-answered_on : (front : Front) (own : Own) → (answered front own).on ≡ front.on
-answered_on front Done = refl
-answered_on front Active = refl
-answered_on front Aborted = refl
-answered_on front (Verifies v) = refl
-answered_on front (LogFollows log) = refl
-answered_on front (LogData log) = refl
+comes_keeps : (front : Front) (fis : Result Fis FisFault) (c : Course) → Keeps front (hears front fis c)
+comes_keeps front fis Passes = passed_keeps front fis
+comes_keeps front fis (Answers own) = record { on = refl; plain = refl }
+comes_keeps front fis (Serves dma) = record { on = refl; plain = refl }
+comes_keeps front fis Loses = same front
 
-sent_on : (front : Front) (owed : Option Own) (bytes : List ℕ) → (after_sent front owed bytes).on ≡ front.on
-sent_on front None bytes = told_on front (seen bytes)
-sent_on front (Some own) bytes = answered_on front own
+goes_keeps : (front : Front) (fis : Result Fis FisFault) → Keeps front (told front fis)
+goes_keeps front (Ok (view.RegD2H f)) = record { on = search rules; plain = search rules }
+goes_keeps front (Ok (view.SetBits f)) = record { on = search rules; plain = search rules }
+goes_keeps front (Ok (view.RegH2D f)) = same front
+goes_keeps front (Ok (view.DmaActivate f)) = same front
+goes_keeps front (Ok (view.DmaSetup f)) = same front
+goes_keeps front (Ok (view.PioSetup f)) = same front
+goes_keeps front (Ok (view.Payload f)) = record { on = search rules; plain = search rules }
+goes_keeps front (Ok (view.Unknown f)) = same front
+goes_keeps front (Err e) = same front
 
--- whether the front answers at all stays
-pub after_on : (s : StockValue) (e : Happening) → (front_after s e).on ≡ s.front.on
-after_on s (Received bytes) =
-    hears_on s.front (seen bytes) (course s.front (is_at_rest s.disk.now) (seen bytes))
-after_on s (Sent bytes) = sent_on s.front s.front.owed bytes
-after_on s Plugged = refl
+own_keeps : (front : Front) (own : Own) → Keeps front (answered front own)
+own_keeps front Done = record { on = refl; plain = refl }
+own_keeps front Active = record { on = refl; plain = refl }
+own_keeps front Aborted = record { on = refl; plain = refl }
+own_keeps front (Verifies v) = record { on = refl; plain = refl }
+own_keeps front (LogFollows log) = record { on = refl; plain = refl }
+own_keeps front (LogData log) = record { on = refl; plain = refl }
+
+gone_keeps : (front : Front) (owed : Option Own) (bytes : List ℕ) → Keeps front (after_sent front owed bytes)
+gone_keeps front None bytes = goes_keeps front (seen bytes)
+gone_keeps front (Some own) bytes = own_keeps front own
+
+-- whether the front answers at all stays, and whether it serves DMA commands
+pub after_keeps : (s : StockValue) (e : Happening) → Keeps s.front (front_after s e)
+after_keeps s (Received bytes) =
+    comes_keeps s.front (seen bytes) (course s.front (is_at_rest s.disk.now) (seen bytes))
+after_keeps s (Sent bytes) = gone_keeps s.front s.front.owed bytes
+after_keeps s Plugged = record { on = refl; plain = refl }
 
 -- the front answers, and is in the error mode
 pub record Refuses (front : Front) : Type 0 where
@@ -138,12 +146,12 @@ unfolding value_at NoneEndsMode
 stays_failed s [] now none = now
 stays_failed s (Received bytes ∷ h) now none =
     stays_failed (value_after s (Received bytes)) h (record {
-      on = after_on s (Received bytes) ∙ now.on;
+      on = (after_keeps s (Received bytes)).on ∙ now.on;
       failed = hears_keeps s.front (is_at_rest s.disk.now) (seen bytes) now.on now.failed none.0;
     }) none.1
 stays_failed s (Sent bytes ∷ h) now none =
     stays_failed (value_after s (Sent bytes)) h (record {
-      on = after_on s (Sent bytes) ∙ now.on;
+      on = (after_keeps s (Sent bytes)).on ∙ now.on;
       failed = sent_keeps s.front s.front.owed bytes now.failed;
     }) none
 stays_failed s (Plugged ∷ h) now none = absurd none
@@ -163,7 +171,7 @@ pub errors_abort : ErrorsAbort
 unfolding value_at
 errors_abort s error between f on quiet is none command other =
     let first : Refuses (front_after s (Sent error)) = record {
-      on = after_on s (Sent error) ∙ on;
+      on = (after_keeps s (Sent error)).on ∙ on;
       failed = ap (λ (o : Option Own). (after_sent s.front o error).failed) quiet
           ∙ reports_fails s.front (seen error) is;
     } in

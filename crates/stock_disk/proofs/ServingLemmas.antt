@@ -1,30 +1,22 @@
 -- What goes out while a disk does a DMA command.
-use Rattle.std.proofs.Common.{rules, ◌≡◌, ◌-◌, ◌<◌, ◌==◌, ◌/◌, ◌%◌, ◌&&◌, ℕ, zero, suc, Bool, true, false, List, [], ◌∷◌, ◌++◌, ◌+◌, ◌*◌, ◌≤◌, Option, Some, None, Result, Ok, Err, drop, length, refl, ap, sym, subst, ◌∙◌, arith, inl, inr}
-use Rattle.std.specs.Prelude.{◌⊎◌, if◌then◌else◌, is_none, is_some, not}
+use Rattle.std.proofs.Common.{rules, ◌≡◌, ◌==◌, ◌/◌, ◌%◌, ◌&&◌, ℕ, Bool, true, false, List, [], ◌∷◌, ◌++◌, ◌≤◌, Option, Some, None, Result, Ok, Err, drop, refl, ap, sym, subst, ◌∙◌, inl, inr}
+use Rattle.std.specs.Prelude.{◌⊎◌, if◌then◌else◌, is_none}
 use Rattle.fis_view.specs.Seen.{seen}
 use Rattle.fis_view.specs.Table.{C, Control, H2d, field}
 use Rattle.fis_view.specs.declared.view.Fis.{Fis}
 use Rattle.fis_view.specs.declared.view.Fis.TheVariants as view
 use Rattle.fis_view.specs.declared.view.FisFault.{FisFault}
-use Rattle.disk_model.specs.declared.answer.Answer.{Answer}
-use Rattle.disk_model.specs.declared.answer.Answer.TheVariants.{Ended}
 use Rattle.disk_model.specs.declared.answer.Fault.{Fault}
 use Rattle.disk_model.specs.declared.disk.quiet.Due.{Due}
 use Rattle.disk_model.specs.declared.disk.quiet.Due.TheVariants as due
 use Rattle.disk_model.specs.declared.plan.DiskPlan.{DiskPlan}
-use Rattle.disk_model.specs.declared.plan.Order.{Order}
-use Rattle.disk_model.specs.declared.plan.Order.TheVariants.{Oldest, Newest}
-use Rattle.disk_model.specs.declared.request.Command.{Command}
-use Rattle.disk_model.specs.Chunks.{activations, asks_for, chunk_count, chunk_from, chunk_setup, chunks, fault_of, sectors_at, sends_left}
-use Rattle.disk_model.specs.Disks.{DiskValue, Moment, Turn, Writing, after_turn, begun_write, data_taken, moment_after, picked, read_turn, starts, turn, went, with_now, write_turn}
+use Rattle.disk_model.specs.Disks.{DiskValue, Moment, Turn, Writing, data_taken, moment_after, turn, with_now}
 use Rattle.disk_model.specs.Histories.{Happening, Received, Sent, Plugged}
-use Rattle.disk_model.specs.Quiet.{after_next, begun_with, due_by, due_in, is_at_rest}
-use Rattle.disk_model.specs.Sendings.{Sending, Activates, Carries, Shows}
-use Rattle.disk_model.specs.Chunks.{put}
-use Rattle.disk_model.specs.Disks.{heard, stored, without}
+use Rattle.disk_model.specs.Quiet.{due_by, due_in, is_at_rest}
+use Rattle.disk_model.specs.Sendings.{Activates, Carries, Shows}
+use Rattle.disk_model.specs.Disks.{heard}
 use Rattle.disk_model.specs.Runs.{IsTurn}
 use Rattle.disk_model.specs.Sendings.{Register}
-use Rattle.disk_model.proofs.Door.{sends_left_next, some_chunks, turn_read, turn_start}
 use Rattle.fis_view.specs.declared.build.D2hFields.{D2hFields}
 use Rattle.stock_disk.specs.declared.dma.Dma.{Dma}
 use Rattle.stock_disk.specs.declared.front.Course.{Course}
@@ -36,238 +28,12 @@ use Rattle.stock_disk.specs.Dmas.{as_queued, dma_fault}
 use Rattle.stock_disk.specs.Faces.{IsNext, ShowsOr, StockValue, after_sent, disk_after, front_after, inner_heard, inner_sent, made_next, new_stock, value_after, value_at}
 use Rattle.stock_disk.specs.Fronts.{answered, course, course_by, ended as ended_told, hears, is_idle, own_to, passed, passed_command, settles, told}
 use Rattle.stock_disk.specs.Laws.{DmaEnds, EndsOrWaits, IsEnd, IsMove, MayHappen, Runs, is_data}
-use Rattle.stock_disk.specs.Losses.{after_if, asked, begins, goes_by, goes_for, is_activate, is_setup, made_by, made_for, went_out}
+use Rattle.stock_disk.specs.Losses.{asked, begins, goes_by, goes_for, made_by, made_for, went_out}
 use Rattle.stock_disk.specs.Verifies.{fault_fields}
 use Rattle.stock_disk.proofs.BareLemmas.{passed_serves, told_owes, told_serves}
 use Rattle.stock_disk.proofs.DmaLemmas.{serves_is}
 use Rattle.stock_disk.proofs.LossLemmas.{IsDma, Rests, at_rest, begins_is, goes_is}
-
--- ## Where a command is
-
--- Data of a read are due
-pub record Sends (plan : DiskPlan) (m : Moment) (c : Command) : Type 0 where
-  pub left : ℕ
-  pub some : 0 < left
-  pub reads : c.write ≡ false
-  pub owed : m.owed ≡ []
-  pub started : m.started ≡ Some (record { command = c; sends = drop 1 (sends_left plan m.medium c left) })
-  pub writing : m.writing ≡ None
-  pub resetting : m.resetting ≡ false
-
--- a write has not started
-pub record Waits (plan : DiskPlan) (sectors : ℕ) (m : Moment) (c : Command) : Type 0 where
-  pub writes : c.write ≡ true
-  pub good : fault_of plan sectors c ≡ None
-  pub queued : m.queued ≡ c ∷ []
-  pub owed : m.owed ≡ []
-  pub started : m.started ≡ None
-  pub writing : m.writing ≡ None
-  pub resetting : m.resetting ≡ false
-
--- a write waits for Data, or is to ask for them
-pub record Takes (plan : DiskPlan) (m : Moment) (c : Command) (asks : Bool) : Type 0 where
-  pub of : Writing
-  pub writes : c.write ≡ true
-  pub owed : m.owed ≡ []
-  pub started : m.started ≡ None
-  pub writing : m.writing ≡ Some of
-  pub sends : of.sends ≡ (if asks then asks_for plan of.command of.left else [])
-  pub resetting : m.resetting ≡ false
-
--- Set Device Bits is due
-pub record Ends (m : Moment) : Type 0 where
-  pub tag : ℕ
-  pub owed : m.owed ≡ Ended tag ∷ []
-  pub writing : m.writing ≡ None
-  pub resetting : m.resetting ≡ false
-
-pub data Phase (plan : DiskPlan) (sectors : ℕ) (m : Moment) (c : Command) : Type 0 where
-  IsSending : Sends plan m c → Phase plan sectors m c
-  IsWaiting : Waits plan sectors m c → Phase plan sectors m c
-  IsTaking : (asks : Bool) → Takes plan m c asks → Phase plan sectors m c
-  IsEnding : Ends m → Phase plan sectors m c
-
-abbrev pub PhaseOf : DiskValue → Command → Type 0
-PhaseOf d c = Phase d.plan d.sectors d.now c
-
--- ## The next FIS goes out
-
-ends_due : (d : DiskValue) → Ends d.now → due_in d ≡ Some due.Ended
-ends_due d e = rw e.owed refl
-
--- a read
-sends_turn : (d : DiskValue) (c : Command) (s : Sends d.plan d.now c)
-    → turn d.plan d.sectors d.now ≡ Some (Carries (sectors_at d.now.medium (c.lba + chunk_from d.plan c s.left) (chunk_count d.plan c s.left)), went d.now c (sends_left d.plan d.now.medium c (s.left - 1)))
-sends_turn d c s = rw (s.owed, s.started, sends_left_next d.plan d.now.medium c s.left s.some) refl
-
-phase_went : (d : DiskValue) (c : Command) (k : ℕ) → c.write ≡ false → d.now.owed ≡ [] → d.now.writing ≡ None
-    → d.now.resetting ≡ false
-    → let e : DiskValue = with_now d (went d.now c (sends_left d.plan d.now.medium c k)) in
-    PhaseOf (after_if (is_setup (due_in e)) e) c
-unfolding sends_left
-phase_went d c zero reads owed writing resetting =
-    IsEnding (record { tag = c.tag; owed = refl; writing = refl; resetting = resetting })
-phase_went d c (suc j) reads owed writing resetting =
-    let e : DiskValue = with_now d (went d.now c (sends_left d.plan d.now.medium c (suc j))) in
-    let bytes = sectors_at d.now.medium (c.lba + chunk_from d.plan c (suc j)) (chunk_count d.plan c (suc j)) in
-    let f : DiskValue = with_now d (record d.now { started = Some (record { command = c; sends = Carries bytes ∷ sends_left d.plan d.now.medium c j }) }) in
-    let next : due_in e ≡ Some due.Setup = rw (owed, writing) refl in
-    let turns = turn_read e.plan e.sectors e.now c (sends_left d.plan d.now.medium c (suc j)) owed refl in
-    let left : after_next e ≡ f = ap (λ (t : Turn). with_now e (after_turn e.now t)) turns in
-    let all : after_if (is_setup (due_in e)) e ≡ f = ap (λ (q : Option Due). after_if (is_setup q) e) next ∙ left in
-    subst (λ (x : DiskValue). PhaseOf x c) (sym all) (IsSending (record {
-      left = suc j;
-      some = omega arith;
-      reads = reads;
-      owed = owed;
-      started = refl;
-      writing = writing;
-      resetting = resetting;
-    }))
-
-sends_on : (d : DiskValue) (c : Command) → Sends d.plan d.now c → PhaseOf (went_out d) c
-sends_on d c s =
-    let all : after_next d ≡ with_now d (went d.now c (sends_left d.plan d.now.medium c (s.left - 1))) =
-    ap (λ (t : Turn). with_now d (after_turn d.now t)) (sends_turn d c s) in
-    subst (λ (e : DiskValue). PhaseOf (after_if (is_setup (due_in e)) e) c) (sym all)
-    (phase_went d c (s.left - 1) s.reads s.owed s.writing s.resetting)
-
-sends_due : (d : DiskValue) (c : Command) → Sends d.plan d.now c → due_in d ≡ Some due.Data
-sends_due d c s = ap (due_by d.now) (sends_turn d c s)
-
--- a write asked for a chunk, but for its DMA Activate
-pub record Half (plan : DiskPlan) (m : Moment) (w : Writing) : Type 0 where
-  pub owed : m.owed ≡ []
-  pub started : m.started ≡ None
-  pub writing : m.writing ≡ Some w
-  pub sends : w.sends ≡ activations plan.auto
-  pub resetting : m.resetting ≡ false
-
-half_turn : (d : DiskValue) (w : Writing) → Half d.plan d.now w → turn d.plan d.sectors d.now ≡ write_turn d.now w w.sends
-half_turn d w h = rw (h.owed, h.started, h.writing) refl
-
-half_by : (d : DiskValue) (c : Command) (w : Writing) (auto : Bool) → d.plan.auto ≡ auto → c.write ≡ true → Half d.plan d.now w
-    → PhaseOf (after_if (is_activate (due_in d)) d) c
-half_by d c w true is writes h =
-    let none : w.sends ≡ [] = h.sends ∙ ap activations is in
-    let over = half_turn d w h ∙ ap (write_turn d.now w) none in
-    let next : due_in d ≡ None = ap (due_by d.now) over in
-    subst (λ (q : Option Due). PhaseOf (after_if (is_activate q) d) c) (sym next)
-    (IsTaking false (record { of = w; writes = writes; owed = h.owed; started = h.started; writing = h.writing; sends = none; resetting = h.resetting }))
-half_by d c w false is writes h =
-    let one : w.sends ≡ Activates ∷ [] = h.sends ∙ ap activations is in
-    let over = half_turn d w h ∙ ap (write_turn d.now w) one in
-    let next : due_in d ≡ Some due.Activate = ap (due_by d.now) over in
-    let v : Writing = record w { sends = [] } in
-    let left : after_next d ≡ with_now d (record d.now { writing = Some v }) =
-    ap (λ (t : Turn). with_now d (after_turn d.now t)) over in
-    subst (λ (q : Option Due). PhaseOf (after_if (is_activate q) d) c) (sym next)
-    (subst (λ (x : DiskValue). PhaseOf x c) (sym left)
-    (IsTaking false (record { of = v; writes = writes; owed = h.owed; started = h.started; writing = refl; sends = refl; resetting = h.resetting })))
-
-picks : (o : Order) (c : Command) → picked o (c ∷ []) ≡ Some c
-picks Oldest c = refl
-picks Newest c = refl
-
-waits_turn : (d : DiskValue) (c : Command) → Waits d.plan d.sectors d.now c
-    → turn d.plan d.sectors d.now ≡ write_turn d.now (begun_write d.plan c) (asks_for d.plan c (chunks d.plan c))
-waits_turn d c w =
-    turn_start d.plan d.sectors d.now c w.owed w.started w.writing (ap (picked d.plan.order) w.queued ∙ picks d.plan.order c) w.good
-    ∙ ap (starts d.plan d.now c) w.writes
-
-waits_due : (d : DiskValue) (c : Command) → Waits d.plan d.sectors d.now c → due_in d ≡ Some due.Start
-waits_due d c w =
-    ap (due_by d.now) (waits_turn d c w)
-    ∙ ap (λ (o : Option Writing). Some (if is_none o && true then due.Start else due.Setup)) w.writing
-
-waits_on : (d : DiskValue) (c : Command) → Waits d.plan d.sectors d.now c → PhaseOf (asked d) c
-waits_on d c w =
-    let v : Writing = record (begun_write d.plan c) { sends = activations d.plan.auto } in
-    let e : DiskValue = with_now d (record d.now { writing = Some v }) in
-    let left : after_next d ≡ e = ap (λ (t : Turn). with_now d (after_turn d.now t)) (waits_turn d c w) in
-    subst (λ (x : DiskValue). PhaseOf (after_if (is_activate (due_in x)) x) c) (sym left)
-    (half_by e c v d.plan.auto refl w.writes (record { owed = w.owed; started = w.started; writing = refl; sends = refl; resetting = w.resetting }))
-
-asks_turn : (d : DiskValue) (c : Command) (t : Takes d.plan d.now c true)
-    → turn d.plan d.sectors d.now ≡ write_turn d.now t.of (asks_for d.plan t.of.command t.of.left)
-asks_turn d c t =
-    let first : turn d.plan d.sectors d.now ≡ write_turn d.now t.of t.of.sends = rw (t.owed, t.started, t.writing) refl in
-    first ∙ ap (write_turn d.now t.of) t.sends
-
-asks_due : (d : DiskValue) (c : Command) → Takes d.plan d.now c true → due_in d ≡ Some due.Setup
-asks_due d c t =
-    ap (due_by d.now) (asks_turn d c t)
-    ∙ ap (λ (o : Option Writing). Some (if is_none o && true then due.Start else due.Setup)) t.writing
-
-asks_on : (d : DiskValue) (c : Command) → Takes d.plan d.now c true → PhaseOf (asked d) c
-asks_on d c t =
-    let v : Writing = record t.of { sends = activations d.plan.auto } in
-    let e : DiskValue = with_now d (record d.now { writing = Some v }) in
-    let left : after_next d ≡ e = ap (λ (x : Turn). with_now d (after_turn d.now x)) (asks_turn d c t) in
-    subst (λ (x : DiskValue). PhaseOf (after_if (is_activate (due_in x)) x) c) (sym left)
-    (half_by e c v d.plan.auto refl t.writes (record { owed = t.owed; started = t.started; writing = refl; sends = refl; resetting = t.resetting }))
-
-takes_due : (d : DiskValue) (c : Command) → Takes d.plan d.now c false → turn d.plan d.sectors d.now ≡ None
-takes_due d c t =
-    let first : turn d.plan d.sectors d.now ≡ write_turn d.now t.of t.of.sends = rw (t.owed, t.started, t.writing) refl in
-    first ∙ ap (write_turn d.now t.of) t.sends
-
-phase_resets : (d : DiskValue) (c : Command) → PhaseOf d c → d.now.resetting ≡ false
-phase_resets d c (IsSending p) = p.resetting
-phase_resets d c (IsWaiting p) = p.resetting
-phase_resets d c (IsTaking asks p) = p.resetting
-phase_resets d c (IsEnding p) = p.resetting
-
--- ## A FIS of the host comes
-
-stored_phase : (d : DiskValue) (c : Command) (t : Takes d.plan d.now c false) (bytes : List ℕ) (last : Bool) → (t.of.left == 1) ≡ last
-    → PhaseOf (with_now d (stored d.plan d.now t.of bytes)) c
-stored_phase d c t bytes true is =
-    let staged = put t.of.staged (512 * chunk_from d.plan t.of.command t.of.left) bytes in
-    let m : Moment = record d.now {
-      medium = put d.now.medium (512 * t.of.command.lba) staged;
-      queued = without d.now.queued t.of.command;
-      owed = d.now.owed ++ Ended t.of.command.tag ∷ [];
-      writing = None;
-    } in
-    let all : stored d.plan d.now t.of bytes ≡ m = rw is refl in
-    subst (λ (x : Moment). PhaseOf (with_now d x) c) (sym all)
-    (IsEnding (record { tag = t.of.command.tag; owed = ap (λ (l : List Answer). l ++ Ended t.of.command.tag ∷ []) t.owed; writing = refl; resetting = t.resetting }))
-stored_phase d c t bytes false is =
-    let staged = put t.of.staged (512 * chunk_from d.plan t.of.command t.of.left) bytes in
-    let v : Writing = record {
-      command = t.of.command;
-      sends = asks_for d.plan t.of.command (t.of.left - 1);
-      left = t.of.left - 1;
-      staged = staged;
-    } in
-    let all : stored d.plan d.now t.of bytes ≡ record d.now { writing = Some v } = rw is refl in
-    subst (λ (x : Moment). PhaseOf (with_now d x) c) (sym all)
-    (IsTaking true (record { of = v; writes = t.writes; owed = t.owed; started = t.started; writing = refl; sends = refl; resetting = t.resetting }))
-
-either_phase : (d : DiskValue) (c : Command) (b : Bool) (m : Moment) → PhaseOf (with_now d m) c → PhaseOf d c
-    → PhaseOf (with_now d (if b then m else d.now)) c
-either_phase d c true m new old = new
-either_phase d c false m new old = old
-
--- Data of the host
-data_phase : (d : DiskValue) (c : Command) (bytes : List ℕ) → PhaseOf d c
-    → PhaseOf (with_now d (data_taken d.plan d.now d.now.writing bytes)) c
-data_phase d c bytes (IsSending s) =
-    subst (λ (o : Option Writing). PhaseOf (with_now d (data_taken d.plan d.now o bytes)) c) (sym s.writing) (IsSending s)
-data_phase d c bytes (IsWaiting w) =
-    subst (λ (o : Option Writing). PhaseOf (with_now d (data_taken d.plan d.now o bytes)) c) (sym w.writing) (IsWaiting w)
-data_phase d c bytes (IsEnding e) =
-    subst (λ (o : Option Writing). PhaseOf (with_now d (data_taken d.plan d.now o bytes)) c) (sym e.writing) (IsEnding e)
-data_phase d c bytes (IsTaking true t) =
-    let more : (length t.of.sends == 0) ≡ false = ap (λ (l : List Sending). length l == 0) t.sends ∙ search rules in
-    let same : data_taken d.plan d.now d.now.writing bytes ≡ d.now =
-    ap (λ (o : Option Writing). data_taken d.plan d.now o bytes) t.writing
-    ∙ ap (λ b. if b && (length bytes == 512 * chunk_count d.plan t.of.command t.of.left) then stored d.plan d.now t.of bytes else d.now) more in
-    subst (λ (x : Moment). PhaseOf (with_now d x) c) (sym same) (IsTaking true t)
-data_phase d c bytes (IsTaking false t) =
-    subst (λ (o : Option Writing). PhaseOf (with_now d (data_taken d.plan d.now o bytes)) c) (sym t.writing)
-    (either_phase d c _ (stored d.plan d.now t.of bytes) (stored_phase d c t bytes (t.of.left == 1) refl) (IsTaking false t))
+use Rattle.stock_disk.proofs.PhaseLemmas.{PhaseOf, IsEnding, IsSending, IsTaking, IsWaiting, asks_due, asks_on, begins_phase, data_phase, ends_due, phase_resets, sends_due, sends_on, sends_turn, takes_due, waits_due, waits_on}
 
 -- ## A DMA command waits for its answer
 
@@ -279,9 +45,15 @@ pub record IsServing (s : StockValue) (dma : Dma) : Type 0 where
   pub resetting : s.disk.now.resetting ≡ false
   pub phase : dma_fault s.disk dma ≡ None → PhaseOf s.disk (as_queued dma)
 
--- it waits on, or it does not
-abbrev pub WaitsOn : StockValue → Dma → Type 0
-WaitsOn t dma = IsServing t dma ⊎ (t.front.serving ≡ None)
+-- of what comes, the disk hears the Data alone
+abbrev pub hears_data : DiskValue → Result Fis FisFault → Moment
+hears_data d (Ok (view.Payload f)) = data_taken d.plan d.now d.now.writing (drop 4 f)
+hears_data d _ = d.now
+
+-- a FIS came, and the command waits on, or it does not
+abbrev pub WaitsOn : StockValue → List ℕ → StockValue → Dma → Type 0
+WaitsOn s bytes t dma =
+    (IsServing t dma × (t.disk ≡ with_now s.disk (hears_data s.disk (seen bytes)))) ⊎ (t.front.serving ≡ None)
 
 none_either : (b : Bool) (o : Option Own) → o ≡ None → (if b then o else None) ≡ None
 none_either true o is = is
@@ -318,19 +90,24 @@ abbrev pub comes : StockValue → List ℕ → Course → StockValue
 comes s bytes c = record { disk = disk_after s.disk (inner_heard s.disk bytes c); front = hears s.front (seen bytes) c }
 
 -- nothing happens
-stays : (s : StockValue) (dma : Dma) (bytes : List ℕ) → IsServing s dma → WaitsOn (comes s bytes Loses) dma
+stays : (s : StockValue) (dma : Dma) (bytes : List ℕ) → IsServing s dma → hears_data s.disk (seen bytes) ≡ s.disk.now
+    → WaitsOn s bytes (comes s bytes Loses) dma
 unfolding moment_after
-stays s dma bytes is =
-    inl (with_disk s dma (comes s bytes Loses) s.disk.now is refl refl is.resetting is.phase)
+stays s dma bytes is none =
+    inl (with_disk s dma (comes s bytes Loses) s.disk.now is refl refl is.resetting is.phase, ap (with_now s.disk) (sym none))
 
 -- a FIS passes that the front does not look at
 passes_on : (s : StockValue) (dma : Dma) (bytes : List ℕ) (m : Moment) → IsServing s dma
     → passed s.front (seen bytes) ≡ s.front → heard s.disk.plan s.disk.now (seen bytes) ≡ m
-    → m.resetting ≡ false → (dma_fault s.disk dma ≡ None → PhaseOf (with_now s.disk m) (as_queued dma))
-    → WaitsOn (comes s bytes Passes) dma
+    → m ≡ hears_data s.disk (seen bytes) → m.resetting ≡ false
+    → (dma_fault s.disk dma ≡ None → PhaseOf (with_now s.disk m) (as_queued dma))
+    → WaitsOn s bytes (comes s bytes Passes) dma
 unfolding moment_after
-passes_on s dma bytes m is front disk resetting phase =
-    inl (with_disk s dma (comes s bytes Passes) m is front (ap (with_now s.disk) disk) resetting phase)
+passes_on s dma bytes m is front disk taken resetting phase =
+    inl (
+      with_disk s dma (comes s bytes Passes) m is front (ap (with_now s.disk) disk) resetting phase,
+      ap (with_now s.disk) (disk ∙ taken),
+    )
 
 data_resets : (plan : DiskPlan) (m : Moment) (o : Option Writing) (bytes : List ℕ)
     → (data_taken plan m o bytes).resetting ≡ m.resetting
@@ -339,14 +116,15 @@ data_resets plan m (Some w) bytes = search rules
 
 -- the Device Control register is written
 control_on : (s : StockValue) (dma : Dma) (bytes f : List ℕ) (srst : Bool) → IsServing s dma → seen bytes ≡ Ok (view.RegH2D f)
-    → (field H2d C f == 1) ≡ false → (field H2d Control f / 4 % 2 == 1) ≡ srst → WaitsOn (comes s bytes Passes) dma
+    → (field H2d C f == 1) ≡ false → (field H2d Control f / 4 % 2 == 1) ≡ srst → WaitsOn s bytes (comes s bytes Passes) dma
 control_on s dma bytes f true is fis control reset =
     let now : passed s.front (seen bytes) ≡ settles s.front = rw (fis, control, reset) refl in
     inr (ap (λ (x : Front). x.serving) now)
 control_on s dma bytes f false is fis control reset =
     let now : passed s.front (seen bytes) ≡ s.front = rw (fis, control, reset) refl in
     let same : heard s.disk.plan s.disk.now (seen bytes) ≡ s.disk.now = rw (fis, control, reset, is.resetting) refl in
-    passes_on s dma bytes s.disk.now is now same is.resetting is.phase
+    let taken : s.disk.now ≡ hears_data s.disk (seen bytes) = rw fis refl in
+    passes_on s dma bytes s.disk.now is now same taken is.resetting is.phase
 
 no_own : (s : StockValue) (dma : Dma) (bytes : List ℕ) (rest : Bool) → IsServing s dma
     → course s.front rest (seen bytes) ≡ course_by s.front rest (seen bytes) None
@@ -354,49 +132,59 @@ no_own s dma bytes rest is = ap (course_by s.front rest (seen bytes)) (own_none 
 
 register_on : (s : StockValue) (dma : Dma) (bytes f : List ℕ) (rest command : Bool) → IsServing s dma
     → seen bytes ≡ Ok (view.RegH2D f) → (field H2d C f == 1) ≡ command
-    → WaitsOn (comes s bytes (course s.front rest (seen bytes))) dma
+    → WaitsOn s bytes (comes s bytes (course s.front rest (seen bytes))) dma
 register_on s dma bytes f rest true is fis command =
     let lost : course_by s.front rest (seen bytes) None ≡ Loses = rw (fis, command, is.serving) refl in
-    subst (λ (c : Course). WaitsOn (comes s bytes c) dma) (sym (no_own s dma bytes rest is ∙ lost)) (stays s dma bytes is)
+    subst (λ (c : Course). WaitsOn s bytes (comes s bytes c) dma) (sym (no_own s dma bytes rest is ∙ lost))
+    (stays s dma bytes is (ap (hears_data s.disk) fis))
 register_on s dma bytes f rest false is fis command =
     let pass : course_by s.front rest (seen bytes) None ≡ Passes = rw (fis, command) refl in
-    subst (λ (c : Course). WaitsOn (comes s bytes c) dma) (sym (no_own s dma bytes rest is ∙ pass))
+    subst (λ (c : Course). WaitsOn s bytes (comes s bytes c) dma) (sym (no_own s dma bytes rest is ∙ pass))
     (control_on s dma bytes f (field H2d Control f / 4 % 2 == 1) is fis command refl)
 
 -- a FIS passes that changes nothing
 other_on : (s : StockValue) (dma : Dma) (bytes : List ℕ) (rest : Bool) → IsServing s dma
     → course_by s.front rest (seen bytes) None ≡ Passes → passed s.front (seen bytes) ≡ s.front
-    → heard s.disk.plan s.disk.now (seen bytes) ≡ s.disk.now
-    → WaitsOn (comes s bytes (course s.front rest (seen bytes))) dma
-other_on s dma bytes rest is pass front disk =
-    subst (λ (c : Course). WaitsOn (comes s bytes c) dma) (sym (no_own s dma bytes rest is ∙ pass))
-    (passes_on s dma bytes s.disk.now is front disk is.resetting is.phase)
+    → heard s.disk.plan s.disk.now (seen bytes) ≡ s.disk.now → s.disk.now ≡ hears_data s.disk (seen bytes)
+    → WaitsOn s bytes (comes s bytes (course s.front rest (seen bytes))) dma
+other_on s dma bytes rest is pass front disk taken =
+    subst (λ (c : Course). WaitsOn s bytes (comes s bytes c) dma) (sym (no_own s dma bytes rest is ∙ pass))
+    (passes_on s dma bytes s.disk.now is front disk taken is.resetting is.phase)
 
 data_on : (s : StockValue) (dma : Dma) (bytes f : List ℕ) (rest : Bool) → IsServing s dma → seen bytes ≡ Ok (view.Payload f)
-    → WaitsOn (comes s bytes (course s.front rest (seen bytes))) dma
+    → WaitsOn s bytes (comes s bytes (course s.front rest (seen bytes))) dma
 data_on s dma bytes f rest is fis =
     let pass : course_by s.front rest (seen bytes) None ≡ Passes = rw fis refl in
     let front : passed s.front (seen bytes) ≡ s.front = rw fis refl in
     let m = data_taken s.disk.plan s.disk.now s.disk.now.writing (drop 4 f) in
     let disk : heard s.disk.plan s.disk.now (seen bytes) ≡ m = rw fis refl in
-    subst (λ (c : Course). WaitsOn (comes s bytes c) dma) (sym (no_own s dma bytes rest is ∙ pass))
-    (passes_on s dma bytes m is front disk (data_resets s.disk.plan s.disk.now s.disk.now.writing (drop 4 f) ∙ is.resetting)
+    let taken : m ≡ hears_data s.disk (seen bytes) = rw fis refl in
+    subst (λ (c : Course). WaitsOn s bytes (comes s bytes c) dma) (sym (no_own s dma bytes rest is ∙ pass))
+    (passes_on s dma bytes m is front disk taken
+    (data_resets s.disk.plan s.disk.now s.disk.now.writing (drop 4 f) ∙ is.resetting)
     (λ good. data_phase s.disk (as_queued dma) (drop 4 f) (is.phase good)))
 
 comes_on : (s : StockValue) (dma : Dma) (bytes : List ℕ) (rest : Bool) (fis : Result Fis FisFault) → IsServing s dma
-    → seen bytes ≡ fis → WaitsOn (comes s bytes (course s.front rest (seen bytes))) dma
+    → seen bytes ≡ fis → WaitsOn s bytes (comes s bytes (course s.front rest (seen bytes))) dma
 comes_on s dma bytes rest (Ok (view.RegH2D f)) is e = register_on s dma bytes f rest (field H2d C f == 1) is e refl
 comes_on s dma bytes rest (Ok (view.Payload f)) is e = data_on s dma bytes f rest is e
-comes_on s dma bytes rest (Ok (view.RegD2H f)) is e = other_on s dma bytes rest is (rw e refl) (rw e refl) (rw e refl)
-comes_on s dma bytes rest (Ok (view.SetBits f)) is e = other_on s dma bytes rest is (rw e refl) (rw e refl) (rw e refl)
-comes_on s dma bytes rest (Ok (view.DmaActivate f)) is e = other_on s dma bytes rest is (rw e refl) (rw e refl) (rw e refl)
-comes_on s dma bytes rest (Ok (view.DmaSetup f)) is e = other_on s dma bytes rest is (rw e refl) (rw e refl) (rw e refl)
-comes_on s dma bytes rest (Ok (view.PioSetup f)) is e = other_on s dma bytes rest is (rw e refl) (rw e refl) (rw e refl)
-comes_on s dma bytes rest (Ok (view.Unknown f)) is e = other_on s dma bytes rest is (rw e refl) (rw e refl) (rw e refl)
-comes_on s dma bytes rest (Err x) is e = other_on s dma bytes rest is (rw e refl) (rw e refl) (rw e refl)
+comes_on s dma bytes rest (Ok (view.RegD2H f)) is e =
+    other_on s dma bytes rest is (rw e refl) (rw e refl) (rw e refl) (rw e refl)
+comes_on s dma bytes rest (Ok (view.SetBits f)) is e =
+    other_on s dma bytes rest is (rw e refl) (rw e refl) (rw e refl) (rw e refl)
+comes_on s dma bytes rest (Ok (view.DmaActivate f)) is e =
+    other_on s dma bytes rest is (rw e refl) (rw e refl) (rw e refl) (rw e refl)
+comes_on s dma bytes rest (Ok (view.DmaSetup f)) is e =
+    other_on s dma bytes rest is (rw e refl) (rw e refl) (rw e refl) (rw e refl)
+comes_on s dma bytes rest (Ok (view.PioSetup f)) is e =
+    other_on s dma bytes rest is (rw e refl) (rw e refl) (rw e refl) (rw e refl)
+comes_on s dma bytes rest (Ok (view.Unknown f)) is e =
+    other_on s dma bytes rest is (rw e refl) (rw e refl) (rw e refl) (rw e refl)
+comes_on s dma bytes rest (Err x) is e =
+    other_on s dma bytes rest is (rw e refl) (rw e refl) (rw e refl) (rw e refl)
 
 pub received_on : (s : StockValue) (dma : Dma) (bytes : List ℕ) → IsServing s dma
-    → WaitsOn (value_after s (Received bytes)) dma
+    → WaitsOn s bytes (value_after s (Received bytes)) dma
 received_on s dma bytes is = comes_on s dma bytes (is_at_rest s.disk.now) (seen bytes) is refl
 
 -- ## A FIS goes out
@@ -405,13 +193,14 @@ ended_serves : (front : Front) (f : List ℕ) → (ended_told front f).serving �
 ended_serves front f = search rules
 
 -- the front's Register FIS ends the command
-finishes : (front : Front) (v : D2hFields) (bytes : List ℕ) → Shows (Register v) bytes → (told front (seen bytes)).serving ≡ None
+pub finishes : (front : Front) (v : D2hFields) (bytes : List ℕ) → Shows (Register v) bytes
+    → (told front (seen bytes)).serving ≡ None
 finishes front v bytes shows = rw shows.viewed (ended_serves front bytes)
 
 activates : (front : Front) (bytes : List ℕ) → Shows Activates bytes → told front (seen bytes) ≡ front
 activates front bytes shows = rw shows.viewed refl
 
-carries : (front : Front) (dma : Dma) (part bytes : List ℕ) → front.serving ≡ Some dma → Shows (Carries part) bytes
+pub carries : (front : Front) (dma : Dma) (part bytes : List ℕ) → front.serving ≡ Some dma → Shows (Carries part) bytes
     → told front (seen bytes) ≡ front
 carries front dma part bytes serving shows =
     let is : is_none front.serving ≡ false = rw serving refl in
@@ -427,7 +216,7 @@ sent_value s dma bytes is =
     ∙ ap (λ (o : Option Dma). disk_after s.disk (inner_sent s.disk bytes None o)) is.serving
     ∙ goes_is s.disk (dma_fault s.disk dma) bytes (due_in s.disk)
 
-sent_front : (s : StockValue) (dma : Dma) (bytes : List ℕ) → IsServing s dma
+pub sent_front : (s : StockValue) (dma : Dma) (bytes : List ℕ) → IsServing s dma
     → front_after s (Sent bytes) ≡ told s.front (seen bytes)
 sent_front s dma bytes is = ap (λ (o : Option Own). after_sent s.front o bytes) is.owed
 
@@ -467,7 +256,7 @@ asked_by_front s dma bytes is writes shows disk phase =
     inl (inr (shows, writes), sent_front s dma bytes is ∙ front, moves_on s dma bytes (asked s.disk) is front disk phase)
 
 -- what may be sent, by what is due
-may_by : (s : StockValue) (dma : Dma) (bytes : List ℕ) (k : Option Due) → IsServing s dma → dma_fault s.disk dma ≡ None
+pub may_by : (s : StockValue) (dma : Dma) (bytes : List ℕ) (k : Option Due) → IsServing s dma → dma_fault s.disk dma ≡ None
     → due_in s.disk ≡ k → IsNext s bytes → ShowsOr (made_for dma k) (turn s.disk.plan s.disk.sectors s.disk.now) bytes
 may_by s dma bytes k is good due may =
     let at = turn s.disk.plan s.disk.sectors s.disk.now in
@@ -476,7 +265,7 @@ may_by s dma bytes k is good due may =
     let c = subst (λ (f : Option Fault). ShowsOr (made_by f dma (due_in s.disk)) at bytes) good b in
     subst (λ (q : Option Due). ShowsOr (made_for dma q) at bytes) due c
 
-goes_to : (s : StockValue) (dma : Dma) (bytes : List ℕ) (k : Option Due) → IsServing s dma → dma_fault s.disk dma ≡ None
+pub goes_to : (s : StockValue) (dma : Dma) (bytes : List ℕ) (k : Option Due) → IsServing s dma → dma_fault s.disk dma ≡ None
     → due_in s.disk ≡ k → (value_after s (Sent bytes)).disk ≡ goes_for s.disk k
 goes_to s dma bytes k is good due =
     sent_value s dma bytes is ∙ ap (λ (f : Option Fault). goes_by f s.disk (due_in s.disk)) good ∙ ap (goes_for s.disk) due
@@ -517,59 +306,11 @@ by_fault s dma bytes (Some x) fault is may =
     let at = turn s.disk.plan s.disk.sectors s.disk.now in
     let a = subst (λ (o : Option Own). ShowsOr (made_next s.disk o s.front.serving) at bytes) is.owed may in
     let b = subst (λ (o : Option Dma). ShowsOr (made_next s.disk None o) at bytes) is.serving a in
-    ended_by s dma bytes (Some x) is fault (subst (λ (f : Option Fault). ShowsOr (made_by f dma (due_in s.disk)) at bytes) fault b)
+    ended_by s dma bytes (Some x) is fault
+    (subst (λ (f : Option Fault). ShowsOr (made_by f dma (due_in s.disk)) at bytes) fault b)
 
 pub sent_on : (s : StockValue) (dma : Dma) (bytes : List ℕ) → IsServing s dma → IsNext s bytes → Outcome s dma bytes
 sent_on s dma bytes is may = by_fault s dma bytes (dma_fault s.disk dma) refl is may
-
--- ## A command begins
-
-begins_phase : (d : DiskValue) (dma : Dma) → 512 ≤ d.plan.chunk → Rests d.now → IsDma dma → dma_fault d dma ≡ None
-    → (write : Bool) → dma.write ≡ write → PhaseOf (begins None d dma) (as_queued dma)
-begins_phase d dma low rest asks good true writes =
-    let c = as_queued dma in
-    let e = begun_with d c in
-    let waits : Waits e.plan e.sectors e.now c = record {
-      writes = writes;
-      good = good;
-      queued = refl;
-      owed = rest.owed;
-      started = rest.started;
-      writing = rest.writing;
-      resetting = rest.resetting;
-    } in
-    subst (λ (q : Option Due). PhaseOf (after_if (is_setup q) e) c) (sym (waits_due e c waits)) (IsWaiting waits)
-begins_phase d dma low rest asks good false reads =
-    let c = as_queued dma in
-    let e = begun_with d c in
-    let left = chunks d.plan c in
-    let some : 0 < left = some_chunks d.plan c low asks.some in
-    let bytes = sectors_at d.now.medium (c.lba + chunk_from d.plan c left) (chunk_count d.plan c left) in
-    let rest_of = Carries bytes ∷ sends_left d.plan d.now.medium c (left - 1) in
-    let f : DiskValue = with_now e (record e.now { started = Some (record { command = c; sends = rest_of }) }) in
-    let turns : turn e.plan e.sectors e.now ≡ Some (chunk_setup d.plan c left, f.now) =
-    turn_start e.plan e.sectors e.now c rest.owed rest.started rest.writing (picks d.plan.order c) good
-    ∙ ap (starts d.plan e.now c) reads ∙ ap (read_turn e.now c) (sends_left_next d.plan d.now.medium c left some) in
-    let next : due_in e ≡ Some due.Setup =
-    ap (due_by e.now) turns ∙ ap (λ (o : Option Writing). Some (if is_none o && is_some o then due.Start else due.Setup)) rest.writing in
-    let after : after_next e ≡ f = ap (λ (t : Turn). with_now e (after_turn e.now t)) turns in
-    let all : after_if (is_setup (due_in e)) e ≡ f = ap (λ (q : Option Due). after_if (is_setup q) e) next ∙ after in
-    let is : f.now.started ≡ Some (record { command = c; sends = drop 1 (sends_left d.plan d.now.medium c left) }) =
-    ap (λ (l : List Sending). Some (record { command = c; sends = drop 1 l })) (sym (sends_left_next d.plan d.now.medium c left some)) in
-    subst (λ (x : DiskValue). PhaseOf x c) (sym all) (IsSending (record {
-      left = left;
-      some = some;
-      reads = reads;
-      owed = rest.owed;
-      started = is;
-      writing = rest.writing;
-      resetting = rest.resetting;
-    }))
-
-begins_resets : (f : Option Fault) (d : DiskValue) (dma : Dma) → d.now.resetting ≡ false → f ≡ None → PhaseOf (begins None d dma) (as_queued dma)
-    → (begins f d dma).now.resetting ≡ false
-begins_resets f d dma resetting none phase =
-    subst (λ (o : Option Fault). (begins o d dma).now.resetting ≡ false) (sym none) (phase_resets (begins None d dma) (as_queued dma) phase)
 
 -- ## Every run
 
@@ -583,19 +324,20 @@ owes_none : (front : Front) (o : Option Own) → front.owed ≡ o → ((own : Ow
 owes_none front None is waits idle = is
 owes_none front (Some own) is waits idle = absurd (search (rules, waits own is, idle))
 
-begun_resets_by : (d : DiskValue) (dma : Dma) (f : Option Fault) → 512 ≤ d.plan.chunk → Rests d.now → IsDma dma → dma_fault d dma ≡ f
-    → (begins f d dma).now.resetting ≡ false
+begun_resets_by : (d : DiskValue) (dma : Dma) (f : Option Fault) → 512 ≤ d.plan.chunk → Rests d.now → IsDma dma
+    → dma_fault d dma ≡ f → (begins f d dma).now.resetting ≡ false
 begun_resets_by d dma (Some x) low rest asks is = rest.resetting
 begun_resets_by d dma None low rest asks is =
     phase_resets (begins None d dma) (as_queued dma) (begins_phase d dma low rest asks is dma.write refl)
 
-begins_serving : (s : StockValue) (dma : Dma) (bytes : List ℕ) → 512 ≤ s.disk.plan.chunk → IsSound s
+pub begins_serving : (s : StockValue) (dma : Dma) (bytes : List ℕ) → 512 ≤ s.disk.plan.chunk → IsSound s
     → course s.front (is_at_rest s.disk.now) (seen bytes) ≡ Serves dma → IsServing (comes s bytes (Serves dma)) dma
 begins_serving s dma bytes low sound is =
     let served = serves_is s.front (is_at_rest s.disk.now) (seen bytes) dma is in
     let rest = at_rest s.disk.now served.resting in
     let fault = dma_fault s.disk dma in
-    let all : (comes s bytes (Serves dma)).disk ≡ begins fault s.disk dma = begins_is s.disk fault dma served.resting served.asks in
+    let all : (comes s bytes (Serves dma)).disk ≡ begins fault s.disk dma =
+    begins_is s.disk fault dma served.resting served.asks in
     record {
       owed = owes_none s.front s.front.owed refl sound.waits served.idle;
       busy = refl;
@@ -673,14 +415,16 @@ abbrev pub AreServed : StockValue → Type 0
 AreServed t = (dma : Dma) → t.front.serving ≡ Some dma → IsServing t dma
 
 served_by : (t : StockValue) (dma : Dma) → IsServing t dma → AreServed t
-served_by t dma is = λ other serving. (let same : dma ≡ other = some_is dma other (sym is.serving ∙ serving) in subst (IsServing t) same is)
+served_by t dma is =
+    λ other serving. (let same : dma ≡ other = some_is dma other (sym is.serving ∙ serving) in
+    subst (IsServing t) same is)
 
 served_none : (t : StockValue) → t.front.serving ≡ None → AreServed t
 served_none t none = λ dma serving. absurd (cc (none, serving))
 
-waits_on_by : (t : StockValue) (dma : Dma) → WaitsOn t dma → AreServed t
-waits_on_by t dma (inl is) = served_by t dma is
-waits_on_by t dma (inr none) = served_none t none
+waits_on_by : (s : StockValue) (bytes : List ℕ) (t : StockValue) (dma : Dma) → WaitsOn s bytes t dma → AreServed t
+waits_on_by s bytes t dma (inl is) = served_by t dma is.0
+waits_on_by s bytes t dma (inr none) = served_none t none
 
 outcome_by : (s : StockValue) (dma : Dma) (bytes : List ℕ) → Outcome s dma bytes → AreServed (value_after s (Sent bytes))
 outcome_by s dma bytes (inl go) = served_by (value_after s (Sent bytes)) dma go.2
@@ -714,14 +458,14 @@ served_after : (s : StockValue) (e : Happening) (o : Option Dma) → 512 ≤ s.d
 served_after s (Received bytes) None low sound is may =
     comes_free s bytes (course s.front (is_at_rest s.disk.now) (seen bytes)) low sound is refl
 served_after s (Received bytes) (Some dma) low sound is may =
-    waits_on_by (value_after s (Received bytes)) dma (received_on s dma bytes (sound.serves dma is))
+    waits_on_by s bytes (value_after s (Received bytes)) dma (received_on s dma bytes (sound.serves dma is))
 served_after s (Sent bytes) None low sound is may =
     served_none (value_after s (Sent bytes)) (sent_serves s.front s.front.owed bytes is)
 served_after s (Sent bytes) (Some dma) low sound is may =
     outcome_by s dma bytes (sent_on s dma bytes (sound.serves dma is) may)
 served_after s Plugged o low sound is may = served_none (value_after s Plugged) refl
 
-sound_at : (s : StockValue) (h : List Happening) → 512 ≤ s.disk.plan.chunk → IsSound s → Runs s h → IsSound (value_at s h)
+pub sound_at : (s : StockValue) (h : List Happening) → 512 ≤ s.disk.plan.chunk → IsSound s → Runs s h → IsSound (value_at s h)
 unfolding value_at Runs
 sound_at s [] low sound runs = sound
 sound_at s (e ∷ h) low sound runs =
@@ -730,24 +474,27 @@ sound_at s (e ∷ h) low sound runs =
       serves = served_after s e s.front.serving low sound refl runs.0;
     }) runs.1
 
-runs_first : (s : StockValue) (h : List Happening) (e : Happening) → Runs s (h ++ e ∷ []) → Runs s h
+pub runs_first : (s : StockValue) (h later : List Happening) → Runs s (h ++ later) → Runs s h
 unfolding Runs
-runs_first s [] e runs = tt
-runs_first s (x ∷ h) e runs = (runs.0, runs_first (value_after s x) h e runs.1)
+runs_first s [] later runs = tt
+runs_first s (x ∷ h) later runs = (runs.0, runs_first (value_after s x) h later runs.1)
 
-runs_last : (s : StockValue) (h : List Happening) (e : Happening) → Runs s (h ++ e ∷ []) → MayHappen (value_at s h) e
+pub runs_later : (s : StockValue) (h later : List Happening) → Runs s (h ++ later) → Runs (value_at s h) later
 unfolding value_at Runs
-runs_last s [] e runs = runs.0
-runs_last s (x ∷ h) e runs = runs_last (value_after s x) h e runs.1
+runs_later s [] later runs = runs
+runs_later s (x ∷ h) later runs = runs_later (value_after s x) h later runs.1
+
+pub opens_sound : (plan : DiskPlan) (sectors : ℕ) → IsSound (new_stock plan sectors)
+opens_sound plan sectors = record { waits = λ own owed. absurd (cc owed); serves = λ other is. absurd (cc is) }
 
 told_outcome : (s : StockValue) (dma : Dma) (bytes : List ℕ) → Outcome s dma bytes → EndsOrWaits s dma bytes
 told_outcome s dma bytes (inl go) = inl (go.0, go.1)
 told_outcome s dma bytes (inr end) = inr end
 
 pub dma_ends : DmaEnds
+unfolding Runs
 dma_ends plan sectors h bytes dma low run serving =
     let new = new_stock plan sectors in
-    let opens : IsSound new = record { waits = λ own owed. absurd (cc owed); serves = λ other is. absurd (cc is) } in
-    let sound = sound_at new h low opens (runs_first new h (Sent bytes) run) in
-    let may = runs_last new h (Sent bytes) run in
+    let sound = sound_at new h low (opens_sound plan sectors) (runs_first new h (Sent bytes ∷ []) run) in
+    let may = (runs_later new h (Sent bytes ∷ []) run).0 in
     told_outcome (value_at new h) dma bytes (sent_on (value_at new h) dma bytes (sound.serves dma serving) may)

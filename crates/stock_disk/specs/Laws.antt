@@ -1,6 +1,6 @@
 -- What holds of a disk behind its front over every list of events.
 use Rattle.std.specs.Prelude.{ℕ, ◌≡◌, ◌/◌, ◌%◌, ◌==◌, ◌≤◌, ◌⊎◌, Bool, true, false, List, [], ◌∷◌, ◌++◌, Some}
-use Rattle.std.specs.Prelude.{None, Result, Ok, if◌then◌else◌}
+use Rattle.std.specs.Prelude.{None, Result, Ok, drop, if◌then◌else◌}
 use Rattle.fis_view.specs.Seen.{seen}
 use Rattle.fis_view.specs.Table.{H2d, C, Control, field}
 use Rattle.fis_view.specs.declared.view.Fis.{Fis}
@@ -8,16 +8,19 @@ use Rattle.fis_view.specs.declared.view.Fis.TheVariants as view
 use Rattle.fis_view.specs.declared.view.FisFault.{FisFault}
 use Rattle.disk_model.specs.declared.plan.DiskPlan.{DiskPlan}
 use Rattle.disk_model.specs.declared.plan.Profile.TheVariants.{Bare}
+use Rattle.disk_model.specs.Chunks.{sectors_at}
 use Rattle.disk_model.specs.Disks.{DiskValue}
 use Rattle.disk_model.specs.Ends.{reports}
 use Rattle.disk_model.specs.Histories.{Happening, Received, Sent, Plugged}
+use Rattle.disk_model.specs.Quiet.{is_at_rest}
 use Rattle.disk_model.specs.Runs.{IsDiskRun}
 use Rattle.disk_model.specs.Sendings.{Activates, Register, Shows}
 use Rattle.stock_disk.specs.declared.dma.Dma.{Dma}
+use Rattle.stock_disk.specs.declared.front.Course.TheVariants.{Serves}
 use Rattle.stock_disk.specs.declared.front.Own.TheVariants.{Aborted}
 use Rattle.stock_disk.specs.Dmas.{dma_fault}
 use Rattle.stock_disk.specs.Faces.{IsNext, StockValue, front_after, inside, new_stock, value_after, value_at}
-use Rattle.stock_disk.specs.Fronts.{asks_log, own_to}
+use Rattle.stock_disk.specs.Fronts.{asks_log, course, own_to}
 use Rattle.stock_disk.specs.Verifies.{fault_fields}
 
 abbrev pub MayHappen : StockValue → Happening → Type 0
@@ -100,3 +103,53 @@ DmaEnds =
     → IsStockRun plan sectors (history ++ Sent bytes ∷ [])
     → (value_at (new_stock plan sectors) history).front.serving ≡ Some dma
     → EndsOrWaits (value_at (new_stock plan sectors) history) dma bytes
+
+-- ## The bytes of DMA commands
+
+-- the bytes that a FIS carries, if it is Data
+abbrev pub payload_of : Result Fis FisFault → List ℕ
+payload_of (Ok (view.Payload f)) = drop 4 f
+payload_of _ = []
+
+-- the bytes that an event brings the host
+abbrev pub data_out : Happening → List ℕ
+data_out (Sent bytes) = payload_of (seen bytes)
+data_out (Received bytes) = []
+data_out Plugged = []
+
+-- all that the events bring the host, in order
+unfoldable pub data_sent : List Happening → List ℕ
+data_sent [] = []
+data_sent (e ∷ later) = data_out e ++ data_sent later
+
+-- the command waits for its answer before each of the events, and after the last
+unfoldable pub WaitsThrough : StockValue → Dma → List Happening → Type 0
+WaitsThrough s dma [] = s.front.serving ≡ Some dma
+WaitsThrough s dma (e ∷ later) = (s.front.serving ≡ Some dma) × WaitsThrough (value_after s e) dma later
+
+-- The disk can do the command that these bytes give, and begins it. It waits for its answer through the events.
+pub record Begins (s : StockValue) (bytes : List ℕ) (dma : Dma) (between : List Happening) : Type 0 where
+  pub serves : course s.front (is_at_rest s.disk.now) (seen bytes) ≡ Serves dma
+  pub good : dma_fault s.disk dma ≡ None
+  pub waits : WaitsThrough (value_after s (Received bytes)) dma between
+
+-- The command begins, and the FIS behind the events ends it.
+pub record BeginsAndEnds (s : StockValue) (bytes : List ℕ) (dma : Dma) (between : List Happening) (ending : List ℕ)
+    : Type 0 where
+  pub begins : Begins s bytes dma between
+  pub ends : (value_at s (Received bytes ∷ between ++ Sent ending ∷ [])).front.serving ≡ None
+
+-- what was sent in between are the sectors that the command names, and the medium is as it was
+pub record Brings (s : StockValue) (dma : Dma) (between : List Happening) (after : StockValue) : Type 0 where
+  pub sent : data_sent between ≡ sectors_at s.disk.now.medium dma.lba dma.count
+  pub medium : after.disk.now.medium ≡ s.disk.now.medium
+
+-- A READ DMA that the disk can do brings its sectors before the FIS that ends it, each byte once and in order, and
+-- changes none. Whatever else comes in between changes nothing of this.
+abbrev pub ReadDmaBrings : Type 0
+ReadDmaBrings =
+    (plan : DiskPlan) (sectors : ℕ) (before : List Happening) (bytes : List ℕ) (between : List Happening) (ending : List ℕ)
+    (dma : Dma) → IsStockRun plan sectors (before ++ (Received bytes ∷ between ++ Sent ending ∷ []))
+    → BeginsAndEnds (value_at (new_stock plan sectors) before) bytes dma between ending → dma.write ≡ false
+    → Brings (value_at (new_stock plan sectors) before) dma between
+    (value_at (new_stock plan sectors) (before ++ (Received bytes ∷ between ++ Sent ending ∷ [])))

@@ -1,6 +1,6 @@
 //! Laws about every run of a disk behind its front. The functions run no code.
 
-ghost use Rattle.stock_disk.specs.Laws.{BareIsDisk, DmaEnds, ErrorsAbort, InsideIsDisk};
+ghost use Rattle.stock_disk.specs.Laws.{BareIsDisk, DmaEnds, ErrorsAbort, InsideIsDisk, ReadDmaBrings};
 
 /// What passes to the disk and what the disk sends, in every run of a disk behind its front, is a run of a
 /// disk.
@@ -24,4 +24,10 @@ pub fn bare_disks_have_no_front()
 /// more.
 pub fn dma_commands_end()
     ensures { DmaEnds }
+{}
+
+/// In every run of a disk behind its front, a READ DMA that the disk can do brings the sectors that it names, each
+/// byte once and in order, before the FIS that ends it. It changes no sector.
+pub fn dma_commands_move_their_bytes()
+    ensures reads { ReadDmaBrings }
 {}

@@ -6,7 +6,8 @@
 //! effect; commands that verify sectors; and reads of two logs. The disk does a DMA command as a queued one, and the
 //! front speaks for it. All else passes, and the disk hears it as it came. So what the laws of `disk_model` say holds
 //! of the disk inside: [`inside_is_a_disk`]. [`errors_abort_commands`] says what comes of commands after an
-//! error, [`dma_commands_end`] what goes out for a DMA command. A disk without the profile is as it is alone: [`bare_disks_have_no_front`].
+//! error, [`dma_commands_end`] what goes out for a DMA command, and [`dma_commands_move_their_bytes`] which bytes it moves.
+//! A disk without the profile is as it is alone: [`bare_disks_have_no_front`].
 #![tactic(auto)]
 
 mod disk;
@@ -20,7 +21,8 @@ pub use disk::StockDisk;
 pub use dma::Dma;
 pub use front::{Front, Own};
 pub use laws::{
-    bare_disks_have_no_front, dma_commands_end, errors_abort_commands, inside_is_a_disk,
+    bare_disks_have_no_front, dma_commands_end, dma_commands_move_their_bytes,
+    errors_abort_commands, inside_is_a_disk,
 };
 pub use log::Log;
 pub use verify::Verify;
