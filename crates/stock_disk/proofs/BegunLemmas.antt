@@ -1,26 +1,32 @@
--- A DMA command that the disk can do begins, in a run: for ReadDmaBrings of specs/Laws.antt.
+-- A DMA command that the disk can do begins, in a run: for ReadDmaBrings, ReadDmaWaits, WriteDmaPuts and
+-- WriteDmaWaits of specs/Laws.antt.
 use Rattle.std.proofs.Common.{◌≡◌, ◌+◌, ◌-◌, ◌<◌, ◌≤◌, ◌==◌, ◌&&◌, ℕ, Bool, true, false, List, [], ◌∷◌, ◌++◌, Option, Some, None, refl, ap, sym, subst, ◌∙◌, arith, inl, inr}
 use Rattle.std.proofs.lemmas.Bool.Decides.{nat_tests}
 use Rattle.std.specs.Prelude.{not}
 use Rattle.fis_view.specs.Seen.{seen}
 use Rattle.disk_model.specs.Chunks.{chunk_count, chunk_from, chunks, fault_of}
+use Rattle.disk_model.specs.Disks.{DiskValue}
 use Rattle.disk_model.specs.Histories.{Happening, Received, Sent}
-use Rattle.disk_model.specs.Quiet.{is_at_rest}
+use Rattle.disk_model.specs.Quiet.{after_next, is_at_rest}
 use Rattle.disk_model.specs.declared.answer.Fault.{Fault}
+use Rattle.disk_model.specs.declared.disk.quiet.Due.TheVariants as due
 use Rattle.disk_model.specs.declared.plan.DiskPlan.{DiskPlan}
 use Rattle.disk_model.specs.declared.request.Command.{Command}
 use Rattle.disk_model.proofs.Door.{chunk_part}
 use Rattle.stock_disk.specs.declared.dma.Dma.{Dma}
 use Rattle.stock_disk.specs.declared.front.Course.TheVariants.{Serves}
+use Rattle.stock_disk.specs.declared.front.Front.{Front}
 use Rattle.stock_disk.specs.Dmas.{as_queued, dma_fault}
-use Rattle.stock_disk.specs.Faces.{StockValue, front_after, new_stock, value_after, value_at}
+use Rattle.stock_disk.specs.Faces.{IsNext, StockValue, front_after, new_stock, value_after, value_at}
 use Rattle.stock_disk.specs.Fronts.{course}
 use Rattle.stock_disk.specs.Laws.{IsStockRun, WaitsThrough}
 use Rattle.stock_disk.specs.Losses.{begins}
+use Rattle.stock_disk.specs.Verifies.{fault_fields}
 use Rattle.stock_disk.proofs.DmaLemmas.{serves_is}
 use Rattle.stock_disk.proofs.LossLemmas.{IsDma, Rests, at_rest, begins_is}
 use Rattle.stock_disk.proofs.ModeLemmas.{after_keeps}
-use Rattle.stock_disk.proofs.ServingLemmas.{IsServing, Outcome, begins_serving, comes, opens_sound, runs_first, sound_at}
+use Rattle.stock_disk.proofs.PhaseLemmas.{Ends, ends_due}
+use Rattle.stock_disk.proofs.ServingLemmas.{IsServing, Outcome, begins_serving, comes, finishes, may_by, opens_sound, runs_first, sent_front, sound_at}
 
 -- ## Lists of events
 
@@ -29,7 +35,7 @@ unfolding value_at
 value_at-lists s [] b = refl
 value_at-lists s (x ∷ a) b = value_at-lists (value_after s x) a b
 
-plan_at : (s : StockValue) (h : List Happening) → (value_at s h).disk.plan ≡ s.disk.plan
+pub plan_at : (s : StockValue) (h : List Happening) → (value_at s h).disk.plan ≡ s.disk.plan
 unfolding value_at
 plan_at s [] = refl
 plan_at s (e ∷ h) = plan_at (value_after s e) h
@@ -136,3 +142,15 @@ pub serves_next : (s : StockValue) (dma : Dma) (bytes : List ℕ) → Outcome s 
     → (front_after s (Sent bytes)).serving ≡ Some dma → IsServing (value_after s (Sent bytes)) dma
 serves_next s dma bytes (inl go) serving = go.2
 serves_next s dma bytes (inr end) serving = let none = end.1 in absurd (cc (none, serving))
+
+-- ## A command ends
+
+-- the Register FIS ends the command
+pub over_ends : (s : StockValue) (dma : Dma) (bytes : List ℕ) → CanDo s.disk.plan s.disk.sectors dma → IsServing s dma
+    → Ends s.disk.now → IsNext s bytes → (front_after s (Sent bytes)).serving ≡ None
+over_ends s dma bytes can is ends may =
+    let shows = may_by s dma bytes (Some due.Ended) is can.good (ends_due s.disk ends) may in
+    ap (λ (f : Front). f.serving) (sent_front s dma bytes is) ∙ finishes s.front (fault_fields dma.ext None) bytes shows
+
+pub over_medium : (d : DiskValue) → Ends d.now → (after_next d).now.medium ≡ d.now.medium
+over_medium d e = rw e.owed refl

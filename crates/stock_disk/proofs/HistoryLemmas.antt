@@ -34,7 +34,7 @@ inside-append s (x ∷ h) e =
     ∙ sym (append_assoc (inner_of s x) (inside (value_after s x) h) (inner_of (value_at (value_after s x) h) e))
 
 -- the disk is what its own part of the history makes of it
-disk_at : (s : StockValue) (h : List Happening) → (value_at s h).disk ≡ disk_after s.disk (inside s h)
+pub disk_at : (s : StockValue) (h : List Happening) → (value_at s h).disk ≡ disk_after s.disk (inside s h)
 unfolding value_at inside
 disk_at s [] = sym (after_none s.disk)
 disk_at s (e ∷ h) =

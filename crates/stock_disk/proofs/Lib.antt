@@ -8,3 +8,4 @@ pub mod PhaseLemmas
 pub mod ServingLemmas
 pub mod BegunLemmas
 pub mod ReadingLemmas
+pub mod WritingLemmas

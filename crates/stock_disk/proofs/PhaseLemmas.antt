@@ -1,4 +1,4 @@
--- What a disk sends next, and what it takes, while it does a DMA command: for DmaEnds and ReadDmaBrings of
+-- What a disk sends next, and what it takes, while it does a DMA command: for the laws of DMA commands in
 -- specs/Laws.antt.
 use Rattle.std.proofs.Common.{rules, ◌≡◌, ◌-◌, ◌<◌, ◌==◌, ◌&&◌, ℕ, zero, suc, Bool, true, false, List, [], ◌∷◌, ◌++◌, ◌+◌, ◌*◌, ◌≤◌, Option, Some, None, drop, length, refl, ap, sym, subst, ◌∙◌, arith}
 use Rattle.std.specs.Prelude.{if◌then◌else◌, is_none, is_some}
@@ -182,7 +182,7 @@ waits_leave d c w =
     ∙ half_leaves d (begun_write d.plan c) d.plan.auto w.owed w.started
 
 -- the Data of a write are awaited
-pub taking : (d : DiskValue) (c : Command) (w : Writing) → c.write ≡ true → d.now.owed ≡ [] → d.now.started ≡ None
+abbrev pub taking : (d : DiskValue) (c : Command) (w : Writing) → c.write ≡ true → d.now.owed ≡ [] → d.now.started ≡ None
     → d.now.resetting ≡ false → Takes d.plan (taking_at d w).now c false
 taking d c w writes owed started resetting = record {
   of = record w { sends = [] };
@@ -274,7 +274,7 @@ last_ends d c t bytes = record {
   resetting = t.resetting;
 }
 
-pub more_takes : (d : DiskValue) (c : Command) (t : Takes d.plan d.now c false) (bytes : List ℕ)
+abbrev pub more_takes : (d : DiskValue) (c : Command) (t : Takes d.plan d.now c false) (bytes : List ℕ)
     → Takes d.plan (record d.now { writing = Some (more_left d.plan t.of bytes) }) c true
 more_takes d c t bytes = record {
   of = more_left d.plan t.of bytes;
@@ -359,9 +359,11 @@ begins_read d dma low rest asks good reads =
     (sym sends) in
     ap (λ (q : Option Due). after_if (is_setup q) e) next ∙ after ∙ is
 
-pub begins_phase : (d : DiskValue) (dma : Dma) → 512 ≤ d.plan.chunk → Rests d.now → IsDma dma → dma_fault d dma ≡ None
-    → (write : Bool) → dma.write ≡ write → PhaseOf (begins None d dma) (as_queued dma)
-begins_phase d dma low rest asks good true writes =
+-- a write begins before its first DMA Setup
+pub begins_write : (d : DiskValue) (dma : Dma) → Rests d.now → dma_fault d dma ≡ None → dma.write ≡ true
+    → let e = begun_with d (as_queued dma) in
+    Waits e.plan e.sectors e.now (as_queued dma) × (begins None d dma ≡ e)
+begins_write d dma rest good writes =
     let c = as_queued dma in
     let e = begun_with d c in
     let waits : Waits e.plan e.sectors e.now c = record {
@@ -373,7 +375,13 @@ begins_phase d dma low rest asks good true writes =
       writing = rest.writing;
       resetting = rest.resetting;
     } in
-    subst (λ (q : Option Due). PhaseOf (after_if (is_setup q) e) c) (sym (waits_due e c waits)) (IsWaiting waits)
+    (waits, ap (λ (q : Option Due). after_if (is_setup q) e) (waits_due e c waits))
+
+pub begins_phase : (d : DiskValue) (dma : Dma) → 512 ≤ d.plan.chunk → Rests d.now → IsDma dma → dma_fault d dma ≡ None
+    → (write : Bool) → dma.write ≡ write → PhaseOf (begins None d dma) (as_queued dma)
+begins_phase d dma low rest asks good true writes =
+    let begin = begins_write d dma rest good writes in
+    subst (λ (x : DiskValue). PhaseOf x (as_queued dma)) (sym begin.1) (IsWaiting begin.0)
 begins_phase d dma low rest asks good false reads =
     let c = as_queued dma in
     let e = begun_with d c in

@@ -1,29 +1,33 @@
--- A READ DMA brings its sectors and changes none: ReadDmaBrings of specs/Laws.antt.
-use Rattle.std.proofs.Common.{◌≡◌, ◌+◌, ◌-◌, ◌*◌, ◌<◌, ◌≤◌, ℕ, zero, suc, false, List, [], ◌∷◌, ◌++◌, Option, Some, None, Result, Ok, Err, take, drop, refl, ap, sym, subst, ◌∙◌, arith, inl, inr, append_assoc, append-nil}
-use Rattle.std.proofs.Math.Seq.{take-add}
-use Rattle.std.proofs.lemmas.List.{drop-drop}
+-- A READ DMA brings its sectors and changes none: ReadDmaBrings and ReadDmaWaits of specs/Laws.antt.
+use Rattle.std.proofs.Common.{◌≡◌, ◌+◌, ◌-◌, ◌*◌, ◌<◌, ◌≤◌, ℕ, zero, suc, false, List, [], ◌∷◌, ◌++◌, Option, Some, None, Result, Ok, Err, length, take, drop, refl, ap, sym, subst, ◌∙◌, arith, inl, inr, append_assoc, append-nil, length-drop}
+use Rattle.std.proofs.Math.Seq.{take-add, take-append_seam, take-length}
+use Rattle.std.proofs.lemmas.List.{drop-drop, length-take-le}
 use Rattle.fis_view.specs.Seen.{seen}
 use Rattle.fis_view.specs.declared.view.Fis.{Fis}
 use Rattle.fis_view.specs.declared.view.Fis.TheVariants as view
 use Rattle.fis_view.specs.declared.view.FisFault.{FisFault}
 use Rattle.disk_model.specs.declared.disk.quiet.Due.TheVariants as due
+use Rattle.disk_model.specs.declared.plan.DiskPlan.{DiskPlan}
 use Rattle.disk_model.specs.declared.request.Command.{Command}
 use Rattle.disk_model.specs.Chunks.{chunk_count, chunk_from, chunks, sectors_at}
 use Rattle.disk_model.specs.Disks.{DiskValue, Turn, Writing, data_taken, with_now}
 use Rattle.disk_model.specs.Histories.{Happening, Received, Sent, Plugged}
-use Rattle.disk_model.specs.Quiet.{after_next, begun_with}
+use Rattle.disk_model.specs.Quiet.{begun_with}
 use Rattle.disk_model.specs.Runs.{IsTurn}
 use Rattle.disk_model.specs.Sendings.{Carries, Shows}
-use Rattle.disk_model.proofs.Door.{some_chunks}
+use Rattle.disk_model.specs.Ledger.{IsSize}
+use Rattle.disk_model.proofs.Door.{agrees, can_be_done, chunk_part, some_chunks}
 use Rattle.stock_disk.specs.declared.dma.Dma.{Dma}
 use Rattle.stock_disk.specs.declared.front.Front.{Front}
 use Rattle.stock_disk.specs.Dmas.{as_queued}
-use Rattle.stock_disk.specs.Faces.{IsNext, StockValue, front_after, new_stock, value_after, value_at}
-use Rattle.stock_disk.specs.Laws.{MayHappen, ReadDmaBrings, Runs, WaitsThrough, data_out, data_sent, payload_of}
-use Rattle.stock_disk.specs.Verifies.{fault_fields}
-use Rattle.stock_disk.proofs.BegunLemmas.{Begun, CanDo, IsPlain, begun, can_at, first_from, last_from, low_chunk, next_from, serves_next, value_at-lists, waits_first}
+use Rattle.stock_disk.specs.Faces.{IsNext, StockValue, front_after, inside, new_stock, value_after, value_at}
+use Rattle.stock_disk.specs.Laws.{IsStockRun, MayHappen, ReadDmaBrings, ReadDmaWaits, Runs, WaitsThrough}
+use Rattle.stock_disk.specs.Moves.{data_out, data_sent, payload_of}
+use Rattle.stock_disk.proofs.BegunLemmas.{Begun, CanDo, IsPlain, begun, can_at, first_from, last_from, low_chunk, next_from, over_ends, over_medium, serves_next, value_at-lists, waits_first}
+use Rattle.stock_disk.proofs.HistoryLemmas.{disk_at}
+use Rattle.stock_disk.proofs.RunLemmas.{inside_runs}
 use Rattle.stock_disk.proofs.PhaseLemmas.{Ends, Sends, begins_read, chunk_at, ends_due, left_at, reads_at, sends_due, sends_leave, sends_turn}
-use Rattle.stock_disk.proofs.ServingLemmas.{IsServing, WaitsOn, carries, finishes, goes_to, hears_data, may_by, received_on, runs_first, runs_later, sent_front, sent_on}
+use Rattle.stock_disk.proofs.ServingLemmas.{IsServing, WaitsOn, carries, goes_to, hears_data, may_by, received_on, runs_first, runs_later, sent_front, sent_on}
 
 -- ## Where a read is
 
@@ -38,6 +42,20 @@ sectors_join medium lba a b =
     let all : 512 * a + 512 * b ≡ 512 * (a + b) = omega arith in
     sym (ap (λ i. take i x) (sym all) ∙ take-add (512 * a) (512 * b) x
     ∙ ap (λ (l : List ℕ). take (512 * a) x ++ take (512 * b) l) at)
+
+-- bytes from the front are the front of more of them
+front_of : (x : List ℕ) (n all : ℕ) → n ≤ all → take n x ≡ take (length (take n x)) (take all x)
+front_of x n all few =
+    let split : all ≡ n + (all - n) = omega arith in
+    let parts : take all x ≡ take n x ++ take (all - n) (drop n x) = ap (λ i. take i x) split ∙ take-add n (all - n) x in
+    sym (ap (take (length (take n x))) parts ∙ take-append_seam (take n x) (take (all - n) (drop n x)))
+
+-- sectors of a medium that has them
+sectors_length : (medium : List ℕ) (lba count : ℕ) → 512 * (lba + count) ≤ length medium
+    → length (sectors_at medium lba count) ≡ 512 * count
+sectors_length medium lba count inside =
+    let rest = length-drop (512 * lba) medium in
+    length-take-le (512 * count) (drop (512 * lba) medium) (omega (arith, inside, rest))
 
 -- what was sent are the sectors before the chunk that is due, or all
 pub data Reading (d : DiskValue) (c : Command) (sent : List ℕ) : Type 0 where
@@ -87,13 +105,6 @@ pub record ReadTo (s : StockValue) (dma : Dma) (sent medium : List ℕ) : Type 0
   pub serving : IsServing s dma
   pub reading : Reading s.disk (as_queued dma) sent
   pub medium_is : s.disk.now.medium ≡ medium
-
--- the Register FIS ends the command
-over_ends : (s : StockValue) (dma : Dma) (bytes : List ℕ) → CanDo s.disk.plan s.disk.sectors dma → IsServing s dma
-    → Ends s.disk.now → IsNext s bytes → (front_after s (Sent bytes)).serving ≡ None
-over_ends s dma bytes can is ends may =
-    let shows = may_by s dma bytes (Some due.Ended) is can.good (ends_due s.disk ends) may in
-    ap (λ (f : Front). f.serving) (sent_front s dma bytes is) ∙ finishes s.front (fault_fields dma.ext None) bytes shows
 
 -- what goes out while a chunk is due
 chunk_shows : (s : StockValue) (dma : Dma) (bytes : List ℕ) → CanDo s.disk.plan s.disk.sectors dma → IsServing s dma
@@ -206,9 +217,6 @@ read_begins s bytes dma b reads =
       medium_is = ap (λ (d : DiskValue). d.now.medium) disk;
     }
 
-over_medium : (d : DiskValue) → Ends d.now → (after_next d).now.medium ≡ d.now.medium
-over_medium d e = rw e.owed refl
-
 -- the FIS that ends the command
 read_ends : (s : StockValue) (dma : Dma) (bytes sent medium : List ℕ) → CanDo s.disk.plan s.disk.sectors dma
     → IsServing s dma → s.disk.now.medium ≡ medium → Reading s.disk (as_queued dma) sent → IsNext s bytes
@@ -223,6 +231,18 @@ read_ends s dma bytes sent medium can is same (IsOver over all) may ends =
       all ∙ ap (λ (m : List ℕ). sectors_at m dma.lba dma.count) same,
       ap (λ (d : DiskValue). d.now.medium) disk ∙ over_medium s.disk over ∙ same,
     )
+
+-- the medium of a disk in a run
+medium_length : (plan : DiskPlan) (sectors : ℕ) (h later : List Happening) → IsStockRun plan sectors (h ++ later)
+    → let d = (value_at (new_stock plan sectors) h).disk in
+    IsSize d.plan d.sectors → length d.now.medium ≡ 512 * d.sectors
+medium_length plan sectors h later run size =
+    let new = new_stock plan sectors in
+    let d = (value_at new h).disk in
+    let at = disk_at new h in
+    let here = subst (λ (x : DiskValue). IsSize x.plan x.sectors) at size in
+    let is = agrees plan sectors (inside new h) here (inside_runs new h (runs_first new h later run)) in
+    subst (λ (x : DiskValue). length x.now.medium ≡ 512 * x.sectors) (sym at) is.length_is
 
 pub read_dma_brings : ReadDmaBrings
 unfolding value_at Runs
@@ -245,4 +265,44 @@ read_dma_brings plan sectors before bytes between ending dma run is reads =
     read_ends u dma ending (data_sent between) s.disk.now.medium (can_at t between dma b.can) to.serving to.medium_is
     to.reading may none in
     let whole = value_at-lists new before later ∙ last in
-    record { sent = over.0; medium = ap (λ (v : StockValue). v.disk.now.medium) whole ∙ over.1 }
+    record {
+      sent = over.0;
+      whole = λ size.
+          let long = medium_length plan sectors before later run size in
+          let inside = (can_be_done s.disk.plan s.disk.sectors (as_queued dma) b.can.good).inside in
+          ap (λ (l : List ℕ). length l) over.0
+          ∙ sectors_length s.disk.now.medium dma.lba dma.count (omega (arith, long, inside));
+      medium = ap (λ (v : StockValue). v.disk.now.medium) whole ∙ over.1;
+    }
+
+-- what was sent so far
+first_sent : (d : DiskValue) (c : Command) (sent : List ℕ) → IsPlain d.plan → 0 < c.count → Reading d c sent
+    → sent ≡ take (length sent) (sectors_at d.now.medium c.lba c.count)
+first_sent d c sent plain some (IsOver ends all) =
+    sym (ap (take (length sent)) (sym all) ∙ take-length sent)
+first_sent d c sent plain some (IsGoing p among is) =
+    let x : List ℕ = drop (512 * c.lba) d.now.medium in
+    let from = chunk_from d.plan c p.left in
+    let part = chunk_part d.plan c p.left (low_chunk d.plan plain) some p.some among in
+    let inside = part.inside in
+    subst (λ (l : List ℕ). l ≡ take (length l) (take (512 * c.count) x)) (sym is)
+    (front_of x (512 * from) (512 * c.count) (omega (arith, inside)))
+
+pub read_dma_waits : ReadDmaWaits
+unfolding value_at Runs
+read_dma_waits plan sectors before bytes between dma run is reads =
+    let new = new_stock plan sectors in
+    let s = value_at new before in
+    let t = value_after s (Received bytes) in
+    let u = value_at t between in
+    let later : List Happening = Received bytes ∷ between in
+    let b = begun plan sectors before later bytes dma run is.serves is.good in
+    let runs = (runs_later new before later run).1 in
+    let to =
+    reads_through t dma between [] s.disk.now.medium b.can (read_begins s bytes dma b reads) runs is.waits in
+    let can = can_at t between dma b.can in
+    let first = first_sent u.disk (as_queued dma) (data_sent between) can.plain can.some to.reading in
+    record {
+      sent = first ∙ ap (λ (m : List ℕ). take (length (data_sent between)) (sectors_at m dma.lba dma.count)) to.medium_is;
+      medium = ap (λ (v : StockValue). v.disk.now.medium) (value_at-lists new before later) ∙ to.medium_is;
+    }

@@ -197,7 +197,7 @@ pub finishes : (front : Front) (v : D2hFields) (bytes : List ℕ) → Shows (Reg
     → (told front (seen bytes)).serving ≡ None
 finishes front v bytes shows = rw shows.viewed (ended_serves front bytes)
 
-activates : (front : Front) (bytes : List ℕ) → Shows Activates bytes → told front (seen bytes) ≡ front
+pub activates : (front : Front) (bytes : List ℕ) → Shows Activates bytes → told front (seen bytes) ≡ front
 activates front bytes shows = rw shows.viewed refl
 
 pub carries : (front : Front) (dma : Dma) (part bytes : List ℕ) → front.serving ≡ Some dma → Shows (Carries part) bytes

@@ -1,6 +1,6 @@
 -- What holds of a disk behind its front over every list of events.
-use Rattle.std.specs.Prelude.{ℕ, ◌≡◌, ◌/◌, ◌%◌, ◌==◌, ◌≤◌, ◌⊎◌, Bool, true, false, List, [], ◌∷◌, ◌++◌, Some}
-use Rattle.std.specs.Prelude.{None, Result, Ok, drop, if◌then◌else◌}
+use Rattle.std.specs.Prelude.{ℕ, ◌≡◌, ◌*◌, ◌/◌, ◌%◌, ◌==◌, ◌<◌, ◌≤◌, ◌⊎◌, Bool, true, false, List, [], ◌∷◌, ◌++◌, Some}
+use Rattle.std.specs.Prelude.{None, Result, Ok, length, take, if◌then◌else◌}
 use Rattle.fis_view.specs.Seen.{seen}
 use Rattle.fis_view.specs.Table.{H2d, C, Control, field}
 use Rattle.fis_view.specs.declared.view.Fis.{Fis}
@@ -8,10 +8,11 @@ use Rattle.fis_view.specs.declared.view.Fis.TheVariants as view
 use Rattle.fis_view.specs.declared.view.FisFault.{FisFault}
 use Rattle.disk_model.specs.declared.plan.DiskPlan.{DiskPlan}
 use Rattle.disk_model.specs.declared.plan.Profile.TheVariants.{Bare}
-use Rattle.disk_model.specs.Chunks.{sectors_at}
+use Rattle.disk_model.specs.Chunks.{put, sectors_at}
 use Rattle.disk_model.specs.Disks.{DiskValue}
 use Rattle.disk_model.specs.Ends.{reports}
 use Rattle.disk_model.specs.Histories.{Happening, Received, Sent, Plugged}
+use Rattle.disk_model.specs.Ledger.{IsSize}
 use Rattle.disk_model.specs.Quiet.{is_at_rest}
 use Rattle.disk_model.specs.Runs.{IsDiskRun}
 use Rattle.disk_model.specs.Sendings.{Activates, Register, Shows}
@@ -21,6 +22,7 @@ use Rattle.stock_disk.specs.declared.front.Own.TheVariants.{Aborted}
 use Rattle.stock_disk.specs.Dmas.{dma_fault}
 use Rattle.stock_disk.specs.Faces.{IsNext, StockValue, front_after, inside, new_stock, value_after, value_at}
 use Rattle.stock_disk.specs.Fronts.{asks_log, course, own_to}
+use Rattle.stock_disk.specs.Moves.{data_arrived, data_sent}
 use Rattle.stock_disk.specs.Verifies.{fault_fields}
 
 abbrev pub MayHappen : StockValue → Happening → Type 0
@@ -106,22 +108,6 @@ DmaEnds =
 
 -- ## The bytes of DMA commands
 
--- the bytes that a FIS carries, if it is Data
-abbrev pub payload_of : Result Fis FisFault → List ℕ
-payload_of (Ok (view.Payload f)) = drop 4 f
-payload_of _ = []
-
--- the bytes that an event brings the host
-abbrev pub data_out : Happening → List ℕ
-data_out (Sent bytes) = payload_of (seen bytes)
-data_out (Received bytes) = []
-data_out Plugged = []
-
--- all that the events bring the host, in order
-unfoldable pub data_sent : List Happening → List ℕ
-data_sent [] = []
-data_sent (e ∷ later) = data_out e ++ data_sent later
-
 -- the command waits for its answer before each of the events, and after the last
 unfoldable pub WaitsThrough : StockValue → Dma → List Happening → Type 0
 WaitsThrough s dma [] = s.front.serving ≡ Some dma
@@ -139,9 +125,11 @@ pub record BeginsAndEnds (s : StockValue) (bytes : List ℕ) (dma : Dma) (betwee
   pub begins : Begins s bytes dma between
   pub ends : (value_at s (Received bytes ∷ between ++ Sent ending ∷ [])).front.serving ≡ None
 
--- what was sent in between are the sectors that the command names, and the medium is as it was
+-- What was sent in between are the sectors that the command names, and the medium is as it was. With a size with which
+-- a disk can be made, none of them is cut short.
 pub record Brings (s : StockValue) (dma : Dma) (between : List Happening) (after : StockValue) : Type 0 where
   pub sent : data_sent between ≡ sectors_at s.disk.now.medium dma.lba dma.count
+  pub whole : IsSize s.disk.plan s.disk.sectors → length (data_sent between) ≡ 512 * dma.count
   pub medium : after.disk.now.medium ≡ s.disk.now.medium
 
 -- A READ DMA that the disk can do brings its sectors before the FIS that ends it, each byte once and in order, and
@@ -153,3 +141,43 @@ ReadDmaBrings =
     → BeginsAndEnds (value_at (new_stock plan sectors) before) bytes dma between ending → dma.write ≡ false
     → Brings (value_at (new_stock plan sectors) before) dma between
     (value_at (new_stock plan sectors) (before ++ (Received bytes ∷ between ++ Sent ending ∷ [])))
+
+-- what was sent so far are the first bytes of these sectors, and the medium is as it was
+pub record BringsFirst (s : StockValue) (dma : Dma) (between : List Happening) (now : StockValue) : Type 0 where
+  pub sent : data_sent between
+      ≡ take (length (data_sent between)) (sectors_at s.disk.now.medium dma.lba dma.count)
+  pub medium : now.disk.now.medium ≡ s.disk.now.medium
+
+-- While a READ DMA waits for its answer, what it brought are the first bytes of its sectors.
+abbrev pub ReadDmaWaits : Type 0
+ReadDmaWaits =
+    (plan : DiskPlan) (sectors : ℕ) (before : List Happening) (bytes : List ℕ) (between : List Happening) (dma : Dma)
+    → IsStockRun plan sectors (before ++ (Received bytes ∷ between))
+    → Begins (value_at (new_stock plan sectors) before) bytes dma between → dma.write ≡ false
+    → BringsFirst (value_at (new_stock plan sectors) before) dma between
+    (value_at (new_stock plan sectors) (before ++ (Received bytes ∷ between)))
+
+-- all bytes came in between, and they lie on the medium; all else lies there as it did
+pub record Puts (s : StockValue) (dma : Dma) (between : List Happening) (after : StockValue) : Type 0 where
+  pub all : length (data_arrived dma.count between) ≡ 512 * dma.count
+  pub medium : after.disk.now.medium ≡ put s.disk.now.medium (512 * dma.lba) (data_arrived dma.count between)
+
+-- The bytes of a WRITE DMA that the disk can do lie on the medium when the FIS goes out that ends it: those of the Data
+-- that DMA Activates asked for, in order.
+abbrev pub WriteDmaPuts : Type 0
+WriteDmaPuts =
+    (plan : DiskPlan) (sectors : ℕ) (before : List Happening) (bytes : List ℕ) (between : List Happening) (ending : List ℕ)
+    (dma : Dma) → IsStockRun plan sectors (before ++ (Received bytes ∷ between ++ Sent ending ∷ []))
+    → BeginsAndEnds (value_at (new_stock plan sectors) before) bytes dma between ending → dma.write ≡ true
+    → Puts (value_at (new_stock plan sectors) before) dma between
+    (value_at (new_stock plan sectors) (before ++ (Received bytes ∷ between ++ Sent ending ∷ [])))
+
+-- while bytes of a WRITE DMA are still to come, the medium is as it was when it began
+abbrev pub WriteDmaWaits : Type 0
+WriteDmaWaits =
+    (plan : DiskPlan) (sectors : ℕ) (before : List Happening) (bytes : List ℕ) (between : List Happening) (dma : Dma)
+    → IsStockRun plan sectors (before ++ (Received bytes ∷ between))
+    → Begins (value_at (new_stock plan sectors) before) bytes dma between → dma.write ≡ true
+    → length (data_arrived dma.count between) < 512 * dma.count
+    → (value_at (new_stock plan sectors) (before ++ (Received bytes ∷ between))).disk.now.medium
+    ≡ (value_at (new_stock plan sectors) before).disk.now.medium

@@ -4,4 +4,5 @@ pub mod Dmas
 pub mod Fronts
 pub mod Losses
 pub mod Faces
+pub mod Moves
 pub mod Laws

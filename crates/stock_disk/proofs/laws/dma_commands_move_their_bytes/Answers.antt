@@ -1,5 +1,11 @@
-use Rattle.stock_disk.proofs.ReadingLemmas.{read_dma_brings}
+use Rattle.stock_disk.proofs.ReadingLemmas.{read_dma_brings, read_dma_waits}
+use Rattle.stock_disk.proofs.WritingLemmas.{write_dma_puts, write_dma_waits}
 use Rattle.stock_disk.proofs.laws.dma_commands_move_their_bytes.Goals as goal
 
 pub returns : goal.returns
-returns c = record { reads = read_dma_brings }
+returns c = record {
+  reads = read_dma_brings;
+  reading = read_dma_waits;
+  writes = write_dma_puts;
+  writing = write_dma_waits;
+}
