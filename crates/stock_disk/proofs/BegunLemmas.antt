@@ -1,5 +1,5 @@
--- A DMA command that the disk can do begins, in a run: for ReadDmaBrings, ReadDmaWaits, WriteDmaPuts and
--- WriteDmaWaits of specs/Laws.antt.
+-- A DMA command that the disk can do begins, in a run: for the laws of what DMA commands
+-- move in specs/Laws.antt.
 use Rattle.std.proofs.Common.{◌≡◌, ◌+◌, ◌-◌, ◌<◌, ◌≤◌, ◌==◌, ◌&&◌, ℕ, Bool, true, false, List, [], ◌∷◌, ◌++◌, Option, Some, None, refl, ap, sym, subst, ◌∙◌, arith, inl, inr}
 use Rattle.std.proofs.lemmas.Bool.Decides.{nat_tests}
 use Rattle.std.specs.Prelude.{not}
@@ -107,19 +107,21 @@ unfolding value_at
 can_at s [] dma can = can
 can_at s (e ∷ h) dma can = can_at (value_after s e) h dma can
 
--- the command came, and the disk began it
-pub record Begun (s : StockValue) (bytes : List ℕ) (dma : Dma) : Type 0 where
-  pub can : CanDo s.disk.plan s.disk.sectors dma
+-- the command came, and the disk began it, unless it cannot do it
+pub record Begun (s : StockValue) (bytes : List ℕ) (dma : Dma) (fault : Option Fault) : Type 0 where
+  pub plain : IsPlain s.disk.plan
   pub asks : IsDma dma
   pub rests : Rests s.disk.now
-  pub disk : (value_after s (Received bytes)).disk ≡ begins None s.disk dma
+  pub fault_is : dma_fault s.disk dma ≡ fault
+  pub disk : (value_after s (Received bytes)).disk ≡ begins fault s.disk dma
   pub serving : IsServing (value_after s (Received bytes)) dma
 
 pub begun : (plan : DiskPlan) (sectors : ℕ) (before later : List Happening) (bytes : List ℕ) (dma : Dma)
-    → IsStockRun plan sectors (before ++ later)
+    (fault : Option Fault) → IsStockRun plan sectors (before ++ later)
     → let s = value_at (new_stock plan sectors) before in
-    course s.front (is_at_rest s.disk.now) (seen bytes) ≡ Serves dma → dma_fault s.disk dma ≡ None → Begun s bytes dma
-begun plan sectors before later bytes dma run serves good =
+    course s.front (is_at_rest s.disk.now) (seen bytes) ≡ Serves dma → dma_fault s.disk dma ≡ fault
+    → Begun s bytes dma fault
+begun plan sectors before later bytes dma fault run serves fault_is =
     let new = new_stock plan sectors in
     let s = value_at new before in
     let served = serves_is s.front (is_at_rest s.disk.now) (seen bytes) dma serves in
@@ -128,14 +130,18 @@ begun plan sectors before later bytes dma run serves good =
     let sound = sound_at new before (low_chunk plan plain) (opens_sound plan sectors) (runs_first new before later run) in
     let is : value_after s (Received bytes) ≡ comes s bytes (Serves dma) = ap (comes s bytes) serves in
     record {
-      can = record { plain = here; some = served.asks.some; good = good };
+      plain = here;
       asks = served.asks;
       rests = at_rest s.disk.now served.resting;
+      fault_is = fault_is;
       disk = ap (λ (t : StockValue). t.disk) is ∙ begins_is s.disk (dma_fault s.disk dma) dma served.resting served.asks
-          ∙ ap (λ (f : Option Fault). begins f s.disk dma) good;
+          ∙ ap (λ (f : Option Fault). begins f s.disk dma) fault_is;
       serving = subst (λ (t : StockValue). IsServing t dma) (sym is)
           (begins_serving s dma bytes (low_chunk s.disk.plan here) sound serves);
     }
+
+pub can_do : (s : StockValue) (bytes : List ℕ) (dma : Dma) → Begun s bytes dma None → CanDo s.disk.plan s.disk.sectors dma
+can_do s bytes dma b = record { plain = b.plain; some = b.asks.some; good = b.fault_is }
 
 -- it waits on after a FIS that leaves it waiting
 pub serves_next : (s : StockValue) (dma : Dma) (bytes : List ℕ) → Outcome s dma bytes

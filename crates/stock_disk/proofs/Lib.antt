@@ -9,3 +9,4 @@ pub mod ServingLemmas
 pub mod BegunLemmas
 pub mod ReadingLemmas
 pub mod WritingLemmas
+pub mod FailingLemmas

@@ -1,16 +1,13 @@
 -- A READ DMA brings its sectors and changes none: ReadDmaBrings and ReadDmaWaits of specs/Laws.antt.
-use Rattle.std.proofs.Common.{◌≡◌, ◌+◌, ◌-◌, ◌*◌, ◌<◌, ◌≤◌, ℕ, zero, suc, false, List, [], ◌∷◌, ◌++◌, Option, Some, None, Result, Ok, Err, length, take, drop, refl, ap, sym, subst, ◌∙◌, arith, inl, inr, append_assoc, append-nil, length-drop}
+use Rattle.std.proofs.Common.{◌≡◌, ◌+◌, ◌-◌, ◌*◌, ◌<◌, ◌≤◌, ℕ, zero, suc, false, List, [], ◌∷◌, ◌++◌, Some, None, length, take, drop, refl, ap, sym, subst, ◌∙◌, arith, inl, inr, append_assoc, append-nil, length-drop}
 use Rattle.std.proofs.Math.Seq.{take-add, take-append_seam, take-length}
 use Rattle.std.proofs.lemmas.List.{drop-drop, length-take-le}
 use Rattle.fis_view.specs.Seen.{seen}
-use Rattle.fis_view.specs.declared.view.Fis.{Fis}
-use Rattle.fis_view.specs.declared.view.Fis.TheVariants as view
-use Rattle.fis_view.specs.declared.view.FisFault.{FisFault}
 use Rattle.disk_model.specs.declared.disk.quiet.Due.TheVariants as due
 use Rattle.disk_model.specs.declared.plan.DiskPlan.{DiskPlan}
 use Rattle.disk_model.specs.declared.request.Command.{Command}
 use Rattle.disk_model.specs.Chunks.{chunk_count, chunk_from, chunks, sectors_at}
-use Rattle.disk_model.specs.Disks.{DiskValue, Turn, Writing, data_taken, with_now}
+use Rattle.disk_model.specs.Disks.{DiskValue, Turn, with_now}
 use Rattle.disk_model.specs.Histories.{Happening, Received, Sent, Plugged}
 use Rattle.disk_model.specs.Quiet.{begun_with}
 use Rattle.disk_model.specs.Runs.{IsTurn}
@@ -23,11 +20,11 @@ use Rattle.stock_disk.specs.Dmas.{as_queued}
 use Rattle.stock_disk.specs.Faces.{IsNext, StockValue, front_after, inside, new_stock, value_after, value_at}
 use Rattle.stock_disk.specs.Laws.{IsStockRun, MayHappen, ReadDmaBrings, ReadDmaWaits, Runs, WaitsThrough}
 use Rattle.stock_disk.specs.Moves.{data_out, data_sent, payload_of}
-use Rattle.stock_disk.proofs.BegunLemmas.{Begun, CanDo, IsPlain, begun, can_at, first_from, last_from, low_chunk, next_from, over_ends, over_medium, serves_next, value_at-lists, waits_first}
+use Rattle.stock_disk.proofs.BegunLemmas.{Begun, CanDo, IsPlain, begun, can_at, can_do, first_from, last_from, low_chunk, next_from, over_ends, over_medium, serves_next, value_at-lists, waits_first}
 use Rattle.stock_disk.proofs.HistoryLemmas.{disk_at}
 use Rattle.stock_disk.proofs.RunLemmas.{inside_runs}
 use Rattle.stock_disk.proofs.PhaseLemmas.{Ends, Sends, begins_read, chunk_at, ends_due, left_at, reads_at, sends_due, sends_leave, sends_turn}
-use Rattle.stock_disk.proofs.ServingLemmas.{IsServing, WaitsOn, carries, goes_to, hears_data, may_by, received_on, runs_first, runs_later, sent_front, sent_on}
+use Rattle.stock_disk.proofs.ServingLemmas.{IsServing, WaitsOn, carries, goes_to, hears_none, may_by, received_on, runs_first, runs_later, sent_front, sent_on}
 
 -- ## Where a read is
 
@@ -143,17 +140,6 @@ reads_none : (d : DiskValue) (c : Command) (sent : List ℕ) → Reading d c sen
 reads_none d c sent (IsGoing p among some) = p.writing
 reads_none d c sent (IsOver ends all) = ends.writing
 
-hears_none : (d : DiskValue) (fis : Result Fis FisFault) → d.now.writing ≡ None → hears_data d fis ≡ d.now
-hears_none d (Ok (view.Payload f)) none = ap (λ (o : Option Writing). data_taken d.plan d.now o (drop 4 f)) none
-hears_none d (Ok (view.RegH2D f)) none = refl
-hears_none d (Ok (view.RegD2H f)) none = refl
-hears_none d (Ok (view.SetBits f)) none = refl
-hears_none d (Ok (view.DmaActivate f)) none = refl
-hears_none d (Ok (view.DmaSetup f)) none = refl
-hears_none d (Ok (view.PioSetup f)) none = refl
-hears_none d (Ok (view.Unknown f)) none = refl
-hears_none d (Err e) none = refl
-
 received_reads : (s : StockValue) (dma : Dma) (bytes sent medium : List ℕ) → ReadTo s dma sent medium
     → WaitsOn s bytes (value_after s (Received bytes)) dma
     → (value_after s (Received bytes)).front.serving ≡ Some dma → ReadTo (value_after s (Received bytes)) dma sent medium
@@ -192,22 +178,22 @@ reads_through s dma (e ∷ h) sent medium can to runs waits =
 
 -- ## The whole command
 
-read_begins : (s : StockValue) (bytes : List ℕ) (dma : Dma) → Begun s bytes dma → dma.write ≡ false
+read_begins : (s : StockValue) (bytes : List ℕ) (dma : Dma) → Begun s bytes dma None → dma.write ≡ false
     → ReadTo (value_after s (Received bytes)) dma [] s.disk.now.medium
 read_begins s bytes dma b reads =
     let c = as_queued dma in
     let plan = s.disk.plan in
-    let low = low_chunk plan b.can.plain in
+    let low = low_chunk plan b.plain in
     let e = begun_with s.disk c in
     let disk : (value_after s (Received bytes)).disk ≡ reads_at e c (chunks plan c) =
-    b.disk ∙ begins_read s.disk dma low b.rests b.asks b.can.good reads in
+    b.disk ∙ begins_read s.disk dma low b.rests b.asks b.fault_is reads in
     let none : [] ≡ sectors_at s.disk.now.medium c.lba (chunk_from plan c (chunks plan c)) =
-    ap (sectors_at s.disk.now.medium c.lba) (sym (first_from plan c b.can.plain)) in
+    ap (sectors_at s.disk.now.medium c.lba) (sym (first_from plan c b.plain)) in
     record {
       serving = b.serving;
       reading = subst (λ (d : DiskValue). Reading d c []) (sym disk) (IsGoing (record {
         left = chunks plan c;
-        some = some_chunks plan c low b.can.some;
+        some = some_chunks plan c low b.asks.some;
         reads = reads;
         owed = b.rests.owed;
         started = refl;
@@ -252,24 +238,25 @@ read_dma_brings plan sectors before bytes between ending dma run is reads =
     let t = value_after s (Received bytes) in
     let u = value_at t between in
     let later : List Happening = Received bytes ∷ between ++ Sent ending ∷ [] in
-    let b = begun plan sectors before later bytes dma run is.begins.serves is.begins.good in
+    let b = begun plan sectors before later bytes dma None run is.begins.serves is.begins.fault_is in
+    let can = can_do s bytes dma b in
     let runs = (runs_later new before later run).1 in
     let to =
-    reads_through t dma between [] s.disk.now.medium b.can (read_begins s bytes dma b reads)
+    reads_through t dma between [] s.disk.now.medium can (read_begins s bytes dma b reads)
     (runs_first t between (Sent ending ∷ []) runs) is.begins.waits in
     let last : value_at t (between ++ Sent ending ∷ []) ≡ value_after u (Sent ending) =
     value_at-lists t between (Sent ending ∷ []) in
     let none = ap (λ (v : StockValue). v.front.serving) (sym last) ∙ is.ends in
     let may = (runs_later t between (Sent ending ∷ []) runs).0 in
     let over =
-    read_ends u dma ending (data_sent between) s.disk.now.medium (can_at t between dma b.can) to.serving to.medium_is
+    read_ends u dma ending (data_sent between) s.disk.now.medium (can_at t between dma can) to.serving to.medium_is
     to.reading may none in
     let whole = value_at-lists new before later ∙ last in
     record {
       sent = over.0;
       whole = λ size.
           let long = medium_length plan sectors before later run size in
-          let inside = (can_be_done s.disk.plan s.disk.sectors (as_queued dma) b.can.good).inside in
+          let inside = (can_be_done s.disk.plan s.disk.sectors (as_queued dma) b.fault_is).inside in
           ap (λ (l : List ℕ). length l) over.0
           ∙ sectors_length s.disk.now.medium dma.lba dma.count (omega (arith, long, inside));
       medium = ap (λ (v : StockValue). v.disk.now.medium) whole ∙ over.1;
@@ -296,12 +283,13 @@ read_dma_waits plan sectors before bytes between dma run is reads =
     let t = value_after s (Received bytes) in
     let u = value_at t between in
     let later : List Happening = Received bytes ∷ between in
-    let b = begun plan sectors before later bytes dma run is.serves is.good in
+    let b = begun plan sectors before later bytes dma None run is.serves is.fault_is in
+    let can = can_do s bytes dma b in
     let runs = (runs_later new before later run).1 in
     let to =
-    reads_through t dma between [] s.disk.now.medium b.can (read_begins s bytes dma b reads) runs is.waits in
-    let can = can_at t between dma b.can in
-    let first = first_sent u.disk (as_queued dma) (data_sent between) can.plain can.some to.reading in
+    reads_through t dma between [] s.disk.now.medium can (read_begins s bytes dma b reads) runs is.waits in
+    let at = can_at t between dma can in
+    let first = first_sent u.disk (as_queued dma) (data_sent between) at.plain at.some to.reading in
     record {
       sent = first ∙ ap (λ (m : List ℕ). take (length (data_sent between)) (sectors_at m dma.lba dma.count)) to.medium_is;
       medium = ap (λ (v : StockValue). v.disk.now.medium) (value_at-lists new before later) ∙ to.medium_is;

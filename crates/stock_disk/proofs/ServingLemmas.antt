@@ -50,6 +50,18 @@ abbrev pub hears_data : DiskValue → Result Fis FisFault → Moment
 hears_data d (Ok (view.Payload f)) = data_taken d.plan d.now d.now.writing (drop 4 f)
 hears_data d _ = d.now
 
+-- a disk that waits for none hears none
+pub hears_none : (d : DiskValue) (fis : Result Fis FisFault) → d.now.writing ≡ None → hears_data d fis ≡ d.now
+hears_none d (Ok (view.Payload f)) none = ap (λ (o : Option Writing). data_taken d.plan d.now o (drop 4 f)) none
+hears_none d (Ok (view.RegH2D f)) none = refl
+hears_none d (Ok (view.RegD2H f)) none = refl
+hears_none d (Ok (view.SetBits f)) none = refl
+hears_none d (Ok (view.DmaActivate f)) none = refl
+hears_none d (Ok (view.DmaSetup f)) none = refl
+hears_none d (Ok (view.PioSetup f)) none = refl
+hears_none d (Ok (view.Unknown f)) none = refl
+hears_none d (Err e) none = refl
+
 -- a FIS came, and the command waits on, or it does not
 abbrev pub WaitsOn : StockValue → List ℕ → StockValue → Dma → Type 0
 WaitsOn s bytes t dma =
@@ -209,7 +221,7 @@ carries front dma part bytes serving shows =
 is_carried : (part bytes : List ℕ) → Shows (Carries part) bytes → is_data (seen bytes) ≡ true
 is_carried part bytes shows = rw shows.1 refl
 
-sent_value : (s : StockValue) (dma : Dma) (bytes : List ℕ) → IsServing s dma
+pub sent_value : (s : StockValue) (dma : Dma) (bytes : List ℕ) → IsServing s dma
     → (value_after s (Sent bytes)).disk ≡ goes_by (dma_fault s.disk dma) s.disk (due_in s.disk)
 sent_value s dma bytes is =
     ap (λ (o : Option Own). disk_after s.disk (inner_sent s.disk bytes o s.front.serving)) is.owed
@@ -299,15 +311,20 @@ by_phase s dma bytes is good may (IsTaking false p) =
 by_phase s dma bytes is good may (IsEnding p) =
     ended_by s dma bytes None is good (may_by s dma bytes (Some due.Ended) is good (ends_due s.disk p) may)
 
+-- what may be sent of a command that the disk cannot do
+pub may_fail : (s : StockValue) (dma : Dma) (bytes : List ℕ) (x : Fault) → IsServing s dma → dma_fault s.disk dma ≡ Some x
+    → IsNext s bytes → Shows (Register (fault_fields dma.ext (Some x))) bytes
+may_fail s dma bytes x is fault may =
+    let at = turn s.disk.plan s.disk.sectors s.disk.now in
+    let a = subst (λ (o : Option Own). ShowsOr (made_next s.disk o s.front.serving) at bytes) is.owed may in
+    let b = subst (λ (o : Option Dma). ShowsOr (made_next s.disk None o) at bytes) is.serving a in
+    subst (λ (f : Option Fault). ShowsOr (made_by f dma (due_in s.disk)) at bytes) fault b
+
 by_fault : (s : StockValue) (dma : Dma) (bytes : List ℕ) (f : Option Fault) → dma_fault s.disk dma ≡ f → IsServing s dma
     → IsNext s bytes → Outcome s dma bytes
 by_fault s dma bytes None fault is may = by_phase s dma bytes is fault may (is.phase fault)
 by_fault s dma bytes (Some x) fault is may =
-    let at = turn s.disk.plan s.disk.sectors s.disk.now in
-    let a = subst (λ (o : Option Own). ShowsOr (made_next s.disk o s.front.serving) at bytes) is.owed may in
-    let b = subst (λ (o : Option Dma). ShowsOr (made_next s.disk None o) at bytes) is.serving a in
-    ended_by s dma bytes (Some x) is fault
-    (subst (λ (f : Option Fault). ShowsOr (made_by f dma (due_in s.disk)) at bytes) fault b)
+    ended_by s dma bytes (Some x) is fault (may_fail s dma bytes x is fault may)
 
 pub sent_on : (s : StockValue) (dma : Dma) (bytes : List ℕ) → IsServing s dma → IsNext s bytes → Outcome s dma bytes
 sent_on s dma bytes is may = by_fault s dma bytes (dma_fault s.disk dma) refl is may

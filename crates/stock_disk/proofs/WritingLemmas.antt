@@ -25,7 +25,7 @@ use Rattle.stock_disk.specs.Dmas.{as_queued}
 use Rattle.stock_disk.specs.Faces.{IsNext, StockValue, front_after, new_stock, value_after, value_at}
 use Rattle.stock_disk.specs.Laws.{MayHappen, Runs, WaitsThrough, WriteDmaPuts, WriteDmaWaits}
 use Rattle.stock_disk.specs.Moves.{Arrived, arrived_after, arrives, heard_down, heard_up, next_size, none_arrived, takes}
-use Rattle.stock_disk.proofs.BegunLemmas.{Begun, CanDo, IsPlain, begun, can_at, first_from, last_from, low_chunk, next_from, over_ends, over_medium, serves_next, value_at-lists, waits_first}
+use Rattle.stock_disk.proofs.BegunLemmas.{Begun, CanDo, IsPlain, begun, can_at, can_do, first_from, last_from, low_chunk, next_from, over_ends, over_medium, serves_next, value_at-lists, waits_first}
 use Rattle.stock_disk.proofs.PhaseLemmas.{Ends, Takes, Waits, asks_due, asks_first, asks_leave, begins_write, ends_due, fit_taken, last_ends, last_stored, more_left, more_stored, more_takes, staged_with, takes_due, taking, taking_at, waits_due, waits_leave}
 use Rattle.stock_disk.proofs.ServingLemmas.{IsServing, WaitsOn, activates, goes_to, hears_data, may_by, received_on, runs_first, runs_later, sent_front, sent_on}
 
@@ -327,11 +327,11 @@ writes_through s dma (e ∷ h) a medium can to runs waits =
 
 -- ## The whole command
 
-write_begins : (s : StockValue) (bytes : List ℕ) (dma : Dma) → Begun s bytes dma → dma.write ≡ true
+write_begins : (s : StockValue) (bytes : List ℕ) (dma : Dma) → Begun s bytes dma None → dma.write ≡ true
     → WriteTo (value_after s (Received bytes)) dma none_arrived s.disk.now.medium
 write_begins s bytes dma b writes =
     let c = as_queued dma in
-    let begin = begins_write s.disk dma b.rests b.can.good writes in
+    let begin = begins_write s.disk dma b.rests b.fault_is writes in
     record {
       serving = b.serving;
       writes = subst (λ (d : DiskValue). Writes d c none_arrived s.disk.now.medium) (sym (b.disk ∙ begin.1))
@@ -369,18 +369,19 @@ write_dma_puts plan sectors before bytes between ending dma run is writes =
     let t = value_after s (Received bytes) in
     let u = value_at t between in
     let later : List Happening = Received bytes ∷ between ++ Sent ending ∷ [] in
-    let b = begun plan sectors before later bytes dma run is.begins.serves is.begins.good in
+    let b = begun plan sectors before later bytes dma None run is.begins.serves is.begins.fault_is in
+    let can = can_do s bytes dma b in
     let runs = (runs_later new before later run).1 in
     let a = arrived_after dma.count none_arrived between in
     let to =
-    writes_through t dma between none_arrived s.disk.now.medium b.can (write_begins s bytes dma b writes)
+    writes_through t dma between none_arrived s.disk.now.medium can (write_begins s bytes dma b writes)
     (runs_first t between (Sent ending ∷ []) runs) is.begins.waits in
     let last : value_at t (between ++ Sent ending ∷ []) ≡ value_after u (Sent ending) =
     value_at-lists t between (Sent ending ∷ []) in
     let none = ap (λ (v : StockValue). v.front.serving) (sym last) ∙ is.ends in
     let may = (runs_later t between (Sent ending ∷ []) runs).0 in
     let over =
-    write_ends u dma ending a s.disk.now.medium (can_at t between dma b.can) to.serving to.writes may none in
+    write_ends u dma ending a s.disk.now.medium (can_at t between dma can) to.serving to.writes may none in
     let whole = value_at-lists new before later ∙ last in
     record { all = over.0; medium = ap (λ (v : StockValue). v.disk.now.medium) whole ∙ over.1 }
 
@@ -399,10 +400,11 @@ write_dma_waits plan sectors before bytes between dma run is writes few =
     let s = value_at new before in
     let t = value_after s (Received bytes) in
     let later : List Happening = Received bytes ∷ between in
-    let b = begun plan sectors before later bytes dma run is.serves is.good in
+    let b = begun plan sectors before later bytes dma None run is.serves is.fault_is in
+    let can = can_do s bytes dma b in
     let runs = (runs_later new before later run).1 in
     let a = arrived_after dma.count none_arrived between in
     let to =
-    writes_through t dma between none_arrived s.disk.now.medium b.can (write_begins s bytes dma b writes) runs is.waits in
+    writes_through t dma between none_arrived s.disk.now.medium can (write_begins s bytes dma b writes) runs is.waits in
     ap (λ (v : StockValue). v.disk.now.medium) (value_at-lists new before later)
     ∙ still (value_at t between).disk (as_queued dma) a s.disk.now.medium to.writes few

@@ -1,11 +1,12 @@
 -- What holds of a disk behind its front over every list of events.
 use Rattle.std.specs.Prelude.{ℕ, ◌≡◌, ◌*◌, ◌/◌, ◌%◌, ◌==◌, ◌<◌, ◌≤◌, ◌⊎◌, Bool, true, false, List, [], ◌∷◌, ◌++◌, Some}
-use Rattle.std.specs.Prelude.{None, Result, Ok, length, take, if◌then◌else◌}
+use Rattle.std.specs.Prelude.{None, Option, Result, Ok, length, take, if◌then◌else◌}
 use Rattle.fis_view.specs.Seen.{seen}
 use Rattle.fis_view.specs.Table.{H2d, C, Control, field}
 use Rattle.fis_view.specs.declared.view.Fis.{Fis}
 use Rattle.fis_view.specs.declared.view.Fis.TheVariants as view
 use Rattle.fis_view.specs.declared.view.FisFault.{FisFault}
+use Rattle.disk_model.specs.declared.answer.Fault.{Fault}
 use Rattle.disk_model.specs.declared.plan.DiskPlan.{DiskPlan}
 use Rattle.disk_model.specs.declared.plan.Profile.TheVariants.{Bare}
 use Rattle.disk_model.specs.Chunks.{put, sectors_at}
@@ -113,16 +114,18 @@ unfoldable pub WaitsThrough : StockValue → Dma → List Happening → Type 0
 WaitsThrough s dma [] = s.front.serving ≡ Some dma
 WaitsThrough s dma (e ∷ later) = (s.front.serving ≡ Some dma) × WaitsThrough (value_after s e) dma later
 
--- The disk can do the command that these bytes give, and begins it. It waits for its answer through the events.
-pub record Begins (s : StockValue) (bytes : List ℕ) (dma : Dma) (between : List Happening) : Type 0 where
+-- The command that these bytes give begins, with what keeps the disk from doing it, if anything does. It waits for its
+-- answer through the events.
+pub record Begins (s : StockValue) (bytes : List ℕ) (dma : Dma) (fault : Option Fault) (between : List Happening)
+    : Type 0 where
   pub serves : course s.front (is_at_rest s.disk.now) (seen bytes) ≡ Serves dma
-  pub good : dma_fault s.disk dma ≡ None
+  pub fault_is : dma_fault s.disk dma ≡ fault
   pub waits : WaitsThrough (value_after s (Received bytes)) dma between
 
 -- The command begins, and the FIS behind the events ends it.
-pub record BeginsAndEnds (s : StockValue) (bytes : List ℕ) (dma : Dma) (between : List Happening) (ending : List ℕ)
-    : Type 0 where
-  pub begins : Begins s bytes dma between
+pub record BeginsAndEnds (s : StockValue) (bytes : List ℕ) (dma : Dma) (fault : Option Fault) (between : List Happening)
+    (ending : List ℕ) : Type 0 where
+  pub begins : Begins s bytes dma fault between
   pub ends : (value_at s (Received bytes ∷ between ++ Sent ending ∷ [])).front.serving ≡ None
 
 -- What was sent in between are the sectors that the command names, and the medium is as it was. With a size with which
@@ -138,7 +141,7 @@ abbrev pub ReadDmaBrings : Type 0
 ReadDmaBrings =
     (plan : DiskPlan) (sectors : ℕ) (before : List Happening) (bytes : List ℕ) (between : List Happening) (ending : List ℕ)
     (dma : Dma) → IsStockRun plan sectors (before ++ (Received bytes ∷ between ++ Sent ending ∷ []))
-    → BeginsAndEnds (value_at (new_stock plan sectors) before) bytes dma between ending → dma.write ≡ false
+    → BeginsAndEnds (value_at (new_stock plan sectors) before) bytes dma None between ending → dma.write ≡ false
     → Brings (value_at (new_stock plan sectors) before) dma between
     (value_at (new_stock plan sectors) (before ++ (Received bytes ∷ between ++ Sent ending ∷ [])))
 
@@ -153,7 +156,7 @@ abbrev pub ReadDmaWaits : Type 0
 ReadDmaWaits =
     (plan : DiskPlan) (sectors : ℕ) (before : List Happening) (bytes : List ℕ) (between : List Happening) (dma : Dma)
     → IsStockRun plan sectors (before ++ (Received bytes ∷ between))
-    → Begins (value_at (new_stock plan sectors) before) bytes dma between → dma.write ≡ false
+    → Begins (value_at (new_stock plan sectors) before) bytes dma None between → dma.write ≡ false
     → BringsFirst (value_at (new_stock plan sectors) before) dma between
     (value_at (new_stock plan sectors) (before ++ (Received bytes ∷ between)))
 
@@ -168,7 +171,7 @@ abbrev pub WriteDmaPuts : Type 0
 WriteDmaPuts =
     (plan : DiskPlan) (sectors : ℕ) (before : List Happening) (bytes : List ℕ) (between : List Happening) (ending : List ℕ)
     (dma : Dma) → IsStockRun plan sectors (before ++ (Received bytes ∷ between ++ Sent ending ∷ []))
-    → BeginsAndEnds (value_at (new_stock plan sectors) before) bytes dma between ending → dma.write ≡ true
+    → BeginsAndEnds (value_at (new_stock plan sectors) before) bytes dma None between ending → dma.write ≡ true
     → Puts (value_at (new_stock plan sectors) before) dma between
     (value_at (new_stock plan sectors) (before ++ (Received bytes ∷ between ++ Sent ending ∷ [])))
 
@@ -177,7 +180,21 @@ abbrev pub WriteDmaWaits : Type 0
 WriteDmaWaits =
     (plan : DiskPlan) (sectors : ℕ) (before : List Happening) (bytes : List ℕ) (between : List Happening) (dma : Dma)
     → IsStockRun plan sectors (before ++ (Received bytes ∷ between))
-    → Begins (value_at (new_stock plan sectors) before) bytes dma between → dma.write ≡ true
+    → Begins (value_at (new_stock plan sectors) before) bytes dma None between → dma.write ≡ true
     → length (data_arrived dma.count between) < 512 * dma.count
     → (value_at (new_stock plan sectors) (before ++ (Received bytes ∷ between))).disk.now.medium
     ≡ (value_at (new_stock plan sectors) before).disk.now.medium
+
+-- nothing was sent in between, and the disk is as it was
+pub record MovesNone (s : StockValue) (between : List Happening) (after : StockValue) : Type 0 where
+  pub sent : data_sent between ≡ []
+  pub disk : after.disk ≡ s.disk
+
+-- A DMA command that the disk cannot do moves nothing and leaves nothing behind.
+abbrev pub DmaFailureMovesNone : Type 0
+DmaFailureMovesNone =
+    (plan : DiskPlan) (sectors : ℕ) (before : List Happening) (bytes : List ℕ) (between : List Happening) (ending : List ℕ)
+    (dma : Dma) (fault : Fault) → IsStockRun plan sectors (before ++ (Received bytes ∷ between ++ Sent ending ∷ []))
+    → BeginsAndEnds (value_at (new_stock plan sectors) before) bytes dma (Some fault) between ending
+    → MovesNone (value_at (new_stock plan sectors) before) between
+    (value_at (new_stock plan sectors) (before ++ (Received bytes ∷ between ++ Sent ending ∷ [])))

@@ -1,6 +1,6 @@
 //! Laws about every run of a disk behind its front. The functions run no code.
 
-ghost use Rattle.stock_disk.specs.Laws.{BareIsDisk, DmaEnds, ErrorsAbort, InsideIsDisk};
+ghost use Rattle.stock_disk.specs.Laws.{BareIsDisk, DmaEnds, DmaFailureMovesNone, ErrorsAbort, InsideIsDisk};
 ghost use Rattle.stock_disk.specs.Laws.{ReadDmaBrings, ReadDmaWaits, WriteDmaPuts, WriteDmaWaits};
 
 /// What passes to the disk and what the disk sends, in every run of a disk behind its front, is a run of a
@@ -30,10 +30,12 @@ pub fn dma_commands_end()
 /// In every run of a disk behind its front, a READ DMA that the disk can do brings the sectors that it names, each
 /// byte once and in order, before the FIS that ends it. What it brought at any moment before are their first bytes. It
 /// changes no sector. The bytes of a WRITE DMA that the disk can do lie on the medium, all of them and in order, when
-/// the FIS goes out that ends it. Until all of them came, no sector changes.
+/// the FIS goes out that ends it. Until all of them came, no sector changes. A command that the disk cannot do moves
+/// nothing, and the disk stays as it is.
 pub fn dma_commands_move_their_bytes()
     ensures reads { ReadDmaBrings }
     ensures reading { ReadDmaWaits }
     ensures writes { WriteDmaPuts }
     ensures writing { WriteDmaWaits }
+    ensures failing { DmaFailureMovesNone }
 {}
