@@ -1,7 +1,8 @@
 //! A scenario in threads.
 
-ghost use Rattle.std.specs.Prelude.{◌≡◌, true};
-ghost use Rattle.pm_threads.specs.Setups.{is_fitting};
+ghost use Rattle.std.specs.Prelude.{◌≡◌, ◌≢◌, IfOk, true};
+ghost use Rattle.pm_threads.specs.Links.{new_links};
+ghost use Rattle.pm_threads.specs.Setups.{can_run, is_fitting};
 ghost use Rattle.trace_run.specs.Endings.{status_of_ending};
 
 use crate::agenda::read_agenda;
@@ -10,7 +11,8 @@ use crate::parse::View;
 use crate::text::{Reply, print_view};
 use crate::turns::Turns;
 use pm_threads::{
-    CloseError, Gate, GateShut, Links, LinksError, RunError, Setup, Summary, close, run_threads,
+    CloseError, Finished, Gate, GateShut, Links, LinksError, RunError, RunFailure, Setup, Summary,
+    close, run_threads,
 };
 use std::alloc::Global;
 use std::io::Write;
@@ -84,22 +86,64 @@ fn summary_of<R: Threads + Wait + Sync>(
 ) -> Result<Option<Summary>, Failure>
     requires { is_fitting sizes.ports setup ≡ true }
 {
-    let mut links = match Links::new(alloc, sizes.ports, usize::from(sizes.capacity)) {
-        Ok(links) => links,
-        Err(LinksError::OutOfMemory) => return Err(Failure::OutOfMemory),
+    let mut links = links_of(alloc, sizes)?;
+    summary_over(rt, alloc, &mut links, setup)
+}
+
+/// The links of a run.
+fn links_of(alloc: Global, sizes: Sizes) -> Result<Links, Failure>
+    ensures { IfOk result (λ links. links ≡ new_links sizes.ports sizes.capacity) }
+{
+    match Links::new(alloc, sizes.ports, usize::from(sizes.capacity)) {
+        Ok(links) => Ok(links),
+        Err(LinksError::OutOfMemory) => Err(Failure::OutOfMemory),
         Err(LinksError::BadConfig) => unreachable!(),
-    };
-    let finished = match run_threads(rt, alloc, &mut links, setup, &Open) {
-        Ok(finished) => finished,
-        Err(failure) => match failure.error {
-            RunError::OutOfMemory => return Err(Failure::OutOfMemory),
-            RunError::TurnsSpent => return Ok(None),
-            RunError::GateShut | RunError::BadSetup => unreachable!(),
-        },
-    };
+    }
+}
+
+/// What comes of a run over these links.
+fn summary_over<R: Threads + Wait + Sync>(
+    rt: &R,
+    alloc: Global,
+    links: &mut Links,
+    setup: Setup,
+) -> Result<Option<Summary>, Failure>
+    requires { can_run links.old setup ≡ true }
+{
+    match run_threads(rt, alloc, links, setup, &Open) {
+        Ok(finished) => closed(rt, alloc, finished),
+        Err(failure) => unfinished(why(failure)),
+    }
+}
+
+/// What comes of a run that has finished.
+fn closed<R: Threads + Wait + Sync>(
+    rt: &R,
+    alloc: Global,
+    finished: Finished<'_>,
+) -> Result<Option<Summary>, Failure> {
     match close(rt, alloc, finished) {
         Ok(summary) => Ok(Some(summary)),
         Err(CloseError::OutOfMemory) => Err(Failure::OutOfMemory),
+    }
+}
+
+/// Why a run has not finished. What is left of it is dropped here.
+fn why(failure: RunFailure<'_>) -> RunError
+    ensures { result ≡ failure.entry.error }
+{
+    failure.error
+}
+
+/// What comes of a run that has not finished.
+fn unfinished(error: RunError) -> Result<Option<Summary>, Failure>
+    requires setup { error ≢ RunError.BadSetup }
+    requires gate { error ≢ RunError.GateShut }
+{
+    match error {
+        RunError::OutOfMemory => Err(Failure::OutOfMemory),
+        RunError::TurnsSpent => Ok(None),
+        RunError::GateShut | RunError::BadSetup => unreachable!(),
     }
 }
 
