@@ -1,6 +1,5 @@
 -- The lemmas of this crate that proofs of other crates use. What else stands under proofs/ may change at any time, and is
 -- not seen from outside.
-pub use Rattle.disk_model.proofs.BadLemmas.{lowest_is_first}
 pub use Rattle.disk_model.proofs.MomentLemmas.{disk_sends, moment_after-append}
 pub use Rattle.disk_model.proofs.SendLemmas.{sends_left_next}
 pub use Rattle.disk_model.proofs.ShowsLemmas.{TellsSetup, write_of_auto}
