@@ -106,19 +106,25 @@ impl Scenario {
         printer: &mut Printer<'_>,
         out: &mut W,
     ) -> Result<(), Failure> {
-        let opening = self.close_opening(alloc);
-        let mut scene = Scene::open(alloc, self.watch, opening, printer, out)?;
+        let mut scene = self.open(alloc, printer, out)?;
         scene.play_line(alloc, name, words, printer, out)?;
         self.scene = Some(scene);
         Ok(())
     }
 
-    /// What was said about the world, which is said once.
-    fn close_opening(&mut self, alloc: Global) -> Opening {
-        mem::replace(&mut self.opening, Opening::new(alloc, true))
+    /// Builds the world of which the lines told so far.
+    #[inline(never)]
+    fn open<W: Write>(
+        &mut self,
+        alloc: Global,
+        printer: &mut Printer<'_>,
+        out: &mut W,
+    ) -> Result<Scene, Failure> {
+        let opening = mem::replace(&mut self.opening, Opening::new(alloc, true));
+        Scene::open(alloc, self.watch, opening, printer, out)
     }
 
-    /// Builds the world if no line did.
+    /// Builds the world if no line did, so that it is told of, too.
     fn end<W: Write>(
         &mut self,
         alloc: Global,
@@ -126,8 +132,7 @@ impl Scenario {
         out: &mut W,
     ) -> Result<(), Failure> {
         if self.scene.is_none() {
-            let opening = self.close_opening(alloc);
-            self.scene = Some(Scene::open(alloc, self.watch, opening, printer, out)?);
+            self.open(alloc, printer, out)?;
         }
         Ok(())
     }

@@ -213,11 +213,11 @@ impl fmt::Display for Reply {
             Reply::Gone { port, conn } => write!(f, "gone {port} conn {conn}"),
             Reply::Sent(frame) => write!(f, "sent {frame}"),
             Reply::Took(frame) => write!(f, "took {frame}"),
-            Reply::Moved => write!(f, "moved"),
-            Reply::Nothing => write!(f, "nothing"),
-            Reply::Blocked => write!(f, "blocked"),
-            Reply::Settled => write!(f, "settled"),
-            Reply::Unsettled => write!(f, "unsettled"),
+            Reply::Moved => f.write_str("moved"),
+            Reply::Nothing => f.write_str("nothing"),
+            Reply::Blocked => f.write_str("blocked"),
+            Reply::Settled => f.write_str("settled"),
+            Reply::Unsettled => f.write_str("unsettled"),
             Reply::Refused(error) => {
                 let number = *error as u8;
                 write!(f, "step refused {number} {error:?}")
@@ -239,7 +239,7 @@ impl fmt::Display for Reply {
                     Err(error) => write_refused(*error, f),
                 }
             }
-            Reply::Put => write!(f, "put"),
+            Reply::Put => f.write_str("put"),
             seen => seen.write_seen(f),
         }
     }
@@ -293,14 +293,14 @@ fn write_refused<W: fmt::Write>(error: SubmitError, f: &mut fmt::Formatter<W>) -
 /// Writes how a request ended.
 pub fn write_outcome<W: fmt::Write>(outcome: Outcome, f: &mut fmt::Formatter<W>) -> fmt::Result {
     match outcome {
-        Outcome::Done => write!(f, "done"),
+        Outcome::Done => f.write_str("done"),
         Outcome::DeviceError { status, error } => write!(
             f,
             "device-error {status:02x} {error:02x}"
         ),
-        Outcome::Aborted => write!(f, "aborted"),
-        Outcome::Removed => write!(f, "removed"),
-        Outcome::PortError => write!(f, "port-error"),
+        Outcome::Aborted => f.write_str("aborted"),
+        Outcome::Removed => f.write_str("removed"),
+        Outcome::PortError => f.write_str("port-error"),
     }
 }
 
