@@ -60,11 +60,14 @@ typedef struct gef_image {
     uint8_t *changed;  /* a bit for each sector, in (sectors + 7) / 8 bytes: zeroes at first */
 
     /* The image's own. */
-    uint32_t from, to;  /* the sectors that may have changed lie between these two */
-    uint64_t open;      /* writes that have not ended: a bit for each tag, and one for a DMA command */
-    struct { uint32_t lba, count; } writes[GEF_IMAGE_DMA + 1];
+    uint32_t from, to; /* the sectors that may have changed lie between these two */
+    uint64_t open;     /* writes whose end was not heard: a bit for each tag, and one for a DMA command */
+    struct { uint32_t from, to; } writes[GEF_IMAGE_DMA + 1]; /* the sectors of each, of those that ended, too */
+    uint8_t moving;    /* the tag that the disk asked data for last, and 1; 0: none */
     uint8_t is_due;    /* the next command that ends does so when all is saved */
+    uint8_t is_asked;  /* the last command asks for a write cache, and no answer came since */
     uint8_t is_cached; /* a write may end before */
+    uint8_t is_kept;   /* the last FIS could not go on, and comes again */
 } gef_image;
 
 /* ---- parts of what follows --------------------------------------------------------------------------------------- */
@@ -73,28 +76,51 @@ static inline uint32_t gef_image_number(const uint8_t *bytes) {
     return bytes[0] | (uint32_t)bytes[1] << 8 | (uint32_t)bytes[2] << 16 | (uint32_t)bytes[3] << 24;
 }
 
-/* A part of the medium may change. */
-static inline void gef_image_mark(gef_image *image, uint32_t lba, uint32_t count) {
-    uint32_t at, end = lba + count;
-    for (at = lba; at < end; at++) image->changed[at / 8] |= (uint8_t)(1u << at % 8);
-    if (image->from == image->to || lba < image->from) image->from = lba;
-    if (end > image->to) image->to = end;
+/* The sectors of a write may have changed. */
+static inline void gef_image_mark(gef_image *image, unsigned number) {
+    uint32_t at, from = image->writes[number].from, to = image->writes[number].to;
+    if (from == to) return;
+    for (at = from; at < to; at++) image->changed[at / 8] |= (uint8_t)(1u << at % 8);
+    if (image->from == image->to || from < image->from) image->from = from;
+    if (to > image->to) image->to = to;
 }
 
-/* A write begins. The disk refuses one that passes its end. */
+/*
+ * A write begins. The disk refuses one that passes its end. If the number has a write whose end was not heard, the disk may
+ * go on with that one, and lose this: then the sectors of both count, and those between them.
+ */
 static inline void gef_image_begin(gef_image *image, unsigned number, uint64_t lba, uint32_t count) {
-    if (lba >= image->sectors || count > image->sectors - lba) return;
-    image->writes[number].lba = (uint32_t)lba;
-    image->writes[number].count = count;
+    uint32_t from = (uint32_t)lba, to = from + count;
+    if (lba >= image->sectors || count > image->sectors - from) return;
+    if (image->open >> number & 1) {
+        if (image->writes[number].from < from) from = image->writes[number].from;
+        if (image->writes[number].to > to) to = image->writes[number].to;
+    }
+    image->writes[number].from = from;
+    image->writes[number].to = to;
     image->open |= (uint64_t)1 << number;
-    gef_image_mark(image, (uint32_t)lba, count);
 }
 
-/* The writes that end with this FIS: those that it names, and after an error all. */
-static inline uint64_t gef_image_ended(const uint8_t *fis) {
-    uint64_t dma = (uint64_t)1 << GEF_IMAGE_DMA;
-    if (fis[2] & 1) return dma | 0xFFFFFFFFu;
-    return fis[0] == 0x34 ? dma : gef_image_number(fis + 4);
+/* An answer, or the end of queued commands. The write cache is on once the host hears so, and off after any refusal. */
+static inline void gef_image_hear(gef_image *image, const uint8_t *fis) {
+    if (fis[0] == 0xA1) {
+        image->open &= ~(uint64_t)(fis[2] & 1 ? 0xFFFFFFFFu : gef_image_number(fis + 4));
+        return;
+    }
+    image->open &= ~((uint64_t)1 << GEF_IMAGE_DMA);
+    image->is_cached = !(fis[2] & 1) && (image->is_cached || image->is_asked);
+    image->is_asked = 0;
+}
+
+/* Whether the disk has as many sectors as the image. */
+static inline gef_status gef_image_fits(const gef_image *image, gef_disk *disk) {
+    uint8_t bytes[512];
+    gef_status status = gef_disk_sector(disk, image->sectors, bytes, sizeof bytes);
+    if (status == GEF_NO_SECTOR && image->sectors)
+        status = gef_disk_sector(disk, image->sectors - 1, bytes, sizeof bytes);
+    else if (status == GEF_OK)
+        status = GEF_IMAGE;
+    return status == GEF_NO_SECTOR ? GEF_IMAGE : status;
 }
 
 /* The Data FIS that a write of the loading asks for. */
@@ -156,13 +182,27 @@ static inline gef_status gef_image_save_run(gef_image *image, gef_disk *disk, ui
 /* ---- what you call ----------------------------------------------------------------------------------------------- */
 
 /*
- * The disk takes the sectors of the image. Call it for a new disk, before it is plugged in. If it fails, free the disk.
- * Can return GEF_CLOSED, GEF_NO_MEMORY, GEF_IMAGE (the image cannot be read, or the disk has not as many sectors).
+ * The disk was plugged in, by gef_disk_plug: its commands are gone, and its write cache is off. What changed before and is
+ * not saved stays marked. If you kept a FIS of the disk, drop it. The pump calls this.
+ */
+static inline void gef_image_plug(gef_image *image) {
+    image->open = 0;
+    image->moving = image->is_due = image->is_asked = image->is_cached = image->is_kept = 0;
+}
+
+/*
+ * The disk takes the sectors of the image, and nothing counts as changed. Call it for a new disk, before it is plugged in.
+ * What an earlier disk had and gef_image_save did not save is lost. If it fails, free the disk.
+ * Can return GEF_CLOSED, GEF_NO_MEMORY, GEF_IMAGE (the image cannot be read, or the disk has more sectors or fewer).
  */
 static inline gef_status gef_image_load(gef_image *image, gef_disk *disk) {
     uint8_t bytes[512 * GEF_IMAGE_RUN];
     uint32_t at = 0, count;
-    gef_status status = GEF_OK;
+    gef_status status = gef_image_fits(image, disk);
+    if (status != GEF_OK) return status;
+    memset(image->changed, 0, image->sectors / 8 + (image->sectors % 8 != 0));
+    image->from = image->to = 0;
+    gef_image_plug(image);
     while (status == GEF_OK && at < image->sectors) {
         count = image->sectors - at < GEF_IMAGE_RUN ? image->sectors - at : GEF_IMAGE_RUN;
         if (image->read(image->context, 512 * (uint64_t)at, bytes, 512 * (size_t)count)) return GEF_IMAGE;
@@ -181,26 +221,32 @@ static inline gef_status gef_image_save(gef_image *image, gef_disk *disk) {
     while (at < image->to) {
         gef_status status = gef_image_save_run(image, disk, at, &count);
         if (status != GEF_OK) return status;
-        at += count ? count : 1;
+        at = count ? at + count : image->changed[at / 8] ? at + 1 : (at | 7) + 1;
     }
     if (image->flush(image->context)) return GEF_IMAGE;
     if (image->to) memset(image->changed + image->from / 8, 0, (image->to - 1) / 8 - image->from / 8 + 1);
     image->from = image->to = 0;
-    for (at = 0; at <= GEF_IMAGE_DMA; at++)
-        if (image->open >> at & 1) gef_image_mark(image, image->writes[at].lba, image->writes[at].count);
     return GEF_OK;
 }
 
 /*
- * The disk took this FIS. The sectors of a write count as changed from here on. The host turns the write cache on, or off
- * again; a write that asks to be on the medium (FUA) turns it off, too.
+ * The disk took this FIS. The sectors of a write count as changed from each of its Data FISes on. The host turns the write
+ * cache on, or off again; a write that asks to be on the medium (FUA), a software reset and a refused command turn it off,
+ * too.
  */
 static inline void gef_image_down(gef_image *image, const uint8_t *fis, size_t len) {
     uint64_t lba;
     uint32_t count;
+    if (len > 4 && fis[0] == 0x46) {
+        if (image->moving) gef_image_mark(image, image->moving - 1u);
+        if (image->open >> GEF_IMAGE_DMA & 1) gef_image_mark(image, GEF_IMAGE_DMA);
+    }
     if (len != 20 || fis[0] != 0x27) return;
+    image->is_asked = fis[1] & 0x80 && fis[2] == 0xEF && fis[3] == 0x02;
     if (!(fis[1] & 0x80)) {
-        if (fis[15] & 4) image->open = 0; /* SRST ends all commands */
+        if (!(fis[15] & 4)) return; /* SRST: all commands end */
+        image->open = 0;
+        image->moving = image->is_cached = 0;
         return;
     }
     lba = (gef_image_number(fis + 4) & 0xFFFFFF) | (uint64_t)(gef_image_number(fis + 8) & 0xFFFFFF) << 24;
@@ -219,7 +265,6 @@ static inline void gef_image_down(gef_image *image, const uint8_t *fis, size_t l
         gef_image_begin(image, GEF_IMAGE_DMA, lba, fis[12] ? fis[12] : 256);
         break;
     case 0xEF: /* SET FEATURES: the write cache is turned on, or off */
-        if (fis[3] == 0x02) image->is_cached = 1;
         if (fis[3] == 0x82) image->is_cached = 0;
         image->is_due = 1;
         break;
@@ -232,16 +277,18 @@ static inline void gef_image_down(gef_image *image, const uint8_t *fis, size_t l
 }
 
 /*
- * The disk sent this FIS. GEF_OK: it may go on to the host. Any other: keep it, and call again with it later.
+ * The disk sent this FIS. GEF_OK: it may go on to the host. Any other: keep it, and call again with it later, before you take
+ * the next FIS of the disk. After GEF_OK do not call again with it.
  * Can return GEF_CLOSED, GEF_IMAGE (the image cannot be written or flushed).
  */
 static inline gef_status gef_image_up(gef_image *image, gef_disk *disk, const uint8_t *fis, size_t len) {
-    gef_status status;
+    gef_status status = GEF_OK;
+    if (len == 28 && fis[0] == 0x41 && !(fis[1] & 0x20)) image->moving = (uint8_t)((fis[4] & 31) + 1);
     if (len < 8 || (fis[0] != 0x34 && fis[0] != 0xA1)) return GEF_OK;
-    image->open &= ~gef_image_ended(fis);
-    if (!image->is_due && (image->is_cached || !image->to)) return GEF_OK;
-    status = gef_image_save(image, disk);
+    if (!image->is_kept) gef_image_hear(image, fis);
+    if (image->is_due || (image->to && !image->is_cached)) status = gef_image_save(image, disk);
     if (status == GEF_OK) image->is_due = 0;
+    image->is_kept = status != GEF_OK;
     return status;
 }
 

@@ -138,9 +138,8 @@ static inline gef_status gef_pump_of_disk(gef_pump *pump, uint8_t port) {
 
 /* A disk is plugged in: its commands are gone, and its write cache is off. */
 static inline gef_status gef_pump_begin(gef_pump *pump, uint8_t port) {
-    gef_image *image = pump->images[port];
     gef_status status = gef_disk_plug(&pump->disks[port]);
-    if (status == GEF_OK && image) image->open = image->is_due = image->is_cached = 0;
+    if (status == GEF_OK && pump->images[port]) gef_image_plug(pump->images[port]);
     return status;
 }
 

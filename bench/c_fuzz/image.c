@@ -6,6 +6,11 @@
  *                    flushed or as it was written later.
  *     image fails    plays the host again and again. The first write or flush of the image fails, then the second, and so
  *                    on. The host hears of no end until it is tried again, and at the end nothing is missing.
+ *     image any      plays a host that sends anything, waits for no answer, and turns the write cache on and off, while
+ *                    writes and flushes of the image fail. A sector that does not count as changed is in the image as it
+ *                    is on the medium, and so is each one once the host hears an end while it has no write cache.
+ *     image beside   a disk whose image fails stands beside another one in a pump: the other one is served.
+ *     image sizes    an image that has not as many sectors as the disk is not loaded.
  *
  * Status 1 where something is not so.
  */
@@ -16,9 +21,9 @@
 #include <sys/mman.h>
 #include <sys/wait.h>
 #include <unistd.h>
-#include "gefsunk_image.h"
+#include "gefsunk_pump.h"
 
-enum { TAGS = 4, EACH = 20, SECTORS = TAGS * EACH, STEPS = 400 };
+enum { TAGS = 4, EACH = 20, SECTORS = TAGS * EACH, STEPS = 400, RUNS = 400 };
 
 /* What outlives the process: of the image what was flushed. A sector of version v has v in its first and its last four bytes. */
 typedef struct {
@@ -239,12 +244,206 @@ static int play_cut(void) {
     return WEXITSTATUS(status) == 2;
 }
 
+/* ---- a host that does anything ------------------------------------------------------------------------------------- */
+
+static uint32_t is_cache_on, is_cache_asked; /* what the host heard, and what it asked for last: 1 off, 2 on */
+
+/* Sectors that do not count as changed are in the image, and all are where none may be missing. */
+static void compare(const char *what, int is_whole) {
+    uint8_t bytes[512];
+    uint32_t at;
+    for (at = 0; at < SECTORS; at++) {
+        if (!is_whole && changed[at / 8] >> at % 8 & 1) continue;
+        must("sector", gef_disk_sector(&disk, at, bytes, sizeof bytes));
+        if (memcmp(bytes, it->image + 512 * at, 512)) fail(what, at);
+    }
+}
+
+static void send_any(uint8_t *fis, size_t len) {
+    must("down", gef_disk_from_host(&disk, fis, len));
+    gef_image_down(&image, fis, len);
+}
+
+static void give_any(uint32_t len) {
+    uint8_t fis[4 + 8192] = {0x46};
+    memset(fis + 4, (int)any(256), len);
+    send_any(fis, 4 + len);
+    compare("after data", 0);
+}
+
+static void command_any(void) {
+    static const uint8_t codes[] = {0x61, 0x61, 0x61, 0x60, 0xCA, 0xCA, 0x35, 0xC8, 0xEA, 0xEF, 0xEF, 0x2F, 0xE2, 0x42, 0x99};
+    uint8_t fis[20] = {0x27, 0x80}, code = codes[any(sizeof codes)];
+    int is_queued = code == 0x61 || code == 0x60;
+    fis[2] = code;
+    fis[3] = (uint8_t)(code == 0xEF ? (any(2) ? 0x02 : 0x82) : is_queued ? 1 + any(20) : 0);
+    fis[4] = (uint8_t)(code == 0x2F ? 0x10 : any(SECTORS + 4));
+    fis[7] = any(16) ? 0x40 : 0xC0;
+    fis[12] = (uint8_t)(is_queued ? any(TAGS) << 3 : code == 0x2F ? 1 : 1 + any(20));
+    is_cache_asked = code == 0xEF ? (fis[3] == 0x02 ? 2 : 1) : 0;
+    send_any(fis, sizeof fis);
+}
+
+/* The host hears an answer, or an end, with what it had asked for when the disk sent it. */
+static void hear_any(const uint8_t *fis, uint32_t asked) {
+    if (fis[0] != 0x34 && fis[0] != 0xA1) return;
+    if (fis[0] == 0x34 && asked && !(fis[2] & 1)) is_cache_on = asked == 2;
+    if (!is_cache_on) compare("an end was heard", 1);
+}
+
+static void settle_any(unsigned most) {
+    static uint8_t fis[GEF_FIS_ROOM], setup[28];
+    size_t len;
+    while (most-- && gef_disk_to_host(&disk, fis, sizeof fis, &len) == GEF_OK) {
+        gef_status status = gef_image_up(&image, &disk, fis, len);
+        uint32_t asked = is_cache_asked;
+        if (fis[0] == 0x34) is_cache_asked = 0;
+        while (status == GEF_IMAGE) {
+            compare("after a failure", 0);
+            if (any(3) == 0) command_any();
+            status = gef_image_up(&image, &disk, fis, len);
+        }
+        must("up", status);
+        compare("after a FIS of the disk", 0);
+        hear_any(fis, asked);
+        if (fis[0] == 0x41) memcpy(setup, fis, sizeof setup);
+        if (fis[0] == 0x39 && any(4) == 0)
+            give_any(512 * (1 + any(16)));
+        else if (fis[0] == 0x39 || (fis[0] == 0x41 && fis[1] & 0x80))
+            give_any(gef_image_number(setup + 20) ? gef_image_number(setup + 20) : 512);
+    }
+}
+
+static void reset_any(void) {
+    uint8_t fis[20] = {0x27};
+    fis[15] = any(3) ? 4 : 0;
+    if (any(4)) {
+        send_any(fis, sizeof fis);
+    } else {
+        must("plug", gef_disk_plug(&disk));
+        gef_image_plug(&image);
+    }
+    is_cache_on = is_cache_asked = 0;
+}
+
+static void play_any(unsigned number) {
+    static const uint16_t chunks[] = {8192, 8192, 1024};
+    uint32_t step, flags;
+    seed = number;
+    calls = failing = is_cache_on = is_cache_asked = 0;
+    memset(&image, 0, sizeof image);
+    memset(cache, (int)any(256), sizeof cache);
+    memcpy(it->image, cache, sizeof cache);
+    image.read = read_image;
+    image.write = write_image;
+    image.flush = flush_image;
+    image.sectors = SECTORS;
+    image.changed = changed;
+    flags = (any(4) ? GEF_DISK_STOCK : 0) | (any(2) ? GEF_DISK_AUTO : 0) | (any(4) ? 0 : GEF_DISK_NEWEST);
+    must("disk", gef_disk_new(&disk, SECTORS, chunks[any(3)], flags | (any(4) ? 0 : GEF_DISK_LAST_FIRST), 0, 0, 0));
+    must("load", gef_image_load(&image, &disk));
+    compare("after loading", 1);
+    must("plug", gef_disk_plug(&disk));
+    for (step = 0; step < STEPS; step++) {
+        unsigned what = any(24);
+        if (any(12) == 0) failing = calls + 1 + any(3);
+        if (what == 0) reset_any();
+        if (what == 1 && gef_image_save(&image, &disk) == GEF_OK) compare("after saving", 1);
+        if (what == 2) give_any(512 * (1 + any(16)));
+        if (what > 2 && what < 12) command_any();
+        if (what > 11) settle_any(1 + any(6));
+    }
+    must("free", gef_disk_free(&disk));
+}
+
+/* ---- two disks ----------------------------------------------------------------------------------------------------- */
+
+enum { LIST = 0x400, AREA = 0x1000, TABLE = 0x2000, MEMORY = 0x3000 };
+
+static gef_pump pump;
+static uint8_t memory[MEMORY];
+static int is_broken;
+
+static int write_or_not(void *context, uint64_t at, const uint8_t *bytes, size_t len) {
+    return is_broken || write_image(context, at, bytes, len);
+}
+
+/* An image with some sectors for a disk, which has some. */
+static gef_status load(gef_disk *of, uint32_t sectors, uint32_t sectors_of_disk) {
+    memset(&image, 0, sizeof image);
+    image.read = read_image;
+    image.write = write_or_not;
+    image.flush = flush_image;
+    image.sectors = sectors;
+    image.changed = changed;
+    must("disk", gef_disk_new(of, sectors_of_disk, 8192, GEF_DISK_STOCK, 0, 0, 0));
+    return gef_image_load(&image, of);
+}
+
+static void sizes(void) {
+    must("as many", load(&disk, SECTORS, SECTORS));
+    must("free", gef_disk_free(&disk));
+    if (load(&disk, SECTORS, SECTORS + 1) != GEF_IMAGE) fail("a larger disk", 0);
+    must("free", gef_disk_free(&disk));
+    if (load(&disk, SECTORS, SECTORS - 1) != GEF_IMAGE) fail("a smaller disk", 0);
+    must("free", gef_disk_free(&disk));
+    if (load(&disk, 0, SECTORS) != GEF_IMAGE) fail("an image of no sector", 0);
+    must("free", gef_disk_free(&disk));
+}
+
+/* The disk at port 0 has a sector that its image cannot take, and waits with its signature. The host opens port 1. */
+static void beside(void) {
+    static uint8_t write_3[20] = {0x27, 0x80, 0x61, 1, 3, 0, 0, 0x40}, open_1[20] = {0x27, 0x8F, 0xE8, 2, 0, 0, 0, 1};
+    static uint8_t fis[GEF_FIS_ROOM], data[516] = {0x46};
+    size_t len;
+    must("load", load(&pump.disks[0], SECTORS, SECTORS));
+    must("a write", gef_disk_from_host(&pump.disks[0], write_3, sizeof write_3));
+    gef_image_down(&image, write_3, sizeof write_3);
+    while (gef_disk_to_host(&pump.disks[0], fis, sizeof fis, &len) == GEF_OK) gef_image_up(&image, &pump.disks[0], fis, len);
+    memset(data + 4, 0xA5, 512);
+    must("its data", gef_disk_from_host(&pump.disks[0], data, sizeof data));
+    gef_image_down(&image, data, sizeof data);
+    is_broken = 1;
+    pump.memory = memory;
+    pump.len = sizeof memory;
+    pump.images[0] = &image;
+    must("open", gef_pump_open(&pump, 2));
+    must("disk", gef_disk_new(&pump.disks[1], SECTORS, 8192, GEF_DISK_STOCK, 1, 0, 0));
+    must("plug", gef_pump_plug(&pump, 0));
+    must("plug", gef_pump_plug(&pump, 1));
+    must("PxCLB", gef_pump_write32(&pump, 0x100, LIST));
+    must("PxFB", gef_pump_write32(&pump, 0x108, AREA));
+    must("PxCMD", gef_pump_write32(&pump, 0x118, 0x20011));
+    memory[LIST] = 5;
+    memory[LIST + 1] = 0xF0;
+    memory[LIST + 9] = TABLE >> 8;
+    memcpy(memory + TABLE, open_1, sizeof open_1);
+    must("PxCI", gef_pump_write32(&pump, 0x138, 1));
+    if (gef_pump_settle(&pump, 100) != GEF_IMAGE) fail("the image did not fail", 0);
+    if (memory[AREA + 0x42] != 0x50) fail("the other port was not opened", memory[AREA + 0x42]);
+    if (cache[512 * 3] == 0xA5) fail("the image took the sector", 0);
+    is_broken = 0;
+    must("settle", gef_pump_settle(&pump, 100));
+    if (it->image[512 * 3] != 0xA5) fail("the sector is not in the image", 0);
+    gef_pump_close(&pump);
+}
+
 int main(int argc, char **argv) {
-    int is_cut = argc == 2 && strcmp(argv[1], "cut") == 0, is_over = 0;
+    const char *mode = argc == 2 ? argv[1] : "";
+    int is_cut = strcmp(mode, "cut") == 0, is_over = 0;
     unsigned n;
-    if (!is_cut && !(argc == 2 && strcmp(argv[1], "fails") == 0)) return 2;
     it = mmap(0, sizeof *it, PROT_READ | PROT_WRITE, MAP_SHARED | MAP_ANONYMOUS, -1, 0);
     if (it == MAP_FAILED) return 2;
+    if (strcmp(mode, "any") == 0) {
+        for (n = 1; n <= RUNS; n++) play_any(n);
+        return 0;
+    }
+    if (strcmp(mode, "beside") == 0 || strcmp(mode, "sizes") == 0) {
+        if (mode[0] == 'b') beside();
+        else sizes();
+        return 0;
+    }
+    if (!is_cut && strcmp(mode, "fails") != 0) return 2;
     for (n = 1; !is_over; n++) {
         if (is_cut) {
             cut = n;
