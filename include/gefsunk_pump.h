@@ -378,31 +378,36 @@ static inline gef_status gef_pump_write32(gef_pump *pump, uint32_t offset, uint3
 /*
  * One round: a FIS of the controller goes out. At each port a FIS goes down to the disk, one comes up, and all that the
  * multiplier has for the controller goes in. Can return GEF_NULL, GEF_CLOSED, GEF_NO_MEMORY, GEF_IMAGE (an image failed:
- * the end of the command waits, and the next call tries again).
+ * the end of the command waits, and the next call tries again; the other disks had their round).
  */
 static inline gef_status gef_pump_step(gef_pump *pump) {
-    gef_status status = gef_pump_ready(pump);
+    gef_status status = gef_pump_ready(pump), of_images = GEF_OK;
     uint8_t port;
     pump->moved = 0;
     if (status == GEF_OK) status = gef_pump_out(pump);
     for (port = 0; port < pump->ports && status == GEF_OK; port++) {
         if (pump->plugged >> port & 1) status = gef_pump_down(pump, port);
         if (pump->plugged >> port & 1 && status == GEF_OK) status = gef_pump_up(pump, port);
+        if (status == GEF_IMAGE) {
+            of_images = status;
+            status = GEF_OK;
+        }
         if (status == GEF_OK) status = gef_pump_in(pump);
     }
     if (!pump->ports && status == GEF_OK) status = gef_pump_in(pump);
     gef_hba_line(&pump->hba, &pump->raised);
-    return status;
+    return status == GEF_OK ? of_images : status;
 }
 
 /*
  * Rounds until nothing moves, but no more than this many, since a virtual machine has other things to do as well. Where
- * moved is 1 afterwards, call it again. Can return what gef_pump_step can.
+ * moved is 1 afterwards, call it again. Can return what gef_pump_step can. After GEF_IMAGE call it again later, even if
+ * moved is 0 and the guest does nothing: the guest waits.
  */
 static inline gef_status gef_pump_settle(gef_pump *pump, uint32_t rounds) {
     gef_status status = GEF_OK;
     pump->moved = rounds == 0;
-    while (rounds-- > 0 && status == GEF_OK) {
+    while (rounds-- > 0 && (status == GEF_OK || status == GEF_IMAGE)) {
         status = gef_pump_step(pump);
         if (!pump->moved) break;
     }
