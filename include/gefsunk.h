@@ -206,8 +206,8 @@ typedef struct gef_disk {
  * Makes a disk with 1 to 65,536 sectors of 512 bytes, with GEF_DISK_STOCK up to 8,388,607 (512 bytes less than 4 GiB), and
  * opens the handle. Byte i of sector L is (L + i) modulo 256 at first; gefsunk_image.h gives a disk sectors of yours. chunk
  * is the most bytes that one DMA Setup moves: a multiple of 512, from 512 to 8,192. serial ends the serial number of a stock
- * disk, as eight hexadecimal digits. bad lists bad_count sectors, at most 16, that cannot be read; it may be null if
- * bad_count is 0. Memory for all sectors is taken at once.
+ * disk, as eight hexadecimal digits: give each disk of a guest its own. bad lists bad_count sectors, at most 16, that cannot
+ * be read; it may be null if bad_count is 0. Memory for all sectors is taken at once.
  * Can return GEF_OPEN (free it first), GEF_BAD_DISK, GEF_NO_MEMORY.
  */
 gef_status gef_disk_new(gef_disk *disk, uint32_t sectors, uint16_t chunk, uint32_t flags, uint32_t serial,
@@ -266,7 +266,8 @@ typedef struct gef_hba {
 
 /*
  * The guest's memory, for one call: len bytes, the first of them at this address of the guest. What lies outside is no
- * memory to the controller. Nobody may write to the bytes while the call runs. A guest's driver keeps to that: it leaves
+ * memory to the controller. All of them must be readable, those of a hole in the guest's memory, too: the guest says where
+ * the controller reads. Nobody may write to the bytes while the call runs. A guest's driver keeps to that: it leaves
  * the commands that it has issued, and data on their way out, as they are. If you do not trust your guest, stop its
  * processors for the time of the call, or give a copy.
  *

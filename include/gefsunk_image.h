@@ -2,25 +2,30 @@
  * gefsunk_image.h - an image of a disk's sectors, which outlives the disk: in a file, or wherever you keep it.
  *
  *     static gef_image image;                      // zeroes
- *     image.read = my_read;                        // functions of yours, by place and length in bytes
+ *     image.read = my_read;                        // functions of yours, by place and length in bytes: all three
  *     image.write = my_write;
  *     image.flush = my_flush;
  *     image.context = my_file;
  *     image.sectors = bytes_of_my_file / 512;
- *     image.changed = calloc((image.sectors + 7) / 8, 1);
+ *     image.changed = malloc((image.sectors + 7) / 8);
  *     gef_disk_new(&disk, image.sectors, 8192, GEF_DISK_STOCK, 0, 0, 0);
  *     gef_image_load(&image, &disk);               // the disk has the sectors of the image
  *     gef_disk_plug(&disk);
  *
+ * With the pump of gefsunk_pump.h, set pump.images[port] to the image and call gef_pump_plug in place of gef_disk_plug: it
+ * does the rest. Without it:
+ *
  *     each FIS that goes to the disk:              gef_disk_from_host(&disk, fis, len), then gef_image_down(&image, fis, len)
  *     each FIS of the disk, before it goes on:     gef_image_up(&image, &disk, fis, len)
+ *     each gef_disk_plug:                          gef_image_plug(&image)
  *
  * A disk of gefsunk.h says of itself that it has no write cache, so a host need not flush it. That stays true: what a host
  * wrote is in the image before the host hears that the write has ended. If the host turns a write cache on (SET FEATURES
  * 02h), it is there before the host hears that its next flush has ended. gef_image_up does that: if the FIS ends a
  * write or a flush, the sectors that changed are written to the image, and then the image is flushed. If that fails, the
- * FIS is still yours. Keep it, and call again later: until then the host waits for the end of its command. The pump of
- * gefsunk_pump.h does all this for the images that it is given.
+ * FIS is still yours. Keep it, and call again later: until then the host waits for the end of its command.
+ *
+ * Before you free a disk, call gef_image_save. It is needed if the host turned a write cache on, and did not flush it.
  *
  * These functions are plain C over the calls of gefsunk.h, whose rules hold here too. Those calls are proved; these
  * functions are not. They take no memory. The disk's own medium is in memory, too: the image is a copy that is behind
@@ -56,8 +61,8 @@ typedef struct gef_image {
     gef_image_writes write;
     gef_image_flushes flush;
     void *context;     /* the first argument of all three */
-    uint32_t sectors;  /* those of the disk */
-    uint8_t *changed;  /* a bit for each sector, in (sectors + 7) / 8 bytes: zeroes at first */
+    uint32_t sectors;  /* as many as the disk has */
+    uint8_t *changed;  /* a bit for each sector, in (sectors + 7) / 8 bytes: gef_image_load clears them */
 
     /* The image's own. */
     uint32_t from, to; /* the sectors that may have changed lie between these two */

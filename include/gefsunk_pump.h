@@ -8,6 +8,11 @@
  *     gef_disk_new(&pump.disks[0], 65536, 8192, GEF_DISK_STOCK, 0, 0, 0);
  *     gef_pump_plug(&pump, 0);
  *
+ *     a disk of a file:          image as in gefsunk_image.h, gef_disk_new(&pump.disks[1], image.sectors, ..);
+ *                                gef_image_load(&image, &pump.disks[1]);
+ *                                pump.images[1] = &image;
+ *                                gef_pump_plug(&pump, 1);
+ *
  *     on a read of a register:   gef_hba_read32(&pump.hba, offset, &value);
  *     on a write of a register:  gef_pump_write32(&pump, offset, value);
  *                                gef_pump_settle(&pump, 1000);
@@ -346,8 +351,9 @@ static inline gef_status gef_pump_plug(gef_pump *pump, uint8_t port) {
 }
 
 /*
- * Pulls the disk of a port. What waits for it is dropped, and what it sent and the multiplier still has. Its medium
- * stays: free it, or plug it in again. Can return GEF_NOT_THERE.
+ * Pulls the disk of a port. What waits for it is dropped, and what it sent and the multiplier still has. Commands of the
+ * guest get no answer from it, then or later: the guest ends them after a time of its own. Its medium stays: free it (after
+ * gef_image_save, if it has an image), or plug it in again. Can return GEF_NOT_THERE.
  */
 static inline gef_status gef_pump_unplug(gef_pump *pump, uint8_t port) {
     if (port >= GEF_PUMP_PORTS || !(pump->plugged >> port & 1)) return GEF_NOT_THERE;
