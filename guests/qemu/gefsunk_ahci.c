@@ -12,7 +12,7 @@
  * pump says, and the interrupt is raised.
  *
  * What a guest wrote to a disk with a file is in the file when the guest hears that the write ended. While a file cannot be
- * written, the machine's disks stand still: the end of the write waits, and is tried again ten times a second.
+ * written, its disk stands still: the end of the write waits, and is tried again ten times a second.
  *
  * `log` gets the FISes on the link, at most `lines` of them, and `record` what the driver does (gefsunk_record.h).
  */
@@ -109,10 +109,9 @@ static void run_pump(void *opaque)
         if (status == GEF_IMAGE) {
             warn_report_once("gefsunk-ahci: %s", gef_status_text(status));
             timer_mod(s->again, qemu_clock_get_ms(QEMU_CLOCK_REALTIME) + 100);
-            moved = false;
-            break;
+        } else {
+            must(status);
         }
-        must(status);
         moved = s->pump.moved;
         record_round(&s->recording, moved);
     }
@@ -206,13 +205,8 @@ static void plug(GefsunkAhci *s, unsigned port, bool is_bad)
 /* A disk that is pulled loses what a guest was not told to be on it. */
 static void pull(GefsunkAhci *s, unsigned port)
 {
-    gef_image *image = s->pump.images[port];
     must(gef_pump_unplug(&s->pump, port));
     must(gef_disk_free(&s->pump.disks[port]));
-    if (image) {
-        memset(image->changed, 0, (image->sectors + 7) / 8);
-        image->from = image->to = 0;
-    }
 }
 
 /*
