@@ -183,9 +183,9 @@ gef_status gef_pm_dropped(gef_pm *pm, uint32_t *count);
  * A disk with native command queuing, its sectors in memory. They are read and written by READ FPDMA QUEUED (60h) and
  * WRITE FPDMA QUEUED (61h), and with GEF_DISK_STOCK, chunks of 8,192 bytes and without GEF_DISK_LAST_FIRST also by READ
  * DMA and WRITE DMA (C8h, 25h, CAh, 35h). All others that read or write end with Status 51h, Error 04h. docs/FORMATS.md has
- * all the commands that it knows. Put it behind a port of a multiplier (gef_pm_to_device gives what gef_disk_from_host takes, and
- * gef_disk_to_host what gef_pm_from_device takes), or at the other end of a link of your own. The rules of a handle are
- * those of gef_pm. A handle of another kind returns GEF_CLOSED, and stays as it was.
+ * all the commands that it knows. Put it behind a port of a multiplier (gef_pm_to_device gives what gef_disk_from_host
+ * takes, and gef_disk_to_host what gef_pm_from_device takes), or at the other end of a link of your own. The rules of a
+ * handle are those of gef_pm. A handle of another kind returns GEF_CLOSED, and stays as it was.
  */
 typedef struct gef_disk {
     uint32_t mark;

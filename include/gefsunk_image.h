@@ -83,9 +83,13 @@ static inline uint32_t gef_image_number(const uint8_t *bytes) {
 
 /* The sectors of a write may have changed. */
 static inline void gef_image_mark(gef_image *image, unsigned number) {
-    uint32_t at, from = image->writes[number].from, to = image->writes[number].to;
+    uint32_t from = image->writes[number].from, to = image->writes[number].to, at = from;
     if (from == to) return;
-    for (at = from; at < to; at++) image->changed[at / 8] |= (uint8_t)(1u << at % 8);
+    while (at < to) {
+        int is_byte = at % 8 == 0 && to - at >= 8;
+        image->changed[at / 8] |= (uint8_t)(is_byte ? 0xFF : 1u << at % 8);
+        at += is_byte ? 8 : 1;
+    }
     if (image->from == image->to || from < image->from) image->from = from;
     if (to > image->to) image->to = to;
 }
