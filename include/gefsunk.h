@@ -60,7 +60,7 @@ typedef enum gef_status {
     GEF_SPENT = 16,         /* 4,294,967,295 devices came to this port: it takes no more */
     GEF_BAD_DISK = 17,      /* a disk cannot have this size, this chunk, these flags or so many bad sectors */
     GEF_NO_SECTOR = 18,     /* the disk has no such sector */
-    GEF_IMAGE = 64          /* of gefsunk_image.h alone: an image was not read, written or flushed */
+    GEF_IMAGE = 64          /* of gefsunk_image.h alone: an image was not read, written or flushed, or is of another size */
 } gef_status;
 
 /* A sentence for a log, never null. It stays valid as long as the program runs. */

@@ -293,7 +293,10 @@ static inline gef_status gef_pump_open(gef_pump *pump, uint8_t ports) {
     return GEF_OK;
 }
 
-/* Frees all that was made: the disks, the multiplier and the controller. Images are not saved: gef_image_save does that. */
+/*
+ * Frees all that was made: the disks, the multiplier and the controller. Images are not saved: gef_image_save does that.
+ * They stay set: before you open the pump again, load each for its new disk, or set it to null.
+ */
 static inline void gef_pump_close(gef_pump *pump) {
     uint8_t port;
     for (port = 0; port < GEF_PUMP_PORTS; port++) gef_disk_free(&pump->disks[port]);
