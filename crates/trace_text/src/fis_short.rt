@@ -73,8 +73,12 @@ fn write_h2d<W: fmt::Write>(fis: &RegH2D<'_>, f: &mut fmt::Formatter<W>) -> fmt:
         let reset = reset_word(control);
         return write!(f, "h2d control {control:02x}{reset}");
     }
-    write!(f, "h2d {}", command_name(fis.command()))?;
-    match fis.command() {
+    let command = fis.command();
+    let Some(name) = command_name(command) else {
+        return write!(f, "h2d command {command:02x}");
+    };
+    write!(f, "h2d {name}")?;
+    match command {
         0x60 | 0x61 => write!(f, " lba {} sectors {}", fis.lba(), fis.features()),
         0xE4 | 0xE8 => write_register(fis, f),
         _ => Ok(()),
@@ -98,18 +102,21 @@ fn reset_word(control: u8) -> &'static str {
     if control & 4 == 0 { "" } else { " reset" }
 }
 
-/// The name of a command in ACS-3, in words.
-fn command_name(command: u8) -> &'static str {
-    match command {
+/// The name of a command in ACS-3, in words. None for those that are told by their number.
+fn command_name(command: u8) -> Option<&'static str> {
+    let name = match command {
         0x60 => "read-queued",
         0x61 => "write-queued",
+        0x25 | 0xC8 => "read-dma",
+        0x35 | 0xCA => "write-dma",
         0x2F => "read-log",
         0xE4 => "read-pm",
         0xE8 => "write-pm",
         0xEA => "flush",
         0xEC => "identify",
-        _ => "command",
-    }
+        _ => return None,
+    };
+    Some(name)
 }
 
 /// Writes an answer, with the value of a register if it has one.
