@@ -118,33 +118,21 @@ fn plugging_ends_a_reset(rt: HostRuntime) -> Result<(), DiskError> {
 #[test]
 fn sizes_that_no_disk_has(rt: HostRuntime) {
     let stock = Profile::Stock(0);
-    for (sectors, profile) in [
-        (0, Profile::Bare),
-        (65_537, Profile::Bare),
-        (u32::MAX, Profile::Bare),
-        (0, stock),
-        (8_388_608, stock),
+    for (sectors, profile, error) in [
+        (0, Profile::Bare, Some(DiskError::BadSize)),
+        (65_537, Profile::Bare, Some(DiskError::BadSize)),
+        (u32::MAX, Profile::Bare, Some(DiskError::BadSize)),
+        (0, stock, Some(DiskError::BadSize)),
+        (65_537, stock, None),
+        (8_388_608, stock, Some(DiskError::BadSize)),
     ] {
         let plan = DiskPlan {
             profile,
             ..DiskPlan::plain()
         };
-        let error = Disk::new(rt.alloc(), sectors, plan).err();
-        assert_eq!(rt; error, Some(DiskError::BadSize));
+        let found = Disk::new(rt.alloc(), sectors, plan).err();
+        assert_eq!(rt; found, error);
     }
-}
-
-/// A stock disk has a sector behind those that another can have.
-#[test]
-fn a_larger_disk(rt: HostRuntime) -> Result<(), DiskError> {
-    let plan = DiskPlan {
-        profile: Profile::Stock(0),
-        ..DiskPlan::plain()
-    };
-    let disk = Disk::new(rt.alloc(), 65_537, plan)?;
-    let first = disk.sector(65_536).map(|bytes| bytes[1]);
-    assert_eq!(rt; first, Some(1));
-    Ok(())
 }
 
 static ONE_SECTOR: [Step; 6] = [
