@@ -200,7 +200,8 @@ typedef struct gef_disk {
 #define GEF_DISK_AUTO 4u       /* auto-activate: no DMA Activate FIS is sent */
 #define GEF_DISK_STOCK 8u      /* IDENTIFY DEVICE data that drivers of operating systems read, and the answers they expect: */
                                /* commands after an error are aborted until its log is read; STANDBY, IDLE, SLEEP, FLUSH */
-                               /* CACHE, CHECK POWER MODE, SET FEATURES and READ VERIFY are answered (docs/FORMATS.md) */
+                               /* CACHE, CHECK POWER MODE, SET FEATURES, READ VERIFY, READ SECTORS and SMART are answered */
+                               /* (docs/FORMATS.md) */
 
 /*
  * Makes a disk with 1 to 65,536 sectors of 512 bytes, with GEF_DISK_STOCK up to 8,388,607 (512 bytes less than 4 GiB), and

@@ -82,11 +82,11 @@ timings = 7 ∷ 0 ∷ 3 ∷ 0 ∷ 0x78 ∷ 0 ∷ 0x78 ∷ 0 ∷ 0x78 ∷ 0 ∷ 0
 abbrev pub linked_words : (auto : Bool) → List ℕ
 linked_words auto = 0x1F ∷ 0 ∷ 0x0E ∷ 1 ∷ 6 ∷ 0 ∷ setups_byte auto ∷ 0 ∷ setups_byte auto ∷ 0 ∷ []
 
--- Words 80 to 88: the major versions 4 to 8; no minor one; of the feature sets, none but what every disk has; and
--- Ultra DMA modes 0 to 6, the last one chosen.
+-- Words 80 to 88: the major versions 4 to 8; no minor one; of the feature sets, SMART (bit 0 of words 82 and 85) and
+-- what every disk has; and Ultra DMA modes 0 to 6, the last one chosen.
 abbrev pub versions : List ℕ
 versions =
-    0xF0 ∷ 1 ∷ 0 ∷ 0 ∷ 0 ∷ 0 ∷ 0 ∷ 0x40 ∷ 0 ∷ 0x40 ∷ 0 ∷ 0 ∷ 0 ∷ 0 ∷ 0 ∷ 0x40 ∷ 0x7F ∷ 0x40 ∷ []
+    0xF0 ∷ 1 ∷ 0 ∷ 0 ∷ 1 ∷ 0 ∷ 0 ∷ 0x40 ∷ 0 ∷ 0x40 ∷ 1 ∷ 0 ∷ 0 ∷ 0 ∷ 0 ∷ 0x40 ∷ 0x7F ∷ 0x40 ∷ []
 
 -- the stock profile up to word 50: an ATA disk (word 0), and its names
 unfoldable pub stock_names : (serial : ℕ) → List ℕ

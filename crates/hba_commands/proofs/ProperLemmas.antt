@@ -7,7 +7,7 @@ use Rattle.slots.specs.declared.work.Kind.{Kind}
 use Rattle.slots.specs.declared.work.Kind.TheVariants.{QueuedRead, QueuedWrite, DmaIn, DmaOut, PioIn, PioOut, NoData, Control}
 use Rattle.hba_commands.specs.declared.header.Header.{Header}
 use Rattle.hba_commands.specs.declared.request.Request.{Request}
-use Rattle.hba_commands.specs.Requests.{counted, few_sectors, is_page, is_wide, kind_of, length_of, request_at, request_in, sectors, tag_of, work_of}
+use Rattle.hba_commands.specs.Requests.{counted, few_sectors, is_page, is_smart_page, is_wide, kind_of, length_of, request_at, request_in, sectors, tag_of, work_of}
 use Rattle.hba_commands.specs.Commands.{has_table, is_few, is_proper, may_move, may_queue, suits, total_if_sound}
 use Rattle.hba_commands.specs.Writing.{is_write}
 use Rattle.host_memory.specs.declared.table.PrdError.{PrdError}
@@ -53,7 +53,7 @@ work_of_kind QueuedRead request h = are_sectors (sectors request.features) (some
 work_of_kind QueuedWrite request h = are_sectors (sectors request.features) (some_sectors request.features) (h refl)
 work_of_kind DmaIn request h = are_sectors (counted request.command request.count) (some_counted request.command request.count) (h refl)
 work_of_kind DmaOut request h = are_sectors (counted request.command request.count) (some_counted request.command request.count) (h refl)
-work_of_kind PioIn request h = are_page (is_page request.command request.count) (counted request.command request.count) (some_counted request.command request.count) (h refl)
+work_of_kind PioIn request h = are_page (is_page request.command request.count || is_smart_page request.command request.features) (counted request.command request.count) (some_counted request.command request.count) (h refl)
 work_of_kind PioOut request h = are_sectors (counted request.command request.count) (some_counted request.command request.count) (h refl)
 work_of_kind NoData request h = (omega arith, omega arith, refl)
 work_of_kind Control request h = (omega arith, omega arith, refl)

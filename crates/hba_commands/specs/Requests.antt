@@ -37,6 +37,10 @@ request_of fields = record {
 abbrev pub is_page : (command count : ℕ) → Bool
 is_page command count = (command == 0x2F && count == 1) || command == 0xEC || command == 0xA1
 
+-- a page of data that SMART (B0h) brings, by the low byte of Features: READ DATA, and the thresholds of older standards
+abbrev pub is_smart_page : (command features : ℕ) → Bool
+is_smart_page command features = command == 0xB0 && (features % 256 == 0xD0 || features % 256 == 0xD1)
+
 -- READ SECTORS, READ SECTORS EXT, READ MULTIPLE and READ MULTIPLE EXT
 abbrev pub reads_sectors : ℕ → Bool
 reads_sectors command = command == 0x20 || command == 0x24 || command == 0xC4 || command == 0x29
@@ -45,24 +49,34 @@ reads_sectors command = command == 0x20 || command == 0x24 || command == 0xC4 ||
 abbrev pub writes_sectors : ℕ → Bool
 writes_sectors command = command == 0x30 || command == 0x34 || command == 0xC5 || command == 0x39
 
--- the 48-bit commands among those for sectors and for DMA, whose Count has sixteen bits
+-- the 48-bit commands among those for sectors and for DMA, READ LOG DMA EXT (47h) among them, whose Count has sixteen
+-- bits
 abbrev pub is_wide : ℕ → Bool
 is_wide command = command == 0x24 || command == 0x29 || command == 0x34 || command == 0x39 || command == 0x25
-    || command == 0x35
+    || command == 0x35 || command == 0x47
+
+-- what SMART moves, by the low byte of Features: D5h is READ LOG, D6h WRITE LOG, each of Count pages
+abbrev pub smart_kind : ℕ → Kind
+smart_kind feature =
+    if feature == 0xD0 || feature == 0xD1 || feature == 0xD5 then PioIn
+    else if feature == 0xD6 then PioOut else NoData
 
 -- The kind of a command code (ACS-3): 60h is READ FPDMA QUEUED, 61h is WRITE FPDMA QUEUED, C8h and 25h are READ
--- DMA and READ DMA EXT, CAh and 35h WRITE DMA and WRITE DMA EXT. Those that are not named move no data here.
-abbrev pub kind_of_command : ℕ → ℕ → Kind
-kind_of_command command count =
+-- DMA and READ DMA EXT, 47h is READ LOG DMA EXT, CAh and 35h WRITE DMA and WRITE DMA EXT, B0h is SMART. Those that are
+-- not named move no data here.
+abbrev pub kind_of_command : (command features count : ℕ) → Kind
+kind_of_command command features count =
     if command == 0x60 then QueuedRead else if command == 0x61 then QueuedWrite
     else if is_page command count || reads_sectors command then PioIn
-    else if command == 0xC8 || command == 0x25 then DmaIn
+    else if command == 0xC8 || command == 0x25 || command == 0x47 then DmaIn
     else if command == 0xCA || command == 0x35 then DmaOut
-    else if writes_sectors command then PioOut else NoData
+    else if writes_sectors command then PioOut
+    else if command == 0xB0 then smart_kind (features % 256) else NoData
 
 -- with C 1 the FIS writes the Command register, with C 0 the Device Control register
 abbrev pub kind_of : Request → Kind
-kind_of request = if request.c then kind_of_command request.command request.count else Control
+kind_of request =
+    if request.c then kind_of_command request.command request.features request.count else Control
 
 -- the number of 512-byte sectors in a field of sixteen bits, where 0 stands for 65,536; for a queued command
 -- that is its Features
@@ -84,7 +98,8 @@ length_of QueuedWrite request = 512 * sectors request.features
 length_of DmaIn request = 512 * counted request.command request.count
 length_of DmaOut request = 512 * counted request.command request.count
 length_of PioIn request =
-    if is_page request.command request.count then 512 else 512 * counted request.command request.count
+    if is_page request.command request.count || is_smart_page request.command request.features then 512
+    else 512 * counted request.command request.count
 length_of PioOut request = 512 * counted request.command request.count
 length_of NoData request = 0
 length_of Control request = 0

@@ -1,7 +1,7 @@
 //! What a command FIS asks for.
 
-ghost use Rattle.std.specs.Prelude.{◌≡◌, length};
-ghost use Rattle.hba_commands.specs.Requests.{counted as counted_of, few_sectors as few_sectors_of, is_page as is_page_of, is_wide as is_wide_code, kind_of as kind_of_request, kind_of_command as kind_of_code, request_at, request_in, request_of, sectors as sectors_of, tag_of, work_of};
+ghost use Rattle.std.specs.Prelude.{◌≡◌, ◌||◌, length};
+ghost use Rattle.hba_commands.specs.Requests.{counted as counted_of, few_sectors as few_sectors_of, is_page as is_page_of, is_smart_page as is_smart_page_of, is_wide as is_wide_code, kind_of as kind_of_request, kind_of_command as kind_of_code, request_at, request_in, request_of, sectors as sectors_of, smart_kind as smart_kind_of, tag_of, work_of};
 
 use fis_view::{Fis, H2dFields, RegH2D};
 use slots::{Kind, Work};
@@ -16,17 +16,29 @@ pub(crate) struct Request {
     pub(crate) count: u16,
 }
 
-fn kind_of_command(command: u8, count: u16) -> Kind
-    ensures { result ≡ kind_of_code command count }
+// What SMART moves, by the low byte of Features.
+fn smart_kind(feature: u8) -> Kind
+    ensures { result ≡ smart_kind_of feature }
+{
+    match feature {
+        0xD0 | 0xD1 | 0xD5 => Kind::PioIn,
+        0xD6 => Kind::PioOut,
+        _ => Kind::NoData,
+    }
+}
+
+fn kind_of_command(command: u8, features: u16, count: u16) -> Kind
+    ensures { result ≡ kind_of_code command features count }
 {
     match command {
         0x60 => Kind::QueuedRead,
         0x61 => Kind::QueuedWrite,
         0x2F if count == 1 => Kind::PioIn,
         0xEC | 0xA1 | 0x20 | 0x24 | 0xC4 | 0x29 => Kind::PioIn,
-        0xC8 | 0x25 => Kind::DmaIn,
+        0xC8 | 0x25 | 0x47 => Kind::DmaIn,
         0xCA | 0x35 => Kind::DmaOut,
         0x30 | 0x34 | 0xC5 | 0x39 => Kind::PioOut,
+        0xB0 => smart_kind((features % 256) as u8),
         _ => Kind::NoData,
     }
 }
@@ -37,10 +49,16 @@ fn is_page(command: u8, count: u16) -> bool
     command == 0x2F && count == 1 || command == 0xEC || command == 0xA1
 }
 
+fn is_smart_page(command: u8, features: u16) -> bool
+    ensures { result ≡ is_smart_page_of command features }
+{
+    command == 0xB0 && matches!(features % 256, 0xD0 | 0xD1)
+}
+
 fn is_wide(command: u8) -> bool
     ensures { result ≡ is_wide_code command }
 {
-    matches!(command, 0x24 | 0x29 | 0x34 | 0x39 | 0x25 | 0x35)
+    matches!(command, 0x24 | 0x29 | 0x34 | 0x39 | 0x25 | 0x35 | 0x47)
 }
 
 // The number of sectors in a field of sixteen bits.
@@ -117,10 +135,17 @@ impl Request {
         ensures { result ≡ kind_of_request self }
     {
         if self.c {
-            kind_of_command(self.command, self.count)
+            kind_of_command(self.command, self.features, self.count)
         } else {
             Kind::Control
         }
+    }
+
+    // One page, whatever Count says.
+    fn is_page(self) -> bool
+        ensures { result ≡ is_page_of self.command self.count || is_smart_page_of self.command self.features }
+    {
+        is_page(self.command, self.count) || is_smart_page(self.command, self.features)
     }
 
     #[tactic(auto, unfolding(crate::specs::Requests::work_of))]
@@ -130,7 +155,7 @@ impl Request {
         let kind = self.kind();
         let len = match kind {
             Kind::QueuedRead | Kind::QueuedWrite => 512 * sectors(self.features),
-            Kind::PioIn if is_page(self.command, self.count) => 512,
+            Kind::PioIn if self.is_page() => 512,
             Kind::DmaIn | Kind::DmaOut | Kind::PioIn | Kind::PioOut => {
                 512 * counted(self.command, self.count)
             }

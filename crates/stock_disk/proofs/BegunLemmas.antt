@@ -21,7 +21,7 @@ use Rattle.stock_disk.specs.Faces.{IsNext, StockValue, front_after, new_stock, v
 use Rattle.stock_disk.specs.Fronts.{course}
 use Rattle.stock_disk.specs.Laws.{IsStockRun, WaitsThrough}
 use Rattle.stock_disk.specs.Losses.{begins}
-use Rattle.stock_disk.specs.Verifies.{fault_fields}
+use Rattle.stock_disk.specs.Sectors.{fault_fields}
 use Rattle.stock_disk.proofs.DmaLemmas.{serves_is}
 use Rattle.stock_disk.proofs.LossLemmas.{IsDma, Rests, at_rest, begins_is}
 use Rattle.stock_disk.proofs.ModeLemmas.{after_keeps}

@@ -13,7 +13,7 @@ use Rattle.stock_disk.specs.declared.front.Front.{Front}
 use Rattle.stock_disk.specs.declared.front.Own.{Own}
 use Rattle.stock_disk.specs.Dmas.{dma_for, dma_of}
 use Rattle.stock_disk.specs.Fronts.{command_course, course, course_by, dma_to, is_idle, own_to, served_or_passed}
-use Rattle.stock_disk.specs.Verifies.{verify_28, verify_48}
+use Rattle.stock_disk.specs.Sectors.{sectors_28, sectors_48}
 use Rattle.stock_disk.proofs.LossLemmas.{IsDma}
 
 -- the front is idle, and the disk is at rest, moves data upwards in chunks of 8,192 bytes, and does the command
@@ -47,14 +47,14 @@ most_by n all false low high = low
 count_most : (n all : ℕ) → n ≤ 65536 → all ≤ 65536 → (if n == 0 then all else n) ≤ 65536
 count_most n all low high = most_by n all (n == 0) low high
 
-asks_28 : (w : Bool) (f : List ℕ) → IsDma (dma_of w (verify_28 f))
+asks_28 : (w : Bool) (f : List ℕ) → IsDma (dma_of w (sectors_28 f))
 asks_28 w f = record {
   some = count_some (field H2d Count f % 256) 256 (omega arith);
   most = count_most (field H2d Count f % 256) 256 (omega arith) (omega arith);
   lba = omega arith;
 }
 
-asks_48 : (w : Bool) (f : List ℕ) → IsDma (dma_of w (verify_48 f))
+asks_48 : (w : Bool) (f : List ℕ) → IsDma (dma_of w (sectors_48 f))
 asks_48 w f = record {
   some = count_some (field H2d Count f) 65536 (omega arith);
   most = count_most (field H2d Count f) 65536 (omega (arith, short_count f)) (omega arith);
@@ -73,7 +73,7 @@ one_of false false false false w x y z dma p q r t is = absurd (cc is)
 dma_asks : (f : List ℕ) (dma : Dma) → dma_for f ≡ Some dma → IsDma dma
 dma_asks f dma is =
     one_of (field H2d Code f == 0xC8) (field H2d Code f == 0x25) (field H2d Code f == 0xCA) (field H2d Code f == 0x35)
-    (dma_of false (verify_28 f)) (dma_of false (verify_48 f)) (dma_of true (verify_28 f)) (dma_of true (verify_48 f)) dma
+    (dma_of false (sectors_28 f)) (dma_of false (sectors_48 f)) (dma_of true (sectors_28 f)) (dma_of true (sectors_48 f)) dma
     (asks_28 false f) (asks_48 false f) (asks_28 true f) (asks_48 true f) is
 
 -- ## The course of a FIS

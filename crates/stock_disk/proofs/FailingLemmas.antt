@@ -12,7 +12,7 @@ use Rattle.stock_disk.specs.Faces.{IsNext, StockValue, front_after, new_stock, v
 use Rattle.stock_disk.specs.Laws.{DmaFailureMovesNone, MayHappen, Runs, WaitsThrough}
 use Rattle.stock_disk.specs.Losses.{goes_by}
 use Rattle.stock_disk.specs.Moves.{data_out, data_sent}
-use Rattle.stock_disk.specs.Verifies.{fault_fields}
+use Rattle.stock_disk.specs.Sectors.{fault_fields}
 use Rattle.stock_disk.proofs.BegunLemmas.{begun, value_at-lists, waits_first}
 use Rattle.stock_disk.proofs.ServingLemmas.{IsServing, WaitsOn, finishes, hears_none, may_fail, received_on, runs_first, runs_later, sent_front, sent_value}
 

@@ -145,13 +145,6 @@ takes_dma old new bytes dma is rest asks same front =
 
 -- ## A FIS is sent
 
--- what is copied of the disk is the disk's
-pub shows_own : (known sectors : ℕ) (copy plan : DiskPlan) (own : Own) (bytes : List ℕ) → known ≡ sectors → copy ≡ plan
-    → Shows (own_sent known copy own) bytes → Shows (own_sent sectors plan own) bytes
-shows_own known sectors copy plan own bytes size same shows =
-    subst (λ (n : ℕ). Shows (own_sent n plan own) bytes) size
-    (subst (λ (p : DiskPlan). Shows (own_sent known p own) bytes) same shows)
-
 -- what may be sent now is what may be sent after the history
 may_send : (old : StockValue) (bytes : List ℕ) (h : List Happening) → IsNext old bytes → StockStandsFor old h
     → StockMaySend (stock_plan old) h bytes
@@ -168,8 +161,7 @@ sends_on old new bytes may on = record {
 
 -- the front's own answer is sent
 pub sends_own : (old new : StockValue) (bytes : List ℕ) (own : Own) → old.front.owed ≡ Some own
-    → Shows (own_sent old.disk.sectors old.disk.plan own) bytes → new.disk ≡ old.disk
-    → new.front ≡ answered old.front own
+    → Shows (own_sent old.disk own) bytes → new.disk ≡ old.disk → new.front ≡ answered old.front own (seen bytes)
     → SendsNext stock_plan StockStandsFor StockMaySend old bytes new
 sends_own old new bytes own is shows same front =
     sends_on old new bytes (rw is shows) (stays_outside old new (Sent bytes) (rw is refl) same (rw is front))

@@ -10,3 +10,5 @@ pub mod BegunLemmas
 pub mod ReadingLemmas
 pub mod WritingLemmas
 pub mod FailingLemmas
+pub mod AfterWriteLemmas
+pub mod SectorLemmas

@@ -12,9 +12,9 @@ use Rattle.stock_disk.specs.declared.front.Course.{Course}
 use Rattle.stock_disk.specs.declared.front.Course.TheVariants.{Answers, Serves, Loses, Passes}
 use Rattle.stock_disk.specs.declared.front.Front.{Front}
 use Rattle.stock_disk.specs.declared.front.Own.{Own}
-use Rattle.stock_disk.specs.declared.front.Own.TheVariants.{Done, Active, Aborted, Verifies, LogFollows, LogData}
+use Rattle.stock_disk.specs.declared.front.Own.TheVariants.{Aborted}
 use Rattle.stock_disk.specs.Faces.{StockValue, after_sent, front_after, value_after, value_at}
-use Rattle.stock_disk.specs.Fronts.{answered, asks_log, course, course_by, ended, heard, hears, named, own_to, passed, told}
+use Rattle.stock_disk.specs.Fronts.{asks_log, course, course_by, ended, heard, hears, named, owed_next, owes_or_ends, own_to, passed, told}
 use Rattle.stock_disk.specs.Laws.{ErrorsAbort, NoneEndsMode, ends_mode}
 
 -- a command is aborted in the error mode
@@ -67,18 +67,14 @@ told_keeps front (Ok (view.Payload f)) failed = search (rules, failed)
 told_keeps front (Ok (view.Unknown f)) failed = failed
 told_keeps front (Err e) failed = failed
 
-answered_keeps : (front : Front) (own : Own) → front.failed ≡ true → (answered front own).failed ≡ true
-answered_keeps front Done failed = failed
-answered_keeps front Active failed = failed
-answered_keeps front Aborted failed = failed
-answered_keeps front (Verifies v) failed = failed
-answered_keeps front (LogFollows log) failed = failed
-answered_keeps front (LogData log) failed = failed
+owes_failed : (front : Front) (next : Option Own) → front.failed ≡ true → (owes_or_ends front next).failed ≡ true
+owes_failed front (Some next) failed = failed
+owes_failed front None failed = failed
 
 sent_keeps : (front : Front) (owed : Option Own) (bytes : List ℕ) → front.failed ≡ true
     → (after_sent front owed bytes).failed ≡ true
 sent_keeps front None bytes failed = told_keeps front (seen bytes) failed
-sent_keeps front (Some own) bytes failed = answered_keeps front own failed
+sent_keeps front (Some own) bytes failed = owes_failed front (owed_next own (seen bytes)) failed
 
 -- what of a front never changes
 pub record Keeps (old new : Front) : Type 0 where
@@ -116,17 +112,13 @@ goes_keeps front (Ok (view.Payload f)) = record { on = search rules; plain = sea
 goes_keeps front (Ok (view.Unknown f)) = same front
 goes_keeps front (Err e) = same front
 
-own_keeps : (front : Front) (own : Own) → Keeps front (answered front own)
-own_keeps front Done = record { on = refl; plain = refl }
-own_keeps front Active = record { on = refl; plain = refl }
-own_keeps front Aborted = record { on = refl; plain = refl }
-own_keeps front (Verifies v) = record { on = refl; plain = refl }
-own_keeps front (LogFollows log) = record { on = refl; plain = refl }
-own_keeps front (LogData log) = record { on = refl; plain = refl }
+owes_keeps : (front : Front) (next : Option Own) → Keeps front (owes_or_ends front next)
+owes_keeps front (Some next) = record { on = refl; plain = refl }
+owes_keeps front None = record { on = refl; plain = refl }
 
 gone_keeps : (front : Front) (owed : Option Own) (bytes : List ℕ) → Keeps front (after_sent front owed bytes)
 gone_keeps front None bytes = goes_keeps front (seen bytes)
-gone_keeps front (Some own) bytes = own_keeps front own
+gone_keeps front (Some own) bytes = owes_keeps front (owed_next own (seen bytes))
 
 -- whether the front answers at all stays, and whether it serves DMA commands
 pub after_keeps : (s : StockValue) (e : Happening) → Keeps s.front (front_after s e)

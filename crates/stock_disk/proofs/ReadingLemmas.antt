@@ -219,7 +219,7 @@ read_ends s dma bytes sent medium can is same (IsOver over all) may ends =
     )
 
 -- the medium of a disk in a run
-medium_length : (plan : DiskPlan) (sectors : ℕ) (h later : List Happening) → IsStockRun plan sectors (h ++ later)
+pub medium_length : (plan : DiskPlan) (sectors : ℕ) (h later : List Happening) → IsStockRun plan sectors (h ++ later)
     → let d = (value_at (new_stock plan sectors) h).disk in
     IsSize d.plan d.sectors → length d.now.medium ≡ 512 * d.sectors
 medium_length plan sectors h later run size =
@@ -229,6 +229,12 @@ medium_length plan sectors h later run size =
     let here = subst (λ (x : DiskValue). IsSize x.plan x.sectors) at size in
     let is = agrees plan sectors (inside new h) here (inside_runs new h (runs_first new h later run)) in
     subst (λ (x : DiskValue). length x.now.medium ≡ 512 * x.sectors) (sym at) is.length_is
+
+-- the size of a disk in a run
+pub disk_size : (plan : DiskPlan) (sectors : ℕ) (h : List Happening) → IsSize plan sectors
+    → let d = (value_at (new_stock plan sectors) h).disk in IsSize d.plan d.sectors
+disk_size plan sectors h size =
+    subst (λ (x : DiskValue). IsSize x.plan x.sectors) (sym (disk_at (new_stock plan sectors) h)) size
 
 pub read_dma_brings : ReadDmaBrings
 unfolding value_at Runs

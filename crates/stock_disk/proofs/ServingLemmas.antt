@@ -23,13 +23,13 @@ use Rattle.stock_disk.specs.declared.front.Course.{Course}
 use Rattle.stock_disk.specs.declared.front.Course.TheVariants.{Answers, Serves, Loses, Passes}
 use Rattle.stock_disk.specs.declared.front.Front.{Front}
 use Rattle.stock_disk.specs.declared.front.Own.{Own}
-use Rattle.stock_disk.specs.declared.front.Own.TheVariants.{Done, Active, Aborted, Verifies, LogFollows, LogData}
 use Rattle.stock_disk.specs.Dmas.{as_queued, dma_fault}
 use Rattle.stock_disk.specs.Faces.{IsNext, ShowsOr, StockValue, after_sent, disk_after, front_after, inner_heard, inner_sent, made_next, new_stock, value_after, value_at}
-use Rattle.stock_disk.specs.Fronts.{answered, course, course_by, ended as ended_told, hears, is_idle, own_to, passed, passed_command, settles, told}
+use Rattle.stock_disk.specs.Fronts.{course, course_by, ended as ended_told, hears, is_idle, owed_next, owes_or_ends, own_to, passed, passed_command}
+use Rattle.stock_disk.specs.Fronts.{settles, told}
 use Rattle.stock_disk.specs.Laws.{DmaEnds, EndsOrWaits, IsEnd, IsMove, MayHappen, Runs, is_data}
 use Rattle.stock_disk.specs.Losses.{asked, begins, goes_by, goes_for, made_by, made_for, went_out}
-use Rattle.stock_disk.specs.Verifies.{fault_fields}
+use Rattle.stock_disk.specs.Sectors.{fault_fields}
 use Rattle.stock_disk.proofs.BareLemmas.{passed_serves, told_owes, told_serves}
 use Rattle.stock_disk.proofs.DmaLemmas.{serves_is}
 use Rattle.stock_disk.proofs.LossLemmas.{IsDma, Rests, at_rest, begins_is, goes_is}
@@ -408,18 +408,15 @@ hears_waits front fis Passes waits = passed_waits front fis waits
 owing_none : (front : Front) → front.owed ≡ None → OwesBusy front
 owing_none front none = λ own owed. absurd (cc (none, owed))
 
-answered_waits : (front : Front) (own : Own) → front.owed ≡ Some own → OwesBusy front → OwesBusy (answered front own)
-answered_waits front (LogFollows log) is waits = λ other owed. waits (LogFollows log) is
-answered_waits front Done is waits = λ other owed. absurd (cc owed)
-answered_waits front Active is waits = λ other owed. absurd (cc owed)
-answered_waits front Aborted is waits = λ other owed. absurd (cc owed)
-answered_waits front (Verifies v) is waits = λ other owed. absurd (cc owed)
-answered_waits front (LogData log) is waits = λ other owed. absurd (cc owed)
+owes_waits : (front : Front) (own : Own) (next : Option Own) → front.owed ≡ Some own → OwesBusy front
+    → OwesBusy (owes_or_ends front next)
+owes_waits front own (Some next) is waits = λ other owed. waits own is
+owes_waits front own None is waits = λ other owed. absurd (cc owed)
 
 sent_waits : (front : Front) (o : Option Own) (bytes : List ℕ) → front.owed ≡ o → OwesBusy front
     → OwesBusy (after_sent front o bytes)
 sent_waits front None bytes is waits = owing_none (told front (seen bytes)) (told_owes front (seen bytes) is)
-sent_waits front (Some own) bytes is waits = answered_waits front own is waits
+sent_waits front (Some own) bytes is waits = owes_waits front own (owed_next own (seen bytes)) is waits
 
 waits_after : (s : StockValue) (e : Happening) → OwesBusy s.front → OwesBusy (front_after s e)
 waits_after s (Received bytes) waits =
@@ -457,18 +454,14 @@ comes_free s bytes Loses low sound free is = served_none (comes s bytes Loses) f
 comes_free s bytes Passes low sound free is =
     served_none (comes s bytes Passes) (passed_serves s.front (seen bytes) free)
 
-answered_serves : (front : Front) (own : Own) → front.serving ≡ None → (answered front own).serving ≡ None
-answered_serves front Done none = none
-answered_serves front Active none = none
-answered_serves front Aborted none = none
-answered_serves front (Verifies v) none = none
-answered_serves front (LogFollows log) none = none
-answered_serves front (LogData log) none = none
+owes_serves : (front : Front) (next : Option Own) → front.serving ≡ None → (owes_or_ends front next).serving ≡ None
+owes_serves front (Some next) none = none
+owes_serves front None none = none
 
 sent_serves : (front : Front) (o : Option Own) (bytes : List ℕ) → front.serving ≡ None
     → (after_sent front o bytes).serving ≡ None
 sent_serves front None bytes none = told_serves front (seen bytes) none
-sent_serves front (Some own) bytes none = answered_serves front own none
+sent_serves front (Some own) bytes none = owes_serves front (owed_next own (seen bytes)) none
 
 served_after : (s : StockValue) (e : Happening) (o : Option Dma) → 512 ≤ s.disk.plan.chunk → IsSound s → s.front.serving ≡ o
     → MayHappen s e → AreServed (value_after s e)

@@ -7,19 +7,19 @@ use Rattle.disk_model.specs.Disks.{DiskValue}
 use Rattle.disk_model.specs.declared.answer.Fault.{Fault}
 use Rattle.disk_model.specs.declared.request.Command.{Command}
 use Rattle.stock_disk.specs.declared.dma.Dma.{Dma}
-use Rattle.stock_disk.specs.declared.verify.Verify.{Verify}
-use Rattle.stock_disk.specs.Verifies.{verify_28, verify_48}
+use Rattle.stock_disk.specs.declared.sectors.Sectors.{Sectors}
+use Rattle.stock_disk.specs.Sectors.{sectors_28, sectors_48}
 
 -- the sectors are named as those of a command that verifies them
-abbrev pub dma_of : (write : Bool) → Verify → Dma
+abbrev pub dma_of : (write : Bool) → Sectors → Dma
 dma_of write v = record { write = write; ext = v.ext; lba = v.lba; count = v.count }
 
 abbrev pub dma_for : List ℕ → Option Dma
 dma_for f =
-    (if field H2d Code f == 0xC8 then Some (dma_of false (verify_28 f))
-    else (if field H2d Code f == 0x25 then Some (dma_of false (verify_48 f))
-    else (if field H2d Code f == 0xCA then Some (dma_of true (verify_28 f))
-    else (if field H2d Code f == 0x35 then Some (dma_of true (verify_48 f)) else None))))
+    (if field H2d Code f == 0xC8 then Some (dma_of false (sectors_28 f))
+    else (if field H2d Code f == 0x25 then Some (dma_of false (sectors_48 f))
+    else (if field H2d Code f == 0xCA then Some (dma_of true (sectors_28 f))
+    else (if field H2d Code f == 0x35 then Some (dma_of true (sectors_48 f)) else None))))
 
 -- READ FPDMA QUEUED or WRITE FPDMA QUEUED of the same sectors, with tag 0
 abbrev pub as_queued : Dma → Command

@@ -30,7 +30,7 @@ pub record StockValue : Type 0 where
 
 -- a FIS was sent: the front's own answer, if it owed one, and else one of the disk, or in its place
 abbrev pub after_sent : Front → Option Own → List ℕ → Front
-after_sent front (Some own) bytes = answered front own
+after_sent front (Some own) bytes = answered front own (seen bytes)
 after_sent front None bytes = told front (seen bytes)
 
 abbrev pub front_after : StockValue → Happening → Front
@@ -94,7 +94,7 @@ pub record StockStandsFor (s : StockValue) (history : List Happening) : Type 0 w
 
 -- what the front makes next, none where the disk's own goes out
 abbrev pub made_next : DiskValue → Option Own → Option Dma → Option Sending
-made_next d (Some own) serving = Some (own_sent d.sectors d.plan own)
+made_next d (Some own) serving = Some (own_sent d own)
 made_next d None (Some dma) = made d dma
 made_next d None None = None
 
@@ -146,7 +146,7 @@ MaySendBy owed serving d = MakesOr (made_next d owed serving) d
 -- The bytes are the front's own answer, or else the disk sent them as its own call says. While the disk does a DMA
 -- command, the front may make them, and the disk goes on.
 abbrev pub GaveBy : Option Own → Option Dma → DiskValue → List ℕ → DiskValue → Type 0
-GaveBy (Some own) serving old bytes new = Shows (own_sent old.sectors old.plan own) bytes × (new ≡ old)
+GaveBy (Some own) serving old bytes new = Shows (own_sent old own) bytes × (new ≡ old)
 GaveBy None (Some dma) old bytes new =
     ShowsOr (made old dma) (turn old.plan old.sectors old.now) bytes × (new ≡ goes old dma)
 GaveBy None None old bytes new = SendsNext disk_plan DiskStandsFor DiskMaySend old bytes new

@@ -1,10 +1,10 @@
 -- What the front of a disk knows from the FISes on its link, and what it answers by itself (ACS-3, STANDBY
--- IMMEDIATE, IDLE IMMEDIATE, STANDBY, IDLE, CHECK POWER MODE, SLEEP, FLUSH CACHE, SET FEATURES, READ LOG EXT,
--- READ VERIFY SECTOR(S), READ VERIFY SECTOR(S) EXT, READ DMA, WRITE DMA; Serial ATA 3.x, 13.6, native command queuing). What the
--- host's registers tell of a disk is kept: BSY, which a command sets and its answer clears, and SActive, a bit
--- for each tag.
-use Rattle.std.specs.Prelude.{ℕ, ◌-◌, ◌/◌, ◌%◌, ◌^◌, ◌==◌, ◌&&◌, ◌||◌, nat_le, bit_and, bit_or, Bool, true}
-use Rattle.std.specs.Prelude.{false, not, List, if◌then◌else◌, Option, Some, None, Result, Ok, option_map}
+-- IMMEDIATE, IDLE IMMEDIATE, STANDBY, IDLE, CHECK POWER MODE, SLEEP, FLUSH CACHE, SET FEATURES, SMART, READ LOG EXT,
+-- READ LOG DMA EXT, READ SECTOR(S), READ VERIFY SECTOR(S), READ DMA, WRITE DMA; Serial ATA 3.x, 13.6, native command
+-- queuing). What the host's registers tell of a disk is kept: BSY, which a command sets and its answer clears, and
+-- SActive, a bit for each tag.
+use Rattle.std.specs.Prelude.{ℕ, ◌-◌, ◌/◌, ◌%◌, ◌^◌, ◌==◌, ◌&&◌, ◌||◌, nat_le, nat_lt, bit_and, bit_or, Bool}
+use Rattle.std.specs.Prelude.{true, false, not, List, if◌then◌else◌, Option, Some, None, Result, Ok, option_map}
 use Rattle.std.specs.Prelude.{is_some, is_none}
 use Rattle.fis_view.specs.Table.{H2d, D2h, Bits, C, Command, Features, Lba, Count, Control, Status, SActive}
 use Rattle.fis_view.specs.Table.{field}
@@ -15,40 +15,55 @@ use Rattle.disk_model.specs.declared.plan.DiskPlan.{DiskPlan}
 use Rattle.disk_model.specs.declared.plan.Profile.{Profile}
 use Rattle.disk_model.specs.declared.plan.Profile.TheVariants.{Bare, Stock}
 use Rattle.disk_model.specs.Requests.{names_error_log}
-use Rattle.disk_model.specs.Sendings.{Sending, Register, Carries, page_follows}
+use Rattle.disk_model.specs.Disks.{DiskValue}
+use Rattle.disk_model.specs.Sendings.{Sending, Register, Carries}
 use Rattle.stock_disk.specs.declared.dma.Dma.{Dma}
 use Rattle.stock_disk.specs.declared.front.Course.{Course}
 use Rattle.stock_disk.specs.declared.front.Course.TheVariants.{Answers, Serves, Loses, Passes}
 use Rattle.stock_disk.specs.declared.front.Front.{Front}
 use Rattle.stock_disk.specs.declared.front.Own.{Own}
-use Rattle.stock_disk.specs.declared.front.Own.TheVariants.{Done, Active, Aborted, Verifies, LogFollows, LogData}
+use Rattle.stock_disk.specs.declared.front.Own.TheVariants.{Done, Active, Healthy, Aborted, Verifies, Reads, Brings}
+use Rattle.stock_disk.specs.declared.front.Own.TheVariants.{LogFollows, LogData, LogMoves}
+use Rattle.stock_disk.specs.declared.log.Log.{Log}
+use Rattle.stock_disk.specs.declared.log.Log.TheVariants.{Health}
+use Rattle.stock_disk.specs.Blocks.{block_follows, first_sector, sector_follows}
 use Rattle.stock_disk.specs.Dmas.{dma_for}
 use Rattle.stock_disk.specs.Pages.{log_bytes, log_named}
-use Rattle.stock_disk.specs.Verifies.{verified, verify_28, verify_48}
+use Rattle.stock_disk.specs.Sectors.{rest_of, verified, sectors_28, sectors_48}
 
 -- ## What the front answers
 
--- a Register Device to Host FIS with I; LBA and Device are 0
-abbrev pub answer_with : (status error count : ℕ) → Sending
-answer_with status error count = Register (record {
+-- a Register Device to Host FIS with I; Device is 0
+abbrev pub answer_with : (status error lba count : ℕ) → Sending
+answer_with status error lba count = Register (record {
   pm_port = 0;
   i = true;
   status = status;
   error = error;
-  lba = 0;
+  lba = lba;
   device = 0;
   count = count;
 })
 
--- Count FFh says that the disk is active or idle (ACS-3, CHECK POWER MODE). 51h and 04h are ERR and ABRT.
--- A page of a log comes as those of the disk do: a PIO Setup, then Data.
-abbrev pub own_sent : (sectors : ℕ) (plan : DiskPlan) → Own → Sending
-own_sent sectors plan Done = answer_with 0x50 0 0
-own_sent sectors plan Active = answer_with 0x50 0 0xFF
-own_sent sectors plan Aborted = answer_with 0x51 4 0
-own_sent sectors plan (Verifies v) = Register (verified sectors plan v)
-own_sent sectors plan (LogFollows log) = page_follows
-own_sent sectors plan (LogData log) = Carries (log_bytes sectors plan log)
+-- the sector goes out if the disk has it
+abbrev pub brings : Bool → List ℕ → Sending
+brings true bytes = Carries bytes
+brings false bytes = answer_with 0x51 4 0 0
+
+-- Count FFh says that the disk is active or idle (ACS-3, CHECK POWER MODE). LBA 23:8 C24Fh says that no threshold is
+-- exceeded (SMART RETURN STATUS). 51h and 04h are ERR and ABRT. A page or a sector comes as pages of the disk do: a
+-- PIO Setup, then Data; or as Data alone if it is moved by DMA.
+abbrev pub own_sent : DiskValue → Own → Sending
+own_sent d Done = answer_with 0x50 0 0 0
+own_sent d Active = answer_with 0x50 0 0 0xFF
+own_sent d Healthy = answer_with 0x50 0 0xC24F00 0
+own_sent d Aborted = answer_with 0x51 4 0 0
+own_sent d (Verifies s) = Register (verified d.sectors d.plan s)
+own_sent d (Reads s) = sector_follows d s
+own_sent d (Brings s) = brings (nat_lt s.lba d.sectors) (first_sector d s)
+own_sent d (LogFollows log) = block_follows 0x50
+own_sent d (LogData log) = Carries (log_bytes d.sectors d.plan log)
+own_sent d (LogMoves log) = Carries (log_bytes d.sectors d.plan log)
 
 -- the number is from this one to that one
 abbrev pub is_from : (low high n : ℕ) → Bool
@@ -73,18 +88,34 @@ has_feature auto feature count =
 abbrev pub is_done : ℕ → Bool
 is_done code = is_from 0xE0 0xE3 code || (code == 0xE6) || (code == 0xE7)
 
--- READ LOG EXT of one page that the front has
-abbrev pub log_asked : List ℕ → Option Own
-log_asked f =
-    if field H2d Count f == 1 then option_map (λ log. LogFollows log) (log_named (field H2d Lba f % 0x10000))
-    else None
+-- the page of a log that READ LOG EXT or READ LOG DMA EXT reads, if it reads one that the front has
+abbrev pub log_asked : List ℕ → Option Log
+log_asked f = if field H2d Count f == 1 then log_named (field H2d Lba f % 0x10000) else None
 
--- the answer to READ LOG EXT and to the commands that verify sectors; none to any other
+-- What SMART does, by the low bytes of Features and Count: READ DATA, and the thresholds of older standards, of which
+-- there are none either; ENABLE OPERATIONS, which they are; autosave of attributes on or off; RETURN STATUS.
+abbrev pub smart_done : (feature count : ℕ) → Own
+smart_done feature count =
+    (if feature == 0xD0 || feature == 0xD1 then LogFollows Health
+    else (if feature == 0xD8 || (feature == 0xD2 && (count == 0 || count == 0xF1)) then Done
+    else (if feature == 0xDA then Healthy else Aborted)))
+
+-- LBA 23:8 is C24Fh in each of its commands
+abbrev pub smart_for : List ℕ → Own
+smart_for f =
+    if field H2d Lba f / 0x100 % 0x10000 == 0xC24F
+    then smart_done (field H2d Features f % 256) (field H2d Count f % 256) else Aborted
+
+-- The answer to the commands that read a log, read or verify sectors, or ask for SMART data; none to any other.
 abbrev pub read_for : List ℕ → Option Own
 read_for f =
-    (if field H2d Command f == 0x2F then log_asked f
-    else (if field H2d Command f == 0x40 then Some (Verifies (verify_28 f))
-    else (if field H2d Command f == 0x42 then Some (Verifies (verify_48 f)) else None)))
+    (if field H2d Command f == 0x2F then option_map (λ log. LogFollows log) (log_asked f)
+    else (if field H2d Command f == 0x47 then option_map (λ log. LogMoves log) (log_asked f)
+    else (if field H2d Command f == 0x20 then Some (Reads (sectors_28 f))
+    else (if field H2d Command f == 0x24 then Some (Reads (sectors_48 f))
+    else (if field H2d Command f == 0x40 then Some (Verifies (sectors_28 f))
+    else (if field H2d Command f == 0x42 then Some (Verifies (sectors_48 f))
+    else (if field H2d Command f == 0xB0 then Some (smart_for f) else None)))))))
 
 -- the answer to a command while nothing is outstanding; none to one that passes
 abbrev pub done_for : (auto : Bool) → List ℕ → Option Own
@@ -188,10 +219,22 @@ passed front _ = front
 abbrev pub owes : Front → Own → Front
 owes front own = record front { busy = true; owed = Some own }
 
--- Its own answer was sent. After the PIO Setup of a page it owes the page.
-abbrev pub answered : Front → Own → Front
-answered front (LogFollows log) = record front { owed = Some (LogData log) }
-answered front own = record front { busy = false; owed = None }
+-- What it owes next once its own answer was sent: a page or a sector behind its PIO Setup, the next sector behind one
+-- that was brought, and the Register FIS behind a page that was moved by DMA.
+abbrev pub owed_next : Own → Result Fis FisFault → Option Own
+owed_next (LogFollows log) fis = Some (LogData log)
+owed_next (LogMoves log) fis = Some Done
+owed_next (Reads s) (Ok (view.PioSetup f)) = Some (Brings s)
+owed_next (Brings s) (Ok (view.Payload f)) = option_map (λ rest. Reads rest) (rest_of s)
+owed_next own fis = None
+
+abbrev pub owes_or_ends : Front → Option Own → Front
+owes_or_ends front None = record front { busy = false; owed = None }
+owes_or_ends front (Some own) = record front { owed = Some own }
+
+-- its own answer was sent in this FIS
+abbrev pub answered : Front → Own → Result Fis FisFault → Front
+answered front own fis = owes_or_ends front (owed_next own fis)
 
 -- the disk does this command, which is not answered yet
 abbrev pub serves : Front → Dma → Front

@@ -1,6 +1,6 @@
 -- What holds of a disk behind its front over every list of events.
-use Rattle.std.specs.Prelude.{ℕ, ◌≡◌, ◌*◌, ◌/◌, ◌%◌, ◌==◌, ◌<◌, ◌≤◌, ◌⊎◌, Bool, true, false, List, [], ◌∷◌, ◌++◌, Some}
-use Rattle.std.specs.Prelude.{None, Option, Result, Ok, length, take, if◌then◌else◌}
+use Rattle.std.specs.Prelude.{ℕ, ◌≡◌, ◌+◌, ◌-◌, ◌*◌, ◌/◌, ◌%◌, ◌==◌, ◌<◌, ◌≤◌, ◌⊎◌, Bool, true, false, List, [], ◌∷◌, ◌++◌}
+use Rattle.std.specs.Prelude.{Some, None, Option, Result, Ok, length, map, take, drop, if◌then◌else◌}
 use Rattle.fis_view.specs.Seen.{seen}
 use Rattle.fis_view.specs.Table.{H2d, C, Control, field}
 use Rattle.fis_view.specs.declared.view.Fis.{Fis}
@@ -9,7 +9,7 @@ use Rattle.fis_view.specs.declared.view.FisFault.{FisFault}
 use Rattle.disk_model.specs.declared.answer.Fault.{Fault}
 use Rattle.disk_model.specs.declared.plan.DiskPlan.{DiskPlan}
 use Rattle.disk_model.specs.declared.plan.Profile.TheVariants.{Bare}
-use Rattle.disk_model.specs.Chunks.{put, sectors_at}
+use Rattle.disk_model.specs.Chunks.{fault_of, put, sectors_at}
 use Rattle.disk_model.specs.Disks.{DiskValue}
 use Rattle.disk_model.specs.Ends.{reports}
 use Rattle.disk_model.specs.Histories.{Happening, Received, Sent, Plugged}
@@ -19,12 +19,13 @@ use Rattle.disk_model.specs.Runs.{IsDiskRun}
 use Rattle.disk_model.specs.Sendings.{Activates, Register, Shows}
 use Rattle.stock_disk.specs.declared.dma.Dma.{Dma}
 use Rattle.stock_disk.specs.declared.front.Course.TheVariants.{Serves}
-use Rattle.stock_disk.specs.declared.front.Own.TheVariants.{Aborted}
+use Rattle.stock_disk.specs.declared.front.Own.TheVariants.{Aborted, Reads}
+use Rattle.stock_disk.specs.declared.sectors.Sectors.{Sectors}
 use Rattle.stock_disk.specs.Dmas.{dma_fault}
 use Rattle.stock_disk.specs.Faces.{IsNext, StockValue, front_after, inside, new_stock, value_after, value_at}
 use Rattle.stock_disk.specs.Fronts.{asks_log, course, own_to}
 use Rattle.stock_disk.specs.Moves.{data_arrived, data_sent}
-use Rattle.stock_disk.specs.Verifies.{fault_fields}
+use Rattle.stock_disk.specs.Sectors.{as_read, fault_fields}
 
 abbrev pub MayHappen : StockValue → Happening → Type 0
 MayHappen s (Sent bytes) = IsNext s bytes
@@ -75,6 +76,28 @@ ErrorsAbort =
     → s.front.owed ≡ None → reports (seen error) ≡ true → NoneEndsMode between → (field H2d C command == 1) ≡ true
     → asks_log command ≡ false
     → own_to (value_at s (Sent error ∷ between)).front (Ok (view.RegH2D command)) ≡ Some Aborted
+
+-- ## READ SECTORS
+
+-- these FISes go out, and nothing else happens
+abbrev pub all_sent : List (List ℕ) → List Happening
+all_sent frames = map (λ bytes. Sent bytes) frames
+
+-- the FISes brought these sectors, each byte once and in order; the command has ended, and the disk is as it was
+pub record BroughtSectors (s : StockValue) (span : Sectors) (frames : List (List ℕ)) (after : StockValue) : Type 0 where
+  pub sent : data_sent (all_sent frames) ≡ sectors_at s.disk.now.medium span.lba span.count
+  pub front : after.front ≡ record s.front { busy = false; owed = None }
+  pub disk : after.disk ≡ s.disk
+
+-- The front is to answer READ SECTORS of sectors that the disk can read. If two FISes for each of them go out next, they
+-- are these sectors behind their PIO Setups.
+abbrev pub ReadSectorsBring : Type 0
+ReadSectorsBring =
+    (plan : DiskPlan) (sectors : ℕ) (before : List Happening) (frames : List (List ℕ)) (span : Sectors)
+    → let s = value_at (new_stock plan sectors) before in
+    IsSize plan sectors → IsStockRun plan sectors (before ++ all_sent frames) → s.front.owed ≡ Some (Reads span)
+    → fault_of s.disk.plan s.disk.sectors (as_read span) ≡ None → 0 < span.count → length frames ≡ 2 * span.count
+    → BroughtSectors s span frames (value_at (new_stock plan sectors) (before ++ all_sent frames))
 
 -- ## DMA commands
 
@@ -184,6 +207,22 @@ WriteDmaWaits =
     → length (data_arrived dma.count between) < 512 * dma.count
     → (value_at (new_stock plan sectors) (before ++ (Received bytes ∷ between))).disk.now.medium
     ≡ (value_at (new_stock plan sectors) before).disk.now.medium
+
+-- A WRITE DMA that the disk can do has ended. If a READ DMA of some of its sectors begins while the medium is as the write
+-- left it, it brings the bytes that came for these sectors, whatever else comes and goes in between.
+abbrev pub ReadDmaFollowsWrite : Type 0
+ReadDmaFollowsWrite =
+    (plan : DiskPlan) (sectors : ℕ) (before : List Happening) (write : List ℕ) (writing : List Happening) (written : List ℕ)
+    (w : Dma) (middle : List Happening) (read : List ℕ) (reading : List Happening) (ending : List ℕ) (r : Dma)
+    → let new = new_stock plan sectors in
+    let end : List Happening = before ++ (Received write ∷ writing ++ Sent written ∷ []) in
+    IsSize plan sectors
+    → IsStockRun plan sectors ((end ++ middle) ++ (Received read ∷ reading ++ Sent ending ∷ []))
+    → BeginsAndEnds (value_at new before) write w None writing written → w.write ≡ true
+    → (value_at new (end ++ middle)).disk.now.medium ≡ (value_at new end).disk.now.medium
+    → BeginsAndEnds (value_at new (end ++ middle)) read r None reading ending → r.write ≡ false
+    → w.lba ≤ r.lba → r.lba + r.count ≤ w.lba + w.count
+    → data_sent reading ≡ take (512 * r.count) (drop (512 * (r.lba - w.lba)) (data_arrived w.count writing))
 
 -- nothing was sent in between, and the disk is as it was
 pub record MovesNone (s : StockValue) (between : List Happening) (after : StockValue) : Type 0 where

@@ -1,5 +1,6 @@
 pub mod Pages
-pub mod Verifies
+pub mod Sectors
+pub mod Blocks
 pub mod Dmas
 pub mod Fronts
 pub mod Losses

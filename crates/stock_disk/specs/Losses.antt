@@ -17,7 +17,7 @@ use Rattle.disk_model.specs.declared.disk.quiet.Due.TheVariants as due
 use Rattle.disk_model.specs.declared.request.Command.{Command}
 use Rattle.stock_disk.specs.declared.dma.Dma.{Dma}
 use Rattle.stock_disk.specs.Dmas.{as_queued, dma_fault}
-use Rattle.stock_disk.specs.Verifies.{fault_fields}
+use Rattle.stock_disk.specs.Sectors.{fault_fields}
 
 -- ## Bytes
 

@@ -268,7 +268,7 @@ impl Device for StockDisk {
         match self.front.owed {
             Some(own) => {
                 let frame = own.frame(alloc, &self.disk, self.sectors, &self.plan, stamp)?;
-                self.front = self.front.answered(own);
+                self.front = self.front.answered(own, &frame.fis());
                 Ok(Some(frame))
             }
             None => {

@@ -3,9 +3,9 @@
 ghost use Rattle.std.specs.Prelude.{◌≡◌, IfOk};
 ghost use Rattle.disk_model.specs.Sendings.{Register, Shows};
 ghost use Rattle.stock_disk.specs.Dmas.{as_queued, dma_for, dma_of};
-ghost use Rattle.stock_disk.specs.Verifies.{fault_fields};
+ghost use Rattle.stock_disk.specs.Sectors.{fault_fields};
 
-use crate::verify::{Verify, fault_fields};
+use crate::sectors::{Sectors, fault_fields};
 use disk_model::{Command, Fault};
 use fis_view::{Frame, RegH2D, Stamp, d2h};
 use std::alloc::{AllocError, Global};
@@ -25,7 +25,7 @@ pub struct Dma {
 
 impl Dma {
     /// A command for these sectors.
-    fn of(write: bool, sectors: Verify) -> Dma
+    fn of(write: bool, sectors: Sectors) -> Dma
         ensures { result ≡ dma_of write sectors }
     {
         Dma {
@@ -41,10 +41,10 @@ impl Dma {
         ensures { result ≡ dma_for fis.now }
     {
         match fis.command() {
-            0xC8 => Some(Dma::of(false, Verify::with_28_bits(fis))),
-            0x25 => Some(Dma::of(false, Verify::with_48_bits(fis))),
-            0xCA => Some(Dma::of(true, Verify::with_28_bits(fis))),
-            0x35 => Some(Dma::of(true, Verify::with_48_bits(fis))),
+            0xC8 => Some(Dma::of(false, Sectors::with_28_bits(fis))),
+            0x25 => Some(Dma::of(false, Sectors::with_48_bits(fis))),
+            0xCA => Some(Dma::of(true, Sectors::with_28_bits(fis))),
+            0x35 => Some(Dma::of(true, Sectors::with_48_bits(fis))),
             _ => None,
         }
     }

@@ -4,18 +4,20 @@
 ghost use Rattle.std.specs.Prelude.{◌≡◌, IfOk, false, true};
 ghost use Rattle.stock_disk.specs.Fronts.{answer_to, answer_with, answered, asks_log, command_course, course};
 ghost use Rattle.stock_disk.specs.Fronts.{dma_to, done_for, ended, failing, has_feature, is_done, is_idle, is_mode};
-ghost use Rattle.stock_disk.specs.Fronts.{log_asked, named, opening, own_sent, own_to, passed, passed_command};
-ghost use Rattle.stock_disk.specs.Fronts.{passed_control, read_for, serves, settles, tags_of, told};
+ghost use Rattle.stock_disk.specs.Fronts.{log_asked, named, opening, owed_next, own_sent, own_to, passed};
+ghost use Rattle.stock_disk.specs.Fronts.{passed_command, passed_control, read_for, serves, settles, smart_done};
+ghost use Rattle.stock_disk.specs.Fronts.{smart_for, tags_of, told};
 ghost use Rattle.disk_model.specs.Sendings.{Register, Shows};
 
+use crate::block::setup_frame;
 use crate::dma::Dma;
-use crate::log::{Log, setup_frame};
-use crate::verify::Verify;
+use crate::log::Log;
+use crate::sectors::Sectors;
 use disk_model::{Disk, DiskPlan, Profile};
 use fis_view::{D2hFields, Fis, FisFault, Frame, RegD2H, RegH2D, SetBits, Stamp, d2h};
 use std::alloc::{AllocError, Global};
 
-/// A FIS of the front itself, which answers a command: a Register Device to Host FIS, or for a page of a log its
+/// A FIS of the front itself, which answers a command: a Register Device to Host FIS, or for a page or a sector its
 /// PIO Setup and its Data.
 #[derive(Clone, Copy, Debug, PartialEq, Eq)]
 pub enum Own {
@@ -23,14 +25,22 @@ pub enum Own {
     Done,
     /// The command ended: the disk is active or idle.
     Active,
+    /// The command ended: no threshold of SMART is exceeded.
+    Healthy,
     /// The command was aborted.
     Aborted,
     /// The command verifies sectors. It ended, or it failed if they cannot be read.
-    Verifies(Verify),
-    /// A page of a log follows.
+    Verifies(Sectors),
+    /// The command reads sectors. The first of these follows, or it failed if they cannot be read.
+    Reads(Sectors),
+    /// The first of these sectors.
+    Brings(Sectors),
+    /// A page follows.
     LogFollows(Log),
-    /// A page of a log.
+    /// A page.
     LogData(Log),
+    /// A page that is moved by DMA. The Register FIS that ends its command follows.
+    LogMoves(Log),
 }
 
 /// What is done with a FIS of the host.
@@ -99,27 +109,53 @@ fn is_done(code: u8) -> bool
     matches!(code, 0xE0..=0xE3 | 0xE6 | 0xE7)
 }
 
-/// The answer to READ LOG EXT, None if the front has no such page.
-fn log_asked(fis: &RegH2D<'_>) -> Option<Own>
+/// The page that READ LOG EXT or READ LOG DMA EXT reads, None if the front has no such page.
+fn log_asked(fis: &RegH2D<'_>) -> Option<Log>
     ensures { result ≡ log_asked fis.now }
 {
-    if fis.count() != 1 {
-        return None;
-    }
-    match Log::named((fis.lba() % 0x1_0000) as u16) {
-        Some(log) => Some(Own::LogFollows(log)),
-        None => None,
+    if fis.count() == 1 {
+        Log::named((fis.lba() % 0x1_0000) as u16)
+    } else {
+        None
     }
 }
 
-/// The answer to a command that reads a log or verifies sectors, None for any other.
+/// The answer to SMART with this Features and Count.
+fn smart_done(feature: u8, count: u8) -> Own
+    ensures { result ≡ smart_done feature count }
+{
+    match feature {
+        0xD0 | 0xD1 => Own::LogFollows(Log::Health),
+        0xD8 => Own::Done,
+        0xD2 if count == 0 || count == 0xF1 => Own::Done,
+        0xDA => Own::Healthy,
+        _ => Own::Aborted,
+    }
+}
+
+/// The answer to SMART.
+fn smart_for(fis: &RegH2D<'_>) -> Own
+    ensures { result ≡ smart_for fis.now }
+{
+    if fis.lba() / 0x100 % 0x1_0000 == 0xC24F {
+        smart_done((fis.features() % 256) as u8, (fis.count() % 256) as u8)
+    } else {
+        Own::Aborted
+    }
+}
+
+/// The answer to a command that reads a log, reads or verifies sectors or asks for SMART data, None for any other.
 fn read_for(fis: &RegH2D<'_>) -> Option<Own>
     ensures { result ≡ read_for fis.now }
 {
     match fis.command() {
-        0x2F => log_asked(fis),
-        0x40 => Some(Own::Verifies(Verify::with_28_bits(fis))),
-        0x42 => Some(Own::Verifies(Verify::with_48_bits(fis))),
+        0x2F => Some(Own::LogFollows(log_asked(fis)?)),
+        0x47 => Some(Own::LogMoves(log_asked(fis)?)),
+        0x20 => Some(Own::Reads(Sectors::with_28_bits(fis))),
+        0x24 => Some(Own::Reads(Sectors::with_48_bits(fis))),
+        0x40 => Some(Own::Verifies(Sectors::with_28_bits(fis))),
+        0x42 => Some(Own::Verifies(Sectors::with_48_bits(fis))),
+        0xB0 => Some(smart_for(fis)),
         _ => None,
     }
 }
@@ -326,20 +362,17 @@ impl Front {
         }
     }
 
-    /// The front once its own answer was sent. After the PIO Setup of a page it owes the page.
-    pub(crate) fn answered(self, own: Own) -> Front
-        ensures { result ≡ answered self own }
+    /// The front once its own answer was sent in this FIS.
+    pub(crate) fn answered(self, own: Own, fis: &Result<Fis<'_>, FisFault>) -> Front
+        ensures { result ≡ answered self own fis.now }
     {
-        match own {
-            Own::LogFollows(log) => Front {
-                owed: Some(Own::LogData(log)),
-                ..self
-            },
-            _ => Front {
+        match own.next(fis) {
+            None => Front {
                 busy: false,
                 owed: None,
                 ..self
             },
+            owed => Front { owed, ..self },
         }
     }
 
@@ -403,15 +436,16 @@ impl Front {
     }
 }
 
-/// A Register Device to Host FIS with I. LBA and Device are 0.
+/// A Register Device to Host FIS with I. Device is 0.
 fn answer_frame(
     alloc: Global,
     status: u8,
     error: u8,
+    lba: u64,
     count: u16,
     stamp: Stamp,
 ) -> Result<Frame, AllocError>
-    ensures shows { IfOk result (λ f. Shows (answer_with status error count) f.bytes) }
+    ensures shows { IfOk result (λ f. Shows (answer_with status error lba count) f.bytes) }
     ensures stamp { IfOk result (λ f. f.stamp ≡ stamp) }
 {
     let fields = D2hFields {
@@ -419,14 +453,45 @@ fn answer_frame(
         i: true,
         status,
         error,
-        lba: 0,
+        lba,
         device: 0,
         count,
     };
     d2h(alloc, &fields, stamp)
 }
 
+/// The next of these sectors, None if there is none. If it is none of the disk's, the command is aborted.
+fn sector_frame(
+    alloc: Global,
+    span: Sectors,
+    disk: &Disk,
+    sectors: u32,
+    stamp: Stamp,
+) -> Result<Frame, AllocError>
+    requires { sectors ≡ disk.now.sectors }
+    ensures shows { IfOk result (λ f. Shows (own_sent disk.now (Own.Brings span)) f.bytes) }
+    ensures stamp { IfOk result (λ f. f.stamp ≡ stamp) }
+{
+    match span.bring(alloc, disk, sectors, stamp)? {
+        Some(frame) => Ok(frame),
+        None => answer_frame(alloc, 0x51, 4, 0, 0, stamp),
+    }
+}
+
 impl Own {
+    /// What is owed once this was sent in this FIS.
+    fn next(self, fis: &Result<Fis<'_>, FisFault>) -> Option<Own>
+        ensures { result ≡ owed_next self fis.now }
+    {
+        match (self, fis) {
+            (Own::LogFollows(log), _) => Some(Own::LogData(log)),
+            (Own::LogMoves(_), _) => Some(Own::Done),
+            (Own::Reads(span), Ok(Fis::PioSetup(_))) => Some(Own::Brings(span)),
+            (Own::Brings(span), Ok(Fis::Payload(_))) => Some(Own::Reads(span.rest()?)),
+            _ => None,
+        }
+    }
+
     /// The FIS, before this disk, which has this many sectors and this plan.
     pub(crate) fn frame(
         self,
@@ -438,16 +503,19 @@ impl Own {
     ) -> Result<Frame, AllocError>
         requires sectors { sectors ≡ disk.now.sectors }
         requires plan { plan.now ≡ disk.now.plan }
-        ensures shows { IfOk result (λ f. Shows (own_sent sectors plan.now self) f.bytes) }
+        ensures shows { IfOk result (λ f. Shows (own_sent disk.now self) f.bytes) }
         ensures stamp { IfOk result (λ f. f.stamp ≡ stamp) }
     {
         match self {
-            Own::Done => answer_frame(alloc, 0x50, 0, 0, stamp),
-            Own::Active => answer_frame(alloc, 0x50, 0, 0xFF, stamp),
-            Own::Aborted => answer_frame(alloc, 0x51, 4, 0, stamp),
-            Own::Verifies(verify) => d2h(alloc, &verify.answer(disk), stamp),
-            Own::LogFollows(_) => setup_frame(alloc, stamp),
-            Own::LogData(log) => log.frame(alloc, sectors, plan, stamp),
+            Own::Done => answer_frame(alloc, 0x50, 0, 0, 0, stamp),
+            Own::Active => answer_frame(alloc, 0x50, 0, 0, 0xFF, stamp),
+            Own::Healthy => answer_frame(alloc, 0x50, 0, 0xC2_4F00, 0, stamp),
+            Own::Aborted => answer_frame(alloc, 0x51, 4, 0, 0, stamp),
+            Own::Verifies(span) => d2h(alloc, &span.answer(disk), stamp),
+            Own::Reads(span) => span.follow(alloc, disk, stamp),
+            Own::Brings(span) => sector_frame(alloc, span, disk, sectors, stamp),
+            Own::LogFollows(_) => setup_frame(alloc, 0x50, stamp),
+            Own::LogData(log) | Own::LogMoves(log) => log.frame(alloc, sectors, plan, stamp),
         }
     }
 }

@@ -3,26 +3,28 @@
 //! A [`StockDisk`] is a [`Disk`](disk_model::Disk) behind a front. If the disk's plan has the stock profile,
 //! the front answers by itself what the disk leaves unanswered or refuses: commands while an error's log has
 //! not been read, which it aborts; commands of power management and of settings, which it ends without an
-//! effect; commands that verify sectors; and reads of two logs. The disk does a DMA command as a queued one, and the
-//! front speaks for it. All else passes, and the disk hears it as it came. So what the laws of `disk_model` say holds
-//! of the disk inside: [`inside_is_a_disk`]. [`errors_abort_commands`] says what comes of commands after an
-//! error, [`dma_commands_end`] what goes out for a DMA command, and [`dma_commands_move_their_bytes`] which bytes it moves.
-//! A disk without the profile is as it is alone: [`bare_disks_have_no_front`].
+//! effect; commands that read sectors by PIO or verify them; SMART; and reads of two logs. The disk does a DMA
+//! command as a queued one, and the front speaks for it. All else passes, and the disk hears it as it came. So
+//! what the laws of `disk_model` say holds of the disk inside: [`inside_is_a_disk`]. [`errors_abort_commands`]
+//! says what comes of commands after an error, [`dma_commands_end`] what goes out for a DMA command, and
+//! [`dma_commands_move_their_bytes`] which bytes it moves. A disk without the profile is as it is alone:
+//! [`bare_disks_have_no_front`].
 #![tactic(auto)]
 
+mod block;
 mod disk;
 mod dma;
 mod front;
 mod laws;
 mod log;
-mod verify;
+mod sectors;
 
 pub use disk::StockDisk;
 pub use dma::Dma;
 pub use front::{Front, Own};
 pub use laws::{
     bare_disks_have_no_front, dma_commands_end, dma_commands_move_their_bytes,
-    errors_abort_commands, inside_is_a_disk,
+    errors_abort_commands, inside_is_a_disk, read_sectors_brings,
 };
 pub use log::Log;
-pub use verify::Verify;
+pub use sectors::Sectors;

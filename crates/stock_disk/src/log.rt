@@ -1,16 +1,17 @@
-//! The pages of logs that the front gives by itself (ACS-3, READ LOG EXT, General Purpose Log Directory, IDENTIFY
-//! DEVICE data log).
+//! The pages that the front gives by itself (ACS-3, READ LOG EXT, General Purpose Log Directory, IDENTIFY DEVICE data
+//! log, SMART READ DATA).
 
 ghost use Rattle.std.specs.Prelude.{◌≡◌, ◌≤◌, ◌%◌, IfOk, OnOk, length, vec_len};
 ghost use Rattle.disk_model.specs.Pages.{filled_to};
-ghost use Rattle.disk_model.specs.Sendings.{Carries, Shows, page_follows};
-ghost use Rattle.stock_disk.specs.Pages.{directory, log_bytes, log_named, page_list};
+ghost use Rattle.disk_model.specs.Sendings.{Carries, Shows};
+ghost use Rattle.stock_disk.specs.Pages.{directory, log_bytes, log_named, page_list, smart_data};
 
+use crate::block::data_frame;
 use disk_model::{DiskPlan, Page};
-use fis_view::{Frame, FrameError, PioSetupFields, Stamp, payload, pio_setup};
+use fis_view::{Frame, Stamp};
 use std::alloc::{AllocError, Global};
 
-/// A page of a log, 512 bytes.
+/// A page of 512 bytes: of a log, or of SMART data.
 #[derive(Clone, Copy, Debug, PartialEq, Eq)]
 pub enum Log {
     /// Log 00h: how many pages each log has.
@@ -19,6 +20,8 @@ pub enum Log {
     PageList,
     /// Page 01h of log 30h: the IDENTIFY DEVICE data.
     Identity,
+    /// The SMART data.
+    Health,
 }
 
 /// Appends zeros up to this length.
@@ -62,37 +65,18 @@ fn page_list_page(alloc: Global) -> Result<Vec<u8>, AllocError>
     Ok(page)
 }
 
-/// The PIO Setup of a page.
-pub(crate) fn setup_frame(alloc: Global, stamp: Stamp) -> Result<Frame, AllocError>
-    ensures shows { IfOk result (λ f. Shows page_follows f.bytes) }
-    ensures stamp { IfOk result (λ f. f.stamp ≡ stamp) }
+/// The SMART data.
+#[tactic(auto, unfolding(crate::specs::Pages::smart_data))]
+fn smart_page(alloc: Global) -> Result<Vec<u8>, AllocError>
+    ensures items { IfOk result (λ page. page.items ≡ smart_data) }
+    ensures len { IfOk result (λ page. vec_len page ≡ 512) }
 {
-    let fields = PioSetupFields {
-        pm_port: 0,
-        i: true,
-        d: true,
-        status: 0x58,
-        error: 0,
-        lba: 0,
-        device: 0,
-        count: 0,
-        e_status: 0x50,
-        transfer: 512,
-    };
-    pio_setup(alloc, &fields, stamp)
-}
-
-/// The Data FIS of a page.
-fn data_frame(alloc: Global, bytes: &[u8], stamp: Stamp) -> Result<Frame, AllocError>
-    requires { length bytes.now ≡ 512 }
-    ensures shows { IfOk result (λ f. Shows (Carries bytes.now) f.bytes) }
-    ensures stamp { IfOk result (λ f. f.stamp ≡ stamp) }
-{
-    match payload(alloc, 0, bytes, stamp) {
-        Ok(frame) => Ok(frame),
-        Err(FrameError::OutOfMemory) => Err(AllocError),
-        Err(FrameError::BadLength) => unreachable!(),
-    }
+    let mut page = Vec::with_capacity(alloc, 512)?;
+    page.push(0x10)?;
+    fill(&mut page, 511)?;
+    // the checksum
+    page.push(0xF0)?;
+    Ok(page)
 }
 
 impl Log {
@@ -117,6 +101,7 @@ impl Log {
             Log::Directory => directory_page(alloc),
             Log::PageList => page_list_page(alloc),
             Log::Identity => Page::Identity.bytes(alloc, sectors, plan),
+            Log::Health => smart_page(alloc),
         }
     }
 

@@ -3,6 +3,8 @@
 mod dma;
 mod errors;
 mod logs;
+mod reads;
 mod settings;
+mod smart;
 mod steps;
 mod verifies;

@@ -291,10 +291,10 @@ fn a_block_has_two_ends(rt: HostRuntime) -> Result<(), FlatError> {
     Ok(())
 }
 
-/// Whether a table gives its first move, or memory is refused.
+/// Whether a table was read, and gives its first move.
 fn is_table(read: Result<GuestTable, TableError>) -> bool {
     match read {
-        Err(error) => error == TableError::OutOfMemory,
+        Err(_) => false,
         Ok(table) => {
             table.keeps_rules();
             table.moves(0, 4).next() == Some(to(0, 0, 1))
@@ -302,15 +302,12 @@ fn is_table(read: Result<GuestTable, TableError>) -> bool {
     }
 }
 
-/// If an allocation is refused, that is the answer.
 #[test]
-fn memory_may_be_refused(rt: HostRuntime) {
+fn memory_that_is_there_is_found(rt: HostRuntime) -> Result<(), FlatError> {
     bytes_go_only_to_their_table();
-    let is_answered = match FlatGuest::new(rt.alloc(), 0, 64) {
-        Err(error) => error == FlatError::OutOfMemory,
-        Ok(guest) => is_table(GuestTable::read(rt.alloc(), &guest, 0, 4, 4)),
-    };
-    assert!(rt; is_answered);
+    let guest = FlatGuest::new(rt.alloc(), 0, 64)?;
+    assert!(rt; is_table(GuestTable::read(rt.alloc(), &guest, 0, 4, 4)));
+    Ok(())
 }
 
 #[test]

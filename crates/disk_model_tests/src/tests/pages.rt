@@ -148,7 +148,7 @@ fn identify(rt: HostRuntime) -> Result<(), DiskError> {
 
 /// Words of the stock profile: their numbers, and what a disk with 43,981 sectors and the serial
 /// number 12AB34CDh has in them.
-static STOCK: [(u8, u16); 27] = [
+static STOCK: [(u8, u16); 29] = [
     (0, 0x0040),
     (10, 0x4745),
     (11, 0x4653),
@@ -171,7 +171,9 @@ static STOCK: [(u8, u16); 27] = [
     (75, 0x001F),
     (76, 0x010E),
     (80, 0x01F0),
+    (82, 1),
     (83, 0x4000),
+    (85, 1),
     (88, 0x407F),
     (100, 0xABCD),
     (217, 1),

@@ -216,21 +216,17 @@ fn play(rt: &impl Abort, alloc: Global, steps: &[Step]) -> Result<(), Fail> {
     Ok(())
 }
 
-/// Whether there is a memory of a size, in its two areas. Memory that is refused tells nothing.
-fn has_areas(alloc: Global, len: u32) -> bool {
-    match HostMemory::new(alloc, len) {
-        Ok(memory) => {
-            memory.structure().len() == 1_048_576
-                && memory.client().len() == (len as usize).saturating_sub(1_048_576)
-        }
-        // Where an allocation is made to fail.
-        Err(error) => error == MemoryError::OutOfMemory,
-    }
+/// Whether a memory of a size has its two areas.
+fn has_areas(alloc: Global, len: u32) -> Result<bool, MemoryError> {
+    let memory = HostMemory::new(alloc, len)?;
+    let client = (len as usize).saturating_sub(1_048_576);
+    Ok(memory.structure().len() == 1_048_576 && memory.client().len() == client)
 }
 
 #[test]
-fn finds_memory_that_is_there(rt: HostRuntime) {
-    assert!(rt; has_areas(rt.alloc(), 2_097_152) && has_areas(rt.alloc(), 16_777_216));
+fn finds_memory_that_is_there(rt: HostRuntime) -> Result<(), MemoryError> {
+    assert!(rt; has_areas(rt.alloc(), 2_097_152)? && has_areas(rt.alloc(), 16_777_216)?);
+    Ok(())
 }
 
 fn is_bad_size(alloc: Global, len: u32) -> bool {

@@ -7,7 +7,7 @@ use Rattle.std.specs.List.{list_any}
 use Rattle.std.proofs.lemmas.Bool.{cases_Bool, cases_eq, false≢true, eq-eqb, eqb-true, and_parts, and_from, not-false, true≢false, false_from_ne_true, true_from_ne_false}
 use Rattle.std.proofs.lemmas.Option.{same_Some}
 use Rattle.fis_view.specs.Frames.{Stamped, marked}
-use Rattle.fis_view.specs.Table.{C, Command, Count, H2d, field}
+use Rattle.fis_view.specs.Table.{C, Command, Count, Features, H2d, field}
 use Rattle.fis_view.proofs.Door.{is_marked_from}
 use Rattle.slots.specs.Slots.{match_some}
 use Rattle.slots.specs.declared.work.Kind.{Kind}
@@ -117,13 +117,15 @@ same_request (x ∷ y ∷ bytes) =
     let m = is_marked_from (x ∷ y ∷ bytes) 0 (omega arith) (omega arith) in
     let c = m.fields H2d C (λ wrong. absurd (cc)) in
     let command = m.fields H2d Command (λ wrong. absurd (cc)) in
+    let features = m.fields H2d Features (λ wrong. absurd (cc)) in
     let count = m.fields H2d Count (λ wrong. absurd (cc)) in
-    by_type (λ request. is_asked (kind_of request)) (x == 0x27) (request_in (marked (x ∷ y ∷ bytes) 0)) (request_in (x ∷ y ∷ bytes)) (ap (λ (k : ℕ). is_asked (kind_by (k == 1) (field H2d Command (marked (x ∷ y ∷ bytes) 0)) (field H2d Count (marked (x ∷ y ∷ bytes) 0)))) c
-    ∙ ap (λ (k : ℕ). is_asked (kind_by (field H2d C (x ∷ y ∷ bytes) == 1) k (field H2d Count (marked (x ∷ y ∷ bytes) 0)))) command
-    ∙ ap (λ (k : ℕ). is_asked (kind_by (field H2d C (x ∷ y ∷ bytes) == 1) (field H2d Command (x ∷ y ∷ bytes)) k)) count)
+    by_type (λ request. is_asked (kind_of request)) (x == 0x27) (request_in (marked (x ∷ y ∷ bytes) 0)) (request_in (x ∷ y ∷ bytes)) (ap (λ (k : ℕ). is_asked (kind_by (k == 1) (field H2d Command (marked (x ∷ y ∷ bytes) 0)) (field H2d Features (marked (x ∷ y ∷ bytes) 0)) (field H2d Count (marked (x ∷ y ∷ bytes) 0)))) c
+    ∙ ap (λ (k : ℕ). is_asked (kind_by (field H2d C (x ∷ y ∷ bytes) == 1) k (field H2d Features (marked (x ∷ y ∷ bytes) 0)) (field H2d Count (marked (x ∷ y ∷ bytes) 0)))) command
+    ∙ ap (λ (k : ℕ). is_asked (kind_by (field H2d C (x ∷ y ∷ bytes) == 1) (field H2d Command (x ∷ y ∷ bytes)) k (field H2d Count (marked (x ∷ y ∷ bytes) 0)))) features
+    ∙ ap (λ (k : ℕ). is_asked (kind_by (field H2d C (x ∷ y ∷ bytes) == 1) (field H2d Command (x ∷ y ∷ bytes)) (field H2d Features (x ∷ y ∷ bytes)) k)) count)
   where
-    kind_by : Bool → ℕ → ℕ → Kind
-    kind_by b command count = if b then kind_of_command command count else Control
+    kind_by : Bool → (command features count : ℕ) → Kind
+    kind_by b command features count = if b then kind_of_command command features count else Control
 
     by_type : {X : Type 0} (asks : X → Bool) (b : Bool) (r q : X) → asks r ≡ asks q → match_some (if b then Some r else None) false asks ≡ match_some (if b then Some q else None) false asks
     by_type asks true r q e = e

@@ -39,6 +39,8 @@ pub(super) enum Step {
     Commands(u8),
     /// SET FEATURES is given: its Features and its Count.
     Sets(u16, u16),
+    /// SMART is given: its Features, its LBA and its Count.
+    Smart(u16, u64, u16),
     /// A command is given: its code, its Device, its sector and its Count.
     Asks(u8, u8, u64, u16),
     /// Data of this many bytes is given, all of which are this one.
@@ -75,6 +77,7 @@ fn given(step: Step) -> Option<H2dFields> {
         Step::Reads(tag, lba) => Some(command(0x60, 1, lba, 8 * tag as u16)),
         Step::Commands(code) => Some(command(code, 0, 0, 0)),
         Step::Sets(features, count) => Some(command(0xEF, features, 0, count)),
+        Step::Smart(features, lba, count) => Some(command(0xB0, features, lba, count)),
         Step::Asks(code, device, lba, count) => Some(H2dFields {
             device,
             ..command(code, 0, lba, count)

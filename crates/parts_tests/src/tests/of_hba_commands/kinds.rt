@@ -31,7 +31,7 @@ fn work(rig: &Rig, armed: bool) -> Option<Work> {
 
 /// Commands, the bytes of their PRD, whether they are armed, and what is read of them. READ LOG EXT with another count is
 /// treated like any other command.
-static KINDS: [(Given, u32, bool, Kind, u32); 11] = [
+static KINDS: [(Given, u32, bool, Kind, u32); 16] = [
     ((14, true, 0x60, 16, 24), 8192, true, Kind::QueuedRead, 8192),
     (
         (2, true, 0x61, 256, 24),
@@ -58,6 +58,11 @@ static KINDS: [(Given, u32, bool, Kind, u32); 11] = [
         0x2_0000,
     ),
     ((2, true, 0x30, 0, 1), 512, false, Kind::PioOut, 512),
+    ((2, true, 0x47, 0, 1), 512, false, Kind::DmaIn, 512),
+    ((2, true, 0xB0, 0xD0, 0), 512, false, Kind::PioIn, 512),
+    ((2, true, 0xB0, 0xD5, 2), 1024, false, Kind::PioIn, 1024),
+    ((2, true, 0xB0, 0xD6, 1), 512, false, Kind::PioOut, 512),
+    ((2, true, 0xB0, 0xDA, 1), 0, false, Kind::NoData, 0),
     ((15, true, 0x2F, 0, 2), 0, false, Kind::NoData, 0),
     ((15, true, 0xE4, 2, 1), 0, false, Kind::NoData, 0),
     ((15, false, 0x60, 16, 24), 0, false, Kind::Control, 0),

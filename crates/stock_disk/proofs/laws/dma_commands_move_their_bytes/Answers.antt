@@ -1,3 +1,4 @@
+use Rattle.stock_disk.proofs.AfterWriteLemmas.{read_dma_follows_write}
 use Rattle.stock_disk.proofs.FailingLemmas.{dma_failure_moves_none}
 use Rattle.stock_disk.proofs.ReadingLemmas.{read_dma_brings, read_dma_waits}
 use Rattle.stock_disk.proofs.WritingLemmas.{write_dma_puts, write_dma_waits}
@@ -9,5 +10,6 @@ returns c = record {
   reading = read_dma_waits;
   writes = write_dma_puts;
   writing = write_dma_waits;
+  after_write = read_dma_follows_write;
   failing = dma_failure_moves_none;
 }

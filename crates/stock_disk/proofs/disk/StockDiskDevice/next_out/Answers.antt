@@ -1,14 +1,13 @@
 use Rattle.std.proofs.Common.{◌∙◌, Option, refl, subst, sym}
 use Rattle.fis_view.specs.Frames.{Stamped}
 use Rattle.stock_disk.specs.Faces.{OutOf}
-use Rattle.stock_disk.proofs.HistoryLemmas.{gave_so, none_given, out_keeps, sends_out, sends_own, shows_own, silent_out}
+use Rattle.stock_disk.proofs.HistoryLemmas.{gave_so, none_given, out_keeps, sends_out, sends_own, silent_out}
 use Rattle.stock_disk.proofs.disk.StockDiskDevice.next_out.Goals as goal
 
 pub returns-in_ok-frame-in-Some-clause-sent : goal.returns-in_ok-frame-in-Some-clause-sent
 returns-in_ok-frame-in-Some-clause-sent c =
     rw (← c.self.view_is) (sends_own _ _ c.in_ok-frame-in-Some.frame.bytes c.in-Some.own c.in-Some.is
-    (shows_own _ c.self.inside.disk.sectors _ c.self.inside.disk.plan c.in-Some.own c.in_ok-frame-in-Some.frame.bytes
-    c.self.invariant.0 c.self.invariant.1 c.in_ok-frame-in-Some.ensures.shows) refl c.answered-self-inside.ensures)
+    c.in_ok-frame-in-Some.ensures.shows refl (rw (← c.fis.ensures.view) c.answered-self-inside.ensures))
 
 pub returns-in_default-clause-silent : goal.returns-in_default-clause-silent
 returns-in_default-clause-silent c =
@@ -35,7 +34,7 @@ returns-in-Some-2-clause-sent c =
     let new = c.next_of_disk.new.disk in
     let out = subst (λ (o : Option Stamped). OutOf serving d o new) c.in-Some-2.is c.in_ok-frame-in-None.ensures.out in
     rw (← c.self.view_is) (sends_out _ _ c.in-Some-2.frame serving c.in-None.is refl out
-    (rw (← c.fis.ensures.view) c.told-self-inside.ensures))
+    (rw (← c.fis-in-None.ensures.view) c.told-self-inside.ensures))
 
 pub returns-in-Some-2-clause-gave : goal.returns-in-Some-2-clause-gave
 returns-in-Some-2-clause-gave c =
@@ -44,4 +43,4 @@ returns-in-Some-2-clause-gave c =
     let new = c.next_of_disk.new.disk in
     let out = subst (λ (o : Option Stamped). OutOf serving d o new) c.in-Some-2.is c.in_ok-frame-in-None.ensures.out in
     rw (← c.self.view_is) (gave_so _ _ c.in-Some-2.frame c.in-None.is out
-    (rw (← c.fis.ensures.view) c.told-self-inside.ensures))
+    (rw (← c.fis-in-None.ensures.view) c.told-self-inside.ensures))
