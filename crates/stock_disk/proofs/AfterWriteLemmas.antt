@@ -1,16 +1,14 @@
 -- A READ DMA of sectors that a WRITE DMA wrote brings what came for them: ReadDmaFollowsWrite of specs/Laws.antt.
-use Rattle.std.proofs.Common.{◌≡◌, ◌+◌, ◌-◌, ◌*◌, ◌≤◌, ℕ, List, [], ◌∷◌, ◌++◌, length, take, drop, ap, sym, subst, ◌∙◌, arith, append_assoc, length-drop}
+use Rattle.std.proofs.Common.{◌≡◌, ◌+◌, ◌-◌, ◌*◌, ◌≤◌, ℕ, List, [], ◌∷◌, ◌++◌, length, take, drop, ap, sym, ◌∙◌, arith, append_assoc, length-drop}
 use Rattle.std.proofs.Math.Seq.{drop-append-add}
 use Rattle.std.proofs.lemmas.List.{drop-append-le, length-take-le, take-append-le}
 use Rattle.disk_model.specs.Chunks.{put, sectors_at}
-use Rattle.disk_model.specs.Disks.{DiskValue}
 use Rattle.disk_model.specs.Histories.{Happening, Received, Sent}
-use Rattle.disk_model.specs.Ledger.{IsSize}
 use Rattle.disk_model.proofs.Door.{can_be_done}
 use Rattle.stock_disk.specs.Dmas.{as_queued}
 use Rattle.stock_disk.specs.Faces.{new_stock, value_at}
-use Rattle.stock_disk.specs.Laws.{ReadDmaFollowsWrite, Runs}
-use Rattle.stock_disk.specs.Moves.{data_arrived, data_sent}
+use Rattle.stock_disk.specs.Laws.{ReadDmaFollowsWrite}
+use Rattle.stock_disk.specs.Moves.{data_arrived}
 use Rattle.stock_disk.proofs.ReadingLemmas.{disk_size, medium_length, read_dma_brings}
 use Rattle.stock_disk.proofs.ServingLemmas.{runs_first}
 use Rattle.stock_disk.proofs.WritingLemmas.{write_dma_puts}

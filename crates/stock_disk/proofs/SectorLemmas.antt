@@ -1,11 +1,10 @@
 -- The sectors of READ SECTORS come one behind the other: ReadSectorsBring of specs/Laws.antt.
-use Rattle.std.proofs.Common.{◌≡◌, ◌+◌, ◌-◌, ◌*◌, ◌≤◌, ◌<◌, ◌==◌, ◌&&◌, ℕ, zero, suc, Bool, true, false, List, [], ◌∷◌, ◌++◌, Option, Some, None, Ok, length, take, drop, refl, ap, sym, subst, ◌∙◌, arith, append-nil}
+use Rattle.std.proofs.Common.{◌≡◌, ◌+◌, ◌-◌, ◌*◌, ◌≤◌, ◌<◌, ℕ, zero, suc, Bool, true, false, List, [], ◌∷◌, ◌++◌, Option, Some, None, Ok, length, take, drop, refl, ap, sym, subst, ◌∙◌, arith, append-nil}
 use Rattle.std.proofs.Math.Seq.{take-add}
-use Rattle.std.proofs.lemmas.Bool.{and_parts, leb-true}
 use Rattle.std.proofs.lemmas.Bool.Decides.{nat_tests}
 use Rattle.std.proofs.lemmas.List.{drop-drop}
 use Rattle.std.specs.List.{find, range_with_len}
-use Rattle.std.specs.Prelude.{nat_le, nat_lt, if◌then◌else◌, option_map}
+use Rattle.std.specs.Prelude.{nat_lt, option_map}
 use Rattle.fis_view.specs.Seen.{seen}
 use Rattle.fis_view.specs.declared.view.Fis.TheVariants as view
 use Rattle.disk_model.specs.declared.answer.Fault.{Fault}
@@ -13,20 +12,20 @@ use Rattle.disk_model.specs.declared.plan.DiskPlan.{DiskPlan}
 use Rattle.disk_model.specs.declared.plan.Profile.{Profile}
 use Rattle.disk_model.specs.declared.plan.Profile.TheVariants.{Bare, Stock}
 use Rattle.disk_model.specs.Chunks.{fault_of, first_bad, is_bad, sectors_at}
-use Rattle.disk_model.specs.Disks.{DiskValue, moment_after}
+use Rattle.disk_model.specs.Disks.{DiskValue}
 use Rattle.disk_model.specs.Histories.{Happening, Sent}
 use Rattle.disk_model.specs.Ledger.{IsSize}
 use Rattle.disk_model.specs.Runs.{is_size}
-use Rattle.disk_model.specs.Sendings.{Carries, Sending, Shows}
+use Rattle.disk_model.specs.Sendings.{Carries, Shows}
 use Rattle.disk_model.proofs.Door.{can_be_done}
 use Rattle.stock_disk.specs.declared.front.Front.{Front}
 use Rattle.stock_disk.specs.declared.front.Own.{Own}
 use Rattle.stock_disk.specs.declared.front.Own.TheVariants.{Brings, Reads}
 use Rattle.stock_disk.specs.declared.sectors.Sectors.{Sectors}
-use Rattle.stock_disk.specs.Blocks.{block_follows, first_sector, follows_or, status_after}
+use Rattle.stock_disk.specs.Blocks.{first_sector, follows_or}
 use Rattle.stock_disk.specs.Faces.{StockValue, new_stock, value_after, value_at}
 use Rattle.stock_disk.specs.Fronts.{answered, brings, owes_or_ends}
-use Rattle.stock_disk.specs.Laws.{BroughtSectors, ReadSectorsBring, Runs, all_sent}
+use Rattle.stock_disk.specs.Laws.{ReadSectorsBring, Runs, all_sent}
 use Rattle.stock_disk.specs.Moves.{data_sent, payload_of}
 use Rattle.stock_disk.specs.Sectors.{as_read, rest_of}
 use Rattle.stock_disk.proofs.BegunLemmas.{value_at-lists}

@@ -1,8 +1,8 @@
 -- Blocks of PIO data-in, 512 bytes each (Serial ATA 3.x, 10.5, PIO Setup FIS).
-use Rattle.std.specs.Prelude.{ℕ, ◌≡◌, nat_le, Bool, true, false, if◌then◌else◌, List, Option, Some, None}
+use Rattle.std.specs.Prelude.{ℕ, nat_le, true, if◌then◌else◌, List, Option, Some, None}
 use Rattle.disk_model.specs.Chunks.{fault_of, sectors_at}
 use Rattle.disk_model.specs.Disks.{DiskValue}
-use Rattle.disk_model.specs.Sendings.{Sending, Carries, Register, SetsUpPio}
+use Rattle.disk_model.specs.Sendings.{Sending, Register, SetsUpPio}
 use Rattle.disk_model.specs.declared.answer.Fault.{Fault}
 use Rattle.stock_disk.specs.declared.sectors.Sectors.{Sectors}
 use Rattle.stock_disk.specs.Sectors.{as_read, fault_fields}
