@@ -1,5 +1,6 @@
 //! Which steps of a round can find something to move.
 
+use crate::round_step::RoundStep;
 use multiplier::Passed;
 use pm_world::{Answer, Step, World};
 use trace_text::bit_of;
@@ -69,21 +70,20 @@ impl Due {
             || self.down.has(n)
     }
 
-    /// Whether this step is due. A step that is in no round always is.
+    /// Whether this step is due, at this port if it has one.
     #[inline(always)]
-    pub fn has(&self, step: &Step) -> bool {
+    pub fn has(&self, step: RoundStep, port: u8) -> bool {
         match step {
-            Step::PmPresence(n) => self.presence.has(*n),
-            Step::DiskTake(n) => self.disk_take.has(*n),
-            Step::DiskSend(n) => self.disk_send.has(*n),
-            Step::PmFromDevice(n) => self.from_device.has(*n),
-            Step::PmDown(n) => self.down.has(*n),
-            Step::PmFromHost => self.from_host,
-            Step::PmUp => self.up,
-            Step::HostTake => self.host_take,
-            Step::Tick => self.tick,
-            Step::HostPush => self.push,
-            _ => true,
+            RoundStep::PmPresence => self.presence.has(port),
+            RoundStep::DiskTake => self.disk_take.has(port),
+            RoundStep::DiskSend => self.disk_send.has(port),
+            RoundStep::PmFromDevice => self.from_device.has(port),
+            RoundStep::PmDown => self.down.has(port),
+            RoundStep::PmFromHost => self.from_host,
+            RoundStep::PmUp => self.up,
+            RoundStep::HostTake => self.host_take,
+            RoundStep::Tick => self.tick,
+            RoundStep::HostPush => self.push,
         }
     }
 

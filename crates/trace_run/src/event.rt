@@ -276,20 +276,35 @@ impl fmt::Display for EventText<'_, '_> {
         let event = self.event;
         write!(f, "#{} ", event.number)?;
         write_act(event, f)?;
-        if let Some(mark) = event.mark {
-            write!(f, "{mark}")?;
-        }
-        if let Some(fis) = &event.fis {
-            write!(f, ": {}", FisShort(fis))?;
-        }
-        let mask = event.all_slots();
-        if mask != 0 {
-            let tickets = self.tickets;
-            write!(f, ", {}", SlotList { mask, tickets })?;
-        }
+        write_moved(event, f)?;
+        write_slots(event, self.tickets, f)?;
         write_change(event, f)?;
         write_upshot(event.upshot, self.tickets, f)
     }
+}
+
+/// Writes which FIS moved.
+fn write_moved<W: fmt::Write>(event: &Event<'_>, f: &mut fmt::Formatter<W>) -> fmt::Result {
+    if let Some(mark) = event.mark {
+        write!(f, "{mark}")?;
+    }
+    match &event.fis {
+        Some(fis) => write!(f, ": {}", FisShort(fis)),
+        None => Ok(()),
+    }
+}
+
+/// Writes which slots it names, or the driver issued.
+fn write_slots<W: fmt::Write>(
+    event: &Event<'_>,
+    tickets: &Tickets,
+    f: &mut fmt::Formatter<W>,
+) -> fmt::Result {
+    let mask = event.all_slots();
+    if mask == 0 {
+        return Ok(());
+    }
+    write!(f, ", {}", SlotList { mask, tickets })
 }
 
 /// Writes who did what.
@@ -370,15 +385,20 @@ fn write_upshot<W: fmt::Write>(
         } => {
             let what = if is_gone { "went" } else { "came" };
             write!(f, ", conn {conn} {what}")?;
-            match dropped {
-                0 => Ok(()),
-                1 => f.write_str("; dropped: the frame that it held"),
-                n => write!(f, "; dropped: the {n} frames that it held"),
-            }
+            write_dropped(dropped, f)
         }
         Upshot::Submitted(asked) => write!(f, " takes a request: {asked}"),
         Upshot::Polled(completion) => write_polled(completion, tickets, f),
         Upshot::Put { at, len } => write!(f, " puts {len} bytes at {at:x}"),
+    }
+}
+
+/// Writes how many frames of a connection were let go when it went.
+fn write_dropped<W: fmt::Write>(dropped: u32, f: &mut fmt::Formatter<W>) -> fmt::Result {
+    match dropped {
+        0 => Ok(()),
+        1 => f.write_str("; dropped: the frame that it held"),
+        n => write!(f, "; dropped: the {n} frames that it held"),
     }
 }
 
@@ -405,18 +425,37 @@ fn write_report<W: fmt::Write>(
     if report.ignored {
         return f.write_str("; taken by nobody");
     }
-    if let Some(wrote) = report.wrote {
-        let mask = bit_of(wrote.slot);
-        let end = wrote.offset.saturating_add(wrote.len);
-        write!(f, "; bytes {} to {end} of ", wrote.offset)?;
-        write!(f, "{}", SlotList { mask, tickets })?;
-    }
-    if report.done != 0 {
-        let mask = report.done;
-        write!(f, "; done {}", SlotList { mask, tickets })?;
-    }
+    write_wrote(report, tickets, f)?;
+    write_done(report.done, tickets, f)?;
     match Upshot::Report(report).fault() {
         Some(cause) => write!(f, "; fault {cause}"),
         None => Ok(()),
     }
+}
+
+/// Writes which bytes of a request came with a FIS.
+fn write_wrote<W: fmt::Write>(
+    report: TakeReport,
+    tickets: &Tickets,
+    f: &mut fmt::Formatter<W>,
+) -> fmt::Result {
+    let Some(wrote) = report.wrote else {
+        return Ok(());
+    };
+    let mask = bit_of(wrote.slot);
+    let end = wrote.offset.saturating_add(wrote.len);
+    write!(f, "; bytes {} to {end} of ", wrote.offset)?;
+    write!(f, "{}", SlotList { mask, tickets })
+}
+
+/// Writes which slots a FIS ended.
+fn write_done<W: fmt::Write>(
+    mask: u32,
+    tickets: &Tickets,
+    f: &mut fmt::Formatter<W>,
+) -> fmt::Result {
+    if mask == 0 {
+        return Ok(());
+    }
+    write!(f, "; done {}", SlotList { mask, tickets })
 }

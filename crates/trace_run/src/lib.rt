@@ -8,6 +8,7 @@ mod event;
 mod event_json;
 mod opening;
 mod parse;
+mod round_step;
 mod run;
 mod text;
 mod threads;

@@ -1,9 +1,10 @@
 //! What a line of a scenario asks for.
 
-ghost use Rattle.std.specs.Prelude.{◌≡◌, ◌*◌, IfOk, true};
+ghost use Rattle.std.specs.Prelude.{◌≡◌, ◌*◌, IfOk, true, ℕ};
 ghost use Rattle.trace_run.specs.Agendas.{is_fitting_entry, names_up_to, puts_outside};
 
 use crate::opening::{Opening, Sizes};
+use crate::round_step::RoundStep;
 use fis_view::Bytes;
 use hba_driver::{Mode, Request, Work};
 use hba_fbs::Register;
@@ -87,13 +88,12 @@ impl Setting {
         words: &mut Words<'_>,
         opening: &Opening,
     ) -> Result<Option<Setting>, Failure> {
-        let setting = match name {
-            b"ports" => ports(words, opening)?,
-            b"disk" => disk(words, opening)?,
-            b"script" => script(alloc, words, opening)?,
-            _ => return Ok(None),
-        };
-        Ok(Some(setting))
+        match name {
+            b"ports" => ports(words, opening),
+            b"disk" => disk(words, opening),
+            b"script" => script(alloc, words, opening),
+            _ => Ok(None),
+        }
     }
 }
 
@@ -105,24 +105,30 @@ impl Action {
         words: &mut Words<'_>,
         sizes: Sizes,
     ) -> Result<Action, Failure> {
-        let action = match name {
-            b"came" => Action::Step(Step::Came(words.port(LAST_NAME)?)),
-            b"gone" => Action::Step(Step::Gone(words.port(LAST_NAME)?)),
-            b"inject" => Action::Step(inject(alloc, words)?),
-            b"step" => Action::Step(step(words)?),
-            b"poll" => Action::Step(Step::Poll),
-            b"settle" => Action::Settle(words.number(Quantity::Rounds, 1, MOST_ROUNDS)?),
-            b"faults" => Action::Faults,
-            b"regs" => Action::Registers,
-            b"reg" => Action::Register(register(words)?),
-            _ => match Common::read(alloc, name, words, sizes, LAST_NAME, Wanted::RunLine)? {
-                Common::Submit(device, request) => Action::Step(Step::Submit(device, request)),
-                Common::Put(at, bytes) => Action::Step(Step::Put(at, bytes)),
-                Common::See(view) => Action::See(view),
-            },
-        };
+        let action = Action::start(alloc, name, words, sizes)?;
         words.end()?;
         Ok(action)
+    }
+
+    /// Reads the words of a line of this name, without a look at what stands after them.
+    fn start(
+        alloc: Global,
+        name: &[u8],
+        words: &mut Words<'_>,
+        sizes: Sizes,
+    ) -> Result<Action, Failure> {
+        match name {
+            b"came" => Ok(Action::Step(Step::Came(words.port(LAST_NAME)?))),
+            b"gone" => Ok(Action::Step(Step::Gone(words.port(LAST_NAME)?))),
+            b"inject" => inject(alloc, words),
+            b"step" => step(words),
+            b"poll" => Ok(Action::Step(Step::Poll)),
+            b"settle" => settle(words),
+            b"faults" => Ok(Action::Faults),
+            b"regs" => Ok(Action::Registers),
+            b"reg" => register(words),
+            _ => common_action(alloc, name, words, sizes),
+        }
     }
 }
 
@@ -178,30 +184,36 @@ impl Common {
     ) -> Result<Common, Failure>
         ensures { IfOk result (λ common. names_up_to last common ≡ true) }
     {
-        let common = match name {
-            b"read" => transfer(alloc, Work::Read, words, last)?,
-            b"write" => transfer(alloc, Work::Write, words, last)?,
-            b"flush" => flush(alloc, words, last)?,
-            b"put" => Common::Put(words.address()?, words.bytes(alloc)?),
-            b"show" => Common::See(memory(words, sizes)?),
-            b"counts" => Common::See(View::Counts),
-            b"ports" | b"disk" | b"script" => {
-                return Err(words.refused(Refusal::Order, Wanted::Earlier));
-            }
-            _ => return Err(words.refused(Refusal::Command, known)),
-        };
-        Ok(common)
+        match name {
+            b"read" => transfer(alloc, Work::Read, words, last),
+            b"write" => transfer(alloc, Work::Write, words, last),
+            b"flush" => flush(alloc, words, last),
+            b"put" => put(alloc, words),
+            b"show" => memory(words, sizes),
+            b"counts" => Ok(Common::See(View::Counts)),
+            b"ports" | b"disk" | b"script" => Err(words.refused(Refusal::Order, Wanted::Earlier)),
+            _ => Err(words.refused(Refusal::Command, known)),
+        }
+    }
+
+    /// The same of a world that goes step by step.
+    fn into_action(self) -> Action {
+        match self {
+            Common::Submit(device, request) => Action::Step(Step::Submit(device, request)),
+            Common::Put(at, bytes) => Action::Step(Step::Put(at, bytes)),
+            Common::See(view) => Action::See(view),
+        }
     }
 }
 
 /// The words after `ports`, which comes first.
-fn ports(words: &mut Words<'_>, opening: &Opening) -> Result<Setting, Failure> {
+fn ports(words: &mut Words<'_>, opening: &Opening) -> Result<Option<Setting>, Failure> {
     if opening.is_begun() {
         return Err(words.refused(Refusal::Order, Wanted::PortsFirst));
     }
     let sizes = sizes(words, opening.has_modes())?;
     words.end()?;
-    Ok(Setting::Ports(sizes))
+    Ok(Some(Setting::Ports(sizes)))
 }
 
 /// The sizes of a world.
@@ -225,7 +237,7 @@ fn sizes(words: &mut Words<'_>, has_modes: bool) -> Result<Sizes, Failure> {
 }
 
 /// The words after `disk`.
-fn disk(words: &mut Words<'_>, opening: &Opening) -> Result<Setting, Failure> {
+fn disk(words: &mut Words<'_>, opening: &Opening) -> Result<Option<Setting>, Failure> {
     let port = words.port(LAST_NAME)?;
     if opening.has_disk(port) || opening.has_script(port) {
         return Err(words.refused(Refusal::Order, Wanted::FreePort));
@@ -233,7 +245,7 @@ fn disk(words: &mut Words<'_>, opening: &Opening) -> Result<Setting, Failure> {
     has_port(words, opening, port)?;
     let shape = Shape::read(words, port)?;
     words.end()?;
-    Ok(Setting::Disk(port, shape))
+    Ok(Some(Setting::Disk(port, shape)))
 }
 
 /// Checks that the world has this port.
@@ -247,7 +259,11 @@ fn has_port(words: &Words<'_>, opening: &Opening, port: u8) -> Result<(), Failur
 }
 
 /// The words after `script`.
-fn script(alloc: Global, words: &mut Words<'_>, opening: &Opening) -> Result<Setting, Failure> {
+fn script(
+    alloc: Global,
+    words: &mut Words<'_>,
+    opening: &Opening,
+) -> Result<Option<Setting>, Failure> {
     let port = words.port(LAST_NAME)?;
     if opening.has_disk(port) {
         return Err(words.refused(Refusal::Order, Wanted::FreePort));
@@ -255,13 +271,30 @@ fn script(alloc: Global, words: &mut Words<'_>, opening: &Opening) -> Result<Set
     has_port(words, opening, port)?;
     let frame = words.bytes(alloc)?;
     words.end()?;
-    Ok(Setting::Script(port, frame))
+    Ok(Some(Setting::Script(port, frame)))
+}
+
+/// The words after `settle`: at most how many rounds.
+fn settle(words: &mut Words<'_>) -> Result<Action, Failure> {
+    let rounds = words.number(Quantity::Rounds, 1, MOST_ROUNDS)?;
+    Ok(Action::Settle(rounds))
+}
+
+/// The words after a name that a line has in either kind of run.
+fn common_action(
+    alloc: Global,
+    name: &[u8],
+    words: &mut Words<'_>,
+    sizes: Sizes,
+) -> Result<Action, Failure> {
+    let common = Common::read(alloc, name, words, sizes, LAST_NAME, Wanted::RunLine)?;
+    Ok(common.into_action())
 }
 
 /// The words after `inject`. The step itself refuses bytes that are no frame.
-fn inject(alloc: Global, words: &mut Words<'_>) -> Result<Step, Failure> {
+fn inject(alloc: Global, words: &mut Words<'_>) -> Result<Action, Failure> {
     let port = words.port(LAST_NAME)?;
-    Ok(Step::Inject(port, words.bytes(alloc)?))
+    Ok(Action::Step(Step::Inject(port, words.bytes(alloc)?)))
 }
 
 /// The words after `read` or `write`: a device, its first sector, how many, and where their bytes
@@ -296,106 +329,48 @@ fn flush(alloc: Global, words: &mut Words<'_>, last: u8) -> Result<Common, Failu
     Ok(Common::Submit(device, request))
 }
 
+/// The words after `put`: an address and bytes.
+fn put(alloc: Global, words: &mut Words<'_>) -> Result<Common, Failure>
+    ensures { IfOk result (λ common. (last : ℕ) → names_up_to last common ≡ true) }
+{
+    let at = words.address()?;
+    Ok(Common::Put(at, words.bytes(alloc)?))
+}
+
 /// The words after `show`: an address and how many bytes, all of which lie in client memory.
-fn memory(words: &mut Words<'_>, sizes: Sizes) -> Result<View, Failure> {
+fn memory(words: &mut Words<'_>, sizes: Sizes) -> Result<Common, Failure>
+    ensures { IfOk result (λ common. (last : ℕ) → names_up_to last common ≡ true) }
+{
     let at = words.address()?;
     let count = words.number(Quantity::Length, 0, LARGEST)? as u32;
     words.end()?;
     if !sizes.has_client(at, count as usize) {
         return Err(words.refused_at(2, Refusal::Range, Wanted::ClientArea));
     }
-    Ok(View::Memory(at, count))
+    Ok(Common::See(View::Memory(at, count)))
 }
 
 /// The words after `reg`: the offset of a register among those of its port.
-fn register(words: &mut Words<'_>) -> Result<Register, Failure> {
+fn register(words: &mut Words<'_>) -> Result<Action, Failure> {
     let offset = words.address()?;
     match Register::at(offset) {
-        Some(register) => Ok(register),
+        Some(register) => Ok(Action::Register(register)),
         None => Err(words.refused(Refusal::Range, Wanted::Register)),
     }
 }
 
-/// A step that a line names.
-#[derive(Clone, Copy)]
-enum Named {
-    PmPresence,
-    DiskTake,
-    DiskSend,
-    PmFromDevice,
-    PmDown,
-    PmFromHost,
-    PmUp,
-    HostTake,
-    Tick,
-    HostPush,
-}
-
-static STEPS: [(&[u8], Named); 10] = [
-    (b"pmpresence", Named::PmPresence),
-    (b"disktake", Named::DiskTake),
-    (b"disksend", Named::DiskSend),
-    (b"pmfromdevice", Named::PmFromDevice),
-    (b"pmdown", Named::PmDown),
-    (b"pmfromhost", Named::PmFromHost),
-    (b"pmup", Named::PmUp),
-    (b"hosttake", Named::HostTake),
-    (b"tick", Named::Tick),
-    (b"hostpush", Named::HostPush),
-];
-
-impl Named {
-    /// The step of this name.
-    fn of(name: &[u8]) -> Option<Named> {
-        for (known, named) in STEPS.iter() {
-            if *known == name {
-                return Some(*named);
-            }
-        }
-        None
-    }
-
-    /// Whether a port is named after it.
-    fn has_port(self) -> bool {
-        matches!(
-            self,
-            Named::PmPresence
-                | Named::DiskTake
-                | Named::DiskSend
-                | Named::PmFromDevice
-                | Named::PmDown
-        )
-    }
-
-    /// The step, at this port if it has one.
-    fn at(self, port: u8) -> Step {
-        match self {
-            Named::PmPresence => Step::PmPresence(port),
-            Named::DiskTake => Step::DiskTake(port),
-            Named::DiskSend => Step::DiskSend(port),
-            Named::PmFromDevice => Step::PmFromDevice(port),
-            Named::PmDown => Step::PmDown(port),
-            Named::PmFromHost => Step::PmFromHost,
-            Named::PmUp => Step::PmUp,
-            Named::HostTake => Step::HostTake,
-            Named::Tick => Step::Tick,
-            Named::HostPush => Step::HostPush,
-        }
-    }
-}
-
 /// The words after `step`.
-fn step(words: &mut Words<'_>) -> Result<Step, Failure> {
+fn step(words: &mut Words<'_>) -> Result<Action, Failure> {
     let Some(name) = words.next_word() else {
         return Err(words.refused(Refusal::Number, Wanted::StepName));
     };
-    let Some(named) = Named::of(name) else {
+    let Some(step) = RoundStep::of(name) else {
         return Err(words.refused(Refusal::Command, Wanted::StepName));
     };
-    let port = if named.has_port() {
+    let port = if step.has_port() {
         words.port(LAST_NAME)?
     } else {
         0
     };
-    Ok(named.at(port))
+    Ok(Action::Step(step.at(port)))
 }

@@ -3,7 +3,8 @@
 use crate::due::Due;
 use crate::opening::{Opening, Sizes};
 use crate::parse::{Action, Setting};
-use crate::text::{Reply, print_faults, print_registers, print_view};
+use crate::round_step::RoundStep;
+use crate::text::{Reply, print_faults, print_register, print_registers, print_sizes, print_view};
 use crate::tracer::{Sight, Tracer};
 use crate::watch::Watch;
 use pm_world::{Answer, Counts, Step, StepError, World, WorldError};
@@ -88,9 +89,14 @@ impl Scenario {
             return scene.play_line(alloc, name, words, printer, out);
         }
         match Setting::read(alloc, name, &mut words, &self.opening)? {
-            Some(setting) => Ok(self.opening.set(alloc, setting)?),
+            Some(setting) => self.set(alloc, setting),
             None => self.begin(alloc, name, words, printer, out),
         }
+    }
+
+    /// Takes in what a line says about the world.
+    fn set(&mut self, alloc: Global, setting: Setting) -> Result<(), Failure> {
+        Ok(self.opening.set(alloc, setting)?)
     }
 
     /// Builds the world at the first line that is not a setting, even if that line is refused, and
@@ -158,17 +164,16 @@ impl Scene {
         printer: &mut Printer<'_>,
         out: &mut W,
     ) -> Result<Scene, Failure> {
-        let sizes = opening.sizes();
-        let units = opening.into_units(alloc)?;
-        let world = match World::with_mode(alloc, sizes.mode, sizes.config(), units) {
-            Ok(world) => world,
-            Err(WorldError::OutOfMemory) => return Err(Failure::OutOfMemory),
-            Err(WorldError::BadConfig) => unreachable!(),
-        };
-        printer.print(alloc, &Reply::World(sizes), out)?;
+        let scene = Scene::new(alloc, watch, opening)?;
+        print_sizes(alloc, scene.sizes, printer, out)?;
+        Ok(scene)
+    }
+
+    /// Builds the world.
+    fn new(alloc: Global, watch: Watch, opening: Opening) -> Result<Scene, Failure> {
         Ok(Scene {
-            world,
-            sizes,
+            sizes: opening.sizes(),
+            world: world_of(alloc, opening)?,
             counts: Counts::new(alloc),
             due: Due::all(),
             tracer: Tracer::new(watch),
@@ -184,17 +189,53 @@ impl Scene {
         printer: &mut Printer<'_>,
         out: &mut W,
     ) -> Result<(), Failure> {
-        let reply = match Action::read(alloc, name, &mut words, self.sizes)? {
-            Action::Step(step) => self.step(alloc, &step, out)?,
-            Action::Settle(rounds) => self.settle(alloc, rounds, out)?,
-            Action::Register(register) => Reply::register(self.world.host(), register),
-            Action::Faults => return print_faults(alloc, self.world.host(), printer, out),
-            Action::Registers => return print_registers(alloc, self.world.host(), printer, out),
+        let action = Action::read(alloc, name, &mut words, self.sizes)?;
+        self.play(alloc, &action, printer, out)
+    }
+
+    /// Does this, and prints what comes of it.
+    fn play<W: Write>(
+        &mut self,
+        alloc: Global,
+        action: &Action,
+        printer: &mut Printer<'_>,
+        out: &mut W,
+    ) -> Result<(), Failure> {
+        let host = self.world.host();
+        match action {
+            Action::Step(step) => self.play_step(alloc, step, printer, out),
+            Action::Settle(rounds) => self.play_rounds(alloc, *rounds, printer, out),
+            Action::Register(register) => print_register(alloc, host, *register, printer, out),
+            Action::Faults => print_faults(alloc, host, printer, out),
+            Action::Registers => print_registers(alloc, host, printer, out),
             Action::See(view) => {
                 let (memory, counts) = (self.world.memory(), self.counts.rows());
-                return print_view(alloc, view, memory, counts, printer, out);
+                print_view(alloc, *view, memory, counts, printer, out)
             }
-        };
+        }
+    }
+
+    /// Does one step, and prints what came of it.
+    fn play_step<W: Write>(
+        &mut self,
+        alloc: Global,
+        step: &Step,
+        printer: &mut Printer<'_>,
+        out: &mut W,
+    ) -> Result<(), Failure> {
+        let reply = self.step(alloc, step, out)?;
+        printer.print(alloc, &reply, out)
+    }
+
+    /// Runs rounds, and prints whether the last of them did nothing.
+    fn play_rounds<W: Write>(
+        &mut self,
+        alloc: Global,
+        rounds: u64,
+        printer: &mut Printer<'_>,
+        out: &mut W,
+    ) -> Result<(), Failure> {
+        let reply = self.settle(alloc, rounds, out)?;
         printer.print(alloc, &reply, out)
     }
 
@@ -206,10 +247,7 @@ impl Scene {
         out: &mut W,
     ) -> Result<Reply, Failure> {
         let acted = self.act(alloc, step, out)?;
-        match &acted {
-            Ok(answer) => Ok(Reply::of(alloc, answer)?),
-            Err(error) => Ok(Reply::Refused(*error)),
-        }
+        reply_to(alloc, &acted)
     }
 
     /// Runs rounds, at most this many, up to the first in which no step did anything.
@@ -233,20 +271,33 @@ impl Scene {
     fn round<W: Write>(&mut self, alloc: Global, out: &mut W) -> Result<bool, Failure> {
         let mut is_moved = false;
         for n in 0..self.sizes.ports {
-            if !self.due.has_port(n) {
-                continue;
+            if self.due.has_port(n) {
+                is_moved |= self.port_round(alloc, n, out)?;
             }
-            is_moved |= self.moves(alloc, &Step::PmPresence(n), out)?;
-            is_moved |= self.moves(alloc, &Step::DiskTake(n), out)?;
-            is_moved |= self.moves(alloc, &Step::DiskSend(n), out)?;
-            is_moved |= self.moves(alloc, &Step::PmFromDevice(n), out)?;
-            is_moved |= self.moves(alloc, &Step::PmDown(n), out)?;
         }
-        is_moved |= self.moves(alloc, &Step::PmFromHost, out)?;
-        is_moved |= self.moves(alloc, &Step::PmUp, out)?;
-        is_moved |= self.moves(alloc, &Step::HostTake, out)?;
-        is_moved |= self.moves(alloc, &Step::Tick, out)?;
-        is_moved |= self.moves(alloc, &Step::HostPush, out)?;
+        is_moved |= self.host_round(alloc, out)?;
+        Ok(is_moved)
+    }
+
+    /// Does the steps of a round at this port. Says whether one of them did something.
+    #[inline(always)]
+    fn port_round<W: Write>(&mut self, alloc: Global, n: u8, out: &mut W) -> Result<bool, Failure> {
+        let mut is_moved = self.moves(alloc, RoundStep::PmPresence, n, out)?;
+        is_moved |= self.moves(alloc, RoundStep::DiskTake, n, out)?;
+        is_moved |= self.moves(alloc, RoundStep::DiskSend, n, out)?;
+        is_moved |= self.moves(alloc, RoundStep::PmFromDevice, n, out)?;
+        is_moved |= self.moves(alloc, RoundStep::PmDown, n, out)?;
+        Ok(is_moved)
+    }
+
+    /// Does the steps of a round that are at no port. Says whether one of them did something.
+    #[inline(always)]
+    fn host_round<W: Write>(&mut self, alloc: Global, out: &mut W) -> Result<bool, Failure> {
+        let mut is_moved = self.moves(alloc, RoundStep::PmFromHost, 0, out)?;
+        is_moved |= self.moves(alloc, RoundStep::PmUp, 0, out)?;
+        is_moved |= self.moves(alloc, RoundStep::HostTake, 0, out)?;
+        is_moved |= self.moves(alloc, RoundStep::Tick, 0, out)?;
+        is_moved |= self.moves(alloc, RoundStep::HostPush, 0, out)?;
         Ok(is_moved)
     }
 
@@ -255,12 +306,25 @@ impl Scene {
     fn moves<W: Write>(
         &mut self,
         alloc: Global,
+        step: RoundStep,
+        port: u8,
+        out: &mut W,
+    ) -> Result<bool, Failure> {
+        if self.due.has(step, port) {
+            self.moves_due(alloc, &step.at(port), out)
+        } else {
+            Ok(false)
+        }
+    }
+
+    /// Does one step, and says whether it was neither idle nor blocked.
+    #[inline(always)]
+    fn moves_due<W: Write>(
+        &mut self,
+        alloc: Global,
         step: &Step,
         out: &mut W,
     ) -> Result<bool, Failure> {
-        if !self.due.has(step) {
-            return Ok(false);
-        }
         if self.tracer.is_on() {
             let is_moved = self.moves_in_sight(alloc, step, out)?;
             return Ok(is_moved);
@@ -317,11 +381,23 @@ impl Scene {
     ) -> Result<Result<Answer, StepError>, Failure> {
         let sight = Sight::of(alloc, &self.world, step)?;
         let acted = self.world.step(alloc, step);
-        self.note(step, &acted)?;
-        if let Ok(answer) = &acted {
-            self.tracer.note(&self.world, step, &sight, answer, out)?;
-        }
+        self.tell(step, &sight, &acted, out)?;
         Ok(acted)
+    }
+
+    /// Counts the answer of a step, and writes what it did.
+    fn tell<W: Write>(
+        &mut self,
+        step: &Step,
+        sight: &Sight,
+        acted: &Result<Answer, StepError>,
+        out: &mut W,
+    ) -> Result<(), Failure> {
+        self.note(step, acted)?;
+        match acted {
+            Ok(answer) => self.tracer.note(&self.world, step, sight, answer, out),
+            Err(_) => Ok(()),
+        }
     }
 
     /// Counts the answer of a step, and takes note of which steps are due after it. If memory was refused,
@@ -335,6 +411,25 @@ impl Scene {
             Err(StepError::OutOfMemory) => Err(AllocError),
             Err(_) => Ok(()),
         }
+    }
+}
+
+/// The world of which lines told.
+fn world_of(alloc: Global, opening: Opening) -> Result<World, Failure> {
+    let sizes = opening.sizes();
+    let units = opening.into_units(alloc)?;
+    match World::with_mode(alloc, sizes.mode, sizes.config(), units) {
+        Ok(world) => Ok(world),
+        Err(WorldError::OutOfMemory) => Err(Failure::OutOfMemory),
+        Err(WorldError::BadConfig) => unreachable!(),
+    }
+}
+
+/// What is printed about a step.
+fn reply_to(alloc: Global, acted: &Result<Answer, StepError>) -> Result<Reply, Failure> {
+    match acted {
+        Ok(answer) => Ok(Reply::of(alloc, answer)?),
+        Err(error) => Ok(Reply::Refused(*error)),
     }
 }
 

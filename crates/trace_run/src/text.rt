@@ -2,6 +2,7 @@
 
 use crate::opening::Sizes;
 use crate::parse::View;
+use fis_view::Bytes;
 use hba_driver::{Completion, Mode, Outcome, SubmitError, Ticket};
 use hba_fbs::{HostPort, Register};
 use host_memory::{CLIENT_START, HostMemory};
@@ -81,6 +82,25 @@ pub struct FrameText {
     digits: String,
 }
 
+impl FrameText {
+    /// The frame of this number on a connection.
+    fn of(
+        alloc: Global,
+        port: u8,
+        conn: u32,
+        number: u32,
+        bytes: &Bytes,
+    ) -> Result<FrameText, AllocError> {
+        let digits = hex::encode(alloc, bytes.as_slice())?;
+        Ok(FrameText {
+            port,
+            conn,
+            number,
+            digits,
+        })
+    }
+}
+
 impl Reply {
     /// What is printed about an answer.
     pub fn of(alloc: Global, answer: &Answer) -> Result<Reply, AllocError> {
@@ -95,44 +115,42 @@ impl Reply {
                 port: *port,
                 conn: *conn,
             },
+            Answer::DiskTook { .. } | Answer::Presence(_) | Answer::Offered { .. } => Reply::Moved,
+            Answer::Passed(_) | Answer::Up(_) | Answer::Down(_) => Reply::Moved,
+            Answer::Pushed | Answer::Ticked => Reply::Moved,
+            Answer::Submitted(ticket) => Reply::Submitted(*ticket),
+            Answer::Refused(error) => Reply::RequestRefused(*error),
+            Answer::Polled(completion) => Reply::Ended(*completion),
+            Answer::Put => Reply::Put,
+            Answer::Sent { .. } | Answer::Took { .. } => return Reply::of_frame(alloc, answer),
+        };
+        Ok(reply)
+    }
+
+    /// What is printed about an answer with a frame.
+    fn of_frame(alloc: Global, answer: &Answer) -> Result<Reply, AllocError> {
+        match answer {
             Answer::Sent {
                 port,
                 conn,
                 number,
                 bytes,
-            } => Reply::Sent(FrameText {
-                port: *port,
-                conn: *conn,
-                number: *number,
-                digits: hex::encode(alloc, bytes.as_slice())?,
-            }),
-            Answer::DiskTook { .. } | Answer::Presence(_) | Answer::Offered { .. } => Reply::Moved,
-            Answer::Passed(_) | Answer::Up(_) | Answer::Down(_) => Reply::Moved,
-            Answer::Pushed | Answer::Ticked => Reply::Moved,
+            } => {
+                let frame = FrameText::of(alloc, *port, *conn, *number, bytes)?;
+                Ok(Reply::Sent(frame))
+            }
             Answer::Took {
                 port,
                 conn,
                 number,
                 bytes,
                 report: _,
-            } => Reply::Took(FrameText {
-                port: *port,
-                conn: *conn,
-                number: *number,
-                digits: hex::encode(alloc, bytes.as_slice())?,
-            }),
-            Answer::Submitted(ticket) => Reply::Submitted(*ticket),
-            Answer::Refused(error) => Reply::RequestRefused(*error),
-            Answer::Polled(completion) => Reply::Ended(*completion),
-            Answer::Put => Reply::Put,
-        };
-        Ok(reply)
-    }
-
-    /// What a register of a host port shows.
-    pub fn register(port: &HostPort, register: Register) -> Reply {
-        let value = port.read(register.offset()).unwrap_or(0);
-        Reply::Register { register, value }
+            } => {
+                let frame = FrameText::of(alloc, *port, *conn, *number, bytes)?;
+                Ok(Reply::Took(frame))
+            }
+            _ => Ok(Reply::Moved),
+        }
     }
 
     /// This many bytes of client memory, from this address on, as far as they lie in it.
@@ -164,6 +182,28 @@ pub fn print_faults<W: Write>(
     Ok(())
 }
 
+/// Prints the sizes of a world.
+pub fn print_sizes<W: Write>(
+    alloc: Global,
+    sizes: Sizes,
+    printer: &mut Printer<'_>,
+    out: &mut W,
+) -> Result<(), Failure> {
+    printer.print(alloc, &Reply::World(sizes), out)
+}
+
+/// Prints what a register of a host port shows.
+pub fn print_register<W: Write>(
+    alloc: Global,
+    port: &HostPort,
+    register: Register,
+    printer: &mut Printer<'_>,
+    out: &mut W,
+) -> Result<(), Failure> {
+    let value = port.read(register.offset()).unwrap_or(0);
+    printer.print(alloc, &Reply::Register { register, value }, out)
+}
+
 /// Prints all registers of a host port, in the order of their offsets.
 pub fn print_registers<W: Write>(
     alloc: Global,
@@ -173,7 +213,7 @@ pub fn print_registers<W: Write>(
 ) -> Result<(), Failure> {
     for offset in 0..=LAST_REGISTER {
         if let Some(register) = Register::at(offset) {
-            printer.print(alloc, &Reply::register(port, register), out)?;
+            print_register(alloc, port, register, printer, out)?;
         }
     }
     Ok(())
@@ -209,60 +249,117 @@ impl fmt::Display for Reply {
     fn fmt<W: fmt::Write>(&self, f: &mut fmt::Formatter<W>) -> fmt::Result {
         match self {
             Reply::World(sizes) => write!(f, "{sizes}"),
-            Reply::Came { port, conn } => write!(f, "came {port} conn {conn}"),
-            Reply::Gone { port, conn } => write!(f, "gone {port} conn {conn}"),
+            Reply::Came { port, conn } => write_connection("came", *port, *conn, f),
+            Reply::Gone { port, conn } => write_connection("gone", *port, *conn, f),
             Reply::Sent(frame) => write!(f, "sent {frame}"),
             Reply::Took(frame) => write!(f, "took {frame}"),
-            Reply::Moved => f.write_str("moved"),
-            Reply::Nothing => f.write_str("nothing"),
-            Reply::Blocked => f.write_str("blocked"),
-            Reply::Settled => f.write_str("settled"),
-            Reply::Unsettled => f.write_str("unsettled"),
-            Reply::Refused(error) => {
-                let number = *error as u8;
-                write!(f, "step refused {number} {error:?}")
-            }
-            Reply::Submitted(ticket) => write!(f, "submitted {}", ticket.0),
-            Reply::RequestRefused(error) => write_refused(*error, f),
-            Reply::Ended(completion) => {
-                write!(
-                    f,
-                    "ticket {} slot {} ",
-                    completion.ticket.0, completion.slot
-                )?;
-                write_outcome(completion.outcome, f)
-            }
-            Reply::Request { number, result } => {
-                write!(f, "request {number} ")?;
-                match result {
-                    Ok(outcome) => write_outcome(*outcome, f),
-                    Err(error) => write_refused(*error, f),
-                }
-            }
-            Reply::Put => f.write_str("put"),
-            seen => seen.write_seen(f),
+            Reply::Refused(error) => write_refused_step(*error, f),
+            Reply::Submitted(_)
+            | Reply::RequestRefused(_)
+            | Reply::Ended(_)
+            | Reply::Request { .. } => self.write_request(f),
+            Reply::Shown { .. }
+            | Reply::Count(_)
+            | Reply::Fault { .. }
+            | Reply::PortFault(_)
+            | Reply::Register { .. } => self.write_seen(f),
+            plain => f.write_str(plain.word()),
         }
     }
 }
 
 impl Reply {
-    /// Writes what a line asked to see.
-    fn write_seen<W: fmt::Write>(&self, f: &mut fmt::Formatter<W>) -> fmt::Result {
+    /// The word of a reply that is one word.
+    fn word(&self) -> &'static str {
         match self {
-            Reply::Shown { at, digits } => write!(f, "{at:x} {digits}"),
-            Reply::Count(count) => {
-                write!(f, "port {} conn {}", count.port, count.conn)?;
-                write!(f, " sent {} taken {}", count.sent, count.taken)
-            }
-            Reply::Fault { dev, cause } => write!(f, "device {dev} cause {}", *cause as u8),
-            Reply::PortFault(cause) => write!(f, "port-cause {}", *cause as u8),
-            Reply::Register { register, value } => {
-                let name = name_of(*register);
-                write!(f, "reg {:02x} {name} {value:08x}", register.offset())
+            Reply::Moved => "moved",
+            Reply::Nothing => "nothing",
+            Reply::Blocked => "blocked",
+            Reply::Settled => "settled",
+            Reply::Unsettled => "unsettled",
+            Reply::Put => "put",
+            _ => "",
+        }
+    }
+
+    /// Writes what became of a request.
+    fn write_request<W: fmt::Write>(&self, f: &mut fmt::Formatter<W>) -> fmt::Result {
+        match self {
+            Reply::Submitted(ticket) => write!(f, "submitted {}", ticket.0),
+            Reply::RequestRefused(error) => write_refused(*error, f),
+            Reply::Ended(completion) => write_ended(*completion, f),
+            Reply::Request { number, result } => {
+                write!(f, "request {number} ")?;
+                write_end(*result, f)
             }
             _ => Ok(()),
         }
     }
+
+    /// Writes what a line asked to see.
+    fn write_seen<W: fmt::Write>(&self, f: &mut fmt::Formatter<W>) -> fmt::Result {
+        match self {
+            Reply::Shown { at, digits } => write!(f, "{at:x} {digits}"),
+            Reply::Count(count) => write_count(*count, f),
+            Reply::Fault { dev, cause } => write!(f, "device {dev} cause {}", *cause as u8),
+            Reply::PortFault(cause) => write!(f, "port-cause {}", *cause as u8),
+            Reply::Register { register, value } => write_register(*register, *value, f),
+            _ => Ok(()),
+        }
+    }
+}
+
+/// Writes that a connection came or went.
+fn write_connection<W: fmt::Write>(
+    what: &str,
+    port: u8,
+    conn: u32,
+    f: &mut fmt::Formatter<W>,
+) -> fmt::Result {
+    write!(f, "{what} {port} conn {conn}")
+}
+
+/// Writes why a step was refused.
+fn write_refused_step<W: fmt::Write>(error: StepError, f: &mut fmt::Formatter<W>) -> fmt::Result {
+    let number = error as u8;
+    write!(f, "step refused {number} {error:?}")
+}
+
+/// Writes that a request ended, and how.
+fn write_ended<W: fmt::Write>(completion: Completion, f: &mut fmt::Formatter<W>) -> fmt::Result {
+    write!(
+        f,
+        "ticket {} slot {} ",
+        completion.ticket.0, completion.slot
+    )?;
+    write_outcome(completion.outcome, f)
+}
+
+/// Writes how a request ended, or why it was refused.
+fn write_end<W: fmt::Write>(
+    end: Result<Outcome, SubmitError>,
+    f: &mut fmt::Formatter<W>,
+) -> fmt::Result {
+    match end {
+        Ok(outcome) => write_outcome(outcome, f),
+        Err(error) => write_refused(error, f),
+    }
+}
+
+/// Writes how many frames of a connection were sent and taken.
+fn write_count<W: fmt::Write>(count: ConnCount, f: &mut fmt::Formatter<W>) -> fmt::Result {
+    write!(f, "port {} conn {}", count.port, count.conn)?;
+    write!(f, " sent {} taken {}", count.sent, count.taken)
+}
+
+/// Writes what a register shows.
+fn write_register<W: fmt::Write>(
+    register: Register,
+    value: u32,
+    f: &mut fmt::Formatter<W>,
+) -> fmt::Result {
+    let name = name_of(register);
+    write!(f, "reg {:02x} {name} {value:08x}", register.offset())
 }
 
 /// The name of a register in the standard, without the prefix Px.

@@ -29,27 +29,32 @@ pub struct Sight {
 impl Sight {
     /// What this step will move.
     pub fn of(alloc: Global, world: &World, step: &Step) -> Result<Sight, AllocError> {
-        let hop = match step {
-            Step::DiskTake(n) => Some(Hop::PmToDevice(*n)),
-            Step::PmFromDevice(n) => Some(Hop::DeviceToPm(*n)),
-            Step::PmFromHost => Some(Hop::HostToPm),
-            _ => None,
-        };
-        let frame = match hop {
-            None => None,
-            Some(hop) => match world.oldest_on(hop) {
-                None => None,
-                Some(frame) => Some(frame.copy(alloc)?),
-            },
-        };
         Ok(Sight {
-            frame,
+            frame: oldest_for(alloc, world, step)?,
             dropped: world.multiplier().dropped(),
             registers: match step {
                 Step::Tick => Some(registers_of(world.host())),
                 _ => None,
             },
         })
+    }
+}
+
+/// The frame that this step will take off a link, if it will take one.
+fn oldest_for(alloc: Global, world: &World, step: &Step) -> Result<Option<Frame>, AllocError> {
+    match step {
+        Step::DiskTake(n) => oldest_on(alloc, world, Hop::PmToDevice(*n)),
+        Step::PmFromDevice(n) => oldest_on(alloc, world, Hop::DeviceToPm(*n)),
+        Step::PmFromHost => oldest_on(alloc, world, Hop::HostToPm),
+        _ => Ok(None),
+    }
+}
+
+/// The oldest frame on a link, if one is there.
+fn oldest_on(alloc: Global, world: &World, hop: Hop) -> Result<Option<Frame>, AllocError> {
+    match world.oldest_on(hop) {
+        Some(frame) => Ok(Some(frame.copy(alloc)?)),
+        None => Ok(None),
     }
 }
 
@@ -154,8 +159,25 @@ impl Tracer {
         sight: &'a Sight,
         answer: &'a Answer,
     ) -> Option<Event<'a>> {
-        let told = match answer {
-            Answer::Idle | Answer::Blocked | Answer::Refused(_) => return None,
+        if matches!(answer, Answer::Idle | Answer::Blocked | Answer::Refused(_)) {
+            return None;
+        }
+        self.number = self.number.saturating_add(1);
+        Some(Event {
+            number: self.number,
+            ..self.told(world, step, sight, answer)
+        })
+    }
+
+    /// What a step did that moved something.
+    fn told<'a>(
+        &mut self,
+        world: &'a World,
+        step: &Step,
+        sight: &'a Sight,
+        answer: &'a Answer,
+    ) -> Event<'a> {
+        match answer {
             Answer::Came { port, conn } => connection(Act::Came(*port), *port, *conn, false),
             Answer::Gone { port, conn } => connection(Act::Gone(*port), *port, *conn, true),
             Answer::Presence(port) => self.presence(world, *port, sight),
@@ -164,12 +186,7 @@ impl Tracer {
             Answer::Polled(completion) => self.polled(*completion),
             Answer::Put => put(step),
             moved => move_of(world, sight, moved),
-        };
-        self.number = self.number.saturating_add(1);
-        Some(Event {
-            number: self.number,
-            ..told
-        })
+        }
     }
 
     /// A port of the multiplier recorded what came or went. The changes of a port alternate: its
