@@ -425,7 +425,7 @@ fn write_report<W: fmt::Write>(
     if report.ignored {
         return f.write_str("; taken by nobody");
     }
-    write_wrote(report, tickets, f)?;
+    write_range(report, tickets, f)?;
     write_done(report.done, tickets, f)?;
     match Upshot::Report(report).fault() {
         Some(cause) => write!(f, "; fault {cause}"),
@@ -434,7 +434,7 @@ fn write_report<W: fmt::Write>(
 }
 
 /// Writes which bytes of a request came with a FIS.
-fn write_wrote<W: fmt::Write>(
+fn write_range<W: fmt::Write>(
     report: TakeReport,
     tickets: &Tickets,
     f: &mut fmt::Formatter<W>,
