@@ -460,7 +460,7 @@ fn answer_frame(
     d2h(alloc, &fields, stamp)
 }
 
-/// The next of these sectors, None if there is none. If it is none of the disk's, the command is aborted.
+/// The Data FIS of the first of these sectors. If the disk does not have it, the command is aborted.
 fn sector_frame(
     alloc: Global,
     span: Sectors,
