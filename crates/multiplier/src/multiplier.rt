@@ -243,7 +243,6 @@ impl Multiplier {
     /// or into the downward place of a port that forwards. A frame for a port that is absent or does not
     /// forward is dropped and counted. Where the place is taken, or there is no memory for the answer, the
     /// frame is given back.
-
     pub fn from_host(&mut self, alloc: Global, frame: Frame) -> Result<Passed, (Frame, PmRefusal)>
         ensures rule { FromHostRule self.old frame result self.new }
         ensures drops { DropsOnly self.old frame result }

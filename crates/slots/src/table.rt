@@ -396,10 +396,7 @@ impl SlotTable {
         if !context.may_be_activated() {
             return Err(Stray);
         }
-        self.contexts[dev as usize] = Some(Context {
-            activated: true,
-            ..context
-        });
+        self.set_context(dev, context.activated());
         Ok(())
     }
 

@@ -18,16 +18,19 @@ pub fn play_aside<'a>(
     printer: &mut Printer<'a>,
 ) -> Result<bool, Failure> {
     match name {
-        b"expect" => {
-            let text = words.text()?;
-            let line = words.line();
-            printer.expect(Expected { line, text })?;
-        }
+        b"expect" => expect(printer, words)?,
         b"repeat" => begin_block(lines, words)?,
         b"end" => end_block(lines, words)?,
         _ => return Ok(false),
     }
     Ok(true)
+}
+
+/// Does what a line `expect` says.
+fn expect<'a>(printer: &mut Printer<'a>, words: &mut Words<'a>) -> Result<(), Failure> {
+    let text = words.text()?;
+    let line = words.line();
+    Ok(printer.expect(Expected { line, text })?)
 }
 
 /// Does what a line `repeat` says.

@@ -71,12 +71,16 @@ fn decode_line<W: Write>(
     text: &[u8],
     out: &mut W,
 ) -> Result<Option<DecodeError>, Failure> {
-    let bytes = match bytes_of(alloc, text) {
-        Ok(bytes) => bytes,
-        Err(HexError::BadHex) => return refuse(DecodeError::BadHex, out),
-        Err(HexError::OutOfMemory) => return Err(Failure::OutOfMemory),
-    };
-    match fis_of(&bytes) {
+    match bytes_of(alloc, text) {
+        Ok(bytes) => tell(&bytes, out),
+        Err(HexError::BadHex) => refuse(DecodeError::BadHex, out),
+        Err(HexError::OutOfMemory) => Err(Failure::OutOfMemory),
+    }
+}
+
+/// Writes what the bytes of a line mean, and gives the reason if they are no frame.
+fn tell<W: Write>(bytes: &[u8], out: &mut W) -> Result<Option<DecodeError>, Failure> {
+    match fis_of(bytes) {
         Ok(fis) => {
             writeln!(out, "{}", FisText(fis))?;
             Ok(None)
@@ -98,15 +102,17 @@ struct LineNote<'a> {
     error: DecodeError,
 }
 
+/// The word because of which a line is no bytes.
+fn word_at_fault(text: &[u8]) -> WordOf<'_> {
+    let (word, wanted) = hex_fault(text, 1);
+    WordOf { text, word, wanted }
+}
+
 impl fmt::Display for LineNote<'_> {
     fn fmt<W: fmt::Write>(&self, f: &mut fmt::Formatter<W>) -> fmt::Result {
         write!(f, "line {}: {}", self.line, self.error)?;
         match self.error {
-            DecodeError::BadHex => {
-                let (word, wanted) = hex_fault(self.text, 1);
-                let text = self.text;
-                write!(f, "{}", WordOf { text, word, wanted })
-            }
+            DecodeError::BadHex => word_at_fault(self.text).fmt(f),
             DecodeError::BadLength => f.write_str(": wanted 4 to 8196 bytes, a multiple of 4"),
             DecodeError::WrongLength => f.write_str(": no FIS of this type has so many bytes"),
         }

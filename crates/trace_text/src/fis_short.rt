@@ -1,6 +1,6 @@
 //! A FIS in a few words.
 
-use fis_view::{Fis, RegD2H, RegH2D};
+use fis_view::{DmaSetup, Fis, RegD2H, RegH2D, SetBits};
 use std::fmt;
 
 /// A FIS in a few words: its kind, and the fields that tell what it does. Its port is left out.
@@ -12,38 +12,41 @@ impl fmt::Display for FisShort<'_, '_> {
         match self.0 {
             Fis::RegH2D(fis) => write_h2d(fis, f),
             Fis::RegD2H(fis) => write_d2h(fis, f),
-            Fis::SetBits(fis) => {
-                write!(
-                    f,
-                    "bits status {:02x} error {:02x}",
-                    fis.status(),
-                    fis.error()
-                )?;
-                write!(f, " sactive {:08x}", fis.sactive())?;
-                f.write_str(if fis.n() { " notify" } else { "" })
-            }
+            Fis::SetBits(fis) => write_bits(fis, f),
             Fis::DmaActivate(_) => f.write_str("activate"),
-            Fis::DmaSetup(fis) => {
-                let way = if fis.d() { "to host" } else { "to disk" };
-                let tag = fis.buffer_id() & 0x1F;
-                write!(f, "setup tag {tag} {way}")?;
-                write!(f, " offset {} count {}", fis.offset(), fis.count())
-            }
-            Fis::PioSetup(fis) => {
-                write!(
-                    f,
-                    "pio status {:02x} bytes {}",
-                    fis.status(),
-                    fis.transfer()
-                )
-            }
+            Fis::DmaSetup(fis) => write_setup(fis, f),
+            Fis::PioSetup(fis) => write_pio(fis.status(), fis.transfer(), f),
             Fis::Payload(fis) => write!(f, "data bytes {}", fis.payload().len()),
-            Fis::Unknown(fis) => {
-                let bytes = fis.bytes();
-                write!(f, "unknown type {:02x} bytes {}", bytes[0], bytes.len())
-            }
+            Fis::Unknown(fis) => write_unknown(fis.bytes(), f),
         }
     }
+}
+
+/// Writes a Set Device Bits FIS.
+fn write_bits<W: fmt::Write>(fis: &SetBits<'_>, f: &mut fmt::Formatter<W>) -> fmt::Result {
+    let (status, error) = (fis.status(), fis.error());
+    write!(f, "bits status {status:02x} error {error:02x}")?;
+    let notify = if fis.n() { " notify" } else { "" };
+    write!(f, " sactive {:08x}{notify}", fis.sactive())
+}
+
+/// Writes a DMA Setup FIS.
+fn write_setup<W: fmt::Write>(fis: &DmaSetup<'_>, f: &mut fmt::Formatter<W>) -> fmt::Result {
+    let way = if fis.d() { "to host" } else { "to disk" };
+    let tag = fis.buffer_id() & 0x1F;
+    write!(f, "setup tag {tag} {way}")?;
+    write!(f, " offset {} count {}", fis.offset(), fis.count())
+}
+
+/// Writes a PIO Setup FIS.
+fn write_pio<W: fmt::Write>(status: u8, bytes: u16, f: &mut fmt::Formatter<W>) -> fmt::Result {
+    write!(f, "pio status {status:02x} bytes {bytes}")
+}
+
+/// Writes a FIS of no known kind.
+fn write_unknown<W: fmt::Write>(bytes: &[u8], f: &mut fmt::Formatter<W>) -> fmt::Result {
+    let kind = bytes.first().copied().unwrap_or(0);
+    write!(f, "unknown type {kind:02x} bytes {}", bytes.len())
 }
 
 /// The slots that a FIS names: a queued command, a DMA Setup and a Set Device Bits FIS do.

@@ -54,10 +54,20 @@ fn write_word<W: fmt::Write>(place: WordOf<'_>, f: &mut fmt::Formatter<W>) -> fm
     }
     match word_of(text, word) {
         None => write!(f, ": word {word} is missing: {wanted}"),
-        Some(found) if wanted == Wanted::Nothing => {
-            write!(f, ": word {word}, '{}', is too many", Shown(found))
-        }
-        Some(found) => write!(f, ": word {word} is '{}': {wanted}", Shown(found)),
+        Some(found) => write_found(word, Shown(found), wanted, f),
+    }
+}
+
+/// Writes that a word is wrong or too many, and what was wanted.
+fn write_found<W: fmt::Write>(
+    word: usize,
+    found: Shown<'_>,
+    wanted: Wanted,
+    f: &mut fmt::Formatter<W>,
+) -> fmt::Result {
+    match wanted {
+        Wanted::Nothing => write!(f, ": word {word}, '{found}', is too many"),
+        _ => write!(f, ": word {word} is '{found}': {wanted}"),
     }
 }
 
@@ -84,15 +94,16 @@ pub struct Shown<'a>(pub &'a [u8]);
 impl fmt::Display for Shown<'_> {
     fn fmt<W: fmt::Write>(&self, f: &mut fmt::Formatter<W>) -> fmt::Result {
         for byte in self.0.iter().take(MOST_SHOWN) {
-            if byte.is_ascii_graphic() || *byte == b' ' {
-                f.write_char(char::from(*byte))?;
-            } else {
-                write!(f, "\\x{:02x}", *byte)?;
-            }
+            write_byte(*byte, f)?;
         }
-        if self.0.len() > MOST_SHOWN {
-            f.write_str("..")?;
-        }
-        Ok(())
+        f.write_str(if self.0.len() > MOST_SHOWN { ".." } else { "" })
+    }
+}
+
+fn write_byte<W: fmt::Write>(byte: u8, f: &mut fmt::Formatter<W>) -> fmt::Result {
+    if byte.is_ascii_graphic() || byte == b' ' {
+        f.write_char(char::from(byte))
+    } else {
+        write!(f, "\\x{byte:02x}")
     }
 }

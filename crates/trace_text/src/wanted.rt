@@ -1,60 +1,67 @@
 //! What a line should have had when it is refused, in words.
 
 use std::fmt;
-use thiserror::Error;
 
 /// What a number of a line counts or names.
-#[derive(Clone, Copy, Debug, PartialEq, Eq, Error)]
+#[derive(Clone, Copy, Debug, PartialEq, Eq)]
 pub enum Quantity {
-    #[error("the number of ports")]
     Ports,
-    #[error("the frames that a link can hold")]
     Capacity,
-    #[error("the host's memory in MiB")]
     Memory,
-    #[error("the bytes of the guest's memory")]
     GuestBytes,
-    #[error("a port")]
     Port,
-    #[error("the sectors of the disk")]
     Sectors,
-    #[error("the bytes of a chunk")]
     Chunk,
-    #[error("a sector that cannot be read")]
     BadSector,
-    #[error("the first sector")]
     Lba,
-    #[error("how many sectors")]
     Count,
-    #[error("how many bytes")]
     Length,
-    #[error("how many rounds")]
     Rounds,
-    #[error("how many FISes")]
     Fises,
-    #[error("how often the block comes")]
     Times,
 }
 
+impl Quantity {
+    fn words(self) -> &'static str {
+        match self {
+            Quantity::Ports => "the number of ports",
+            Quantity::Capacity => "the frames that a link can hold",
+            Quantity::Memory => "the host's memory in MiB",
+            Quantity::GuestBytes => "the bytes of the guest's memory",
+            Quantity::Port => "a port",
+            Quantity::Sectors => "the sectors of the disk",
+            Quantity::Chunk => "the bytes of a chunk",
+            Quantity::BadSector => "a sector that cannot be read",
+            Quantity::Lba => "the first sector",
+            Quantity::Count => "how many sectors",
+            Quantity::Length => "how many bytes",
+            Quantity::Rounds => "how many rounds",
+            Quantity::Fises => "how many FISes",
+            Quantity::Times => "how often the block comes",
+        }
+    }
+}
+
 /// A word that stands in a line as it is.
-#[derive(Clone, Copy, Debug, PartialEq, Eq, Error)]
+#[derive(Clone, Copy, Debug, PartialEq, Eq)]
 pub enum Keyword {
-    #[error("capacity")]
     Capacity,
-    #[error("memory")]
     Memory,
-    #[error("sectors")]
     Sectors,
 }
 
 impl Keyword {
+    fn word(self) -> &'static str {
+        match self {
+            Keyword::Capacity => "capacity",
+            Keyword::Memory => "memory",
+            Keyword::Sectors => "sectors",
+        }
+    }
+
     /// Its bytes.
     pub fn bytes(self) -> &'static [u8] {
-        match self {
-            Keyword::Capacity => b"capacity",
-            Keyword::Memory => b"memory",
-            Keyword::Sectors => b"sectors",
-        }
+        self.word().as_bytes()
     }
 }
 
@@ -132,7 +139,7 @@ pub enum Wanted {
 impl fmt::Display for Wanted {
     fn fmt<W: fmt::Write>(&self, f: &mut fmt::Formatter<W>) -> fmt::Result {
         match self {
-            Wanted::Keyword(keyword) => write!(f, "wanted `{keyword}`"),
+            Wanted::Keyword(keyword) => write!(f, "wanted `{}`", keyword.word()),
             Wanted::Number(what, least, most) => write_number(*what, *least, *most, f),
             other => f.write_str(other.sentence()),
         }
@@ -145,6 +152,7 @@ fn write_number<W: fmt::Write>(
     most: u64,
     f: &mut fmt::Formatter<W>,
 ) -> fmt::Result {
+    let what = what.words();
     write!(f, "wanted {what}, a decimal number from {least} to {most}")
 }
 
