@@ -28,6 +28,14 @@ impl<'a, 'g, D: Device + Drop, G: Gate> Model for DiskWorker<'a, 'g, D, G> {
     ghost view = { λ w. w.station };
 }
 
+/// What some steps of a turn moved.
+#[derive(Clone, Copy)]
+struct Progress {
+    is_any: bool,
+    /// Whether something went over a link.
+    is_over_links: bool,
+}
+
 /// What the thread of a device leaves.
 #[derive(Drop)]
 pub struct DiskEnd<'a, D: Device + Drop> {
@@ -50,9 +58,8 @@ impl<'a, 'g, D: Device + Drop, G: Gate> DiskWorker<'a, 'g, D, G> {
         }
     }
 
-    /// Tries each step once, and says whether anything moved. Rings for the multiplier if something
-    /// went over a link.
-    fn turn<R: Wait>(&mut self, rt: &R, post: &Post<'_>) -> Result<bool, Fault>
+    /// Pulls the device out or plugs it in where that is due, and tells of it.
+    fn change<R: Wait>(&mut self, rt: &R) -> Result<Progress, Fault>
         ensures run { OnOk result (GoesOnRunning D.plan_of D.stands_for D.may_send self.old self.new) }
         ensures port { IsAtSamePort self.old self.new }
         ensures gate { result ≡ Err fault.GateShut → G.may_refuse }
@@ -60,13 +67,40 @@ impl<'a, 'g, D: Device + Drop, G: Gate> DiskWorker<'a, 'g, D, G> {
         let pulled = self.station.pull();
         let plugged = self.station.plug(self.alloc)?;
         let told = self.station.tell(rt);
+        Ok(Progress {
+            is_any: pulled || plugged || told,
+            is_over_links: told,
+        })
+    }
+
+    /// Takes a FIS for the device, and sends one of it.
+    fn serve<R: Wait>(&mut self, rt: &R) -> Result<Progress, Fault>
+        ensures run { OnOk result (GoesOnRunning D.plan_of D.stands_for D.may_send self.old self.new) }
+        ensures port { IsAtSamePort self.old self.new }
+        ensures gate { result ≡ Err fault.GateShut → G.may_refuse }
+    {
         let took = self.station.take(rt, self.alloc, self.gate)?;
         let gave = self.station.give(self.alloc)?;
         let sent = self.station.send(rt);
-        if told || took || sent {
+        Ok(Progress {
+            is_any: took || gave || sent,
+            is_over_links: took || sent,
+        })
+    }
+
+    /// Tries each step once, and says whether anything moved. Rings for the multiplier if something
+    /// went over a link.
+    fn turn<R: Wait>(&mut self, rt: &R, post: &Post<'_>) -> Result<bool, Fault>
+        ensures run { OnOk result (GoesOnRunning D.plan_of D.stands_for D.may_send self.old self.new) }
+        ensures port { IsAtSamePort self.old self.new }
+        ensures gate { result ≡ Err fault.GateShut → G.may_refuse }
+    {
+        let changed = self.change(rt)?;
+        let served = self.serve(rt)?;
+        if changed.is_over_links || served.is_over_links {
             post.ring(Who::One);
         }
-        Ok(pulled || plugged || told || took || gave || sent)
+        Ok(changed.is_any || served.is_any)
     }
 }
 
