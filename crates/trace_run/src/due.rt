@@ -73,18 +73,19 @@ impl Due {
     /// Whether this step is due, at this port if it has one.
     #[inline(always)]
     pub fn has(&self, step: RoundStep, port: u8) -> bool {
-        match step {
-            RoundStep::PmPresence => self.presence.has(port),
-            RoundStep::DiskTake => self.disk_take.has(port),
-            RoundStep::DiskSend => self.disk_send.has(port),
-            RoundStep::PmFromDevice => self.from_device.has(port),
-            RoundStep::PmDown => self.down.has(port),
-            RoundStep::PmFromHost => self.from_host,
-            RoundStep::PmUp => self.up,
-            RoundStep::HostTake => self.host_take,
-            RoundStep::Tick => self.tick,
-            RoundStep::HostPush => self.push,
-        }
+        let ports = match step {
+            RoundStep::PmPresence => self.presence,
+            RoundStep::DiskTake => self.disk_take,
+            RoundStep::DiskSend => self.disk_send,
+            RoundStep::PmFromDevice => self.from_device,
+            RoundStep::PmDown => self.down,
+            RoundStep::PmFromHost => return self.from_host,
+            RoundStep::PmUp => return self.up,
+            RoundStep::HostTake => return self.host_take,
+            RoundStep::Tick => return self.tick,
+            RoundStep::HostPush => return self.push,
+        };
+        ports.has(port)
     }
 
     /// Takes note of what a step answered, in the world as it is since then.

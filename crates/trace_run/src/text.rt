@@ -248,11 +248,11 @@ pub fn print_view<W: Write>(
 impl fmt::Display for Reply {
     fn fmt<W: fmt::Write>(&self, f: &mut fmt::Formatter<W>) -> fmt::Result {
         match self {
-            Reply::World(sizes) => write!(f, "{sizes}"),
+            Reply::World(sizes) => sizes.fmt(f),
             Reply::Came { port, conn } => write_connection("came", *port, *conn, f),
             Reply::Gone { port, conn } => write_connection("gone", *port, *conn, f),
-            Reply::Sent(frame) => write!(f, "sent {frame}"),
-            Reply::Took(frame) => write!(f, "took {frame}"),
+            Reply::Sent(frame) => frame.write("sent", f),
+            Reply::Took(frame) => frame.write("took", f),
             Reply::Refused(error) => write_refused_step(*error, f),
             Reply::Submitted(_)
             | Reply::RequestRefused(_)
@@ -401,13 +401,11 @@ pub fn write_outcome<W: fmt::Write>(outcome: Outcome, f: &mut fmt::Formatter<W>)
     }
 }
 
-impl fmt::Display for FrameText {
-    fn fmt<W: fmt::Write>(&self, f: &mut fmt::Formatter<W>) -> fmt::Result {
-        write!(
-            f,
-            "{} {} {} {}",
-            self.port, self.conn, self.number, self.digits
-        )
+impl FrameText {
+    /// Writes what became of the frame, and the frame.
+    fn write<W: fmt::Write>(&self, what: &str, f: &mut fmt::Formatter<W>) -> fmt::Result {
+        write!(f, "{what} {} {} {}", self.port, self.conn, self.number)?;
+        write!(f, " {}", self.digits)
     }
 }
 

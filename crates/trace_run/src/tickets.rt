@@ -47,13 +47,11 @@ impl Tickets {
 
     /// A request was taken: it stands in the lowest free slot.
     pub fn take(&mut self, ticket: u32, asked: Asked) -> Option<u8> {
-        for slot in 0..32_u8 {
-            if let Some(held @ None) = self.by_slot.get_mut(usize::from(slot)) {
-                *held = Some(Held { ticket, asked });
-                return Some(slot);
-            }
+        let slot = self.by_slot.iter().position(|held| held.is_none())?;
+        if let Some(held) = self.by_slot.get_mut(slot) {
+            *held = Some(Held { ticket, asked });
         }
-        None
+        Some(slot as u8)
     }
 
     /// A request was polled: its slot is free.
@@ -91,21 +89,23 @@ pub struct SlotList<'a> {
 
 impl fmt::Display for SlotList<'_> {
     fn fmt<W: fmt::Write>(&self, f: &mut fmt::Formatter<W>) -> fmt::Result {
-        let mut is_first = true;
+        let mut between = "";
         for slot in 0..32_u8 {
-            if self.mask & bit_of(slot) == 0 {
-                continue;
-            }
-            if !is_first {
-                f.write_str(", ")?;
-            }
-            is_first = false;
-            write!(f, "slot {slot}")?;
-            if let Some(ticket) = self.tickets.of(slot) {
-                write!(f, " ticket {ticket}")?;
+            if self.mask & bit_of(slot) != 0 {
+                write!(f, "{between}slot {slot}")?;
+                write_ticket(self.tickets.of(slot), f)?;
+                between = ", ";
             }
         }
         Ok(())
+    }
+}
+
+/// Writes the ticket of a slot, if it has one.
+fn write_ticket<W: fmt::Write>(ticket: Option<u32>, f: &mut fmt::Formatter<W>) -> fmt::Result {
+    match ticket {
+        Some(ticket) => write!(f, " ticket {ticket}"),
+        None => Ok(()),
     }
 }
 
@@ -121,18 +121,24 @@ impl fmt::Display for SlotArray<'_> {
     fn fmt<W: fmt::Write>(&self, f: &mut fmt::Formatter<W>) -> fmt::Result {
         let mut between = "[";
         for slot in 0..32_u8 {
-            let number = match self.tickets {
-                None => Some(u32::from(slot)),
-                Some(tickets) => tickets.of(slot),
-            };
-            if self.mask & bit_of(slot) == 0 {
-                continue;
-            }
-            if let Some(number) = number {
+            if let Some(number) = self.number_of(slot) {
                 write!(f, "{between}{number}")?;
                 between = ",";
             }
         }
         f.write_str(if between == "[" { "[]" } else { "]" })
+    }
+}
+
+impl SlotArray<'_> {
+    /// What stands for a slot, if anything does.
+    fn number_of(&self, slot: u8) -> Option<u32> {
+        if self.mask & bit_of(slot) == 0 {
+            return None;
+        }
+        match self.tickets {
+            None => Some(u32::from(slot)),
+            Some(tickets) => tickets.of(slot),
+        }
     }
 }
