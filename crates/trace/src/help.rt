@@ -24,7 +24,7 @@ exit status
   1  a line of the input is refused: standard output ends with `line L: WORD`
   2  the command line is refused
   3  no memory
-  4  the input cannot be read, or standard output not be written
+  4  the input or a disk's file cannot be read, or standard output or that file not be written
   5  the turns of the threads are spent
   6  a line `expect` of the input is not met
 ";

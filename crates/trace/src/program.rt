@@ -175,17 +175,17 @@ fn work<H: Files + Eprint, R: Read + Drop, W: Write + Drop>(
     close(out, done)
 }
 
-fn play<E: Eprint, W: Write>(
-    errors: &E,
+fn play<H: Files + Eprint, W: Write>(
+    rt: &H,
     alloc: Global,
     task: Task,
     input: &[u8],
     out: &mut W,
 ) -> Result<(), Failure> {
     match task {
-        Task::Decode => decode(errors, alloc, input, out),
-        Task::Run(watch) => play_steps(errors, alloc, watch, input, out),
-        Task::Guest(is_traced) => play_guest(errors, alloc, is_traced, input, out),
+        Task::Decode => decode(rt, alloc, input, out),
+        Task::Run(watch) => play_steps(rt, alloc, watch, input, out),
+        Task::Guest(is_traced) => play_guest(rt, alloc, is_traced, input, out),
     }
 }
 
@@ -228,7 +228,7 @@ fn close<W: Write + Drop>(mut out: BufWriter<W>, done: Result<(), Failure>) -> u
     ensures status { result ≤ 6 }
 {
     let written = match done {
-        Ok(()) | Err(Failure::OutOfMemory) => out.flush(),
+        Ok(()) | Err(Failure::OutOfMemory | Failure::DiskFile { .. }) => out.flush(),
         Err(Failure::ReadOrWrite) => Ok(()),
         Err(failure) => writeln!(out, "{failure}").and_then(|()| out.flush()),
     };

@@ -6,7 +6,10 @@ use disk_model::Device;
 use fis_view::{Frame, Stamp};
 use multiplier::Multiplier;
 use std::alloc::{AllocError, Global};
+use std::fs::OpenFile;
+use std::io::{Read, Seek, Write};
 use stock_disk::StockDisk;
+use trace_text::{Failure, Media};
 
 /// The disk of a port.
 #[derive(Drop)]
@@ -28,6 +31,21 @@ impl Bay {
             conn: 0,
             number: 0,
         }
+    }
+
+    /// The disk.
+    pub fn disk(&self) -> &StockDisk {
+        &self.disk
+    }
+
+    /// The disk gets the sectors of its file, if it has one.
+    pub fn load<F: Read + Write + Seek + OpenFile + Drop>(
+        &mut self,
+        alloc: Global,
+        n: u8,
+        media: &mut Media<F>,
+    ) -> Result<(), Failure> {
+        media.load(alloc, n, &mut self.disk)
     }
 
     /// Whether the disk is plugged in.

@@ -10,8 +10,9 @@ use fis_view::{Bytes, Frame};
 use guest_bytes::{FlatGuest, Guest, Move, NotThere};
 use multiplier::{Multiplier, PmRefusal};
 use std::alloc::{AllocError, Global};
-use std::io::Write;
-use trace_text::Failure;
+use std::fs::OpenFile;
+use std::io::{Read, Seek, Write};
+use trace_text::{Failure, Media};
 
 /// A controller, the memory of its guest, a port multiplier, and a disk for each of its ports.
 #[derive(Drop)]
@@ -81,6 +82,22 @@ impl Board {
             down: None,
             is_traced,
         })
+    }
+
+    /// Each disk gets the sectors of its file, if it has one.
+    pub fn load<F: Read + Write + Seek + OpenFile + Drop>(
+        &mut self,
+        alloc: Global,
+        media: &mut Media<F>,
+    ) -> Result<(), Failure> {
+        for port in 0..15_u8 {
+            let i = usize::from(port);
+            if i < self.bays.len() {
+                let bay = &mut self.bays[i];
+                bay.load(alloc, port, media)?;
+            }
+        }
+        Ok(())
     }
 
     /// The disk at this port is plugged in. Says the number of its connection, and None if it was there
@@ -164,14 +181,15 @@ impl Board {
 
     /// Moves what can move, round by round, at most this many. Says whether a round came in which nothing
     /// did.
-    pub fn settle<W: Write>(
+    pub fn settle<F: Read + Write + Seek + OpenFile + Drop, W: Write>(
         &mut self,
         alloc: Global,
+        media: &mut Media<F>,
         rounds: u64,
         out: &mut W,
     ) -> Result<bool, Failure> {
         for _ in 0..rounds {
-            if !self.round(alloc, out)? {
+            if !self.round(alloc, media, out)? {
                 return Ok(true);
             }
         }
@@ -180,10 +198,15 @@ impl Board {
 
     /// Moves a FIS out of the controller, one down to each disk and one up from it, and one into the
     /// controller. Says whether one moved.
-    fn round<W: Write>(&mut self, alloc: Global, out: &mut W) -> Result<bool, Failure> {
+    fn round<F: Read + Write + Seek + OpenFile + Drop, W: Write>(
+        &mut self,
+        alloc: Global,
+        media: &mut Media<F>,
+        out: &mut W,
+    ) -> Result<bool, Failure> {
         let mut is_moved = self.move_out(alloc, out)?;
         for port in 0..15_u8 {
-            is_moved |= self.move_at(alloc, port)?;
+            is_moved |= self.move_at(alloc, port, media)?;
         }
         is_moved |= self.move_in(alloc, out)?;
         Ok(is_moved)
@@ -211,14 +234,23 @@ impl Board {
         }
     }
 
-    /// Between the multiplier and the disk at this port, both ways.
-    fn move_at(&mut self, alloc: Global, port: u8) -> Result<bool, Failure> {
+    /// Between the multiplier and the disk at this port, both ways. What a FIS changes of the disk's sectors is in its
+    /// file before the disk sends one.
+    fn move_at<F: Read + Write + Seek + OpenFile + Drop>(
+        &mut self,
+        alloc: Global,
+        port: u8,
+        media: &mut Media<F>,
+    ) -> Result<bool, Failure> {
         let i = usize::from(port);
         if i >= self.bays.len() {
             return Ok(false);
         }
         let bay = &mut self.bays[i];
         let is_taken = bay.take(alloc, port, &mut self.multiplier)?;
+        if is_taken {
+            media.save(port, bay.disk())?;
+        }
         let is_sent = bay.send(alloc, port, &mut self.multiplier)?;
         Ok(is_taken || is_sent)
     }

@@ -4,7 +4,8 @@ use crate::opening::{Opening, Setting, Sizes};
 use fis_view::Bytes;
 use guest_bytes::{FlatError, FlatGuest};
 use std::alloc::Global;
-use trace_text::{Failure, Quantity, Refusal, Shape, Wanted, Words};
+use std::rt::Files;
+use trace_text::{Failure, Filed, Quantity, Refusal, Shape, Wanted, Words, read_filed};
 
 /// The most rounds of one line.
 const MOST_ROUNDS: u64 = 1_000_000;
@@ -79,11 +80,33 @@ fn memory(alloc: Global, words: &mut Words<'_>, sizes: Sizes) -> Result<Setting,
 
 /// The words after `disk`.
 fn disk(words: &mut Words<'_>, opening: &Opening) -> Result<Setting, Failure> {
+    let port = free_port(words, opening)?;
+    Ok(Setting::Disk(port, Shape::read(words, port)?))
+}
+
+/// A port of whose disk no line has spoken.
+fn free_port(words: &mut Words<'_>, opening: &Opening) -> Result<u8, Failure> {
     let port = words.port(opening.sizes().ports - 1)?;
     if opening.has_disk(port) {
         return Err(words.refused(Refusal::Order, Wanted::FreePort));
     }
-    Ok(Setting::Disk(port, Shape::read(words, port)?))
+    Ok(port)
+}
+
+/// A line `disk N file ..` of this name: the port and its disk, whose file is opened; None if the line is another.
+pub fn filed_disk<H: Files>(
+    files: &H,
+    name: &[u8],
+    words: &mut Words<'_>,
+    opening: &Opening,
+) -> Result<Option<(u8, Filed<H::File>)>, Failure> {
+    if name != b"disk".as_slice() || !words.has_second(b"file") {
+        return Ok(None);
+    }
+    let port = free_port(words, opening)?;
+    let filed = read_filed(files, words, port)?;
+    words.end()?;
+    Ok(Some((port, filed)))
 }
 
 impl Action {

@@ -2,18 +2,22 @@
 
 use crate::board::Board;
 use crate::opening::{Opening, Setting};
-use crate::parse::Action;
+use crate::parse::{Action, filed_disk};
 use crate::text::Reply;
 use std::alloc::Global;
-use std::io::{Eprint, Write};
+use std::fs::OpenFile;
+use std::io::{Eprint, Read, Seek, Write};
 use std::mem;
-use trace_text::{Failure, Lines, Printer, Refusal, Wanted, Words, is_skipped, play_aside};
+use std::rt::Files;
+use trace_text::{
+    Failure, Filed, Lines, Media, Printer, Refusal, Wanted, Words, is_skipped, play_aside,
+};
 
 /// Plays the scenario line by line and writes what each line prints. A refused line ends it; the
 /// lines before it have acted and printed. A line that prints something else than was expected ends
 /// it, too; standard error gets both. If it is traced, each FIS on the link is written as well.
-pub fn play_guest<E: Eprint, W: Write>(
-    errors: &E,
+pub fn play_guest<H: Files + Eprint, W: Write>(
+    rt: &H,
     alloc: Global,
     is_traced: bool,
     input: &[u8],
@@ -21,35 +25,39 @@ pub fn play_guest<E: Eprint, W: Write>(
 ) -> Result<(), Failure> {
     let mut printer = Printer::new(alloc, false);
     let mut scenario = Scenario::new(alloc, is_traced);
-    let played = scenario.play_lines(alloc, Lines::of(input), &mut printer, out);
+    let played = scenario.play_lines(rt, alloc, Lines::of(input), &mut printer, out);
     if let (Err(Failure::Unexpected { .. }), Some(mismatch)) = (played, printer.mismatch()) {
         // If standard error is closed, the exit status still tells.
-        let _unheard = errors.eprintln(mismatch);
+        let _unheard = rt.eprintln(mismatch);
     }
     played
 }
 
 /// A scenario up to some line.
 #[derive(Drop)]
-struct Scenario {
+struct Scenario<F: Drop> {
     is_traced: bool,
     opening: Opening,
+    /// The files of disks.
+    media: Media<F>,
     /// The board, once it is built.
     scene: Option<Scene>,
 }
 
-impl Scenario {
-    fn new(alloc: Global, is_traced: bool) -> Scenario {
+impl<F: Read + Write + Seek + OpenFile + Drop> Scenario<F> {
+    fn new(alloc: Global, is_traced: bool) -> Scenario<F> {
         Scenario {
             is_traced,
             opening: Opening::new(alloc),
+            media: Media::new(alloc),
             scene: None,
         }
     }
 
     /// Does what all lines say.
-    fn play_lines<'a, W: Write>(
+    fn play_lines<'a, H: Files<File = F>, W: Write>(
         &mut self,
+        files: &H,
         alloc: Global,
         mut lines: Lines<'a>,
         printer: &mut Printer<'a>,
@@ -65,7 +73,7 @@ impl Scenario {
             let mut words = Words::of(line, text);
             let name = words.next_word().unwrap_or(&[]);
             if !play_aside(name, &mut words, &mut lines, printer)? {
-                self.play_line(alloc, name, words, printer, out)?;
+                self.play_line(files, alloc, name, words, printer, out)?;
             }
         }
         self.end(alloc, printer, out)?;
@@ -73,8 +81,9 @@ impl Scenario {
     }
 
     /// Does what one line of this name says.
-    fn play_line<W: Write>(
+    fn play_line<H: Files<File = F>, W: Write>(
         &mut self,
+        files: &H,
         alloc: Global,
         name: &[u8],
         mut words: Words<'_>,
@@ -82,12 +91,22 @@ impl Scenario {
         out: &mut W,
     ) -> Result<(), Failure> {
         if let Some(scene) = &mut self.scene {
-            return scene.play_line(alloc, name, words, printer, out);
+            return scene.play_line(alloc, name, words, &mut self.media, printer, out);
+        }
+        if let Some((port, filed)) = filed_disk(files, name, &mut words, &self.opening)? {
+            return self.set_filed(port, filed);
         }
         match Setting::read(alloc, name, &mut words, &self.opening)? {
             Some(setting) => Ok(self.opening.set(setting)?),
             None => self.begin(alloc, name, words, printer, out),
         }
+    }
+
+    /// Takes in what a line says about a disk that has its sectors in a file.
+    fn set_filed(&mut self, port: u8, filed: Filed<F>) -> Result<(), Failure> {
+        let Filed { shape, medium } = filed;
+        self.opening.set(Setting::Disk(port, shape))?;
+        Ok(self.media.set(port, medium)?)
     }
 
     /// Builds the board at the first line that is not a setting, even if that line is refused, and
@@ -105,7 +124,8 @@ impl Scenario {
     ) -> Result<(), Failure> {
         let opening = self.close_opening(alloc);
         let mut scene = Scene::open(alloc, self.is_traced, opening, printer, out)?;
-        scene.play_line(alloc, name, words, printer, out)?;
+        scene.board.load(alloc, &mut self.media)?;
+        scene.play_line(alloc, name, words, &mut self.media, printer, out)?;
         self.scene = Some(scene);
         Ok(())
     }
@@ -157,26 +177,28 @@ impl Scene {
     }
 
     /// Does what one line asks of the board.
-    fn play_line<W: Write>(
+    fn play_line<F: Read + Write + Seek + OpenFile + Drop, W: Write>(
         &mut self,
         alloc: Global,
         name: &[u8],
         mut words: Words<'_>,
+        media: &mut Media<F>,
         printer: &mut Printer<'_>,
         out: &mut W,
     ) -> Result<(), Failure> {
         let action = Action::read(alloc, name, &mut words, self.last)?;
-        let reply = self.act(alloc, action, &words, out)?;
+        let reply = self.act(alloc, action, &words, media, out)?;
         printer.print(alloc, &reply, out)
     }
 
     /// Does what one line asks, and gives what is printed about it. A place that is not all memory is
     /// `range`; a disk that comes where it is, or goes where it is not, is `order`.
-    fn act<W: Write>(
+    fn act<F: Read + Write + Seek + OpenFile + Drop, W: Write>(
         &mut self,
         alloc: Global,
         action: Action,
         words: &Words<'_>,
+        media: &mut Media<F>,
         out: &mut W,
     ) -> Result<Reply, Failure> {
         let reply = match action {
@@ -200,7 +222,7 @@ impl Scene {
                 Err(_) => return Err(words.refused_at(2, Refusal::Range, Wanted::GuestArea)),
             },
             Action::Show(at, len) => self.show(alloc, at, len, words)?,
-            Action::Settle(rounds) => match self.board.settle(alloc, rounds, out)? {
+            Action::Settle(rounds) => match self.board.settle(alloc, media, rounds, out)? {
                 true => Reply::Settled,
                 false => Reply::Unsettled,
             },

@@ -10,7 +10,8 @@ use hba_driver::{Mode, Request, Work};
 use hba_fbs::Register;
 use pm_world::Step;
 use std::alloc::Global;
-use trace_text::{Failure, Keyword, Quantity, Refusal, Shape, Wanted, Words};
+use std::rt::Files;
+use trace_text::{Failure, Filed, Keyword, Quantity, Refusal, Shape, Wanted, Words, read_filed};
 
 /// The largest address, and the largest number of bytes.
 const LARGEST: u64 = 0xFFFF_FFFF;
@@ -238,14 +239,36 @@ fn sizes(words: &mut Words<'_>, has_modes: bool) -> Result<Sizes, Failure> {
 
 /// The words after `disk`.
 fn disk(words: &mut Words<'_>, opening: &Opening) -> Result<Option<Setting>, Failure> {
+    let port = free_port(words, opening)?;
+    let shape = Shape::read(words, port)?;
+    words.end()?;
+    Ok(Some(Setting::Disk(port, shape)))
+}
+
+/// A port of the world of whose device no line has spoken.
+fn free_port(words: &mut Words<'_>, opening: &Opening) -> Result<u8, Failure> {
     let port = words.port(LAST_NAME)?;
     if opening.has_disk(port) || opening.has_script(port) {
         return Err(words.refused(Refusal::Order, Wanted::FreePort));
     }
     has_port(words, opening, port)?;
-    let shape = Shape::read(words, port)?;
+    Ok(port)
+}
+
+/// A line `disk N file ..` of this name: the port and its disk, whose file is opened; None if the line is another.
+pub fn filed_disk<H: Files>(
+    files: &H,
+    name: &[u8],
+    words: &mut Words<'_>,
+    opening: &Opening,
+) -> Result<Option<(u8, Filed<H::File>)>, Failure> {
+    if name != b"disk".as_slice() || !words.has_second(b"file") {
+        return Ok(None);
+    }
+    let port = free_port(words, opening)?;
+    let filed = read_filed(files, words, port)?;
     words.end()?;
-    Ok(Some(Setting::Disk(port, shape)))
+    Ok(Some((port, filed)))
 }
 
 /// Checks that the world has this port.

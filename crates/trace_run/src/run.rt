@@ -2,22 +2,25 @@
 
 use crate::due::Due;
 use crate::opening::{Opening, Sizes};
-use crate::parse::{Action, Setting};
+use crate::parse::{Action, Setting, filed_disk};
 use crate::round_step::RoundStep;
 use crate::text::{Reply, print_faults, print_register, print_registers, print_sizes, print_view};
 use crate::tracer::{Sight, Tracer};
 use crate::watch::Watch;
+use disk_model::Unit;
 use pm_world::{Answer, Counts, Step, StepError, World, WorldError};
 use std::alloc::{AllocError, Global};
-use std::io::{Eprint, Write};
+use std::fs::OpenFile;
+use std::io::{Eprint, Read, Seek, Write};
 use std::mem;
-use trace_text::{Failure, Lines, Printer, Words, is_skipped, play_aside};
+use std::rt::Files;
+use trace_text::{Failure, Filed, Lines, Media, Printer, Words, is_skipped, play_aside};
 
 /// Plays the scenario line by line and writes what each line prints. A refused line ends it; the
 /// lines before it have acted and printed. A line that prints something else than was expected ends
 /// it, too; standard error gets both.
-pub fn play_steps<E: Eprint, W: Write>(
-    errors: &E,
+pub fn play_steps<H: Files + Eprint, W: Write>(
+    rt: &H,
     alloc: Global,
     watch: Watch,
     input: &[u8],
@@ -25,35 +28,39 @@ pub fn play_steps<E: Eprint, W: Write>(
 ) -> Result<(), Failure> {
     let mut printer = Printer::new(alloc, watch.is_json);
     let mut scenario = Scenario::new(alloc, watch);
-    let played = scenario.play_lines(alloc, Lines::of(input), &mut printer, out);
+    let played = scenario.play_lines(rt, alloc, Lines::of(input), &mut printer, out);
     if let (Err(Failure::Unexpected { .. }), Some(mismatch)) = (played, printer.mismatch()) {
         // If standard error is closed, the exit status still tells.
-        let _unheard = errors.eprintln(mismatch);
+        let _unheard = rt.eprintln(mismatch);
     }
     played
 }
 
 /// A scenario up to some line.
 #[derive(Drop)]
-struct Scenario {
+struct Scenario<F: Drop> {
     watch: Watch,
     opening: Opening,
+    /// The files of disks, as long as the world is not built.
+    media: Media<F>,
     /// The world and its counts, once it is built.
-    scene: Option<Scene>,
+    scene: Option<Scene<F>>,
 }
 
-impl Scenario {
-    fn new(alloc: Global, watch: Watch) -> Scenario {
+impl<F: Read + Write + Seek + OpenFile + Drop> Scenario<F> {
+    fn new(alloc: Global, watch: Watch) -> Scenario<F> {
         Scenario {
             watch,
             opening: Opening::new(alloc, true),
+            media: Media::new(alloc),
             scene: None,
         }
     }
 
     /// Does what all lines say.
-    fn play_lines<'a, W: Write>(
+    fn play_lines<'a, H: Files<File = F>, W: Write>(
         &mut self,
+        files: &H,
         alloc: Global,
         mut lines: Lines<'a>,
         printer: &mut Printer<'a>,
@@ -69,7 +76,7 @@ impl Scenario {
             let mut words = Words::of(line, text);
             let name = words.next_word().unwrap_or(&[]);
             if !play_aside(name, &mut words, &mut lines, printer)? {
-                self.play_line(alloc, name, words, printer, out)?;
+                self.play_line(files, alloc, name, words, printer, out)?;
             }
         }
         self.end(alloc, printer, out)?;
@@ -77,8 +84,9 @@ impl Scenario {
     }
 
     /// Does what one line of this name says.
-    fn play_line<W: Write>(
+    fn play_line<H: Files<File = F>, W: Write>(
         &mut self,
+        files: &H,
         alloc: Global,
         name: &[u8],
         mut words: Words<'_>,
@@ -87,6 +95,9 @@ impl Scenario {
     ) -> Result<(), Failure> {
         if let Some(scene) = &mut self.scene {
             return scene.play_line(alloc, name, words, printer, out);
+        }
+        if let Some((port, filed)) = filed_disk(files, name, &mut words, &self.opening)? {
+            return self.set_filed(alloc, port, filed);
         }
         match Setting::read(alloc, name, &mut words, &self.opening)? {
             Some(setting) => self.set(alloc, setting),
@@ -97,6 +108,13 @@ impl Scenario {
     /// Takes in what a line says about the world.
     fn set(&mut self, alloc: Global, setting: Setting) -> Result<(), Failure> {
         Ok(self.opening.set(alloc, setting)?)
+    }
+
+    /// Takes in what a line says about a disk that has its sectors in a file.
+    fn set_filed(&mut self, alloc: Global, port: u8, filed: Filed<F>) -> Result<(), Failure> {
+        let Filed { shape, medium } = filed;
+        self.set(alloc, Setting::Disk(port, shape))?;
+        Ok(self.media.set(port, medium)?)
     }
 
     /// Builds the world at the first line that is not a setting, even if that line is refused, and
@@ -125,9 +143,12 @@ impl Scenario {
         alloc: Global,
         printer: &mut Printer<'_>,
         out: &mut W,
-    ) -> Result<Scene, Failure> {
+    ) -> Result<Scene<F>, Failure> {
         let opening = mem::replace(&mut self.opening, Opening::new(alloc, true));
-        Scene::open(alloc, self.watch, opening, printer, out)
+        let media = mem::replace(&mut self.media, Media::new(alloc));
+        let scene = Scene::new(alloc, self.watch, opening, media)?;
+        print_sizes(alloc, scene.sizes, printer, out)?;
+        Ok(scene)
     }
 
     /// Builds the world if no line did, so that it is told of, too.
@@ -144,10 +165,36 @@ impl Scenario {
     }
 }
 
+/// Why a step ends the scenario.
+#[derive(Clone, Copy)]
+enum Stop {
+    /// The allocator refused memory.
+    OutOfMemory,
+    /// The sectors of the disk at this port cannot go to its file.
+    NotSaved(u8),
+}
+
+impl From<AllocError> for Stop {
+    fn from(_: AllocError) -> Stop {
+        Stop::OutOfMemory
+    }
+}
+
+impl From<Stop> for Failure {
+    fn from(stop: Stop) -> Failure {
+        match stop {
+            Stop::OutOfMemory => Failure::OutOfMemory,
+            Stop::NotSaved(port) => Failure::DiskFile { port },
+        }
+    }
+}
+
 /// A world that is built, and what its answers have told so far.
 #[derive(Drop)]
-struct Scene {
+struct Scene<F: Drop> {
     world: World,
+    /// The files of its disks.
+    media: Media<F>,
     sizes: Sizes,
     counts: Counts,
     /// Which steps of a round are tried.
@@ -155,25 +202,18 @@ struct Scene {
     tracer: Tracer,
 }
 
-impl Scene {
-    /// Builds the world and writes its sizes.
-    fn open<W: Write>(
+impl<F: Read + Write + Seek + OpenFile + Drop> Scene<F> {
+    /// Builds the world.
+    fn new(
         alloc: Global,
         watch: Watch,
         opening: Opening,
-        printer: &mut Printer<'_>,
-        out: &mut W,
-    ) -> Result<Scene, Failure> {
-        let scene = Scene::new(alloc, watch, opening)?;
-        print_sizes(alloc, scene.sizes, printer, out)?;
-        Ok(scene)
-    }
-
-    /// Builds the world.
-    fn new(alloc: Global, watch: Watch, opening: Opening) -> Result<Scene, Failure> {
+        mut media: Media<F>,
+    ) -> Result<Scene<F>, Failure> {
         Ok(Scene {
             sizes: opening.sizes(),
-            world: world_of(alloc, opening)?,
+            world: world_of(alloc, opening, &mut media)?,
+            media,
             counts: Counts::new(alloc),
             due: Due::all(),
             tracer: Tracer::new(watch),
@@ -347,7 +387,7 @@ impl Scene {
     /// Does one step that is not traced, and says whether it was neither idle nor blocked.
     // The answer stays where it is made: to hand it on costs as much as a step.
     #[inline(never)]
-    fn moves_unseen(&mut self, alloc: Global, step: &Step) -> Result<bool, AllocError> {
+    fn moves_unseen(&mut self, alloc: Global, step: &Step) -> Result<bool, Stop> {
         let acted = &self.world.step(alloc, step);
         self.note(step, acted)?;
         Ok(has_moved(acted))
@@ -402,22 +442,65 @@ impl Scene {
 
     /// Counts the answer of a step, and takes note of which steps are due after it. If memory was refused,
     /// that is passed on.
-    fn note(&mut self, step: &Step, acted: &Result<Answer, StepError>) -> Result<(), AllocError> {
+    fn note(&mut self, step: &Step, acted: &Result<Answer, StepError>) -> Result<(), Stop> {
         match acted {
             Ok(answer) => {
                 self.due.note(&self.world, step, answer);
-                self.counts.note(answer)
+                self.keep(answer)?;
+                Ok(self.counts.note(answer)?)
             }
-            Err(StepError::OutOfMemory) => Err(AllocError),
+            Err(StepError::OutOfMemory) => Err(Stop::OutOfMemory),
             Err(_) => Ok(()),
+        }
+    }
+
+    /// What a FIS changed of a disk's sectors goes to its file, before the disk sends one.
+    #[inline(always)]
+    fn keep(&mut self, answer: &Answer) -> Result<(), Stop> {
+        match answer {
+            Answer::DiskTook { port, .. } if self.media.has(*port) => self.save(*port),
+            _ => Ok(()),
+        }
+    }
+
+    /// The sectors of the disk at this port that changed go to its file.
+    #[inline(never)]
+    fn save(&mut self, port: u8) -> Result<(), Stop> {
+        let Some(Unit::Disk(disk)) = self.world.unit(port) else {
+            return Ok(());
+        };
+        match self.media.save(port, disk) {
+            Ok(()) => Ok(()),
+            Err(_) => Err(Stop::NotSaved(port)),
         }
     }
 }
 
+/// Each disk gets the sectors of its file, if it has one.
+fn load_disks<F: Read + Write + Seek + OpenFile + Drop>(
+    alloc: Global,
+    media: &mut Media<F>,
+    units: &mut [Unit],
+) -> Result<(), Failure> {
+    let mut port = 0u8;
+    for unit in units.iter_mut() {
+        if let Unit::Disk(disk) = unit {
+            media.load(alloc, port, disk)?;
+        }
+        port = port.saturating_add(1);
+    }
+    Ok(())
+}
+
 /// The world of which lines told.
-fn world_of(alloc: Global, opening: Opening) -> Result<World, Failure> {
+fn world_of<F: Read + Write + Seek + OpenFile + Drop>(
+    alloc: Global,
+    opening: Opening,
+    media: &mut Media<F>,
+) -> Result<World, Failure> {
     let sizes = opening.sizes();
-    let units = opening.into_units(alloc)?;
+    let mut units = opening.into_units(alloc)?;
+    load_disks(alloc, media, units.as_mut_slice())?;
     match World::with_mode(alloc, sizes.mode, sizes.config(), units) {
         Ok(world) => Ok(world),
         Err(WorldError::OutOfMemory) => Err(Failure::OutOfMemory),

@@ -34,6 +34,11 @@ pub enum Failure {
     /// Standard input could not be read, or standard output could not be written.
     #[error("a read or a write failed")]
     ReadOrWrite,
+    /// The file in which the disk at this port has its sectors could not be read or written.
+    #[error("the file of disk {port} cannot be read or written")]
+    DiskFile {
+        port: u8,
+    },
 }
 
 /// Why a line of the input is refused.
@@ -57,6 +62,9 @@ pub enum Refusal {
     /// A number is outside its limits.
     #[error("range")]
     Range,
+    /// A file cannot be opened to be read and written, or no disk can have its sectors there.
+    #[error("file")]
+    File,
 }
 
 impl Failure {
@@ -70,7 +78,7 @@ impl Failure {
             Failure::Line { .. } => 1,
             Failure::CommandLine => 2,
             Failure::OutOfMemory => 3,
-            Failure::ReadOrWrite => 4,
+            Failure::ReadOrWrite | Failure::DiskFile { .. } => 4,
             Failure::Unexpected { .. } => 6,
         }
     }

@@ -36,6 +36,14 @@ impl Shape {
     pub fn read(words: &mut Words<'_>, port: u8) -> Result<Shape, Failure> {
         words.keyword(Keyword::Sectors)?;
         let sectors = words.number(Quantity::Sectors, 1, 65_536)? as u32;
+        Shape::of_size(words, port, sectors)
+    }
+
+    /// The words about the disk at this port that come after its size.
+    pub fn of_size(words: &mut Words<'_>, port: u8, sectors: u32) -> Result<Shape, Failure>
+        requires some { 1 ≤ sectors }
+        requires at_most { sectors ≤ 65536 }
+    {
         let plan = DiskPlan {
             order: order(words)?,
             chunk: chunk(words)?,

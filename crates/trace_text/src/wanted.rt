@@ -96,6 +96,10 @@ pub enum Wanted {
     FreePort,
     /// This word.
     Keyword(Keyword),
+    /// The path of a file.
+    Path,
+    /// A file that can be read and written, and has as many bytes as a disk.
+    DiskFile,
     /// `oldest` or `newest`.
     Order,
     /// At most 16 bad sectors.
@@ -173,6 +177,10 @@ impl Wanted {
             Wanted::DiskAway => "the disk of this port is there already",
             Wanted::DiskThere => "the disk of this port is not there",
             Wanted::FreePort => "a line before has said what stands at this port",
+            Wanted::Path => "wanted the path of a file",
+            Wanted::DiskFile => {
+                "wanted a file to read and write, of 1 to 65536 sectors of 512 bytes"
+            }
             Wanted::Order => "wanted `oldest` or `newest`",
             Wanted::FewerBad => "wanted at most 16 sectors that cannot be read",
             Wanted::WholeSectors => "wanted a multiple of 512",

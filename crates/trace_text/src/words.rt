@@ -60,6 +60,16 @@ impl<'a> Words<'a> {
         Some(word)
     }
 
+    /// Whether the word after the next is this one.
+    pub fn has_second(&self, word: &[u8]) -> bool {
+        let mut ahead = Words {
+            line: self.line,
+            asked: self.asked,
+            rest: self.rest,
+        };
+        ahead.next_word().is_some() && ahead.next_word() == Some(word)
+    }
+
     /// The next word as a number within these limits. A word that is missing, or that has anything
     /// except digits, is `number`. A number outside the limits is `range`.
     pub fn number(&mut self, what: Quantity, least: u64, most: u64) -> Result<u64, Failure>

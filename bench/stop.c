@@ -1,0 +1,87 @@
+/* Stands between a program and the C library's read, write, lseek and fdatasync, as a library that is loaded first
+ * (LD_PRELOAD), for files that the program opened itself: descriptors from 3 on. The environment says which call is met,
+ * counted from 1:
+ *
+ *     STOP_WRITE=N   the process ends at once, with status 99, in place of the Nth write
+ *     STOP_SYNC=N    the same in place of the Nth fdatasync
+ *     FAIL_FILE=N    the Nth of all these calls fails
+ *
+ * At the end of the program a line on standard error says how many calls, writes and syncs came: `calls K writes W syncs S`. */
+#include <errno.h>
+#include <stdio.h>
+#include <stdlib.h>
+#include <sys/syscall.h>
+#include <sys/types.h>
+#include <unistd.h>
+
+static long calls, writes, syncs, stop_write, stop_sync, fail_file;
+
+static long given(const char *name)
+{
+    const char *text = getenv(name);
+    return text ? atol(text) : 0;
+}
+
+__attribute__((constructor)) static void begin(void)
+{
+    stop_write = given("STOP_WRITE");
+    stop_sync = given("STOP_SYNC");
+    fail_file = given("FAIL_FILE");
+}
+
+static void __attribute__((noreturn)) leave(int status)
+{
+    syscall(SYS_exit_group, status);
+    __builtin_unreachable();
+}
+
+__attribute__((destructor)) static void end(void)
+{
+    static int is_said;
+    if (is_said++)
+        return;
+    char text[90];
+    int length = snprintf(text, sizeof text, "calls %ld writes %ld syncs %ld\n", calls, writes, syncs);
+    if (syscall(SYS_write, 2, text, length) != length)
+        abort();
+}
+
+/* Whether a call on this descriptor fails. */
+static int fails(int fd)
+{
+    if (fd < 3 || ++calls != fail_file)
+        return 0;
+    errno = EIO;
+    return 1;
+}
+
+ssize_t read(int fd, void *room, size_t length)
+{
+    return fails(fd) ? -1 : syscall(SYS_read, fd, room, length);
+}
+
+ssize_t write(int fd, const void *bytes, size_t length)
+{
+    if (fd >= 3 && ++writes == stop_write)
+        leave(99);
+    return fails(fd) ? -1 : syscall(SYS_write, fd, bytes, length);
+}
+
+off_t lseek(int fd, off_t at, int whence)
+{
+    return fails(fd) ? -1 : syscall(SYS_lseek, fd, at, whence);
+}
+
+int fdatasync(int fd)
+{
+    if (++syncs == stop_sync)
+        leave(99);
+    return fails(fd) ? -1 : (int)syscall(SYS_fdatasync, fd);
+}
+
+/* A program may end without a return from its main function. */
+void __attribute__((noreturn)) _exit(int status)
+{
+    end();
+    leave(status);
+}

@@ -1,0 +1,6 @@
+use Rattle.disk_image.specs.Media.{HasBelow}
+use Rattle.disk_image.proofs.image.save_all.Given as goal
+
+-- the sectors so far
+abbrev pub invariant-loop-lba : goal.invariant-loop-lba
+invariant-loop-lba g l = HasBelow l.lba (g.D.Sectors.medium_of l.disk) (g.M.Medium.contents_of l.medium)

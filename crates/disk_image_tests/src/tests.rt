@@ -1,0 +1,164 @@
+//! Disks that get their sectors from a medium, and give them back.
+
+use disk_image::{ImageError, Medium, MediumError, MemoryMedium, Sectors, load, save};
+use disk_model::{Device, Disk, DiskPlan, Order, Profile};
+use fis_view::{H2dFields, Stamp, h2d, payload};
+use std::alloc::Global;
+use std::test::Fail;
+use stock_disk::StockDisk;
+
+const STAMP: Stamp = Stamp {
+    port: 0,
+    conn: 1,
+    number: 0,
+    shown: [0; 15],
+};
+
+/// A medium of so many bytes, none of them as on a new disk.
+fn medium(alloc: Global, len: u32) -> Result<MemoryMedium, Fail> {
+    let mut bytes = Vec::with_capacity(alloc, len as usize)?;
+    for at in 0..len {
+        bytes.push(((at / 512 + at % 512 + 7) % 256) as u8)?;
+    }
+    match MemoryMedium::new(bytes) {
+        Some(medium) => Ok(medium),
+        None => Err(Fail::new("no medium")),
+    }
+}
+
+/// Whether the first sectors of a disk, so many, are those of a medium, and there are no others.
+fn has_sectors<D: Sectors>(disk: &D, medium: &MemoryMedium, count: u32) -> bool {
+    for lba in 0..count {
+        let start = 512 * lba as usize;
+        if disk.sector(lba) != medium.bytes().get(start..start + 512) {
+            return false;
+        }
+    }
+    disk.sector(count).is_none()
+}
+
+/// A command of this code for one sector, with tag 0.
+fn command(code: u8, lba: u64) -> H2dFields {
+    H2dFields {
+        pm_port: 0,
+        c: true,
+        command: code,
+        features: 1,
+        lba,
+        device: 0x40,
+        count: 0,
+        icc: 0,
+        control: 0,
+    }
+}
+
+/// The disk sends all that it has to send.
+fn drain<D: Device>(alloc: Global, disk: &mut D) -> Result<(), Fail> {
+    for _ in 0..20 {
+        if disk.next_out(alloc, STAMP)?.is_none() {
+            return Ok(());
+        }
+    }
+    Err(Fail::new("it does not end"))
+}
+
+/// A host writes this byte 512 times to a sector of a disk.
+fn writes<D: Device>(alloc: Global, disk: &mut D, lba: u64, byte: u8) -> Result<(), Fail> {
+    disk.on_frame(alloc, &h2d(alloc, &command(0x61, lba), STAMP)?)?;
+    drain(alloc, disk)?;
+    let bytes = vec![in alloc; byte; 512]?;
+    disk.on_frame(alloc, &payload(alloc, 0, &bytes, STAMP)?)?;
+    drain(alloc, disk)
+}
+
+/// The plan whose parts are none of those of a plain one.
+fn other_plan() -> DiskPlan {
+    let mut plan = DiskPlan {
+        order: Order::Newest,
+        chunk: 512,
+        last_first: true,
+        auto: true,
+        profile: Profile::Stock(3),
+        ..DiskPlan::plain()
+    };
+    plan.bad.push(2);
+    plan
+}
+
+#[test]
+fn a_disk_gets_sectors(rt: HostRuntime) -> Result<(), Fail> {
+    let alloc = rt.alloc();
+    let mut medium = medium(alloc, 8192)?;
+    let mut disk = Disk::new(alloc, 16, DiskPlan::plain())?;
+    assert_eq!(rt; load(alloc, &mut disk, &mut medium), Ok(()));
+    assert!(rt; has_sectors(&disk, &medium, 16));
+    let mut disk = StockDisk::new(alloc, 16, other_plan())?;
+    assert_eq!(rt; load(alloc, &mut disk, &mut medium), Ok(()));
+    assert!(rt; has_sectors(&disk, &medium, 16));
+    Ok(())
+}
+
+#[test]
+fn a_medium_gets_what_changed(rt: HostRuntime) -> Result<(), Fail> {
+    let alloc = rt.alloc();
+    let mut medium = medium(alloc, 8192)?;
+    let mut disk = StockDisk::new(alloc, 16, other_plan())?;
+    load(alloc, &mut disk, &mut medium)?;
+    disk.plugged(alloc)?;
+    drain(alloc, &mut disk)?;
+    writes(alloc, &mut disk, 15, 0xA5)?;
+    assert!(rt; !has_sectors(&disk, &medium, 16));
+    assert_eq!(rt; save(&disk, &mut medium), Ok(()));
+    assert!(rt; has_sectors(&disk, &medium, 16));
+    assert_eq!(rt; medium.bytes().last(), Some(&0xA5));
+    Ok(())
+}
+
+#[test]
+fn other_sizes_are_refused(rt: HostRuntime) -> Result<(), Fail> {
+    let alloc = rt.alloc();
+    for len in [7680, 8704] {
+        let mut medium = medium(alloc, len)?;
+        let mut disk = Disk::new(alloc, 16, DiskPlan::plain())?;
+        assert_eq!(rt;
+            load(alloc, &mut disk, &mut medium),
+            Err(ImageError::OtherSize)
+        );
+        assert_eq!(rt; save(&disk, &mut medium), Err(ImageError::OtherSize));
+    }
+    Ok(())
+}
+
+#[test]
+fn a_disk_in_reset_takes_none(rt: HostRuntime) -> Result<(), Fail> {
+    let alloc = rt.alloc();
+    let mut medium = medium(alloc, 8192)?;
+    let mut disk = Disk::new(alloc, 16, DiskPlan::plain())?;
+    let reset = H2dFields {
+        c: false,
+        control: 4,
+        ..command(0, 0)
+    };
+    disk.on_frame(alloc, &h2d(alloc, &reset, STAMP)?)?;
+    assert_eq!(rt;
+        load(alloc, &mut disk, &mut medium),
+        Err(ImageError::NotTaken)
+    );
+    Ok(())
+}
+
+#[test]
+fn sectors_of_a_medium(rt: HostRuntime) -> Result<(), Fail> {
+    let mut medium = medium(rt.alloc(), 1024)?;
+    let mut room = [0; 512];
+    assert_eq!(rt; medium.sectors(), 2);
+    assert_eq!(rt; medium.read(1, &mut room), Ok(()));
+    assert!(rt; room[0] == 8 && room[511] == 7);
+    assert_eq!(rt; medium.write(0, &room), Ok(()));
+    assert_eq!(rt; medium.flush(), Ok(()));
+    assert_eq!(rt; medium.read(2, &mut room), Err(MediumError::Read));
+    assert_eq!(rt; medium.write(2, &room), Err(MediumError::Write));
+    assert!(rt; medium.bytes().get(..512) == medium.bytes().get(512..));
+    assert_eq!(rt; medium.into_bytes().len(), 1024);
+    Ok(())
+}
