@@ -14,7 +14,8 @@
  * What a guest wrote to a disk with a file is in the file when the guest hears that the write ended. While a file cannot be
  * written, its disk stands still: the end of the write waits, and is tried again ten times a second.
  *
- * `log` gets the FISes on the link, at most `lines` of them, and `record` what the driver does (gefsunk_record.h).
+ * `log` gets the FISes on the link, at most `lines` of them, and `record` what the driver does (gefsunk_record.h). With
+ * `accesses=on` the log has each register that the driver reads or writes, too, with the time in seconds.
  */
 #include "qemu/osdep.h"
 #include "qapi/error.h"
@@ -50,7 +51,7 @@ struct GefsunkAhci {
     Recording recording;
     /* properties */
     uint32_t ports, disks, sectors, chunk, flags, lines;
-    bool fbs, multiplier, port0;
+    bool fbs, multiplier, port0, accesses;
     char *log, *record, *names;
 };
 
@@ -72,6 +73,15 @@ static void show(void *context, int is_out, const uint8_t *fis, size_t len)
         s->logged++;
         gef_fis_text(fis, len, text, sizeof text);
         fprintf(s->out, "%s %s\n", is_out ? "out" : "in ", text);
+    }
+}
+
+/* An access of the driver to a register, with the seconds since the emulator's host began. */
+static void show_access(GefsunkAhci *s, const char *way, hwaddr at, uint64_t value)
+{
+    if (s->accesses && s->out && s->logged < s->lines) {
+        s->logged++;
+        fprintf(s->out, "%.6f %s %" PRIx64 " %08" PRIx64 "\n", g_get_monotonic_time() / 1e6, way, at, value);
     }
 }
 
@@ -176,6 +186,7 @@ static uint64_t read_register(void *opaque, hwaddr at, unsigned size)
     uint32_t value = 0;
     must(gef_hba_read32(&s->pump.hba, at, &value));
     record_read(&s->recording, at, value);
+    show_access(s, "read", at, value);
     return at == 0 && !s->fbs ? value & ~CAP_FBSS : value;
 }
 
@@ -183,6 +194,7 @@ static void write_register(void *opaque, hwaddr at, uint64_t value, unsigned siz
 {
     GefsunkAhci *s = opaque;
     record_issue(&s->recording, &s->pump.hba, at, value);
+    show_access(s, "write", at, value);
     must(gef_pump_write32(&s->pump, at, value));
     record_write(&s->recording, at, value, s->pump.link);
     set_line(s);
@@ -314,6 +326,7 @@ static Property properties[] = {
     DEFINE_PROP_BOOL("fbs", GefsunkAhci, fbs, true),
     DEFINE_PROP_BOOL("multiplier", GefsunkAhci, multiplier, true),
     DEFINE_PROP_BOOL("port0", GefsunkAhci, port0, false),
+    DEFINE_PROP_BOOL("accesses", GefsunkAhci, accesses, false),
     DEFINE_PROP_STRING("log", GefsunkAhci, log),
     DEFINE_PROP_STRING("record", GefsunkAhci, record),
     DEFINE_PROP_STRING("images", GefsunkAhci, names),
