@@ -54,7 +54,9 @@ impl<F: Read + Write + Seek + OpenFile + Drop> Medium for FileMedium<F> {
 
     ghost stays_of = { λ _. None };
 
-    fn sectors(&self) -> u32 {
+    fn sectors(&self) -> u32
+        ensures { result ≡ self.now.sectors }
+    {
         self.sectors
     }
 

@@ -1,7 +1,7 @@
 //! Sectors go from a medium to a disk, and back.
 
-ghost use Rattle.std.specs.Prelude.{◌≡◌, true, OnOk, length};
-ghost use Rattle.disk_image.specs.Media.{HasBelow, IsReadAt, IsWrittenAt};
+ghost use Rattle.std.specs.Prelude.{◌≡◌, ◌≢◌, ◌==◌, ◌<◌, ◌≤◌, true, Err, OnOk, length};
+ghost use Rattle.disk_image.specs.Media.{HasBelow, HasOtherSize, IsReadAt, IsWrittenAt};
 ghost use Rattle.disk_model.specs.Chunks.{sectors_at};
 
 use crate::medium::{Medium, MediumError};
@@ -29,12 +29,22 @@ pub enum ImageError {
 }
 
 impl From<AllocError> for ImageError {
+    ghost use Rattle.std.specs.Prelude.{◌≡◌};
+    ghost use Rattle.disk_image.specs.declared.image.ImageError.TheVariants.{OutOfMemory};
+
+    ghost from_gives = { λ _ e. e ≡ OutOfMemory };
+
     fn from(_: AllocError) -> ImageError {
         ImageError::OutOfMemory
     }
 }
 
 impl From<MediumError> for ImageError {
+    ghost use Rattle.std.specs.Prelude.{◌≡◌};
+    ghost use Rattle.disk_image.specs.declared.image.ImageError.TheVariants as image;
+
+    ghost from_gives = { λ m e. e ≡ image.Medium m };
+
     fn from(error: MediumError) -> ImageError {
         ImageError::Medium(error)
     }
@@ -90,7 +100,7 @@ fn store<D: Device>(alloc: Global, disk: &mut D, lba: u32, bytes: &[u8]) -> Resu
 
 /// Whether a disk has just so many sectors.
 fn has_size<D: Sectors>(disk: &D, count: u32) -> bool
-    ensures { result ≡ true → D.count_of disk.now ≡ count }
+    ensures { result ≡ (D.count_of disk.now == count) }
 {
     disk.sector(count).is_none() && (count == 0 || disk.sector(count - 1).is_some())
 }
@@ -103,6 +113,7 @@ fn store_all<D: Device, M: Medium>(
     count: u32,
 ) -> Result<(), ImageError>
     ensures contents { M.contents_of medium.new ≡ M.contents_of medium.old }
+    ensures other { result ≢ Err ImageError.OtherSize }
 {
     let mut room = [0; 512];
     for lba in 0..count {
@@ -129,6 +140,7 @@ fn is_same<D: Sectors, M: Medium>(disk: &D, medium: &mut M, lba: u32) -> bool
 fn check_all<D: Sectors, M: Medium>(disk: &D, medium: &mut M, count: u32) -> Result<(), ImageError>
     ensures contents { M.contents_of medium.new ≡ M.contents_of medium.old }
     ensures same { OnOk result (HasBelow count (D.medium_of disk.now) (M.contents_of medium.old)) }
+    ensures other { result ≢ Err ImageError.OtherSize }
 {
     for lba in 0..count {
         if !is_same(disk, medium, lba) {
@@ -149,6 +161,8 @@ pub fn load<D: Device + Sectors, M: Medium>(
     ensures same { OnOk result
         (HasBelow (D.count_of disk.new) (D.medium_of disk.new) (M.contents_of medium.old)) }
     ensures contents { M.contents_of medium.new ≡ M.contents_of medium.old }
+    ensures other_size { result ≡ Err ImageError.OtherSize
+        → HasOtherSize (D.count_of disk.old) (M.contents_of medium.old) }
 {
     let count = medium.sectors();
     if !has_size(disk, count) {
@@ -162,7 +176,8 @@ pub fn load<D: Device + Sectors, M: Medium>(
 }
 
 /// A sector of a disk goes to its medium, if it stands otherwise there.
-fn save_one<D: Sectors, M: Medium>(disk: &D, medium: &mut M, lba: u32) -> Result<(), ImageError>
+fn save_one<D: Sectors, M: Medium>(disk: &D, medium: &mut M, lba: u32) -> Result<(), MediumError>
+    requires { lba < D.count_of disk.now }
     ensures long { OnOk result (length (sectors_at (D.medium_of disk.now) lba 1) ≡ 512) }
     ensures written { OnOk result (IsWrittenAt lba (sectors_at (D.medium_of disk.now) lba 1)
         (M.contents_of medium.old) (M.contents_of medium.new)) }
@@ -170,14 +185,15 @@ fn save_one<D: Sectors, M: Medium>(disk: &D, medium: &mut M, lba: u32) -> Result
     if is_same(disk, medium, lba) {
         return Ok(());
     }
-    let Some(bytes) = disk.sector(lba) else {
-        return Err(ImageError::OtherSize);
-    };
-    Ok(medium.write(lba, bytes)?)
+    match disk.sector(lba) {
+        Some(bytes) => medium.write(lba, bytes),
+        None => unreachable!(),
+    }
 }
 
 /// The sectors of a disk below a number go to its medium, if they stand otherwise there.
-fn save_all<D: Sectors, M: Medium>(disk: &D, medium: &mut M, count: u32) -> Result<(), ImageError>
+fn save_all<D: Sectors, M: Medium>(disk: &D, medium: &mut M, count: u32) -> Result<(), MediumError>
+    requires { count ≤ D.count_of disk.now }
     ensures { OnOk result (HasBelow count (D.medium_of disk.now) (M.contents_of medium.new)) }
 {
     for lba in 0..count {
@@ -192,6 +208,9 @@ pub fn save<D: Sectors, M: Medium>(disk: &D, medium: &mut M) -> Result<(), Image
     ensures same { OnOk result
         (HasBelow (D.count_of disk.now) (D.medium_of disk.now) (M.contents_of medium.new)) }
     ensures stays { OnOk result (M.stays_of medium.new ≡ M.contents_of medium.new) }
+    ensures other_size { result ≡ Err ImageError.OtherSize
+        → HasOtherSize (D.count_of disk.now) (M.contents_of medium.old) }
+    ensures other { result ≢ Err ImageError.NotTaken × result ≢ Err ImageError.OutOfMemory }
 {
     let count = medium.sectors();
     if !has_size(disk, count) {

@@ -112,6 +112,7 @@ impl Handle {
         ensures taken { MatchOption result (self.old.held.value ≡ None) (λ kept.
             self.old.held.value ≡ Some kept.value) }
         ensures closed { self.new.held.value ≡ None }
+        ensures same { self.old.held.value ≡ None → self.new ≡ self.old }
     {
         if self.mark != OPEN {
             return None;
