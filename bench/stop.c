@@ -6,7 +6,8 @@
  *     STOP_SYNC=N    the same in place of the Nth fdatasync
  *     FAIL_FILE=N    the Nth of all these calls fails
  *
- * At the end of the program a line on standard error says how many calls, writes and syncs came: `calls K writes W syncs S`. */
+ * At the end of the program a line on standard error says how many calls, writes and syncs came, and how many writes after the
+ * last sync that was done: `calls K writes W syncs S loose L`. */
 #include <errno.h>
 #include <stdio.h>
 #include <stdlib.h>
@@ -14,7 +15,7 @@
 #include <sys/types.h>
 #include <unistd.h>
 
-static long calls, writes, syncs, stop_write, stop_sync, fail_file;
+static long calls, writes, syncs, loose, stop_write, stop_sync, fail_file;
 
 static long given(const char *name)
 {
@@ -41,7 +42,7 @@ __attribute__((destructor)) static void end(void)
     if (is_said++)
         return;
     char text[90];
-    int length = snprintf(text, sizeof text, "calls %ld writes %ld syncs %ld\n", calls, writes, syncs);
+    int length = snprintf(text, sizeof text, "calls %ld writes %ld syncs %ld loose %ld\n", calls, writes, syncs, loose);
     if (syscall(SYS_write, 2, text, length) != length)
         abort();
 }
@@ -64,7 +65,10 @@ ssize_t write(int fd, const void *bytes, size_t length)
 {
     if (fd >= 3 && ++writes == stop_write)
         leave(99);
-    return fails(fd) ? -1 : syscall(SYS_write, fd, bytes, length);
+    if (fails(fd))
+        return -1;
+    loose += fd >= 3;
+    return syscall(SYS_write, fd, bytes, length);
 }
 
 off_t lseek(int fd, off_t at, int whence)
@@ -76,7 +80,10 @@ int fdatasync(int fd)
 {
     if (++syncs == stop_sync)
         leave(99);
-    return fails(fd) ? -1 : (int)syscall(SYS_fdatasync, fd);
+    if (fails(fd))
+        return -1;
+    loose = 0;
+    return (int)syscall(SYS_fdatasync, fd);
 }
 
 /* A program may end without a return from its main function. */
