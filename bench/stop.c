@@ -5,6 +5,7 @@
  *     STOP_WRITE=N   the process ends at once, with status 99, in place of the Nth write
  *     STOP_SYNC=N    the same in place of the Nth fdatasync
  *     FAIL_FILE=N    the Nth of all these calls fails
+ *     FAIL_READ=L    each read of sector L (512 bytes) fails until the sector is written
  *
  * At the end of the program a line on standard error says how many calls, writes and syncs came, and how many writes after the
  * last sync that was done: `calls K writes W syncs S loose L`. */
@@ -15,7 +16,7 @@
 #include <sys/types.h>
 #include <unistd.h>
 
-static long calls, writes, syncs, loose, stop_write, stop_sync, fail_file;
+static long calls, writes, syncs, loose, stop_write, stop_sync, fail_file, fail_read;
 
 static long given(const char *name)
 {
@@ -28,6 +29,7 @@ __attribute__((constructor)) static void begin(void)
     stop_write = given("STOP_WRITE");
     stop_sync = given("STOP_SYNC");
     fail_file = given("FAIL_FILE");
+    fail_read = getenv("FAIL_READ") ? given("FAIL_READ") : -1;
 }
 
 static void __attribute__((noreturn)) leave(int status)
@@ -56,9 +58,22 @@ static int fails(int fd)
     return 1;
 }
 
+/* Whether so many bytes from where the file stands have the sector that cannot be read. */
+static int has_unread(int fd, size_t length)
+{
+    long at = fd < 3 || fail_read < 0 ? -1 : syscall(SYS_lseek, fd, 0, SEEK_CUR);
+    return at >= 0 && at <= 512 * fail_read && 512 * fail_read < at + (long)length;
+}
+
 ssize_t read(int fd, void *room, size_t length)
 {
-    return fails(fd) ? -1 : syscall(SYS_read, fd, room, length);
+    if (fails(fd))
+        return -1;
+    if (has_unread(fd, length)) {
+        errno = EIO;
+        return -1;
+    }
+    return syscall(SYS_read, fd, room, length);
 }
 
 ssize_t write(int fd, const void *bytes, size_t length)
@@ -68,6 +83,8 @@ ssize_t write(int fd, const void *bytes, size_t length)
     if (fails(fd))
         return -1;
     loose += fd >= 3;
+    if (has_unread(fd, length))
+        fail_read = -1;
     return syscall(SYS_write, fd, bytes, length);
 }
 

@@ -23,6 +23,7 @@ uint32_t gefsunk_disk_free(gef_disk *disk);
 uint32_t gefsunk_disk_plug(gef_disk *disk);
 uint32_t gefsunk_disk_from_host(gef_disk *disk, const uint8_t *fis, size_t len);
 uint32_t gefsunk_disk_to_host(gef_disk *disk, uint8_t *fis, size_t room, size_t *len);
+uint32_t gefsunk_disk_fail(gef_disk *disk, uint8_t tag, uint8_t error, uint32_t lba);
 uint32_t gefsunk_disk_sector(gef_disk *disk, uint32_t lba, uint8_t *bytes, size_t room);
 uint32_t gefsunk_hba_new(gef_hba *hba);
 uint32_t gefsunk_hba_free(gef_hba *hba);
@@ -56,6 +57,7 @@ const char *gef_status_text(gef_status status) {
     case GEF_SPENT: return "the port takes no further device";
     case GEF_BAD_DISK: return "no disk can be like this";
     case GEF_NO_SECTOR: return "no such sector";
+    case GEF_NO_TAG: return "no such tag";
     case GEF_IMAGE: return "the image failed";
     }
     return "no such answer";
@@ -136,6 +138,10 @@ gef_status gef_disk_from_host(gef_disk *disk, const uint8_t *fis, size_t len) {
 
 gef_status gef_disk_to_host(gef_disk *disk, uint8_t *fis, size_t room, size_t *len) {
     return disk && fis && len ? (gef_status)gefsunk_disk_to_host(disk, fis, room, len) : GEF_NULL;
+}
+
+gef_status gef_disk_fail(gef_disk *disk, uint8_t tag, uint8_t error, uint32_t lba) {
+    return disk ? (gef_status)gefsunk_disk_fail(disk, tag, error, lba) : GEF_NULL;
 }
 
 gef_status gef_disk_sector(gef_disk *disk, uint32_t lba, uint8_t *bytes, size_t room) {

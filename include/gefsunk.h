@@ -60,6 +60,7 @@ typedef enum gef_status {
     GEF_SPENT = 16,         /* 4,294,967,295 devices came to this port: it takes no more */
     GEF_BAD_DISK = 17,      /* a disk cannot have this size, this chunk, these flags or so many bad sectors */
     GEF_NO_SECTOR = 18,     /* the disk has no such sector */
+    GEF_NO_TAG = 19,        /* a queued command has a tag from 0 to 31 */
     GEF_IMAGE = 64          /* of gefsunk_image.h alone: an image was not read, written or flushed, or is of another size */
 } gef_status;
 
@@ -237,6 +238,21 @@ gef_status gef_disk_from_host(gef_disk *disk, const uint8_t *fis, size_t len);
  */
 gef_status gef_disk_to_host(gef_disk *disk, uint8_t *fis, size_t room, size_t *len);
 
+/* In place of a tag: the command is not queued. */
+#define GEF_NOT_QUEUED 32u
+
+/*
+ * A command failed: where you keep the sectors of the disk, what it wrote could not be kept, or what it reads could not be
+ * read. Give the tag of a queued command, or GEF_NOT_QUEUED, the Error that its host is to see (04h is ABRT, 40h UNC), and
+ * the sector. Call it before the host can hear that the command has ended: drop what you hold of the disk's FISes.
+ * The disk then forgets all that was asked of it, and the host hears the error next. A queued command ends all queued
+ * commands, by a Set Device Bits FIS with ERR; each command is aborted until the host has read the log (READ LOG EXT, 10h),
+ * which names the tag, the error and the sector. Another command ends by its Register FIS with ERR. The sectors in the
+ * disk's memory stay as they are. While a failure is not done with, another changes nothing.
+ * Can return GEF_CLOSED, GEF_NO_TAG, GEF_NO_SECTOR.
+ */
+gef_status gef_disk_fail(gef_disk *disk, uint8_t tag, uint8_t error, uint32_t lba);
+
 /*
  * Copies the 512 bytes of a sector, as they are on the medium, into the first 512 bytes of the room.
  * Can return GEF_CLOSED, GEF_NO_SECTOR, GEF_TOO_SHORT.
@@ -373,7 +389,8 @@ gef_status gef_hba_next_out(gef_hba *hba, const gef_memory *memory, uint8_t *fis
  *     Data FIS go only to places that the command's table named when the command was issued, in order, each once.
  *   - What a disk sends is what its plan and all that happened to it allow, and it is silent only if they allow nothing.
  *     So the laws of `disk_model` hold of it: a read that ends had the sectors as they were when it was started, and a
- *     write that ends is on the medium.
+ *     write that ends is on the medium. After gef_disk_fail it sends what the comment of that call says, to the byte
+ *     (`failing_disk`), and then goes on as a disk that was plugged in.
  *
  * Not proved but tested: the words of gef_fis_text; that GEF_PLACES_ROOM is always room enough; that drivers of operating
  * systems work with the controller (guests/RESULTS.md says which did). Not claimed: that anything happens in the end, or

@@ -23,7 +23,8 @@
  * wrote is in the image before the host hears that the write has ended. If the host turns a write cache on (SET FEATURES
  * 02h), it is there before the host hears that its next flush has ended. gef_image_up does that: if the FIS ends a
  * write or a flush, the sectors that changed are written to the image, and then the image is flushed. If that fails, the
- * FIS is still yours. Keep it, and call again later: until then the host waits for the end of its command.
+ * FIS is still yours. Keep it, and call again later: until then the host waits for the end of its command. Or drop it, and
+ * call gef_image_fail: then the command fails, and the host hears that.
  *
  * Before you free a disk, call gef_image_save. It is needed if the host turned a write cache on, and did not flush it.
  *
@@ -43,6 +44,9 @@ extern "C" {
 
 /* Sectors that are loaded and saved at a time. */
 #define GEF_IMAGE_RUN 16u
+
+/* The most bad sectors of a disk. */
+#define GEF_IMAGE_BAD 16u
 
 /* Behind the 32 tags: the number of a write that is no queued one. */
 #define GEF_IMAGE_DMA 32u
@@ -66,6 +70,7 @@ typedef struct gef_image {
 
     /* The image's own. */
     uint32_t from, to; /* the sectors that may have changed lie between these two */
+    uint32_t lost, lost_to; /* those that the image did not take when it failed last; none if it was not flushed */
     uint64_t open;     /* writes whose end was not heard: a bit for each tag, and one for a DMA command */
     struct { uint32_t from, to; } writes[GEF_IMAGE_DMA + 1]; /* the sectors of each, of those that ended, too */
     uint8_t moving;    /* the tag that the disk asked data for last, and 1; 0: none */
@@ -172,6 +177,20 @@ static inline gef_status gef_image_put(gef_disk *disk, uint32_t lba, uint32_t co
     return status == GEF_OK ? gef_image_serve(disk, bytes, 512 * (size_t)count) : status;
 }
 
+/* No sector counts as changed. */
+static inline void gef_image_clear(gef_image *image) {
+    if (image->to) memset(image->changed + image->from / 8, 0, (image->to - 1) / 8 - image->from / 8 + 1);
+    image->from = image->to = 0;
+}
+
+/* How many of these sectors come before the first bad one. */
+static inline uint32_t gef_image_before(uint32_t at, uint32_t count, const uint32_t *bad, size_t bad_count) {
+    size_t n;
+    for (n = 0; n < bad_count; n++)
+        if (bad[n] >= at && bad[n] - at < count) count = bad[n] - at;
+    return count;
+}
+
 /* Saves the changed sectors from this one on, at most GEF_IMAGE_RUN of them, and says how many they are. */
 static inline gef_status gef_image_save_run(gef_image *image, gef_disk *disk, uint32_t lba, uint32_t *count) {
     uint8_t bytes[512 * GEF_IMAGE_RUN];
@@ -184,8 +203,38 @@ static inline gef_status gef_image_save_run(gef_image *image, gef_disk *disk, ui
         if (status != GEF_OK) return status;
         ++*count;
     }
-    if (*count && image->write(image->context, 512 * (uint64_t)lba, bytes, 512 * (size_t)*count)) return GEF_IMAGE;
-    return GEF_OK;
+    if (!*count || !image->write(image->context, 512 * (uint64_t)lba, bytes, 512 * (size_t)*count)) return GEF_OK;
+    image->lost = lba;
+    image->lost_to = lba + *count;
+    return GEF_IMAGE;
+}
+
+/* The command that fails with this FIS of the disk: a write that it ends, or else one that is under way. */
+static inline uint8_t gef_image_failing(const gef_image *image, const uint8_t *fis) {
+    uint32_t open = (uint32_t)image->open, tags = fis[0] == 0xA1 ? gef_image_number(fis + 4) : 0;
+    uint8_t tag = 0;
+    if (!tags && image->moving && open >> (image->moving - 1u) & 1) return (uint8_t)(image->moving - 1u);
+    if (!tags) tags = open;
+    if (!tags) return (uint8_t)GEF_NOT_QUEUED;
+    while (!(tags >> tag & 1)) tag++;
+    return tag;
+}
+
+/*
+ * What the image did not take together goes to it sector by sector. Those that it does not take then are lost. Says the first
+ * of them.
+ */
+static inline uint32_t gef_image_lose(gef_image *image, gef_disk *disk) {
+    uint32_t first = image->lost, is_known = 0;
+    uint8_t bytes[512];
+    for (; image->lost < image->lost_to; image->lost++) {
+        image->changed[image->lost / 8] &= (uint8_t)~(1u << image->lost % 8);
+        if (gef_disk_sector(disk, image->lost, bytes, sizeof bytes) == GEF_OK &&
+            !image->write(image->context, 512 * (uint64_t)image->lost, bytes, sizeof bytes)) continue;
+        if (!is_known) first = image->lost;
+        is_known = 1;
+    }
+    return first;
 }
 
 /* ---- what you call ----------------------------------------------------------------------------------------------- */
@@ -200,11 +249,27 @@ static inline void gef_image_plug(gef_image *image) {
 }
 
 /*
- * The disk takes the sectors of the image, and nothing counts as changed. Call it for a new disk, before it is plugged in.
- * What an earlier disk had and gef_image_save did not save is lost. If it fails, free the disk.
+ * Finds the sectors that cannot be read, and their number. Give both to gef_disk_new, whose reads of them then fail (UNC), and
+ * to gef_image_load_but. The room is for GEF_IMAGE_BAD sectors, since a disk has no more. Can return GEF_IMAGE (they are more).
+ */
+static inline gef_status gef_image_unread(gef_image *image, uint32_t *bad, size_t *count) {
+    uint8_t bytes[512];
+    uint32_t at;
+    *count = 0;
+    for (at = 0; at < image->sectors; at++) {
+        if (!image->read(image->context, 512 * (uint64_t)at, bytes, sizeof bytes)) continue;
+        if (*count == GEF_IMAGE_BAD) return GEF_IMAGE;
+        bad[(*count)++] = at;
+    }
+    return GEF_OK;
+}
+
+/*
+ * The disk takes the sectors of the image but for these, and nothing counts as changed. Call it for a new disk, before it is
+ * plugged in. What an earlier disk had and gef_image_save did not save is lost. If it fails, free the disk.
  * Can return GEF_CLOSED, GEF_NO_MEMORY, GEF_IMAGE (the image cannot be read, or the disk has more sectors or fewer).
  */
-static inline gef_status gef_image_load(gef_image *image, gef_disk *disk) {
+static inline gef_status gef_image_load_but(gef_image *image, gef_disk *disk, const uint32_t *bad, size_t bad_count) {
     uint8_t bytes[512 * GEF_IMAGE_RUN];
     uint32_t at = 0, count;
     gef_status status = gef_image_fits(image, disk);
@@ -214,11 +279,17 @@ static inline gef_status gef_image_load(gef_image *image, gef_disk *disk) {
     gef_image_plug(image);
     while (status == GEF_OK && at < image->sectors) {
         count = image->sectors - at < GEF_IMAGE_RUN ? image->sectors - at : GEF_IMAGE_RUN;
-        if (image->read(image->context, 512 * (uint64_t)at, bytes, 512 * (size_t)count)) return GEF_IMAGE;
-        status = gef_image_put(disk, at, count, bytes);
-        at += count;
+        count = gef_image_before(at, count, bad, bad_count);
+        if (count && image->read(image->context, 512 * (uint64_t)at, bytes, 512 * (size_t)count)) return GEF_IMAGE;
+        if (count) status = gef_image_put(disk, at, count, bytes);
+        at += count ? count : 1;
     }
     return status;
+}
+
+/* The same of all sectors. */
+static inline gef_status gef_image_load(gef_image *image, gef_disk *disk) {
+    return gef_image_load_but(image, disk, 0, 0);
 }
 
 /*
@@ -227,14 +298,14 @@ static inline gef_status gef_image_load(gef_image *image, gef_disk *disk) {
  */
 static inline gef_status gef_image_save(gef_image *image, gef_disk *disk) {
     uint32_t at = image->from, count;
+    image->lost = image->lost_to = image->from;
     while (at < image->to) {
         gef_status status = gef_image_save_run(image, disk, at, &count);
         if (status != GEF_OK) return status;
         at = count ? at + count : image->changed[at / 8] ? at + 1 : (at | 7) + 1;
     }
     if (image->flush(image->context)) return GEF_IMAGE;
-    if (image->to) memset(image->changed + image->from / 8, 0, (image->to - 1) / 8 - image->from / 8 + 1);
-    image->from = image->to = 0;
+    gef_image_clear(image);
     return GEF_OK;
 }
 
@@ -293,12 +364,32 @@ static inline void gef_image_down(gef_image *image, const uint8_t *fis, size_t l
 static inline gef_status gef_image_up(gef_image *image, gef_disk *disk, const uint8_t *fis, size_t len) {
     gef_status status = GEF_OK;
     if (len == 28 && fis[0] == 0x41 && !(fis[1] & 0x20)) image->moving = (uint8_t)((fis[4] & 31) + 1);
-    if (len < 8 || (fis[0] != 0x34 && fis[0] != 0xA1)) return GEF_OK;
+    /* Without I no command ends: a queued one was accepted, or the disk says what it is. With ERR none ends well. */
+    if (len < 8 || (fis[0] != 0x34 && fis[0] != 0xA1) || !(fis[1] & 0x40)) return GEF_OK;
     if (!image->is_kept) gef_image_hear(image, fis);
-    if (image->is_due || (image->to && !image->is_cached)) status = gef_image_save(image, disk);
+    if (!(fis[2] & 1) && (image->is_due || (image->to && !image->is_cached))) status = gef_image_save(image, disk);
     if (status == GEF_OK) image->is_due = 0;
     image->is_kept = status != GEF_OK;
     return status;
+}
+
+/*
+ * In place of another call of gef_image_up with a FIS for which it failed: drop the FIS. Its command fails (gef_disk_fail,
+ * with ABRT and the first sector that the image did not take), and all others that are queued end with it. The sectors that
+ * the image takes are saved. Of the others it has what it had, or anything, until the host writes them again.
+ * Can return GEF_CLOSED.
+ */
+static inline gef_status gef_image_fail(gef_image *image, gef_disk *disk, const uint8_t *fis) {
+    uint8_t tag = gef_image_failing(image, fis);
+    gef_status status = gef_disk_fail(disk, tag, 0x04, gef_image_lose(image, disk));
+    if (status != GEF_OK) return status;
+    do {
+        status = gef_image_save(image, disk);
+        if (status == GEF_IMAGE && image->lost == image->lost_to) gef_image_clear(image); /* it was not flushed */
+        if (status == GEF_IMAGE) gef_image_lose(image, disk);
+    } while (status == GEF_IMAGE && image->to);
+    gef_image_plug(image);
+    return status == GEF_IMAGE ? GEF_OK : status;
 }
 
 #ifdef __cplusplus

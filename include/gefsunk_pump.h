@@ -411,7 +411,7 @@ static inline gef_status gef_pump_step(gef_pump *pump) {
 /*
  * Rounds until nothing moves, but no more than this many, since a virtual machine has other things to do as well. Where
  * moved is 1 afterwards, call it again. Can return what gef_pump_step can. After GEF_IMAGE call it again later, even if
- * moved is 0 and the guest does nothing: the guest waits.
+ * moved is 0 and the guest does nothing: the guest waits. Or call gef_pump_fail, and then this.
  */
 static inline gef_status gef_pump_settle(gef_pump *pump, uint32_t rounds) {
     gef_status status = GEF_OK;
@@ -421,6 +421,25 @@ static inline gef_status gef_pump_settle(gef_pump *pump, uint32_t rounds) {
         if (!pump->moved) break;
     }
     return status;
+}
+
+/*
+ * After GEF_IMAGE, in place of trying again: each command whose end waits for an image fails. The guest hears that (ABRT, and
+ * the log of a queued one), and the disk goes on. Can return GEF_CLOSED (a disk was freed and not pulled).
+ */
+static inline gef_status gef_pump_fail(gef_pump *pump) {
+    uint8_t port;
+    for (port = 0; port < GEF_PUMP_PORTS; port++) {
+        gef_waiting *up = &pump->up[port];
+        gef_status status;
+        if (!up->len || !pump->images[port] || !(pump->unsaved >> port & 1)) continue;
+        status = gef_image_fail(pump->images[port], &pump->disks[port], up->fis);
+        if (status != GEF_OK) return status;
+        up->len = 0;
+        pump->unsaved &= ~(1u << port);
+        pump->moved = 1;
+    }
+    return GEF_OK;
 }
 
 #ifdef __cplusplus

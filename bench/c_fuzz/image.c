@@ -8,8 +8,11 @@
  *                    on. The host hears of no end until it is tried again, and at the end nothing is missing.
  *     image any      plays a host that sends anything, waits for no answer, and turns the write cache on and off, while
  *                    writes and flushes of the image fail. A sector that does not count as changed is in the image as it
- *                    is on the medium, and so is each one once the host hears an end while it has no write cache.
+ *                    is on the medium, and so is each one once the host hears an end without ERR while it has no write cache.
+ *     image tells    plays that host, but half of the failures are not tried again: the host hears an error next. The sectors
+ *                    that the image did not take are the only ones that are not in it.
  *     image beside   a disk whose image fails stands beside another one in a pump: the other one is served.
+ *     image told     a write of such a disk fails, as its host hears; the next one does not.
  *     image sizes    an image that has not as many sectors as the disk is not loaded.
  *
  * Status 1 where something is not so.
@@ -54,19 +57,27 @@ static int read_image(void *context, uint64_t at, uint8_t *bytes, size_t len) {
     return 0;
 }
 
+static int is_telling; /* whether failures may be told */
+static uint8_t is_lost[SECTORS]; /* the image did not take the sector when it was written last */
+static int is_unflushed; /* the last flush failed */
+static uint32_t broken = SECTORS; /* a sector that the image never takes, if it has it */
+
 /* A call that fails has written half of its sectors. */
 static int write_image(void *context, uint64_t at, const uint8_t *bytes, size_t len) {
+    int is_failing = calls + 1 == failing || (at <= 512 * broken && 512 * broken < at + len);
     (void)context;
     calls++;
-    memcpy(cache + at, bytes, calls == failing ? len / 1024 * 512 : len);
+    memset(is_lost + at / 512, is_failing, len / 512);
+    memcpy(cache + at, bytes, is_failing ? len / 1024 * 512 : len);
     if (calls == cut) _exit(0);
-    return calls == failing;
+    return is_failing;
 }
 
 /* At the cut, half of all sectors have come to the image. */
 static int flush_image(void *context) {
     (void)context;
     calls++;
+    is_unflushed = calls == failing;
     if (calls == failing) return 1;
     memcpy(it->image, cache, calls == cut ? sizeof cache / 1024 * 512 : sizeof cache);
     if (calls == cut) _exit(0);
@@ -254,8 +265,9 @@ static void compare(const char *what, int is_whole) {
     uint32_t at;
     for (at = 0; at < SECTORS; at++) {
         if (!is_whole && changed[at / 8] >> at % 8 & 1) continue;
+        if (is_telling && is_lost[at]) continue;
         must("sector", gef_disk_sector(&disk, at, bytes, sizeof bytes));
-        if (memcmp(bytes, it->image + 512 * at, 512)) fail(what, at);
+        if (memcmp(bytes, (is_telling && is_unflushed ? cache : it->image) + 512 * at, 512)) fail(what, at);
     }
 }
 
@@ -288,7 +300,35 @@ static void command_any(void) {
 static void hear_any(const uint8_t *fis, uint32_t asked) {
     if (fis[0] != 0x34 && fis[0] != 0xA1) return;
     if (fis[0] == 0x34 && asked && !(fis[2] & 1)) is_cache_on = asked == 2;
-    if (!is_cache_on) compare("an end was heard", 1);
+    if (!is_cache_on && fis[1] & 0x40 && !(fis[2] & 1)) compare("an end was heard", 1);
+}
+
+static int is_error_due;    /* a failure was told, and the host is to hear an error */
+static uint32_t told_tags; /* if the log tells of it, it has one of these tags, if there are any, */
+static uint32_t told_lba;  /* and this sector, if it is one */
+
+/* The command of this FIS fails: the host hears that next. */
+static void tell(const uint8_t *fis) {
+    uint32_t at = image.lost, to = image.lost_to;
+    must("fail", gef_image_fail(&image, &disk, fis));
+    compare("after a failure was told", 1);
+    is_error_due = 1;
+    told_tags = fis[0] == 0xA1 ? gef_image_number(fis + 4) : 0;
+    while (at < to && !is_lost[at]) at++;
+    told_lba = at < to ? at : SECTORS;
+}
+
+/* A page of the error log says that a write of the host was aborted. */
+static void look_at_log(const uint8_t *page) {
+    if (page[2] != 0x41 || page[3] != 0x04 || page[7] != 0x40) return;
+    if (told_tags && !(told_tags >> page[0] & 1)) fail("the log names another tag", page[0]);
+    if (told_lba < SECTORS && page[4] != told_lba) fail("the log names another sector", page[4]);
+}
+
+static void hear_error(const uint8_t *fis) {
+    int is_error = fis[0] == 0xA1 ? fis[2] == 0x41 : fis[0] == 0x34 && fis[2] == 0x51;
+    if (is_error_due && !(is_error && fis[3] == 0x04)) fail("the host hears no error, but a FIS of type", fis[0]);
+    is_error_due = 0;
 }
 
 static void settle_any(unsigned most) {
@@ -297,8 +337,15 @@ static void settle_any(unsigned most) {
     while (most-- && gef_disk_to_host(&disk, fis, sizeof fis, &len) == GEF_OK) {
         gef_status status = gef_image_up(&image, &disk, fis, len);
         uint32_t asked = is_cache_asked;
+        hear_error(fis);
+        if (status == GEF_IMAGE && is_telling && any(2)) {
+            tell(fis);
+            is_cache_asked = 0;
+            continue;
+        }
         if (fis[0] == 0x34) is_cache_asked = 0;
         while (status == GEF_IMAGE) {
+            broken = SECTORS;
             compare("after a failure", 0);
             if (any(3) == 0) command_any();
             status = gef_image_up(&image, &disk, fis, len);
@@ -306,6 +353,7 @@ static void settle_any(unsigned most) {
         must("up", status);
         compare("after a FIS of the disk", 0);
         hear_any(fis, asked);
+        if (fis[0] == 0x46 && len == 516) look_at_log(fis + 4);
         if (fis[0] == 0x41) memcpy(setup, fis, sizeof setup);
         if (fis[0] == 0x39 && any(4) == 0)
             give_any(512 * (1 + any(16)));
@@ -319,18 +367,21 @@ static void reset_any(void) {
     fis[15] = any(3) ? 4 : 0;
     if (any(4)) {
         send_any(fis, sizeof fis);
+        if (!fis[15]) return;
     } else {
         must("plug", gef_disk_plug(&disk));
         gef_image_plug(&image);
     }
-    is_cache_on = is_cache_asked = 0;
+    is_cache_on = is_cache_asked = is_error_due = 0;
 }
 
 static void play_any(unsigned number) {
     static const uint16_t chunks[] = {8192, 8192, 1024};
     uint32_t step, flags;
     seed = number;
-    calls = failing = is_cache_on = is_cache_asked = 0;
+    calls = failing = is_cache_on = is_cache_asked = is_error_due = is_unflushed = 0;
+    memset(is_lost, 0, sizeof is_lost);
+    broken = SECTORS;
     memset(&image, 0, sizeof image);
     memset(cache, (int)any(256), sizeof cache);
     memcpy(it->image, cache, sizeof cache);
@@ -347,6 +398,7 @@ static void play_any(unsigned number) {
     for (step = 0; step < STEPS; step++) {
         unsigned what = any(24);
         if (any(12) == 0) failing = calls + 1 + any(3);
+        if (is_telling && any(12) == 0) broken = any(2 * SECTORS);
         if (what == 0) reset_any();
         if (what == 1 && gef_image_save(&image, &disk) == GEF_OK) compare("after saving", 1);
         if (what == 2) give_any(512 * (1 + any(16)));
@@ -391,29 +443,41 @@ static void sizes(void) {
     must("free", gef_disk_free(&disk));
 }
 
-/* The disk at port 0 has a sector that its image cannot take, and waits with its signature. The host opens port 1. */
-static void beside(void) {
-    static uint8_t write_3[20] = {0x27, 0x80, 0x61, 1, 3, 0, 0, 0x40}, open_1[20] = {0x27, 0x8F, 0xE8, 2, 0, 0, 0, 1};
-    static uint8_t fis[GEF_FIS_ROOM], data[516] = {0x46};
+/* The disk at port 0 takes a write of sector 3. The end of it is the next FIS that it sends. */
+static void write_3(void) {
+    static uint8_t command[20] = {0x27, 0x80, 0x61, 1, 3, 0, 0, 0x40}, fis[GEF_FIS_ROOM], data[516] = {0x46};
     size_t len;
-    must("load", load(&pump.disks[0], SECTORS, SECTORS));
-    must("a write", gef_disk_from_host(&pump.disks[0], write_3, sizeof write_3));
-    gef_image_down(&image, write_3, sizeof write_3);
+    must("a write", gef_disk_from_host(&pump.disks[0], command, sizeof command));
+    gef_image_down(&image, command, sizeof command);
     while (gef_disk_to_host(&pump.disks[0], fis, sizeof fis, &len) == GEF_OK) gef_image_up(&image, &pump.disks[0], fis, len);
     memset(data + 4, 0xA5, 512);
     must("its data", gef_disk_from_host(&pump.disks[0], data, sizeof data));
     gef_image_down(&image, data, sizeof data);
-    is_broken = 1;
+}
+
+/* A pump of this many ports, with a disk with an image at port 0. A host has begun. */
+static void begin(uint8_t ports) {
+    memset(&pump, 0, sizeof pump);
     pump.memory = memory;
     pump.len = sizeof memory;
+    must("load", load(&pump.disks[0], SECTORS, SECTORS));
     pump.images[0] = &image;
-    must("open", gef_pump_open(&pump, 2));
-    must("disk", gef_disk_new(&pump.disks[1], SECTORS, 8192, GEF_DISK_STOCK, 1, 0, 0));
+    must("open", gef_pump_open(&pump, ports));
     must("plug", gef_pump_plug(&pump, 0));
-    must("plug", gef_pump_plug(&pump, 1));
     must("PxCLB", gef_pump_write32(&pump, 0x100, LIST));
     must("PxFB", gef_pump_write32(&pump, 0x108, AREA));
     must("PxCMD", gef_pump_write32(&pump, 0x118, 0x20011));
+    must("settle", gef_pump_settle(&pump, 100));
+}
+
+/* A write waits at port 0, since its image cannot take the sector. The host opens port 1. */
+static void beside(void) {
+    static uint8_t open_1[20] = {0x27, 0x8F, 0xE8, 2, 0, 0, 0, 1};
+    begin(2);
+    must("disk", gef_disk_new(&pump.disks[1], SECTORS, 8192, GEF_DISK_STOCK, 1, 0, 0));
+    must("plug", gef_pump_plug(&pump, 1));
+    write_3();
+    is_broken = 1;
     memory[LIST] = 5;
     memory[LIST + 1] = 0xF0;
     memory[LIST + 9] = TABLE >> 8;
@@ -428,21 +492,50 @@ static void beside(void) {
     gef_pump_close(&pump);
 }
 
+static uint8_t shown[8]; /* the beginning of the last FIS of a disk */
+
+static void show_in(void *context, int is_out, const uint8_t *fis, size_t len) {
+    (void)context;
+    if (!is_out && len >= sizeof shown) memcpy(shown, fis, sizeof shown);
+}
+
+/* The write fails, as the host hears. The next one does not. */
+static void told(void) {
+    static const uint8_t failed[8] = {0xA1, 0x40, 0x41, 0x04}, ended[8] = {0xA1, 0x40, 0x50, 0, 1};
+    static uint8_t read_log[20] = {0x27, 0x80, 0x2F, 0, 0x10, 0, 0, 0, 0, 0, 0, 0, 1};
+    begin(0);
+    pump.show = show_in;
+    write_3();
+    is_broken = 1;
+    if (gef_pump_settle(&pump, 100) != GEF_IMAGE) fail("the image did not fail", 0);
+    must("fail", gef_pump_fail(&pump));
+    must("settle", gef_pump_settle(&pump, 100));
+    if (memcmp(shown, failed, sizeof shown)) fail("the write did not fail", shown[2]);
+    must("the log", gef_disk_from_host(&pump.disks[0], read_log, sizeof read_log));
+    must("settle", gef_pump_settle(&pump, 100));
+    is_broken = 0;
+    write_3();
+    must("settle", gef_pump_settle(&pump, 100));
+    if (memcmp(shown, ended, sizeof shown)) fail("the next write did not end", shown[2]);
+    if (it->image[512 * 3] != 0xA5) fail("the sector is not in the image", 0);
+    gef_pump_close(&pump);
+}
+
 int main(int argc, char **argv) {
     const char *mode = argc == 2 ? argv[1] : "";
     int is_cut = strcmp(mode, "cut") == 0, is_over = 0;
     unsigned n;
     it = mmap(0, sizeof *it, PROT_READ | PROT_WRITE, MAP_SHARED | MAP_ANONYMOUS, -1, 0);
     if (it == MAP_FAILED) return 2;
-    if (strcmp(mode, "any") == 0) {
+    is_telling = strcmp(mode, "tells") == 0;
+    if (is_telling || strcmp(mode, "any") == 0) {
         for (n = 1; n <= RUNS; n++) play_any(n);
         return 0;
     }
-    if (strcmp(mode, "beside") == 0 || strcmp(mode, "sizes") == 0) {
-        if (mode[0] == 'b') beside();
-        else sizes();
-        return 0;
-    }
+    if (strcmp(mode, "beside") == 0) beside();
+    else if (strcmp(mode, "told") == 0) told();
+    else if (strcmp(mode, "sizes") == 0) sizes();
+    if (strcmp(mode, "beside") == 0 || strcmp(mode, "told") == 0 || strcmp(mode, "sizes") == 0) return 0;
     if (!is_cut && strcmp(mode, "fails") != 0) return 2;
     for (n = 1; !is_over; n++) {
         if (is_cut) {

@@ -11,8 +11,8 @@
  * FISes back for a while. All else is the pump's and the library's. Here bytes are written to the guest's memory where the
  * pump says, and the interrupt is raised.
  *
- * What a guest wrote to a disk with a file is in the file when the guest hears that the write ended. While a file cannot be
- * written, its disk stands still: the end of the write waits, and is tried again ten times a second.
+ * What a guest wrote to a disk with a file is in the file when the guest hears that the write ended. A write that the file
+ * does not take fails, and the guest hears that.
  *
  * `log` gets the FISes on the link, at most `lines` of them, and `record` what the driver does (gefsunk_record.h). With
  * `accesses=on` the log has each register that the driver reads or writes, too, with the time in seconds.
@@ -36,15 +36,21 @@ OBJECT_DECLARE_SIMPLE_TYPE(GefsunkAhci, GEFSUNK_AHCI)
 
 #define ROUNDS 64 /* rounds of the pump before others have their turn */
 #define CAP_FBSS 0x10000u
+#define PXTFD 0x120
+
+/* The file of a disk, which may take nothing for a while. */
+typedef struct {
+    int at;
+    bool is_failing;
+} File;
 
 struct GefsunkAhci {
     PCIDevice parent_obj;
     MemoryRegion registers, hand;
     QEMUBH *later;
-    QEMUTimer *again;
     gef_pump pump;
     gef_image images[GEF_PUMP_PORTS];
-    int files[GEF_PUMP_PORTS];
+    File files[GEF_PUMP_PORTS];
     bool is_held;
     uint32_t serial, logged, raised;
     FILE *out;
@@ -118,7 +124,7 @@ static void run_pump(void *opaque)
         gef_status status = gef_pump_step(&s->pump);
         if (status == GEF_IMAGE) {
             warn_report_once("gefsunk-ahci: %s", gef_status_text(status));
-            timer_mod(s->again, qemu_clock_get_ms(QEMU_CLOCK_REALTIME) + 100);
+            must(gef_pump_fail(&s->pump));
         } else {
             must(status);
         }
@@ -133,17 +139,20 @@ static void run_pump(void *opaque)
 
 static int read_file(void *context, uint64_t at, uint8_t *bytes, size_t len)
 {
-    return pread(*(int *)context, bytes, len, at) != (ssize_t)len;
+    const File *file = context;
+    return pread(file->at, bytes, len, at) != (ssize_t)len;
 }
 
 static int write_file(void *context, uint64_t at, const uint8_t *bytes, size_t len)
 {
-    return pwrite(*(int *)context, bytes, len, at) != (ssize_t)len;
+    const File *file = context;
+    return file->is_failing || pwrite(file->at, bytes, len, at) != (ssize_t)len;
 }
 
 static int flush_file(void *context)
 {
-    return fdatasync(*(int *)context);
+    const File *file = context;
+    return fdatasync(file->at);
 }
 
 /* The disk of a port has the sectors of a file. */
@@ -151,8 +160,8 @@ static void open_image(GefsunkAhci *s, unsigned port, const char *name, Error **
 {
     gef_image *image = &s->images[port];
     struct stat about;
-    s->files[port] = open(name, O_RDWR);
-    if (s->files[port] < 0 || fstat(s->files[port], &about) || about.st_size / 512 > 8388607 || about.st_size < 512) {
+    s->files[port].at = open(name, O_RDWR);
+    if (s->files[port].at < 0 || fstat(s->files[port].at, &about) || about.st_size / 512 > 8388607 || about.st_size < 512) {
         error_setg(errp, "%s: no file with 1 to 8,388,607 sectors", name);
         return;
     }
@@ -184,6 +193,9 @@ static uint64_t read_register(void *opaque, hwaddr at, unsigned size)
 {
     GefsunkAhci *s = opaque;
     uint32_t value = 0;
+    if (at == PXTFD) {
+        run_pump(s);
+    }
     must(gef_hba_read32(&s->pump.hba, at, &value));
     record_read(&s->recording, at, value);
     show_access(s, "read", at, value);
@@ -201,15 +213,19 @@ static void write_register(void *opaque, hwaddr at, uint64_t value, unsigned siz
     qemu_bh_schedule(s->later);
 }
 
-/* A new disk at a port, all of whose sectors can be read, or all but one. */
+/* A new disk at a port. All its sectors can be read, or all but one; or, if it has a file, all that can be read there. */
 static void plug(GefsunkAhci *s, unsigned port, bool is_bad)
 {
-    static const uint32_t bad[] = {5000};
+    uint32_t bad[GEF_IMAGE_BAD] = {5000};
+    size_t bads = is_bad;
     gef_image *image = s->pump.images[port];
     uint32_t sectors = image ? image->sectors : s->sectors;
-    must(gef_disk_new(&s->pump.disks[port], sectors, s->chunk, s->flags | GEF_DISK_STOCK, s->serial++, bad, is_bad));
     if (image) {
-        must(gef_image_load(image, &s->pump.disks[port]));
+        must(gef_image_unread(image, bad, &bads));
+    }
+    must(gef_disk_new(&s->pump.disks[port], sectors, s->chunk, s->flags | GEF_DISK_STOCK, s->serial++, bad, bads));
+    if (image) {
+        must(gef_image_load_but(image, &s->pump.disks[port], bad, bads));
     }
     must(gef_pump_plug(&s->pump, port));
 }
@@ -223,7 +239,7 @@ static void pull(GefsunkAhci *s, unsigned port)
 
 /*
  * The hand: bits 7:0 are the port, bits 15:8 what is done. 1 pulls the disk, 2 plugs in one, 3 one with a bad sector. 4 holds
- * all FISes back, and 5 lets them go.
+ * all FISes back, and 5 lets them go. 6 has the disk's file take nothing, 7 has it take all again.
  */
 static void write_hand(void *opaque, hwaddr at, uint64_t value, unsigned size)
 {
@@ -239,6 +255,7 @@ static void write_hand(void *opaque, hwaddr at, uint64_t value, unsigned size)
     } else if ((what == 2 || what == 3) && !is_there) {
         plug(s, port, what == 3);
     }
+    s->files[port].is_failing = what == 6 || (s->files[port].is_failing && what != 7);
     s->is_held = what == 4 || (s->is_held && what != 5);
     qemu_bh_schedule(s->later);
 }
@@ -306,7 +323,6 @@ static void realize(PCIDevice *dev, Error **errp)
     }
     begin_recording(s);
     s->later = qemu_bh_new(run_pump, s);
-    s->again = timer_new_ms(QEMU_CLOCK_REALTIME, run_pump, s);
     pci_config_set_prog_interface(dev->config, 1);
     pci_config_set_interrupt_pin(dev->config, 1);
     memory_region_init_io(&s->hand, OBJECT(s), &hand_ops, s, "gefsunk-hand", 16);

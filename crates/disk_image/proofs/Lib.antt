@@ -1,1 +1,2 @@
 pub mod SectorLemmas
+pub mod LoadLemmas

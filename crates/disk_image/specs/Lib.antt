@@ -1,1 +1,3 @@
 pub mod Media
+pub mod Failures
+pub mod Loads

@@ -1,6 +1,6 @@
 //! A medium in a file.
 
-ghost use Rattle.std.specs.Prelude.{◌≡◌, ◌≤◌, None, IfOk, length};
+ghost use Rattle.std.specs.Prelude.{◌≡◌, ◌≤◌, None, length};
 
 use crate::medium::{Medium, MediumError};
 use std::fs::OpenFile;

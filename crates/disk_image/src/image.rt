@@ -1,14 +1,18 @@
 //! Sectors go from a medium to a disk, and back.
 
-ghost use Rattle.std.specs.Prelude.{◌≡◌, ◌≢◌, ◌==◌, ◌<◌, ◌≤◌, true, Err, OnOk, length};
-ghost use Rattle.disk_image.specs.Media.{HasBelow, HasOtherSize, IsReadAt, IsWrittenAt};
+ghost use Rattle.std.specs.Prelude.{◌≡◌, ◌≢◌, ◌==◌, ◌<◌, ◌≤◌, min, true, Err, IfErr, OnOk, length};
+ghost use Rattle.disk_image.specs.Failures.{FailsAt, FailsByMedium, IsTooMany, SaveLeaves};
+ghost use Rattle.disk_image.specs.Loads.{Grows};
+ghost use Rattle.disk_image.specs.Media.{AreMixed, HasBut, HasIn, HasOtherSize, KeepsBut, IsReadAt, IsReadBut, IsWrittenBut, is_among, is_blank, is_unread};
 ghost use Rattle.disk_model.specs.Chunks.{sectors_at};
 
 use crate::medium::{Medium, MediumError};
 use crate::sectors::Sectors;
+use arrayvec::ArrayVec;
 use disk_model::Device;
-use fis_view::{H2dFields, Stamp, h2d, payload};
+use fis_view::{Frame, H2dFields, Stamp, h2d, payload};
 use std::alloc::{AllocError, Global};
+use std::ops::Range;
 use thiserror::Error;
 
 /// Why the sectors of a medium are not those of its disk.
@@ -17,9 +21,12 @@ pub enum ImageError {
     /// The medium has another number of sectors than the disk.
     #[error("the medium has another number of sectors than the disk")]
     OtherSize,
-    /// The medium does not do what it is asked.
-    #[error("{0}")]
-    Medium(MediumError),
+    /// The medium does not do what it is asked, at this sector; 0 if it is not known at which.
+    #[error("sector {0}: {1}")]
+    Medium(u32, MediumError),
+    /// More sectors of the medium cannot be read than a disk can have bad ones.
+    #[error("more than 16 sectors cannot be read")]
+    TooManyUnread,
     /// The disk does not take sectors: it was plugged in or given commands before.
     #[error("the disk does not take the sectors")]
     NotTaken,
@@ -36,17 +43,6 @@ impl From<AllocError> for ImageError {
 
     fn from(_: AllocError) -> ImageError {
         ImageError::OutOfMemory
-    }
-}
-
-impl From<MediumError> for ImageError {
-    ghost use Rattle.std.specs.Prelude.{◌≡◌};
-    ghost use Rattle.disk_image.specs.declared.image.ImageError.TheVariants as image;
-
-    ghost from_gives = { λ m e. e ≡ image.Medium m };
-
-    fn from(error: MediumError) -> ImageError {
-        ImageError::Medium(error)
     }
 }
 
@@ -76,26 +72,46 @@ fn write_of(lba: u32) -> H2dFields {
     }
 }
 
+/// What a disk sends next is heard by nobody. Says whether it sent something.
+fn drop_next<D: Device>(alloc: Global, disk: &mut D) -> Result<bool, AllocError>
+    ensures { Grows D.plan_of D.stands_for disk.old disk.new }
+{
+    match disk.next_out(alloc, STAMP)? {
+        Some(_) => Ok(true),
+        None => Ok(false),
+    }
+}
+
 /// What a disk sends is heard by nobody.
-fn drain<D: Device>(alloc: Global, disk: &mut D) -> Result<(), AllocError> {
+fn drain<D: Device>(alloc: Global, disk: &mut D) -> Result<(), AllocError>
+    ensures { Grows D.plan_of D.stands_for disk.old disk.new }
+{
     for _ in 0..MOST_ANSWERS {
-        if disk.next_out(alloc, STAMP)?.is_none() {
+        if !drop_next(alloc, disk)? {
             break;
         }
     }
     Ok(())
 }
 
+/// A disk takes a FIS, and what it sends is heard by nobody.
+fn give<D: Device>(alloc: Global, disk: &mut D, frame: &Frame) -> Result<(), AllocError>
+    ensures { Grows D.plan_of D.stands_for disk.old disk.new }
+{
+    disk.on_frame(alloc, frame)?;
+    drain(alloc, disk)
+}
+
 /// A disk takes a sector, as from a host.
-fn store<D: Device>(alloc: Global, disk: &mut D, lba: u32, bytes: &[u8]) -> Result<(), AllocError> {
-    disk.on_frame(alloc, &h2d(alloc, &write_of(lba), STAMP)?)?;
-    drain(alloc, disk)?;
+fn store<D: Device>(alloc: Global, disk: &mut D, lba: u32, bytes: &[u8]) -> Result<(), AllocError>
+    ensures { Grows D.plan_of D.stands_for disk.old disk.new }
+{
+    give(alloc, disk, &h2d(alloc, &write_of(lba), STAMP)?)?;
     // A sector is a payload, so nothing but memory is refused.
     let Ok(data) = payload(alloc, 0, bytes, STAMP) else {
         return Err(AllocError);
     };
-    disk.on_frame(alloc, &data)?;
-    drain(alloc, disk)
+    give(alloc, disk, &data)
 }
 
 /// Whether a disk has just so many sectors.
@@ -105,61 +121,158 @@ fn has_size<D: Sectors>(disk: &D, count: u32) -> bool
     disk.sector(count).is_none() && (count == 0 || disk.sector(count - 1).is_some())
 }
 
+/// Reads a sector of a medium.
+fn read_at<M: Medium>(medium: &mut M, lba: u32, room: &mut [u8]) -> Result<(), ImageError>
+    requires { length room.old ≡ 512 }
+    ensures long { length room.new ≡ length room.old }
+    ensures read { OnOk result (IsReadAt lba room.new (M.contents_of medium.old)) }
+    ensures contents { M.contents_of medium.new ≡ M.contents_of medium.old }
+    ensures other { IfErr result FailsByMedium }
+{
+    match medium.read(lba, room) {
+        Ok(()) => Ok(()),
+        Err(error) => Err(ImageError::Medium(lba, error)),
+    }
+}
+
+/// The sectors of a medium that cannot be read now, in order. Give them to the disk's plan as bad sectors, and to `load`
+/// and `save`.
+pub fn unread_of<M: Medium>(medium: &mut M) -> Result<ArrayVec<u32, 16>, ImageError>
+    ensures contents { M.contents_of medium.new ≡ M.contents_of medium.old }
+    ensures other { IfErr result IsTooMany }
+{
+    let mut unread = ArrayVec::new();
+    let mut room = [0; 512];
+    for lba in 0..medium.sectors() {
+        if medium.read(lba, &mut room).is_err() && unread.try_push(lba).is_err() {
+            return Err(ImageError::TooManyUnread);
+        }
+    }
+    Ok(unread)
+}
+
+/// Whether a sector is one of these.
+fn is_among(unread: &[u32], lba: u32) -> bool
+    ensures { result ≡ is_among unread.now lba }
+{
+    unread.iter().any(|n| *n == lba)
+}
+
+fn is_blank(bytes: &[u8]) -> bool
+    ensures { result ≡ is_blank bytes.now }
+{
+    bytes.iter().all(|b| *b == 0)
+}
+
+/// Whether a sector is one that could not be read, and to which nobody wrote anything but zeros since.
+fn is_unread(unread: &[u32], lba: u32, bytes: &[u8]) -> bool
+    ensures { result ≡ is_unread unread.now lba bytes.now }
+{
+    is_among(unread, lba) && is_blank(bytes)
+}
+
+/// A disk takes a sector of a medium, or zeros if it could not be read.
+fn store_one<D: Device, M: Medium>(
+    alloc: Global,
+    disk: &mut D,
+    medium: &mut M,
+    lba: u32,
+    unread: &[u32],
+) -> Result<(), ImageError>
+    ensures disk { Grows D.plan_of D.stands_for disk.old disk.new }
+    ensures contents { M.contents_of medium.new ≡ M.contents_of medium.old }
+    ensures other { result ≢ Err ImageError.OtherSize }
+{
+    let mut room = [0; 512];
+    if !is_among(unread, lba) {
+        read_at(medium, lba, &mut room)?;
+    }
+    Ok(store(alloc, disk, lba, &room)?)
+}
+
 /// A disk takes the sectors of a medium below a number.
 fn store_all<D: Device, M: Medium>(
     alloc: Global,
     disk: &mut D,
     medium: &mut M,
     count: u32,
+    unread: &[u32],
+) -> Result<(), ImageError>
+    ensures disk { Grows D.plan_of D.stands_for disk.old disk.new }
+    ensures contents { M.contents_of medium.new ≡ M.contents_of medium.old }
+    ensures other { result ≢ Err ImageError.OtherSize }
+{
+    for lba in 0..count {
+        store_one(alloc, disk, medium, lba, unread)?;
+    }
+    Ok(())
+}
+
+/// Whether a medium has these bytes as a sector, and they can be read.
+fn is_at<M: Medium>(medium: &mut M, lba: u32, bytes: &[u8]) -> bool
+    ensures contents { M.contents_of medium.new ≡ M.contents_of medium.old }
+    ensures same { result ≡ true → IsReadAt lba bytes.now (M.contents_of medium.old) }
+{
+    let mut room = [0; 512];
+    medium.read(lba, &mut room).is_ok() && room.as_slice() == bytes
+}
+
+/// A sector of a disk is that of its medium, or could not be read there.
+fn check_one<D: Sectors, M: Medium>(
+    disk: &D,
+    medium: &mut M,
+    lba: u32,
+    unread: &[u32],
 ) -> Result<(), ImageError>
     ensures contents { M.contents_of medium.new ≡ M.contents_of medium.old }
+    ensures same { OnOk result (IsReadBut unread.now lba (sectors_at (D.medium_of disk.now) lba 1)
+        (M.contents_of medium.old)) }
     ensures other { result ≢ Err ImageError.OtherSize }
 {
+    let Some(bytes) = disk.sector(lba) else {
+        return Err(ImageError::NotTaken);
+    };
+    if is_unread(unread, lba, bytes) {
+        return Ok(());
+    }
     let mut room = [0; 512];
+    read_at(medium, lba, &mut room)?;
+    if room.as_slice() == bytes {
+        Ok(())
+    } else {
+        Err(ImageError::NotTaken)
+    }
+}
+
+/// The sectors of a disk below a number are those of its medium, but for those that could not be read.
+fn check_all<D: Sectors, M: Medium>(
+    disk: &D,
+    medium: &mut M,
+    count: u32,
+    unread: &[u32],
+) -> Result<(), ImageError>
+    ensures contents { M.contents_of medium.new ≡ M.contents_of medium.old }
+    ensures same { OnOk result (HasBut unread.now count (D.medium_of disk.now) (M.contents_of medium.old)) }
+    ensures other { result ≢ Err ImageError.OtherSize }
+{
     for lba in 0..count {
-        medium.read(lba, &mut room)?;
-        store(alloc, disk, lba, &room)?;
+        check_one(disk, medium, lba, unread)?;
     }
     Ok(())
 }
 
-/// Whether a sector is the same at a disk and on its medium, which can be read there.
-fn is_same<D: Sectors, M: Medium>(disk: &D, medium: &mut M, lba: u32) -> bool
-    ensures contents { M.contents_of medium.new ≡ M.contents_of medium.old }
-    ensures long { result ≡ true → length (sectors_at (D.medium_of disk.now) lba 1) ≡ 512 }
-    ensures same { result ≡ true → IsReadAt lba (sectors_at (D.medium_of disk.now) lba 1) (M.contents_of medium.old) }
-{
-    let mut room = [0; 512];
-    match disk.sector(lba) {
-        Some(bytes) => medium.read(lba, &mut room).is_ok() && room.as_slice() == bytes,
-        None => false,
-    }
-}
-
-/// The sectors of a disk below a number are those of its medium.
-fn check_all<D: Sectors, M: Medium>(disk: &D, medium: &mut M, count: u32) -> Result<(), ImageError>
-    ensures contents { M.contents_of medium.new ≡ M.contents_of medium.old }
-    ensures same { OnOk result (HasBelow count (D.medium_of disk.now) (M.contents_of medium.old)) }
-    ensures other { result ≢ Err ImageError.OtherSize }
-{
-    for lba in 0..count {
-        if !is_same(disk, medium, lba) {
-            return Err(ImageError::NotTaken);
-        }
-    }
-    Ok(())
-}
-
-/// Gives a new disk, which was not plugged in yet, the sectors of a medium. The disk takes them by commands, one
-/// for each sector, before any host sees it, and is then what a disk is after them: plug it in. It is compared with
-/// the medium at the end.
+/// Gives a new disk, which was not plugged in yet, the sectors of a medium, and zeros in place of those that could not be
+/// read. The disk takes them by commands, one for each sector, before any host sees it, and is then what a disk is after
+/// them: plug it in. It is compared with the medium at the end.
 pub fn load<D: Device + Sectors, M: Medium>(
     alloc: Global,
     disk: &mut D,
     medium: &mut M,
+    unread: &[u32],
 ) -> Result<(), ImageError>
     ensures same { OnOk result
-        (HasBelow (D.count_of disk.new) (D.medium_of disk.new) (M.contents_of medium.old)) }
+        (HasBut unread.now (D.count_of disk.new) (D.medium_of disk.new) (M.contents_of medium.old)) }
+    ensures disk { Grows D.plan_of D.stands_for disk.old disk.new }
     ensures contents { M.contents_of medium.new ≡ M.contents_of medium.old }
     ensures other_size { result ≡ Err ImageError.OtherSize
         → HasOtherSize (D.count_of disk.old) (M.contents_of medium.old) }
@@ -168,54 +281,106 @@ pub fn load<D: Device + Sectors, M: Medium>(
     if !has_size(disk, count) {
         return Err(ImageError::OtherSize);
     }
-    store_all(alloc, disk, medium, count)?;
+    store_all(alloc, disk, medium, count, unread)?;
     if !has_size(disk, count) {
         return Err(ImageError::NotTaken);
     }
-    check_all(disk, medium, count)
+    check_all(disk, medium, count, unread)
 }
 
-/// A sector of a disk goes to its medium, if it stands otherwise there.
-fn save_one<D: Sectors, M: Medium>(disk: &D, medium: &mut M, lba: u32) -> Result<(), MediumError>
+/// A sector of a disk goes to its medium, if it stands otherwise there. One that could not be read stays as it is there,
+/// until something else than zeros was written to it.
+fn save_one<D: Sectors, M: Medium>(
+    disk: &D,
+    medium: &mut M,
+    lba: u32,
+    unread: &[u32],
+) -> Result<(), ImageError>
     requires { lba < D.count_of disk.now }
-    ensures long { OnOk result (length (sectors_at (D.medium_of disk.now) lba 1) ≡ 512) }
-    ensures written { OnOk result (IsWrittenAt lba (sectors_at (D.medium_of disk.now) lba 1)
+    ensures long { length (sectors_at (D.medium_of disk.now) lba 1) ≡ 512 }
+    ensures written { OnOk result (IsWrittenBut unread.now lba (sectors_at (D.medium_of disk.now) lba 1)
         (M.contents_of medium.old) (M.contents_of medium.new)) }
+    ensures failed { IfErr result (FailsAt lba (M.contents_of medium.old) (M.contents_of medium.new)) }
 {
-    if is_same(disk, medium, lba) {
+    let bytes = match disk.sector(lba) {
+        Some(bytes) => bytes,
+        None => unreachable!(),
+    };
+    if is_unread(unread, lba, bytes) {
         return Ok(());
     }
-    match disk.sector(lba) {
-        Some(bytes) => medium.write(lba, bytes),
-        None => unreachable!(),
+    if is_at(medium, lba, bytes) {
+        return Ok(());
+    }
+    match medium.write(lba, bytes) {
+        Ok(()) => Ok(()),
+        Err(error) => Err(ImageError::Medium(lba, error)),
     }
 }
 
-/// The sectors of a disk below a number go to its medium, if they stand otherwise there.
-fn save_all<D: Sectors, M: Medium>(disk: &D, medium: &mut M, count: u32) -> Result<(), MediumError>
-    requires { count ≤ D.count_of disk.now }
-    ensures { OnOk result (HasBelow count (D.medium_of disk.now) (M.contents_of medium.new)) }
+/// The sectors of a disk from one number up to another go to its medium, if they stand otherwise there.
+fn save_all<D: Sectors, M: Medium>(
+    disk: &D,
+    medium: &mut M,
+    from: u32,
+    to: u32,
+    unread: &[u32],
+) -> Result<(), ImageError>
+    requires { to ≤ D.count_of disk.now }
+    ensures same { OnOk result (HasIn unread.now from to (D.medium_of disk.now) (M.contents_of medium.new)) }
+    ensures others { OnOk result (KeepsBut from to (M.contents_of medium.old) (M.contents_of medium.new)) }
+    ensures part { OnOk result (AreMixed (D.medium_of disk.now) (M.contents_of medium.old) (M.contents_of medium.new)) }
+    ensures failed { IfErr result (SaveLeaves (D.medium_of disk.now) (M.contents_of medium.old) (M.contents_of medium.new)) }
+    ensures other { IfErr result FailsByMedium }
 {
-    for lba in 0..count {
-        save_one(disk, medium, lba)?;
+    for lba in from..to {
+        save_one(disk, medium, lba, unread)?;
     }
     Ok(())
 }
 
-/// Writes to a medium each sector of its disk that stands otherwise there, or cannot be read there, and has all of
-/// them stay. After an error some of them may be written; call it again.
-pub fn save<D: Sectors, M: Medium>(disk: &D, medium: &mut M) -> Result<(), ImageError>
+/// Writes to a medium each sector of its disk, from one number up to another, that stands otherwise there, and has all of
+/// them stay. Sectors past the end are none. Those that could not be read are written once the disk has something else than
+/// zeros for them. After an error some sectors may be written, and at the one that it names any bytes may stand; call it again.
+pub fn save_range<D: Sectors, M: Medium>(
+    disk: &D,
+    medium: &mut M,
+    range: Range<u32>,
+    unread: &[u32],
+) -> Result<(), ImageError>
     ensures same { OnOk result
-        (HasBelow (D.count_of disk.now) (D.medium_of disk.now) (M.contents_of medium.new)) }
+        (HasIn unread.now range.start (min range.end (D.count_of disk.now)) (D.medium_of disk.now) (M.contents_of medium.new)) }
+    ensures others { OnOk result (KeepsBut range.start range.end (M.contents_of medium.old) (M.contents_of medium.new)) }
+    ensures size { OnOk result (D.count_of disk.now < 4294967296) }
     ensures stays { OnOk result (M.stays_of medium.new ≡ M.contents_of medium.new) }
     ensures other_size { result ≡ Err ImageError.OtherSize
         → HasOtherSize (D.count_of disk.now) (M.contents_of medium.old) }
-    ensures other { result ≢ Err ImageError.NotTaken × result ≢ Err ImageError.OutOfMemory }
+    ensures failed { IfErr result (SaveLeaves (D.medium_of disk.now) (M.contents_of medium.old) (M.contents_of medium.new)) }
 {
     let count = medium.sectors();
     if !has_size(disk, count) {
         return Err(ImageError::OtherSize);
     }
-    save_all(disk, medium, count)?;
-    Ok(medium.flush()?)
+    let end = if range.end < count { range.end } else { count };
+    save_all(disk, medium, range.start, end, unread)?;
+    match medium.flush() {
+        Ok(()) => Ok(()),
+        Err(error) => Err(ImageError::Medium(range.start, error)),
+    }
+}
+
+/// The same of all sectors.
+pub fn save<D: Sectors, M: Medium>(
+    disk: &D,
+    medium: &mut M,
+    unread: &[u32],
+) -> Result<(), ImageError>
+    ensures same { OnOk result
+        (HasBut unread.now (D.count_of disk.now) (D.medium_of disk.now) (M.contents_of medium.new)) }
+    ensures stays { OnOk result (M.stays_of medium.new ≡ M.contents_of medium.new) }
+    ensures other_size { result ≡ Err ImageError.OtherSize
+        → HasOtherSize (D.count_of disk.now) (M.contents_of medium.old) }
+    ensures failed { IfErr result (SaveLeaves (D.medium_of disk.now) (M.contents_of medium.old) (M.contents_of medium.new)) }
+{
+    save_range(disk, medium, 0..u32::MAX, unread)
 }

@@ -11,7 +11,7 @@ mod memory;
 mod sectors;
 
 pub use file::{FileError, FileMedium};
-pub use image::{ImageError, load, save};
+pub use image::{ImageError, load, save, save_range, unread_of};
 pub use medium::{Medium, MediumError};
 pub use memory::MemoryMedium;
 pub use sectors::Sectors;

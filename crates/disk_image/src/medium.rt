@@ -1,7 +1,7 @@
 //! Where the sectors of a disk are kept.
 
-ghost use Rattle.std.specs.Prelude.{◌≡◌, ◌*◌, List, ℕ, Option, IfSome, OnOk, length};
-ghost use Rattle.disk_image.specs.Media.{IsReadAt, IsWrittenAt};
+ghost use Rattle.std.specs.Prelude.{◌≡◌, ◌+◌, ◌*◌, List, ℕ, Option, IfSome, OnErr, OnOk, length};
+ghost use Rattle.disk_image.specs.Media.{IsReadAt, IsWrittenAt, KeepsBut};
 
 use thiserror::Error;
 
@@ -38,11 +38,12 @@ pub trait Medium {
         ensures read { OnOk result (IsReadAt lba room.new (contents_of self.old)) }
         ensures contents { contents_of self.new ≡ contents_of self.old };
 
-    /// Writes a sector. After an error any bytes may stand there.
+    /// Writes a sector. After an error any bytes may stand there, and all others stay.
     fn write(&mut self, lba: u32, bytes: &[u8]) -> Result<(), MediumError>
         requires { length bytes.now ≡ 512 }
         ensures written { OnOk result
-            (IsWrittenAt lba bytes.now (contents_of self.old) (contents_of self.new)) };
+            (IsWrittenAt lba bytes.now (contents_of self.old) (contents_of self.new)) }
+        ensures others { OnErr result (KeepsBut lba (lba + 1) (contents_of self.old) (contents_of self.new)) };
 
     /// Has all that was written stay.
     fn flush(&mut self) -> Result<(), MediumError>

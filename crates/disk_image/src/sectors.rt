@@ -4,6 +4,7 @@ ghost use Rattle.std.specs.Prelude.{◌≡◌, ◌<◌, ◌≤◌, List, ℕ, Ma
 ghost use Rattle.disk_model.specs.Chunks.{sectors_at};
 
 use disk_model::Disk;
+use failing_disk::FailingDisk;
 use stock_disk::StockDisk;
 
 /// A disk whose sectors can be seen.
@@ -46,5 +47,19 @@ impl Sectors for StockDisk {
             × (length bytes.now ≡ 512)) }
     {
         StockDisk::sector(self, lba)
+    }
+}
+
+impl Sectors for FailingDisk {
+    ghost count_of = { λ s. s.disk.disk.sectors };
+
+    ghost medium_of = { λ s. s.disk.disk.now.medium };
+
+    fn sector(&self, lba: u32) -> Option<&[u8]>
+        ensures { MatchOption result (self.now.disk.disk.sectors ≤ lba) (λ bytes.
+            (lba < self.now.disk.disk.sectors) × (bytes.now ≡ sectors_at self.now.disk.disk.now.medium lba 1)
+            × (length bytes.now ≡ 512)) }
+    {
+        FailingDisk::sector(self, lba)
     }
 }

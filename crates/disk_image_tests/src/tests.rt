@@ -1,6 +1,8 @@
 //! Disks that get their sectors from a medium, and give them back.
 
-use disk_image::{ImageError, Medium, MediumError, MemoryMedium, Sectors, load, save};
+use disk_image::{
+    ImageError, Medium, MediumError, MemoryMedium, Sectors, load, save, save_range, unread_of,
+};
 use disk_model::{Device, Disk, DiskPlan, Order, Profile};
 use fis_view::{H2dFields, Stamp, h2d, payload};
 use std::alloc::Global;
@@ -90,10 +92,10 @@ fn a_disk_gets_sectors(rt: HostRuntime) -> Result<(), Fail> {
     let alloc = rt.alloc();
     let mut medium = medium(alloc, 8192)?;
     let mut disk = Disk::new(alloc, 16, DiskPlan::plain())?;
-    assert_eq!(rt; load(alloc, &mut disk, &mut medium), Ok(()));
+    assert_eq!(rt; load(alloc, &mut disk, &mut medium, &[]), Ok(()));
     assert!(rt; has_sectors(&disk, &medium, 16));
     let mut disk = StockDisk::new(alloc, 16, other_plan())?;
-    assert_eq!(rt; load(alloc, &mut disk, &mut medium), Ok(()));
+    assert_eq!(rt; load(alloc, &mut disk, &mut medium, &[]), Ok(()));
     assert!(rt; has_sectors(&disk, &medium, 16));
     Ok(())
 }
@@ -103,12 +105,12 @@ fn a_medium_gets_what_changed(rt: HostRuntime) -> Result<(), Fail> {
     let alloc = rt.alloc();
     let mut medium = medium(alloc, 8192)?;
     let mut disk = StockDisk::new(alloc, 16, other_plan())?;
-    load(alloc, &mut disk, &mut medium)?;
+    load(alloc, &mut disk, &mut medium, &[])?;
     disk.plugged(alloc)?;
     drain(alloc, &mut disk)?;
     writes(alloc, &mut disk, 15, 0xA5)?;
     assert!(rt; !has_sectors(&disk, &medium, 16));
-    assert_eq!(rt; save(&disk, &mut medium), Ok(()));
+    assert_eq!(rt; save(&disk, &mut medium, &[]), Ok(()));
     assert!(rt; has_sectors(&disk, &medium, 16));
     assert_eq!(rt; medium.bytes().last(), Some(&0xA5));
     Ok(())
@@ -121,10 +123,10 @@ fn other_sizes_are_refused(rt: HostRuntime) -> Result<(), Fail> {
         let mut medium = medium(alloc, len)?;
         let mut disk = Disk::new(alloc, 16, DiskPlan::plain())?;
         assert_eq!(rt;
-            load(alloc, &mut disk, &mut medium),
+            load(alloc, &mut disk, &mut medium, &[]),
             Err(ImageError::OtherSize)
         );
-        assert_eq!(rt; save(&disk, &mut medium), Err(ImageError::OtherSize));
+        assert_eq!(rt; save(&disk, &mut medium, &[]), Err(ImageError::OtherSize));
     }
     Ok(())
 }
@@ -141,7 +143,7 @@ fn a_disk_in_reset_takes_none(rt: HostRuntime) -> Result<(), Fail> {
     };
     disk.on_frame(alloc, &h2d(alloc, &reset, STAMP)?)?;
     assert_eq!(rt;
-        load(alloc, &mut disk, &mut medium),
+        load(alloc, &mut disk, &mut medium, &[]),
         Err(ImageError::NotTaken)
     );
     Ok(())
@@ -160,5 +162,105 @@ fn sectors_of_a_medium(rt: HostRuntime) -> Result<(), Fail> {
     assert_eq!(rt; medium.write(2, &room), Err(MediumError::Write));
     assert!(rt; medium.bytes().get(..512) == medium.bytes().get(512..));
     assert_eq!(rt; medium.into_bytes().len(), 1024);
+    Ok(())
+}
+
+/// A medium of which one sector cannot be read until it was written, and another cannot be written.
+#[derive(Drop)]
+struct BrokenMedium {
+    medium: MemoryMedium,
+    unread: Option<u32>,
+    unwritten: u32,
+}
+
+impl Medium for BrokenMedium {
+    ghost use Rattle.std.specs.Prelude.{◌≡◌, None, length};
+
+    ghost contents_of = { λ _. None };
+
+    ghost stays_of = { λ _. None };
+
+    fn sectors(&self) -> u32 {
+        self.medium.sectors()
+    }
+
+    fn read(&mut self, lba: u32, room: &mut [u8]) -> Result<(), MediumError>
+        requires { length room.old ≡ 512 }
+        ensures long { length room.new ≡ length room.old }
+    {
+        if self.unread == Some(lba) {
+            return Err(MediumError::Read);
+        }
+        self.medium.read(lba, room)
+    }
+
+    fn write(&mut self, lba: u32, bytes: &[u8]) -> Result<(), MediumError>
+        requires { length bytes.now ≡ 512 }
+    {
+        if self.unwritten == lba {
+            return Err(MediumError::Write);
+        }
+        if self.unread == Some(lba) {
+            self.unread = None;
+        }
+        self.medium.write(lba, bytes)
+    }
+
+    fn flush(&mut self) -> Result<(), MediumError> {
+        self.medium.flush()
+    }
+}
+
+/// A medium of 16 sectors, of which sector 3 cannot be read and sector 9 cannot be written, and its disk.
+fn broken(alloc: Global) -> Result<(BrokenMedium, Disk), Fail> {
+    let mut medium = BrokenMedium {
+        medium: medium(alloc, 8192)?,
+        unread: Some(3),
+        unwritten: 9,
+    };
+    let mut disk = Disk::new(alloc, 16, DiskPlan::plain())?;
+    load(alloc, &mut disk, &mut medium, &[3])?;
+    disk.plugged(alloc)?;
+    drain(alloc, &mut disk)?;
+    Ok((medium, disk))
+}
+
+#[test]
+fn sectors_that_cannot_be_read(rt: HostRuntime) -> Result<(), Fail> {
+    let alloc = rt.alloc();
+    let (mut medium, mut disk) = broken(alloc)?;
+    let unread = unread_of(&mut medium)?;
+    assert_eq!(rt; unread.as_slice(), [3].as_slice());
+    assert_eq!(rt;
+        load(alloc, &mut disk, &mut medium, &[]),
+        Err(ImageError::Medium(3, MediumError::Read))
+    );
+    assert_eq!(rt; save(&disk, &mut medium, &[3]), Ok(()));
+    assert_eq!(rt; medium.unread, Some(3));
+    writes(alloc, &mut disk, 3, 0xA5)?;
+    assert_eq!(rt; save(&disk, &mut medium, &[3]), Ok(()));
+    assert_eq!(rt; medium.unread, None);
+    assert!(rt; has_sectors(&disk, &medium.medium, 16));
+    Ok(())
+}
+
+#[test]
+fn sectors_that_cannot_be_written(rt: HostRuntime) -> Result<(), Fail> {
+    let alloc = rt.alloc();
+    let (mut medium, mut disk) = broken(alloc)?;
+    writes(alloc, &mut disk, 8, 0xA5)?;
+    writes(alloc, &mut disk, 9, 0xA5)?;
+    writes(alloc, &mut disk, 10, 0xA5)?;
+    let refused = Err(ImageError::Medium(9, MediumError::Write));
+    assert_eq!(rt; save_range(&disk, &mut medium, 8..9, &[3]), Ok(()));
+    assert_eq!(rt; save_range(&disk, &mut medium, 9..10, &[3]), refused);
+    assert_eq!(rt; save(&disk, &mut medium, &[3]), refused);
+    assert_eq!(rt; medium.medium.bytes().get(8 * 512), Some(&0xA5));
+    assert_eq!(rt; medium.medium.bytes().get(10 * 512), Some(&17));
+    assert_eq!(rt;
+        save_range(&disk, &mut medium, 10..4_000_000_000, &[3]),
+        Ok(())
+    );
+    assert_eq!(rt; medium.medium.bytes().get(10 * 512), Some(&0xA5));
     Ok(())
 }

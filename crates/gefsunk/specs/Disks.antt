@@ -4,15 +4,16 @@ use Rattle.std.specs.Prelude.{nat_lt, nat_le}
 use Rattle.fis_view.specs.Frames.{is_frame}
 use Rattle.disk_model.specs.Chunks.{sectors_at}
 use Rattle.disk_model.specs.Disks.{opening}
-use Rattle.disk_model.specs.Histories.{GoesOn, IsSilent, Plugged, Received, SendsNext}
 use Rattle.disk_model.specs.Runs.{is_size}
 use Rattle.disk_model.specs.declared.plan.DiskPlan.{DiskPlan}
 use Rattle.disk_model.specs.declared.plan.Order.{Order}
 use Rattle.disk_model.specs.declared.plan.Order.TheVariants.{Oldest, Newest}
 use Rattle.disk_model.specs.declared.plan.Profile.{Profile}
 use Rattle.disk_model.specs.declared.plan.Profile.TheVariants.{Bare, Stock}
-use Rattle.stock_disk.specs.Faces.{MaySendBy, StockMaySend, StockStandsFor, StockValue, stock_plan}
 use Rattle.stock_disk.specs.Fronts.{opening as opening_front}
+use Rattle.failing_disk.specs.Faces.{Fails, FailingValue, Gave, IsQuiet, MayTake, Took, WasPlugged}
+use Rattle.failing_disk.specs.declared.guard.Guard.{Guard}
+use Rattle.failing_disk.specs.declared.guard.Guard.TheVariants.{Sound, Reports, Ends}
 use Rattle.gefsunk.specs.declared.status.Status.{Status}
 use Rattle.gefsunk.specs.declared.status.Status.TheVariants as status
 
@@ -43,12 +44,13 @@ can_be sectors size flags serial bads =
     is_size (profile_of flags serial) sectors size && nat_lt flags 16 && nat_le (length bads) 16
 
 -- a new disk, as C asks for it
-pub record IsDiskOf (count size flags serial : ℕ) (bads : List ℕ) (disk : StockValue) : Type 0 where
+pub record IsDiskOf (count size flags serial : ℕ) (bads : List ℕ) (disk : FailingValue) : Type 0 where
   pub can_be : can_be count size flags serial bads ≡ true
-  pub plan : IsPlanOf size flags serial bads disk.disk.plan
-  pub sectors : disk.disk.sectors ≡ count
-  pub now : disk.disk.now ≡ opening count
-  pub front : disk.front ≡ opening_front disk.disk.plan
+  pub plan : IsPlanOf size flags serial bads disk.disk.disk.plan
+  pub sectors : disk.disk.disk.sectors ≡ count
+  pub now : disk.disk.disk.now ≡ opening count
+  pub front : disk.disk.front ≡ opening_front disk.disk.disk.plan
+  pub guard : disk.guard ≡ Sound
 
 -- why there is no new disk
 abbrev pub DiskRefused : (sectors size flags serial : ℕ) → List ℕ → Status → Type 0
@@ -57,30 +59,41 @@ DiskRefused sectors size flags serial bads status.NoMemory = can_be sectors size
 DiskRefused sectors size flags serial bads _ = ⊥
 
 -- the disk is plugged in
-abbrev pub DiskPlug : StockValue → Status → StockValue → Type 0
-DiskPlug old answer new = (answer ≡ status.Done) × GoesOn stock_plan StockStandsFor old Plugged new
+abbrev pub DiskPlug : FailingValue → Status → FailingValue → Type 0
+DiskPlug old answer new = (answer ≡ status.Done) × WasPlugged old new
 
 -- the host sends a FIS
-abbrev pub DiskFromHost : StockValue → List ℕ → Status → StockValue → Type 0
-DiskFromHost old fis status.Done new =
-    (is_frame fis ≡ true) × GoesOn stock_plan StockStandsFor old (Received fis) new
+abbrev pub DiskFromHost : FailingValue → List ℕ → Status → FailingValue → Type 0
+DiskFromHost old fis status.Done new = (is_frame fis ≡ true) × Took old fis new
 DiskFromHost old fis status.BadLength new = (is_frame fis ≡ false) × (new ≡ old)
 DiskFromHost old fis status.NoMemory new = (is_frame fis ≡ true) × (new ≡ old)
 DiskFromHost old fis _ new = ⊥
 
 -- the next FIS for the host; the room must hold the longest FIS
-abbrev pub DiskToHost : StockValue → ℕ → Status → List ℕ → StockValue → Type 0
-DiskToHost old room status.Done fis new = SendsNext stock_plan StockStandsFor StockMaySend old fis new
-DiskToHost old room status.Nothing fis new =
-    IsSilent stock_plan StockStandsFor StockMaySend old × (new ≡ old)
-DiskToHost old room status.NoMemory fis new = MaySendBy old.front.owed old.front.serving old.disk × (new ≡ old)
+abbrev pub DiskToHost : FailingValue → ℕ → Status → List ℕ → FailingValue → Type 0
+DiskToHost old room status.Done fis new = Gave old fis new
+DiskToHost old room status.Nothing fis new = IsQuiet old × (new ≡ old)
+DiskToHost old room status.NoMemory fis new = MayTake old.guard old.disk × (new ≡ old)
 DiskToHost old room status.TooShort fis new = (room < 8196) × (new ≡ old)
 DiskToHost old room _ fis new = ⊥
 
+-- what the host is to hear: of a queued command by its tag, or, for 32, of one that is not queued
+abbrev pub failed_as : (tag error lba : ℕ) → Guard
+failed_as tag error lba =
+    if tag == 32 then Ends error lba else Reports (record { tag = tag; error = error; lba = lba })
+
+-- the medium failed a command
+abbrev pub DiskFail : FailingValue → (tag error lba : ℕ) → Status → FailingValue → Type 0
+DiskFail old tag error lba status.Done new =
+    (tag ≤ 32) × (lba < old.disk.disk.sectors) × Fails (failed_as tag error lba) old new
+DiskFail old tag error lba status.NoTag new = (32 < tag) × (new ≡ old)
+DiskFail old tag error lba status.NoSector new = (tag ≤ 32) × (old.disk.disk.sectors ≤ lba) × (new ≡ old)
+DiskFail old tag error lba _ new = ⊥
+
 -- a sector of the medium, and the first 512 bytes of the room
-abbrev pub SectorRule : StockValue → ℕ → ℕ → Status → List ℕ → Type 0
+abbrev pub SectorRule : FailingValue → ℕ → ℕ → Status → List ℕ → Type 0
 SectorRule disk lba room status.Done bytes =
-    (lba < disk.disk.sectors) × (bytes ≡ sectors_at disk.disk.now.medium lba 1)
-SectorRule disk lba room status.NoSector bytes = disk.disk.sectors ≤ lba
-SectorRule disk lba room status.TooShort bytes = (lba < disk.disk.sectors) × (room < 512)
+    (lba < disk.disk.disk.sectors) × (bytes ≡ sectors_at disk.disk.disk.now.medium lba 1)
+SectorRule disk lba room status.NoSector bytes = disk.disk.disk.sectors ≤ lba
+SectorRule disk lba room status.TooShort bytes = (lba < disk.disk.disk.sectors) × (room < 512)
 SectorRule disk lba room _ bytes = ⊥

@@ -3,7 +3,7 @@
 use Rattle.std.specs.Prelude.{◌≡◌, ℕ, ◌≤◌, ◌==◌, not, List, Option, Some, None}
 use Rattle.ahci_port.specs.Opening.{IsOpening}
 use Rattle.ahci_port.specs.States.{ControllerState}
-use Rattle.stock_disk.specs.Faces.{StockValue}
+use Rattle.failing_disk.specs.Faces.{FailingValue}
 use Rattle.gefsunk.specs.Disks.{DiskRefused, IsDiskOf}
 use Rattle.gefsunk.specs.Pms.{opening, opening_with_port_0}
 use Rattle.gefsunk.specs.declared.kept.Kept.{Kept}
@@ -23,7 +23,7 @@ AtPm (Some (kept.Hba old)) answer new rule = (answer ≡ status.Closed) × (new 
 AtPm None answer new rule = (answer ≡ status.Closed) × (new ≡ None)
 
 -- a call on the disk behind the handle, by its rule
-abbrev pub AtDisk : Option Kept → Status → Option Kept → (StockValue → StockValue → Type 0) → Type 0
+abbrev pub AtDisk : Option Kept → Status → Option Kept → (FailingValue → FailingValue → Type 0) → Type 0
 AtDisk (Some (kept.Disk old)) answer (Some (kept.Disk new)) rule = rule old new
 AtDisk (Some (kept.Disk old)) answer (Some (kept.Pm new)) rule = ⊥
 AtDisk (Some (kept.Disk old)) answer (Some (kept.Hba new)) rule = ⊥

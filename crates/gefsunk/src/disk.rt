@@ -1,12 +1,13 @@
 //! A disk as the library for C keeps it.
 
 ghost use Rattle.std.specs.Prelude.{◌≡◌, ◌≢◌, ◌≤◌, ◌<◌, IfErr, IfOk, drop, length, take};
-ghost use Rattle.gefsunk.specs.Disks.{DiskFromHost, DiskPlug, DiskRefused, DiskToHost, IsDiskOf, IsPlanOf, SectorRule, has_flag};
+ghost use Rattle.gefsunk.specs.Disks.{DiskFail, DiskFromHost, DiskPlug, DiskRefused, DiskToHost, IsDiskOf, IsPlanOf, SectorRule, has_flag};
 
 use crate::pm::{copied, refused, stamp};
 use crate::status::Status;
 use arrayvec::ArrayVec;
 use disk_model::{Device, DiskError, DiskPlan, Order, Profile};
+use failing_disk::{FailingDisk, Failure};
 use fis_view::Frame;
 use std::alloc::Global;
 use stock_disk::StockDisk;
@@ -20,6 +21,9 @@ const AUTO: u32 = 4;
 /// The IDENTIFY DEVICE data are those that stock drivers read, and what the disk leaves unanswered is
 /// answered before it.
 const STOCK: u32 = 8;
+
+/// In place of a tag: the command is not queued.
+const NOT_QUEUED: u8 = 32;
 
 /// Whether a flag is set.
 fn has_flag(flags: u32, flag: u32) -> bool
@@ -59,7 +63,7 @@ pub fn new_disk(
     flags: u32,
     serial: u32,
     bad: &[u32],
-) -> Result<StockDisk, Status>
+) -> Result<FailingDisk, Status>
     ensures made { IfOk result (λ disk. IsDiskOf sectors chunk flags serial bad.now disk) }
     ensures refused { IfErr result (λ e. DiskRefused sectors chunk flags serial bad.now e) }
 {
@@ -71,14 +75,14 @@ pub fn new_disk(
         return Err(Status::BadDisk);
     }
     match StockDisk::new(alloc, sectors, plan(chunk, flags, serial, bads)) {
-        Ok(disk) => Ok(disk),
+        Ok(disk) => Ok(FailingDisk::new(disk)),
         Err(DiskError::BadSize) => Err(Status::BadDisk),
         Err(DiskError::OutOfMemory) => Err(Status::NoMemory),
     }
 }
 
 /// The disk is plugged in.
-pub fn plug(disk: &mut StockDisk, alloc: Global) -> Status
+pub fn plug(disk: &mut FailingDisk, alloc: Global) -> Status
     ensures { DiskPlug disk.old result disk.new }
 {
     match disk.plugged(alloc) {
@@ -88,7 +92,7 @@ pub fn plug(disk: &mut StockDisk, alloc: Global) -> Status
 }
 
 /// The disk takes a FIS of the host.
-pub fn from_host(disk: &mut StockDisk, alloc: Global, fis: &[u8]) -> Status
+pub fn from_host(disk: &mut FailingDisk, alloc: Global, fis: &[u8]) -> Status
     ensures { DiskFromHost disk.old fis.now result disk.new }
 {
     let frame = match Frame::from_bytes(alloc, fis, stamp(0, 0)) {
@@ -102,7 +106,7 @@ pub fn from_host(disk: &mut StockDisk, alloc: Global, fis: &[u8]) -> Status
 }
 
 /// Writes the next FIS of the disk into the room, and its length.
-pub fn to_host(disk: &mut StockDisk, alloc: Global, room: &mut [u8], len: &mut usize) -> Status
+pub fn to_host(disk: &mut FailingDisk, alloc: Global, room: &mut [u8], len: &mut usize) -> Status
     ensures rule { DiskToHost disk.old (length room.old) result (take len.new room.new) disk.new }
     ensures within { result ≡ Status.Done → len.new ≤ length room.old }
     ensures kept { result ≢ Status.Done → (room.new ≡ room.old) × (len.new ≡ len.old) }
@@ -121,6 +125,24 @@ pub fn to_host(disk: &mut StockDisk, alloc: Global, room: &mut [u8], len: &mut u
     }
 }
 
+/// The medium failed a command of the disk: the one with this tag, or, for 32, the one that is not queued.
+pub fn fail(disk: &mut FailingDisk, alloc: Global, tag: u8, error: u8, lba: u32) -> Status
+    ensures { DiskFail disk.old tag error lba result disk.new }
+{
+    if tag > NOT_QUEUED {
+        return Status::NoTag;
+    }
+    if disk.sector(lba).is_none() {
+        return Status::NoSector;
+    }
+    if tag == NOT_QUEUED {
+        disk.fail_command(alloc, error, lba);
+    } else {
+        disk.fail_queued(alloc, Failure { tag, error, lba });
+    }
+    Status::Done
+}
+
 /// Copies bytes to the front of the room.
 fn put(bytes: &[u8], room: &mut [u8])
     requires fits { length bytes.now ≤ length room.old }
@@ -131,7 +153,7 @@ fn put(bytes: &[u8], room: &mut [u8])
 }
 
 /// Writes the 512 bytes of a sector on the medium into the room.
-pub fn sector(disk: &StockDisk, lba: u32, room: &mut [u8]) -> Status
+pub fn sector(disk: &FailingDisk, lba: u32, room: &mut [u8]) -> Status
     ensures rule { SectorRule disk.now lba (length room.old) result (take 512 room.new) }
     ensures kept { result ≢ Status.Done → room.new ≡ room.old }
     ensures rest { drop 512 room.new ≡ drop 512 room.old }

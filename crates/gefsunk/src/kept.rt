@@ -2,7 +2,7 @@
 
 use crate::pm::Pm;
 use ahci_port::Controller;
-use stock_disk::StockDisk;
+use failing_disk::FailingDisk;
 
 /// What stands behind a handle. One kind of handle keeps all, so that a handle of one kind that is given to
 /// a call for another is found out.
@@ -11,7 +11,7 @@ pub enum Kept {
     /// A port multiplier.
     Pm(Pm),
     /// A disk.
-    Disk(StockDisk),
+    Disk(FailingDisk),
     /// A controller of one port.
     Hba(Controller),
 }

@@ -3,7 +3,7 @@
 #![tactic(auto)]
 
 ghost use Rattle.std.specs.Prelude.{◌≡◌, ◌≢◌, ◌≤◌, drop, length, take, true};
-ghost use Rattle.gefsunk.specs.Disks.{DiskFromHost, DiskPlug, DiskToHost, SectorRule};
+ghost use Rattle.gefsunk.specs.Disks.{DiskFail, DiskFromHost, DiskPlug, DiskToHost, SectorRule};
 ghost use Rattle.gefsunk.specs.Exports.{AtDisk, AtHba, AtPm, FreedDisk, FreedHba, FreedPm, MadeDisk, MadeHba, MadeOpenPm, MadePm};
 ghost use Rattle.gefsunk.specs.Hbas.{DataRule, HbaRead, HbaTake, HbaWrite, LineRule, NextOut, block};
 ghost use Rattle.gefsunk.specs.Pms.{FromDevice, FromHost, Plug, ReadRule, ToDevice, ToHost, Unplug};
@@ -377,6 +377,29 @@ pub extern "C" fn gefsunk_disk_to_host(
     };
     let status = match &mut *kept {
         Kept::Disk(disk) => disk::to_host(disk, alloc, room, len),
+        Kept::Pm(_) | Kept::Hba(_) => Status::Closed,
+    };
+    *handle = Handle::open(kept);
+    status.code()
+}
+
+/// The medium failed a command of the disk.
+#[unsafe(no_mangle)]
+pub extern "C" fn gefsunk_disk_fail(
+    handle: &mut Handle,
+    alloc: Global,
+    tag: u8,
+    error: u8,
+    lba: u32,
+) -> u32
+    ensures { AtDisk handle.old.held.value (status_of result) handle.new.held.value
+        (λ old new. DiskFail old tag error lba (status_of result) new) }
+{
+    let Some(mut kept) = handle.take(alloc) else {
+        return Status::Closed.code();
+    };
+    let status = match &mut *kept {
+        Kept::Disk(disk) => disk::fail(disk, alloc, tag, error, lba),
         Kept::Pm(_) | Kept::Hba(_) => Status::Closed,
     };
     *handle = Handle::open(kept);

@@ -40,6 +40,8 @@ pub enum Status {
     BadDisk = 17,
     /// The disk has no such sector.
     NoSector = 18,
+    /// No command can have this tag.
+    NoTag = 19,
 }
 
 impl Status {

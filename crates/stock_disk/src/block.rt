@@ -7,8 +7,8 @@ ghost use Rattle.stock_disk.specs.Blocks.{block_follows};
 use fis_view::{Frame, FrameError, PioSetupFields, Stamp, payload, pio_setup};
 use std::alloc::{AllocError, Global};
 
-/// The PIO Setup of a block to the host, after which Status is this one.
-pub(crate) fn setup_frame(alloc: Global, ends: u8, stamp: Stamp) -> Result<Frame, AllocError>
+/// The PIO Setup of a block of 512 bytes to the host, after which Status is this one.
+pub fn setup_frame(alloc: Global, ends: u8, stamp: Stamp) -> Result<Frame, AllocError>
     ensures shows { IfOk result (λ f. Shows (block_follows ends) f.bytes) }
     ensures stamp { IfOk result (λ f. f.stamp ≡ stamp) }
 {
@@ -27,8 +27,8 @@ pub(crate) fn setup_frame(alloc: Global, ends: u8, stamp: Stamp) -> Result<Frame
     pio_setup(alloc, &fields, stamp)
 }
 
-/// The Data FIS of a block.
-pub(crate) fn data_frame(alloc: Global, bytes: &[u8], stamp: Stamp) -> Result<Frame, AllocError>
+/// The Data FIS of a block of 512 bytes.
+pub fn data_frame(alloc: Global, bytes: &[u8], stamp: Stamp) -> Result<Frame, AllocError>
     requires { length bytes.now ≡ 512 }
     ensures shows { IfOk result (λ f. Shows (Carries bytes.now) f.bytes) }
     ensures stamp { IfOk result (λ f. f.stamp ≡ stamp) }

@@ -184,7 +184,7 @@ fn done_for(auto: bool, fis: &RegH2D<'_>) -> Option<Own>
 }
 
 /// Whether the command is READ LOG EXT of the first page of the NCQ Command Error log.
-fn asks_log(fis: &RegH2D<'_>) -> bool
+pub fn asks_log(fis: &RegH2D<'_>) -> bool
     ensures { result ≡ asks_log fis.now }
 {
     let lba = fis.lba();
@@ -437,7 +437,7 @@ impl Front {
 }
 
 /// A Register Device to Host FIS with I. Device is 0.
-fn answer_frame(
+pub fn answer_frame(
     alloc: Global,
     status: u8,
     error: u8,

@@ -9,6 +9,8 @@
 //! says what comes of commands after an error, [`dma_commands_end`] what goes out for a DMA command, and
 //! [`dma_commands_move_their_bytes`] which bytes it moves. A disk without the profile is as it is alone:
 //! [`bare_disks_have_no_front`].
+//!
+//! Who stands before the front in turn makes FISes as it does: [`answer_frame`], [`setup_frame`], [`data_frame`].
 #![tactic(auto)]
 
 mod block;
@@ -19,9 +21,10 @@ mod laws;
 mod log;
 mod sectors;
 
+pub use block::{data_frame, setup_frame};
 pub use disk::StockDisk;
 pub use dma::Dma;
-pub use front::{Front, Own};
+pub use front::{Front, Own, answer_frame, asks_log};
 pub use laws::{
     bare_disks_have_no_front, dma_commands_end, dma_commands_move_their_bytes,
     errors_abort_commands, inside_is_a_disk, read_sectors_brings,

@@ -2,6 +2,7 @@
 
 mod dma;
 mod errors;
+mod fails;
 mod logs;
 mod reads;
 mod settings;

@@ -234,8 +234,7 @@ impl Board {
         }
     }
 
-    /// Between the multiplier and the disk at this port, both ways. What a FIS changes of the disk's sectors is in its
-    /// file before the disk sends one.
+    /// Between the multiplier and the disk at this port, both ways.
     fn move_at<F: Read + Write + Seek + OpenFile + Drop>(
         &mut self,
         alloc: Global,
@@ -247,10 +246,7 @@ impl Board {
             return Ok(false);
         }
         let bay = &mut self.bays[i];
-        let is_taken = bay.take(alloc, port, &mut self.multiplier)?;
-        if is_taken {
-            media.save(port, bay.disk())?;
-        }
+        let is_taken = bay.take(alloc, port, &mut self.multiplier, media)?;
         let is_sent = bay.send(alloc, port, &mut self.multiplier)?;
         Ok(is_taken || is_sent)
     }

@@ -9,5 +9,6 @@ mod opening;
 mod parse;
 mod run;
 mod text;
+mod writes;
 
 pub use run::play_guest;

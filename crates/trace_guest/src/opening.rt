@@ -4,6 +4,7 @@ ghost use Rattle.std.specs.Prelude.{◌≡◌, ◌≤◌, IfOk, length};
 
 use crate::bay::Bay;
 use crate::board::Board;
+use failing_disk::FailingDisk;
 use guest_bytes::{FlatError, FlatGuest};
 use std::alloc::{AllocError, Global};
 use stock_disk::StockDisk;
@@ -64,7 +65,7 @@ fn bay_of(alloc: Global, said: Option<Shape>) -> Result<Bay, AllocError> {
     let Ok(disk) = StockDisk::new(alloc, sectors, plan) else {
         return Err(AllocError);
     };
-    Ok(Bay::new(disk))
+    Ok(Bay::new(FailingDisk::new(disk)))
 }
 
 impl Opening {

@@ -5,7 +5,7 @@ use fis_view::Bytes;
 use guest_bytes::{FlatError, FlatGuest};
 use std::alloc::Global;
 use std::rt::Files;
-use trace_text::{Failure, Filed, Quantity, Refusal, Shape, Wanted, Words, read_filed};
+use trace_text::{Failure, Filed, Media, Quantity, Refusal, Shape, Wanted, Words, read_filed};
 
 /// The most rounds of one line.
 const MOST_ROUNDS: u64 = 1_000_000;
@@ -96,15 +96,17 @@ fn free_port(words: &mut Words<'_>, opening: &Opening) -> Result<u8, Failure> {
 /// A line `disk N file ..` of this name: the port and its disk, whose file is opened; None if the line is another.
 pub fn filed_disk<H: Files>(
     files: &H,
+    alloc: Global,
     name: &[u8],
     words: &mut Words<'_>,
     opening: &Opening,
+    media: &Media<H::File>,
 ) -> Result<Option<(u8, Filed<H::File>)>, Failure> {
     if name != b"disk".as_slice() || !words.has_second(b"file") {
         return Ok(None);
     }
     let port = free_port(words, opening)?;
-    let filed = read_filed(files, words, port)?;
+    let filed = read_filed(files, alloc, words, port, media)?;
     words.end()?;
     Ok(Some((port, filed)))
 }

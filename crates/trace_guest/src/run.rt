@@ -93,7 +93,8 @@ impl<F: Read + Write + Seek + OpenFile + Drop> Scenario<F> {
         if let Some(scene) = &mut self.scene {
             return scene.play_line(alloc, name, words, &mut self.media, printer, out);
         }
-        if let Some((port, filed)) = filed_disk(files, name, &mut words, &self.opening)? {
+        let (opening, media) = (&self.opening, &self.media);
+        if let Some((port, filed)) = filed_disk(files, alloc, name, &mut words, opening, media)? {
             return self.set_filed(port, filed);
         }
         match Setting::read(alloc, name, &mut words, &self.opening)? {
@@ -104,9 +105,9 @@ impl<F: Read + Write + Seek + OpenFile + Drop> Scenario<F> {
 
     /// Takes in what a line says about a disk that has its sectors in a file.
     fn set_filed(&mut self, port: u8, filed: Filed<F>) -> Result<(), Failure> {
-        let Filed { shape, medium } = filed;
+        let Filed { shape, file } = filed;
         self.opening.set(Setting::Disk(port, shape))?;
-        Ok(self.media.set(port, medium)?)
+        Ok(self.media.set(port, file)?)
     }
 
     /// Builds the board at the first line that is not a setting, even if that line is refused, and

@@ -11,7 +11,9 @@ use hba_fbs::Register;
 use pm_world::Step;
 use std::alloc::Global;
 use std::rt::Files;
-use trace_text::{Failure, Filed, Keyword, Quantity, Refusal, Shape, Wanted, Words, read_filed};
+use trace_text::{
+    Failure, Filed, Keyword, Media, Quantity, Refusal, Shape, Wanted, Words, read_filed,
+};
 
 /// The largest address, and the largest number of bytes.
 const LARGEST: u64 = 0xFFFF_FFFF;
@@ -258,15 +260,17 @@ fn free_port(words: &mut Words<'_>, opening: &Opening) -> Result<u8, Failure> {
 /// A line `disk N file ..` of this name: the port and its disk, whose file is opened; None if the line is another.
 pub fn filed_disk<H: Files>(
     files: &H,
+    alloc: Global,
     name: &[u8],
     words: &mut Words<'_>,
     opening: &Opening,
+    media: &Media<H::File>,
 ) -> Result<Option<(u8, Filed<H::File>)>, Failure> {
     if name != b"disk".as_slice() || !words.has_second(b"file") {
         return Ok(None);
     }
     let port = free_port(words, opening)?;
-    let filed = read_filed(files, words, port)?;
+    let filed = read_filed(files, alloc, words, port, media)?;
     words.end()?;
     Ok(Some((port, filed)))
 }

@@ -26,7 +26,7 @@ pub use failure::{Failure, Refusal};
 pub use fis_short::{FisShort, bit_of, named_slots};
 pub use input::{LONGEST_INPUT, LONGEST_LINE, is_skipped, read_input, without_return};
 pub use lines::Lines;
-pub use media::{Filed, Media, read_filed};
+pub use media::{DiskFile, Filed, Media, read_filed};
 pub use note::{Note, Shown};
 pub use printer::{Expected, Mismatch, Printer};
 pub use shape::Shape;

@@ -55,6 +55,20 @@ impl Shape {
         Ok(Shape { sectors, plan })
     }
 
+    /// The same disk, of which these sectors cannot be read either; None if they are too many.
+    pub fn with_bad(self, unread: &[u32]) -> Option<Shape> {
+        let Shape { sectors, plan } = self;
+        let plan = DiskPlan {
+            order: plan.order,
+            chunk: plan.chunk,
+            last_first: plan.last_first,
+            bad: joined(plan.bad.as_slice(), unread)?,
+            auto: plan.auto,
+            profile: plan.profile,
+        };
+        Some(Shape { sectors, plan })
+    }
+
     /// The disk.
     pub fn into_disk(self, alloc: Global) -> Result<Disk, AllocError> {
         let Shape { sectors, plan } = self;
@@ -64,6 +78,18 @@ impl Shape {
             Err(DiskError::BadSize) => unreachable!(),
         }
     }
+}
+
+/// All these sectors, each once; None if they are too many.
+fn joined(bad: &[u32], unread: &[u32]) -> Option<ArrayVec<u32, 16>> {
+    let mut all = ArrayVec::new();
+    all.try_extend_from_slice(bad).ok()?;
+    for lba in unread {
+        if !all.contains(lba) {
+            all.try_push(*lba).ok()?;
+        }
+    }
+    Some(all)
 }
 
 /// What the disk of this port says of itself: `stock` comes next, or it says little.

@@ -100,6 +100,8 @@ pub enum Wanted {
     Path,
     /// A file that can be read and written, and has as many bytes as a disk.
     DiskFile,
+    /// A file that no other disk has.
+    OtherFile,
     /// `oldest` or `newest`.
     Order,
     /// At most 16 bad sectors.
@@ -181,6 +183,7 @@ impl Wanted {
             Wanted::DiskFile => {
                 "wanted a file to read and write, of 1 to 65536 sectors of 512 bytes"
             }
+            Wanted::OtherFile => "another disk has this file",
             Wanted::Order => "wanted `oldest` or `newest`",
             Wanted::FewerBad => "wanted at most 16 sectors that cannot be read",
             Wanted::WholeSectors => "wanted a multiple of 512",

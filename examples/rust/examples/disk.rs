@@ -1,4 +1,4 @@
-//! A disk at the end of a link: its signature, who it is, and a sector that cannot be read.
+//! A disk at the end of a link: its signature, who it is, a sector that cannot be read, and a read that fails otherwise.
 
 use gefsunk::{fis_text, Disk, DiskPlan, Error, FisRoom, FIS_ROOM};
 
@@ -34,6 +34,12 @@ fn main() -> Result<(), Error> {
         disk.host_sends(&command(code, lba))?;
         serve(&mut disk, room)?;
     }
+    disk.plug()?;
+    serve(&mut disk, room)?;
+    disk.host_sends(&command(0x60, 8))?;
+    disk.fail(Some(0), 0x40, 8)?;
+    serve(&mut disk, room)?;
+    println!("tag 33: {}", disk.fail(Some(33), 0x40, 8).unwrap_err());
     println!("sector 8 begins with {:02x?}", &disk.sector(8)?[..4]);
     println!("sector 64: {}", disk.sector(64).unwrap_err());
     println!(

@@ -45,6 +45,9 @@ impl DiskPlan {
     }
 }
 
+/// In place of a tag: the command is not queued.
+const NOT_QUEUED: u8 = 32;
+
 /// A disk with native command queuing, its sectors in memory. Byte i of sector L is (L + i) modulo 256 at first.
 ///
 /// It may move to another thread. No two threads use it at once.
@@ -117,6 +120,22 @@ impl Disk {
         }
         Error::check(status)?;
         Ok(Some(&room[..len]))
+    }
+
+    /// A command failed, since its sectors could not be kept or read elsewhere: the one with this tag, or, without one, the one
+    /// that is not queued. The host hears this Error next (0x04 is ABRT, 0x40 UNC), and finds the sector in the log of a queued
+    /// command. All else that was asked of the disk is forgotten.
+    ///
+    /// # Errors
+    /// [`Error::NoTag`], [`Error::NoSector`].
+    pub fn fail(&mut self, tag: Option<u8>, error: u8, lba: u32) -> Result<(), Error> {
+        let tag = match tag {
+            Some(NOT_QUEUED) => return Err(Error::NoTag),
+            Some(tag) => tag,
+            None => NOT_QUEUED,
+        };
+        // SAFETY: as in `plug`.
+        Error::check(unsafe { ffi::gef_disk_fail(&mut self.handle, tag, error, lba) })
     }
 
     /// A sector, as it is on the medium.

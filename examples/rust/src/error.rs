@@ -35,6 +35,8 @@ pub enum Error {
     BadDisk,
     /// The disk has no such sector.
     NoSector,
+    /// A queued command has a tag from 0 to 31.
+    NoTag,
     /// A status that these bindings do not know, or that they rule out: a fault of theirs.
     Unexpected(c_int),
 }
@@ -46,7 +48,7 @@ pub(crate) const TOO_SHORT: c_int = 9;
 pub(crate) const NOTHING: c_int = 10;
 
 impl Error {
-    const NUMBERED: [(c_int, Error); 13] = [
+    const NUMBERED: [(c_int, Error); 14] = [
         (4, Error::NoMemory),
         (5, Error::BadPorts),
         (6, Error::NoPort),
@@ -60,6 +62,7 @@ impl Error {
         (16, Error::Spent),
         (17, Error::BadDisk),
         (18, Error::NoSector),
+        (19, Error::NoTag),
     ];
 
     /// `Ok` for `GEF_OK`, and the error of any other status.

@@ -91,6 +91,7 @@ extern "C" {
         room: usize,
         len: *mut usize,
     ) -> c_int;
+    pub(crate) fn gef_disk_fail(disk: *mut Disk, tag: u8, error: u8, lba: u32) -> c_int;
     pub(crate) fn gef_disk_sector(disk: *mut Disk, lba: u32, bytes: *mut u8, room: usize) -> c_int;
     pub(crate) fn gef_hba_new(hba: *mut Hba) -> c_int;
     pub(crate) fn gef_hba_free(hba: *mut Hba) -> c_int;

@@ -1,6 +1,7 @@
 //! Tests as lists of steps: what is done with a disk, and what it answers then.
 
 use disk_model::{Device, DiskPlan, Profile};
+use failing_disk::FailingDisk;
 use fis_view::{H2dFields, Stamp, h2d, payload};
 use std::alloc::Global;
 use std::process::Abort;
@@ -35,6 +36,8 @@ pub(super) enum Step {
     Plugs,
     /// READ FPDMA QUEUED of one sector is given: its tag and its sector.
     Reads(u8, u64),
+    /// WRITE FPDMA QUEUED of one sector is given: its tag and its sector.
+    Writes(u8, u64),
     /// A command of this code, without a sector or a count, is given.
     Commands(u8),
     /// SET FEATURES is given: its Features and its Count.
@@ -75,6 +78,7 @@ fn command(code: u8, features: u16, lba: u64, count: u16) -> H2dFields {
 fn given(step: Step) -> Option<H2dFields> {
     match step {
         Step::Reads(tag, lba) => Some(command(0x60, 1, lba, 8 * tag as u16)),
+        Step::Writes(tag, lba) => Some(command(0x61, 1, lba, 8 * tag as u16)),
         Step::Commands(code) => Some(command(code, 0, 0, 0)),
         Step::Sets(features, count) => Some(command(0xEF, features, 0, count)),
         Step::Smart(features, lba, count) => Some(command(0xB0, features, lba, count)),
@@ -93,7 +97,7 @@ fn given(step: Step) -> Option<H2dFields> {
 }
 
 /// What is done with the disk.
-pub(super) fn acts(alloc: Global, disk: &mut StockDisk, step: Step) -> Result<(), Fail> {
+pub(super) fn acts<D: Device>(alloc: Global, disk: &mut D, step: Step) -> Result<(), Fail> {
     if let Some(fields) = given(step) {
         disk.on_frame(alloc, &h2d(alloc, &fields, STAMP)?)?;
     }
@@ -108,7 +112,7 @@ pub(super) fn acts(alloc: Global, disk: &mut StockDisk, step: Step) -> Result<()
 }
 
 /// Whether the next frame begins with these bytes, and has no others where it is to be whole.
-fn sends(alloc: Global, disk: &mut StockDisk, wanted: &str, whole: bool) -> Result<bool, Fail> {
+fn sends<D: Device>(alloc: Global, disk: &mut D, wanted: &str, whole: bool) -> Result<bool, Fail> {
     let wanted = hex::decode(alloc, wanted)?;
     let Some(frame) = disk.next_out(alloc, STAMP)? else {
         return Ok(false);
@@ -122,7 +126,7 @@ fn sends(alloc: Global, disk: &mut StockDisk, wanted: &str, whole: bool) -> Resu
 }
 
 /// Whether a step is as it says.
-pub(super) fn passes(alloc: Global, disk: &mut StockDisk, step: Step) -> Result<bool, Fail> {
+pub(super) fn passes<D: Device>(alloc: Global, disk: &mut D, step: Step) -> Result<bool, Fail> {
     acts(alloc, disk, step)?;
     match step {
         Step::Sends(wanted) => sends(alloc, disk, wanted, true),
@@ -133,7 +137,11 @@ pub(super) fn passes(alloc: Global, disk: &mut StockDisk, step: Step) -> Result<
 }
 
 /// The number of the first step that is not as it says.
-fn first_wrong(alloc: Global, disk: &mut StockDisk, steps: &[Step]) -> Result<Option<usize>, Fail> {
+fn first_wrong<D: Device>(
+    alloc: Global,
+    disk: &mut D,
+    steps: &[Step],
+) -> Result<Option<usize>, Fail> {
     for (i, step) in steps.iter().enumerate() {
         if !passes(alloc, disk, *step)? {
             return Ok(Some(i));
@@ -152,6 +160,22 @@ pub(super) fn stock(bad: u32) -> DiskPlan {
     plan
 }
 
+/// The same plan once more.
+fn copy_of(plan: &DiskPlan) -> DiskPlan {
+    let mut copy = DiskPlan {
+        order: plan.order,
+        chunk: plan.chunk,
+        last_first: plan.last_first,
+        auto: plan.auto,
+        profile: plan.profile,
+        ..DiskPlan::plain()
+    };
+    match copy.bad.try_extend_from_slice(plan.bad.as_slice()) {
+        Ok(()) => copy,
+        Err(_) => unreachable!(),
+    }
+}
+
 /// Each step of a new disk of 16 sectors is as it says.
 pub(super) fn assert_steps(
     rt: &impl Abort,
@@ -162,7 +186,19 @@ pub(super) fn assert_steps(
     assert_steps_of(rt, alloc, 16, plan, steps)
 }
 
-/// Each step of a new disk of this many sectors is as it says.
+/// Each step of this disk is as it says.
+pub(super) fn assert_steps_on<D: Device>(
+    rt: &impl Abort,
+    alloc: Global,
+    disk: &mut D,
+    steps: &[Step],
+) -> Result<(), Fail> {
+    let wrong = first_wrong(alloc, disk, steps)?;
+    assert_eq!(rt; wrong, None, "the number of a step");
+    Ok(())
+}
+
+/// Each step of a new disk of this many sectors is as it says. Behind a guard it is the same.
 pub(super) fn assert_steps_of(
     rt: &impl Abort,
     alloc: Global,
@@ -170,8 +206,8 @@ pub(super) fn assert_steps_of(
     plan: DiskPlan,
     steps: &[Step],
 ) -> Result<(), Fail> {
+    let mut guarded = FailingDisk::new(StockDisk::new(alloc, sectors, copy_of(&plan))?);
+    assert_steps_on(rt, alloc, &mut guarded, steps)?;
     let mut disk = StockDisk::new(alloc, sectors, plan)?;
-    let wrong = first_wrong(alloc, &mut disk, steps)?;
-    assert_eq!(rt; wrong, None, "the number of a step");
-    Ok(())
+    assert_steps_on(rt, alloc, &mut disk, steps)
 }

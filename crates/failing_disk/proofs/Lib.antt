@@ -1,0 +1,3 @@
+pub mod GuardLemmas
+pub mod HistoryLemmas
+pub mod ToldLemmas
