@@ -264,3 +264,47 @@ fn sectors_that_cannot_be_written(rt: HostRuntime) -> Result<(), Fail> {
     assert_eq!(rt; medium.medium.bytes().get(10 * 512), Some(&0xA5));
     Ok(())
 }
+
+/// A medium of so many sectors, none of which can be read.
+#[derive(Drop)]
+struct DarkMedium {
+    sectors: u32,
+}
+
+impl Medium for DarkMedium {
+    ghost use Rattle.std.specs.Prelude.{◌≡◌, None, length};
+
+    ghost contents_of = { λ _. None };
+
+    ghost stays_of = { λ _. None };
+
+    fn sectors(&self) -> u32 {
+        self.sectors
+    }
+
+    fn read(&mut self, _lba: u32, room: &mut [u8]) -> Result<(), MediumError>
+        requires { length room.old ≡ 512 }
+        ensures long { length room.new ≡ length room.old }
+    {
+        room[0] = 0;
+        Err(MediumError::Read)
+    }
+
+    fn write(&mut self, _lba: u32, _bytes: &[u8]) -> Result<(), MediumError> {
+        Err(MediumError::Write)
+    }
+
+    fn flush(&mut self) -> Result<(), MediumError> {
+        Err(MediumError::Flush)
+    }
+}
+
+#[test]
+fn sixteen_sectors_that_cannot_be_read(rt: HostRuntime) -> Result<(), Fail> {
+    let mut medium = DarkMedium { sectors: 16 };
+    assert_eq!(rt; unread_of(&mut medium)?.len(), 16);
+    medium.sectors = 17;
+    let refused = unread_of(&mut medium);
+    assert!(rt; matches!(refused, Err(ImageError::TooManyUnread)));
+    Ok(())
+}
