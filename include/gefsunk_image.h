@@ -253,13 +253,17 @@ static inline void gef_image_plug(gef_image *image) {
  * to gef_image_load_but. The room is for GEF_IMAGE_BAD sectors, since a disk has no more. Can return GEF_IMAGE (they are more).
  */
 static inline gef_status gef_image_unread(gef_image *image, uint32_t *bad, size_t *count) {
-    uint8_t bytes[512];
-    uint32_t at;
+    uint8_t bytes[512 * GEF_IMAGE_RUN];
+    uint32_t at, one, run;
     *count = 0;
-    for (at = 0; at < image->sectors; at++) {
-        if (!image->read(image->context, 512 * (uint64_t)at, bytes, sizeof bytes)) continue;
-        if (*count == GEF_IMAGE_BAD) return GEF_IMAGE;
-        bad[(*count)++] = at;
+    for (at = 0; at < image->sectors; at += run) {
+        run = image->sectors - at < GEF_IMAGE_RUN ? image->sectors - at : GEF_IMAGE_RUN;
+        if (!image->read(image->context, 512 * (uint64_t)at, bytes, 512 * (size_t)run)) continue;
+        for (one = at; one < at + run; one++) {
+            if (!image->read(image->context, 512 * (uint64_t)one, bytes, 512)) continue;
+            if (*count == GEF_IMAGE_BAD) return GEF_IMAGE;
+            bad[(*count)++] = one;
+        }
     }
     return GEF_OK;
 }

@@ -159,7 +159,9 @@ static int flush_file(void *context)
 static void open_image(GefsunkAhci *s, unsigned port, const char *name, Error **errp)
 {
     gef_image *image = &s->images[port];
+    uint32_t bad[GEF_IMAGE_BAD];
     struct stat about;
+    size_t bads;
     s->files[port].at = open(name, O_RDWR);
     if (s->files[port].at < 0 || fstat(s->files[port].at, &about) || about.st_size / 512 > 8388607 || about.st_size < 512) {
         error_setg(errp, "%s: no file with 1 to 8,388,607 sectors", name);
@@ -171,6 +173,10 @@ static void open_image(GefsunkAhci *s, unsigned port, const char *name, Error **
     image->context = &s->files[port];
     image->sectors = about.st_size / 512;
     image->changed = g_malloc0((image->sectors + 7) / 8);
+    if (gef_image_unread(image, bad, &bads) != GEF_OK) {
+        error_setg(errp, "%s: more than %u sectors cannot be read", name, GEF_IMAGE_BAD);
+        return;
+    }
     s->pump.images[port] = image;
 }
 
