@@ -1,26 +1,19 @@
 -- One sector is put where another stood.
-use Rattle.std.proofs.Common.{◌≡◌, ◌≢◌, ℕ, suc, ◌+◌, ◌-◌, ◌*◌, ◌<◌, ◌≤◌, Bool, true, false, List, ◌++◌, length, take, drop, refl, ap, sym, subst, ◌∙◌, arith, length-append, length-drop, inl, inr}
-use Rattle.std.specs.Prelude.{Option, Some, None, ◌⊎◌, min, nat_lt, Result, Ok, Err, OnOk}
+use Rattle.std.proofs.Common.{◌≡◌, ◌≢◌, ℕ, ◌+◌, ◌-◌, ◌*◌, ◌<◌, ◌≤◌, Bool, true, false, List, ◌++◌, length, take, drop, refl, ap, sym, subst, ◌∙◌, arith, length-append, length-drop, inl, inr}
+use Rattle.std.specs.Prelude.{Option, Some, None, ◌⊎◌, min, nat_lt}
 use Rattle.std.proofs.lemmas.Grind.{common_steps}
 use Rattle.std.proofs.lemmas.Bool.Decides.{nat_tests}
 use Rattle.std.proofs.lemmas.List.{take-append-le, drop-append-le, take-append-drop, drop-take, drop-drop, length-take-le}
-use Rattle.std.proofs.Math.Seq.{drop-append_seam, take-append_seam, take-add}
+use Rattle.std.proofs.Math.Seq.{drop-append_seam, take-append_seam}
 use Rattle.disk_model.specs.Chunks.{put, sectors_at}
-use Rattle.disk_image.specs.Failures.{FailsAt, FailsByMedium, SaveLeaves}
+use Rattle.disk_image.specs.Failures.{FailsAt, SaveLeaves}
 use Rattle.disk_image.specs.declared.image.ImageError.{ImageError}
 use Rattle.disk_image.specs.declared.image.ImageError.TheVariants as image
-use Rattle.disk_image.specs.Media.{AreMixed, IsPart, AgreesBut, AgreesIn, HasBut, HasIn, KeepsBut, IsReadAt, IsReadBut, IsWrittenAt, IsWrittenBut, is_unread}
+use Rattle.disk_image.specs.Media.{AreSaved, IsDue, IsPart, KeepsBut, IsWrittenAt, is_unread}
 
 -- as many as before
 put_long : (xs ys : List ℕ) (at : ℕ) → at + length ys ≤ length xs → length (put xs at ys) ≡ length xs
 put_long xs ys at fits = grind (arith, common_steps)
-
--- what is put over itself changes nothing
-put_same : (xs : List ℕ) (at n : ℕ) → at + n ≤ length xs → put xs at (take n (drop at xs)) ≡ xs
-put_same xs at n fits =
-    let long : length (take n (drop at xs)) ≡ n = length-take-le n (drop at xs) (omega (arith, length-drop at xs)) in
-    ap (λ (i : ℕ). take at xs ++ take n (drop at xs) ++ drop (at + i) xs) long
-    ∙ ap (λ (ys : List ℕ). ys ++ drop (at + n) xs) (sym (take-add at n xs)) ∙ take-append-drop (at + n) xs
 
 -- the sector that was put
 put_here : (all s : List ℕ) (k : ℕ) → length s ≡ 512 → 512 * k + 512 ≤ length all → sectors_at (put all (512 * k) s) k 1 ≡ s
@@ -80,206 +73,115 @@ put_after all s j k behind long fits =
     ∙ ap (drop (512 * j - (512 * k + 512))) (seam ∙ same) ∙ drop-drop (512 * j - (512 * k + 512)) (512 * k + 512) all
     ∙ ap (λ (i : ℕ). drop i all) (sym at))
 
--- a sector that is there already counts as written
-pub same_is_written : (lba : ℕ) (s : List ℕ) (old : Option (List ℕ)) → length s ≡ 512 → IsReadAt lba s old → IsWrittenAt lba s old old
-same_is_written lba s None long is = refl
-same_is_written lba s (Some all) long (is, fits) =
-    (fits, ap Some (sym (ap (put all (512 * lba)) is ∙ put_same all (512 * lba) 512 fits)))
-
--- a sector is that of the disk, or could not be read
-agrees_more : (u m all s : List ℕ) (from k j : ℕ) → s ≡ sectors_at m k 1 → length s ≡ 512 → 512 * k + 512 ≤ length all → AgreesIn u from k m all → from ≤ j → j < suc k → is_unread u j (sectors_at m j 1) ≡ false → (here : Bool) → nat_lt j k ≡ here → sectors_at (put all (512 * k) s) j 1 ≡ sectors_at m j 1
-agrees_more u m all s from k j is long fits before within below known true first =
-    let less : j < k = grind (arith, nat_tests, first) in
-    put_before all s j k less fits ∙ before j within less known
-agrees_more u m all s from k j is long fits before within below known false last =
-    let here : k ≡ j = grind (arith, nat_tests, last, below) in
-    subst (λ (i : ℕ). sectors_at (put all (512 * k) s) i 1 ≡ sectors_at m i 1) here (put_here all s k long fits ∙ is)
-
--- one that could not be read says nothing
-skips_one : (u m all : List ℕ) (from k j : ℕ) → is_unread u k (sectors_at m k 1) ≡ true → AgreesIn u from k m all → from ≤ j → j < suc k → is_unread u j (sectors_at m j 1) ≡ false → (here : Bool) → nat_lt j k ≡ here → sectors_at all j 1 ≡ sectors_at m j 1
-skips_one u m all from k j blank before within below known true first =
-    let less : j < k = grind (arith, nat_tests, first) in before j within less known
-skips_one u m all from k j blank before within below known false last =
-    let here : k ≡ j = grind (arith, nat_tests, last, below) in
-    let both : true ≡ false = sym blank ∙ ap (λ (i : ℕ). is_unread u i (sectors_at m i 1)) here ∙ known in cc
-
-skips : (u m : List ℕ) (from k : ℕ) (old : Option (List ℕ)) → is_unread u k (sectors_at m k 1) ≡ true → HasIn u from k m old → HasIn u from (suc k) m old
-skips u m from k None blank before = tt
-skips u m from k (Some all) blank before = λ j within below known. skips_one u m all from k j blank before within below known (nat_lt j k) refl
-
--- one sector more is that of the disk
-puts_one : (u m : List ℕ) (from k : ℕ) (old new : Option (List ℕ)) → length (sectors_at m k 1) ≡ 512 → HasIn u from k m old → IsWrittenAt k (sectors_at m k 1) old new → HasIn u from (suc k) m new
-puts_one u m from k None new long before is = subst (HasIn u from (suc k) m) (sym is) tt
-puts_one u m from k (Some all) new long before (fits, is) =
-    subst (HasIn u from (suc k) m) (sym is)
-    (λ j within below known. agrees_more u m all (sectors_at m k 1) from k j refl long fits before within below known (nat_lt j k) refl)
-
-pub one_more : (u m : List ℕ) (from k : ℕ) (old new : Option (List ℕ)) → length (sectors_at m k 1) ≡ 512 → HasIn u from k m old → IsWrittenBut u k (sectors_at m k 1) old new → HasIn u from (suc k) m new
-one_more u m from k old new long before (inl (blank, is)) = subst (HasIn u from (suc k) m) (sym is) (skips u m from k old blank before)
-one_more u m from k old new long before (inr written) = puts_one u m from k old new long before written
-
--- ## All others stay
-
-keeps_put : (from k : ℕ) (first all s : List ℕ) → length s ≡ 512 → 512 * k + 512 ≤ length all → from ≤ k → KeepsBut from k (Some first) (Some all) → KeepsBut from (suc k) (Some first) (Some (put all (512 * k) s))
-keeps_put from k first all s long fits within (same, before) = (
-  put_long all s (512 * k) (omega (arith, fits, long)) ∙ same,
-  λ j out. elim out [
-    | inl low ↦ put_before all s j k (omega (arith, low, within)) fits ∙ before j (inl low)
-    | inr high ↦ put_after all s j k (omega (arith, high)) long fits ∙ before j (inr (omega (arith, high)))
-  ],
-)
-
-keeps_wider : (from k : ℕ) (old new : Option (List ℕ)) → KeepsBut from k old new → KeepsBut from (suc k) old new
-keeps_wider from k None new is = is
-keeps_wider from k (Some all) None is = is
-keeps_wider from k (Some all) (Some bytes) (same, before) =
-    (same, λ j out. elim out [ inl low ↦ before j (inl low) | inr high ↦ before j (inr (omega (arith, high))) ])
-
-keeps_written : (from k : ℕ) (old mid new : Option (List ℕ)) (s : List ℕ) → length s ≡ 512 → from ≤ k → KeepsBut from k old mid → IsWrittenAt k s mid new → KeepsBut from (suc k) old new
-keeps_written from k None mid new s long within is written = subst (λ (o : Option (List ℕ)). IsWrittenAt k s o new) is written
-keeps_written from k (Some first) None new s long within is written = absurd is
-keeps_written from k (Some first) (Some all) new s long within is (fits, same) =
-    subst (KeepsBut from (suc k) (Some first)) (sym same) (keeps_put from k first all s long fits within is)
-
-pub keeps_more : (u : List ℕ) (from k : ℕ) (old mid new : Option (List ℕ)) (s : List ℕ) → length s ≡ 512 → from ≤ k → KeepsBut from k old mid → IsWrittenBut u k s mid new → KeepsBut from (suc k) old new
-keeps_more u from k old mid new s long within is (inl (blank, same)) = subst (KeepsBut from (suc k) old) (sym same) (keeps_wider from k old mid is)
-keeps_more u from k old mid new s long within is (inr written) = keeps_written from k old mid new s long within is written
-
 before_or : (j k : ℕ) (first : Bool) → nat_lt j k ≡ first → (j < k) ⊎ (k ≤ j)
 before_or j k true is = inl (grind (arith, nat_tests, is))
 before_or j k false is = inr (grind (arith, nat_tests, is))
 
-keeps_all : (from to : ℕ) (all bytes : List ℕ) → to ≤ from → KeepsBut from from (Some all) (Some bytes) → KeepsBut from to (Some all) (Some bytes)
-keeps_all from to all bytes none (same, before) =
-    (same, λ j out. elim (before_or j from (nat_lt j from) refl) [ inl low ↦ before j (inl low) | inr high ↦ before j (inr high) ])
+-- ## What was saved
 
-keeps_turned : (from to : ℕ) (old new : Option (List ℕ)) → to ≤ from → KeepsBut from from old new → KeepsBut from to old new
-keeps_turned from to None new none is = is
-keeps_turned from to (Some all) None none is = is
-keeps_turned from to (Some all) (Some bytes) none is = keeps_all from to all bytes none is
+one_put : (u m all : List ℕ) (k : ℕ) → is_unread u k (sectors_at m k 1) ≡ false → length (sectors_at m k 1) ≡ 512 → 512 * k + 512 ≤ length all
+    → AreSaved u k (k + 1) m (Some all) (Some (put all (512 * k) (sectors_at m k 1)))
+one_put u m all k known long fits = (
+  put_long all (sectors_at m k 1) (512 * k) (omega (arith, fits, long)),
+  λ j. (
+    λ due. let here : k ≡ j = omega (arith, due.0, due.1) in
+        subst (λ (i : ℕ). sectors_at (put all (512 * k) (sectors_at m k 1)) i 1 ≡ sectors_at m i 1) here (put_here all (sectors_at m k 1) k long fits),
+    λ other. elim (before_or j k (nat_lt j k) refl) [
+      | inl low ↦ put_before all (sectors_at m k 1) j k low fits
+      | inr more ↦ elim (before_or k j (nat_lt k j) refl) [
+        | inl high ↦ put_after all (sectors_at m k 1) j k high long fits
+        | inr less ↦ let here : k ≡ j = omega (arith, more, less) in
+            absurd (other (subst (IsDue u k (k + 1) m) here (omega arith, omega arith, known)))
+      ]
+    ],
+  ),
+)
 
--- the loop went as far as it goes
-pub keeps_to : (from k to : ℕ) (old new : Option (List ℕ)) → from ≤ k → (k ≤ to) ⊎ (k ≡ from) → to ≤ k → KeepsBut from k old new → KeepsBut from to old new
-keeps_to from k to old new within (inl top) ends is = let here : k ≡ to = omega (arith, top, ends) in subst (λ (i : ℕ). KeepsBut from i old new) here is
-keeps_to from k to old new within (inr same) ends is =
-    keeps_turned from to old new (omega (arith, same, ends)) (subst (λ (i : ℕ). KeepsBut from i old new) same is)
+-- one that is due was written
+pub one_written : (u m s : List ℕ) (k : ℕ) (old mid new : Option (List ℕ)) → s ≡ sectors_at m k 1 → false ≡ is_unread u k s → length s ≡ 512
+    → mid ≡ old → IsWrittenAt k s mid new → AreSaved u k (k + 1) m old new
+one_written u m s k None mid new here known long same is = subst (λ (o : Option (List ℕ)). IsWrittenAt k s o new) same is
+one_written u m s k (Some all) mid new here known long same is =
+    let written : IsWrittenAt k (sectors_at m k 1) (Some all) new =
+    subst (λ (x : List ℕ). IsWrittenAt k x (Some all) new) here (subst (λ (o : Option (List ℕ)). IsWrittenAt k s o new) same is) in
+    subst (AreSaved u k (k + 1) m (Some all)) (sym written.1)
+    (one_put u m all k (ap (is_unread u k) (sym here) ∙ sym known) (ap length (sym here) ∙ long) written.0)
 
--- ## What was read
+-- one sector more
+saves_more : (u m all mid bytes : List ℕ) (from k to : ℕ) → from ≤ k → k < to → AreSaved u from (min k to) m (Some all) (Some mid)
+    → AreSaved u k (k + 1) m (Some mid) (Some bytes) → AreSaved u from (min (k + 1) to) m (Some all) (Some bytes)
+saves_more u m all mid bytes from k to within less (same, before) (long, here) = (
+  long ∙ same,
+  λ j. (
+    λ due. elim (before_or j k (nat_lt j k) refl) [
+      | inl low ↦ (here j).1 (λ d. absurd (omega (arith, low, d.0))) ∙ (before j).0 (due.0, grind (arith, nat_tests, low, less), due.2)
+      | inr high ↦ (here j).0 (high, grind (arith, nat_tests, due.1), due.2)
+    ],
+    λ other. (here j).1 (λ d. other (omega (arith, within, d.0), grind (arith, nat_tests, d.1, less), d.2))
+        ∙ (before j).1 (λ d. other (d.0, grind (arith, nat_tests, d.1), d.2)),
+  ),
+)
 
-skip_more : (u m all : List ℕ) (k j : ℕ) → is_unread u k (sectors_at m k 1) ≡ true → AgreesBut u k m all → j < suc k → is_unread u j (sectors_at m j 1) ≡ false → (here : Bool) → nat_lt j k ≡ here → sectors_at all j 1 ≡ sectors_at m j 1
-skip_more u m all k j blank before below known true first =
-    let less : j < k = grind (arith, nat_tests, first) in before j less known
-skip_more u m all k j blank before below known false last =
-    let here : k ≡ j = grind (arith, nat_tests, last, below) in
-    let both : true ≡ false = sym blank ∙ ap (λ (i : ℕ). is_unread u i (sectors_at m i 1)) here ∙ known in cc
-
-skips_read : (u m : List ℕ) (k : ℕ) (old : Option (List ℕ)) → is_unread u k (sectors_at m k 1) ≡ true → HasBut u k m old → HasBut u (suc k) m old
-skips_read u m k None blank before = tt
-skips_read u m k (Some all) blank before = λ j below known. skip_more u m all k j blank before below known (nat_lt j k) refl
-
-read_more : (u m all : List ℕ) (k j : ℕ) → sectors_at all k 1 ≡ sectors_at m k 1 → AgreesBut u k m all → j < suc k → is_unread u j (sectors_at m j 1) ≡ false → (here : Bool) → nat_lt j k ≡ here → sectors_at all j 1 ≡ sectors_at m j 1
-read_more u m all k j is before below known true first =
-    let less : j < k = grind (arith, nat_tests, first) in before j less known
-read_more u m all k j is before below known false last =
-    let here : k ≡ j = grind (arith, nat_tests, last, below) in
-    subst (λ (i : ℕ). sectors_at all i 1 ≡ sectors_at m i 1) here is
-
--- the same of a sector that was read
-reads_one : (u m : List ℕ) (k : ℕ) (known : Option (List ℕ)) → HasBut u k m known → IsReadAt k (sectors_at m k 1) known → HasBut u (suc k) m known
-reads_one u m k None before is = tt
-reads_one u m k (Some all) before (is, fits) = λ j below known. read_more u m all k j (sym is) before below known (nat_lt j k) refl
-
-pub one_checked : (u m : List ℕ) (k : ℕ) (known : Option (List ℕ)) → HasBut u k m known → IsReadBut u k (sectors_at m k 1) known → HasBut u (suc k) m known
-one_checked u m k known before (inl blank) = skips_read u m k known blank before
-one_checked u m k known before (inr read) = reads_one u m k known before read
-
--- from the first one up to the last are all
-agrees_all : (u m all : List ℕ) (count : ℕ) → count < 4294967296 → AgreesIn u 0 (min 4294967295 count) m all → AgreesBut u count m all
-agrees_all u m all count few is = λ j below known. is j (omega arith) (grind (arith, nat_tests, few, below)) known
-
-pub all_in : (u m : List ℕ) (count : ℕ) (known : Option (List ℕ)) → count < 4294967296 → HasIn u 0 (min 4294967295 count) m known → HasBut u count m known
-all_in u m count None few is = tt
-all_in u m count (Some all) few is = agrees_all u m all count few is
-
-pub both_ok : {V E A B C : Type 0} (r : Result V E) → OnOk r A → OnOk r B → (A → B → C) → OnOk r C
-both_ok (Ok v) a b f = f a b
-both_ok (Err e) a b f = tt
-
--- ## Each sector is as it was, or the disk's
-
-pub mixes_none : (m : List ℕ) (old : Option (List ℕ)) → AreMixed m old old
-mixes_none m None = refl
-mixes_none m (Some all) = (refl, λ j. inl refl)
-
-mixed_here : (m first all bytes : List ℕ) (j : ℕ) → sectors_at bytes j 1 ≡ sectors_at all j 1 → (sectors_at all j 1 ≡ sectors_at first j 1) ⊎ (sectors_at all j 1 ≡ sectors_at m j 1)
-    → (sectors_at bytes j 1 ≡ sectors_at first j 1) ⊎ (sectors_at bytes j 1 ≡ sectors_at m j 1)
-mixed_here m first all bytes j same mixed = elim mixed [ inl was ↦ inl (same ∙ was) | inr is ↦ inr (same ∙ is) ]
-
-mixed_put : (m first all : List ℕ) (k j : ℕ) → length (sectors_at m k 1) ≡ 512 → 512 * k + 512 ≤ length all → AreMixed m (Some first) (Some all)
-    → (sectors_at (put all (512 * k) (sectors_at m k 1)) j 1 ≡ sectors_at first j 1) ⊎ (sectors_at (put all (512 * k) (sectors_at m k 1)) j 1 ≡ sectors_at m j 1)
-mixed_put m first all k j long fits mixed = elim (before_or j k (nat_lt j k) refl) [
-  | inl low ↦ mixed_here m first all (put all (512 * k) (sectors_at m k 1)) j (put_before all (sectors_at m k 1) j k low fits) (mixed.1 j)
-  | inr more ↦ elim (before_or k j (nat_lt k j) refl) [
-    | inl high ↦ mixed_here m first all (put all (512 * k) (sectors_at m k 1)) j (put_after all (sectors_at m k 1) j k high long fits) (mixed.1 j)
-    | inr less ↦ inr (let here : k ≡ j = omega (arith, more, less) in
-        subst (λ (i : ℕ). sectors_at (put all (512 * k) (sectors_at m k 1)) i 1 ≡ sectors_at m i 1) here (put_here all (sectors_at m k 1) k long fits))
-  ]
-]
-
-mixed_written : (m : List ℕ) (k : ℕ) (old mid new : Option (List ℕ)) → length (sectors_at m k 1) ≡ 512 → AreMixed m old mid → IsWrittenAt k (sectors_at m k 1) mid new → AreMixed m old new
-mixed_written m k None mid new long is written = subst (λ (o : Option (List ℕ)). IsWrittenAt k (sectors_at m k 1) o new) is written
-mixed_written m k (Some first) None new long is written = absurd is
-mixed_written m k (Some first) (Some all) new long is (fits, same) =
-    subst (AreMixed m (Some first)) (sym same)
-    (put_long all (sectors_at m k 1) (512 * k) (omega (arith, fits, long)) ∙ is.0, λ j. mixed_put m first all k j long fits is)
-
-pub mixes_more : (u m : List ℕ) (k : ℕ) (old mid new : Option (List ℕ)) → length (sectors_at m k 1) ≡ 512 → AreMixed m old mid → IsWrittenBut u k (sectors_at m k 1) mid new → AreMixed m old new
-mixes_more u m k old mid new long is (inl (blank, same)) = subst (AreMixed m old) (sym same) is
-mixes_more u m k old mid new long is (inr written) = mixed_written m k old mid new long is written
+pub saved_more : (u m : List ℕ) (from k to : ℕ) (old mid new : Option (List ℕ)) → from ≤ k → k < to → AreSaved u from (min k to) m old mid
+    → AreSaved u k (k + 1) m mid new → AreSaved u from (min (k + 1) to) m old new
+saved_more u m from k to None mid new within less is one = subst (λ (o : Option (List ℕ)). AreSaved u k (k + 1) m o new) is one
+saved_more u m from k to (Some all) None new within less is one = absurd is
+saved_more u m from k to (Some all) (Some mid) None within less is one = absurd one
+saved_more u m from k to (Some all) (Some mid) (Some bytes) within less is one = saves_more u m all mid bytes from k to within less is one
 
 -- ## After an error
+
+due_or : (u m : List ℕ) (from to j : ℕ) (blank : Bool) → is_unread u j (sectors_at m j 1) ≡ blank → IsDue u from to m j ⊎ (IsDue u from to m j → ⊥)
+due_or u m from to j true is = inr (λ due. let both : true ≡ false = sym is ∙ due.2 in cc)
+due_or u m from to j false is = elim (before_or j from (nat_lt j from) refl) [
+  | inl low ↦ inr (λ due. omega (arith, low, due.0))
+  | inr within ↦ elim (before_or j to (nat_lt j to) refl) [
+    | inl below ↦ inl (within, below, is)
+    | inr past ↦ inr (λ due. omega (arith, past, due.1))
+  ]
+]
 
 past_one : (k j : ℕ) → k ≤ j → j ≢ k → k + 1 ≤ j
 past_one k j more other = elim (before_or k j (nat_lt k j) refl) [ inl high ↦ omega (arith, high) | inr less ↦ absurd (other (omega (arith, more, less))) ]
 
-part_of : (m first all bytes : List ℕ) (k : ℕ) → AreMixed m (Some first) (Some all) → KeepsBut k (k + 1) (Some all) (Some bytes) → IsPart k m (Some first) (Some bytes)
-part_of m first all bytes k is (same, kept) = (
-  same ∙ is.0,
-  λ j other. elim (before_or j k (nat_lt j k) refl) [
-    | inl low ↦ mixed_here m first all bytes j (kept j (inl low)) (is.1 j)
-    | inr more ↦ mixed_here m first all bytes j (kept j (inr (past_one k j more other))) (is.1 j)
-  ],
+others_stay : (all bytes : List ℕ) (k j : ℕ) → KeepsBut k (k + 1) (Some all) (Some bytes) → j ≢ k → sectors_at bytes j 1 ≡ sectors_at all j 1
+others_stay all bytes k j (same, kept) other =
+    elim (before_or j k (nat_lt j k) refl) [ inl low ↦ kept j (inl low) | inr more ↦ kept j (inr (past_one k j more other)) ]
+
+part_of : (u m all mid bytes : List ℕ) (from end to k : ℕ) → end ≤ to → AreSaved u from end m (Some all) (Some mid)
+    → KeepsBut k (k + 1) (Some mid) (Some bytes) → IsPart k u from to m (Some all) (Some bytes)
+part_of u m all mid bytes from end to k few (same, saved) kept = (
+  kept.0 ∙ same,
+  λ j other.
+      let stays : sectors_at bytes j 1 ≡ sectors_at mid j 1 = others_stay mid bytes k j kept other in
+      elim (due_or u m from end j (is_unread u j (sectors_at m j 1)) refl) [
+        | inl due ↦ inr ((due.0, omega (arith, few, due.1), due.2), stays ∙ (saved j).0 due)
+        | inr never ↦ inl (stays ∙ (saved j).1 never)
+      ],
 )
 
-leaves_at : (m : List ℕ) (k : ℕ) (old mid new : Option (List ℕ)) → AreMixed m old mid → KeepsBut k (k + 1) mid new → IsPart k m old new
-leaves_at m k None mid new is kept = subst (λ (o : Option (List ℕ)). KeepsBut k (k + 1) o new) is kept
-leaves_at m k (Some first) None new is kept = absurd is
-leaves_at m k (Some first) (Some all) None is kept = absurd kept
-leaves_at m k (Some first) (Some all) (Some bytes) is kept = part_of m first all bytes k is kept
+leaves_at : (u m : List ℕ) (from end to k : ℕ) (old mid new : Option (List ℕ)) → end ≤ to → AreSaved u from end m old mid
+    → KeepsBut k (k + 1) mid new → IsPart k u from to m old new
+leaves_at u m from end to k None mid new few is kept = subst (λ (o : Option (List ℕ)). KeepsBut k (k + 1) o new) is kept
+leaves_at u m from end to k (Some all) None new few is kept = absurd is
+leaves_at u m from end to k (Some all) (Some mid) None few is kept = absurd kept
+leaves_at u m from end to k (Some all) (Some mid) (Some bytes) few is kept = part_of u m all mid bytes from end to k few is kept
 
-pub leaves : (m : List ℕ) (k : ℕ) (old mid new : Option (List ℕ)) (e : ImageError) → AreMixed m old mid → FailsAt k mid new e → SaveLeaves m old new e
-leaves m k old mid new (image.Medium at error) is (here, kept) = subst (λ (i : ℕ). IsPart i m old new) (sym here) (leaves_at m k old mid new is kept)
-leaves m k old mid new image.OtherSize is none = absurd none
-leaves m k old mid new image.TooManyUnread is none = absurd none
-leaves m k old mid new image.NotTaken is none = absurd none
-leaves m k old mid new image.OutOfMemory is none = absurd none
+pub leaves : (u m : List ℕ) (from k to : ℕ) (old mid new : Option (List ℕ)) (e : ImageError) → AreSaved u from (min k to) m old mid
+    → FailsAt k mid new e → SaveLeaves u from to m old new e
+leaves u m from k to old mid new (image.Medium at error) is (here, kept) =
+    subst (λ (i : ℕ). IsPart i u from to m old new) (sym here) (leaves_at u m from (min k to) to k old mid new (grind (arith, nat_tests)) is kept)
+leaves u m from k to old mid new image.OtherSize is none = absurd none
+leaves u m from k to old mid new image.TooManyUnread is none = absurd none
+leaves u m from k to old mid new image.NotTaken is none = absurd none
+leaves u m from k to old mid new image.OutOfMemory is none = absurd none
 
--- a save fails by the medium
-pub fails_by : (k : ℕ) (old new : Option (List ℕ)) (e : ImageError) → FailsAt k old new e → FailsByMedium e
-fails_by k old new (image.Medium at error) fails = tt
-fails_by k old new image.OtherSize none = absurd none
-fails_by k old new image.TooManyUnread none = absurd none
-fails_by k old new image.NotTaken none = absurd none
-fails_by k old new image.OutOfMemory none = absurd none
-
-part_all : (m : List ℕ) (but : ℕ) (old new : Option (List ℕ)) → AreMixed m old new → IsPart but m old new
-part_all m but None new is = is
-part_all m but (Some all) None is = is
-part_all m but (Some all) (Some bytes) is = (is.0, λ j other. is.1 j)
+keeps_same : (k : ℕ) (old : Option (List ℕ)) → KeepsBut k (k + 1) old old
+keeps_same k None = refl
+keeps_same k (Some all) = (refl, λ j out. refl)
 
 -- it was not flushed
-pub leaves_unflushed : (m : List ℕ) (but : ℕ) (old mid new : Option (List ℕ)) → AreMixed m old mid → new ≡ mid → IsPart but m old new
-leaves_unflushed m but old mid new is same = subst (IsPart but m old) (sym same) (part_all m but old mid is)
-
-pub fails_here : (k : ℕ) (s : List ℕ) (old mid new : Option (List ℕ)) → mid ≡ old → KeepsBut k (k + 1) mid new → KeepsBut k (k + 1) old new
-fails_here k s old mid new same kept = subst (λ (o : Option (List ℕ)). KeepsBut k (k + 1) o new) same kept
+pub leaves_unflushed : (u m : List ℕ) (from k to : ℕ) (old mid new : Option (List ℕ)) → AreSaved u from (min k to) m old mid → new ≡ mid
+    → IsPart from u from to m old new
+leaves_unflushed u m from k to old mid new is same =
+    leaves_at u m from (min k to) to from old mid new (grind (arith, nat_tests)) is (subst (KeepsBut from (from + 1) mid) (sym same) (keeps_same from mid))

@@ -15,11 +15,11 @@ FailsAt lba old new (image.Medium at error) = (at ≡ lba) × KeepsBut lba (lba 
 FailsAt lba old new _ = ⊥
 
 -- What an error of a save leaves of what is known of the medium. The disk has another size, and then it is as it was; or the
--- medium did not do what it was asked at a sector, and then each other sector is as it was, or that of the disk.
-abbrev pub SaveLeaves : (sectors : List ℕ) → (old new : Option (List ℕ)) → ImageError → Type 0
-SaveLeaves sectors old new (image.Medium lba error) = IsPart lba sectors old new
-SaveLeaves sectors old new image.OtherSize = new ≡ old
-SaveLeaves sectors old new _ = ⊥
+-- medium did not do what it was asked at a sector, and then each other sector is as it was, or is due and is the disk's.
+abbrev pub SaveLeaves : List ℕ → (from to : ℕ) → (sectors : List ℕ) → (old new : Option (List ℕ)) → ImageError → Type 0
+SaveLeaves unread from to sectors old new (image.Medium lba error) = IsPart lba unread from to sectors old new
+SaveLeaves unread from to sectors old new image.OtherSize = new ≡ old
+SaveLeaves unread from to sectors old new _ = ⊥
 
 abbrev pub IsTooMany : ImageError → Type 0
 IsTooMany image.TooManyUnread = Unit {0}

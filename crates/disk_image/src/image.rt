@@ -1,9 +1,9 @@
 //! Sectors go from a medium to a disk, and back.
 
-ghost use Rattle.std.specs.Prelude.{◌≡◌, ◌≢◌, ◌==◌, ◌<◌, ◌≤◌, min, true, Err, IfErr, OnOk, length};
+ghost use Rattle.std.specs.Prelude.{◌≡◌, ◌≢◌, ◌==◌, ◌+◌, ◌*◌, ◌<◌, ◌≤◌, min, true, All, AllPairs, Err, IfErr, IfOk, IfSome, MatchOption, OnOk, length};
 ghost use Rattle.disk_image.specs.Failures.{FailsAt, FailsByMedium, IsTooMany, SaveLeaves};
 ghost use Rattle.disk_image.specs.Loads.{Grows};
-ghost use Rattle.disk_image.specs.Media.{AreMixed, HasBut, HasIn, HasOtherSize, KeepsBut, IsReadAt, IsReadBut, IsWrittenBut, is_among, is_blank, is_unread};
+ghost use Rattle.disk_image.specs.Media.{AreSaved, HasBut, HasOtherSize, IsReadAt, IsReadBut, is_among, is_blank, is_unread};
 ghost use Rattle.disk_model.specs.Chunks.{sectors_at};
 
 use crate::medium::{Medium, MediumError};
@@ -21,7 +21,7 @@ pub enum ImageError {
     /// The medium has another number of sectors than the disk.
     #[error("the medium has another number of sectors than the disk")]
     OtherSize,
-    /// The medium does not do what it is asked, at this sector; 0 if it is not known at which.
+    /// The medium does not do what it is asked, at this sector. A flush fails at the first of those that were to be saved.
     #[error("sector {0}: {1}")]
     Medium(u32, MediumError),
     /// More sectors of the medium cannot be read than a disk can have bad ones.
@@ -121,6 +121,19 @@ fn has_size<D: Sectors>(disk: &D, count: u32) -> bool
     disk.sector(count).is_none() && (count == 0 || disk.sector(count - 1).is_some())
 }
 
+/// How many sectors both a disk and its medium have, None if one has more.
+fn common_count<D: Sectors, M: Medium>(disk: &D, medium: &M) -> Option<u32>
+    ensures { MatchOption result (HasOtherSize (D.count_of disk.now) (M.contents_of medium.now))
+        (λ count. count ≡ D.count_of disk.now) }
+{
+    let count = medium.sectors();
+    if has_size(disk, count) {
+        Some(count)
+    } else {
+        None
+    }
+}
+
 /// Reads a sector of a medium.
 fn read_at<M: Medium>(medium: &mut M, lba: u32, room: &mut [u8]) -> Result<(), ImageError>
     requires { length room.old ≡ 512 }
@@ -139,6 +152,9 @@ fn read_at<M: Medium>(medium: &mut M, lba: u32, room: &mut [u8]) -> Result<(), I
 /// and `save`.
 pub fn unread_of<M: Medium>(medium: &mut M) -> Result<ArrayVec<u32, 16>, ImageError>
     ensures contents { M.contents_of medium.new ≡ M.contents_of medium.old }
+    ensures order { IfOk result (λ unread. AllPairs (λ one later. one < later) unread.items) }
+    ensures within { IfOk result (λ unread. IfSome (M.contents_of medium.old) (λ all.
+        All (λ lba. 512 * lba + 512 ≤ length all) unread.items)) }
     ensures other { IfErr result IsTooMany }
 {
     let mut unread = ArrayVec::new();
@@ -277,10 +293,9 @@ pub fn load<D: Device + Sectors, M: Medium>(
     ensures other_size { result ≡ Err ImageError.OtherSize
         → HasOtherSize (D.count_of disk.old) (M.contents_of medium.old) }
 {
-    let count = medium.sectors();
-    if !has_size(disk, count) {
+    let Some(count) = common_count(disk, medium) else {
         return Err(ImageError::OtherSize);
-    }
+    };
     store_all(alloc, disk, medium, count, unread)?;
     if !has_size(disk, count) {
         return Err(ImageError::NotTaken);
@@ -297,8 +312,7 @@ fn save_one<D: Sectors, M: Medium>(
     unread: &[u32],
 ) -> Result<(), ImageError>
     requires { lba < D.count_of disk.now }
-    ensures long { length (sectors_at (D.medium_of disk.now) lba 1) ≡ 512 }
-    ensures written { OnOk result (IsWrittenBut unread.now lba (sectors_at (D.medium_of disk.now) lba 1)
+    ensures saved { OnOk result (AreSaved unread.now lba (lba + 1) (D.medium_of disk.now)
         (M.contents_of medium.old) (M.contents_of medium.new)) }
     ensures failed { IfErr result (FailsAt lba (M.contents_of medium.old) (M.contents_of medium.new)) }
 {
@@ -318,7 +332,7 @@ fn save_one<D: Sectors, M: Medium>(
     }
 }
 
-/// The sectors of a disk from one number up to another go to its medium, if they stand otherwise there.
+/// The sectors of a disk from one number up to another go to its medium, if they stand otherwise there, and stay.
 fn save_all<D: Sectors, M: Medium>(
     disk: &D,
     medium: &mut M,
@@ -327,16 +341,20 @@ fn save_all<D: Sectors, M: Medium>(
     unread: &[u32],
 ) -> Result<(), ImageError>
     requires { to ≤ D.count_of disk.now }
-    ensures same { OnOk result (HasIn unread.now from to (D.medium_of disk.now) (M.contents_of medium.new)) }
-    ensures others { OnOk result (KeepsBut from to (M.contents_of medium.old) (M.contents_of medium.new)) }
-    ensures part { OnOk result (AreMixed (D.medium_of disk.now) (M.contents_of medium.old) (M.contents_of medium.new)) }
-    ensures failed { IfErr result (SaveLeaves (D.medium_of disk.now) (M.contents_of medium.old) (M.contents_of medium.new)) }
+    ensures saved { OnOk result (AreSaved unread.now from to (D.medium_of disk.now)
+        (M.contents_of medium.old) (M.contents_of medium.new)) }
+    ensures stays { OnOk result (M.stays_of medium.new ≡ M.contents_of medium.new) }
+    ensures failed { IfErr result (SaveLeaves unread.now from to (D.medium_of disk.now)
+        (M.contents_of medium.old) (M.contents_of medium.new)) }
     ensures other { IfErr result FailsByMedium }
 {
     for lba in from..to {
         save_one(disk, medium, lba, unread)?;
     }
-    Ok(())
+    match medium.flush() {
+        Ok(()) => Ok(()),
+        Err(error) => Err(ImageError::Medium(from, error)),
+    }
 }
 
 /// Writes to a medium each sector of its disk, from one number up to another, that stands otherwise there, and has all of
@@ -348,39 +366,38 @@ pub fn save_range<D: Sectors, M: Medium>(
     range: Range<u32>,
     unread: &[u32],
 ) -> Result<(), ImageError>
-    ensures same { OnOk result
-        (HasIn unread.now range.start (min range.end (D.count_of disk.now)) (D.medium_of disk.now) (M.contents_of medium.new)) }
-    ensures others { OnOk result (KeepsBut range.start range.end (M.contents_of medium.old) (M.contents_of medium.new)) }
-    ensures size { OnOk result (D.count_of disk.now < 4294967296) }
+    ensures saved { OnOk result (AreSaved unread.now range.start (min range.end (D.count_of disk.now))
+        (D.medium_of disk.now) (M.contents_of medium.old) (M.contents_of medium.new)) }
     ensures stays { OnOk result (M.stays_of medium.new ≡ M.contents_of medium.new) }
     ensures other_size { result ≡ Err ImageError.OtherSize
         → HasOtherSize (D.count_of disk.now) (M.contents_of medium.old) }
-    ensures failed { IfErr result (SaveLeaves (D.medium_of disk.now) (M.contents_of medium.old) (M.contents_of medium.new)) }
+    ensures failed { IfErr result (SaveLeaves unread.now range.start (min range.end (D.count_of disk.now))
+        (D.medium_of disk.now) (M.contents_of medium.old) (M.contents_of medium.new)) }
 {
-    let count = medium.sectors();
-    if !has_size(disk, count) {
+    let Some(count) = common_count(disk, medium) else {
         return Err(ImageError::OtherSize);
-    }
+    };
     let end = if range.end < count { range.end } else { count };
-    save_all(disk, medium, range.start, end, unread)?;
-    match medium.flush() {
-        Ok(()) => Ok(()),
-        Err(error) => Err(ImageError::Medium(range.start, error)),
-    }
+    save_all(disk, medium, range.start, end, unread)
 }
 
-/// The same of all sectors.
+/// Writes to a medium each sector of its disk that stands otherwise there, and has all of them stay, as `save_range` does
+/// for some.
 pub fn save<D: Sectors, M: Medium>(
     disk: &D,
     medium: &mut M,
     unread: &[u32],
 ) -> Result<(), ImageError>
-    ensures same { OnOk result
-        (HasBut unread.now (D.count_of disk.now) (D.medium_of disk.now) (M.contents_of medium.new)) }
+    ensures saved { OnOk result (AreSaved unread.now 0 (D.count_of disk.now) (D.medium_of disk.now)
+        (M.contents_of medium.old) (M.contents_of medium.new)) }
     ensures stays { OnOk result (M.stays_of medium.new ≡ M.contents_of medium.new) }
     ensures other_size { result ≡ Err ImageError.OtherSize
         → HasOtherSize (D.count_of disk.now) (M.contents_of medium.old) }
-    ensures failed { IfErr result (SaveLeaves (D.medium_of disk.now) (M.contents_of medium.old) (M.contents_of medium.new)) }
+    ensures failed { IfErr result (SaveLeaves unread.now 0 (D.count_of disk.now) (D.medium_of disk.now)
+        (M.contents_of medium.old) (M.contents_of medium.new)) }
 {
-    save_range(disk, medium, 0..u32::MAX, unread)
+    let Some(count) = common_count(disk, medium) else {
+        return Err(ImageError::OtherSize);
+    };
+    save_all(disk, medium, 0, count, unread)
 }

@@ -65,7 +65,7 @@ gave_plan : (g : Guard) (old : StockValue) (bytes : List ℕ) (new : StockValue)
 gave_plan Sound old bytes new (sends, gave) = sends.plan
 gave_plan (Reports f) old bytes new (shows, loses) = loses_plan old new loses
 gave_plan (Ends e l) old bytes new (shows, loses) = loses_plan old new loses
-gave_plan (Failed f) old bytes new none = absurd none
+gave_plan (Failed f) old bytes new (none, is) = absurd none
 gave_plan (Aborts f) old bytes new (shows, is) = ap stock_plan is
 gave_plan (LogFollows f) old bytes new (shows, is) = ap stock_plan is
 gave_plan (LogData f) old bytes new (shows, is) = ap stock_plan is

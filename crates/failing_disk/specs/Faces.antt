@@ -1,16 +1,14 @@
 -- A stock disk behind its guard, by the words of the disk: its own calls say what it took and sent. The disk has no part in
 -- a failure: it is as one that was plugged in then, and whose signature nobody heard.
-use Rattle.std.specs.Prelude.{ℕ, ◌≡◌, ◌⊎◌, Bool, true, false, List}
+use Rattle.std.specs.Prelude.{ℕ, ◌≡◌, ◌⊎◌, Bool, true, false, List, MatchOption}
 use Rattle.fis_view.specs.Seen.{seen}
 use Rattle.disk_model.specs.Histories.{GoesOn, Happening, IsSilent, Plan, Plugged, Received, SendsNext}
 use Rattle.disk_model.specs.Sendings.{Shows}
 use Rattle.stock_disk.specs.Faces.{MaySendBy, StockMaySend, StockStandsFor, StockValue, WantsRoomFor, stock_plan}
 use Rattle.stock_disk.specs.Faces as stock
-use Rattle.failing_disk.specs.Guards.{Speaks, blamed, heard, is_own, reported, sent}
-use Rattle.stock_disk.specs.Blocks.{block_follows}
-use Rattle.stock_disk.specs.Fronts.{answer_with}
 use Rattle.failing_disk.specs.declared.guard.Guard.{Guard}
-use Rattle.failing_disk.specs.declared.guard.Guard.TheVariants.{Sound, Reports, Ends, Failed, Aborts, LogFollows, LogData}
+use Rattle.failing_disk.specs.declared.guard.Guard.TheVariants.{Sound, Reports, Ends, Failed}
+use Rattle.failing_disk.specs.Guards.{Speaks, heard, is_own, own_sent, sent}
 
 -- a disk and its guard
 pub record FailingValue : Type 0 where
@@ -57,16 +55,16 @@ DiskIsSilent now = IsSilent stock_plan StockStandsFor StockMaySend now
 abbrev pub Loses : StockValue → StockValue → Type 0
 Loses old new = ((lost : List ℕ) × DiskSends old lost new) ⊎ (DiskIsSilent old × (new ≡ old))
 
--- The bytes are what the disk sends, or what is said of the failure, while the disk stays as it is. As the host hears of
--- it, the disk's signature is sent to nobody.
+-- while the guard speaks the disk stays as it is; but as the host hears of the failure, the disk's signature is sent to nobody
+abbrev pub WaitsBy : Guard → StockValue → StockValue → Type 0
+WaitsBy (Reports failure) old new = Loses old new
+WaitsBy (Ends error lba) old new = Loses old new
+WaitsBy _ old new = new ≡ old
+
+-- the bytes are what the disk sends, or what is said of the failure
 abbrev pub GaveBy : Guard → StockValue → List ℕ → StockValue → Type 0
 GaveBy Sound old bytes new = DiskSends old bytes new
-GaveBy (Reports failure) old bytes new = Shows (reported failure.error) bytes × Loses old new
-GaveBy (Ends error lba) old bytes new = Shows (answer_with 0x51 error lba 0) bytes × Loses old new
-GaveBy (Failed failure) old bytes new = ⊥
-GaveBy (Aborts failure) old bytes new = Shows (answer_with 0x51 4 0 0) bytes × (new ≡ old)
-GaveBy (LogFollows failure) old bytes new = Shows (block_follows 0x50) bytes × (new ≡ old)
-GaveBy (LogData failure) old bytes new = Shows (blamed failure) bytes × (new ≡ old)
+GaveBy guard old bytes new = MatchOption (own_sent guard) ⊥ (λ said. Shows said bytes) × WaitsBy guard old new
 
 -- a FIS was sent
 pub record Gave (old : FailingValue) (bytes : List ℕ) (new : FailingValue) : Type 0 where

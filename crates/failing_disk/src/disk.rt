@@ -55,13 +55,6 @@ impl FailingDisk {
         self.disk.front()
     }
 
-    /// Whether a failure was not done with: the host has not heard of it, or has not read its log.
-    pub fn guard(&self) -> Guard
-        ensures { result ≡ self.now.guard }
-    {
-        self.guard
-    }
-
     /// The medium does not have what a queued command wrote, or not what it reads. All queued commands end: the host hears
     /// the error, and reads in the log which command failed. Each other command is aborted until then. The sectors in memory
     /// stay as they are. Call it before the host can hear that the command has ended. While an earlier failure was not done
@@ -76,7 +69,7 @@ impl FailingDisk {
     pub fn fail_command(&mut self, alloc: Global, error: u8, lba: u32)
         ensures { Fails (guard.Ends error lba) self.old self.new }
     {
-        self.fail(alloc, Guard::Ends(error, lba));
+        self.fail(alloc, Guard::Ends { error, lba });
     }
 
     /// Takes a FIS from the host.
@@ -108,7 +101,7 @@ impl FailingDisk {
         let Some(frame) = self.guard.frame(alloc, stamp)? else {
             return Ok(None);
         };
-        if matches!(self.guard, Guard::Reports(_) | Guard::Ends(_, _)) {
+        if matches!(self.guard, Guard::Reports(_) | Guard::Ends { .. }) {
             // The signature of a disk that was not plugged in is nothing to the host.
             self.disk.next_out(alloc, stamp)?;
         }

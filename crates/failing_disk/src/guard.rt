@@ -28,8 +28,13 @@ pub enum Guard {
     Sound,
     /// A queued command failed, and the host is to hear it. That ends all queued commands.
     Reports(Failure),
-    /// A command that is not queued failed, and the host is to hear it, with this Error and this sector.
-    Ends(u8, u32),
+    /// A command that is not queued failed, and the host is to hear it.
+    Ends {
+        /// Its Error: 04h is ABRT, 40h UNC.
+        error: u8,
+        /// The sector.
+        lba: u32,
+    },
     /// The host heard that a queued command failed, and has not read the log.
     Failed(Failure),
     /// So, and a command is to be aborted.
@@ -107,7 +112,7 @@ impl Guard {
         ensures { result ≡ hears self is_log }
     {
         match self {
-            Guard::Sound | Guard::Reports(_) | Guard::Ends(_, _) => self,
+            Guard::Sound | Guard::Reports(_) | Guard::Ends { .. } => self,
             Guard::Failed(failure)
             | Guard::Aborts(failure)
             | Guard::LogFollows(failure)
@@ -137,7 +142,9 @@ impl Guard {
         let frame = match self {
             Guard::Sound | Guard::Failed(_) => return Ok(None),
             Guard::Reports(failure) => report_frame(alloc, failure.error, stamp)?,
-            Guard::Ends(error, lba) => answer_frame(alloc, 0x51, error, u64::from(lba), 0, stamp)?,
+            Guard::Ends { error, lba } => {
+                answer_frame(alloc, 0x51, error, u64::from(lba), 0, stamp)?
+            }
             Guard::Aborts(_) => answer_frame(alloc, 0x51, 4, 0, 0, stamp)?,
             Guard::LogFollows(_) => setup_frame(alloc, 0x50, stamp)?,
             Guard::LogData(failure) => failure.log_frame(alloc, stamp)?,
@@ -150,7 +157,7 @@ impl Guard {
         ensures { result ≡ sent self }
     {
         match self {
-            Guard::Sound | Guard::Ends(_, _) | Guard::LogData(_) => Guard::Sound,
+            Guard::Sound | Guard::Ends { .. } | Guard::LogData(_) => Guard::Sound,
             Guard::Reports(failure) | Guard::Failed(failure) | Guard::Aborts(failure) => {
                 Guard::Failed(failure)
             }

@@ -11,5 +11,5 @@ mod guard;
 mod laws;
 
 pub use disk::FailingDisk;
-pub use guard::{Failure, Guard};
+pub use guard::Failure;
 pub use laws::failures_abort_commands;

@@ -5,7 +5,6 @@ use Rattle.std.specs.List.{AllZip, list_any}
 use Rattle.std.proofs.lemmas.List.{map-append}
 use Rattle.std.proofs.lemmas.List.Elements.{All-cons, filter-append}
 use Rattle.fis_view.specs.Frames.{Stamped}
-use Rattle.disk_model.specs.declared.unit.Unit.{Unit}
 use Rattle.ruled_links.specs.Links.{IsLink}
 use Rattle.ruled_links.specs.Lists.{IsPrefixOf}
 use Rattle.multiplier.specs.Orders.{of_connection}
@@ -155,14 +154,14 @@ if_ok (Err e) Q S q f = tt
 
 -- ---- all seats together
 
-handed_at : (ss : List (StationState Unit)) (ps : List PortSeats) → AllZip Handed ss ps → (n : ℕ) → IsPrefixOf (frames_at ps n) (sent_at ss n)
+handed_at : {D : Type 0} (ss : List (StationState D)) (ps : List PortSeats) → AllZip Handed ss ps → (n : ℕ) → IsPrefixOf (frames_at ps n) (sent_at ss n)
 handed_at [] [] h n = ([], refl)
 handed_at [] (p ∷ ps) h n = absurd h
 handed_at (s ∷ ss) [] h n = absurd h
 handed_at (s ∷ ss) (p ∷ ps) h zero = h.0.frames
 handed_at (s ∷ ss) (p ∷ ps) h (suc n) = handed_at ss ps h.1 n
 
-pub all_arrive : (ss : List (StationState Unit)) (ps : List PortSeats) (sent taken : List Stamped) → AllZip Handed ss ps
+pub all_arrive : {D : Type 0} (ss : List (StationState D)) (ps : List PortSeats) (sent taken : List Stamped) → AllZip Handed ss ps
     → ((n c : ℕ) → n < 15 → IsPrefixOf (of_conn n c sent) (risen n c (frames_at ps n))) → IsPrefixOf taken sent → EachArrives ss taken
 all_arrive ss ps sent taken handed begun met n c low =
     prefix_then (of_conn n c taken) (of_conn n c sent) (risen n c (sent_at ss n))
@@ -171,7 +170,7 @@ all_arrive ss ps sent taken handed begun met n c low =
     (risen_prefix n c (frames_at ps n) (sent_at ss n) (handed_at ss ps handed n)))
 
 -- the same of equal ends
-pub same_arrive : (ss ts : List (StationState Unit)) (host other : HostView) → ss ≡ ts → host ≡ other → EachArrives ss host.frames.taken
+pub same_arrive : {D : Type 0} (ss ts : List (StationState D)) (host other : HostView) → ss ≡ ts → host ≡ other → EachArrives ss host.frames.taken
     → EachArrives ts other.frames.taken
 same_arrive ss ts host other disks hosts arrive =
     subst (λ l. EachArrives l other.frames.taken) disks (subst (λ (h : HostView). EachArrives ss h.frames.taken) hosts arrive)

@@ -1,11 +1,10 @@
 -- For `close`: in no row of counts more was taken than sent.
-use Rattle.std.proofs.Common.{◌≡◌, ℕ, zero, suc, ◌+◌, ◌<◌, ◌≤◌, List, [], ◌∷◌, ◌++◌, length, Option, Some, None, Bool, true, false, refl, sym, ap, subst, ◌∙◌, inl, inr, length-append, arith}
-use Rattle.std.specs.Prelude.{if◌then◌else◌, map}
+use Rattle.std.proofs.Common.{◌≡◌, ℕ, zero, suc, ◌+◌, ◌≤◌, List, [], ◌∷◌, length, Some, None, Bool, true, false, refl, sym, ap, subst, ◌∙◌, inl, inr, length-append, arith}
+use Rattle.std.specs.Prelude.{if◌then◌else◌}
 use Rattle.std.specs.Option.{option_to_list}
 use Rattle.std.proofs.lemmas.Bool.{cases_lt}
 use Rattle.std.proofs.lemmas.List.{length-map}
 use Rattle.std.proofs.lemmas.List.Elements.{filter-append}
-use Rattle.disk_model.specs.declared.unit.Unit.{Unit}
 use Rattle.fis_view.specs.Frames.{Stamped}
 use Rattle.ruled_links.specs.Lists.{IsPrefixOf}
 use Rattle.multiplier.specs.Orders.{of_connection, of_port}
@@ -18,7 +17,7 @@ use Rattle.thread_counts.specs.Rows.{AreCounted, NoneAboveSent, given_at, told_a
 use Rattle.thread_counts.proofs.Door.{at_past}
 use Rattle.pm_threads.specs.Ends.{EachArrives, sent_at}
 
-sent_of_given : (disks : List (StationState Unit)) (n : ℕ) → IsPrefixOf (sent_at disks n) (given_at disks n)
+sent_of_given : {D : Type 0} (disks : List (StationState D)) (n : ℕ) → IsPrefixOf (sent_at disks n) (given_at disks n)
 sent_of_given [] n = ([], refl)
 sent_of_given (s ∷ disks) zero = (option_to_list s.hand, refl)
 sent_of_given (s ∷ disks) (suc n) = sent_of_given disks n
@@ -41,7 +40,7 @@ some_is x y e = cc
 false_true : false ≡ true → ⊥
 false_true e = cc
 
-pub none_above : (disks : List (StationState Unit)) (taken : List Stamped) (rows : List ConnCount) → length disks ≤ 15 → AreCounted rows disks taken
+pub none_above : {D : Type 0} (disks : List (StationState D)) (taken : List Stamped) (rows : List ConnCount) → length disks ≤ 15 → AreCounted rows disks taken
     → EachArrives disks taken → NoneAboveSent rows
 none_above disks taken rows few counted arrives n c r is = by (has_come c (told_at disks n)) refl
   where

@@ -19,7 +19,7 @@ are_numbers ports units turns memory =
 
 -- Whether a run with this many ports can have this setup: its numbers fit, its puts lie in the client
 -- area, and its requests and pulls are for ports that are there.
-abbrev pub is_fitting : ℕ → Setup → Bool
+abbrev pub is_fitting : {D : Type 0} → ℕ → Setup D → Bool
 is_fitting ports s =
     are_numbers ports (length s.units.items) s.turns s.memory
     && list_all (λ put. lies_in s.memory put.0 (length put.1.items)) s.puts.items
@@ -27,7 +27,7 @@ is_fitting ports s =
     && list_all (λ pull. nat_lt pull.0 ports) s.pulls.items
 
 -- Whether there may be a run: the setup fits, and no run has taken the seats of these links.
-abbrev pub can_run : LinksState → Setup → Bool
+abbrev pub can_run : {D : Type 0} → LinksState → Setup D → Bool
 can_run l s = not l.given && is_fitting (length l.devices) s
 
 -- after how many FISes of the device at port n each of its pulls is due

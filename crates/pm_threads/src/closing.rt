@@ -17,7 +17,7 @@ ghost use Rattle.thread_counts.specs.Rows.{AreCounted, NoneAboveSent};
 use crate::finished::{Finished, Unfinished};
 use crate::meeting::meet_all;
 use crate::outcomes::outcomes;
-use disk_model::Unit;
+use disk_model::Device;
 use disk_thread::DiskEnd;
 use hba_driver::{Outcome, SubmitError};
 use host_memory::HostMemory;
@@ -32,7 +32,7 @@ use thread_counts::counted;
 
 /// What came of a run.
 #[derive(Drop)]
-pub struct Summary {
+pub struct Summary<D> {
     /// How many FISes were sent and taken, in a row for each connection of each port that came, sorted by port
     /// and connection.
     pub counts: Vec<ConnCount>,
@@ -41,12 +41,12 @@ pub struct Summary {
     /// The memory of the host.
     pub memory: HostMemory,
     /// The devices, as their threads left them; that of port n at place n.
-    pub units: Vec<Unit>,
+    pub units: Vec<D>,
 }
 
 /// What came of a run that has not finished.
 #[derive(Drop)]
-pub struct PartialSummary {
+pub struct PartialSummary<D> {
     /// How many FISes were sent and taken, in rows like those of a [`Summary`].
     pub counts: Vec<ConnCount>,
     /// The requests of the plan, in order.
@@ -57,7 +57,7 @@ pub struct PartialSummary {
     /// The memory of the host.
     pub memory: HostMemory,
     /// The devices, as their threads left them; that of port n at place n.
-    pub units: Vec<Unit>,
+    pub units: Vec<D>,
 }
 
 /// Why there is no summary.
@@ -85,13 +85,13 @@ impl From<AllocError> for CloseError {
 /// what it took of a connection whose removal it has not recorded is what it put up and what it
 /// holds. The memory is what the turns of the host made of it.
 #[tactic(auto, using(crate::proofs::Ends::link_prefix))]
-fn met<'a, R: Wait>(
+fn met<'a, D: Device + Drop, R: Wait>(
     rt: &R,
     alloc: Global,
-    disks: Vec<DiskEnd<'a, Unit>>,
+    disks: Vec<DiskEnd<'a, D>>,
     pm: PmWorker<'a>,
     host: HostWorker<'a>,
-) -> Result<PartialSummary, CloseError>
+) -> Result<PartialSummary<D>, CloseError>
     requires { AreOfOneRun (record {
       disks = map (λ e. e.station) disks.items;
       pm = pm;
@@ -132,11 +132,11 @@ fn met<'a, R: Wait>(
 
 /// Brings the seats of all links together, even if no memory is found for the summary, and says how each
 /// request ended.
-pub fn close<'a, R: Wait>(
+pub fn close<'a, D: Device + Drop, R: Wait>(
     rt: &R,
     alloc: Global,
-    finished: Finished<'a>,
-) -> Result<Summary, CloseError>
+    finished: Finished<'a, D>,
+) -> Result<Summary<D>, CloseError>
     ensures arrives { EachArrives finished.entry.disks finished.entry.host.frames.taken }
     ensures order { InStampedOrder finished.entry.host.frames.taken }
     ensures multiplier { IsPmRun finished.entry.pm }
@@ -173,11 +173,11 @@ pub fn close<'a, R: Wait>(
 /// Brings the seats of all links together after a run that has not finished, even if no memory is found
 /// for the summary. What `close` says of the links holds here too. The state of each request comes in place of its
 /// outcome, since some may be open.
-pub fn close_unfinished<'a, R: Wait>(
+pub fn close_unfinished<'a, D: Device + Drop, R: Wait>(
     rt: &R,
     alloc: Global,
-    unfinished: Unfinished<'a>,
-) -> Result<PartialSummary, CloseError>
+    unfinished: Unfinished<'a, D>,
+) -> Result<PartialSummary<D>, CloseError>
     ensures arrives { EachArrives (ends_of unfinished.entry).disks unfinished.entry.host.worker.frames.taken }
     ensures order { InStampedOrder unfinished.entry.host.worker.frames.taken }
     ensures multiplier { IsPmRun unfinished.entry.pm.worker }

@@ -6,7 +6,7 @@ ghost use Rattle.host_thread.specs.Runs.{is_open};
 ghost use Rattle.pm_threads.specs.Ends.{AreOfOneRun};
 ghost use Rattle.pm_threads.specs.Halts.{ends_of};
 
-use disk_model::Unit;
+use disk_model::Device;
 use disk_thread::DiskEnd;
 use host_thread::{HostEnd, HostWorker};
 use pm_thread::{PmEnd, PmWorker};
@@ -14,19 +14,19 @@ use std::marker::Model;
 
 /// The ends of all workers of one run, with their seats. All requests have ended.
 #[derive(Drop)]
-pub struct Finished<'a> {
-    pub(crate) disks: Vec<DiskEnd<'a, Unit>>,
+pub struct Finished<'a, D: Device + Drop> {
+    pub(crate) disks: Vec<DiskEnd<'a, D>>,
     pub(crate) pm: PmWorker<'a>,
     pub(crate) host: HostWorker<'a>,
 }
 
-impl<'a> Model for Finished<'a> {
+impl<'a, D: Device + Drop> Model for Finished<'a, D> {
     ghost use Rattle.std.specs.Prelude.{◌≡◌, false, map};
     ghost use Rattle.std.specs.List.{list_any};
     ghost use Rattle.host_thread.specs.Runs.{is_open};
     ghost use Rattle.pm_threads.specs.Ends.{AreOfOneRun, Ends};
 
-    ghost Value = { Ends };
+    ghost Value = { Ends D };
 
     ghost view = { λ f. record { disks = map (λ e. e.station) f.disks.items; pm = f.pm; host = f.host } };
 
@@ -37,9 +37,9 @@ impl<'a> Model for Finished<'a> {
     }) × (list_any is_open f.host.states ≡ false) };
 }
 
-impl<'a> Finished<'a> {
+impl<'a, D: Device + Drop> Finished<'a, D> {
     /// The ends one by one. Their seats are of the same links.
-    pub(crate) fn into_parts(self) -> (Vec<DiskEnd<'a, Unit>>, PmWorker<'a>, HostWorker<'a>)
+    pub(crate) fn into_parts(self) -> (Vec<DiskEnd<'a, D>>, PmWorker<'a>, HostWorker<'a>)
         ensures disks { map (λ e. e.station) result.0.items ≡ self.entry.disks }
         ensures pm { result.1 ≡ self.entry.pm }
         ensures host { result.2 ≡ self.entry.host }
@@ -54,17 +54,17 @@ impl<'a> Finished<'a> {
 /// The ends of all workers of a run that has not finished, with their seats. A worker had a fault, or a
 /// request is open.
 #[derive(Drop)]
-pub struct Unfinished<'a> {
-    pub(crate) disks: Vec<DiskEnd<'a, Unit>>,
+pub struct Unfinished<'a, D: Device + Drop> {
+    pub(crate) disks: Vec<DiskEnd<'a, D>>,
     pub(crate) pm: PmEnd<'a>,
     pub(crate) host: HostEnd<'a>,
 }
 
-impl<'a> Model for Unfinished<'a> {
+impl<'a, D: Device + Drop> Model for Unfinished<'a, D> {
     ghost use Rattle.pm_threads.specs.Ends.{AreOfOneRun};
     ghost use Rattle.pm_threads.specs.Halts.{Halt, ends_of};
 
-    ghost Value = { Halt };
+    ghost Value = { Halt D };
 
     ghost view = { λ u. record { disks = u.disks.items; pm = u.pm; host = u.host } };
 
@@ -75,9 +75,9 @@ impl<'a> Model for Unfinished<'a> {
     })) };
 }
 
-impl<'a> Unfinished<'a> {
+impl<'a, D: Device + Drop> Unfinished<'a, D> {
     /// The ends one by one. Their seats are of the same links.
-    pub(crate) fn into_parts(self) -> (Vec<DiskEnd<'a, Unit>>, PmWorker<'a>, HostWorker<'a>)
+    pub(crate) fn into_parts(self) -> (Vec<DiskEnd<'a, D>>, PmWorker<'a>, HostWorker<'a>)
         ensures disks { result.0.items ≡ self.entry.disks }
         ensures pm { result.1 ≡ self.entry.pm.worker }
         ensures host { result.2 ≡ self.entry.host.worker }

@@ -1,4 +1,5 @@
-//! Disks, a port multiplier and a host, each in a thread of its own, on links between threads.
+//! Devices, a port multiplier and a host, each in a thread of its own, on links between threads. The
+//! devices are of one type, which may be any that has the trait [`Device`](disk_model::Device).
 //!
 //! [`run_threads`] seats a worker at each end of the [`Links`] and runs all of them side by side.
 //! [`close`] brings the seats together again. It says what holds for every run, whatever the threads

@@ -3,7 +3,7 @@
 ghost use Rattle.std.specs.Prelude.{◌≡◌, ◌≤◌, ◌↔◌, ◌||◌, true, false, length, map, None, Some, All, IfErr, IfNone, IfOk, IfSome, OnOk};
 ghost use Rattle.std.specs.List.{AllZip, list_any};
 ghost use Rattle.host_thread.specs.Runs.{GoesOn, IsRun as IsHostRun, is_open};
-ghost use Rattle.pm_threads.specs.Ends.{AllGoOn, AreOfOneRun, RanWith};
+ghost use Rattle.pm_threads.specs.Ends.{AllGoOn, AreOfOneRun, RunsWith};
 ghost use Rattle.pm_threads.specs.Failures.{IsTold, error_of};
 ghost use Rattle.pm_threads.specs.Halts.{Halt, IsLeftOf, IsWhy, LeadsTo, is_any_short, is_any_spent, is_given, is_short, is_shut};
 ghost use Rattle.pm_threads.specs.Seats.{TiedTo, first_ports};
@@ -13,7 +13,7 @@ use crate::finished::{Finished, Unfinished};
 use crate::links::Links;
 use crate::seats::seated;
 use crate::setup::{Setup, filled};
-use disk_model::Unit;
+use disk_model::Device;
 use disk_thread::{DiskEnd, DiskWorker, Gate};
 use host_thread::{HostEnd, HostWorker};
 use pm_thread::{PmEnd, PmWorker};
@@ -42,21 +42,21 @@ pub enum RunError {
 
 /// Why a run has not finished, and what is left of it.
 #[derive(Drop)]
-pub struct RunFailure<'a> {
+pub struct RunFailure<'a, D: Device + Drop> {
     /// Why.
     pub error: RunError,
     /// The ends of its workers. There are none if the run did not begin, as with BadSetup, if not all of its
     /// threads could be made, or if memory for the list of ends was refused.
-    pub left: Option<Unfinished<'a>>,
+    pub left: Option<Unfinished<'a, D>>,
 }
 
-impl<'a> From<AllocError> for RunFailure<'a> {
+impl<'a, D: Device + Drop> From<AllocError> for RunFailure<'a, D> {
     ghost use Rattle.std.specs.Prelude.{◌≡◌, None};
     ghost use Rattle.pm_threads.specs.declared.run.RunError.TheVariants.{OutOfMemory};
 
     ghost from_gives = { λ _ failure. (failure.error ≡ OutOfMemory) × (failure.left ≡ None) };
 
-    fn from(_: AllocError) -> RunFailure<'a> {
+    fn from(_: AllocError) -> RunFailure<'a, D> {
         RunFailure {
             error: RunError::OutOfMemory,
             left: None,
@@ -64,12 +64,12 @@ impl<'a> From<AllocError> for RunFailure<'a> {
     }
 }
 
-impl<'a> From<RunFailure<'a>> for RunError {
+impl<'a, D: Device + Drop> From<RunFailure<'a, D>> for RunError {
     ghost use Rattle.std.specs.Prelude.{◌≡◌};
 
     ghost from_gives = { λ failure error. error ≡ failure.error };
 
-    fn from(failure: RunFailure<'a>) -> RunError {
+    fn from(failure: RunFailure<'a, D>) -> RunError {
         failure.error
     }
 }
@@ -96,35 +96,43 @@ fn is_given(spent: Option<Spent>) -> bool
 }
 
 /// Whether the worker of a device ended by lack of memory.
-fn any_short(disks: &[DiskEnd<'_, Unit>]) -> bool
+fn any_short<D: Device + Drop>(disks: &[DiskEnd<'_, D>]) -> bool
     ensures { result ≡ list_any (λ end. is_short end.fault) disks.now }
 {
     disks.iter().any(|end| is_short(end.fault))
 }
 
 /// Whether a worker ended by lack of memory.
-fn is_any_short(disks: &[DiskEnd<'_, Unit>], pm: Option<Fault>, host: Option<Fault>) -> bool
+fn is_any_short<D: Device + Drop>(
+    disks: &[DiskEnd<'_, D>],
+    pm: Option<Fault>,
+    host: Option<Fault>,
+) -> bool
     ensures { result ≡ is_any_short disks.now pm host }
 {
     any_short(disks) || is_short(pm) || is_short(host)
 }
 
 /// Whether a worker ended by its gate.
-fn any_shut(disks: &[DiskEnd<'_, Unit>]) -> bool
+fn any_shut<D: Device + Drop>(disks: &[DiskEnd<'_, D>]) -> bool
     ensures { result ≡ list_any (λ end. is_shut end.fault) disks.now }
 {
     disks.iter().any(|end| is_shut(end.fault))
 }
 
 /// Whether the worker of a device says that its turns were spent.
-fn any_spent(disks: &[DiskEnd<'_, Unit>]) -> bool
+fn any_spent<D: Device + Drop>(disks: &[DiskEnd<'_, D>]) -> bool
     ensures { result ≡ list_any (λ end. is_given end.spent) disks.now }
 {
     disks.iter().any(|end| is_given(end.spent))
 }
 
 /// Whether a worker says that its turns were spent.
-fn is_any_spent(disks: &[DiskEnd<'_, Unit>], pm: Option<Spent>, host: Option<Spent>) -> bool
+fn is_any_spent<D: Device + Drop>(
+    disks: &[DiskEnd<'_, D>],
+    pm: Option<Spent>,
+    host: Option<Spent>,
+) -> bool
     ensures { result ≡ is_any_spent disks.now pm host }
 {
     any_spent(disks) || is_given(pm) || is_given(host)
@@ -134,7 +142,11 @@ fn is_any_spent(disks: &[DiskEnd<'_, Unit>], pm: Option<Spent>, host: Option<Spe
 /// before all else.
 // Inlined into `finished`, LLVM had not ended there after a quarter of an hour.
 #[inline(never)]
-fn cause(disks: &[DiskEnd<'_, Unit>], pm: &PmEnd<'_>, host: &HostEnd<'_>) -> Option<RunError>
+fn cause<D: Device + Drop>(
+    disks: &[DiskEnd<'_, D>],
+    pm: &PmEnd<'_>,
+    host: &HostEnd<'_>,
+) -> Option<RunError>
     ensures why { IfSome result (λ error.
         IsWhy error (record { disks = disks.now; pm = pm.now; host = host.now })) }
     ensures quiet { IfNone result (All (λ e. e.fault ≡ None) disks.now) }
@@ -157,11 +169,11 @@ fn cause(disks: &[DiskEnd<'_, Unit>], pm: &PmEnd<'_>, host: &HostEnd<'_>) -> Opt
 
 /// What is left of a run. It has finished if no worker ended by a fault and no request is open. Otherwise
 /// all ends come with the error.
-fn finished<'a>(
-    disks: Vec<DiskEnd<'a, Unit>>,
+fn finished<'a, D: Device + Drop>(
+    disks: Vec<DiskEnd<'a, D>>,
     pm: PmEnd<'a>,
     host: HostEnd<'a>,
-) -> Result<Finished<'a>, RunFailure<'a>>
+) -> Result<Finished<'a, D>, RunFailure<'a, D>>
     requires { AreOfOneRun (record {
       disks = map (λ e. e.station) disks.items;
       pm = pm.worker;
@@ -190,19 +202,19 @@ fn finished<'a>(
 /// Runs the workers side by side, until all have ended. The stations stay runs of whatever units they
 /// were runs of, and so does the host. If the run has not finished, that holds for each device whose
 /// worker had no fault.
-fn run_seated<'a, 'g, G: Gate + Sync, R: Threads + Wait + Sync>(
+fn run_seated<'a, 'g, D: Device + Drop + Send, G: Gate + Sync, R: Threads + Wait + Sync>(
     rt: &R,
     alloc: Global,
-    workers: Vec<DiskWorker<'a, 'g, Unit, G>>,
+    workers: Vec<DiskWorker<'a, 'g, D, G>>,
     pm: PmWorker<'a>,
     host: HostWorker<'a>,
     turns: u64,
-) -> Result<Finished<'a>, RunFailure<'a>>
+) -> Result<Finished<'a, D>, RunFailure<'a, D>>
     requires few { length workers.items ≤ 15 }
     requires tied { AllZip TiedTo workers.items pm.ports }
     requires up { pm.host.link ≡ host.frames.link }
     requires down { host.commands.link ≡ pm.commands.link }
-    ensures disks { IfOk result (λ f. AllGoOn workers.entry.items f.disks) }
+    ensures disks { IfOk result (λ f. AllGoOn D.plan_of D.stands_for D.may_send workers.entry.items f.disks) }
     ensures ports { IfOk result (λ f. map (λ s. s.port) f.disks ≡ map (λ w. w.port) workers.entry.items) }
     ensures host { IfOk result (λ f. GoesOn host.entry f.host) }
     ensures plan { IfOk result (λ f. f.host.plan ≡ host.entry.plan) }
@@ -210,7 +222,7 @@ fn run_seated<'a, 'g, G: Gate + Sync, R: Threads + Wait + Sync>(
     ensures begun { error_of result ≡ Some RunError.BadSetup → ⊥ }
     ensures gate { error_of result ≡ Some RunError.GateShut → G.may_refuse }
     ensures left { IfErr result (λ failure.
-        IfSome failure.left (λ h. LeadsTo workers.entry.items host.entry h)) }
+        IfSome failure.left (λ h. LeadsTo D.plan_of D.stands_for D.may_send workers.entry.items host.entry h)) }
     ensures why { IfErr result (λ failure. IsTold failure) }
 {
     let (disks, pm, host) = run_three(rt, alloc, workers, pm, host, turns)?;
@@ -222,16 +234,16 @@ fn run_seated<'a, 'g, G: Gate + Sync, R: Threads + Wait + Sync>(
 /// for its port, which was pulled out exactly when that was due. The end of the host is a run beside
 /// the memory with the puts. If the run has not finished, what is left of it comes with the error: the
 /// ends of the host and of each device whose worker had no fault are such runs.
-pub fn run_threads<'a, G: Gate + Sync, R: Threads + Wait + Sync>(
+pub fn run_threads<'a, D: Device + Drop + Send, G: Gate + Sync, R: Threads + Wait + Sync>(
     rt: &R,
     alloc: Global,
     links: &'a mut Links,
-    setup: Setup,
+    setup: Setup<D>,
     gate: &G,
-) -> Result<Finished<'a>, RunFailure<'a>>
+) -> Result<Finished<'a, D>, RunFailure<'a, D>>
     ensures bad_setup { (error_of result ≡ Some RunError.BadSetup) ↔ (can_run links.old setup ≡ false) }
     ensures disks { IfOk result (λ f.
-        AllZip (RanWith setup.pulls.items) setup.units.items f.disks) }
+        AllZip (RunsWith D.plan_of D.stands_for D.may_send setup.pulls.items) setup.units.items f.disks) }
     ensures ports { IfOk result (λ f. map (λ s. s.port) f.disks ≡ first_ports (length links.old.devices)) }
     ensures host { IfOk result (λ f. IsHostRun
         (memory_of setup.memory (map (λ put. (put.0, put.1.items)) setup.puts.items)) f.host) }
@@ -239,7 +251,7 @@ pub fn run_threads<'a, G: Gate + Sync, R: Threads + Wait + Sync>(
     ensures closed { IfOk result (λ f. list_any is_open f.host.states ≡ false) }
     ensures gate { error_of result ≡ Some RunError.GateShut → G.may_refuse }
     ensures left { IfErr result (λ failure. IfSome failure.left (λ h.
-        IsLeftOf setup.units.items setup.pulls.items (length links.old.devices)
+        IsLeftOf D.plan_of D.stands_for D.may_send setup.units.items setup.pulls.items (length links.old.devices)
         (memory_of setup.memory (map (λ put. (put.0, put.1.items)) setup.puts.items)) setup.plan.items h)) }
     ensures why { IfErr result (λ failure. IsTold failure) }
 {

@@ -5,7 +5,6 @@ ghost use Rattle.std.specs.List.{list_all};
 ghost use Rattle.host_memory.specs.Memory.{is_memory_size};
 ghost use Rattle.pm_threads.specs.Setups.{are_numbers, is_fitting, lies_in, memory_of};
 
-use disk_model::Unit;
 use host_memory::{HostMemory, MemoryError};
 use host_thread::Planned;
 use std::alloc::{AllocError, Global};
@@ -18,9 +17,9 @@ const CLIENT_START: u64 = 0x10_0000;
 
 /// What a run is given.
 #[derive(Drop)]
-pub struct Setup {
+pub struct Setup<D> {
     /// What stands at the ports, from port 0 on.
-    pub units: Vec<Unit>,
+    pub units: Vec<D>,
     /// How many bytes of memory the host has.
     pub memory: u32,
     /// What is put into the client area before the run, each at its address.
@@ -84,7 +83,7 @@ fn pulls_fit(pulls: &[(u8, u32)], ports: usize) -> bool
     pulls.iter().all(|pull| usize::from(pull.0) < ports)
 }
 
-impl Setup {
+impl<D> Setup<D> {
     /// Whether a run with this many ports can have this setup.
     pub(crate) fn fits(&self, ports: usize) -> bool
         ensures { result ≡ is_fitting ports self.now }

@@ -1,5 +1,6 @@
 //! What no clause says: which refusals come, that runs end, and that bytes come back.
 
+mod devices;
 mod runs;
 mod setups;
 mod unfinished;

@@ -5,8 +5,8 @@
 -- Cited: runs and places of a world (specs/Rules.antt, Places.antt), what is on its way of a
 -- connection, and when its removal is recorded (specs/Traffic.antt).
 use Rattle.std.specs.Prelude.{ℕ, ◌≡◌, ◌<◌, ◌⊎◌, true, false, List, [], length, Some, slice_get}
-use Rattle.disk_model.specs.declared.unit.Unit.{Unit}
 use Rattle.multiplier.specs.State.{port_at}
+use Rattle.pm_world.specs.Attached.{Attached}
 use Rattle.pm_world.specs.Places.{Place, Places, is_config, new_world}
 use Rattle.pm_world.specs.Rules.{Run}
 use Rattle.pm_world.specs.Traffic.{is_removed, transit}
@@ -28,11 +28,11 @@ IsUnused n d now = (d ≡ 0) ⊎ IsAhead n d now
 -- Holds over every run from a new world. Each connection before the one that is present is removed.
 -- Nothing is on its way up of a connection that was not used.
 pub record ConnectionsFollow : Type 0 where
-  pub removed : (config : Config) (units : List Unit) → is_config config (length units) ≡ true
+  pub removed : (config : Config) (units : List Attached) → is_config config (length units) ≡ true
       → (steps : List Step) (answers : List Answer) (now : Places)
       → Run (new_world config units) steps answers now → (n c d : ℕ) → n < 15
       → (port_at now.multiplier n).present ≡ Some c → 0 < d → d < c → is_removed n d now ≡ true
-  pub none_early : (config : Config) (units : List Unit) → is_config config (length units) ≡ true
+  pub none_early : (config : Config) (units : List Attached) → is_config config (length units) ≡ true
       → (steps : List Step) (answers : List Answer) (now : Places)
       → Run (new_world config units) steps answers now → (n d : ℕ) → n < 15
       → IsUnused n d now → is_removed n d now ≡ false → transit n d now ≡ []

@@ -5,7 +5,7 @@ use Rattle.std.specs.Prelude.{List, [], ◌∷◌, ◌++◌, length, find, Holds
 use Rattle.std.specs.Prelude.{AllPairs, ◌⊎◌}
 use Rattle.std.specs.List.{list_any, AllWithin}
 use Rattle.std.specs.Option.{option_map, option_or}
-use Rattle.disk_model.specs.declared.unit.Unit.{Unit}
+use Rattle.pm_world.specs.Attached.{Attached}
 use Rattle.pm_world.specs.Places.{Places, is_config, new_world}
 use Rattle.pm_world.specs.Rules.{Run}
 use Rattle.pm_world.specs.Traffic.{sent, taken}
@@ -120,7 +120,7 @@ pub record Tell (rows : List ConnCount) (answers : List Answer) : Type 0 where
 -- these answers are those of a run from a new world
 pub record AreOfARun (answers : List Answer) : Type 0 where
   pub config : Config
-  pub units : List Unit
+  pub units : List Attached
   pub fits : is_config config (length units) ≡ true
   pub steps : List Step
   pub now : Places

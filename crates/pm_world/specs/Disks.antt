@@ -17,7 +17,6 @@ use Rattle.host_memory.specs.Memory.{Memory}
 use Rattle.slots.specs.Slots.{has_bit}
 use Rattle.hba_fbs.specs.declared.report.TakeReport.{TakeReport}
 use Rattle.disk_model.specs.declared.plan.DiskPlan.{DiskPlan}
-use Rattle.disk_model.specs.declared.unit.Unit.{Unit}
 use Rattle.disk_model.specs.declared.unit.Unit.TheVariants.{Disk}
 use Rattle.disk_model.specs.Disks.{DiskValue}
 use Rattle.disk_model.specs.Histories.{Happening}
@@ -31,6 +30,7 @@ use Rattle.hba_driver.specs.declared.slot.Phase.TheVariants.{Waits}
 use Rattle.hba_driver.specs.Drivers.{Entry, entry_at, rephased}
 use Rattle.hba_driver.specs.HostTurns.{HostTurn}
 use Rattle.hba_driver.specs.Orders.{is_queued}
+use Rattle.pm_world.specs.Attached.{Attached, Modelled}
 use Rattle.pm_world.specs.PathEnds.{injects, unplugs}
 use Rattle.pm_world.specs.Units.{happens}
 use Rattle.pm_world.specs.Places.{Places, is_config, new_world}
@@ -49,9 +49,9 @@ use Rattle.hba_driver.specs.Submits.{new_entry}
 -- ---- the disk and its run
 
 -- the unit at port n of a new world is a new disk of this plan, with this many sectors
-pub record IsNewDisk (units : List Unit) (n : ℕ) (plan : DiskPlan) (sectors : ℕ) : Type 0 where
+pub record IsNewDisk (units : List Attached) (n : ℕ) (plan : DiskPlan) (sectors : ℕ) : Type 0 where
   pub disk : DiskValue
-  pub there : slice_get units n ≡ Some (Disk disk)
+  pub there : slice_get units n ≡ Some (Modelled (Disk disk))
   pub fresh : DiskStandsFor disk []
   pub plan_is : disk.plan ≡ plan
   pub sectors_are : disk.sectors ≡ sectors
@@ -64,7 +64,7 @@ pub record IsLeftAlone (n : ℕ) (steps : List Step) : Type 0 where
 
 -- A world came from a new one by any run. Then the disk at port n was plugged in, as connection conn,
 -- and was left alone from there on.
-pub record DiskRun (config : Config) (units : List Unit) (n : ℕ) (now : Places) : Type 0 where
+pub record DiskRun (config : Config) (units : List Attached) (n : ℕ) (now : Places) : Type 0 where
   pub first : List Step
   pub told : List Answer
   pub out : Places
@@ -75,7 +75,7 @@ pub record DiskRun (config : Config) (units : List Unit) (n : ℕ) (now : Places
   pub run : Run out (step.Came n ∷ steps) (answer.Came n conn ∷ answers) now
   pub left : IsLeftAlone n steps
 
-module _ (config : Config) (units : List Unit) (n : ℕ) (now : Places)
+module _ (config : Config) (units : List Attached) (n : ℕ) (now : Places)
     (d : DiskRun config units n now) where
   -- what happened to the disk since the world was made, on all its connections
   abbrev pub disk_history : List Happening
@@ -124,7 +124,7 @@ module _ (config : Config) (units : List Unit) (n : ℕ) (now : Places)
 
 -- Each queued request that the report says is done ended honestly, since it was submitted in this
 -- run; and if it says that a FLUSH is done, the disk took one since it was submitted.
-pub record TookHonestly (config : Config) (units : List Unit) (n sectors : ℕ) (now : Places)
+pub record TookHonestly (config : Config) (units : List Attached) (n sectors : ℕ) (now : Places)
     (d : DiskRun config units n now) (report : TakeReport) (new : Places) : Type 0 where
   pub done : (s : ℕ) (e : Entry) → s < 30 → entry_at now.host.driver.entries s ≡ Some e
       → is_queued e.head.work ≡ true → has_bit report.done s ≡ true
@@ -137,7 +137,7 @@ pub record TookHonestly (config : Config) (units : List Unit) (n sectors : ℕ) 
 -- do.
 abbrev pub HonestDisks : Type 0
 HonestDisks =
-    (config : Config) (units : List Unit) (n sectors : ℕ) (plan : DiskPlan)
+    (config : Config) (units : List Attached) (n sectors : ℕ) (plan : DiskPlan)
     → is_config config (length units) ≡ true → n < 15 → IsNewDisk units n plan sectors
     → (now : Places) (d : DiskRun config units n now)
     → (s : Step) (port conn number : ℕ) (bytes : List ℕ) (report : TakeReport) (new : Places)

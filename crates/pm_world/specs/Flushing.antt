@@ -9,13 +9,13 @@ use Rattle.std.specs.Prelude.{slice_index, refl, IsSomeAnd, Some}
 use Rattle.host_memory.specs.Memory.{client_start}
 use Rattle.host_memory.specs.Place.{place}
 use Rattle.disk_model.specs.declared.plan.DiskPlan.{DiskPlan}
-use Rattle.disk_model.specs.declared.unit.Unit.{Unit}
 use Rattle.disk_model.specs.Last.{NoneCovers}
 use Rattle.disk_model.specs.Ledger.{ledger}
 use Rattle.hba_driver.specs.declared.request.Completion.{Completion}
 use Rattle.hba_driver.specs.declared.request.Work.TheVariants.{Flush, Write}
 use Rattle.hba_driver.specs.Orders.{is_queued}
 use Rattle.hba_driver.specs.Submits.{new_entry}
+use Rattle.pm_world.specs.Attached.{Attached}
 use Rattle.pm_world.specs.Disks.{DiskRun, FlushedSince, IsNewDisk, disk_history}
 use Rattle.pm_world.specs.InOrder.{IsLeftSince, disk_run}
 use Rattle.pm_world.specs.Places.{Places, is_config, new_world}
@@ -33,7 +33,7 @@ use Rattle.pm_world.specs.declared.step.Answer.TheVariants as answer
 -- was left alone from its plugging as the connection of the report of the write up to that report. So at the
 -- report of the FLUSH each byte of the write that no later write has is on the medium of the disk: it is the
 -- one that client memory had at its place as the write was submitted.
-abbrev pub HasWrites : (config : Config) (units : List Unit) (steps : List Step) (answers : List Answer)
+abbrev pub HasWrites : (config : Config) (units : List Attached) (steps : List Step) (answers : List Answer)
     (now : Places)
     (run : Run (new_world config units) steps answers now) (flushed : Completion)
     → (last : IsPolledHonestly config units now steps answers run flushed) → (sectors : ℕ) (plan : DiskPlan)
@@ -64,7 +64,7 @@ HasWrites config units steps answers now run flushed last sectors plan f =
 -- submitted, and all writes that were polled as Done before it was submitted are on its medium.
 abbrev pub FlushesFollowWrites : Type 0
 FlushesFollowWrites =
-    (config : Config) (units : List Unit) → is_config config (length units) ≡ true
+    (config : Config) (units : List Attached) → is_config config (length units) ≡ true
     → (steps : List Step) (answers : List Answer) (now : Places)
     (run : Run (new_world config units) steps answers now) (flushed : Completion)
     (last : IsPolledHonestly config units now steps answers run flushed)

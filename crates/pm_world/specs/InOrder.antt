@@ -8,12 +8,12 @@ use Rattle.std.specs.Prelude.{ℕ, ◌≡◌, ◌+◌, ◌-◌, ◌*◌, ◌<◌
 use Rattle.host_memory.specs.Memory.{client_start}
 use Rattle.host_memory.specs.Place.{place}
 use Rattle.disk_model.specs.declared.plan.DiskPlan.{DiskPlan}
-use Rattle.disk_model.specs.declared.unit.Unit.{Unit}
 use Rattle.disk_model.specs.Last.{NoneCovers}
 use Rattle.hba_driver.specs.declared.request.Completion.{Completion}
 use Rattle.hba_driver.specs.declared.request.Work.TheVariants.{Read, Write}
 use Rattle.hba_driver.specs.Orders.{is_queued}
 use Rattle.hba_driver.specs.Submits.{new_entry}
+use Rattle.pm_world.specs.Attached.{Attached}
 use Rattle.pm_world.specs.Disks.{DiskRun, IsLeftAlone, IsNewDisk}
 use Rattle.pm_world.specs.Places.{Places, is_config, new_world}
 use Rattle.pm_world.specs.Polled.{IsPolledHonestly}
@@ -34,7 +34,7 @@ pub record IsLeftSince (n conn : ℕ) (old new : Places) (steps : List Step) (an
   pub left : IsLeftAlone n came.after
 
 -- such a run is one of its disk
-abbrev pub disk_run : (config : Config) (units : List Unit) (n conn : ℕ) (now : Places) (steps : List Step)
+abbrev pub disk_run : (config : Config) (units : List Attached) (n conn : ℕ) (now : Places) (steps : List Step)
     → (answers : List Answer) → (run : Run (new_world config units) steps answers now)
     → IsLeftSince n conn (new_world config units) now steps answers run → DiskRun config units n now
 disk_run config units n conn now steps answers run since = record {
@@ -56,7 +56,7 @@ disk_run config units n conn now steps answers run since = record {
 -- it had at the write's place when the write was submitted.
 abbrev pub ReadsFollowWrites : Type 0
 ReadsFollowWrites =
-    (config : Config) (units : List Unit) → is_config config (length units) ≡ true
+    (config : Config) (units : List Attached) → is_config config (length units) ≡ true
     → (steps : List Step) (answers : List Answer) (now : Places)
     (run : Run (new_world config units) steps answers now) (written read : Completion)
     (poll : IsStepOf step.Poll (answer.Polled written) (new_world config units) now steps answers run)

@@ -6,7 +6,7 @@ use Rattle.std.specs.Prelude.{ℕ, ◌≡◌, ◌<◌, ◌==◌, if◌then◌els
 use Rattle.std.specs.Prelude.{true, List, [], ◌∷◌, ◌++◌, length}
 use Rattle.std.specs.Prelude.{drop}
 use Rattle.fis_view.specs.Frames.{Stamped}
-use Rattle.disk_model.specs.declared.unit.Unit.{Unit}
+use Rattle.pm_world.specs.Attached.{Attached}
 use Rattle.pm_world.specs.Cleared.{is_cleared}
 use Rattle.pm_world.specs.Downward.{fell_to}
 use Rattle.pm_world.specs.Places.{Places, is_config, new_world}
@@ -62,7 +62,7 @@ EachKeeps old (s ∷ steps) (a ∷ answers) new run =
 -- over every run from a new world
 abbrev pub PortsKeep : Type 0
 PortsKeep =
-    (config : Config) (units : List Unit) → is_config config (length units) ≡ true
+    (config : Config) (units : List Attached) → is_config config (length units) ≡ true
     → (steps : List Step) (answers : List Answer) (new : Places)
     (run : Run (new_world config units) steps answers new)
     → EachKeeps (new_world config units) steps answers new run

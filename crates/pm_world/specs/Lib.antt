@@ -1,3 +1,5 @@
+pub mod Attached
+pub mod AnyDevices
 pub mod Places
 pub mod Hops
 pub mod Rules

@@ -9,7 +9,6 @@ use Rattle.fis_view.specs.Seen.{seen}
 use Rattle.fis_view.specs.declared.view.Fis.{Fis}
 use Rattle.fis_view.specs.declared.view.Fis.TheVariants as view
 use Rattle.fis_view.specs.declared.view.FisFault.{FisFault}
-use Rattle.disk_model.specs.declared.unit.Unit.{Unit}
 use Rattle.pm_control.specs.Requests.{request_in}
 use Rattle.pm_control.specs.declared.request.Request.TheVariants.{Reset, EndReset}
 use Rattle.multiplier.specs.Arbiter.{control_port}
@@ -18,6 +17,7 @@ use Rattle.hba_driver.specs.Slot31.{Asks, IsAnswer31, IsAt31, IsNotice31, IsSign
 use Rattle.hba_driver.specs.Slot31.{Resets, Signs, Stage31}
 use Rattle.hba_driver.specs.Slot31.{orders_clear}
 use Rattle.hba_driver.specs.HostTurns.{Host, Ticks}
+use Rattle.pm_world.specs.Attached.{Attached}
 use Rattle.pm_world.specs.Places.{Places, is_config, new_world}
 use Rattle.pm_world.specs.Rules.{Run}
 use Rattle.pm_world.specs.declared.step.Config.{Config}
@@ -129,6 +129,6 @@ pub record HasLine (now : Places) : Type 0 where
 
 abbrev pub OneOrderAtATime : Type 0
 OneOrderAtATime =
-    (config : Config) (units : List Unit) → is_config config (length units) ≡ true
+    (config : Config) (units : List Attached) → is_config config (length units) ≡ true
     → (steps : List Step) (answers : List Answer) (now : Places)
     → Run (new_world config units) steps answers now → HasLine now

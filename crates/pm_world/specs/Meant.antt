@@ -12,7 +12,6 @@
 use Rattle.std.specs.Prelude.{ℕ, ◌≡◌, ◌<◌, true, false, List, [], ◌∷◌, length, take, None, Some, Ok}
 use Rattle.std.specs.Prelude.{slice_get}
 use Rattle.fis_view.specs.Frames.{Stamped}
-use Rattle.disk_model.specs.declared.unit.Unit.{Unit}
 use Rattle.hba_fbs.specs.declared.report.TakeReport.{TakeReport}
 use Rattle.hba_driver.specs.declared.request.Request.{Request}
 use Rattle.hba_driver.specs.declared.request.Ticket.{Ticket}
@@ -23,6 +22,7 @@ use Rattle.hba_driver.specs.Queued.{IsCommandOf}
 use Rattle.hba_driver.specs.Submits.{new_entry}
 use Rattle.hba_driver.specs.Tended.{IsLiveAt}
 use Rattle.multiplier.specs.State.{falling}
+use Rattle.pm_world.specs.Attached.{Attached}
 use Rattle.pm_world.specs.Downward.{on_down_link, pushed_by}
 use Rattle.pm_world.specs.Places.{Places, is_config, new_world}
 use Rattle.pm_world.specs.Rules.{Rule, Run}
@@ -57,7 +57,7 @@ pub record IsMeant (n conn : ℕ) (frame : Stamped) (old now : Places) (steps : 
 -- command is meant for the connection on which the device takes it.
 abbrev pub CommandsAreMeant : Type 0
 CommandsAreMeant =
-    (config : Config) (units : List Unit) → is_config config (length units) ≡ true
+    (config : Config) (units : List Attached) → is_config config (length units) ≡ true
     → (steps : List Step) (answers : List Answer) (now : Places)
     (run : Run (new_world config units) steps answers now) (n : ℕ) → n < 15
     → (s : Step) (new : Places) → Rule now s (Ok (answer.DiskTook n false)) new
@@ -80,7 +80,7 @@ pub record WasSubmittedFor (n conn : ℕ) (e : Entry) (old now : Places) (steps 
 -- port waits or is issued, that request was submitted for the connection on which the FIS was sent.
 abbrev pub AnswersAreMeant : Type 0
 AnswersAreMeant =
-    (config : Config) (units : List Unit) → is_config config (length units) ≡ true
+    (config : Config) (units : List Attached) → is_config config (length units) ≡ true
     → (steps : List Step) (answers : List Answer) (now : Places)
     (run : Run (new_world config units) steps answers now) (n : ℕ) → n < 15
     → (s : Step) (conn number : ℕ) (bytes : List ℕ) (report : TakeReport) (new : Places)

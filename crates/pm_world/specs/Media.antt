@@ -6,11 +6,11 @@
 -- place and its bytes, and a medium with them, come from `disk_model` (specs/Ledger.antt).
 use Rattle.std.specs.Prelude.{ℕ, ◌≡◌, ◌++◌, true, List, length, slice_get, IsSomeAnd}
 use Rattle.disk_model.specs.declared.plan.DiskPlan.{DiskPlan}
-use Rattle.disk_model.specs.declared.unit.Unit.{Unit}
 use Rattle.disk_model.specs.declared.unit.Unit.TheVariants.{Disk, Scripted}
 use Rattle.disk_model.specs.Fronts.{IsFront}
 use Rattle.disk_model.specs.Histories.{Happening}
 use Rattle.disk_model.specs.Ledger.{Written, ledger, medium_with}
+use Rattle.pm_world.specs.Attached.{Attached, Modelled, Own}
 use Rattle.pm_world.specs.Disks.{IsNewDisk}
 use Rattle.pm_world.specs.Places.{Places, is_config, new_world}
 use Rattle.pm_world.specs.Rules.{Run}
@@ -21,9 +21,10 @@ use Rattle.pm_world.specs.declared.step.Step.{Step}
 use Rattle.pm_world.specs.declared.step.Answer.{Answer}
 
 -- the unit is a disk, and its medium is a new one with the bytes of these writes put in
-abbrev pub HasMedium : (sectors : ℕ) → List Written → Unit → Type 0
-HasMedium sectors writes (Disk disk) = disk.now.medium ≡ medium_with sectors writes
-HasMedium sectors writes (Scripted reading) = ⊥
+abbrev pub HasMedium : (sectors : ℕ) → List Written → Attached → Type 0
+HasMedium sectors writes (Modelled (Disk disk)) = disk.now.medium ≡ medium_with sectors writes
+HasMedium sectors writes (Modelled (Scripted reading)) = ⊥
+HasMedium sectors writes Own = ⊥
 
 -- that holds for the unit at port n of a world, by all writes that ended in its history
 abbrev pub ShowsWrites : (n sectors : ℕ) → List Happening → Places → Type 0
@@ -39,7 +40,7 @@ pub record ChangesByWrites (n sectors : ℕ) (before later : List Happening) (wa
 
 abbrev pub MediaAreOfWrites : Type 0
 MediaAreOfWrites =
-    (config : Config) (units : List Unit) (n sectors : ℕ) (plan : DiskPlan)
+    (config : Config) (units : List Attached) (n sectors : ℕ) (plan : DiskPlan)
     → is_config config (length units) ≡ true → IsNewDisk units n plan sectors
     → (first : List Step) (told : List Answer) (was : Places)
     (made : Run (new_world config units) first told was) (steps : List Step) (answers : List Answer)

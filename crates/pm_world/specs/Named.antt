@@ -4,12 +4,12 @@
 -- Cited: runs of a world and their steps (specs/Rules.antt, Runs.antt). A request that the log names,
 -- as a tick finds it, comes from `hba_driver` (specs/Faults.antt).
 use Rattle.std.specs.Prelude.{ℕ, ◌≡◌, false, true, List, length, Some, Ok}
-use Rattle.disk_model.specs.declared.unit.Unit.{Unit}
 use Rattle.hba_driver.specs.declared.request.Outcome.TheVariants.{DeviceError}
 use Rattle.hba_driver.specs.declared.request.Completion.{Completion}
 use Rattle.hba_driver.specs.Drivers.{Entry, entry_at, has_ended}
 use Rattle.hba_driver.specs.Faults.{IsNamedBy}
 use Rattle.hba_driver.specs.HostTurns.{sight_in}
+use Rattle.pm_world.specs.Attached.{Attached}
 use Rattle.pm_world.specs.Places.{Places, is_config, new_world}
 use Rattle.pm_world.specs.Rules.{Rule, Run}
 use Rattle.pm_world.specs.Runs.{IsStepOf}
@@ -35,7 +35,7 @@ pub record IsNamedIn (ticket slot status error : ℕ) (old now : Places) (steps 
 -- That holds for each poll that answers DeviceError, after every run from a new world.
 abbrev pub PolledErrorsAreNamed : Type 0
 PolledErrorsAreNamed =
-    (config : Config) (units : List Unit) → is_config config (length units) ≡ true
+    (config : Config) (units : List Attached) → is_config config (length units) ≡ true
     → (steps : List Step) (answers : List Answer) (now : Places)
     (run : Run (new_world config units) steps answers now) (completion : Completion) (new : Places)
     (status error : ℕ) → Rule now step.Poll (Ok (answer.Polled completion)) new

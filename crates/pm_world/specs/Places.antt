@@ -6,7 +6,6 @@ use Rattle.fis_view.specs.Frames.{Stamped}
 use Rattle.fis_view.specs.declared.frame.Stamp.{Stamp}
 use Rattle.multiplier.specs.Arbiter.{control_port}
 use Rattle.multiplier.specs.State.{PmState, opening as opening_multiplier, port_at}
-use Rattle.disk_model.specs.declared.unit.Unit.{Unit}
 use Rattle.host_memory.specs.Memory.{zeroed}
 use Rattle.hba_fbs.specs.Views.{opening_port}
 use Rattle.hba_driver.specs.declared.mode.Mode.{Mode}
@@ -14,6 +13,7 @@ use Rattle.hba_driver.specs.declared.mode.Mode.TheVariants.{Switching}
 use Rattle.hba_driver.specs.Drivers.{new_driver_in}
 use Rattle.hba_driver.specs.HostTurns.{Host}
 use Rattle.pm_ports.specs.Port.{PortState}
+use Rattle.pm_world.specs.Attached.{Attached}
 use Rattle.pm_world.specs.declared.link.Change.{Change}
 use Rattle.pm_world.specs.declared.step.Config.{Config}
 
@@ -55,7 +55,7 @@ FirstIsRead old (Some change) new =
 -- The place of a device: the unit, whether it is plugged in, its connection (0 before the first),
 -- the number of its next FIS on it, its links from and to the multiplier, and its presence link.
 pub record Place : Type 0 where
-  pub unit : Unit
+  pub unit : Attached
   pub plugged : Bool
   pub conn : ℕ
   pub number : ℕ
@@ -109,7 +109,7 @@ pub record IsTold (frame : Stamped) (port conn number : ℕ) (bytes : List ℕ) 
   pub bytes_are : frame.bytes ≡ bytes
 
 -- the place after these bytes were sent from it, the unit being as given
-abbrev pub after_sending : ℕ → Place → List ℕ → Unit → Place
+abbrev pub after_sending : ℕ → Place → List ℕ → Attached → Place
 after_sending port place bytes unit = record place {
   unit = unit;
   number = place.number + 1;
@@ -135,7 +135,7 @@ abbrev pub empty_queue : ℕ → Queue
 empty_queue capacity = record { frames = []; capacity = capacity }
 
 -- the place of a unit in a new world
-abbrev pub opening : ℕ → Unit → Place
+abbrev pub opening : ℕ → Attached → Place
 opening capacity unit = record {
   unit = unit;
   plugged = false;
@@ -157,7 +157,7 @@ abbrev pub opening_host : ℕ → Host
 opening_host memory = opening_host_in Switching memory
 
 -- a new world of these units, in which port 0 is served first
-abbrev pub new_world_in : Mode → Config → List Unit → Places
+abbrev pub new_world_in : Mode → Config → List Attached → Places
 new_world_in mode config units = record {
   devices = map (opening config.capacity) units;
   multiplier = opening_multiplier config.ports;
@@ -167,7 +167,7 @@ new_world_in mode config units = record {
 }
 
 -- the same with FIS-based switching
-abbrev pub new_world : Config → List Unit → Places
+abbrev pub new_world : Config → List Attached → Places
 new_world config units = new_world_in Switching config units
 
 -- Whether a world may have this size, with this many units: 1 to 15 ports and a unit for each, links

@@ -15,7 +15,6 @@ use Rattle.slots.specs.Slots.{has_bit}
 use Rattle.hba_fbs.specs.declared.report.TakeReport.{TakeReport}
 use Rattle.hba_fbs.specs.Taking.{port_of}
 use Rattle.disk_model.specs.declared.plan.DiskPlan.{DiskPlan}
-use Rattle.disk_model.specs.declared.unit.Unit.{Unit}
 use Rattle.hba_laws.specs.Client.{Touches, own}
 use Rattle.hba_laws.specs.History.{filled}
 use Rattle.hba_driver.specs.declared.request.Completion.{Completion}
@@ -27,6 +26,7 @@ use Rattle.hba_driver.specs.declared.slot.Phase.TheVariants.{Issued}
 use Rattle.hba_driver.specs.Drivers.{entry_at, rephased}
 use Rattle.hba_driver.specs.Orders.{is_queued}
 use Rattle.hba_driver.specs.Submits.{new_entry}
+use Rattle.pm_world.specs.Attached.{Attached}
 use Rattle.pm_world.specs.Places.{Places, is_config, new_world}
 use Rattle.pm_world.specs.Rules.{Rule, Run}
 use Rattle.pm_world.specs.Runs.{IsStepOf, Telling, over}
@@ -81,7 +81,7 @@ pub record IsFilledAt (dev slot i : ℕ) (prds : List Prd) (touches : Touches) (
 -- request ended honestly since it was submitted in that run, whatever errors the disk reported and
 -- whatever faults the host found. What the disk does after the report, up to the poll, does not
 -- matter, and what other devices do never does.
-pub record IsPolledHonestly (config : Config) (units : List Unit) (now : Places) (steps : List Step)
+pub record IsPolledHonestly (config : Config) (units : List Attached) (now : Places) (steps : List Step)
     (answers : List Answer) (run : Run (new_world config units) steps answers now)
     (completion : Completion) : Type 0 where
   pub reported : IsReportedIn completion.ticket completion.slot (new_world config units) now steps
@@ -113,7 +113,7 @@ pub record IsPolledHonestly (config : Config) (units : List Unit) (now : Places)
 -- That holds for each poll that answers Done, after every run from a new world.
 abbrev pub HonestPolls : Type 0
 HonestPolls =
-    (config : Config) (units : List Unit) → is_config config (length units) ≡ true
+    (config : Config) (units : List Attached) → is_config config (length units) ≡ true
     → (steps : List Step) (answers : List Answer) (now : Places)
     (run : Run (new_world config units) steps answers now) (completion : Completion) (new : Places)
     → Rule now step.Poll (Ok (answer.Polled completion)) new → completion.outcome ≡ Done

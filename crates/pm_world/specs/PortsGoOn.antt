@@ -3,9 +3,9 @@
 -- error types; Serial ATA 3.x, 16.2, control port). What stops a host port is cited from `hba_driver`
 -- (specs/Going.antt).
 use Rattle.std.specs.Prelude.{ℕ, ◌≡◌, true, List, length, Ok}
-use Rattle.disk_model.specs.declared.unit.Unit.{Unit}
 use Rattle.hba_fbs.specs.declared.report.TakeReport.{TakeReport}
 use Rattle.hba_driver.specs.Going.{GoesOn, IsOfControl}
+use Rattle.pm_world.specs.Attached.{Attached}
 use Rattle.pm_world.specs.Places.{Places, is_config, new_world}
 use Rattle.pm_world.specs.Rules.{Rule, Run}
 use Rattle.pm_world.specs.declared.step.Config.{Config}
@@ -23,6 +23,6 @@ pub record PortGoesOn (now : Places) : Type 0 where
 -- that holds in each world to which a run from a new one leads
 abbrev pub PortsGoOn : Type 0
 PortsGoOn =
-    (config : Config) (units : List Unit) → is_config config (length units) ≡ true
+    (config : Config) (units : List Attached) → is_config config (length units) ≡ true
     → (steps : List Step) (answers : List Answer) (now : Places)
     → Run (new_world config units) steps answers now → PortGoesOn now

@@ -10,7 +10,6 @@ use Rattle.std.specs.Prelude.{IsSomeAnd, Option, Some}
 use Rattle.host_memory.specs.Memory.{Memory, client_start}
 use Rattle.host_memory.specs.Place.{place}
 use Rattle.disk_model.specs.declared.plan.DiskPlan.{DiskPlan}
-use Rattle.disk_model.specs.declared.unit.Unit.{Unit}
 use Rattle.disk_model.specs.declared.unit.Unit.TheVariants.{Disk, Scripted}
 use Rattle.disk_model.specs.Histories.{Happening}
 use Rattle.disk_model.specs.Last.{NoneCovers}
@@ -20,6 +19,7 @@ use Rattle.hba_laws.specs.Client.{own}
 use Rattle.hba_laws.specs.History.{filled}
 use Rattle.hba_driver.specs.declared.request.Work.TheVariants.{Read, Write}
 use Rattle.hba_driver.specs.Drivers.{Entry}
+use Rattle.pm_world.specs.Attached.{Attached, Modelled, Own}
 use Rattle.pm_world.specs.Disks.{DiskRun, EndedSince, IsNewDisk, disk_history}
 use Rattle.pm_world.specs.Places.{Places, is_config}
 use Rattle.pm_world.specs.Rules.{Run}
@@ -45,7 +45,7 @@ pub record IsOneByte (read write : Entry) (i j : ℕ) : Type 0 where
 -- read's place what went over for the write.
 abbrev pub ReadsBringWrites : Type 0
 ReadsBringWrites =
-    (config : Config) (units : List Unit) (n sectors : ℕ) (plan : DiskPlan)
+    (config : Config) (units : List Attached) (n sectors : ℕ) (plan : DiskPlan)
     → is_config config (length units) ≡ true → n < 15 → IsNewDisk units n plan sectors
     → (was now : Places) (d : DiskRun config units n was) (f : DiskRun config units n now) (s t : ℕ)
     (write read : Entry)
@@ -62,7 +62,7 @@ ReadsBringWrites =
 -- is there, except those that later writes have.
 abbrev pub WritesStayThere : Type 0
 WritesStayThere =
-    (config : Config) (units : List Unit) (n sectors : ℕ) (plan : DiskPlan)
+    (config : Config) (units : List Attached) (n sectors : ℕ) (plan : DiskPlan)
     → IsNewDisk units n plan sectors
     → (was : Places) (d : DiskRun config units n was) (s : ℕ) (write : Entry) (m : Memory)
     (writes : write.head.work ≡ Write)
@@ -74,15 +74,16 @@ WritesStayThere =
     → slice_get (moment plan sectors history).medium (512 * write.head.lba + j) ≡ filled s (own n w.touches) j
 
 -- the unit is a disk, and byte i of its medium is this one
-abbrev pub Shows : (i : ℕ) → (byte : Option ℕ) → Unit → Type 0
-Shows i byte (Disk disk) = slice_get disk.now.medium i ≡ byte
-Shows i byte (Scripted reading) = ⊥
+abbrev pub Shows : (i : ℕ) → (byte : Option ℕ) → Attached → Type 0
+Shows i byte (Modelled (Disk disk)) = slice_get disk.now.medium i ≡ byte
+Shows i byte (Modelled (Scripted reading)) = ⊥
+Shows i byte Own = ⊥
 
 -- That holds in each world to which steps lead from there: the disk at that port has the bytes of the
 -- write on its medium, except those that later writes have.
 abbrev pub DisksHaveWrites : Type 0
 DisksHaveWrites =
-    (config : Config) (units : List Unit) (n sectors : ℕ) (plan : DiskPlan)
+    (config : Config) (units : List Attached) (n sectors : ℕ) (plan : DiskPlan)
     → is_config config (length units) ≡ true → IsNewDisk units n plan sectors
     → (was : Places) (d : DiskRun config units n was) (s : ℕ) (write : Entry) (m : Memory)
     (writes : write.head.work ≡ Write)

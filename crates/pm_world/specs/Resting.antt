@@ -6,8 +6,8 @@
 -- for an order that clears it (specs/Stale.antt).
 use Rattle.std.specs.Prelude.{ℕ, ◌≡◌, ◌<◌, true, false, List, length}
 use Rattle.std.specs.List.{list_any}
-use Rattle.disk_model.specs.declared.unit.Unit.{Unit}
 use Rattle.hba_driver.specs.Steady.{IsFlushTick}
+use Rattle.pm_world.specs.Attached.{Attached}
 use Rattle.pm_world.specs.Places.{Places, is_config, new_world}
 use Rattle.pm_world.specs.Rules.{Run}
 use Rattle.pm_world.specs.declared.step.Config.{Config}
@@ -34,7 +34,7 @@ RestsAtFlush n old a = Prim.Unit {0}
 -- that holds in each step of every run from a new world
 abbrev pub PortsRest : Type 0
 PortsRest =
-    (config : Config) (units : List Unit) → is_config config (length units) ≡ true
+    (config : Config) (units : List Attached) → is_config config (length units) ≡ true
     → (steps : List Step) (answers : List Answer) (new : Places)
     (run : Run (new_world config units) steps answers new) (n : ℕ) → n < 15
     → AtEach (RestsAtFlush n) (new_world config units) steps answers new run

@@ -13,7 +13,6 @@ use Rattle.std.specs.declared.alloc.AllocError.{AllocError}
 use Rattle.fis_view.specs.Frames.{Stamped, is_frame}
 use Rattle.host_memory.specs.Memory.{client_start}
 use Rattle.disk_model.specs.Histories.{Plugged, Received}
-use Rattle.disk_model.specs.Units.{UnitGoesOn, UnitSends, UnitIsSilent, UnitWantsRoom}
 use Rattle.pm_ports.specs.Port.{came_refusal as port_came_refusal}
 use Rattle.pm_ports.specs.Port.{gone_refusal as port_gone_refusal}
 use Rattle.pm_ports.specs.declared.port.Offered.{Offered}
@@ -29,6 +28,7 @@ use Rattle.hba_driver.specs.Requests.{in_use}
 use Rattle.hba_driver.specs.Submits.{completion_of, end_of, submit_refusal}
 use Rattle.hba_driver.specs.Ticks.{acts}
 use Rattle.hba_driver.specs.declared.request.Request.{Request}
+use Rattle.pm_world.specs.Attached.{GoesOnAttached, SendsAttached, IsSilentAttached, WantsRoom, PlugWantsRoom}
 use Rattle.pm_world.specs.Places.{Places, Place, Queue, IsFull, AreFull, IsTold, pushed, posted}
 use Rattle.pm_world.specs.Places.{after_sending, with_device, with_multiplier, with_upward}
 use Rattle.pm_world.specs.Places.{with_downward, with_host}
@@ -63,7 +63,7 @@ came_refusal place =
 abbrev pub CameActs : ℕ → Place → Answer → Place → Type 0
 CameActs port old answer.Blocked new = AreFull old.presence × (new ≡ old)
 CameActs port old (answer.Came p conn) new =
-    (p ≡ port) × (conn ≡ old.conn + 1) × UnitGoesOn old.unit Plugged new.unit
+    (p ≡ port) × (conn ≡ old.conn + 1) × GoesOnAttached old.unit Plugged new.unit
     × (new ≡ record old {
       unit = new.unit;
       plugged = true;
@@ -79,9 +79,14 @@ abbrev pub TakesNone : StepError → Type 0
 TakesNone error.OutOfMemory = ⊥
 TakesNone _ = Unit {0}
 
+-- a unit takes no memory as it is plugged in, and a device of the caller's own may
+abbrev pub CameWants : Place → StepError → Type 0
+CameWants place error.OutOfMemory = PlugWantsRoom place.unit
+CameWants place _ = Unit {0}
+
 abbrev pub CameRule : ℕ → Place → Outcome → Place → Type 0
 CameRule port old (Ok a) new = (came_refusal old ≡ None) × CameActs port old a new
-CameRule port old (Err e) new = Refuses (came_refusal old) e × TakesNone e × (new ≡ old)
+CameRule port old (Err e) new = Refuses (came_refusal old) e × CameWants old e × (new ≡ old)
 
 -- A device goes. What is on its links stays there.
 abbrev pub gone_refusal : Place → Option StepError
@@ -112,11 +117,11 @@ CanSend place = IsTrue place.plugged × ¬ IsFull place.up
 
 abbrev pub DiskSendActs : ℕ → Place → Answer → Place → Type 0
 DiskSendActs port old answer.Idle new =
-    (IsTrue old.plugged → (¬ IsFull old.up) × UnitIsSilent old.unit) × (new ≡ old)
+    (IsTrue old.plugged → (¬ IsFull old.up) × IsSilentAttached old.unit) × (new ≡ old)
 DiskSendActs port old answer.Blocked new = IsTrue old.plugged × IsFull old.up × (new ≡ old)
 DiskSendActs port old (answer.Sent p conn number bytes) new =
     CanSend old × (p ≡ port) × (conn ≡ old.conn) × (number ≡ old.number)
-    × UnitSends old.unit bytes new.unit
+    × SendsAttached old.unit bytes new.unit
     × (new ≡ after_sending port old bytes new.unit)
 DiskSendActs port old _ new = ⊥
 
@@ -161,7 +166,7 @@ DiskTakeActs port old (answer.DiskTook p dropped) new =
     (p ≡ port) × ((frame : Stamped) × (old.down.frames ≡ frame ∷ new.down.frames)
     × (dropped ≡ not (is_for old frame))
     × MatchBool dropped (new.unit ≡ old.unit)
-    (UnitGoesOn old.unit (Received frame.bytes) new.unit))
+    (GoesOnAttached old.unit (Received frame.bytes) new.unit))
     × (new ≡ record old {
       unit = new.unit;
       down = record old.down { frames = new.down.frames };
@@ -172,7 +177,7 @@ DiskTakeActs port old _ new = ⊥
 abbrev pub TakeWants : Place → StepError → Type 0
 TakeWants place error.OutOfMemory = (frame : Stamped) × (rest : List Stamped)
     × (place.down.frames ≡ frame ∷ rest) × IsTrue (is_for place frame)
-    × UnitWantsRoom place.unit (Received frame.bytes)
+    × WantsRoom place.unit (Received frame.bytes)
 TakeWants place _ = ⊥
 
 abbrev pub DiskTakeRule : ℕ → Place → Outcome → Place → Type 0

@@ -1,7 +1,7 @@
 -- What is said over a whole run, step by step, and of the runs that lead to a world.
 use Rattle.std.specs.Prelude.{◌≡◌, true, List, [], ◌∷◌, ◌++◌, length, Ok}
-use Rattle.disk_model.specs.declared.unit.Unit.{Unit}
 use Rattle.hba_driver.specs.declared.mode.Mode.{Mode}
+use Rattle.pm_world.specs.Attached.{Attached}
 use Rattle.pm_world.specs.Places.{Places, is_config, new_world_in}
 use Rattle.pm_world.specs.Rules.{Rule, Run}
 use Rattle.pm_world.specs.declared.step.Config.{Config}
@@ -32,7 +32,7 @@ AtEach Holds old (s ∷ steps) (a ∷ answers) new run =
 pub record IsReached (now : Places) : Type 0 where
   pub mode : Mode
   pub config : Config
-  pub units : List Unit
+  pub units : List Attached
   pub fits : is_config config (length units) ≡ true
   pub steps : List Step
   pub answers : List Answer
@@ -40,10 +40,10 @@ pub record IsReached (now : Places) : Type 0 where
 
 -- what holds whichever run from a new world leads to here
 abbrev pub AfterEveryRun : (now : Places)
-    → ((mode : Mode) → (config : Config) → (units : List Unit) → (before : List Step) → (told : List Answer)
+    → ((mode : Mode) → (config : Config) → (units : List Attached) → (before : List Step) → (told : List Answer)
     → Run (new_world_in mode config units) before told now → Type 0) → Type 0
 AfterEveryRun now Holds =
-    (mode : Mode) (config : Config) (units : List Unit) → is_config config (length units) ≡ true
+    (mode : Mode) (config : Config) (units : List Attached) → is_config config (length units) ≡ true
     → (before : List Step) (told : List Answer)
     (made : Run (new_world_in mode config units) before told now) → Holds mode config units before told made
 

@@ -6,7 +6,6 @@ use Rattle.std.specs.Prelude.{ℕ, ◌≡◌, ◌<◌, ◌==◌, ◌&&◌, if◌
 use Rattle.std.specs.Prelude.{◌∷◌, length, take, Option, Some, None, slice_get}
 use Rattle.std.specs.List.{list_any}
 use Rattle.fis_view.specs.Frames.{Stamped}
-use Rattle.disk_model.specs.declared.unit.Unit.{Unit}
 use Rattle.hba_driver.specs.HostTurns.{sight_in}
 use Rattle.hba_driver.specs.Known.{is_identity, is_request}
 use Rattle.hba_driver.specs.Laws.{flushes}
@@ -17,6 +16,7 @@ use Rattle.multiplier.specs.State.{pm_port}
 use Rattle.pm_registers.specs.Bits.{shares}
 use Rattle.pm_registers.specs.Port.{bit_x, is_open}
 use Rattle.pm_registers.specs.RegisterMap as map
+use Rattle.pm_world.specs.Attached.{Attached}
 use Rattle.pm_world.specs.Cleared.{clears_x}
 use Rattle.pm_world.specs.Downward.{on_down_link, pushed_by}
 use Rattle.pm_world.specs.Places.{Place, Places, is_config, new_world}
@@ -128,7 +128,7 @@ InOrder n unsent old (s ∷ steps) (a ∷ answers) new run =
 -- if the host keeps to that, over a run from a new world, no command is stale
 abbrev pub OrderedIsNotStale : Type 0
 OrderedIsNotStale =
-    (config : Config) (units : List Unit) → is_config config (length units) ≡ true
+    (config : Config) (units : List Attached) → is_config config (length units) ≡ true
     → (steps : List Step) (answers : List Answer) (new : Places)
     (run : Run (new_world config units) steps answers new) (n : ℕ) → n < 15
     → InOrder n false (new_world config units) steps answers new run
@@ -137,7 +137,7 @@ OrderedIsNotStale =
 -- no command is stale, over any run from a new world
 abbrev pub NoneIsStale : Type 0
 NoneIsStale =
-    (config : Config) (units : List Unit) → is_config config (length units) ≡ true
+    (config : Config) (units : List Attached) → is_config config (length units) ≡ true
     → (steps : List Step) (answers : List Answer) (new : Places)
     (run : Run (new_world config units) steps answers new) (n : ℕ) → n < 15
     → NoneStale n None (new_world config units) steps answers new run

@@ -10,7 +10,6 @@ use Rattle.host_memory.specs.Memory.{Memory, client_start}
 use Rattle.host_memory.specs.Place.{LiesInClient, place}
 use Rattle.host_memory.specs.declared.table.Prd.{Prd}
 use Rattle.disk_model.specs.declared.plan.DiskPlan.{DiskPlan}
-use Rattle.disk_model.specs.declared.unit.Unit.{Unit}
 use Rattle.disk_model.specs.Last.{NoneCovers}
 use Rattle.hba_laws.specs.Client.{Touches, own}
 use Rattle.hba_laws.specs.History.{filled}
@@ -21,6 +20,7 @@ use Rattle.hba_driver.specs.Drivers.{Entry}
 use Rattle.hba_driver.specs.HostTurns.{HostTurn}
 use Rattle.hba_driver.specs.Orders.{is_queued}
 use Rattle.hba_driver.specs.Submits.{new_entry}
+use Rattle.pm_world.specs.Attached.{Attached}
 use Rattle.pm_world.specs.Places.{Places, is_config, new_world}
 use Rattle.pm_world.specs.Rules.{Run}
 use Rattle.pm_world.specs.declared.step.Config.{Config}
@@ -44,7 +44,7 @@ pub record StandsThere (byte : ℕ) (prds : List Prd) (memory : Memory) (i : ℕ
 -- when the write was submitted, whatever devices send, and whatever is put and submitted in between.
 abbrev pub SentAsSubmitted : Type 0
 SentAsSubmitted =
-    (config : Config) (units : List Unit) → is_config config (length units) ≡ true
+    (config : Config) (units : List Attached) → is_config config (length units) ≡ true
     → (steps : List Step) (answers : List Answer) (now : Places)
     (run : Run (new_world config units) steps answers now) (ticket : Ticket) (slot : ℕ)
     (r : IsReportedIn ticket slot (new_world config units) now steps answers run)
@@ -60,7 +60,7 @@ SentAsSubmitted =
 -- memory at its places when it was submitted.
 abbrev pub WrittenAsSubmitted : Type 0
 WrittenAsSubmitted =
-    (config : Config) (units : List Unit) → is_config config (length units) ≡ true
+    (config : Config) (units : List Attached) → is_config config (length units) ≡ true
     → (steps : List Step) (answers : List Answer) (now : Places)
     (run : Run (new_world config units) steps answers now) (completion : Completion)
     (polled : IsPolledHonestly config units now steps answers run completion)
@@ -80,7 +80,7 @@ WrittenAsSubmitted =
 -- memory has at the read's place what it had at the write's place when the write was submitted.
 abbrev pub ReadsBringSubmitted : Type 0
 ReadsBringSubmitted =
-    (config : Config) (units : List Unit) → is_config config (length units) ≡ true
+    (config : Config) (units : List Attached) → is_config config (length units) ≡ true
     → (steps : List Step) (answers : List Answer) (was : Places)
     (run : Run (new_world config units) steps answers was) (completion : Completion)
     (polled : IsPolledHonestly config units was steps answers run completion)

@@ -3,8 +3,8 @@
 use Rattle.std.specs.Prelude.{ℕ, ◌≡◌, ◌==◌, if◌then◌else◌, false, List, [], ◌∷◌, ◌++◌, Some, None}
 use Rattle.std.specs.Prelude.{map, take, slice_get, IsSomeAnd, MatchOption}
 use Rattle.disk_model.specs.Histories.{Happening, Received, Sent, Plugged, Plan}
-use Rattle.disk_model.specs.Units.{plan_of, StandsFor, MaySend}
-use Rattle.disk_model.specs.declared.unit.Unit.{Unit}
+use Rattle.disk_model.specs.Units.{MaySend}
+use Rattle.pm_world.specs.Attached.{Attached, plan_of, StandsFor}
 use Rattle.pm_world.specs.Downward.{on_down_link}
 use Rattle.pm_world.specs.Places.{Places}
 use Rattle.pm_world.specs.Rules.{Run}
@@ -36,7 +36,7 @@ MaySendAll plan history (Plugged ∷ later) = MaySendAll plan (history ++ Plugge
 
 -- The unit lived on through these events. Its plan is the same. It stands at the end for each history
 -- that it stood for, with these events added. What it sent in them it was allowed to send.
-pub record LivesOn (old : Unit) (events : List Happening) (new : Unit) : Type 0 where
+pub record LivesOn (old : Attached) (events : List Happening) (new : Attached) : Type 0 where
   pub plan : plan_of new ≡ plan_of old
   pub stands_for : (history : List Happening) → StandsFor old history
       → StandsFor new (history ++ events)
@@ -56,7 +56,7 @@ UnitsLiveOn old steps answers new run =
 abbrev pub UnitsLivedOn : (old : Places) → (steps : List Step) → (answers : List Answer)
     → (new : Places) → Run old steps answers new → Type 0
 UnitsLivedOn old steps answers new run = AfterEveryRun old (λ mode config units before told made.
-    (n : ℕ) (unit : Unit) → slice_get units n ≡ Some unit
+    (n : ℕ) (unit : Attached) → slice_get units n ≡ Some unit
     → IsSomeAnd (slice_get new.devices n) (λ now.
     LivesOn unit (over (happens n) _ before told old made
     ++ over (happens n) old steps answers new run) now.unit))

@@ -9,6 +9,7 @@
 #![tactic(auto)]
 
 mod counts;
+mod device;
 mod hop;
 mod host;
 mod link;
@@ -20,6 +21,7 @@ mod theorems;
 mod world;
 
 pub use counts::{ConnCount, Counts};
+pub use device::{AnyDevice, PortDevice};
 pub use hop::Hop;
 pub use step::{Answer, Config, Step, StepError, WorldError};
 pub use theorems::{

@@ -11,13 +11,13 @@ ghost use Rattle.pm_world.specs.Traffic.{transit};
 ghost use Rattle.pm_world.specs.declared.step.Answer.{Answer};
 ghost use Rattle.pm_world.specs.declared.step.Step.TheVariants as step;
 
+use crate::device::PortDevice;
 use crate::hop::Hop;
 use crate::host::Host;
 use crate::link::Link;
 use crate::passing;
 use crate::seat::Seat;
 use crate::step::{Answer, Config, Step, StepError, WorldError};
-use disk_model::Unit;
 use fis_view::{Bytes, Frame};
 use hba_driver::{Mode, Request};
 use hba_fbs::{HostPort, TakeReport};
@@ -29,15 +29,15 @@ use std::marker::Model;
 /// Devices, a port multiplier and a host, and what each step makes of them. A world is a machine that
 /// began new.
 #[derive(Drop)]
-pub struct Machine {
-    seats: Vec<Seat>,
+pub struct Machine<D: PortDevice + Drop> {
+    seats: Vec<Seat<D>>,
     multiplier: Multiplier,
     upward: Link,
     downward: Link,
     host: Host,
 }
 
-impl Model for Machine {
+impl<D: PortDevice + Drop> Model for Machine<D> {
     ghost use Rattle.std.specs.Prelude.{◌≡◌, length};
     ghost use Rattle.pm_world.specs.Places.{IsOrderly, Places};
 
@@ -60,15 +60,10 @@ impl Model for Machine {
     }) × (length w.seats.items ≡ w.multiplier.registers.ports) };
 }
 
-impl Machine {
+impl<D: PortDevice + Drop> Machine<D> {
     /// A machine of these units, none of them plugged, with a host in this mode.
-    pub fn new(
-        alloc: Global,
-        mode: Mode,
-        config: Config,
-        units: Vec<Unit>,
-    ) -> Result<Self, WorldError>
-        ensures ok { IfOk result (λ world. world ≡ new_world_in mode config units.items) }
+    pub fn new(alloc: Global, mode: Mode, config: Config, units: Vec<D>) -> Result<Self, WorldError>
+        ensures ok { IfOk result (λ world. world ≡ new_world_in mode config (map D.seen units.items)) }
         ensures nothing_stands { IfOk result (λ world. (n c : ℕ) → transit n c world ≡ []) }
         ensures nothing_falls { IfOk result (λ world. (n : ℕ) → falling_to n world ≡ []) }
         ensures bad_config { let fits = is_config config (length units.items) in
@@ -407,8 +402,8 @@ impl Machine {
     }
 
     /// The unit at port `n`, if there is such a port.
-    pub fn unit(&self, n: u8) -> Option<&Unit>
-        ensures { option_copied result ≡ option_map (λ place. place.unit) (slice_get self.now.devices n) }
+    pub fn unit(&self, n: u8) -> Option<&D>
+        ensures { option_map D.seen (option_copied result) ≡ option_map (λ place. place.unit) (slice_get self.now.devices n) }
     {
         match self.seats.get(n as usize) {
             None => None,
@@ -430,8 +425,12 @@ fn is_config(config: Config, units: usize) -> bool
 }
 
 /// A seat for each unit.
-fn seats_of(alloc: Global, capacity: usize, mut units: Vec<Unit>) -> Result<Vec<Seat>, AllocError>
-    ensures { IfOk result (λ seats. seats.items ≡ map (opening capacity) units.items) }
+fn seats_of<D: PortDevice + Drop>(
+    alloc: Global,
+    capacity: usize,
+    mut units: Vec<D>,
+) -> Result<Vec<Seat<D>>, AllocError>
+    ensures { IfOk result (λ seats. seats.items ≡ map (opening capacity) (map D.seen units.items)) }
 {
     let mut seats = Vec::with_capacity(alloc, units.len())?;
     'left: while !units.is_empty() {

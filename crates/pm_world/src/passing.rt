@@ -4,6 +4,7 @@ ghost use Rattle.std.specs.Prelude.{◌≡◌, ◌<◌, Ok};
 ghost use Rattle.pm_world.specs.Rules.{PmDownRule, PmFromDeviceRule, PmFromHostRule, PmPresenceRule, PmUpRule};
 ghost use Rattle.multiplier.specs.Rules.{KeepsPorts};
 
+use crate::device::PortDevice;
 use crate::link::{Change, Link};
 use crate::seat::Seat;
 use crate::step::{Answer, StepError};
@@ -13,7 +14,7 @@ use std::alloc::Global;
 
 /// Port `n` records the first change on its presence link: a connection that came, or one that went.
 /// A change that the port refuses changes nothing.
-pub fn record(n: u8, seat: &mut Seat, pm: &mut Multiplier) -> Answer
+pub fn record<D: PortDevice + Drop>(n: u8, seat: &mut Seat<D>, pm: &mut Multiplier) -> Answer
     requires { n < pm.old.registers.ports }
     ensures rule { PmPresenceRule n seat.old pm.old (Ok result) seat.new pm.new }
     ensures ports { pm.new.registers.ports ≡ pm.old.registers.ports }
@@ -33,7 +34,7 @@ pub fn record(n: u8, seat: &mut Seat, pm: &mut Multiplier) -> Answer
 
 /// Moves the first frame of a device's link into the hold of port `n`, or drops it if its connection
 /// is gone.
-pub fn pass_up(n: u8, seat: &mut Seat, pm: &mut Multiplier) -> Answer
+pub fn pass_up<D: PortDevice + Drop>(n: u8, seat: &mut Seat<D>, pm: &mut Multiplier) -> Answer
     requires { n < pm.old.registers.ports }
     ensures rule { PmFromDeviceRule n seat.old pm.old (Ok result) seat.new pm.new }
     ensures ports { KeepsPorts pm.old pm.new }
@@ -57,7 +58,7 @@ pub fn pass_up(n: u8, seat: &mut Seat, pm: &mut Multiplier) -> Answer
 }
 
 /// Moves the frame that waits for the device at port `n` onto the device's link.
-pub fn pass_down(n: u8, seat: &mut Seat, pm: &mut Multiplier) -> Answer
+pub fn pass_down<D: PortDevice + Drop>(n: u8, seat: &mut Seat<D>, pm: &mut Multiplier) -> Answer
     requires { n < pm.old.registers.ports }
     ensures rule { PmDownRule n seat.old pm.old (Ok result) seat.new pm.new }
     ensures ports { KeepsPorts pm.old pm.new }

@@ -4,18 +4,18 @@ ghost use Rattle.pm_world.specs.Places.{FirstIsRead, FirstLeaves, IsFull, openin
 ghost use Rattle.pm_world.specs.Rules.{CameRule, DiskSendRule, DiskTakeRule, GoneRule, InjectRule, is_for};
 ghost use Rattle.pm_world.specs.Rules.{came_refusal, gone_refusal, send_refusal, inject_refusal};
 
+use crate::device::PortDevice;
 use crate::link::{Change, Link, PresenceLink};
 use crate::step::{Answer, StepError};
-use disk_model::{Device, Unit};
 use fis_view::{Bytes, Frame, FrameError, Stamp, is_frame_length};
 use std::alloc::{AllocError, Global};
 use std::marker::Model;
 
-/// The place of a device: the unit, its connection, its links to the multiplier and from it, and the
+/// The place of a device: the device, its connection, its links to the multiplier and from it, and the
 /// presence link. On the presence link, connections that came or went wait to be recorded.
 #[derive(Drop)]
-pub struct Seat {
-    unit: Unit,
+pub struct Seat<D: PortDevice + Drop> {
+    unit: D,
     plugged: bool,
     conn: u32,
     number: u32,
@@ -24,13 +24,13 @@ pub struct Seat {
     presence: PresenceLink,
 }
 
-impl Model for Seat {
+impl<D: PortDevice + Drop> Model for Seat<D> {
     ghost use Rattle.pm_world.specs.Places.{Place};
 
     ghost Value = { Place };
 
     ghost view = { λ s. record {
-      unit = s.unit;
+      unit = D.seen s.unit;
       plugged = s.plugged;
       conn = s.conn;
       number = s.number;
@@ -40,10 +40,10 @@ impl Model for Seat {
     } };
 }
 
-impl Seat {
+impl<D: PortDevice + Drop> Seat<D> {
     /// The place of a unit that is not plugged in, with links of this capacity.
-    pub fn new(alloc: Global, capacity: usize, unit: Unit) -> Result<Self, AllocError>
-        ensures { IfOk result (λ seat. seat ≡ opening capacity unit) }
+    pub fn new(alloc: Global, capacity: usize, unit: D) -> Result<Self, AllocError>
+        ensures { IfOk result (λ seat. seat ≡ opening capacity (D.seen unit)) }
     {
         Ok(Seat {
             unit,
@@ -71,8 +71,8 @@ impl Seat {
     }
 
     /// The unit.
-    pub fn unit(&self) -> &Unit
-        ensures { result.now ≡ self.now.unit }
+    pub fn unit(&self) -> &D
+        ensures { D.seen result.now ≡ self.now.unit }
     {
         &self.unit
     }
@@ -126,7 +126,7 @@ impl Seat {
         if self.presence.is_full() {
             return Ok(Answer::Blocked);
         }
-        self.unit.plugged(alloc)?;
+        self.unit.plug(alloc)?;
         self.plugged = true;
         self.conn += 1;
         self.number = 0;
@@ -170,7 +170,7 @@ impl Seat {
         }
         let mut bytes = Vec::with_capacity(alloc, 8196)?;
         let stamp = self.stamp(port);
-        match self.unit.next_out(alloc, stamp)? {
+        match self.unit.send(alloc, stamp)? {
             None => Ok(Answer::Idle),
             Some(frame) => {
                 copy_into(&mut bytes, frame.bytes());
@@ -218,7 +218,7 @@ impl Seat {
             return Ok(Answer::Idle);
         };
         let dropped = !self.is_for(&frame);
-        if !dropped && self.unit.on_frame(alloc, &frame).is_err() {
+        if !dropped && self.unit.hear(alloc, &frame).is_err() {
             self.down.put_back(frame);
             return Err(StepError::OutOfMemory);
         }

@@ -1,5 +1,5 @@
 ghost use Rattle.std.specs.Prelude.{◌≡◌, ◌↔◌, ℕ, false, List, [], ◌∷◌};
-ghost use Rattle.std.specs.Prelude.{IfErr, IfOk, OnErr, OnOk, length, take, drop, slice_get};
+ghost use Rattle.std.specs.Prelude.{IfErr, IfOk, OnErr, OnOk, length, map, take, drop, slice_get};
 ghost use Rattle.std.specs.Prelude.{option_copied, option_map};
 ghost use Rattle.circular_buffer.specs.Buffer.{last_item};
 ghost use Rattle.pm_world.specs.Laws.{AreLawful};
@@ -11,6 +11,7 @@ ghost use Rattle.pm_world.specs.Runs.{IsReached};
 ghost use Rattle.pm_world.specs.Traffic.{transit};
 ghost use Rattle.pm_world.specs.declared.step.Answer.{Answer};
 
+use crate::device::PortDevice;
 use crate::hop::Hop;
 use crate::machine::Machine;
 use crate::step::{Answer, Config, Step, StepError, WorldError};
@@ -25,11 +26,11 @@ use std::marker::Model;
 
 /// Devices, a port multiplier and a host, as steps from a new world have made them.
 #[derive(Drop)]
-pub struct World {
-    machine: Machine,
+pub struct World<D: PortDevice + Drop = Unit> {
+    machine: Machine<D>,
 }
 
-impl Model for World {
+impl<D: PortDevice + Drop> Model for World<D> {
     ghost use Rattle.pm_world.specs.Places.{Places};
     ghost use Rattle.pm_world.specs.Runs.{IsReached};
 
@@ -40,10 +41,10 @@ impl Model for World {
     ghost invariant = { λ w. IsReached w.machine };
 }
 
-impl World {
+impl<D: PortDevice + Drop> World<D> {
     /// A world of these units, none of them plugged.
-    pub fn new(alloc: Global, config: Config, units: Vec<Unit>) -> Result<Self, WorldError>
-        ensures ok { IfOk result (λ world. world ≡ new_world config units.items) }
+    pub fn new(alloc: Global, config: Config, units: Vec<D>) -> Result<Self, WorldError>
+        ensures ok { IfOk result (λ world. world ≡ new_world config (map D.seen units.items)) }
         ensures nothing_stands { IfOk result (λ world. (n c : ℕ) → transit n c world ≡ []) }
         ensures nothing_falls { IfOk result (λ world. (n : ℕ) → falling_to n world ≡ []) }
         ensures bad_config { let fits = is_config config (length units.items) in
@@ -57,9 +58,9 @@ impl World {
         alloc: Global,
         mode: Mode,
         config: Config,
-        units: Vec<Unit>,
+        units: Vec<D>,
     ) -> Result<Self, WorldError>
-        ensures ok { IfOk result (λ world. world ≡ new_world_in mode config units.items) }
+        ensures ok { IfOk result (λ world. world ≡ new_world_in mode config (map D.seen units.items)) }
         ensures nothing_stands { IfOk result (λ world. (n c : ℕ) → transit n c world ≡ []) }
         ensures nothing_falls { IfOk result (λ world. (n : ℕ) → falling_to n world ≡ []) }
         ensures bad_config { let fits = is_config config (length units.items) in
@@ -157,8 +158,8 @@ impl World {
     }
 
     /// The unit at port `n`, if there is such a port.
-    pub fn unit(&self, n: u8) -> Option<&Unit>
-        ensures { option_copied result ≡ option_map (λ place. place.unit) (slice_get self.now.devices n) }
+    pub fn unit(&self, n: u8) -> Option<&D>
+        ensures { option_map D.seen (option_copied result) ≡ option_map (λ place. place.unit) (slice_get self.now.devices n) }
     {
         self.machine.unit(n)
     }

@@ -3,6 +3,8 @@
 mod dropping;
 mod found;
 mod going;
+mod liar;
+mod lying;
 mod memory;
 mod reading;
 mod refusals;

@@ -7,7 +7,6 @@ use Rattle.std.proofs.lemmas.Bool.Decides.{nat_tests}
 use Rattle.std.proofs.lemmas.List.Quantifiers.{all_pairs_push}
 use Rattle.std.proofs.lemmas.List.Elements.{All-push}
 use Rattle.std.proofs.lemmas.List.Folds.{find-append}
-use Rattle.disk_model.specs.declared.unit.Unit.{Unit}
 use Rattle.fis_view.specs.Frames.{Stamped}
 use Rattle.pm_world.specs.Counting.{AreSorted, Precedes, is_of, row_of}
 use Rattle.pm_world.specs.declared.counts.ConnCount.{ConnCount}
@@ -139,12 +138,12 @@ module _ (row : ℕ → ConnCount) (n : ℕ) (of_port : (c : ℕ) → (row c).po
 -- ---- the rows of the first ports
 
 -- a row for each connection of the first n ports that came
-pub record UpTo (disks : List (StationState Unit)) (taken : List Stamped) (n : ℕ) (rows : List ConnCount) : Type 0 where
+pub record UpTo {D : Type 0} (disks : List (StationState D)) (taken : List Stamped) (n : ℕ) (rows : List ConnCount) : Type 0 where
   pub sorted : AreSorted rows
   pub under : All (Under n 0) rows
   pub each : (m c : ℕ) → row_of m c rows ≡ (if nat_lt m n && has_come c (told_at disks m) then Some (row_for (given_at disks m) taken m c) else None)
 
-pub up_to_none : (disks : List (StationState Unit)) (taken : List Stamped) (rows : List ConnCount) → rows ≡ [] → UpTo disks taken 0 rows
+pub up_to_none : {D : Type 0} (disks : List (StationState D)) (taken : List Stamped) (rows : List ConnCount) → rows ≡ [] → UpTo disks taken 0 rows
 up_to_none disks taken [] e = record {
   sorted = λ i j d less within. absurd (omega (arith, within));
   under = λ k d less. absurd (omega (arith, less));
@@ -152,13 +151,13 @@ up_to_none disks taken [] e = record {
 }
 up_to_none disks taken (r ∷ rows) e = absurd cc
 
-at_is : {A : Type 0} (part : StationState Unit → List A) (disks : List (StationState Unit)) (n : ℕ) (other : StationState Unit) → n < length disks
+at_is : {D A : Type 0} (part : StationState D → List A) (disks : List (StationState D)) (n : ℕ) (other : StationState D) → n < length disks
     → at_place part disks n ≡ part (get_or disks n other)
 at_is part [] n other lt = absurd (omega (arith, lt))
 at_is part (s ∷ disks) zero other lt = refl
 at_is part (s ∷ disks) (suc n) other lt = at_is part disks n other (omega (arith, lt))
 
-pub at_past : {A : Type 0} (part : StationState Unit → List A) (disks : List (StationState Unit)) (n : ℕ) → length disks ≤ n → at_place part disks n ≡ []
+pub at_past : {D A : Type 0} (part : StationState D → List A) (disks : List (StationState D)) (n : ℕ) → length disks ≤ n → at_place part disks n ≡ []
 at_past part [] n le = refl
 at_past part (s ∷ disks) zero le = absurd (omega (arith, le))
 at_past part (s ∷ disks) (suc n) le = at_past part disks n (omega (arith, le))
@@ -173,7 +172,7 @@ under_next n k r (inl lower) = inl (omega (arith, lower))
 under_next n k r (inr same) = inl (let p = same.0 in omega (arith, p))
 
 -- the rows of one more port
-pub up_to_more : (disks : List (StationState Unit)) (taken : List Stamped) (n : ℕ) (s other : StationState Unit) (rows new : List ConnCount) → n < length disks
+pub up_to_more : {D : Type 0} (disks : List (StationState D)) (taken : List Stamped) (n : ℕ) (s other : StationState D) (rows new : List ConnCount) → n < length disks
     → get_or disks n other ≡ s → CountsAt rows n s taken new → UpTo disks taken n rows → UpTo disks taken (n + 1) new
 up_to_more disks taken n s other rows new lt is counts h =
     let row : ℕ → ConnCount = row_for (all_given s) taken n in
@@ -206,14 +205,14 @@ and_false true = refl
 and_false false = refl
 
 -- no connection came at a port that is not there
-came_of_some : (disks : List (StationState Unit)) (m c : ℕ) → (nat_lt m (length disks) && has_come c (told_at disks m)) ≡ has_come c (told_at disks m)
+came_of_some : {D : Type 0} (disks : List (StationState D)) (m c : ℕ) → (nat_lt m (length disks) && has_come c (told_at disks m)) ≡ has_come c (told_at disks m)
 came_of_some disks m c = elim (cases_lt m (length disks)) [
   | inl lt ↦ rw (lt-ltb m (length disks) lt) refl
   | inr le ↦ let none : told_at disks m ≡ [] = at_past all_told disks m (omega (arith, le)) in rw none (and_false (nat_lt m (length disks)))
 ]
 
 -- the rows of all ports
-pub all_counted : (disks : List (StationState Unit)) (taken : List Stamped) (rows : List ConnCount) → UpTo disks taken (length disks) rows → AreCounted rows disks taken
+pub all_counted : {D : Type 0} (disks : List (StationState D)) (taken : List Stamped) (rows : List ConnCount) → UpTo disks taken (length disks) rows → AreCounted rows disks taken
 all_counted disks taken rows h = record {
   sorted = h.sorted;
   each = λ m c. h.each m c ∙ ap (λ b. if b then Some (row_for (given_at disks m) taken m c) else None) (came_of_some disks m c);

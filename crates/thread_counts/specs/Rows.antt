@@ -1,7 +1,6 @@
 -- The rows of counts of a run in threads.
 use Rattle.std.specs.Prelude.{◌≡◌, ℕ, zero, suc, ◌≤◌, if◌then◌else◌, List, [], ◌∷◌, ◌++◌, length, Some, None}
 use Rattle.std.specs.Option.{ForSome}
-use Rattle.disk_model.specs.declared.unit.Unit.{Unit}
 use Rattle.fis_view.specs.Frames.{Stamped}
 use Rattle.link_items.specs.declared.items.Presence.{Presence}
 use Rattle.multiplier.specs.Orders.{of_connection, of_port}
@@ -10,17 +9,17 @@ use Rattle.pm_world.specs.declared.counts.ConnCount.{ConnCount}
 use Rattle.disk_thread.specs.Runs.{AreTold, StationState, all_given, all_told, has_come}
 
 -- a list of the device at port n; empty if there is no such port
-abbrev pub at_place : {A : Type 0} → (StationState Unit → List A) → List (StationState Unit) → ℕ → List A
+abbrev pub at_place : {D A : Type 0} → (StationState D → List A) → List (StationState D) → ℕ → List A
 at_place part [] n = []
 at_place part (s ∷ disks) zero = part s
 at_place part (s ∷ disks) (suc n) = at_place part disks n
 
 -- what it gave
-abbrev pub given_at : List (StationState Unit) → ℕ → List Stamped
+abbrev pub given_at : {D : Type 0} → List (StationState D) → ℕ → List Stamped
 given_at disks n = at_place all_given disks n
 
 -- the connections that came and went, as they were told
-abbrev pub told_at : List (StationState Unit) → ℕ → List Presence
+abbrev pub told_at : {D : Type 0} → List (StationState D) → ℕ → List Presence
 told_at disks n = at_place all_told disks n
 
 -- the row of connection c of port n, whose device gave these FISes: how many it sent on the
@@ -31,7 +30,7 @@ row_for given taken n c =
 
 -- There is a row for each connection of each port that came and for no other, with what was sent and
 -- taken on it.
-pub record AreCounted (rows : List ConnCount) (disks : List (StationState Unit))
+pub record AreCounted {D : Type 0} (rows : List ConnCount) (disks : List (StationState D))
     (taken : List Stamped) : Type 0 where
   pub sorted : AreSorted rows
   pub each : (n c : ℕ) → row_of n c rows ≡ (if has_come c (told_at disks n)

@@ -6,7 +6,7 @@
 ghost use Rattle.std.specs.Prelude.{◌≤◌, ◌<◌, length, map, IfOk, OnOk};
 ghost use Rattle.thread_counts.specs.Rows.{AreCounted, CountsAt};
 
-use disk_model::{Device, Unit};
+use disk_model::Device;
 use disk_thread::{DiskEnd, Station};
 use host_thread::HostWorker;
 use pm_world::ConnCount;
@@ -36,9 +36,9 @@ fn count_at<'a, D: Device + Drop>(
 
 /// The rows of all devices, sorted by port and connection: device n stands at place n. It refuses only where the
 /// allocator does.
-pub fn counted<'a>(
+pub fn counted<'a, D: Device + Drop>(
     alloc: Global,
-    disks: &[DiskEnd<'a, Unit>],
+    disks: &[DiskEnd<'a, D>],
     host: &HostWorker<'a>,
 ) -> Result<Vec<ConnCount>, AllocError>
     requires { length disks.now ≤ 15 }

@@ -8,25 +8,25 @@ use stock_disk::Dma;
 #[derive(Debug, Drop)]
 pub struct Writes {
     /// By tag.
-    ranges: [Sectors; 32],
+    ranges: [SectorRange; 32],
     tag: u8,
 }
 
 /// Sectors from one number up to another.
 #[derive(Clone, Copy, Debug)]
-struct Sectors {
+struct SectorRange {
     from: u32,
     to: u32,
 }
 
 /// The sectors that a command names, as far as they have numbers.
-fn sectors_of(lba: u64, count: u32) -> Sectors {
+fn range_of(lba: u64, count: u32) -> SectorRange {
     let from = if lba < 0xFFFF_FFFF {
         lba as u32
     } else {
         u32::MAX
     };
-    Sectors {
+    SectorRange {
         from,
         to: from.saturating_add(count),
     }
@@ -44,7 +44,7 @@ impl Writes {
     /// No write was given.
     pub fn new() -> Writes {
         Writes {
-            ranges: [Sectors { from: 0, to: 0 }; 32],
+            ranges: [SectorRange { from: 0, to: 0 }; 32],
             tag: 0,
         }
     }
@@ -59,7 +59,7 @@ impl Writes {
         if let Ok(Fis::RegH2D(fis)) = frame.fis() {
             if fis.c() && fis.command() == 0x61 {
                 let tag = usize::from(fis.count() % 256 / 8);
-                self.ranges[tag % 32] = sectors_of(fis.lba(), count_of(&fis));
+                self.ranges[tag % 32] = range_of(fis.lba(), count_of(&fis));
             }
         }
     }
@@ -79,10 +79,10 @@ impl Writes {
 
     /// The sectors whose data come, while the disk does this DMA command, or a queued one.
     pub fn moving(&self, serving: Option<Dma>) -> Range<u32> {
-        let sectors = match serving {
-            Some(dma) => sectors_of(dma.lba, dma.count),
+        let range = match serving {
+            Some(dma) => range_of(dma.lba, dma.count),
             None => self.ranges[usize::from(self.tag % 32)],
         };
-        sectors.from..sectors.to
+        range.from..range.to
     }
 }

@@ -8,6 +8,7 @@ ghost use Rattle.trace_run.specs.Agendas.{is_fitting_entry};
 use crate::opening::{Opening, Sizes};
 use crate::parse::{Common, Entry, Setting, View};
 use crate::turns::Turns;
+use disk_model::Unit;
 use hba_driver::Request;
 use pm_threads::{Planned, Setup};
 use std::alloc::{AllocError, Global};
@@ -149,7 +150,11 @@ impl Agenda {
     }
 
     /// What the run is given, and what is shown after it.
-    pub fn into_setup(self, alloc: Global, turns: Turns) -> Result<(Setup, Vec<View>), AllocError>
+    pub fn into_setup(
+        self,
+        alloc: Global,
+        turns: Turns,
+    ) -> Result<(Setup<Unit>, Vec<View>), AllocError>
         ensures { IfOk result (λ r. is_fitting self.opening.sizes.ports r.0 ≡ true) }
     {
         let Agenda {

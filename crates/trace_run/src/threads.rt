@@ -10,6 +10,7 @@ use crate::opening::Sizes;
 use crate::parse::View;
 use crate::text::{Reply, print_view};
 use crate::turns::Turns;
+use disk_model::Unit;
 use pm_threads::{
     CloseError, Finished, Gate, GateShut, Links, LinksError, RunError, RunFailure, Setup, Summary,
     close, run_threads,
@@ -82,8 +83,8 @@ fn summary_of<R: Threads + Wait + Sync>(
     rt: &R,
     alloc: Global,
     sizes: Sizes,
-    setup: Setup,
-) -> Result<Option<Summary>, Failure>
+    setup: Setup<Unit>,
+) -> Result<Option<Summary<Unit>>, Failure>
     requires { is_fitting sizes.ports setup ≡ true }
 {
     let mut links = links_of(alloc, sizes)?;
@@ -106,8 +107,8 @@ fn summary_over<R: Threads + Wait + Sync>(
     rt: &R,
     alloc: Global,
     links: &mut Links,
-    setup: Setup,
-) -> Result<Option<Summary>, Failure>
+    setup: Setup<Unit>,
+) -> Result<Option<Summary<Unit>>, Failure>
     requires { can_run links.old setup ≡ true }
 {
     match run_threads(rt, alloc, links, setup, &Open) {
@@ -120,8 +121,8 @@ fn summary_over<R: Threads + Wait + Sync>(
 fn closed<R: Threads + Wait + Sync>(
     rt: &R,
     alloc: Global,
-    finished: Finished<'_>,
-) -> Result<Option<Summary>, Failure> {
+    finished: Finished<'_, Unit>,
+) -> Result<Option<Summary<Unit>>, Failure> {
     match close(rt, alloc, finished) {
         Ok(summary) => Ok(Some(summary)),
         Err(CloseError::OutOfMemory) => Err(Failure::OutOfMemory),
@@ -129,14 +130,14 @@ fn closed<R: Threads + Wait + Sync>(
 }
 
 /// Why a run has not finished. What is left of it is dropped here.
-fn why(failure: RunFailure<'_>) -> RunError
+fn why(failure: RunFailure<'_, Unit>) -> RunError
     ensures { result ≡ failure.entry.error }
 {
     failure.error
 }
 
 /// What comes of a run that has not finished.
-fn unfinished(error: RunError) -> Result<Option<Summary>, Failure>
+fn unfinished(error: RunError) -> Result<Option<Summary<Unit>>, Failure>
     requires setup { error ≢ RunError.BadSetup }
     requires gate { error ≢ RunError.GateShut }
 {
@@ -152,7 +153,7 @@ fn write_summary<W: Write>(
     alloc: Global,
     sizes: Sizes,
     views: &[View],
-    summary: &Summary,
+    summary: &Summary<Unit>,
     out: &mut W,
 ) -> Result<(), Failure> {
     writeln!(out, "{}", Reply::World(sizes))?;

@@ -1,6 +1,7 @@
 //! Runs of disks: their requests end, and bytes come back.
 
 use super::setups::{planned, ran, setup};
+use disk_model::Unit;
 use disk_thread::{Gate, GateShut};
 use hba_driver::{Outcome, Work};
 use host_thread::Planned;
@@ -42,11 +43,10 @@ fn puts(alloc: Global) -> Result<Vec<(u32, Vec<u8>)>, Fail> {
     Ok(puts)
 }
 
-/// Device 0 writes a sector and then reads it back. Each other device reads one.
-pub fn reading(alloc: Global, count: u8) -> Result<Setup, Fail> {
+/// Of this many devices, device 0 writes a sector and then reads it back. Each other device reads one.
+pub fn reading_of<D: Drop>(alloc: Global, given: Setup<D>, count: u8) -> Result<Setup<D>, Fail> {
     let plan = requests(alloc, count)?;
     let puts = puts(alloc)?;
-    let given = setup(alloc, count)?;
     Ok(Setup {
         puts,
         plan,
@@ -54,8 +54,14 @@ pub fn reading(alloc: Global, count: u8) -> Result<Setup, Fail> {
     })
 }
 
+/// The same of this many disks.
+pub fn reading(alloc: Global, count: u8) -> Result<Setup<Unit>, Fail> {
+    let given = setup(alloc, count)?;
+    reading_of(alloc, given, count)
+}
+
 /// Whether all are done, and the bytes have come back.
-fn is_done(summary: &Summary) -> bool {
+pub fn is_done<D>(summary: &Summary<D>) -> bool {
     let at = (BACK - 0x10_0000) as usize;
     summary
         .results
@@ -110,7 +116,7 @@ fn enter<R: Threads + Wait + Sync>(
     rt: &R,
     alloc: Global,
     links: &mut Links,
-    (count, setup): (u8, Setup),
+    (count, setup): (u8, Setup<Unit>),
 ) -> Result<bool, Fail> {
     let gate = AllEnter::new(alloc, count)?;
     let summary = ran(rt, alloc, links, setup, &gate)?;

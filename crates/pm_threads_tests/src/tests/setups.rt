@@ -1,6 +1,6 @@
 //! Setups, and what becomes of them.
 
-use disk_model::{Disk, DiskPlan, Unit};
+use disk_model::{Device, Disk, DiskPlan, Unit};
 use disk_thread::{Gate, GateShut};
 use hba_driver::{Request, Work};
 use host_memory::Prd;
@@ -52,26 +52,31 @@ fn disks(alloc: Global, count: u8) -> Result<Vec<Unit>, Fail> {
     Ok(units)
 }
 
-/// This many disks and no request.
-pub fn setup(alloc: Global, count: u8) -> Result<Setup, Fail> {
-    Ok(Setup {
-        units: disks(alloc, count)?,
+/// These devices and no request.
+pub fn setup_of<D>(alloc: Global, units: Vec<D>) -> Setup<D> {
+    Setup {
+        units,
         memory: 0x20_0000,
         puts: Vec::new(alloc),
         plan: Vec::new(alloc),
         pulls: Vec::new(alloc),
         turns: MAX_TURNS,
-    })
+    }
+}
+
+/// This many disks and no request.
+pub fn setup(alloc: Global, count: u8) -> Result<Setup<Unit>, Fail> {
+    Ok(setup_of(alloc, disks(alloc, count)?))
 }
 
 /// What comes of a run on links of this capacity.
-pub fn ran<R: Threads + Wait + Sync, G: Gate + Sync>(
+pub fn ran<D: Device + Drop + Send, R: Threads + Wait + Sync, G: Gate + Sync>(
     rt: &R,
     alloc: Global,
     links: &mut Links,
-    setup: Setup,
+    setup: Setup<D>,
     gate: &G,
-) -> Result<Summary, RunError> {
+) -> Result<Summary<D>, RunError> {
     let finished = run_threads(rt, alloc, links, setup, gate)?;
     close(rt, alloc, finished).map_err(|error| match error {
         CloseError::OutOfMemory => RunError::OutOfMemory,

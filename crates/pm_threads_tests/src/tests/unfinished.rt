@@ -14,7 +14,7 @@ use std::test::Fail;
 use std::thread::Threads;
 
 /// A disk at port 0, and at port 1 a script that sends nothing, so a read of device 1 is never taken.
-fn stuck(alloc: Global) -> Result<Setup, Fail> {
+fn stuck(alloc: Global) -> Result<Setup<Unit>, Fail> {
     let mut given = reading(alloc, 2)?;
     let Some(unit) = given.units.get_mut(1) else {
         return Err("no unit at port 1".into());
@@ -25,7 +25,7 @@ fn stuck(alloc: Global) -> Result<Setup, Fail> {
 }
 
 /// What is left of a run that ended by this error.
-fn left_by(failure: RunFailure<'_>, error: RunError) -> Result<Unfinished<'_>, Fail> {
+fn left_by(failure: RunFailure<'_, Unit>, error: RunError) -> Result<Unfinished<'_, Unit>, Fail> {
     if failure.error != error {
         return Err("another error".into());
     }
@@ -36,9 +36,9 @@ fn left_by(failure: RunFailure<'_>, error: RunError) -> Result<Unfinished<'_>, F
 fn partial_by<R: Wait>(
     rt: &R,
     alloc: Global,
-    failure: RunFailure<'_>,
+    failure: RunFailure<'_, Unit>,
     error: RunError,
-) -> Result<PartialSummary, Fail> {
+) -> Result<PartialSummary<Unit>, Fail> {
     Ok(close_unfinished(rt, alloc, left_by(failure, error)?)?)
 }
 
@@ -47,9 +47,9 @@ fn partial<R: Threads + Wait + Sync>(
     rt: &R,
     alloc: Global,
     links: &mut Links,
-    setup: Setup,
+    setup: Setup<Unit>,
     (door, error): (Door, RunError),
-) -> Result<PartialSummary, Fail> {
+) -> Result<PartialSummary<Unit>, Fail> {
     match run_threads(rt, alloc, links, setup, &door) {
         Ok(_) => Err("it finished".into()),
         Err(failure) => partial_by(rt, alloc, failure, error),
@@ -66,7 +66,7 @@ fn is_written(units: &[Unit]) -> bool {
 
 /// In the order of the plan: the write of device 0, the read of device 1, and behind a barrier the read of
 /// device 0.
-fn are_in_order(partial: &PartialSummary) -> bool {
+fn are_in_order(partial: &PartialSummary<Unit>) -> bool {
     let done = State::Ended(Ended::Polled(Outcome::Done));
     let want = [done, State::Waits, State::Waits];
     partial.states.as_slice() == want.as_slice()
@@ -74,7 +74,7 @@ fn are_in_order(partial: &PartialSummary) -> bool {
         && partial.plan.get(2).is_some_and(|third| third.wait)
 }
 
-fn are_fewer(partial: &PartialSummary) -> bool {
+fn are_fewer(partial: &PartialSummary<Unit>) -> bool {
     partial.counts.iter().all(|row| row.taken <= row.sent)
 }
 
@@ -108,7 +108,7 @@ fn leaves_nothing<R: Threads + Wait + Sync>(
     rt: &R,
     alloc: Global,
     links: &mut Links,
-    setup: Setup,
+    setup: Setup<Unit>,
 ) -> bool {
     match run_threads(rt, alloc, links, setup, &Door { open: true }) {
         Ok(_) => false,

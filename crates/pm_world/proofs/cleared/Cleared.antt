@@ -25,7 +25,7 @@ use Rattle.multiplier.specs.State.{PmState, passes_to, pm_port, port_at}
 use Rattle.multiplier.specs.declared.multiplier.Passed.{Passed}
 use Rattle.multiplier.specs.declared.multiplier.Passed.TheVariants as passed
 use Rattle.multiplier.proofs.Door.{Answer as Answers, at, FromPort, Gives, gives, kept_part, Notice, other_port}
-use Rattle.disk_model.specs.declared.unit.Unit.{Unit}
+use Rattle.pm_world.specs.Attached.{Attached}
 use Rattle.pm_world.specs.Cleared.{EachWaits, NewDevicesWait, PassesNone, clears_x, is_cleared, is_up_from}
 use Rattle.pm_world.specs.Downward.{fell_to}
 use Rattle.pm_world.specs.Places.{IsOrderly, Place, Places, Queue, new_world, new_world_in}
@@ -486,7 +486,7 @@ each_waits old (s ∷ steps) (a ∷ answers) new run orderly room shows =
     )
 
 -- the ports of a new multiplier are closed
-pub opening_shows : (config : Config) (units : List Unit) (n : ℕ) → Shows n (new_world config units).multiplier.registers
+pub opening_shows : (config : Config) (units : List Attached) (n : ℕ) → Shows n (new_world config units).multiplier.registers
 opening_shows config units n = all_closed 15 n
   where
     all_closed : (count n : ℕ) → ShowsTruly (get_or (replicate count opening_port) n opening_port)

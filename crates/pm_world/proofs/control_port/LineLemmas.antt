@@ -5,7 +5,6 @@ use Rattle.std.proofs.lemmas.Bool.{cases_Bool, cases_eq, eq-eqb, eqb-true, eqb-f
 use Rattle.fis_view.specs.Frames.{Stamped}
 use Rattle.fis_view.specs.Seen.{seen}
 use Rattle.fis_view.specs.declared.view.Fis.TheVariants as view
-use Rattle.disk_model.specs.declared.unit.Unit.{Unit}
 use Rattle.hba_fbs.specs.declared.report.TakeReport.{TakeReport}
 use Rattle.hba_fbs.specs.Taking.{port_of}
 use Rattle.pm_ports.specs.Port.{came_refusal, gone_refusal}
@@ -23,6 +22,7 @@ use Rattle.hba_driver.specs.declared.request.Request.{Request as Asked}
 use Rattle.hba_driver.specs.Slot31.{Asks, Follows31, IsAt31, IsNext31, IsNotice31, MayBe31, MayCome31, Pushes31, Resets, Rests, Signs, Stage31, TakesOn, TicksOn, Turns31, Waits, is_quiet, orders_clear}
 use Rattle.hba_driver.proofs.Door.{AreOfTheir, begins_srst, control_in31, ends_srst, going_opens, going_turn, IsGoing}
 use Rattle.hba_driver.proofs.Door.{none_issued, opens31, turn31, turn_addressed, turn_their}
+use Rattle.pm_world.specs.Attached.{Attached}
 use Rattle.pm_world.specs.Places.{IsOrderly, Place, Places, Queue, is_config, new_world, with_host}
 use Rattle.pm_world.specs.Rules.{CameRule, DiskSendRule, DiskTakeRule, GoneRule, HostPushRule, HostTakeRule, InjectRule, OnDevice, OnDeviceAndMultiplier, Outcome, PmDownRule, PmFromDeviceRule, PmFromHostRule, PmPresenceRule, PmUpRule, PollRule, PutRule, Rule, Run, SubmitRule, TickRule, recorded}
 use Rattle.pm_world.specs.declared.link.Change.{Change}
@@ -477,7 +477,7 @@ run_now old (s ∷ steps) (a ∷ answers) new now run = run_now run.0 steps answ
 run_now old [] (a ∷ answers) new now run = absurd run
 run_now old (s ∷ steps) [] new now run = absurd run
 
-pub opening_now : (units : List Unit) (config : Config) → is_config config (length units) ≡ true → IsNow (new_world config units)
+pub opening_now : (units : List Attached) (config : Config) → is_config config (length units) ≡ true → IsNow (new_world config units)
 opening_now units config right = record {
   going = going_opens 0 config.memory (sized config (length units) right);
   their = λ n s c low busy last. none_issued n s c last;

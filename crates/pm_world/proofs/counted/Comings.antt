@@ -7,11 +7,11 @@ use Rattle.std.proofs.lemmas.Bool.{cases_eq, eqb-true, eq-eqb, ne_eqb, false≢t
 use Rattle.std.proofs.lemmas.Option.{same_Some, slice_get_within}
 use Rattle.std.proofs.lemmas.List.{append-nil}
 use Rattle.std.proofs.lemmas.List.Folds.{list_any-append}
-use Rattle.disk_model.specs.declared.unit.Unit.{Unit}
 use Rattle.multiplier.specs.Arbiter.{control_port}
 use Rattle.multiplier.specs.State.{PmState}
 use Rattle.hba_driver.specs.declared.mode.Mode.TheVariants.{Switching}
 use Rattle.hba_driver.specs.HostTurns.{Host}
+use Rattle.pm_world.specs.Attached.{Attached}
 use Rattle.pm_world.specs.Places.{Places, Place, Queue, IsOrderly, opening, new_world}
 use Rattle.pm_world.specs.Rules.{Outcome, CameActs, GoneActs, DiskSendActs, InjectActs, CameRule, GoneRule, DiskSendRule, InjectRule, DiskTakeRule, PmPresenceRule, PmFromDeviceRule, PmDownRule, PmUpRule, HostTakeRule, OnDevice, OnDeviceAndMultiplier, Rule, Run}
 use Rattle.pm_world.specs.Traffic.{sent_by, taken_by, sent, taken}
@@ -288,12 +288,12 @@ run_keeps before old (s ∷ steps) (a ∷ answers) new all run =
 run_keeps before old [] (a ∷ answers) new all run = absurd run
 run_keeps before old (s ∷ steps) [] new all run = absurd run
 
-unplugged : (capacity : ℕ) (units : List Unit) (n : ℕ) (place : Place) → slice_get (map (opening capacity) units) n ≡ Some place → place.plugged ≡ false
+unplugged : (capacity : ℕ) (units : List Attached) (n : ℕ) (place : Place) → slice_get (map (opening capacity) units) n ≡ Some place → place.plugged ≡ false
 unplugged capacity [] n place is = absurd (cc)
 unplugged capacity (u ∷ units) zero place is = ap (λ (p : Place). p.plugged) (sym (same_Some (opening capacity u) place is))
 unplugged capacity (u ∷ units) (suc n) place is = unplugged capacity units n place is
 
-opening_keeps : (config : Config) (units : List Unit) → AllCame [] (new_world config units).devices
+opening_keeps : (config : Config) (units : List Attached) → AllCame [] (new_world config units).devices
 opening_keeps config units = record {
   came = λ m c at. absurd (false≢true (sym (unplugged config.capacity units m at.place at.is) ∙ at.plugged));
   unsent = λ m c none. refl;

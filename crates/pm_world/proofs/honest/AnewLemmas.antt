@@ -12,6 +12,7 @@ use Rattle.hba_driver.proofs.Door.{act_clears, flush_unreset}
 use Rattle.disk_recovery.specs.Flushes.{bare_floors}
 use Rattle.disk_recovery.proofs.Door.{flush_begins, flush_unfaulted, IsUnfaulted, none_issued, since_begins}
 use Rattle.disk_model.proofs.Door.{begins_anew}
+use Rattle.pm_world.specs.Attached.{Attached}
 use Rattle.pm_world.proofs.serving.TouchedLemmas.{touched_served}
 use Rattle.pm_world.specs.PathEnds.{IsAtHost}
 use Rattle.pm_world.proofs.honest.FlushLemmas.{flush_orders}
@@ -26,7 +27,6 @@ use Rattle.std.proofs.lemmas.List.{append-nil}
 use Rattle.fis_view.specs.Frames.{Stamped}
 use Rattle.host_memory.specs.Memory.{is_memory_size}
 use Rattle.disk_model.specs.declared.plan.DiskPlan.{DiskPlan}
-use Rattle.disk_model.specs.declared.unit.Unit.{Unit}
 use Rattle.disk_model.specs.Histories.{Happening, Plugged}
 use Rattle.disk_model.specs.Ledger.{IsSize}
 use Rattle.disk_model.specs.Runs.{IsDiskRun}
@@ -84,13 +84,13 @@ next_bit : (b pushes unsent : Bool) → b ≡ false → (if b then true else if 
 next_bit b pushes unsent none = ap (λ (c : Bool). if c then true else if pushes then false else unsent) none
 
 -- the world is one to which a run from a new one leads
-pub now_at : (config : Config) (units : List Unit) → is_config config (length units) ≡ true → (before : List Step) (told : List Answer) (old : Places)
+pub now_at : (config : Config) (units : List Attached) → is_config config (length units) ≡ true → (before : List Step) (told : List Answer) (old : Places)
     → Run (new_world config units) before told old → IsNow old
 now_at config units fits before told old made = run_now (new_world config units) before told old (opening_now units config fits) made
 
 -- ## A port that is to be cleared
 
-module _ (config : Config) (units : List Unit) (fits : is_config config (length units) ≡ true) (n : ℕ) (below : n < 15) (plan : DiskPlan) (sectors : ℕ)
+module _ (config : Config) (units : List Attached) (fits : is_config config (length units) ≡ true) (n : ℕ) (below : n < 15) (plan : DiskPlan) (sectors : ℕ)
     (size : IsSize plan sectors) (earlier : List Happening) (disk : IsDiskRun plan sectors (earlier ++ Plugged ∷ [])) where
   pub right : is_memory_size config.memory ≡ true
   right = sized config (length units) fits
@@ -324,7 +324,7 @@ module _ (config : Config) (units : List Unit) (fits : is_config config (length 
 
 -- ## A run
 
-module _ (config : Config) (units : List Unit) (fits : is_config config (length units) ≡ true) (n : ℕ) (below : n < 15) (plan : DiskPlan) (sectors : ℕ)
+module _ (config : Config) (units : List Attached) (fits : is_config config (length units) ≡ true) (n : ℕ) (below : n < 15) (plan : DiskPlan) (sectors : ℕ)
     (size : IsSize plan sectors) (earlier : List Happening) (disk : IsDiskRun plan sectors (earlier ++ Plugged ∷ [])) where
   pub record OrderedNow (turns : List HostTurn) (now : Places) : Type 0 where
     pub unsent : Bool

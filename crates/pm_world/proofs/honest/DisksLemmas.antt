@@ -17,7 +17,6 @@ use Rattle.hba_fbs.specs.Views.{last_command, view_of}
 use Rattle.hba_fbs.proofs.Door as slot_lemmas
 use Rattle.disk_model.specs.declared.plan.DiskPlan.{DiskPlan}
 use Rattle.disk_model.specs.declared.request.Command.{Command}
-use Rattle.disk_model.specs.declared.unit.Unit.{Unit}
 use Rattle.disk_model.specs.Chunks.{sectors_at}
 use Rattle.disk_model.specs.Disks.{Moment}
 use Rattle.disk_model.specs.Disks as disks
@@ -25,7 +24,6 @@ use Rattle.disk_model.specs.Histories.{DiskOf, Happening, Plugged, Received, Sen
 use Rattle.disk_model.specs.Ledger.{IsSize, Written, ledger, medium_with}
 use Rattle.disk_model.specs.Runs.{IsDiskRun, moment}
 use Rattle.disk_model.specs.Runs as runs
-use Rattle.disk_model.specs.Units.{StandsFor, plan_of}
 use Rattle.disk_model.proofs.Door.{before_is_front, moment_after-append, writes_stay}
 use Rattle.hba_laws.specs.Agreement.{work_of_issue, work_of_transfer}
 use Rattle.hba_laws.specs.Client.{own}
@@ -46,6 +44,7 @@ use Rattle.disk_simulation.specs.Honest.{IsDoneHonestly, IsOnMedium}
 use Rattle.disk_recovery.specs.Steady.{command_of}
 use Rattle.fis_view.specs.Frames.{marked}
 use Rattle.disk_recovery.proofs.Door.{each_end_is_honest, flushes_are_taken, request_kind, request_pio}
+use Rattle.pm_world.specs.Attached.{Attached, StandsFor, plan_of}
 use Rattle.pm_world.proofs.honest.EndsSteps.{HasEnds, running}
 use Rattle.pm_world.proofs.control_port.LineLemmas.{IsNow}
 use Rattle.pm_world.specs.Units.{LivesOn, MaySendAll}
@@ -86,7 +85,7 @@ may_run plan sectors before (Plugged ∷ later) all = (
       (may_run plan sectors (before ++ Plugged ∷ []) later all),
 )
 
-pub lived_run : (unit : Unit) (events : List Happening) (o : Option Place) → StandsFor unit [] → IsSomeAnd o (λ place. LivesOn unit events place.unit)
+pub lived_run : (unit : Attached) (events : List Happening) (o : Option Place) → StandsFor unit [] → IsSomeAnd o (λ place. LivesOn unit events place.unit)
     → MaySendAll (plan_of unit) [] events
 lived_run unit events None stands lived = absurd lived
 lived_run unit events (Some place) stands lived = lived.sends [] stands

@@ -7,8 +7,8 @@ use Rattle.fis_view.specs.Frames.{Stamped}
 use Rattle.pm_ports.specs.Port.{is_gone}
 use Rattle.multiplier.specs.Arbiter.{control_port}
 use Rattle.multiplier.specs.State.{PmState, port_at}
-use Rattle.disk_model.specs.declared.unit.Unit.{Unit}
 use Rattle.hba_driver.specs.declared.mode.Mode.TheVariants.{Switching}
+use Rattle.pm_world.specs.Attached.{Attached}
 use Rattle.pm_world.specs.Downward.{falling_to}
 use Rattle.pm_world.specs.Places.{Place, Places, is_config, new_world}
 use Rattle.pm_world.specs.Rules.{CameActs, CameRule, Rule, Run}
@@ -56,7 +56,7 @@ pub record ComesShut (n c : ℕ) (new : Places) : Type 0 where
   pub off : IsShutOff n c new []
   pub waits : WaitsFor n c new
 
-pub comes_shut : (n c : ℕ) → n < 15 → (config : Config) (units : List Unit) → is_config config (length units) ≡ true → (first : List Step) (told : List Answer)
+pub comes_shut : (n c : ℕ) → n < 15 → (config : Config) (units : List Attached) → is_config config (length units) ≡ true → (first : List Step) (told : List Answer)
     (out : Places) → Run (new_world config units) first told out → (new : Places) → Rule out (step.Came n) (Ok (answer.Came n c)) new → ComesShut n c new
 comes_shut n c below config units fits first told out made new rule =
     let device : n ≢ control_port = λ e. absurd (omega (arith, e, below)) in

@@ -8,7 +8,6 @@ use Rattle.std.proofs.lemmas.Bool.{cases_Bool, eqb-true, false≢true, or_parts}
 use Rattle.std.proofs.lemmas.List.{append-nil}
 use Rattle.host_memory.specs.Memory.{is_memory_size}
 use Rattle.disk_model.specs.declared.plan.DiskPlan.{DiskPlan}
-use Rattle.disk_model.specs.declared.unit.Unit.{Unit}
 use Rattle.disk_model.specs.Histories.{Happening, Plugged, Sent}
 use Rattle.disk_model.specs.Ledger.{IsSize}
 use Rattle.disk_model.specs.Runs.{IsDiskRun}
@@ -18,6 +17,7 @@ use Rattle.disk_recovery.proofs.Door.{ends_since_go_on, floors_rise_since, floor
 use Rattle.hba_driver.specs.HostTurns.{Host, HostTurn}
 use Rattle.multiplier.specs.State.{port_at}
 use Rattle.pm_registers.specs.RegisterMap as registers
+use Rattle.pm_world.specs.Attached.{Attached}
 use Rattle.pm_world.specs.Disks.{IsLeftAlone}
 use Rattle.pm_world.specs.Cleared.{is_cleared}
 use Rattle.pm_world.specs.Places.{Places, is_config, new_world}
@@ -120,7 +120,7 @@ module _ (n len : ℕ) (below : n < 15) (right : is_memory_size len ≡ true) (p
 
 -- ## A run
 
-module _ (config : Config) (units : List Unit) (fits : is_config config (length units) ≡ true) (n : ℕ) (below : n < 15) (plan : DiskPlan)
+module _ (config : Config) (units : List Attached) (fits : is_config config (length units) ≡ true) (n : ℕ) (below : n < 15) (plan : DiskPlan)
     (sectors : ℕ) (size : IsSize plan sectors) (earlier : List Happening) (first : IsDiskRun plan sectors (earlier ++ Plugged ∷ [])) (within : n < length units)
     (right : is_memory_size config.memory ≡ true) (c : ℕ) where
   pub its_port : (before : List Step) (told : List Answer) (old : Places) → Run (new_world config units) before told old → (s : Step) (a : Answer) (new : Places)

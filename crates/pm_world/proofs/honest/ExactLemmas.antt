@@ -15,9 +15,9 @@ use Rattle.multiplier.specs.State.{PmState, falling, passes_to, pm_port, port_at
 use Rattle.multiplier.specs.declared.multiplier.Passed.{Passed}
 use Rattle.multiplier.specs.declared.multiplier.Passed.TheVariants as passed
 use Rattle.disk_model.specs.Histories.{Happening, Received, Sent}
+use Rattle.pm_world.specs.Attached.{Attached}
 use Rattle.pm_world.specs.Cleared.{is_cleared}
 use Rattle.pm_world.specs.Downward.{falling_to, on_down_link}
-use Rattle.disk_model.specs.declared.unit.Unit.{Unit}
 use Rattle.pm_world.specs.Places.{Place, Places, is_config, new_world}
 use Rattle.pm_world.specs.Rules.{CameRule, DiskSendRule, DiskTakeActs, DiskTakeRule, GoneRule, InjectRule, PmDownRule, PmFromDeviceRule}
 use Rattle.pm_world.specs.Rules.{PmPresenceRule, Rule, Run, is_for}
@@ -463,7 +463,7 @@ open_step n c below unsent old new s a down up rule stays clean o x = (
 
 -- It begins in each world to which a run from a new one leads, if the unit is there and its port is
 -- open to it.
-pub open_at : (config : Config) (units : List Unit) → is_config config (length units) ≡ true → (n c : ℕ) → n < 15 → n < length units
+pub open_at : (config : Config) (units : List Attached) → is_config config (length units) ≡ true → (n c : ℕ) → n < 15 → n < length units
     → (before : List Step) (told : List Answer) (now : Places) → Run (new_world config units) before told now → (unsent : Bool) → Knows n unsent now
     → IsLive n c now → IsThere n c now → IsOpenFor n c unsent now
 open_at config units fits n c below within before told now made unsent knows live there = record {

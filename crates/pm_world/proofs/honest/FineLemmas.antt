@@ -6,7 +6,7 @@ use Rattle.std.proofs.lemmas.Bool.{eq-eqb, true≢false}
 use Rattle.hba_driver.specs.declared.mode.Mode.TheVariants.{Switching}
 use Rattle.hba_driver.specs.Events.{IsSoundHost}
 use Rattle.hba_driver.proofs.Door.{calm_or_flush, hosts_stay_sound}
-use Rattle.disk_model.specs.declared.unit.Unit.{Unit}
+use Rattle.pm_world.specs.Attached.{Attached}
 use Rattle.pm_world.proofs.serving.FirstLemmas.{OpensWell, is_taken_of}
 use Rattle.pm_world.specs.Places.{Places, is_config, new_world}
 use Rattle.pm_world.specs.Rules.{Rule, Run}
@@ -37,7 +37,7 @@ untaken_none n a its untaken = tt
 
 -- ## Runs
 
-module _ (config : Config) (units : List Unit) (fits : is_config config (length units) ≡ true) (n : ℕ) (below : n < 15) where
+module _ (config : Config) (units : List Attached) (fits : is_config config (length units) ≡ true) (n : ℕ) (below : n < 15) where
   pub further : (before : List Step) (told : List Answer) (old : Places) → Run (new_world config units) before told old → (s : Step) (a : Answer) (new : Places)
       → Rule old s (Ok a) new → Run (new_world config units) (before ++ s ∷ []) (told ++ a ∷ []) new
   further before told old made s a new rule =

@@ -15,7 +15,6 @@ use Rattle.pm_registers.specs.Bits.{shares}
 use Rattle.pm_registers.specs.Port.{bit_x}
 use Rattle.multiplier.specs.Arbiter.{control_port}
 use Rattle.multiplier.specs.State.{pm_port, port_at}
-use Rattle.disk_model.specs.declared.unit.Unit.{Unit}
 use Rattle.disk_model.specs.Histories.{Plugged}
 use Rattle.hba_laws.specs.Client.{Touches}
 use Rattle.hba_laws.specs.Delivering.{touches_after}
@@ -26,6 +25,7 @@ use Rattle.hba_driver.specs.Laws.{flushes}
 use Rattle.hba_driver.specs.Steady.{IsFlushTick}
 use Rattle.hba_driver.specs.Ticks.{effects, effects_due}
 use Rattle.disk_recovery.specs.Kept.{ServesOn}
+use Rattle.pm_world.specs.Attached.{Attached}
 use Rattle.pm_world.specs.Runs.{AtEach}
 use Rattle.pm_world.specs.Cleared.{clears_x}
 use Rattle.pm_world.specs.Places.{Place, Places, is_config, new_world}
@@ -75,7 +75,7 @@ unclear_down n (f ∷ frames) none = (
 )
 
 -- no earlier order is on its way down
-orders_taken : (config : Config) (units : List Unit) → is_config config (length units) ≡ true → (first : List Step) (told : List Answer) (mid : Places)
+orders_taken : (config : Config) (units : List Attached) → is_config config (length units) ≡ true → (first : List Step) (told : List Answer) (mid : Places)
     → Run (new_world config units) first told mid → (n : ℕ) (new : Places) → Rule mid step.Tick (Ok answer.Ticked) new → IsFlushTick n mid.host
     → Nothing (is_clear n) mid.downward.frames
 orders_taken config units fits first told mid made n new rule flush =
@@ -118,7 +118,7 @@ to_come n c d now there less = by_place (slice_get now.devices n) refl there
         record { place = place; is = is; less = omega (arith, conn, less) }
 
 -- the port when its unit is flushed
-pub held_at_flush : (n : ℕ) → n < 15 → (config : Config) (units : List Unit) → is_config config (length units) ≡ true → (first : List Step) (told : List Answer)
+pub held_at_flush : (n : ℕ) → n < 15 → (config : Config) (units : List Attached) → is_config config (length units) ≡ true → (first : List Step) (told : List Answer)
     (mid : Places) → Run (new_world config units) first told mid → (new : Places) → Rule mid step.Tick (Ok answer.Ticked) new → IsFlushTick n mid.host
     → IsAtRest n mid → IsHeld n new
 held_at_flush n below config units fits first told mid made new rule flush rest =
@@ -135,7 +135,7 @@ held_at_flush n below config units fits first told mid made new rule flush rest 
     })
 
 -- and if the unit's connection is recorded, nothing of another one is on its way
-pub cut_there : (n c : ℕ) → n < 15 → (config : Config) (units : List Unit) → is_config config (length units) ≡ true → (first : List Step) (told : List Answer)
+pub cut_there : (n c : ℕ) → n < 15 → (config : Config) (units : List Attached) → is_config config (length units) ≡ true → (first : List Step) (told : List Answer)
     (now : Places) → Run (new_world config units) first told now → IsHeld n now → IsThere n c now → (port_at now.multiplier n).present ≡ Some c → IsCut n c now
 cut_there n c below config units fits first told now made held there here = record { held = held; alone = alone }
   where
@@ -215,7 +215,7 @@ ports_rest config units fits steps answers new run n below =
     orders_let_rest n false (new_world config units) steps answers new run (orders_in_order config units fits steps answers new run n below)
 
 -- that holds when a tick after a run from a new world flushes the device
-pub rests_at_flush : (config : Config) (units : List Unit) → is_config config (length units) ≡ true → (n : ℕ) → n < 15 → (first : List Step) (told : List Answer)
+pub rests_at_flush : (config : Config) (units : List Attached) → is_config config (length units) ≡ true → (n : ℕ) → n < 15 → (first : List Step) (told : List Answer)
     (mid : Places) → Run (new_world config units) first told mid → (new : Places) → Rule mid step.Tick (Ok answer.Ticked) new → IsFlushTick n mid.host → IsAtRest n mid
 rests_at_flush config units fits n below first told mid made new rule =
     last_of (RestsAtFlush n) (new_world config units) mid new first told step.Tick answer.Ticked made rule

@@ -1,12 +1,12 @@
 -- For `disks_are_honest`. When a host flushes a device, the port of the device is open to the driver, and not to the
 -- device.
 use Rattle.std.proofs.Common.{◌≡◌, ℕ, ◌<◌, ◌≤◌, Bool, true, List, length, subst, Ok}
-use Rattle.disk_model.specs.declared.unit.Unit.{Unit}
 use Rattle.hba_driver.specs.HostTurns.{Does, Host, Ticked, sight_in}
 use Rattle.hba_driver.specs.Steady.{IsFlushTick}
 use Rattle.hba_driver.specs.Ticks.{done_ended}
 use Rattle.hba_driver.proofs.Door.{not_below, Runs, runs_turn}
 use Rattle.disk_recovery.proofs.Door.{opened_stays}
+use Rattle.pm_world.specs.Attached.{Attached}
 use Rattle.pm_world.specs.Places.{Places, is_config, new_world}
 use Rattle.pm_world.specs.Rules.{Rule, Run}
 use Rattle.pm_world.specs.declared.step.Answer.{Answer}
@@ -26,7 +26,7 @@ opened_at_flush n old acted new does flush =
     opened_stays old (Ticked acted) new does (not_below old.driver.plan.opened 7 runs.0)
 
 -- a unit to which the port is open is not flushed
-pub unflushed : (config : Config) (units : List Unit) → is_config config (length units) ≡ true → (n c : ℕ) → n < 15 → (before : List Step)
+pub unflushed : (config : Config) (units : List Attached) → is_config config (length units) ≡ true → (n c : ℕ) → n < 15 → (before : List Step)
     (told : List Answer) (old : Places) → Run (new_world config units) before told old → IsLive n c old → (s : Step) (a : Answer) (new : Places)
     → Rule old s (Ok a) new → IsUnflushed n old a
 unflushed config units fits n c below before told old made live s answer.Ticked new rule =

@@ -1,10 +1,10 @@
 -- For `disks_are_honest`. A port that is open to a device passes FISes: communication is established there, over each
 -- run from a new world.
-use Rattle.std.proofs.Common.{◌≡◌, ℕ, zero, suc, ◌*◌, ◌^◌, ◌<◌, ◌==◌, ◌&&◌, ◌%◌, Bool, true, false, List, length, replicate, refl, sym, ap}
+use Rattle.std.proofs.Common.{◌≡◌, ℕ, zero, suc, ◌*◌, ◌^◌, ◌<◌, ◌==◌, ◌&&◌, Bool, true, false, List, length, replicate, refl, sym, ap}
 use Rattle.std.proofs.Common.{subst, ◌∙◌, inl, inr}
 use Rattle.std.proofs.Common.{get_or, set, bit_and, bit_or, Option, Some, None, Ok, [], ◌∷◌}
-use Rattle.std.specs.Prelude.{◌⊎◌, if◌then◌else◌, is_some, nat_le, nat_lt}
-use Rattle.std.proofs.lemmas.Bool.{and_from, and_parts, eqb-true, eq-eqb, lt-ltb, true≢false}
+use Rattle.std.specs.Prelude.{◌⊎◌, if◌then◌else◌, is_some, nat_lt}
+use Rattle.std.proofs.lemmas.Bool.{and_from, eq-eqb, lt-ltb, true≢false}
 use Rattle.std.proofs.lemmas.Nat.Bits.{and_pow}
 use Rattle.pm_registers.specs.Bits.{without}
 use Rattle.pm_registers.specs.declared.port.PortRegisters.{PortRegisters}
@@ -17,8 +17,8 @@ use Rattle.pm_control.specs.Answers.{registers_after_request}
 use Rattle.pm_control.specs.Requests.{request_in}
 use Rattle.pm_control.specs.declared.request.Request.{Request}
 use Rattle.pm_control.specs.declared.request.Request.TheVariants.{Read, Write, Unknown}
-use Rattle.disk_model.specs.declared.unit.Unit.{Unit}
 use Rattle.multiplier.specs.State.{PmState, passes_to, port_at}
+use Rattle.pm_world.specs.Attached.{Attached}
 use Rattle.pm_world.specs.Places.{Places, is_config, new_world}
 use Rattle.pm_world.specs.Rules.{Rule, Run}
 use Rattle.pm_world.specs.declared.step.Config.{Config}
@@ -30,6 +30,7 @@ use Rattle.pm_world.proofs.meant.ChangeLemmas.{Change, Falls, Hears, IsBank, Rep
 use Rattle.pm_world.proofs.cleared.Cleared.{set_keeps, write_keeps}
 use Rattle.pm_world.proofs.meant.IdentifiedLemmas.{push_step}
 use Rattle.pm_world.proofs.honest.LiveLemmas.{IsLive, IsOpenTo}
+use Rattle.pm_world.proofs.steps.Orderly.{as_many}
 
 -- ## The registers of a port
 
@@ -177,18 +178,7 @@ run_met n old (s ∷ steps) (a ∷ answers) new run at = run_met n run.0 steps a
 run_met n old [] (a ∷ answers) new run at = absurd run
 run_met n old (s ∷ steps) [] new run at = absurd run
 
--- as many units as ports
-as_many : (config : Config) (units : ℕ) → is_config config units ≡ true → units ≡ config.ports
-as_many config units fits =
-    eqb-true units config.ports
-    (last (nat_le 1 config.ports) (nat_le config.ports 15) (nat_le 1 config.capacity) (nat_le config.capacity 64) (nat_le 2097152 config.memory)
-    (nat_le config.memory 16777216) (config.memory % 2 == 0) (units == config.ports) fits)
-  where
-    last : (a b c d e f g h : Bool) → (a && b && c && d && e && f && g && h) ≡ true → h ≡ true
-    last a b c d e f g true fits = refl
-    last a b c d e f g false fits = (and_parts (a && b && c && d && e && f && g) false fits).1
-
-pub opening_met : (config : Config) (units : List Unit) → is_config config (length units) ≡ true → (n : ℕ) → n < length units
+pub opening_met : (config : Config) (units : List Attached) → is_config config (length units) ≡ true → (n : ℕ) → n < length units
     → IsMet n (new_world config units)
 opening_met config units fits n below = record {
   ports = subst (λ (k : ℕ). n < k) (as_many config (length units) fits) below;
@@ -201,7 +191,7 @@ opening_met config units fits n below = record {
     all_meet (suc count) (suc n) = all_meet count n
 
 -- each world to which a run from a new one leads
-pub met_at : (config : Config) (units : List Unit) → is_config config (length units) ≡ true → (n : ℕ) → n < length units
+pub met_at : (config : Config) (units : List Attached) → is_config config (length units) ≡ true → (n : ℕ) → n < length units
     → (steps : List Step) (answers : List Answer) (now : Places)
     → Run (new_world config units) steps answers now → IsMet n now
 met_at config units fits n below steps answers now run =

@@ -10,14 +10,13 @@ use Rattle.hba_fbs.specs.declared.report.TakeReport.{TakeReport}
 use Rattle.hba_fbs.specs.Taking.{port_of}
 use Rattle.multiplier.specs.Arbiter.{control_port}
 use Rattle.disk_model.specs.declared.plan.DiskPlan.{DiskPlan}
-use Rattle.disk_model.specs.declared.unit.Unit.{Unit}
 use Rattle.disk_model.specs.declared.unit.Unit.TheVariants.{Disk}
 use Rattle.disk_model.specs.Histories.{Happening, Plugged, Sent}
 use Rattle.disk_model.specs.Runs.{IsDiskRun}
-use Rattle.disk_model.specs.Units.{plan_of}
 use Rattle.hba_driver.specs.declared.mode.Mode.TheVariants.{Switching}
 use Rattle.hba_driver.specs.HostTurns.{HostTurn}
 use Rattle.disk_simulation.proofs.Door.{run_to}
+use Rattle.pm_world.specs.Attached.{Attached, Modelled, plan_of}
 use Rattle.pm_world.specs.Disks.{Before, DiskRun, EndedSince, FlushedSince, HonestDisks, IsLeftAlone, IsNewDisk, Since, WasSubmitted, disk_history, host_turns}
 use Rattle.pm_world.specs.Places.{IsOrderly, Places, is_config, new_world}
 use Rattle.pm_world.specs.Rules.{Rule, Run}
@@ -101,7 +100,7 @@ taken_next n c below old new s port conn number bytes report down up orderly rul
 
 -- ## The law
 
-module _ (config : Config) (units : List Unit) (n sectors : ℕ) (plan : DiskPlan) (fits : is_config config (length units) ≡ true) (below : n < 15)
+module _ (config : Config) (units : List Attached) (n sectors : ℕ) (plan : DiskPlan) (fits : is_config config (length units) ≡ true) (below : n < 15)
     (disk : IsNewDisk units n plan sectors) (now : Places) (d : DiskRun config units n now) where
   -- ## What is told of the two parts of the run
 
@@ -125,10 +124,10 @@ module _ (config : Config) (units : List Unit) (n sectors : ℕ) (plan : DiskPla
 
   -- ## The disk's run
 
-  may_send : MaySendAll (plan_of (Disk disk.disk)) [] (before ++ since)
+  may_send : MaySendAll (plan_of (Modelled (Disk disk.disk))) [] (before ++ since)
   may_send =
-      lived_run (Disk disk.disk) (before ++ since) (slice_get now.devices n) disk.fresh
-      (units_lived_on d.out (step.Came n ∷ d.steps) (answer.Came n d.conn ∷ d.answers) now d.run Switching config units fits d.first d.told d.made n (Disk disk.disk)
+      lived_run (Modelled (Disk disk.disk)) (before ++ since) (slice_get now.devices n) disk.fresh
+      (units_lived_on d.out (step.Came n ∷ d.steps) (answer.Came n d.conn ∷ d.answers) now d.run Switching config units fits d.first d.told d.made n (Modelled (Disk disk.disk))
       disk.there)
 
   own_run : IsDiskRun disk.disk.plan disk.disk.sectors (before ++ since)
@@ -170,7 +169,7 @@ module _ (config : Config) (units : List Unit) (n sectors : ℕ) (plan : DiskPla
       ∙ sym (append_assoc before (Plugged ∷ []) (over (happens n) d.run.0 d.steps d.answers now d.run.2))) whole_run
 
   within : n < length units
-  within = slice_get_within units n (Disk disk.disk) disk.there
+  within = slice_get_within units n (Modelled (Disk disk.disk)) disk.there
 
   -- the world after the plugging
   orders : OrderedNow config units fits n below plan sectors disk.size before first_run (first_turns ++ came_turns) d.run.0
@@ -462,7 +461,7 @@ disks_are_honest config units n sectors plan fits below disk now d s port conn n
     }
 
 -- the history of such a disk is a run of it
-pub disk_runs : (config : Config) (units : List Unit) (n sectors : ℕ) (plan : DiskPlan) → is_config config (length units) ≡ true → n < 15
+pub disk_runs : (config : Config) (units : List Attached) (n sectors : ℕ) (plan : DiskPlan) → is_config config (length units) ≡ true → n < 15
     → IsNewDisk units n plan sectors → (now : Places) (d : DiskRun config units n now)
     → IsDiskRun plan sectors (disk_history config units n now d)
 disk_runs config units n sectors plan fits below disk now d = whole_run config units n sectors plan fits below disk now d

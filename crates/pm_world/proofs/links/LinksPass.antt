@@ -4,9 +4,9 @@ use Rattle.std.specs.Prelude.{slice_get, ◌==◌, MatchOption, Ok}
 use Rattle.std.proofs.lemmas.List.{map-append}
 use Rattle.std.proofs.lemmas.List.Elements.{filter-append}
 use Rattle.fis_view.specs.Frames.{Stamped}
-use Rattle.disk_model.specs.declared.unit.Unit.{Unit as Device}
 use Rattle.multiplier.specs.State.{port_at, rising}
 use Rattle.hba_driver.specs.declared.mode.Mode.{Mode}
+use Rattle.pm_world.specs.Attached.{Attached as Device}
 use Rattle.pm_world.specs.Downward.{on_down_link}
 use Rattle.pm_world.specs.Links.{HasRoom, HaveRoom, KeepsLinks, LinksPass, held_down, on_presence}
 use Rattle.pm_world.specs.Places.{IsOrderly, Place, Places, new_world_in, opening}

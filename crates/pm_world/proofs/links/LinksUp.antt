@@ -9,7 +9,6 @@ use Rattle.std.proofs.lemmas.Grind.{flat_map-append}
 use Rattle.std.proofs.lemmas.List.{append-nil, map-append}
 use Rattle.std.proofs.lemmas.Option.{slice_get_within}
 use Rattle.fis_view.specs.Frames.{Stamped}
-use Rattle.disk_model.specs.declared.unit.Unit.{Unit as Device}
 use Rattle.ruled_links.specs.Links.{IsLink}
 use Rattle.pm_ports.specs.Port.{PortState, with_down, with_up}
 use Rattle.multiplier.specs.Arbiter.{control_port}
@@ -20,6 +19,7 @@ use Rattle.multiplier.proofs.Door.{Answer as Answers, at, FromPort, Gives, gives
 use Rattle.multiplier.proofs.Door.{Notice, other_port, this_port}
 use Rattle.hba_driver.specs.HostTurns.{Host}
 use Rattle.hba_driver.specs.declared.request.Request.{Request}
+use Rattle.pm_world.specs.Attached.{Attached as Device}
 use Rattle.pm_world.specs.Downward.{times}
 use Rattle.pm_world.specs.Links.{told_frame, told_of, changed_by, dropped_by, entered_by, is_offered, is_recorded, rose_by, took_by, on_presence, from_port, without, PortPasses, HostPasses}
 use Rattle.pm_world.specs.Places.{AreFull, Changes, IsFull, IsOrderly, IsTold, Place, Places, Queue, after_sending, frame_of, posted, pushed, with_device, with_host, with_multiplier, with_upward}

@@ -5,7 +5,6 @@ use Rattle.std.proofs.Common.{Option, Some, None, Ok, refl, sym, ap, subst, ◌�
 use Rattle.std.specs.Prelude.{option_to_list, slice_get}
 use Rattle.std.proofs.lemmas.Bool.{and_parts, cases_Bool, eqb-true, false≢true, not-false}
 use Rattle.fis_view.specs.Frames.{Stamped}
-use Rattle.disk_model.specs.declared.unit.Unit.{Unit}
 use Rattle.hba_fbs.specs.declared.report.TakeReport.{TakeReport}
 use Rattle.hba_driver.specs.declared.mode.Mode.TheVariants.{Switching}
 use Rattle.hba_driver.specs.declared.request.Request.{Request}
@@ -20,6 +19,7 @@ use Rattle.hba_driver.specs.Tended.{IsLiveAt}
 use Rattle.hba_driver.proofs.Door as accept
 use Rattle.hba_driver.proofs.Door.{asking_opens, IsAsking}
 use Rattle.multiplier.specs.State.{falling, port_at}
+use Rattle.pm_world.specs.Attached.{Attached}
 use Rattle.pm_world.specs.Cleared.{PassesNone, is_up_from}
 use Rattle.pm_world.specs.Downward.{falling_to, fell_to, on_down_link, pushed_by}
 use Rattle.pm_world.specs.Meant.{AnswersAreMeant, CommandsAreMeant, IsMeant, WasSubmittedFor}
@@ -217,7 +217,7 @@ issued_phase : (p : Phase) → is_issued_in p ≡ true → p ≡ Issued
 issued_phase Issued is = refl
 issued_phase other is = absurd (false≢true is)
 
-module _ (config : Config) (units : List Unit) (right : is_config config (length units) ≡ true) (steps : List Step) (answers : List Answer) (now : Places)
+module _ (config : Config) (units : List Attached) (right : is_config config (length units) ≡ true) (steps : List Step) (answers : List Answer) (now : Places)
     (run : Run (new_world config units) steps answers now) (n : ℕ) (below : n < 15) where
   abbrev NoRequest : Entry → Option ℕ → Type 0
   NoRequest e l = ⊥

@@ -18,12 +18,12 @@ use Rattle.hba_driver.specs.Slot31.{Asks, Fails, Follows31, IsAt31, IsNext31, Ma
 use Rattle.hba_driver.specs.Slot31 as slot31
 use Rattle.hba_driver.proofs.Door.{AreOfTheir, found_opens, going_opens, IsGoing, none_issued, opens31, poll_plan}
 use Rattle.hba_driver.proofs.Door.{scans_on, turn_addressed}
-use Rattle.disk_model.specs.declared.unit.Unit.{Unit}
 use Rattle.pm_control.specs.Requests.{request_in}
 use Rattle.pm_registers.specs.Bits.{shares}
 use Rattle.pm_registers.specs.Port.{bit_x}
 use Rattle.multiplier.specs.Arbiter.{control_port}
 use Rattle.multiplier.specs.State.{PmState, pm_port}
+use Rattle.pm_world.specs.Attached.{Attached}
 use Rattle.pm_world.specs.Cleared.{clears_x}
 use Rattle.pm_world.specs.Downward.{pushed_by}
 use Rattle.pm_world.specs.Places.{Places, Queue, is_config, new_world}
@@ -586,7 +586,7 @@ module _ (n : ℕ) (below : n < 15) where
       let both = order_step n below unsent old k s a run.0 run.1 in
       (both.0, in_order (unsent_after n unsent old s a run.0) run.0 steps answers new run.2 both.1)
 
-pub opening_knows : (config : Config) (units : List Unit) → is_config config (length units) ≡ true → (n : ℕ) → Knows n false (new_world config units)
+pub opening_knows : (config : Config) (units : List Attached) → is_config config (length units) ≡ true → (n : ℕ) → Knows n false (new_world config units)
 opening_knows config units right n = record {
   going = going_opens 0 config.memory (sized config (length units) right);
   their = λ d s c low busy last. none_issued d s c last;
@@ -614,7 +614,7 @@ opening_knows config units right n = record {
     most = by_tests (nat_le 1 config.ports) (nat_le config.ports 15) (nat_le 1 config.capacity) (nat_le config.capacity 64) (nat_le 2097152 config.memory) (nat_le config.memory 16777216) (config.memory % 2 == 0) (length units == config.ports) refl right
 
 -- the orders to clear a port are in order, over every run from a new world
-pub orders_in_order : (config : Config) (units : List Unit) → is_config config (length units) ≡ true → (steps : List Step) (answers : List Answer) (new : Places)
+pub orders_in_order : (config : Config) (units : List Attached) → is_config config (length units) ≡ true → (steps : List Step) (answers : List Answer) (new : Places)
     (run : Run (new_world config units) steps answers new) (n : ℕ) → n < 15 → InOrder n false (new_world config units) steps answers new run
 orders_in_order config units right steps answers new run n below =
     in_order n below false (new_world config units) steps answers new run (opening_knows config units right n)

@@ -15,10 +15,10 @@ use Rattle.slots.specs.declared.work.Kind.TheVariants.{Control}
 use Rattle.hba_commands.specs.Requests.{kind_of, kind_of_command, request_in}
 use Rattle.hba_driver.specs.declared.mode.Mode.TheVariants.{Switching}
 use Rattle.hba_driver.specs.Known.{is_asked, is_request}
-use Rattle.disk_model.specs.declared.unit.Unit.{Unit}
 use Rattle.multiplier.specs.State.{falling, pm_port, port_at}
 use Rattle.pm_registers.specs.Bits.{shares}
 use Rattle.pm_registers.specs.Port.{bit_x}
+use Rattle.pm_world.specs.Attached.{Attached}
 use Rattle.pm_world.proofs.cleared.Cleared.{HasX, rule_goes, run_waits}
 use Rattle.pm_world.specs.Cleared.{PassesNone, is_cleared, is_up_from}
 use Rattle.pm_world.specs.Downward.{falling_to, fell_to, on_down_link, pushed_by}
@@ -604,7 +604,7 @@ none_stale n below known unsent last old (s ∷ steps) (a ∷ answers) new run h
       none_stale n below (known_after n known old s a run.0) (unsent_after n unsent old s a run.0) (latest last (identified_by n old s a run.0)) run.0 steps answers new run.2 next ordered.1 identified.1 later,
     )
 
-module _ (config : Config) (units : List Unit) (right : is_config config (length units) ≡ true) (n : ℕ) where
+module _ (config : Config) (units : List Attached) (right : is_config config (length units) ≡ true) (n : ℕ) where
   pub opening_holds : Holds n false false None (new_world config units)
   opening_holds = record {
     orderly = opening_orderly Switching config units right;

@@ -5,10 +5,8 @@ use Rattle.std.specs.Prelude.{IsSomeAnd, slice_get, slice_index}
 use Rattle.host_memory.specs.Memory.{client_start}
 use Rattle.host_memory.specs.Place.{place}
 use Rattle.disk_model.specs.declared.plan.DiskPlan.{DiskPlan}
-use Rattle.disk_model.specs.declared.unit.Unit.{Unit}
 use Rattle.disk_model.specs.declared.unit.Unit.TheVariants.{Disk, Scripted}
 use Rattle.disk_model.specs.Disks.{DiskValue, Moment}
-use Rattle.disk_model.specs.Units.{StandsFor, plan_of}
 use Rattle.disk_model.specs.Histories.{DiskOf, Happening}
 use Rattle.disk_model.specs.Runs.{DiskStandsFor, IsDiskRun, moment}
 use Rattle.hba_driver.specs.declared.mode.Mode.TheVariants.{Switching}
@@ -18,6 +16,7 @@ use Rattle.hba_driver.specs.Events.{shared_by}
 use Rattle.hba_driver.specs.Orders.{is_queued}
 use Rattle.hba_driver.specs.Served.{IsServed}
 use Rattle.hba_driver.specs.Submits.{new_entry}
+use Rattle.pm_world.specs.Attached.{Attached, Modelled, Own, StandsFor, plan_of}
 use Rattle.pm_world.specs.Disks.{DiskRun, EndedSince, FlushedSince, IsNewDisk, disk_history}
 use Rattle.pm_world.specs.HonestEnds.{StandsAt}
 use Rattle.pm_world.specs.Flushing.{FlushesFollowWrites, HasWrites}
@@ -40,7 +39,7 @@ use Rattle.pm_world.proofs.units.Units.{units_lived_on}
 
 -- ## What a disk shows at the end of its run
 
-module _ (config : Config) (units : List Unit) (n sectors : ℕ) (plan : DiskPlan) (fits : is_config config (length units) ≡ true) (below : n < 15)
+module _ (config : Config) (units : List Attached) (n sectors : ℕ) (plan : DiskPlan) (fits : is_config config (length units) ≡ true) (below : n < 15)
     (disk : IsNewDisk units n plan sectors) (now : Places) (d : DiskRun config units n now) (i : ℕ) where
   abbrev shown_now : Option ℕ
   shown_now = slice_get (moment plan sectors (disk_history config units n now d)).medium i
@@ -53,13 +52,14 @@ module _ (config : Config) (units : List Unit) (n sectors : ℕ) (plan : DiskPla
       ∙ ap (λ (k : ℕ). moment plan k (disk_history config units n now d)) sectors_are in
       ap (λ (t : Moment). slice_get t.medium i) is
 
-  by_unit : (u : Unit) → StandsFor u (disk_history config units n now d) → plan_of u ≡ DiskOf disk.disk.plan disk.disk.sectors → Shows i shown_now u
-  by_unit (Disk x) stands is =
+  by_unit : (u : Attached) → StandsFor u (disk_history config units n now d) → plan_of u ≡ DiskOf disk.disk.plan disk.disk.sectors → Shows i shown_now u
+  by_unit (Modelled (Disk x)) stands is =
       let same = same_plan x.plan disk.disk.plan x.sectors disk.disk.sectors is in
       on_disk x stands (same.0 ∙ disk.plan_is) (same.1 ∙ disk.sectors_are)
-  by_unit (Scripted reading) stands is = absurd (cc is)
+  by_unit (Modelled (Scripted reading)) stands is = absurd (cc is)
+  by_unit Own stands is = absurd stands
 
-  by_place : (o : Option Place) → IsSomeAnd o (λ there. LivesOn (Disk disk.disk) (disk_history config units n now d) there.unit)
+  by_place : (o : Option Place) → IsSomeAnd o (λ there. LivesOn (Modelled (Disk disk.disk)) (disk_history config units n now d) there.unit)
       → IsSomeAnd o (λ there. Shows i shown_now there.unit)
   by_place None lived = absurd lived
   by_place (Some a) lived = by_unit a.unit (lived.stands_for [] disk.fresh) lived.plan
@@ -67,7 +67,7 @@ module _ (config : Config) (units : List Unit) (n sectors : ℕ) (plan : DiskPla
   disk_shows : IsSomeAnd (slice_get now.devices n) (λ there. Shows i shown_now there.unit)
   disk_shows =
       by_place (slice_get now.devices n)
-      (units_lived_on d.out (step.Came n ∷ d.steps) (answer.Came n d.conn ∷ d.answers) now d.run Switching config units fits d.first d.told d.made n (Disk disk.disk)
+      (units_lived_on d.out (step.Came n ∷ d.steps) (answer.Came n d.conn ∷ d.answers) now d.run Switching config units fits d.first d.told d.made n (Modelled (Disk disk.disk))
       disk.there)
 
 -- ## The law

@@ -6,7 +6,6 @@ use Rattle.std.specs.List.{flat_map, range_with_len}
 use Rattle.std.proofs.lemmas.Grind.{flat_map-append}
 use Rattle.host_memory.specs.Memory.{Memory, client_start}
 use Rattle.host_memory.specs.Place.{place}
-use Rattle.disk_model.specs.declared.unit.Unit.{Unit}
 use Rattle.disk_model.specs.Histories.{Happening}
 use Rattle.disk_model.specs.Last.{NoneCovers}
 use Rattle.hba_driver.specs.declared.mode.Mode.TheVariants.{Switching}
@@ -16,6 +15,7 @@ use Rattle.hba_driver.specs.declared.request.Ticket.{Ticket}
 use Rattle.hba_driver.specs.declared.request.Work.TheVariants.{Read}
 use Rattle.hba_driver.specs.Drivers.{Entry}
 use Rattle.hba_driver.specs.Submits.{new_entry}
+use Rattle.pm_world.specs.Attached.{Attached}
 use Rattle.pm_world.specs.Disks.{Before, DiskRun, EndedSince, Since, WasSubmitted, disk_history}
 use Rattle.pm_world.specs.InOrder.{IsLeftSince, ReadsFollowWrites, disk_run}
 use Rattle.pm_world.specs.Places.{Places, is_config, new_world}
@@ -277,7 +277,7 @@ as_many old new (s ∷ ss) [] run = absurd run
 -- ## The law
 
 -- what had happened when a request was submitted, by a run that is the first part of these
-record IsSubmittedAt (config : Config) (units : List Unit) (n : ℕ) (S : List Step) (A : List Answer) (W : List Places) (count : ℕ)
+record IsSubmittedAt (config : Config) (units : List Attached) (n : ℕ) (S : List Step) (A : List Answer) (W : List Places) (count : ℕ)
     (before : List Happening) : Type 0 where
   at : Places
   ss : List Step
@@ -287,7 +287,7 @@ record IsSubmittedAt (config : Config) (units : List Unit) (n : ℕ) (S : List S
   long : length ss ≡ count
   is : before ≡ over (happens n) (new_world config units) ss aa at came
 
-module _ (config : Config) (units : List Unit) (fits : is_config config (length units) ≡ true) (n conn : ℕ) (now : Places) (T : List Step)
+module _ (config : Config) (units : List Attached) (fits : is_config config (length units) ≡ true) (n conn : ℕ) (now : Places) (T : List Step)
     (U : List Answer) (took : Run (new_world config units) T U now) (d : IsLeftSince n conn (new_world config units) now T U took) (S : List Step)
     (A : List Answer) (W : List Places) (whole : IsFirst (new_world config units) now T U took S A W) (dev : ℕ) (request : Request) (ticket : Ticket)
     (sub : IsStepOf (step.Submit dev request) (answer.Submitted ticket) (new_world config units) now T U took) where
@@ -340,7 +340,7 @@ module _ (config : Config) (units : List Unit) (fits : is_config config (length 
 -- ## Which part is the first
 
 -- the history of a disk is told over the steps of its run
-told_over : (config : Config) (units : List Unit) (n conn : ℕ) (now : Places) (T : List Step) (U : List Answer)
+told_over : (config : Config) (units : List Attached) (n conn : ℕ) (now : Places) (T : List Step) (U : List Answer)
     (took : Run (new_world config units) T U now) (c : IsLeftSince n conn (new_world config units) now T U took)
     → over (happens n) (new_world config units) (c.came.before ++ step.Came n ∷ c.came.after) (c.came.told ++ answer.Came n conn ∷ c.came.later) now
     (parted (step.Came n) (answer.Came n conn) (new_world config units) now T U took c.came)
@@ -350,7 +350,7 @@ told_over config units n conn now T U took c =
     c.came.came (c.came.next, c.came.rule, c.came.went)
 
 -- what is told over a run of fewer steps is a part of what had happened
-is_part : (config : Config) (units : List Unit) (n m count : ℕ) (now : Places) (ss : List Step) (aa : List Answer)
+is_part : (config : Config) (units : List Attached) (n m count : ℕ) (now : Places) (ss : List Step) (aa : List Answer)
     (r : Run (new_world config units) ss aa now) (S : List Step) (A : List Answer) (W : List Places) (before whole : List Happening)
     → IsFirst (new_world config units) now ss aa r S A W → IsSubmittedAt config units m S A W count before → length ss ≤ count → m ≡ n
     → over (happens n) (new_world config units) ss aa now r ≡ whole → IsPart whole before
@@ -372,7 +372,7 @@ no_longer front back all is =
 
 -- ## A write that was polled before another request was submitted
 
-module _ (config : Config) (units : List Unit) (fits : is_config config (length units) ≡ true) (steps : List Step) (answers : List Answer) (now : Places)
+module _ (config : Config) (units : List Attached) (fits : is_config config (length units) ≡ true) (steps : List Step) (answers : List Answer) (now : Places)
     (run : Run (new_world config units) steps answers now) (written read : Completion)
     (poll : IsStepOf step.Poll (answer.Polled written) (new_world config units) now steps answers run)
     (first : IsPolledHonestly config units poll.at poll.before poll.told poll.came written)

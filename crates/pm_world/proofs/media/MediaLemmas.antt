@@ -2,15 +2,14 @@
 use Rattle.std.proofs.Common.{◌≡◌, ℕ, List, [], ◌++◌, refl, ap, subst, ◌∙◌, Option, Some, None}
 use Rattle.std.specs.Prelude.{IsSomeAnd, slice_get}
 use Rattle.disk_model.specs.declared.plan.DiskPlan.{DiskPlan}
-use Rattle.disk_model.specs.declared.unit.Unit.{Unit}
 use Rattle.disk_model.specs.declared.unit.Unit.TheVariants.{Disk, Scripted}
 use Rattle.disk_model.specs.Disks.{DiskValue, Moment}
 use Rattle.disk_model.specs.Histories.{DiskOf, Happening}
 use Rattle.disk_model.specs.Ledger.{ledger, medium_with}
 use Rattle.disk_model.specs.Runs.{DiskStandsFor, IsDiskRun, moment}
-use Rattle.disk_model.specs.Units.{StandsFor, plan_of}
 use Rattle.disk_model.proofs.Door.{agrees}
 use Rattle.hba_driver.specs.declared.mode.Mode.TheVariants.{Switching}
+use Rattle.pm_world.specs.Attached.{Attached, Modelled, Own, StandsFor, plan_of}
 use Rattle.pm_world.specs.Disks.{IsNewDisk}
 use Rattle.pm_world.specs.Media.{HasMedium, MediaAreOfWrites}
 use Rattle.pm_world.specs.Places.{Place, new_world}
@@ -20,7 +19,7 @@ use Rattle.pm_world.proofs.honest.DisksLemmas.{part_front}
 use Rattle.pm_world.proofs.media.ReadBackLemmas.{same_plan}
 use Rattle.pm_world.proofs.units.Units.{units_lived_on}
 
-module _ (units : List Unit) (n sectors : ℕ) (plan : DiskPlan) (disk : IsNewDisk units n plan sectors) (history : List Happening) where
+module _ (units : List Attached) (n sectors : ℕ) (plan : DiskPlan) (disk : IsNewDisk units n plan sectors) (history : List Happening) where
   of_disk : (x : DiskValue) → DiskStandsFor x history → x.plan ≡ plan → x.sectors ≡ sectors → x.now.medium ≡ medium_with sectors (ledger history).writes
   of_disk x stands plan_is sectors_are =
       let first : IsDiskRun plan x.sectors history = subst (λ (p : DiskPlan). IsDiskRun p x.sectors history) plan_is stands.run in
@@ -29,13 +28,14 @@ module _ (units : List Unit) (n sectors : ℕ) (plan : DiskPlan) (disk : IsNewDi
       stands.now ∙ ap (λ (p : DiskPlan). moment p x.sectors history) plan_is ∙ ap (λ (k : ℕ). moment plan k history) sectors_are in
       ap (λ (t : Moment). t.medium) is ∙ (agrees plan sectors history disk.size whole).medium
 
-  of_unit : (u : Unit) → StandsFor u history → plan_of u ≡ DiskOf disk.disk.plan disk.disk.sectors → HasMedium sectors (ledger history).writes u
-  of_unit (Disk x) stands is =
+  of_unit : (u : Attached) → StandsFor u history → plan_of u ≡ DiskOf disk.disk.plan disk.disk.sectors → HasMedium sectors (ledger history).writes u
+  of_unit (Modelled (Disk x)) stands is =
       let same = same_plan x.plan disk.disk.plan x.sectors disk.disk.sectors is in
       of_disk x stands (same.0 ∙ disk.plan_is) (same.1 ∙ disk.sectors_are)
-  of_unit (Scripted reading) stands is = absurd (cc is)
+  of_unit (Modelled (Scripted reading)) stands is = absurd (cc is)
+  of_unit Own stands is = absurd stands
 
-  of_place : (o : Option Place) → IsSomeAnd o (λ place. LivesOn (Disk disk.disk) history place.unit)
+  of_place : (o : Option Place) → IsSomeAnd o (λ place. LivesOn (Modelled (Disk disk.disk)) history place.unit)
       → IsSomeAnd o (λ place. HasMedium sectors (ledger history).writes place.unit)
   of_place None lived = absurd lived
   of_place (Some a) lived = of_unit a.unit (lived.stands_for [] disk.fresh) lived.plan
@@ -46,8 +46,8 @@ media_are_of_writes config units n sectors plan fits disk first told was made st
     let later = over (happens n) was steps answers now run in
     record {
       first = of_place units n sectors plan disk before (slice_get was.devices n)
-          (units_lived_on (new_world config units) first told was made Switching config units fits [] [] refl n (Disk disk.disk) disk.there);
+          (units_lived_on (new_world config units) first told was made Switching config units fits [] [] refl n (Modelled (Disk disk.disk)) disk.there);
       last = of_place units n sectors plan disk (before ++ later) (slice_get now.devices n)
-          (units_lived_on was steps answers now run Switching config units fits first told made n (Disk disk.disk) disk.there);
+          (units_lived_on was steps answers now run Switching config units fits first told made n (Modelled (Disk disk.disk)) disk.there);
       more = part_front before (before ++ later) (record { later = later; is = refl });
     }

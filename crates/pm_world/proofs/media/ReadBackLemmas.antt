@@ -4,10 +4,8 @@ use Rattle.std.proofs.Common.{◌≡◌, ◌*◌, ℕ, zero, suc, ◌+◌, ◌<�
 use Rattle.std.proofs.Common.{Option, Some, None}
 use Rattle.std.specs.Prelude.{IsSomeAnd, MatchOption, slice_get}
 use Rattle.disk_model.specs.declared.plan.DiskPlan.{DiskPlan}
-use Rattle.disk_model.specs.declared.unit.Unit.{Unit}
 use Rattle.disk_model.specs.declared.unit.Unit.TheVariants.{Disk, Scripted}
 use Rattle.disk_model.specs.Disks.{DiskValue, Moment}
-use Rattle.disk_model.specs.Units.{StandsFor, plan_of}
 use Rattle.disk_model.specs.Chunks.{sectors_at}
 use Rattle.disk_model.specs.Fronts.{IsFront}
 use Rattle.disk_model.specs.Histories.{DiskOf, Happening}
@@ -15,6 +13,7 @@ use Rattle.disk_model.specs.Last.{LieOn, Lies, NoneCovers}
 use Rattle.disk_model.specs.Ledger.{IsSize, Written, ledger, medium_with}
 use Rattle.disk_model.specs.Runs.{DiskStandsFor, IsDiskRun, moment}
 use Rattle.disk_model.proofs.Door.{agrees, lie_on, shows_the_last}
+use Rattle.pm_world.specs.Attached.{Attached, Modelled, Own, StandsFor, plan_of}
 use Rattle.pm_world.proofs.honest.DisksLemmas.{part_front}
 use Rattle.hba_laws.specs.Client.{own}
 use Rattle.hba_laws.specs.History.{filled}
@@ -153,9 +152,9 @@ disks_have_writes config units n sectors plan fits disk was d s write m writes w
     later : List Happening
     later = over (happens n) was steps answers now run
 
-    lived : IsSomeAnd (slice_get was.devices n) (λ place. LivesOn (Disk disk.disk) (disk_history config units n was d) place.unit)
+    lived : IsSomeAnd (slice_get was.devices n) (λ place. LivesOn (Modelled (Disk disk.disk)) (disk_history config units n was d) place.unit)
     lived =
-        units_lived_on d.out (step.Came n ∷ d.steps) (answer.Came n d.conn ∷ d.answers) was d.run Switching config units fits d.first d.told d.made n (Disk disk.disk)
+        units_lived_on d.out (step.Came n ∷ d.steps) (answer.Came n d.conn ∷ d.answers) was d.run Switching config units fits d.first d.told d.made n (Modelled (Disk disk.disk))
         disk.there
 
     on_disk : (x : DiskValue) → DiskStandsFor x (disk_history config units n was d ++ over (happens n) was steps answers now run) → x.plan ≡ plan
@@ -168,15 +167,16 @@ disks_have_writes config units n sectors plan fits disk was d s write m writes w
         ap (λ (t : Moment). slice_get t.medium (512 * write.head.lba + j)) is
         ∙ writes_stay_there config units n sectors plan disk was d s write m writes w (before ++ later) whole (record { later = later; is = refl }) j below none
 
-    by_unit : (u : Unit) → StandsFor u (disk_history config units n was d ++ over (happens n) was steps answers now run)
+    by_unit : (u : Attached) → StandsFor u (disk_history config units n was d ++ over (happens n) was steps answers now run)
         → plan_of u ≡ DiskOf disk.disk.plan disk.disk.sectors
         → Shows (512 * write.head.lba + j) (filled s (own n w.touches) j) u
-    by_unit (Disk x) stands is =
+    by_unit (Modelled (Disk x)) stands is =
         let same = same_plan x.plan disk.disk.plan x.sectors disk.disk.sectors is in
         on_disk x stands (same.0 ∙ disk.plan_is) (same.1 ∙ disk.sectors_are)
-    by_unit (Scripted reading) stands is = absurd (cc is)
+    by_unit (Modelled (Scripted reading)) stands is = absurd (cc is)
+    by_unit Own stands is = absurd stands
 
-    by_places : (o p : Option Place) → IsSomeAnd o (λ place. LivesOn (Disk disk.disk) (disk_history config units n was d) place.unit)
+    by_places : (o p : Option Place) → IsSomeAnd o (λ place. LivesOn (Modelled (Disk disk.disk)) (disk_history config units n was d) place.unit)
         → MatchOption o (p ≡ None) (λ a. IsSomeAnd p (λ b. LivesOn a.unit (over (happens n) was steps answers now run) b.unit))
         → IsSomeAnd p (λ place. Shows (512 * write.head.lba + j) (filled s (own n w.touches) j) place.unit)
     by_places None p lived lives = absurd lived

@@ -12,7 +12,6 @@ use Rattle.host_memory.proofs.Door.{place_inside}
 use Rattle.slots.specs.Slots.{match_some}
 use Rattle.slots.specs.Work.{is_read as is_reading}
 use Rattle.hba_fbs.specs.Taking.{port_of}
-use Rattle.disk_model.specs.declared.unit.Unit.{Unit}
 use Rattle.hba_laws.specs.Client.{Touches, client, own}
 use Rattle.hba_laws.specs.Delivering.{completes_now, event_taken}
 use Rattle.hba_laws.specs.History.{History, Transfer, completes, filled, issued}
@@ -34,6 +33,7 @@ use Rattle.hba_driver.specs.Served.{IsIssueOf, IsOrdered, IsRequest, IsServed, I
 use Rattle.hba_driver.specs.Submits.{end_of, new_entry}
 use Rattle.hba_driver.proofs.Door.{as_long, comes_from, each_run_keeps, Fresh, good_since, HaveGoodPrds}
 use Rattle.hba_driver.proofs.Door.{hosts_stay_sound, in_slots, is_taken, issue_inside, turns_hold_writes}
+use Rattle.pm_world.specs.Attached.{Attached}
 use Rattle.pm_world.specs.Places.{Places, is_config, new_world}
 use Rattle.pm_world.specs.Rules.{Run}
 use Rattle.pm_world.specs.Runs.{IsStepOf, over}
@@ -189,7 +189,7 @@ from_start p least = omega (arith, least)
 writes_only : (w : Work) → w ≡ Write → is_read w ≡ false
 writes_only w is = ap is_read is
 
-module _ (config : Config) (units : List Unit) (fits : is_config config (length units) ≡ true) (steps : List Step) (answers : List Answer) (now : Places)
+module _ (config : Config) (units : List Attached) (fits : is_config config (length units) ≡ true) (steps : List Step) (answers : List Answer) (now : Places)
     (run : Run (new_world config units) steps answers now) (ticket : Ticket) (slot : ℕ)
     (r : IsReportedIn ticket slot (new_world config units) now steps answers run) (writes : r.request.work ≡ Write) where
   right : is_memory_size config.memory ≡ true

@@ -4,13 +4,13 @@ use Rattle.std.proofs.Common.{Option, Some, Ok, zero, arith}
 use Rattle.std.specs.Prelude.{if◌then◌else◌, is_none, slice_get, slice_set}
 use Rattle.std.proofs.lemmas.Bool.{cases_eq, eq-eqb, true≢false}
 use Rattle.std.proofs.lemmas.Option.{same_Some}
-use Rattle.disk_model.specs.declared.unit.Unit.{Unit}
 use Rattle.multiplier.proofs.Door as ports
 use Rattle.multiplier.proofs.Door.{not_up_to}
 use Rattle.multiplier.specs.Rules.{with_device as connected, without_device}
 use Rattle.multiplier.specs.State.{PmState, port_at}
 use Rattle.pm_ports.specs.Port.{PortState, came_refusal as port_came_refusal, gone_refusal as port_gone_refusal, with_connection, with_removal}
 use Rattle.hba_driver.specs.declared.mode.Mode.{Mode}
+use Rattle.pm_world.specs.Attached.{Attached}
 use Rattle.pm_world.specs.Links.{on_presence}
 use Rattle.pm_world.specs.Places.{IsOrderly, Place, Places, new_world_in, opening, with_device, with_multiplier}
 use Rattle.pm_world.specs.Rules.{CameActs, CameRule, DiskSendActs, DiskSendRule, DiskTakeActs, DiskTakeRule, GoneActs, GoneRule, InjectActs}
@@ -371,12 +371,12 @@ run_ahead n old (s ∷ steps) (a ∷ answers) new orderly run ahead =
 run_ahead n old [] (a ∷ answers) new orderly run ahead = absurd run
 run_ahead n old (s ∷ steps) [] new orderly run ahead = absurd run
 
-pub none_posted : (capacity : ℕ) (units : List Unit) (n k : ℕ) → AreBefore k (on_presence (slice_get (map (opening capacity) units) n))
+pub none_posted : (capacity : ℕ) (units : List Attached) (n k : ℕ) → AreBefore k (on_presence (slice_get (map (opening capacity) units) n))
 none_posted capacity [] n k = tt
 none_posted capacity (u ∷ units) zero k = tt
 none_posted capacity (u ∷ units) (suc n) k = none_posted capacity units n k
 
-opening_ahead : (mode : Mode) (config : Config) (units : List Unit) (n : ℕ) → IsAhead n (new_world_in mode config units)
+opening_ahead : (mode : Mode) (config : Config) (units : List Attached) (n : ℕ) → IsAhead n (new_world_in mode config units)
 opening_ahead mode config units n place is =
     let none : (port_at (new_world_in mode config units).multiplier n).gone ≡ 0 = ap (λ (p : PortState). p.gone) (port_opening config units n) in
     record { recorded = omega (arith, none); posted = none_posted config.capacity units n (suc place.conn) }

@@ -8,13 +8,13 @@ use Rattle.std.proofs.lemmas.List.Elements.{All-append, All-cons, All-nil}
 use Rattle.std.proofs.lemmas.Bool.{cases_Bool, eq-eqb, eqb-true, false_from_ne_true, true≢false}
 use Rattle.fis_view.specs.Frames.{Stamped}
 use Rattle.hba_fbs.specs.declared.report.TakeReport.{TakeReport}
-use Rattle.disk_model.specs.declared.unit.Unit.{Unit}
 use Rattle.hba_driver.specs.declared.mode.Mode.TheVariants.{Switching}
 use Rattle.hba_driver.specs.declared.slot.Phase.TheVariants.{Waits}
 use Rattle.hba_driver.specs.Drivers.{Driver, Entry, entry_at, has_ended_in, rephased}
 use Rattle.hba_driver.specs.HostTurns.{Host, Ticks, sight_in}
 use Rattle.hba_driver.specs.Sights.{file_shown}
 use Rattle.hba_driver.proofs.Door.{ticks_serve}
+use Rattle.pm_world.specs.Attached.{Attached}
 use Rattle.pm_world.specs.Cleared.{PassesNone, is_cleared, is_up_from}
 use Rattle.pm_world.specs.Downward.{fell_to}
 use Rattle.pm_world.specs.Places.{IsOrderly, Places, is_config, new_world}
@@ -296,7 +296,7 @@ by_last n below c old (s ∷ steps) (a ∷ answers) new run r none last =
 by_last n below c old [] (a ∷ answers) new run r none last = absurd run
 by_last n below c old (s ∷ steps) [] new run r none last = absurd run
 
-pub taken_of_one : (config : Config) (units : List Unit) → is_config config (length units) ≡ true → (n : ℕ) → n < 15 → (first : List Step) (told : List Answer)
+pub taken_of_one : (config : Config) (units : List Attached) → is_config config (length units) ≡ true → (n : ℕ) → n < 15 → (first : List Step) (told : List Answer)
     (mid : Places) → Run (new_world config units) first told mid → (steps : List Step) (answers : List Answer) (now : Places) (run : Run mid steps answers now)
     → NoneOrders n mid steps answers now run → (s : Step) (port conn number : ℕ) (bytes : List ℕ) (report : TakeReport) (next : Places) → port ≡ n
     → Rule now s (Ok (answer.Took port conn number bytes report)) next

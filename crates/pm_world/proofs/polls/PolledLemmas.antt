@@ -10,7 +10,6 @@ use Rattle.host_memory.specs.Place.{LiesInClient, place, total_of}
 use Rattle.slots.specs.Slots.{match_some}
 use Rattle.hba_fbs.specs.Taking.{port_of}
 use Rattle.disk_model.specs.declared.plan.DiskPlan.{DiskPlan}
-use Rattle.disk_model.specs.declared.unit.Unit.{Unit}
 use Rattle.disk_model.specs.Histories.{Happening}
 use Rattle.disk_model.specs.Chunks.{sectors_at}
 use Rattle.disk_model.specs.Ledger.{medium_with}
@@ -42,6 +41,7 @@ use Rattle.hba_driver.specs.Submits.{new_entry}
 use Rattle.hba_driver.proofs.Door as accept
 use Rattle.hba_driver.proofs.Door.{AllStand, as_long, each_run_keeps, in_slots, is_taken, IsOnWay, poll_facts}
 use Rattle.hba_driver.proofs.Door.{PollFacts, Stands, way_opens}
+use Rattle.pm_world.specs.Attached.{Attached}
 use Rattle.pm_world.specs.Places.{Places, is_config, new_world}
 use Rattle.pm_world.specs.Rules.{Rule, Run}
 use Rattle.pm_world.specs.Runs.{IsStepOf, over}
@@ -186,7 +186,7 @@ matched request fits =
 
 -- ## The law
 
-module _ (config : Config) (units : List Unit) (fits : is_config config (length units) ≡ true) (steps : List Step) (answers : List Answer) (now : Places)
+module _ (config : Config) (units : List Attached) (fits : is_config config (length units) ≡ true) (steps : List Step) (answers : List Answer) (now : Places)
     (run : Run (new_world config units) steps answers now) (c : Completion) (new : Places) (rule : Rule now step.Poll (Ok (answer.Polled c)) new)
     (done : c.outcome ≡ Done) where
   right : is_memory_size config.memory ≡ true

@@ -6,9 +6,9 @@ use Rattle.std.specs.Prelude.{if◌then◌else◌, slice_get, nat_le, nat_lt}
 use Rattle.std.proofs.lemmas.Bool.{and_from, eqb-true, le-leb, lt-ltb}
 use Rattle.std.proofs.lemmas.Option.{same_Some}
 use Rattle.fis_view.specs.Frames.{Stamped}
-use Rattle.disk_model.specs.declared.unit.Unit.{Unit}
 use Rattle.multiplier.specs.State.{falling, port_at}
 use Rattle.hba_driver.specs.declared.mode.Mode.TheVariants.{Switching}
+use Rattle.pm_world.specs.Attached.{Attached}
 use Rattle.pm_world.specs.Downward.{falling_to}
 use Rattle.pm_world.specs.Links.{changed_by, on_presence}
 use Rattle.pm_world.specs.Places.{IsOrderly, Place, Places, is_config, new_world, opening}
@@ -208,12 +208,12 @@ run_firm n below old (s ∷ steps) (a ∷ answers) new run f =
 run_firm n below old [] (a ∷ answers) new run f = absurd run
 run_firm n below old (s ∷ steps) [] new run f = absurd run
 
-none_read : (capacity : ℕ) (units : List Unit) (n : ℕ) (k : Known) → AreNext (on_presence (slice_get (map (opening capacity) units) n)) k
+none_read : (capacity : ℕ) (units : List Attached) (n : ℕ) (k : Known) → AreNext (on_presence (slice_get (map (opening capacity) units) n)) k
 none_read capacity [] n k = tt
 none_read capacity (u ∷ units) zero k = tt
 none_read capacity (u ∷ units) (suc n) k = none_read capacity units n k
 
-pub opening_firm : (config : Config) (units : List Unit) → is_config config (length units) ≡ true → (n : ℕ) → IsFirm n (new_world config units)
+pub opening_firm : (config : Config) (units : List Attached) → is_config config (length units) ≡ true → (n : ℕ) → IsFirm n (new_world config units)
 opening_firm config units fits n =
     let empty : seen_at n (new_world config units) ≡ (None, 0, 0) = ap (λ p. world_orderly.known p) (port_opening config units n) in
     record {
@@ -236,6 +236,6 @@ removed_before n c d now f there some less =
 
 -- ## In each world to which a run from a new one leads
 
-pub firm_at : (config : Config) (units : List Unit) → is_config config (length units) ≡ true → (n : ℕ) → n < 15 → (before : List Step)
+pub firm_at : (config : Config) (units : List Attached) → is_config config (length units) ≡ true → (n : ℕ) → n < 15 → (before : List Step)
     (told : List Answer) (old : Places) → Run (new_world config units) before told old → IsFirm n old
 firm_at config units fits n below before told old made = run_firm n below (new_world config units) before told old made (opening_firm config units fits n)

@@ -1,7 +1,7 @@
 -- For `connections_follow`. Connections come one after another, over every run from a new world.
 use Rattle.std.proofs.Common.{◌≡◌, ◌<◌, ℕ, true, List, length, Some}
-use Rattle.disk_model.specs.declared.unit.Unit.{Unit}
 use Rattle.multiplier.specs.State.{port_at}
+use Rattle.pm_world.specs.Attached.{Attached}
 use Rattle.pm_world.specs.Places.{Places, is_config, new_world}
 use Rattle.pm_world.specs.Rules.{Run}
 use Rattle.pm_world.specs.Traffic.{is_removed}
@@ -12,7 +12,7 @@ use Rattle.pm_world.specs.Connections.{ConnectionsFollow}
 use Rattle.pm_world.proofs.ports.FirmLemmas.{opening_firm, removed_before, run_firm}
 use Rattle.pm_world.proofs.ports.SentLemmas.{none_on_way}
 
-are_removed : (config : Config) (units : List Unit) → is_config config (length units) ≡ true → (steps : List Step) (answers : List Answer) (now : Places)
+are_removed : (config : Config) (units : List Attached) → is_config config (length units) ≡ true → (steps : List Step) (answers : List Answer) (now : Places)
     → Run (new_world config units) steps answers now → (n c d : ℕ) → n < 15 → (port_at now.multiplier n).present ≡ Some c → 0 < d → d < c
     → is_removed n d now ≡ true
 are_removed config units fits steps answers now run n c d below there some less =

@@ -15,8 +15,8 @@ use Rattle.multiplier.specs.Passing.{falls}
 use Rattle.multiplier.specs.State.{PmState, passes_to, port_at}
 use Rattle.multiplier.specs.declared.multiplier.Passed.TheVariants as passed
 use Rattle.multiplier.proofs.Door.{Answer as Answers, FromPort, Gives, gives, Notice}
-use Rattle.disk_model.specs.declared.unit.Unit.{Unit}
 use Rattle.hba_driver.specs.declared.mode.Mode.TheVariants.{Switching}
+use Rattle.pm_world.specs.Attached.{Attached}
 use Rattle.pm_world.specs.Cleared.{is_cleared}
 use Rattle.pm_world.specs.Downward.{fell_to}
 use Rattle.pm_world.specs.Places.{IsOrderly, Places, Queue, new_world}
@@ -200,7 +200,7 @@ each_keeps old (s ∷ steps) (a ∷ answers) new run orderly is = (
   each_keeps run.0 steps answers new run.2 (orderly_after old s a run.0 orderly run.1) (λ n. true_after n old s a run.0 run.1 (is n)),
 )
 
-pub opening_true : (config : Config) (units : List Unit) (n : ℕ) → IsTrue n (new_world config units).multiplier
+pub opening_true : (config : Config) (units : List Attached) (n : ℕ) → IsTrue n (new_world config units).multiplier
 opening_true config units n = record { room = length-replicate 15 opening_port; shows = opening_shows config units n }
 
 pub ports_keep : PortsKeep

@@ -5,9 +5,9 @@ use Rattle.std.proofs.Common.{Option, Some, None, Ok, arith}
 use Rattle.std.specs.Prelude.{if◌then◌else◌, slice_get}
 use Rattle.std.specs.List.{flat_map}
 use Rattle.std.proofs.lemmas.Bool.{and_parts, eqb-true}
-use Rattle.disk_model.specs.declared.unit.Unit.{Unit}
 use Rattle.multiplier.specs.Arbiter.{control_port}
 use Rattle.hba_driver.specs.declared.mode.Mode.TheVariants.{Switching}
+use Rattle.pm_world.specs.Attached.{Attached}
 use Rattle.pm_world.specs.Links.{on_presence}
 use Rattle.pm_world.specs.Places.{Place, Places, is_config, new_world}
 use Rattle.pm_world.specs.Rules.{CameRule, DiskSendActs, DiskSendRule, DiskTakeRule, GoneRule, InjectActs, InjectRule, PmDownRule, PmFromDeviceRule}
@@ -109,7 +109,7 @@ run_unsent n d below old [] (a ∷ answers) new f run unused = absurd run
 run_unsent n d below old (s ∷ steps) [] new f run unused = absurd run
 
 -- so nothing of it is on its way
-pub none_on_way : (n d : ℕ) → n < 15 → (config : Config) (units : List Unit) → is_config config (length units) ≡ true → (steps : List Step) (answers : List Answer)
+pub none_on_way : (n d : ℕ) → n < 15 → (config : Config) (units : List Attached) → is_config config (length units) ≡ true → (steps : List Step) (answers : List Answer)
     (now : Places) → Run (new_world config units) steps answers now → IsUnused n d now → is_removed n d now ≡ false → transit n d now ≡ []
 none_on_way n d below config units fits steps answers now run unused there =
     let f : IsFirm n (new_world config units) = opening_firm config units fits n in

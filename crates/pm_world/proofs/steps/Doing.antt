@@ -5,9 +5,8 @@ use Rattle.std.specs.Prelude.{IsTrue, slice_get, slice_index_or}
 use Rattle.std.proofs.lemmas.Option.{slice_get_read}
 use Rattle.fis_view.specs.Frames.{Stamped}
 use Rattle.disk_model.specs.Histories.{Received}
-use Rattle.disk_model.specs.Units.{UnitWantsRoom}
-use Rattle.disk_model.specs.declared.unit.Unit.{Unit}
 use Rattle.multiplier.specs.State.{PmState}
+use Rattle.pm_world.specs.Attached.{Attached, WantsRoom}
 use Rattle.pm_world.specs.Places.{Places, Place, Queue, FirstLeaves, with_device, with_multiplier}
 use Rattle.pm_world.specs.Rules.{Outcome, OnDeviceAndMultiplier, TakeWants, is_for}
 use Rattle.pm_world.specs.declared.step.StepError.TheVariants.{OutOfMemory}
@@ -27,11 +26,11 @@ again old frame rest first =
     ∙ ap (λ (k : ℕ). let q : Queue = record { frames = old.frames; capacity = k } in q) first.1
 
 -- a place whose unit lacks memory for the frame, which goes back, is as before
-pub wants_room : (old : Place) (unit : Unit) (down rest : Queue) (frame : Stamped) → FirstLeaves old.down (Some frame) rest
-    → down ≡ record { frames = frame ∷ rest.frames; capacity = rest.capacity } → IsTrue (is_for old frame) → UnitWantsRoom old.unit (Received frame.bytes) → unit ≡ old.unit
+pub wants_room : (old : Place) (unit : Attached) (down rest : Queue) (frame : Stamped) → FirstLeaves old.down (Some frame) rest
+    → down ≡ record { frames = frame ∷ rest.frames; capacity = rest.capacity } → IsTrue (is_for old frame) → WantsRoom old.unit (Received frame.bytes) → unit ≡ old.unit
     → TakeWants old OutOfMemory × ((let left : Place = record old { unit = unit; down = down } in left) ≡ old)
 wants_room old unit down rest frame first back for wants same = (
   (frame, rest.frames, first.0, for, wants),
-  ap (λ (u : Unit). let left : Place = record old { unit = u; down = down } in left) same
+  ap (λ (u : Attached). let left : Place = record old { unit = u; down = down } in left) same
       ∙ ap (λ (q : Queue). let left : Place = record old { down = q } in left) (back ∙ again old.down frame rest first),
 )

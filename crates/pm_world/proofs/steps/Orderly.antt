@@ -1,13 +1,12 @@
 -- For `paths_go_on`, clause `orderly`. Every world is orderly: a new one is, and no step makes it otherwise.
 use Rattle.std.proofs.Common.{◌≡◌, ◌≢◌, ℕ, ◌<◌, ◌≤◌, ◌==◌, Bool, true, false, List, [], ◌∷◌, length, map, Option, Some, None, refl, sym, ap, ◌∙◌, subst, arith}
 use Rattle.std.specs.Prelude.{slice_set, is_none, is_some, nat_le, if◌then◌else◌, Ok, MatchOption, MatchBool, ◌&&◌, ◌%◌}
-use Rattle.std.proofs.lemmas.Bool.{eqb-true, leb-false, leb-true}
+use Rattle.std.proofs.lemmas.Bool.{and_parts, eqb-true, leb-false, leb-true}
 use Rattle.std.proofs.lemmas.Option.{same_Some}
 use Rattle.std.proofs.lemmas.List.{length-set, length-map, length-replicate}
 use Rattle.fis_view.specs.Frames.{Stamped}
 use Rattle.fis_view.specs.declared.frame.Stamp.{Stamp}
 use Rattle.fis_view.specs.declared.build.D2hFields.{D2hFields}
-use Rattle.disk_model.specs.declared.unit.Unit.{Unit}
 use Rattle.pm_ports.specs.Port.{PortState, empty_port, is_present, with_connection, with_removal, with_up, came_refusal as port_came_refusal, gone_refusal as port_gone_refusal}
 use Rattle.pm_ports.specs.declared.port.GoneError.TheVariants.{NotThere}
 use Rattle.pm_ports.specs.declared.port.PortError.TheVariants.{AlreadyThere, OldConnection}
@@ -23,6 +22,7 @@ use Rattle.multiplier.specs.declared.multiplier.Passed.TheVariants as passed
 use Rattle.multiplier.proofs.Door as ports
 use Rattle.multiplier.proofs.Door.{still_up_to}
 use Rattle.hba_driver.specs.declared.mode.Mode.{Mode}
+use Rattle.pm_world.specs.Attached.{Attached}
 use Rattle.pm_world.specs.DevicePaths.{ReachedAreOrderly}
 use Rattle.pm_world.specs.Places.{KnowsItsConnections, Places, Place, Queue, IsOrderly, is_config, new_world_in, opening, with_device, with_multiplier, with_upward, with_downward, with_host}
 use Rattle.pm_world.specs.Rules.{OnDevice, OnDeviceAndMultiplier, PmPresenceRule, PmFromDeviceRule, PmDownRule, PmFromHostRule, PmUpRule, CameRule, DiskSendRule, GoneRule, InjectRule, DiskTakeRule, Rule, Run, Outcome, recorded}
@@ -354,7 +354,18 @@ at_most config units fits = cases (nat_le 1 config.ports) (nat_le config.ports 1
         omega arith
     cases _ _ _ _ _ _ _ _ most same fits = absurd (cc)
 
-pub opening_orderly : (mode : Mode) (config : Config) (units : List Unit) → is_config config (length units) ≡ true → IsOrderly (new_world_in mode config units)
+-- as many units as ports
+pub as_many : (config : Config) (units : ℕ) → is_config config units ≡ true → units ≡ config.ports
+as_many config units fits =
+    eqb-true units config.ports
+    (last (nat_le 1 config.ports) (nat_le config.ports 15) (nat_le 1 config.capacity) (nat_le config.capacity 64) (nat_le 2097152 config.memory)
+    (nat_le config.memory 16777216) (config.memory % 2 == 0) (units == config.ports) fits)
+  where
+    last : (a b c d e f g h : Bool) → (a && b && c && d && e && f && g && h) ≡ true → h ≡ true
+    last a b c d e f g true fits = refl
+    last a b c d e f g false fits = (and_parts (a && b && c && d && e && f && g) false fits).1
+
+pub opening_orderly : (mode : Mode) (config : Config) (units : List Attached) → is_config config (length units) ≡ true → IsOrderly (new_world_in mode config units)
 opening_orderly mode config units fits = record {
   most = let size : length (map (opening config.capacity) units) ≡ length units = length-map units (opening config.capacity) in
       let le : length units ≤ 15 = at_most config (length units) fits in omega arith;

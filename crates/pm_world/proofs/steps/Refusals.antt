@@ -1,15 +1,16 @@
 -- For `World::step`. A refusal changes nothing.
-use Rattle.std.proofs.Common.{◌≡◌, ℕ, List, Option, Some, None, refl, ap, ◌∙◌}
+use Rattle.std.proofs.Common.{◌≡◌, ℕ, List, Option, Some, None, refl, sym, ap, subst, ◌∙◌}
 use Rattle.std.specs.Prelude.{slice_get, Ok, Err, MatchOption, OnErr}
 use Rattle.multiplier.specs.State.{PmState}
 use Rattle.hba_driver.specs.HostTurns.{Host}
-use Rattle.pm_world.specs.Places.{Places, Place, Queue, with_device, with_multiplier, with_upward, with_downward, with_host}
+use Rattle.pm_world.specs.Places.{IsOrderly, Places, Place, Queue, with_device, with_multiplier, with_upward, with_downward, with_host}
 use Rattle.pm_world.specs.Rules.{Outcome, CameRule, GoneRule, DiskSendRule, InjectRule, DiskTakeRule, PmPresenceRule, PmFromDeviceRule, PmDownRule, PmFromHostRule, PmUpRule, HostPushRule, OnDevice, OnDeviceAndMultiplier, Rule}
 use Rattle.pm_world.specs.declared.step.Step.{Step}
 use Rattle.pm_world.specs.declared.step.Step.TheVariants as step
 use Rattle.pm_world.specs.declared.step.StepError.{StepError}
 use Rattle.pm_world.specs.declared.step.StepError.TheVariants as error
 use Rattle.pm_world.proofs.steps.Lists.{slice_set-same}
+use Rattle.pm_world.proofs.steps.Orderly.{orderly_after}
 
 on_device_same : (old : Places) (n : ℕ) (e : StepError) (new : Places) (R : Place → Outcome → Place → Type 0) → ((place after : Place) → R place (Err e) after → after ≡ place) → OnDevice old n (Err e) new R → new ≡ old
 on_device_same old n e new R same h = by_cases (slice_get old.devices n) refl h
@@ -66,3 +67,8 @@ refused old other e new rule = absurd rule.0
 pub same_where_refused : (old : Places) (s : Step) (outcome : Outcome) (new : Places) → Rule old s outcome new → OnErr outcome (new ≡ old)
 same_where_refused old s (Ok a) new rule = tt
 same_where_refused old s (Err e) new rule = refused old s e new rule
+
+-- a world stays orderly, whether the step is refused or not
+pub stays_orderly : (old : Places) (s : Step) (outcome : Outcome) (new : Places) → IsOrderly old → Rule old s outcome new → IsOrderly new
+stays_orderly old s (Ok a) new orderly rule = orderly_after old s a new orderly rule
+stays_orderly old s (Err e) new orderly rule = subst IsOrderly (sym (refused old s e new rule)) orderly

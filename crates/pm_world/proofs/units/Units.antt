@@ -5,9 +5,8 @@ use Rattle.std.proofs.lemmas.Bool.{cases_eq, eq-eqb, ne_eqb}
 use Rattle.std.proofs.lemmas.List.{append-nil}
 use Rattle.fis_view.specs.Frames.{Stamped}
 use Rattle.disk_model.specs.Histories.{Happening, Received, Sent, Plugged, Plan}
-use Rattle.disk_model.specs.Units.{plan_of, StandsFor}
-use Rattle.disk_model.specs.declared.unit.Unit.{Unit as Device}
 use Rattle.multiplier.specs.State.{PmState}
+use Rattle.pm_world.specs.Attached.{Attached as Device, plan_of, StandsFor}
 use Rattle.pm_world.specs.Downward.{on_down_link}
 use Rattle.pm_world.specs.Units.{happens, MaySendAll, LivesOn, UnitsLiveOn, UnitsLivedOn}
 use Rattle.pm_world.specs.Places.{Places, Place, opening, new_world_in}

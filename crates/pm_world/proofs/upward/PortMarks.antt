@@ -12,7 +12,6 @@ use Rattle.fis_view.specs.Table.{Kind, Name, PmPort, D2h, Bits, places}
 use Rattle.fis_view.specs.declared.build.D2hFields.{D2hFields}
 use Rattle.fis_view.specs.declared.frame.Stamp.{Stamp}
 use Rattle.fis_view.proofs.Door.{frame_bounds, port_bits, port_field, port_written}
-use Rattle.disk_model.specs.declared.unit.Unit.{Unit as Device}
 use Rattle.pm_registers.specs.RegisterMap.{RegisterMap, after_notice}
 use Rattle.pm_registers.specs.declared.words.RegisterError.{RegisterError}
 use Rattle.pm_registers.specs.declared.words.RegisterError.TheVariants.{NoPort, NoRegister}
@@ -35,6 +34,7 @@ use Rattle.hba_fbs.specs.declared.report.TakeReport.{TakeReport}
 use Rattle.host_memory.specs.Memory.{Memory}
 use Rattle.hba_driver.specs.HostTurns.{Host, Tooks}
 use Rattle.hba_driver.specs.declared.request.Request.{Request as Asked}
+use Rattle.pm_world.specs.Attached.{Attached as Device}
 use Rattle.pm_world.specs.Places.{Places, Place, Queue, new_world, new_world_in}
 use Rattle.pm_world.specs.Rules.{Outcome, Rule, Run, OnDevice, OnDeviceAndMultiplier, CameActs, GoneActs, DiskSendActs, InjectActs, DiskTakeActs, CameRule, GoneRule, DiskSendRule, InjectRule, DiskTakeRule, PmPresenceRule, PmFromDeviceRule, PmDownRule, PmFromHostRule, PmUpRule, HostTakeRule, HostPushRule, TickRule, SubmitRule, PollRule, PutRule, recorded}
 use Rattle.pm_world.specs.Turns.{AreOfTheirPorts, IsOfItsPort}

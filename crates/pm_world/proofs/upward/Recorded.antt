@@ -6,7 +6,6 @@ use Rattle.std.proofs.lemmas.Bool.{cases_eq, eq-eqb, leb-true, ne_eqb}
 use Rattle.std.proofs.lemmas.List.{append-nil}
 use Rattle.std.proofs.lemmas.List.Elements.{filter-append}
 use Rattle.std.proofs.lemmas.Option.{same_Some, slice_get_within}
-use Rattle.disk_model.specs.declared.unit.Unit.{Unit}
 use Rattle.hba_driver.specs.declared.mode.Mode.{Mode}
 use Rattle.hba_driver.specs.declared.request.Request.{Request}
 use Rattle.pm_ports.specs.Port.{is_present, with_connection, with_removal, came_refusal as port_came_refusal, gone_refusal as port_gone_refusal}
@@ -17,6 +16,7 @@ use Rattle.multiplier.specs.State.{PmState, port_at, rising}
 use Rattle.multiplier.proofs.Door as ports
 use Rattle.multiplier.proofs.Door.{up_to}
 use Rattle.multiplier.specs.Rules.{with_device as connected, without_device}
+use Rattle.pm_world.specs.Attached.{Attached}
 use Rattle.pm_world.specs.Downward.{times}
 use Rattle.pm_world.specs.Links.{changed_by, is_recorded, on_presence}
 use Rattle.pm_world.specs.Places.{Places, Place, IsOrderly, is_config, new_world_in, opening, with_device, with_downward, with_host, with_multiplier, with_upward}
@@ -596,12 +596,12 @@ run_records old (s ∷ steps) [] new orderly run n led = absurd run
 abbrev pub nothing_known : Known
 nothing_known = (None, 0, 0)
 
-pub opening_led : (capacity : ℕ) (units : List Unit) (n : ℕ) → IsLed (slice_get (map (opening capacity) units) n) nothing_known
+pub opening_led : (capacity : ℕ) (units : List Attached) (n : ℕ) → IsLed (slice_get (map (opening capacity) units) n) nothing_known
 opening_led capacity [] n = record { let_in = tt; stands = tt }
 opening_led capacity (u ∷ units) zero = record { let_in = tt; stands = (refl, refl) }
 opening_led capacity (u ∷ units) (suc n) = opening_led capacity units n
 
-nothing_posted : (capacity : ℕ) (units : List Unit) (n : ℕ) → on_presence (slice_get (map (opening capacity) units) n) ≡ []
+nothing_posted : (capacity : ℕ) (units : List Attached) (n : ℕ) → on_presence (slice_get (map (opening capacity) units) n) ≡ []
 nothing_posted capacity [] n = refl
 nothing_posted capacity (u ∷ units) zero = refl
 nothing_posted capacity (u ∷ units) (suc n) = nothing_posted capacity units n
@@ -611,7 +611,7 @@ take_front [] ys = refl
 take_front (x ∷ xs) ys = ap (λ l. x ∷ l) (take_front xs ys)
 
 -- the highest removal that was recorded is what a port knows as gone
-pub gone_recorded : (mode : Mode) (config : Config) (units : List Unit) → is_config config (length units) ≡ true → (steps : List Step) (answers : List Answer) (now : Places)
+pub gone_recorded : (mode : Mode) (config : Config) (units : List Attached) → is_config config (length units) ≡ true → (steps : List Step) (answers : List Answer) (now : Places)
     → Run (new_world_in mode config units) steps answers now → (n : ℕ) → (port_at now.multiplier n).gone ≡ highest_gone (recorded_at n answers)
 gone_recorded mode config units fits steps answers now run n =
     let opens : known (port_at (new_world_in mode config units).multiplier n) ≡ nothing_known = ap known (port_opening config units n) in
@@ -655,7 +655,7 @@ run_counts old [] (a ∷ answers) new orderly run = absurd run
 run_counts old (s ∷ steps) [] new orderly run = absurd run
 
 -- so what is taken after that is not of a connection whose removal was seen
-seen_over : (mode : Mode) (config : Config) (units : List Unit) → is_config config (length units) ≡ true → (steps : List Step) (answers : List Answer) (now : Places)
+seen_over : (mode : Mode) (config : Config) (units : List Attached) → is_config config (length units) ≡ true → (steps : List Step) (answers : List Answer) (now : Places)
     → Run (new_world_in mode config units) steps answers now → (n c : ℕ) → n ≢ control_port → (first second later : List Answer) → first ++ (second ++ later) ≡ answers → IsSeen n c first second
     → taken n c later ≡ []
 seen_over mode config units fits steps answers now run n c device first second later e is =

@@ -3,12 +3,13 @@
 //! Clauses see a `Rig` as a number, and no function of the tests has a contract. So a test is proved
 //! with little work, whatever is proved of a world.
 
+use super::liar::Liar;
 use disk_model::{Disk, DiskPlan, Unit};
 use fis_view::Bytes;
 use hba_driver::{Completion, Request, SubmitError, Work};
 use host_memory::{CLIENT_START, Prd};
 use multiplier::Passed;
-use pm_world::{Answer, Config, ConnCount, Counts, Step, StepError, World, WorldError};
+use pm_world::{Answer, AnyDevice, Config, ConnCount, Counts, Step, StepError, WorldError};
 use std::alloc::{AllocError, Global};
 use std::marker::Model;
 
@@ -182,16 +183,19 @@ pub(super) fn add_all(
     Ok(())
 }
 
+/// A world in which a port may have a device of the tests' own.
+pub(super) type World = pm_world::World<AnyDevice<Liar>>;
+
 /// A disk of 16 sectors.
-fn disk(alloc: Global, plan: DiskPlan) -> Result<Unit, AllocError> {
+fn disk(alloc: Global, plan: DiskPlan) -> Result<AnyDevice<Liar>, AllocError> {
     match Disk::new(alloc, 16, plan) {
-        Ok(disk) => Ok(Unit::Disk(disk)),
+        Ok(disk) => Ok(AnyDevice::Unit(Unit::Disk(disk))),
         Err(_) => Err(AllocError),
     }
 }
 
 /// This many disks of 16 sectors.
-pub(super) fn disks(alloc: Global, count: u8) -> Result<Vec<Unit>, AllocError> {
+fn disks(alloc: Global, count: u8) -> Result<Vec<AnyDevice<Liar>>, AllocError> {
     let mut units = Vec::new(alloc);
     for _ in 0..count {
         units.push(disk(alloc, DiskPlan::plain())?)?;
@@ -216,6 +220,18 @@ fn config(ports: u8, capacity: usize) -> Config {
 /// A world of this many disks, with links of this capacity.
 fn world(alloc: Global, ports: u8, capacity: usize) -> Result<World, WorldError> {
     world_of(alloc, config(ports, capacity), ports)
+}
+
+/// A disk, and a liar.
+fn disk_and_liar(alloc: Global) -> Result<Vec<AnyDevice<Liar>>, AllocError> {
+    let mut devices = disks(alloc, 1)?;
+    devices.push(AnyDevice::Own(Liar { left: 40 }))?;
+    Ok(devices)
+}
+
+/// A world of a disk at port 0, and a liar at port 1.
+fn world_beside_liar(alloc: Global) -> Result<World, WorldError> {
+    World::new(alloc, config(2, 2), disk_and_liar(alloc)?)
 }
 
 fn give_once(world: &mut World, alloc: Global, step: &Step) -> Result<Answer, StepError> {
@@ -281,13 +297,21 @@ impl Model for Rig {
 impl Rig {
     /// A rig of this many disks, none of which is plugged in.
     pub(super) fn new(alloc: Global, ports: u8, capacity: usize) -> Result<Rig, WorldError> {
-        let world = world(alloc, ports, capacity)?;
-        Ok(Rig {
+        Ok(Rig::of(alloc, ports, world(alloc, ports, capacity)?))
+    }
+
+    /// A rig of a disk at port 0, and a liar at port 1.
+    pub(super) fn beside_liar(alloc: Global) -> Result<Rig, WorldError> {
+        Ok(Rig::of(alloc, 2, world_beside_liar(alloc)?))
+    }
+
+    fn of(alloc: Global, ports: u8, world: World) -> Rig {
+        Rig {
             alloc,
             world,
             ports,
             counts: Counts::new(alloc),
-        })
+        }
     }
 
     /// Whether all disks come, and all steps are done that can be done.

@@ -1,19 +1,17 @@
-use Rattle.std.proofs.Common.{arith, inl}
-use Rattle.std.proofs.Math.Numerals.{add-one}
-use Rattle.disk_image.proofs.SectorLemmas.{keeps_more, keeps_to, mixes_more, one_more}
+use Rattle.std.proofs.Common.{arith, rules}
+use Rattle.disk_image.proofs.SectorLemmas.{leaves, leaves_unflushed, saved_more}
 use Rattle.disk_image.proofs.image.save_all.Goals as goal
 
 pub loop-lba-preserved : goal.loop-lba-preserved
 loop-lba-preserved g c =
-    let was = c.loop-lba.invariant in
-    let one = c.in_ok-save_one.ensures in record {
+    let was = c.loop-lba.invariant in record {
       from = omega (arith, was.from);
-      top = inl (omega (arith, c.loop-lba-test.true));
-      same = rw add-one (one_more _ _ _ _ _ _ c.save_one.ensures.long was.same one.written);
-      part = mixes_more _ _ _ _ _ _ c.save_one.ensures.long was.part one.written;
-      others = rw add-one (keeps_more _ _ _ _ _ _ _ c.save_one.ensures.long was.from was.others one.written);
+      saved = saved_more _ _ _ _ _ _ _ _ was.from c.loop-lba-test.true was.saved c.in_ok-save_one.ensures.saved;
     }
 
-pub returns-clause-others : goal.returns-clause-others
-returns-clause-others g c =
-    let was = c.loop-lba.invariant in keeps_to _ _ _ _ _ was.from was.top c.loop-lba-test.false was.others
+pub returns-in_err-save_one-clause-failed : goal.returns-in_err-save_one-clause-failed
+returns-in_err-save_one-clause-failed g c =
+    let left = leaves _ _ _ _ _ _ _ _ c.in_err-save_one.field-0.0 c.loop-lba.invariant.saved c.in_err-save_one.ensures.failed in search rules
+
+pub returns-in-Err-clause-failed : goal.returns-in-Err-clause-failed
+returns-in-Err-clause-failed g c = leaves_unflushed _ _ _ _ _ _ _ _ c.loop-lba.invariant.saved c.in-Err.ensures.contents

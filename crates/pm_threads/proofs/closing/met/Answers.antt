@@ -1,6 +1,5 @@
 use Rattle.std.proofs.Common.{rules}
 use Rattle.std.specs.Prelude.{map}
-use Rattle.disk_model.specs.declared.unit.Unit.{Unit}
 use Rattle.disk_thread.specs.declared.worker.DiskEnd.{DiskEnd}
 use Rattle.std.specs.List.{AllZip}
 use Rattle.ruled_links.specs.Lists.{IsPrefixOf}
@@ -13,33 +12,33 @@ use Rattle.pm_threads.proofs.closing.met.Goals as goal
 
 pub returns-clause-arrives : goal.returns-clause-arrives
 returns-clause-arrives g c =
-    let handed : AllZip Handed (map (λ (e : DiskEnd Unit). e.station) c.args.disks.items) c.args.pm.ports = search rules in
+    let handed : AllZip Handed (map (λ (e : DiskEnd g.row.D.Denot). e.station) c.args.disks.items) c.args.pm.ports = search rules in
     let passes : Passes c.args.pm = search rules in
     let met : IsPrefixOf c.args.host.frames.taken c.args.pm.host.sent = search (rules, link_prefix) in
-    all_arrive (map (λ (e : DiskEnd Unit). e.station) c.args.disks.items) c.args.pm.ports c.args.pm.host.sent c.args.host.frames.taken handed passes.begun met
+    all_arrive (map (λ (e : DiskEnd g.row.D.Denot). e.station) c.args.disks.items) c.args.pm.ports c.args.pm.host.sent c.args.host.frames.taken handed passes.begun met
 
 pub returns-in_err-counts-clause-arrives : goal.returns-in_err-counts-clause-arrives
 returns-in_err-counts-clause-arrives g c =
-    let handed : AllZip Handed (map (λ (e : DiskEnd Unit). e.station) c.args.disks.items) c.args.pm.ports = search rules in
+    let handed : AllZip Handed (map (λ (e : DiskEnd g.row.D.Denot). e.station) c.args.disks.items) c.args.pm.ports = search rules in
     let passes : Passes c.args.pm = search rules in
     let met : IsPrefixOf c.args.host.frames.taken c.args.pm.host.sent = search (rules, link_prefix) in
-    all_arrive (map (λ (e : DiskEnd Unit). e.station) c.args.disks.items) c.args.pm.ports c.args.pm.host.sent c.args.host.frames.taken handed passes.begun met
+    all_arrive (map (λ (e : DiskEnd g.row.D.Denot). e.station) c.args.disks.items) c.args.pm.ports c.args.pm.host.sent c.args.host.frames.taken handed passes.begun met
 
 pub returns-in_err-units-clause-arrives : goal.returns-in_err-units-clause-arrives
 returns-in_err-units-clause-arrives g c =
-    let handed : AllZip Handed (map (λ (e : DiskEnd Unit). e.station) c.args.disks.items) c.args.pm.ports = search rules in
+    let handed : AllZip Handed (map (λ (e : DiskEnd g.row.D.Denot). e.station) c.args.disks.items) c.args.pm.ports = search rules in
     let passes : Passes c.args.pm = search rules in
     let met : IsPrefixOf c.args.host.frames.taken c.args.pm.host.sent = search (rules, link_prefix) in
-    all_arrive (map (λ (e : DiskEnd Unit). e.station) c.args.disks.items) c.args.pm.ports c.args.pm.host.sent c.args.host.frames.taken handed passes.begun met
+    all_arrive (map (λ (e : DiskEnd g.row.D.Denot). e.station) c.args.disks.items) c.args.pm.ports c.args.pm.host.sent c.args.host.frames.taken handed passes.begun met
 
 pub returns-clause-fewer : goal.returns-clause-fewer
 returns-clause-fewer g c =
-    let handed : AllZip Handed (map (λ (e : DiskEnd Unit). e.station) c.args.disks.items) c.args.pm.ports = search rules in
+    let handed : AllZip Handed (map (λ (e : DiskEnd g.row.D.Denot). e.station) c.args.disks.items) c.args.pm.ports = search rules in
     let passes : Passes c.args.pm = search rules in
     let met : IsPrefixOf c.args.host.frames.taken c.args.pm.host.sent = search (rules, link_prefix) in
-    let counted : AreCounted c.in_ok-counts.field-0.items (map (λ (e : DiskEnd Unit). e.station) c.args.disks.items) c.args.host.frames.taken = search rules in
-    none_above (map (λ (e : DiskEnd Unit). e.station) c.args.disks.items) c.args.host.frames.taken c.in_ok-counts.field-0.items c.requires.few counted
-    (all_arrive (map (λ (e : DiskEnd Unit). e.station) c.args.disks.items) c.args.pm.ports c.args.pm.host.sent c.args.host.frames.taken handed passes.begun met)
+    let counted : AreCounted c.in_ok-counts.field-0.items (map (λ (e : DiskEnd g.row.D.Denot). e.station) c.args.disks.items) c.args.host.frames.taken = search rules in
+    none_above (map (λ (e : DiskEnd g.row.D.Denot). e.station) c.args.disks.items) c.args.host.frames.taken c.in_ok-counts.field-0.items c.requires.few counted
+    (all_arrive (map (λ (e : DiskEnd g.row.D.Denot). e.station) c.args.disks.items) c.args.pm.ports c.args.pm.host.sent c.args.host.frames.taken handed passes.begun met)
 
 pub returns-clause-made : goal.returns-clause-made
 returns-clause-made g c start run =

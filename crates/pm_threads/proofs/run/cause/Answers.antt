@@ -1,7 +1,6 @@
 use Rattle.std.proofs.Common.{rules, ◌≡◌, ◌∙◌, List, Option, None, true, false, sym, inr}
 use Rattle.std.specs.Prelude.{All}
 use Rattle.std.specs.List.{list_any}
-use Rattle.disk_model.specs.declared.unit.Unit.{Unit}
 use Rattle.disk_thread.specs.declared.worker.DiskEnd.{DiskEnd}
 use Rattle.host_thread.specs.Runs.{is_open}
 use Rattle.host_thread.specs.declared.end.HostEnd.{HostEnd}
@@ -11,19 +10,19 @@ use Rattle.pm_threads.specs.Halts.{IsOpen, is_any_short, is_shut}
 use Rattle.pm_threads.proofs.Ends.{all_quiet, first_false}
 use Rattle.pm_threads.proofs.run.cause.Goals as goal
 
-quiet : (disks : List (DiskEnd Unit)) (pm host : Option Fault) → is_any_short disks pm host ≡ false
+quiet : {D : Type 0} (disks : List (DiskEnd D)) (pm host : Option Fault) → is_any_short disks pm host ≡ false
     → list_any (λ e. is_shut e.fault) disks ≡ false → All (λ e. e.fault ≡ None) disks
 quiet disks pm host short shut = all_quiet (λ e. e.fault) disks (first_false _ _ _ short) shut
 
 -- a request is open, and no worker lacked memory or ended by its gate
-open_ends : (disks : List (DiskEnd Unit)) (pm : PmEnd) (host : HostEnd) → is_any_short disks pm.fault host.fault ≡ false
+open_ends : {D : Type 0} (disks : List (DiskEnd D)) (pm : PmEnd) (host : HostEnd) → is_any_short disks pm.fault host.fault ≡ false
     → list_any (λ e. is_shut e.fault) disks ≡ false → list_any is_open host.worker.states ≡ true
     → IsOpen (record { disks = disks; pm = pm; host = host })
 open_ends disks pm host short shut is =
     record { memory = short; quiet = quiet disks pm.fault host.fault short shut; open_is = is }
 
 pub returns-then-is_any_spent-clause-why : goal.returns-then-is_any_spent-clause-why
-returns-then-is_any_spent-clause-why c =
+returns-then-is_any_spent-clause-why g c =
     let not_short : c.is_any_short.result ≡ false = search rules in
     let not_shut : c.any_shut.result ≡ false = search rules in
     let is : c.is_open.result ≡ true = search rules in
@@ -34,7 +33,7 @@ returns-then-is_any_spent-clause-why c =
     )
 
 pub returns-then-is_open-clause-why : goal.returns-then-is_open-clause-why
-returns-then-is_open-clause-why c =
+returns-then-is_open-clause-why g c =
     let not_short : c.is_any_short.result ≡ false = search rules in
     let not_shut : c.any_shut.result ≡ false = search rules in
     let is : c.is_open.result ≡ true = search rules in
@@ -46,7 +45,7 @@ returns-then-is_open-clause-why c =
     )
 
 pub returns-clause-quiet : goal.returns-clause-quiet
-returns-clause-quiet c =
+returns-clause-quiet g c =
     let not_short : c.is_any_short.result ≡ false = search rules in
     let not_shut : c.any_shut.result ≡ false = search rules in
     quiet c.args.disks.now c.args.pm.now.fault c.args.host.now.fault (sym c.is_any_short.ensures ∙ not_short)

@@ -1,6 +1,5 @@
 use Rattle.std.proofs.Common.{rules, ◌≡◌, Option, None, Some, subst}
 use Rattle.std.specs.Prelude.{All, IfNone}
-use Rattle.disk_model.specs.declared.unit.Unit.{Unit}
 use Rattle.disk_thread.specs.declared.worker.DiskEnd.{DiskEnd}
 use Rattle.pm_threads.specs.Halts.{IsWhy}
 use Rattle.pm_threads.specs.declared.run.RunError.{RunError}
@@ -11,12 +10,12 @@ if_none None P p is = p
 if_none (Some error) P p is = absurd cc
 
 pub returns-in-Some-clause-why : goal.returns-in-Some-clause-why
-returns-in-Some-clause-why c =
+returns-in-Some-clause-why g c =
     let first : c.as_slice.result.now ≡ c.args.disks.items = search rules in
     subst (λ l. IsWhy c.in-Some.error (record { disks = l; pm = c.args.pm; host = c.args.host })) first c.in-Some.ensures.why
 
 pub returns-clause-no_fault : goal.returns-clause-no_fault
-returns-clause-no_fault c =
+returns-clause-no_fault g c =
     let first : c.as_slice.result.now ≡ c.args.disks.items = search rules in
     let none : c.cause.result ≡ None = search rules in
-    subst (All (λ (e : DiskEnd Unit). e.fault ≡ None)) first (if_none c.cause.result _ c.cause.ensures.quiet none)
+    subst (All (λ (e : DiskEnd g.row.D.Denot). e.fault ≡ None)) first (if_none c.cause.result _ c.cause.ensures.quiet none)

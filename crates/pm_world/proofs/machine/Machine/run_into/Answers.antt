@@ -27,13 +27,13 @@ told_more : (old all : List Answer) (a : Answer) → take (length old) all ≡ o
 told_more old all a kept = ap (drop (length old)) (one_more old all a kept) ∙ drop-append_seam old (drop (length old) all ++ a ∷ [])
 
 pub returns-in_default-clause-laws : goal.returns-in_default-clause-laws
-returns-in_default-clause-laws c =
+returns-in_default-clause-laws g c =
     let missing : slice_get c.args.steps.now 0 ≡ None = search rules in
     let none : c.args.steps.now ≡ [] = none_first c.args.steps.now missing in
     rw (none, drop-length c.args.answers.now.items) (obeys c.args.self.now [] [] c.args.self.now (subst IsOrderly c.self.view_is c.self.invariant.0))
 
 pub returns-then-is_err-clause-stops : goal.returns-then-is_err-clause-stops
-returns-then-is_err-clause-stops c =
+returns-then-is_err-clause-stops g c =
     let now = c.args.self.now in
     let s = c.in-Some.first.now in
     let here : slice_get c.args.steps.now 0 ≡ Some s = search rules in
@@ -49,7 +49,7 @@ returns-then-is_err-clause-stops c =
     )
 
 pub loop-i-init : goal.loop-i-init
-loop-i-init c =
+loop-i-init g c =
     let old = c.args.answers.now.items in
     record {
       kept = rw c.reserve.ensures.items (take_all (length old) old (omega arith));
@@ -59,13 +59,13 @@ loop-i-init c =
     }
 
 pub push_reserved-requires : goal.push_reserved-requires
-push_reserved-requires c = omega (arith, c.loop-i.invariant.room, c.loop-i.invariant.count)
+push_reserved-requires g c = omega (arith, c.loop-i.invariant.room, c.loop-i.invariant.count)
 
 pub returns-in-Err-clause-kept : goal.returns-in-Err-clause-kept
-returns-in-Err-clause-kept c = c.loop-i.invariant.kept
+returns-in-Err-clause-kept g c = c.loop-i.invariant.kept
 
 pub returns-in-Err-clause-stops : goal.returns-in-Err-clause-stops
-returns-in-Err-clause-stops c =
+returns-in-Err-clause-stops g c =
     let steps = c.args.steps.now in
     let told = drop (length c.args.answers.now.items) c.loop-i.answers.items in
     let s = c.index-steps-i.result in
@@ -83,7 +83,7 @@ returns-in-Err-clause-stops c =
     )
 
 pub loop-i-preserved : goal.loop-i-preserved
-loop-i-preserved c =
+loop-i-preserved g c =
     let steps = c.args.steps.now in
     let old = c.args.answers.now.items in
     let all = c.loop-i.answers.items in
@@ -101,16 +101,16 @@ loop-i-preserved c =
     }
 
 pub returns-clause-kept : goal.returns-clause-kept
-returns-clause-kept c = c.loop-i.invariant.kept
+returns-clause-kept g c = c.loop-i.invariant.kept
 
 pub returns-clause-run : goal.returns-clause-run
-returns-clause-run c =
+returns-clause-run g c =
     let steps = c.args.steps.now in
     let all : take c.loop-i.i steps ≡ steps = take_all c.loop-i.i steps c.loop-i-test.false in
     rw all at c.loop-i.invariant.run
 
 pub returns-clause-laws : goal.returns-clause-laws
-returns-clause-laws c =
+returns-clause-laws g c =
     let steps = c.args.steps.now in
     let told = drop (length c.args.answers.now.items) c.loop-i.answers.items in
     obeys c.args.self.now steps told c.loop-i.self (subst IsOrderly c.self.view_is c.self.invariant.0)

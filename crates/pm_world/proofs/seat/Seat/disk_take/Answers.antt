@@ -4,7 +4,6 @@ use Rattle.std.specs.Result.{is_err}
 use Rattle.std.specs.declared.alloc.AllocError.{AllocError}
 use Rattle.pm_world.specs.Places.{Place}
 use Rattle.pm_world.specs.Rules.{TakeWants}
-use Rattle.pm_world.specs.contracts.seat.Seat.{the_view}
 use Rattle.pm_world.specs.declared.step.StepError.TheVariants.{OutOfMemory}
 use Rattle.pm_world.proofs.steps.Doing.{wants_room}
 use Rattle.pm_world.proofs.seat.Seat.disk_take.Goals as goal
@@ -15,8 +14,17 @@ failed (Ok u) e h = absurd (cc)
 failed (Err x) e h = h
 
 pub returns-then-is_err : goal.returns-then-is_err
-returns-then-is_err c =
-    let error : is_err c.on_frame.result ≡ true = sym c.is_err.ensures.value ∙ c.if-is_err.true in
-    subst (λ (p : Place). TakeWants p OutOfMemory × ((let left : Place = record (the_view c.self.inside) { unit = c.on_frame.new.self; down = c.put_back.new.self } in left) ≡ p)) c.self.view_is
-    (wants_room (the_view c.self.inside) c.on_frame.new.self c.put_back.new.self c.take.new.self c.in-Some.frame c.in-Some.ensures.first c.put_back.ensures
-    (sym c.is_for-dropped.ensures ∙ c.if-not-dropped.true) (failed c.on_frame.result error c.on_frame.ensures.no_memory) (failed c.on_frame.result error c.on_frame.ensures.err))
+returns-then-is_err g c =
+    let error : is_err c.hear.result ≡ true = sym c.is_err.ensures.value ∙ c.if-is_err.true in
+    let was : Place = record {
+      unit = g.D.PortDevice.seen c.self.inside.unit;
+      plugged = c.self.inside.plugged;
+      conn = c.self.inside.conn;
+      number = c.self.inside.number;
+      up = c.self.inside.up;
+      down = c.self.inside.down;
+      presence = c.self.inside.presence;
+    } in
+    subst (λ (p : Place). TakeWants p OutOfMemory × ((let left : Place = record was { unit = g.D.PortDevice.seen c.hear.new.self; down = c.put_back.new.self } in left) ≡ p)) c.self.view_is
+    (wants_room was (g.D.PortDevice.seen c.hear.new.self) c.put_back.new.self c.take.new.self c.in-Some.frame c.in-Some.ensures.first c.put_back.ensures
+    (sym c.is_for-dropped.ensures ∙ c.if-not-dropped.true) (failed c.hear.result error c.hear.ensures.no_memory) (failed c.hear.result error c.hear.ensures.err))

@@ -1,4 +1,5 @@
-use Rattle.std.proofs.Common.{◌≡◌, ◌↔◌, Bool, true, false, refl, [], Ok, Err}
+use Rattle.std.proofs.Common.{◌≡◌, ◌↔◌, Bool, true, false, refl, ap, ◌∙◌, [], Ok, Err, map}
+use Rattle.std.proofs.lemmas.List.{length-map}
 use Rattle.std.specs.Prelude.{Result, length}
 use Rattle.pm_world.specs.Places.{Places, is_config}
 use Rattle.pm_world.specs.declared.step.WorldError.{WorldError}
@@ -11,11 +12,13 @@ fits_made true r w iff is = refl
 fits_made false r w iff is = let bad : r ≡ Err BadConfig = iff.1 refl in absurd (cc (bad, is))
 
 pub invariant_of-result : goal.invariant_of-result
-invariant_of-result c = record {
+invariant_of-result g c = record {
   mode = c.args.mode;
   config = c.args.config;
-  units = c.args.units.items;
-  fits = fits_made (is_config c.args.config (length c.args.units.items)) c.new.result c.in_ok-machine.machine c.new.ensures.bad_config c.in_ok-machine.was;
+  units = map g.D.PortDevice.seen c.args.units.items;
+  fits =
+      ap (is_config c.args.config) (length-map c.args.units.items g.D.PortDevice.seen)
+      ∙ fits_made (is_config c.args.config (length c.args.units.items)) c.new.result c.in_ok-machine.machine c.new.ensures.bad_config c.in_ok-machine.was;
   steps = [];
   answers = [];
   run = c.in_ok-machine.ensures.ok;
