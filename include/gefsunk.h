@@ -205,11 +205,11 @@ typedef struct gef_disk {
                                /* (docs/FORMATS.md) */
 
 /*
- * Makes a disk with 1 to 65,536 sectors of 512 bytes, with GEF_DISK_STOCK up to 8,388,607 (512 bytes less than 4 GiB), and
- * opens the handle. Byte i of sector L is (L + i) modulo 256 at first; gefsunk_image.h gives a disk sectors of yours. chunk
- * is the most bytes that one DMA Setup moves: a multiple of 512, from 512 to 8,192. serial ends the serial number of a stock
- * disk, as eight hexadecimal digits: give each disk of a guest its own. bad lists bad_count sectors, at most 16, that cannot
- * be read; it may be null if bad_count is 0. Memory for all sectors is taken at once.
+ * Makes a disk with 1 to 65,536 sectors of 512 bytes, with GEF_DISK_STOCK up to 268,435,455 (512 bytes less than 128 GiB),
+ * and opens the handle. Byte i of sector L is (L + i) modulo 256 at first; gefsunk_image.h gives a disk sectors of yours.
+ * chunk is the most bytes that one DMA Setup moves: a multiple of 512, from 512 to 8,192. serial ends the serial number of a
+ * stock disk, as eight hexadecimal digits: give each disk of a guest its own. bad lists bad_count sectors, at most 16, that
+ * cannot be read; it may be null if bad_count is 0. Memory for all sectors is taken at once.
  * Can return GEF_OPEN (free it first), GEF_BAD_DISK, GEF_NO_MEMORY.
  */
 gef_status gef_disk_new(gef_disk *disk, uint32_t sectors, uint16_t chunk, uint32_t flags, uint32_t serial,

@@ -163,8 +163,8 @@ static void open_image(GefsunkAhci *s, unsigned port, const char *name, Error **
     struct stat about;
     size_t bads;
     s->files[port].at = open(name, O_RDWR);
-    if (s->files[port].at < 0 || fstat(s->files[port].at, &about) || about.st_size / 512 > 8388607 || about.st_size < 512) {
-        error_setg(errp, "%s: no file with 1 to 8,388,607 sectors", name);
+    if (s->files[port].at < 0 || fstat(s->files[port].at, &about) || about.st_size / 512 > 268435455 || about.st_size < 512) {
+        error_setg(errp, "%s: no file with 1 to 268,435,455 sectors", name);
         return;
     }
     image->read = read_file;

@@ -9,7 +9,7 @@ use std::io::{Read, Seek, SeekFrom, Write};
 use thiserror::Error;
 
 /// The most sectors of a medium in a file.
-const MOST_SECTORS: u64 = 8_388_607;
+const MOST_SECTORS: u64 = 268_435_455;
 
 /// Why a file is no medium.
 #[derive(Clone, Copy, Debug, PartialEq, Eq, Error)]
@@ -18,7 +18,7 @@ pub enum FileError {
     #[error("the size of the file is not known")]
     NoSize,
     /// It has no sector, not whole sectors, or more than a disk can have.
-    #[error("the file has not from 1 to 8388607 sectors of 512 bytes")]
+    #[error("the file has not from 1 to 268435455 sectors of 512 bytes")]
     BadSize,
 }
 
@@ -27,7 +27,7 @@ pub enum FileError {
 pub struct FileMedium<F: Drop> {
     file: F,
     sectors: u32,
-    pub ghost has_size: { (1 ≤ sectors) × (sectors ≤ 8388607) },
+    pub ghost has_size: { (1 ≤ sectors) × (sectors ≤ 268435455) },
 }
 
 impl<F: Read + Write + Seek + OpenFile + Drop> FileMedium<F> {

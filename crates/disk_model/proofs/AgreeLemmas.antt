@@ -16,7 +16,7 @@ use Rattle.disk_model.specs.declared.answer.Page.{Page}
 use Rattle.disk_model.specs.declared.answer.Page.TheVariants.{ErrorLog, Identity}
 use Rattle.disk_model.specs.declared.answer.Fault.{Fault}
 use Rattle.disk_model.specs.declared.answer.Fault.TheVariants.{Failed, Held, Mixed}
-use Rattle.disk_model.specs.Requests.{Asks}
+use Rattle.disk_model.specs.Requests.{Asks, IsCounted}
 use Rattle.disk_model.specs.Sendings.{Sending, Activates}
 use Rattle.disk_model.specs.Chunks.{chunks, chunk_from, chunk_count, sends_left, asks_for, sectors_at}
 use Rattle.disk_model.specs.Disks.{Moment, Started, Writing, is_held, logged, received, refused}
@@ -41,6 +41,7 @@ pub record IsMoving (plan : DiskPlan) (sectors : ℕ) (c : Command) (left : ℕ)
   pub among : left ≤ chunks plan c
   pub inside : c.lba + c.count ≤ sectors
   pub some : 0 < c.count
+  pub few : c.count ≤ 65536
   pub tag : c.tag < 32
   pub moved : v.moved ≡ 512 * moved_sectors plan c left
 
@@ -392,7 +393,7 @@ mixed : (plan : DiskPlan) (sectors : ℕ) (m : Moment) (l : Ledger) → Agrees p
 mixed plan sectors m l a = gives_up plan sectors m l a (Some Mixed) None m.resetting (Refused ∷ []) tt refl refl
 
 step_queue : (plan : DiskPlan) (sectors : ℕ) (m : Moment) (k : Beside) (queued : List Command) (c : Command) (twice : Bool)
-    → has_tag c.tag queued ≡ twice → 0 < c.count → c.tag < 32
+    → has_tag c.tag queued ≡ twice → IsCounted c → c.tag < 32
     → Stands plan sectors (with_queue m queued None m.resetting) k
     → let n = with_queue m queued None m.resetting in
     let l = shown n k in

@@ -104,13 +104,13 @@ error_by plan sectors l queued c f b out turn is none shows =
     rw shows.viewed (λ bad. (none, next))
 
 start_by : (plan : DiskPlan) (sectors : ℕ) (l : Ledger) (queued : List Command) (c : Command) (b : List ℕ)
-    → IsSized plan sectors → l.outstanding ≡ queued → picked plan.order queued ≡ Some c → IsIn queued c
+    → IsSized plan → l.outstanding ≡ queued → picked plan.order queued ≡ Some c → IsIn queued c
     → fault_of plan sectors c ≡ None → l.moving ≡ None → Shows (chunk_setup plan c (chunks plan c)) b
     → ErrsRight plan sectors l (seen b)
 start_by plan sectors l queued c b sized out turn here is none shows =
     let can = can_be_done plan sectors c is in
     let more = some_chunks plan c sized.low here.some in
-    let told = setup_of_chunk plan sectors c (chunks plan c) b sized (chunk_part plan c (chunks plan c) sized.low here.some more (omega arith)) can.inside here.tag shows in
+    let told = setup_of_chunk plan c (chunks plan c) b (chunk_part plan c (chunks plan c) sized.low here.some more (omega arith)) here.few here.tag shows in
     rw (shows.viewed, none, out, turn) (told.tag_is, can)
 
 goes_by : (plan : DiskPlan) (sectors : ℕ) (l : Ledger) (now : Moving) (x : Sending) (b : List ℕ) → l.moving ≡ Some now

@@ -2,25 +2,24 @@
 use Rattle.std.proofs.Common.{◌≡◌, ◌==◌, ◌&&◌, eqb, ℕ, ◌*◌, ◌%◌, ◌^◌, ◌<◌, ◌≤◌, Bool, true, false, List, [], ◌∷◌, ◌++◌, Option, Some, None, Ok, Err, Result, drop, refl, ap, sym, subst, ◌∙◌, arith}
 use Rattle.std.specs.Prelude.{if◌then◌else◌, nat_le}
 use Rattle.std.proofs.lemmas.Bool.Decides.{nat_tests}
-use Rattle.std.proofs.lemmas.Bool.{and_parts, leb-true}
+use Rattle.std.proofs.lemmas.Bool.{and_parts}
 use Rattle.std.proofs.lemmas.List.FromFn.{length-map-range_with_len}
 use Rattle.std.proofs.Math.Pow.{pow-lt}
-use Rattle.fis_view.specs.Table.{H2d, C, Features, Count, Control, Bits, SActive, field}
+use Rattle.fis_view.proofs.Door.{bits-lt}
+use Rattle.fis_view.specs.Table.{H2d, C, Features, Count, Control, Bits, SActive, field, places, spelled}
 use Rattle.fis_view.specs.Table as table
 use Rattle.fis_view.specs.Seen.{seen}
 use Rattle.fis_view.specs.declared.view.Fis.{Fis}
 use Rattle.fis_view.specs.declared.view.Fis.TheVariants as view
 use Rattle.fis_view.specs.declared.view.FisFault.{FisFault}
 use Rattle.disk_model.specs.declared.plan.DiskPlan.{DiskPlan}
-use Rattle.disk_model.specs.declared.plan.Profile.{Profile}
-use Rattle.disk_model.specs.declared.plan.Profile.TheVariants.{Bare, Stock}
 use Rattle.disk_model.specs.declared.request.Command.{Command}
 use Rattle.disk_model.specs.declared.request.Request.{Request}
 use Rattle.disk_model.specs.declared.answer.Answer.{Answer}
 use Rattle.disk_model.specs.declared.answer.Answer.TheVariants.{Signature, Accepted, Finished, Refused, Ended, PageFollows, PageData}
 use Rattle.disk_model.specs.declared.answer.Fault.{Fault}
 use Rattle.disk_model.specs.Histories.{Happening, Received, Sent, Plugged}
-use Rattle.disk_model.specs.Requests.{Asks, queued_command, request_of, names_error_log}
+use Rattle.disk_model.specs.Requests.{Asks, IsCounted, queued_command, request_of, names_error_log}
 use Rattle.disk_model.specs.Sendings.{Sending, Register, SetsBits, SetsUp, Activates, SetsUpPio, Carries, Shows, answer_sent}
 use Rattle.disk_model.specs.Chunks.{chunks, chunk_setup, fault_of, report, error_of}
 use Rattle.disk_model.specs.Disks.{Moment, Started, Writing, Turn, turn, read_turn, write_turn, pick_turn, begun, starts, picked, heard, after, moment_after, opening, opening_byte}
@@ -45,8 +44,18 @@ some_asked_by : (n : ℕ) (none : Bool) → eqb n 0 ≡ none → 0 < (if none th
 some_asked_by n true e = omega arith
 some_asked_by n false e = grind (arith, nat_tests, e)
 
-asks_queued : (f : List ℕ) (write : Bool) → (0 < (queued_command f write).count) × ((queued_command f write).tag < 32)
-asks_queued f write = (some_asked_by (field H2d Features f) _ refl, omega arith)
+most_asked_by : (n : ℕ) (none : Bool) → n < 65536 → (if none then 65536 else n) ≤ 65536
+most_asked_by n true few = omega arith
+most_asked_by n false few = omega (arith, few)
+
+short_features : (f : List ℕ) → field H2d Features f < 65536
+unfolding field spelled places
+short_features f = omega (arith, bits-lt f 24 8, bits-lt f 88 8)
+
+asks_queued : (f : List ℕ) (write : Bool) → IsCounted (queued_command f write) × ((queued_command f write).tag < 32)
+asks_queued f write =
+    let n = field H2d Features f in
+    ((some_asked_by n _ refl, most_asked_by n (n == 0) (short_features f)), omega arith)
 
 pub asks_of : (f : List ℕ) → Asks (request_of f)
 asks_of f =
@@ -61,7 +70,7 @@ asks_of f =
 
 -- ## One event
 
-step_heard : (plan : DiskPlan) (sectors : ℕ) (m : Moment) (k : Beside) (s : Result Fis FisFault) → IsSized plan sectors
+step_heard : (plan : DiskPlan) (sectors : ℕ) (m : Moment) (k : Beside) (s : Result Fis FisFault) → IsSized plan
     → Stands plan sectors m k → Agrees plan sectors (heard plan m s) (listens_down (shown m k) s)
 step_heard plan sectors m k (Ok (view.RegH2D f)) sized a =
     step_request plan sectors m k m.queued m.fault m.resetting (request_of f) (asks_of f) a
@@ -75,7 +84,7 @@ step_heard plan sectors m k (Ok (view.PioSetup f)) sized a = a
 step_heard plan sectors m k (Ok (view.Unknown f)) sized a = a
 step_heard plan sectors m k (Err e) sized a = a
 
-step_shown : (plan : DiskPlan) (sectors : ℕ) (m : Moment) (k : Beside) (e : Happening) → IsSized plan sectors
+step_shown : (plan : DiskPlan) (sectors : ℕ) (m : Moment) (k : Beside) (e : Happening) → IsSized plan
     → Stands plan sectors m k → MayHappen plan sectors m e → Agrees plan sectors (after plan sectors m e) (listens (shown m k) e)
 step_shown plan sectors m k (Received bytes) sized a may = step_heard plan sectors m k (seen bytes) sized a
 step_shown plan sectors m k (Sent bytes) sized a may =
@@ -83,7 +92,7 @@ step_shown plan sectors m k (Sent bytes) sized a may =
 step_shown plan sectors m k Plugged sized a may =
     gives_up plan sectors m (shown m k) a None None m.resetting (Signature ∷ []) tt refl refl
 
-step : (plan : DiskPlan) (sectors : ℕ) (m : Moment) (l : Ledger) (e : Happening) → IsSized plan sectors
+step : (plan : DiskPlan) (sectors : ℕ) (m : Moment) (l : Ledger) (e : Happening) → IsSized plan
     → Agrees plan sectors m l → MayHappen plan sectors m e → Agrees plan sectors (after plan sectors m e) (listens l e)
 step plan sectors m l e sized a may =
     let is = ledger_is plan sectors m l a in
@@ -92,7 +101,7 @@ step plan sectors m l e sized a may =
 
 -- ## Whole runs
 
-agrees_after : (plan : DiskPlan) (sectors : ℕ) (m : Moment) (l : Ledger) (h : List Happening) → IsSized plan sectors
+agrees_after : (plan : DiskPlan) (sectors : ℕ) (m : Moment) (l : Ledger) (h : List Happening) → IsSized plan
     → Agrees plan sectors m l → Runs plan sectors m h → Agrees plan sectors (moment_after plan sectors m h) (ledger_after l h)
 unfolding moment_after ledger_after Runs
 agrees_after plan sectors m l [] sized a run = a
@@ -117,11 +126,7 @@ opens_agreeing plan sectors = record {
   pages = tt;
 }
 
-few_by : (profile : Profile) (n : ℕ) → nat_le n (most_sectors profile) ≡ true → n ≤ 8388607
-few_by Bare n few = let most = leb-true n 65536 few in omega (arith, most)
-few_by (Stock serial) n few = leb-true n 8388607 few
-
-pub sized_by : (plan : DiskPlan) (sectors : ℕ) → IsSize plan sectors → IsSized plan sectors
+pub sized_by : (plan : DiskPlan) (sectors : ℕ) → IsSize plan sectors → IsSized plan
 sized_by plan sectors size =
     let some : Bool = nat_le 1 sectors in
     let few : Bool = nat_le sectors (most_sectors plan.profile) in
@@ -130,9 +135,8 @@ sized_by plan sectors size =
     let all = and_parts (some && few && low && high) (plan.chunk % 512 == 0) size in
     let most = and_parts (some && few && low) high all.0 in
     let two = and_parts (some && few) low most.0 in
-    let one = and_parts some few two.0 in
     let is_low : nat_le 512 plan.chunk ≡ true = two.1 in
-    record { low = grind (arith, nat_tests, is_low); most = few_by plan.profile sectors one.1 }
+    record { low = grind (arith, nat_tests, is_low) }
 
 pub agrees : (plan : DiskPlan) (sectors : ℕ) (h : List Happening) → IsSize plan sectors → IsDiskRun plan sectors h
     → Agrees plan sectors (moment plan sectors h) (ledger h)
@@ -178,7 +182,7 @@ begun_by plan m c None write = starts plan m c write
 begun_by plan m c (Some f) write = begun plan m c (Some f)
 
 begins_answering : (plan : DiskPlan) (sectors : ℕ) (m : Moment) (l : Ledger) (c : Command) (bad : Option Fault) (write : Bool)
-    (b : List ℕ) → IsSized plan sectors → 0 < c.count → IsTurn (begun_by plan m c bad write) b → AnswersOne l (seen b)
+    (b : List ℕ) → IsSized plan → 0 < c.count → IsTurn (begun_by plan m c bad write) b → AnswersOne l (seen b)
 begins_answering plan sectors m l c (Some f) write b sized some may = reports l f b may
 begins_answering plan sectors m l c None true b sized some may = answers_nothing l (chunk_setup plan c (chunks plan c)) b tt may
 begins_answering plan sectors m l c None false b sized some may =
@@ -191,7 +195,7 @@ same_turn plan m c None b may = may
 same_turn plan m c (Some f) b may = may
 
 picks_answering : (plan : DiskPlan) (sectors : ℕ) (m : Moment) (l : Ledger) (o : Option Command) (b : List ℕ)
-    → IsSized plan sectors → IsQueue m.queued → picked plan.order m.queued ≡ o → IsTurn (pick_turn plan sectors m o) b
+    → IsSized plan → IsQueue m.queued → picked plan.order m.queued ≡ o → IsTurn (pick_turn plan sectors m o) b
     → AnswersOne l (seen b)
 picks_answering plan sectors m l None b sized queue is may = absurd may
 picks_answering plan sectors m l (Some c) b sized queue is may = begins_answering plan sectors m l c _ c.write b sized (picked_in plan.order m.queued c queue is).some (same_turn plan m c (fault_of plan sectors c) b may)
@@ -213,7 +217,7 @@ writes_answering plan sectors m l w v SetUp b r may = answers_nothing l Activate
 writes_answering plan sectors m l w v Asked b r may = absurd (subst (λ (xs : List Sending). IsTurn (write_turn m w xs) b) r.stage.0 may)
 
 turn_answers : (plan : DiskPlan) (sectors : ℕ) (m : Moment) (owed : List Answer) (s : Option Started) (w : Option Writing)
-    (v : Option Moving) (l : Ledger) (b : List ℕ) → IsSized plan sectors → IsQueue m.queued → l.unanswered ≡ ended_tags owed
+    (v : Option Moving) (l : Ledger) (b : List ℕ) → IsSized plan → IsQueue m.queued → l.unanswered ≡ ended_tags owed
     → AreTags (ended_tags owed) → Moves plan sectors m.medium m.queued owed s w v
     → IsTurn (turn plan sectors (under m owed s w)) b → AnswersOne l (seen b)
 turn_answers plan sectors m (x ∷ later) s w v l b sized queue is tags moves may = answers_by l sectors plan x later b is tags may

@@ -24,7 +24,6 @@ use Rattle.disk_model.proofs.StoreLemmas.{IsSized}
 use Rattle.disk_model.proofs.ListenLemmas.{page_goes}
 use Rattle.disk_model.proofs.TransferLemmas.{length-sectors_at, setup_of_chunk}
 use Rattle.disk_model.proofs.StartLemmas.{picked_in}
-use Rattle.disk_model.proofs.FaultLemmas.{can_be_done}
 use Rattle.disk_model.proofs.LawLemmas.{agrees, sized_by, last_may, same_turn, begun_by}
 
 -- an answer moves no command's data
@@ -52,14 +51,14 @@ setup_next plan c moved left setups b part was is told =
       apart = rw (told.offset_is, told.count_is) (set_up_apart plan c left setups part was);
     }
 
-start_moves : (plan : DiskPlan) (sectors : ℕ) (l : Ledger) (queued : List Command) (c : Command) (b : List ℕ)
-    → IsSized plan sectors → l.moving ≡ None → l.outstanding ≡ queued → IsIn queued c → c.lba + c.count ≤ sectors
+start_moves : (plan : DiskPlan) (l : Ledger) (queued : List Command) (c : Command) (b : List ℕ)
+    → IsSized plan → l.moving ≡ None → l.outstanding ≡ queued → IsIn queued c
     → Shows (chunk_setup plan c (chunks plan c)) b → MovesRight l (seen b)
-start_moves plan sectors l queued c b sized none out here inside shows =
+start_moves plan l queued c b sized none out here shows =
     let all = chunks plan c in
     let more : 0 < chunks plan c = some_chunks plan c sized.low here.some in
     let part : ChunkPart plan c all = chunk_part plan c all sized.low here.some more (omega arith) in
-    let told : TellsSetup c.tag (512 * chunk_from plan c all) (512 * chunk_count plan c all) (not c.write) b = setup_of_chunk plan sectors c all b sized part inside here.tag shows in
+    let told : TellsSetup c.tag (512 * chunk_from plan c all) (512 * chunk_count plan c all) (not c.write) b = setup_of_chunk plan c all b part here.few here.tag shows in
     let nothing : 0 ≡ 512 * moved_sectors plan c all = ap (λ k. 512 * k) (sym (moved_none plan c sized.low here.some)) in
     let next = setup_next plan c 0 all [] b part (set_up_none plan c sized.low here.some) nothing told in
     let viewed = told.viewed in
@@ -67,23 +66,23 @@ start_moves plan sectors l queued c b sized none out here inside shows =
     let found = here.found in
     rw (viewed, none, out, tag, found) next
 
-begins_moving : (plan : DiskPlan) (sectors : ℕ) (m : Moment) (l : Ledger) (c : Command) (bad : Option Fault) (write : Bool)
-    (b : List ℕ) → fault_of plan sectors c ≡ bad → IsSized plan sectors → l.moving ≡ None → l.outstanding ≡ m.queued
+begins_moving : (plan : DiskPlan) (m : Moment) (l : Ledger) (c : Command) (bad : Option Fault) (write : Bool)
+    (b : List ℕ) → IsSized plan → l.moving ≡ None → l.outstanding ≡ m.queued
     → IsIn m.queued c → IsTurn (begun_by plan m c bad write) b → MovesRight l (seen b)
-begins_moving plan sectors m l c (Some f) write b is sized none out here may = rw may.viewed tt
-begins_moving plan sectors m l c None true b is sized none out here may = start_moves plan sectors l m.queued c b sized none out here (can_be_done plan sectors c is).inside may
-begins_moving plan sectors m l c None false b is sized none out here may =
+begins_moving plan m l c (Some f) write b sized none out here may = rw may.viewed tt
+begins_moving plan m l c None true b sized none out here may = start_moves plan l m.queued c b sized none out here may
+begins_moving plan m l c None false b sized none out here may =
     let next = sends_left_next plan m.medium c (chunks plan c) (some_chunks plan c sized.low here.some) in
-    start_moves plan sectors l m.queued c b sized none out here (can_be_done plan sectors c is).inside (subst (λ (xs : List Sending). IsTurn (read_turn m c xs) b) next may)
+    start_moves plan l m.queued c b sized none out here (subst (λ (xs : List Sending). IsTurn (read_turn m c xs) b) next may)
 
 picks_moving : (plan : DiskPlan) (sectors : ℕ) (m : Moment) (l : Ledger) (o : Option Command) (b : List ℕ)
-    → IsSized plan sectors → IsQueue m.queued → l.moving ≡ None → l.outstanding ≡ m.queued → picked plan.order m.queued ≡ o
+    → IsSized plan → IsQueue m.queued → l.moving ≡ None → l.outstanding ≡ m.queued → picked plan.order m.queued ≡ o
     → IsTurn (pick_turn plan sectors m o) b → MovesRight l (seen b)
 picks_moving plan sectors m l None b sized queue none out is may = absurd may
-picks_moving plan sectors m l (Some c) b sized queue none out is may = begins_moving plan sectors m l c _ c.write b refl sized none out (picked_in plan.order m.queued c queue is) (same_turn plan m c (fault_of plan sectors c) b may)
+picks_moving plan sectors m l (Some c) b sized queue none out is may = begins_moving plan m l c (fault_of plan sectors c) c.write b sized none out (picked_in plan.order m.queued c queue is) (same_turn plan m c (fault_of plan sectors c) b may)
 
 reads_moving : (plan : DiskPlan) (sectors : ℕ) (m : Moment) (l : Ledger) (medium : List ℕ) (s : Started) (v : Moving) (left : ℕ)
-    (up : Bool) (b : List ℕ) → IsSized plan sectors → length medium ≡ 512 * sectors → l.moving ≡ Some v
+    (up : Bool) (b : List ℕ) → IsSized plan → length medium ≡ 512 * sectors → l.moving ≡ Some v
     → IsReading plan sectors medium s v left up → IsTurn (read_turn m s.command s.sends) b → MovesRight l (seen b)
 reads_moving plan sectors m l medium s v left false b sized size is r may =
     let c = s.command in
@@ -91,7 +90,7 @@ reads_moving plan sectors m l medium s v left false b sized size is r may =
     let next = sends_left_next plan medium c left mv.more in
     let shows = subst (λ (xs : List Sending). IsTurn (read_turn m c xs) b) (r.stage ∙ next) may in
     let part : ChunkPart plan c left = chunk_part plan c left sized.low mv.some mv.more mv.among in
-    let told : TellsSetup c.tag (512 * chunk_from plan c left) (512 * chunk_count plan c left) (not c.write) b = setup_of_chunk plan sectors c left b sized part mv.inside mv.tag shows in
+    let told : TellsSetup c.tag (512 * chunk_from plan c left) (512 * chunk_count plan c left) (not c.write) b = setup_of_chunk plan c left b part mv.few mv.tag shows in
     let sets = setup_next plan c v.moved left v.setups b part r.setups mv.moved told in
     rw (told.viewed, is) (r.idle, subst (λ (x : Command). SetsUpNext x v.moved v.setups b) (sym mv.same) sets)
 reads_moving plan sectors m l medium s v left true b sized size is r may =
@@ -111,14 +110,14 @@ reads_moving plan sectors m l medium s v left true b sized size is r may =
     rw (shows.1, is) carries
 
 writes_moving : (plan : DiskPlan) (sectors : ℕ) (m : Moment) (l : Ledger) (w : Writing) (v : Moving) (stage : Stage)
-    (b : List ℕ) → IsSized plan sectors → l.moving ≡ Some v → IsWriting plan sectors w v stage
+    (b : List ℕ) → IsSized plan → l.moving ≡ Some v → IsWriting plan sectors w v stage
     → IsTurn (write_turn m w w.sends) b → MovesRight l (seen b)
 writes_moving plan sectors m l w v Fresh b sized is r may =
     let c = w.command in
     let mv = r.moving in
     let shows = subst (λ (xs : List Sending). IsTurn (write_turn m w xs) b) r.stage.0 may in
     let part : ChunkPart plan c w.left = chunk_part plan c w.left sized.low mv.some mv.more mv.among in
-    let told : TellsSetup c.tag (512 * chunk_from plan c w.left) (512 * chunk_count plan c w.left) (not c.write) b = setup_of_chunk plan sectors c w.left b sized part mv.inside mv.tag shows in
+    let told : TellsSetup c.tag (512 * chunk_from plan c w.left) (512 * chunk_count plan c w.left) (not c.write) b = setup_of_chunk plan c w.left b part mv.few mv.tag shows in
     let sets = setup_next plan c v.moved w.left v.setups b part r.setups mv.moved told in
     rw (told.viewed, is) (r.stage.1, subst (λ (x : Command). SetsUpNext x v.moved v.setups b) (sym mv.same) sets)
 writes_moving plan sectors m l w v SetUp b sized is r may =
@@ -137,7 +136,7 @@ writes_moving plan sectors m l w v SetUp b sized is r may =
 writes_moving plan sectors m l w v Asked b sized is r may = absurd (subst (λ (xs : List Sending). IsTurn (write_turn m w xs) b) r.stage.0 may)
 
 turn_moves : (plan : DiskPlan) (sectors : ℕ) (m : Moment) (owed : List Answer) (s : Option Started) (w : Option Writing)
-    (v : Option Moving) (l : Ledger) (b : List ℕ) → IsSized plan sectors → IsQueue m.queued
+    (v : Option Moving) (l : Ledger) (b : List ℕ) → IsSized plan → IsQueue m.queued
     → length m.medium ≡ 512 * sectors → l.outstanding ≡ m.queued → l.moving ≡ v
     → Moves plan sectors m.medium m.queued owed s w v → IsTurn (turn plan sectors (under m owed s w)) b → MovesRight l (seen b)
 turn_moves plan sectors m (x ∷ later) s w v l b sized queue size out is moves may =

@@ -1,5 +1,5 @@
 -- Queues in which no tag occurs twice, and the answers that wait.
-use Rattle.std.proofs.Common.{◌≡◌, ◌==◌, ◌||◌, eqb, ℕ, zero, suc, ◌<◌, Bool, true, false, List, [], ◌∷◌, ◌++◌, Option, Some, None, refl, ap, sym, subst, ◌∙◌, arith, cond}
+use Rattle.std.proofs.Common.{◌≡◌, ◌==◌, ◌||◌, eqb, ℕ, zero, suc, ◌<◌, ◌≤◌, Bool, true, false, List, [], ◌∷◌, ◌++◌, Option, Some, None, refl, ap, sym, subst, ◌∙◌, arith, cond}
 use Rattle.std.specs.Prelude.{filter, find, slice_get, filter_map}
 use Rattle.std.specs.List.{list_any}
 use Rattle.std.proofs.lemmas.Bool.{eq-eqb, eqb-true, or_from, or_parts}
@@ -9,6 +9,7 @@ use Rattle.disk_model.specs.declared.request.Command.{Command}
 use Rattle.disk_model.specs.declared.answer.Answer.{Answer}
 use Rattle.disk_model.specs.declared.answer.Answer.TheVariants.{Signature, Accepted, Finished, Refused, Ended, PageFollows, PageData}
 use Rattle.disk_model.specs.declared.answer.Page.{Page}
+use Rattle.disk_model.specs.Requests.{IsCounted}
 use Rattle.disk_model.specs.Ledger.{Reply, Signs, Accepts, Finishes, Refuses, ShowsPage}
 use Rattle.std.proofs.lemmas.List.{append-nil}
 use Rattle.std.proofs.lemmas.List.Elements.{filter_map-append}
@@ -17,10 +18,10 @@ use Rattle.std.proofs.lemmas.List.Elements.{filter_map-append}
 abbrev pub has_tag : ℕ → List Command → Bool
 has_tag tag queued = list_any (λ q. q.tag == tag) queued
 
--- each command has a sector, one of 32 tags, and a tag of its own
+-- each command has 1 to 65,536 sectors, one of 32 tags, and a tag of its own
 abbrev pub IsQueue : List Command → Type 0
 IsQueue [] = Unit {0}
-IsQueue (c ∷ cs) = (0 < c.count) × (c.tag < 32) × (has_tag c.tag cs ≡ false) × IsQueue cs
+IsQueue (c ∷ cs) = IsCounted c × (c.tag < 32) × (has_tag c.tag cs ≡ false) × IsQueue cs
 
 eqb_other_way : (a b : ℕ) → eqb a b ≡ false → eqb b a ≡ false
 eqb_other_way a b e = grind (arith, nat_tests)
@@ -28,7 +29,7 @@ eqb_other_way a b e = grind (arith, nat_tests)
 has_tag-append : (tag : ℕ) (cs : List Command) (c : Command) → has_tag tag cs ≡ false → eqb c.tag tag ≡ false → has_tag tag (cs ++ c ∷ []) ≡ false
 has_tag-append tag cs c none other = list_any-append (λ (q : Command). q.tag == tag) cs (c ∷ []) ∙ or_from _ _ none (or_from _ _ other refl)
 
-pub IsQueue-append : (cs : List Command) (c : Command) → IsQueue cs → has_tag c.tag cs ≡ false → 0 < c.count → c.tag < 32 → IsQueue (cs ++ c ∷ [])
+pub IsQueue-append : (cs : List Command) (c : Command) → IsQueue cs → has_tag c.tag cs ≡ false → IsCounted c → c.tag < 32 → IsQueue (cs ++ c ∷ [])
 IsQueue-append [] c queue none some tag = (some, tag, refl, tt)
 IsQueue-append (q ∷ cs) c queue none some tag =
     let parts = or_parts (q.tag == c.tag) (has_tag c.tag cs) none in
@@ -44,7 +45,7 @@ has_tag-filter tag p (q ∷ cs) none =
     let parts = or_parts (q.tag == tag) (has_tag tag cs) none in
     has_tag-kept tag q (p q) cs (filter p cs) parts.0 (has_tag-filter tag p cs parts.1)
 
-queue_kept : (q : Command) (b : Bool) (rest : List Command) → 0 < q.count → q.tag < 32 → has_tag q.tag rest ≡ false → IsQueue rest → IsQueue (cond b (q ∷ rest) rest)
+queue_kept : (q : Command) (b : Bool) (rest : List Command) → IsCounted q → q.tag < 32 → has_tag q.tag rest ≡ false → IsQueue rest → IsQueue (cond b (q ∷ rest) rest)
 queue_kept q true rest some tag none queue = (some, tag, none, queue)
 queue_kept q false rest some tag none queue = queue
 
@@ -55,6 +56,7 @@ IsQueue-filter p (q ∷ cs) queue = queue_kept q (p q) (filter p cs) queue.0 que
 -- what is known about a command in the queue
 pub record IsIn (queued : List Command) (c : Command) : Type 0 where
   pub some : 0 < c.count
+  pub few : c.count ≤ 65536
   pub tag : c.tag < 32
   pub found : find (λ q. q.tag == c.tag) queued ≡ Some c
   pub has : has_tag c.tag queued ≡ true
@@ -88,7 +90,8 @@ is_in (q ∷ cs) zero c queue at =
     let is : q ≡ c = cc at in
     let e : eqb q.tag c.tag ≡ true = eq-eqb q.tag c.tag (ap (λ (x : Command). x.tag) is) in
     record {
-      some = subst (λ (x : Command). 0 < x.count) is queue.0;
+      some = subst (λ (x : Command). 0 < x.count) is queue.0.0;
+      few = subst (λ (x : Command). x.count ≤ 65536) is queue.0.1;
       tag = subst (λ (x : Command). x.tag < 32) is queue.1;
       found = find_here q c (eqb q.tag c.tag) _ e is;
       has = has_at (q ∷ cs) zero c at;
@@ -96,7 +99,7 @@ is_in (q ∷ cs) zero c queue at =
 is_in (q ∷ cs) (suc i) c queue at =
     let rest = is_in cs i c queue.3 at in
     let other : eqb q.tag c.tag ≡ false = differ q c cs (eqb q.tag c.tag) refl queue.2 rest.has in
-    record { some = rest.some; tag = rest.tag; found = rw other rest.found; has = has_at (q ∷ cs) (suc i) c at }
+    record { some = rest.some; few = rest.few; tag = rest.tag; found = rw other rest.found; has = has_at (q ∷ cs) (suc i) c at }
 
 -- ## Answers that wait
 

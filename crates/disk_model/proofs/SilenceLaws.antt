@@ -31,7 +31,7 @@ asks_something : (m : Moment) (w : Writing) (sends later : List Sending) (s : Se
 asks_something m w sends later s is = λ none. let e = rw is at none in cc e
 
 begins_something : (plan : DiskPlan) (sectors : ℕ) (m : Moment) (c : Command) (bad : Option Fault) (write : Bool)
-    → IsSized plan sectors → 0 < c.count → begun_by plan m c bad write ≢ None
+    → IsSized plan → 0 < c.count → begun_by plan m c bad write ≢ None
 begins_something plan sectors m c (Some f) write sized some = λ none. cc none
 begins_something plan sectors m c None true sized some = λ none. cc none
 begins_something plan sectors m c None false sized some = none_left m c _ _ _ (sends_left_next plan m.medium c (chunks plan c) (some_chunks plan c sized.low some))
@@ -46,7 +46,7 @@ picked_none order [] none = refl
 picked_none Oldest (q ∷ qs) none = cc none
 picked_none Newest (q ∷ qs) none = let e = slice_get-get_or (q ∷ qs) (length (q ∷ qs) - 1) q (omega arith) in cc (e, none)
 
-picks_nothing : (plan : DiskPlan) (sectors : ℕ) (m : Moment) (o : Option Command) → IsSized plan sectors → IsQueue m.queued
+picks_nothing : (plan : DiskPlan) (sectors : ℕ) (m : Moment) (o : Option Command) → IsSized plan → IsQueue m.queued
     → picked plan.order m.queued ≡ o → pick_turn plan sectors m o ≡ None → m.queued ≡ []
 picks_nothing plan sectors m None sized queue is none = picked_none plan.order m.queued is
 picks_nothing plan sectors m (Some c) sized queue is none = absurd (begins_something plan sectors m c (fault_of plan sectors c) c.write sized (picked_in plan.order m.queued c queue is).some (by_begun plan m c (fault_of plan sectors c) none))
@@ -69,7 +69,7 @@ writes_waiting plan sectors m w v SetUp r none = absurd (asks_something m w _ _ 
 writes_waiting plan sectors m w v Asked r none = (ap (λ (c : Command). c.write) r.moving.same ∙ r.writes, r.stage.1)
 
 silent_by : (plan : DiskPlan) (sectors : ℕ) (m : Moment) (owed : List Answer) (s : Option Started) (w : Option Writing)
-    (v : Option Moving) (l : Ledger) → IsSized plan sectors → IsQueue m.queued → l.outstanding ≡ m.queued
+    (v : Option Moving) (l : Ledger) → IsSized plan → IsQueue m.queued → l.outstanding ≡ m.queued
     → l.unanswered ≡ ended_tags owed → l.awaited ≡ replies owed → AreWanted plan sectors (pages_of owed) l.pages
     → l.moving ≡ v → Moves plan sectors m.medium m.queued owed s w v
     → turn plan sectors (under m owed s w) ≡ None → OwesNothing l

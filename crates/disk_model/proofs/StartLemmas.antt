@@ -33,7 +33,7 @@ use Rattle.disk_model.proofs.ListenLemmas.{step_answer}
 -- ## A read's Data
 
 read_carries_by : (plan : DiskPlan) (sectors : ℕ) (m : Moment) (k : Beside) (s : Started) (v : Moving) (left : ℕ) (last : Bool)
-    → eqb left 1 ≡ last → IsSized plan sectors → IsSending plan sectors m.medium s.command left v
+    → eqb left 1 ≡ last → IsSized plan → IsSending plan sectors m.medium s.command left v
     → IsHeld m.queued [] s.command.tag → AreSetUp plan s.command (left - 1) v.setups
     → Stands plan sectors (reading m s) (sent_so_far plan m k s.command left v)
     → Carried plan sectors (reading m s) k s.command left v (sends_left plan m.medium s.command (left - 1))
@@ -49,7 +49,7 @@ read_carries_by plan sectors m k s v left false e sized sending held named a =
     rw next (read_goes_on plan sectors m k s v left _ _ sized sending other next held named a)
 
 read_carries : (plan : DiskPlan) (sectors : ℕ) (m : Moment) (k : Beside) (s : Started) (v : Moving) (left : ℕ) (b : List ℕ)
-    → IsSized plan sectors → IsReading plan sectors m.medium s v left true → IsHeld m.queued [] s.command.tag
+    → IsSized plan → IsReading plan sectors m.medium s v left true → IsHeld m.queued [] s.command.tag
     → Stands plan sectors (reading m s) (along k (Some v)) → IsTurn (read_turn (reading m s) s.command s.sends) b
     → Follows plan sectors (reading m s) (along k (Some v)) (read_turn (reading m s) s.command s.sends) b
 read_carries plan sectors m k s v left b sized r held a may =
@@ -70,6 +70,7 @@ read_carries plan sectors m k s v left b sized r held a may =
         among = mv.among;
         inside = mv.inside;
         some = mv.some;
+        few = mv.few;
         tag = mv.tag;
         moved = refl;
       };
@@ -107,7 +108,7 @@ write_set_up plan sectors m k s0 w0 v0 w v true mv writes bytes whole idle up se
   moving = (
     Asked,
     record {
-      moving = record { same = mv.same; more = mv.more; among = mv.among; inside = mv.inside; some = mv.some; tag = mv.tag; moved = mv.moved };
+      moving = record { same = mv.same; more = mv.more; among = mv.among; inside = mv.inside; some = mv.some; few = mv.few; tag = mv.tag; moved = mv.moved };
       writes = writes;
       bytes = bytes;
       whole = whole;
@@ -134,7 +135,7 @@ write_set_up plan sectors m k s0 w0 v0 w v false mv writes bytes whole idle up s
   moving = (
     SetUp,
     record {
-      moving = record { same = mv.same; more = mv.more; among = mv.among; inside = mv.inside; some = mv.some; tag = mv.tag; moved = mv.moved };
+      moving = record { same = mv.same; more = mv.more; among = mv.among; inside = mv.inside; some = mv.some; few = mv.few; tag = mv.tag; moved = mv.moved };
       writes = writes;
       bytes = bytes;
       whole = whole;
@@ -151,7 +152,7 @@ write_set_up plan sectors m k s0 w0 v0 w v false mv writes bytes whole idle up s
 }
 
 write_asks : (plan : DiskPlan) (sectors : ℕ) (m : Moment) (k : Beside) (w : Writing) (v : Moving) (stage : Stage) (b : List ℕ)
-    → IsSized plan sectors → IsWriting plan sectors w v stage → IsHeld m.queued [] w.command.tag
+    → IsSized plan → IsWriting plan sectors w v stage → IsHeld m.queued [] w.command.tag
     → Stands plan sectors (writing m [] w) (along k (Some v)) → IsTurn (write_turn (writing m [] w) w w.sends) b
     → Follows plan sectors (writing m [] w) (along k (Some v)) (write_turn (writing m [] w) w w.sends) b
 write_asks plan sectors m k w v Fresh b sized r held a may =
@@ -161,7 +162,7 @@ write_asks plan sectors m k w v Fresh b sized r held a may =
     let shows = subst (λ (xs : List Sending). IsTurn (write_turn n w xs) b) r.stage.0 may in
     let part : ChunkPart plan c w.left = chunk_part plan c w.left sized.low mv.some mv.more mv.among in
     let told : TellsSetup c.tag (512 * chunk_from plan c w.left) (512 * chunk_count plan c w.left) (not c.write) b =
-    setup_of_chunk plan sectors c w.left b sized part mv.inside mv.tag shows in
+    setup_of_chunk plan c w.left b part mv.few mv.tag shows in
     let offset : ℕ = 512 * chunk_from plan c w.left in
     let count : ℕ = 512 * chunk_count plan c w.left in
     let now : Moving = record v {
@@ -174,7 +175,7 @@ write_asks plan sectors m k w v Fresh b sized r held a may =
     let at : field Setup Offset b ≡ offset = told.offset_is in
     let long : field Setup table.Count b ≡ count = told.count_is in
     let goes = write_set_up plan sectors m k None (Some w) (Some v) w now plan.auto
-    (record { same = mv.same; more = mv.more; among = mv.among; inside = mv.inside; some = mv.some; tag = mv.tag; moved = mv.moved })
+    (record { same = mv.same; more = mv.more; among = mv.among; inside = mv.inside; some = mv.some; few = mv.few; tag = mv.tag; moved = mv.moved })
     r.writes r.bytes r.whole refl (refl, refl) (set_up_next plan c w.left v.setups part r.setups) held a in
     let heard : listens_up (shown n (along k (Some v))) (seen b) ≡ with_auto plan.auto (shown n (along k (Some now))) =
     ap (listens_up (shown n (along k (Some v)))) told.viewed
@@ -200,7 +201,7 @@ write_asks plan sectors m k w v SetUp b sized r held a may =
       moving = (
         Asked,
         record {
-          moving = record { same = mv.same; more = mv.more; among = mv.among; inside = mv.inside; some = mv.some; tag = mv.tag; moved = mv.moved };
+          moving = record { same = mv.same; more = mv.more; among = mv.among; inside = mv.inside; some = mv.some; few = mv.few; tag = mv.tag; moved = mv.moved };
           writes = r.writes;
           bytes = r.bytes;
           whole = r.whole;
@@ -252,7 +253,7 @@ starts_told plan m k c b here told auto is =
     rw (viewed, is, tag, offset, count, found) refl
 
 start_of : (plan : DiskPlan) (sectors : ℕ) (m : Moment) (k : Beside) (c : Command) (write : Bool) (b : List ℕ)
-    → IsSized plan sectors → c.write ≡ write → IsIn m.queued c → c.lba + c.count ≤ sectors
+    → IsSized plan → c.write ≡ write → IsIn m.queued c → c.lba + c.count ≤ sectors
     → Stands plan sectors (idle m) (along k None) → IsTurn (starts plan (idle m) c write) b
     → Follows plan sectors (idle m) (along k None) (starts plan (idle m) c write) b
 start_of plan sectors m k c false b sized is here inside a may =
@@ -263,7 +264,7 @@ start_of plan sectors m k c false b sized is here inside a may =
     let shows = subst (λ (xs : List Sending). IsTurn (read_turn n c xs) b) next may in
     let part : ChunkPart plan c all = chunk_part plan c all sized.low here.some more (omega arith) in
     let told : TellsSetup c.tag (512 * chunk_from plan c all) (512 * chunk_count plan c all) (not c.write) b =
-    setup_of_chunk plan sectors c all b sized part inside here.tag shows in
+    setup_of_chunk plan c all b part here.few here.tag shows in
     let room : 512 * (c.lba + c.count) ≤ length m.medium = omega (arith, a.length_is) in
     let nothing : moved_sectors plan c all ≡ 0 = moved_none plan c sized.low here.some in
     let s : List ℕ = sectors_at m.medium c.lba c.count in
@@ -288,6 +289,7 @@ start_of plan sectors m k c false b sized is here inside a may =
             among = omega arith;
             inside = inside;
             some = here.some;
+            few = here.few;
             tag = here.tag;
             moved = ap (λ n. 512 * n) (sym nothing);
           };
@@ -312,7 +314,7 @@ start_of plan sectors m k c true b sized is here inside a may =
     let more : 0 < chunks plan c = some_chunks plan c sized.low here.some in
     let part : ChunkPart plan c all = chunk_part plan c all sized.low here.some more (omega arith) in
     let told : TellsSetup c.tag (512 * chunk_from plan c all) (512 * chunk_count plan c all) (not c.write) b =
-    setup_of_chunk plan sectors c all b sized part inside here.tag may in
+    setup_of_chunk plan c all b part here.few here.tag may in
     let nothing : moved_sectors plan c all ≡ 0 = moved_none plan c sized.low here.some in
     let moving : IsMoving plan sectors c all (first_moving plan k c) = record {
       same = refl;
@@ -320,6 +322,7 @@ start_of plan sectors m k c true b sized is here inside a may =
       among = omega arith;
       inside = inside;
       some = here.some;
+      few = here.few;
       tag = here.tag;
       moved = ap (λ n. 512 * n) (sym nothing);
     } in
@@ -330,7 +333,7 @@ start_of plan sectors m k c true b sized is here inside a may =
     subst (λ (l : Ledger). Agrees plan sectors next l) (sym (starts_told plan n k c b here told plan.auto (auto_of_write plan c all b is may))) goes
 
 begin_of : (plan : DiskPlan) (sectors : ℕ) (m : Moment) (k : Beside) (c : Command) (bad : Option Fault) (b : List ℕ)
-    → IsSized plan sectors → fault_of plan sectors c ≡ bad → picked plan.order m.queued ≡ Some c → IsIn m.queued c
+    → IsSized plan → fault_of plan sectors c ≡ bad → picked plan.order m.queued ≡ Some c → IsIn m.queued c
     → Stands plan sectors (idle m) (along k None) → IsTurn (begun plan (idle m) c bad) b
     → Follows plan sectors (idle m) (along k None) (begun plan (idle m) c bad) b
 begin_of plan sectors m k c (Some Held) b sized is turn here a may = absurd (fault_is plan sectors c Held is)
@@ -345,7 +348,7 @@ begin_of plan sectors m k c (Some (Failed tag e lba)) b sized is turn here a may
 begin_of plan sectors m k c None b sized is turn here a may =
     start_of plan sectors m k c c.write b sized refl here (can_be_done plan sectors c is).inside a may
 
-pick_of : (plan : DiskPlan) (sectors : ℕ) (m : Moment) (k : Beside) (o : Option Command) (b : List ℕ) → IsSized plan sectors
+pick_of : (plan : DiskPlan) (sectors : ℕ) (m : Moment) (k : Beside) (o : Option Command) (b : List ℕ) → IsSized plan
     → picked plan.order m.queued ≡ o → Stands plan sectors (idle m) (along k None)
     → IsTurn (pick_turn plan sectors (idle m) o) b
     → Follows plan sectors (idle m) (along k None) (pick_turn plan sectors (idle m) o) b
@@ -356,7 +359,7 @@ pick_of plan sectors m k (Some c) b sized is a may =
 -- ## Each FIS
 
 pub step_sent : (plan : DiskPlan) (sectors : ℕ) (m : Moment) (k : Beside) (owed : List Answer) (s : Option Started)
-    (w : Option Writing) (v : Option Moving) (b : List ℕ) → IsSized plan sectors
+    (w : Option Writing) (v : Option Moving) (b : List ℕ) → IsSized plan
     → Moves plan sectors m.medium m.queued owed s w v → Stands plan sectors (under m owed s w) (along k v)
     → IsTurn (turn plan sectors (under m owed s w)) b
     → Follows plan sectors (under m owed s w) (along k v) (turn plan sectors (under m owed s w)) b

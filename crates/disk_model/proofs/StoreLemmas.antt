@@ -15,10 +15,9 @@ use Rattle.disk_model.proofs.SetupLemmas.{AreSetUp}
 use Rattle.disk_model.proofs.QueueLemmas.{replies_same, pages_same, tag_of, ended_tags, AreTags, AreTags-append, IsQueue-filter}
 use Rattle.disk_model.proofs.AgreeLemmas.{Agrees, Beside, Fresh, IsHeld, IsMoving, Stands, along, shown, writing}
 
--- what is known about the size of a disk
-pub record IsSized (plan : DiskPlan) (sectors : ℕ) : Type 0 where
+-- what is known about the chunks of a disk
+pub record IsSized (plan : DiskPlan) : Type 0 where
   pub low : 512 ≤ plan.chunk
-  pub most : sectors ≤ 8388607
 
 pub with_writes-append : (medium : List ℕ) (ws : List Written) (w : Written)
     → with_writes medium (ws ++ w ∷ []) ≡ put (with_writes medium ws) w.at w.bytes
@@ -60,7 +59,7 @@ Stores plan sectors m k w v bytes =
     Agrees plan sectors (stored plan m w bytes) (moves (shown m (asked plan k w v)) (asked_for plan w v) bytes)
 
 store_last : (plan : DiskPlan) (sectors : ℕ) (m : Moment) (k : Beside) (w : Writing) (v : Moving) (bytes : List ℕ)
-    → IsSized plan sectors → IsAsking plan sectors w v → length bytes ≡ 512 * chunk_count plan w.command w.left → w.left ≡ 1
+    → IsSized plan → IsAsking plan sectors w v → length bytes ≡ 512 * chunk_count plan w.command w.left → w.left ≡ 1
     → Stands plan sectors (writing m m.owed w) (asked plan k w v) → Stores plan sectors (writing m m.owed w) k w v bytes
 store_last plan sectors m k w v bytes sized asking fits one a =
     let c = w.command in
@@ -95,7 +94,7 @@ store_last plan sectors m k w v bytes sized asking fits one a =
     })
 
 store_more : (plan : DiskPlan) (sectors : ℕ) (m : Moment) (k : Beside) (w : Writing) (v : Moving) (bytes : List ℕ)
-    → IsSized plan sectors → IsAsking plan sectors w v → length bytes ≡ 512 * chunk_count plan w.command w.left
+    → IsSized plan → IsAsking plan sectors w v → length bytes ≡ 512 * chunk_count plan w.command w.left
     → (w.left ≡ 1 → ⊥) → IsHeld m.queued m.owed w.command.tag → AreSetUp plan w.command (w.left - 1) v.setups
     → Stands plan sectors (writing m m.owed w) (asked plan k w v) → Stores plan sectors (writing m m.owed w) k w v bytes
 store_more plan sectors m k w v bytes sized asking fits other held named a =
@@ -125,6 +124,7 @@ store_more plan sectors m k w v bytes sized asking fits other held named a =
             among = omega (arith, mv.among);
             inside = mv.inside;
             some = mv.some;
+            few = mv.few;
             tag = mv.tag;
             moved = omega (arith, part.next);
           };
@@ -144,7 +144,7 @@ store_more plan sectors m k w v bytes sized asking fits other held named a =
     })
 
 pub store_by : (plan : DiskPlan) (sectors : ℕ) (m : Moment) (k : Beside) (w : Writing) (v : Moving) (bytes : List ℕ) (last : Bool)
-    → eqb w.left 1 ≡ last → IsSized plan sectors → IsAsking plan sectors w v
+    → eqb w.left 1 ≡ last → IsSized plan → IsAsking plan sectors w v
     → length bytes ≡ 512 * chunk_count plan w.command w.left → IsHeld m.queued m.owed w.command.tag
     → AreSetUp plan w.command (w.left - 1) v.setups
     → Stands plan sectors (writing m m.owed w) (asked plan k w v) → Stores plan sectors (writing m m.owed w) k w v bytes

@@ -77,7 +77,7 @@ same_moving v w a b c d e f = λ i. record {
 }
 
 write_takes : (plan : DiskPlan) (sectors : ℕ) (m : Moment) (k : Beside) (w : Writing) (v : Moving) (bytes : List ℕ) (fits : Bool)
-    → eqb (length bytes) (512 * chunk_count plan w.command w.left) ≡ fits → w.sends ≡ [] → IsSized plan sectors
+    → eqb (length bytes) (512 * chunk_count plan w.command w.left) ≡ fits → w.sends ≡ [] → IsSized plan
     → IsAsking plan sectors w v → IsHeld m.queued m.owed w.command.tag → AreSetUp plan w.command (w.left - 1) v.setups
     → Stands plan sectors (writing m m.owed w) (asked plan k w v)
     → Agrees plan sectors (data_taken plan (writing m m.owed w) (Some w) bytes)
@@ -111,7 +111,7 @@ not_asked plan sectors m k w v bytes more idle a =
     rw (nothing_stored plan m w bytes more, nothing_taken (shown m (along k (Some v))) v bytes idle) a
 
 pub step_data : (plan : DiskPlan) (sectors : ℕ) (m : Moment) (k : Beside) (s : Option Started) (w : Option Writing)
-    (v : Option Moving) (bytes : List ℕ) → IsSized plan sectors → Moves plan sectors m.medium m.queued m.owed s w v
+    (v : Option Moving) (bytes : List ℕ) → IsSized plan → Moves plan sectors m.medium m.queued m.owed s w v
     → Stands plan sectors (under m m.owed s w) (along k v)
     → Agrees plan sectors (data_taken plan (under m m.owed s w) w bytes)
     (takes_data (shown (under m m.owed s w) (along k v)) v bytes)
@@ -141,6 +141,7 @@ step_data plan sectors m k None (Some w) (Some v) bytes sized (Asked, r, held) a
         among = mv.among;
         inside = mv.inside;
         some = mv.some;
+        few = mv.few;
         tag = mv.tag;
         moved = refl;
       };
@@ -189,14 +190,14 @@ abbrev pub Follows : DiskPlan → ℕ → Moment → Beside → Turn → List �
 Follows plan sectors m k t b = Agrees plan sectors (after_turn m t) (listens_up (shown m k) (seen b))
 
 -- the place and the length of a chunk fit their fields
-pub setup_of_chunk : (plan : DiskPlan) (sectors : ℕ) (c : Command) (left : ℕ) (b : List ℕ) → IsSized plan sectors
-    → ChunkPart plan c left → c.lba + c.count ≤ sectors → c.tag < 32 → Shows (chunk_setup plan c left) b
+pub setup_of_chunk : (plan : DiskPlan) (c : Command) (left : ℕ) (b : List ℕ)
+    → ChunkPart plan c left → c.count ≤ 65536 → c.tag < 32 → Shows (chunk_setup plan c left) b
     → TellsSetup c.tag (512 * chunk_from plan c left) (512 * chunk_count plan c left) (not c.write) b
-setup_of_chunk plan sectors c left b sized part inside tag shows =
+setup_of_chunk plan c left b part few tag shows =
     let offset = 512 * chunk_from plan c left in
     let count = 512 * chunk_count plan c left in
     setup_tells c.tag offset count (not c.write) plan.auto b tag
-    (omega (arith, part.inside, sized.most)) (omega (arith, part.inside, sized.most)) shows
+    (omega (arith, part.inside, few)) (omega (arith, part.inside, few)) shows
 
 -- the DMA Setup of a read has no auto-activate, and that of a write has what the plan says
 pub auto_of_read : (plan : DiskPlan) (c : Command) (left : ℕ) (b : List ℕ) → c.write ≡ false → Shows (chunk_setup plan c left) b
@@ -212,7 +213,7 @@ auto_of_write plan c left b writes shows =
     ∙ auto_same plan.auto c.write writes
 
 pub read_sets_up : (plan : DiskPlan) (sectors : ℕ) (m : Moment) (k : Beside) (c : Command) (sends : List Sending) (v : Moving)
-    (left : ℕ) (b : List ℕ) → IsSized plan sectors
+    (left : ℕ) (b : List ℕ) → IsSized plan
     → let s : Started = record { command = c; sends = sends } in
     IsReading plan sectors m.medium s v left false → IsHeld m.queued [] c.tag
     → Stands plan sectors (reading m s) (along k (Some v)) → IsTurn (read_turn (reading m s) c sends) b
@@ -224,7 +225,7 @@ read_sets_up plan sectors m k c sends v left b sized r held a may =
     let shows = rw is at may in
     let part : ChunkPart plan c left = chunk_part plan c left sized.low mv.some mv.more mv.among in
     let told : TellsSetup c.tag (512 * chunk_from plan c left) (512 * chunk_count plan c left) (not c.write) b =
-    setup_of_chunk plan sectors c left b sized part mv.inside mv.tag shows in
+    setup_of_chunk plan c left b part mv.few mv.tag shows in
     let plain : is_auto b ≡ false = auto_of_read plan c left b r.reads shows in
     rw (is, told.viewed, plain) (record {
       outstanding = refl;
@@ -239,7 +240,7 @@ read_sets_up plan sectors m k c sends v left b sized r held a may =
         left,
         true,
         record {
-          moving = record { same = mv.same; more = mv.more; among = mv.among; inside = mv.inside; some = mv.some; tag = mv.tag; moved = mv.moved };
+          moving = record { same = mv.same; more = mv.more; among = mv.among; inside = mv.inside; some = mv.some; few = mv.few; tag = mv.tag; moved = mv.moved };
           reads = r.reads;
           before = r.before;
           bytes = r.bytes;
@@ -261,7 +262,7 @@ all_one sectors x is zero d below = is
 all_one sectors x is (suc k) d below = absurd (omega arith)
 
 -- the Data of a chunk, at its place
-data_placed : (plan : DiskPlan) (sectors : ℕ) (medium : List ℕ) (c : Command) (left : ℕ) → IsSized plan sectors
+data_placed : (plan : DiskPlan) (sectors : ℕ) (medium : List ℕ) (c : Command) (left : ℕ) → IsSized plan
     → ChunkPart plan c left → length medium ≡ 512 * sectors → c.lba + c.count ≤ sectors
     → let bytes = moved_bytes plan.last_first (sectors_at medium c.lba c.count) (512 * c.count) in
     put (bytes (512 * moved_sectors plan c left)) (512 * chunk_from plan c left) (chunk_bytes plan medium c left)
@@ -278,7 +279,7 @@ data_placed plan sectors medium c left sized part size inside =
     part.within part.upwards part.downwards_is
 
 pub read_ends : (plan : DiskPlan) (sectors : ℕ) (m : Moment) (k : Beside) (s : Started) (v : Moving) (left : ℕ)
-    (later : List Sending) → IsSized plan sectors → IsSending plan sectors m.medium s.command left v → left ≡ 1 → later ≡ []
+    (later : List Sending) → IsSized plan → IsSending plan sectors m.medium s.command left v → left ≡ 1 → later ≡ []
     → Stands plan sectors (reading m s) (sent_so_far plan m k s.command left v)
     → Carried plan sectors (reading m s) k s.command left v later
 read_ends plan sectors m k s v left later sized sending one none a =
@@ -320,7 +321,7 @@ read_ends plan sectors m k s v left later sized sending one none a =
     })
 
 pub read_goes_on : (plan : DiskPlan) (sectors : ℕ) (m : Moment) (k : Beside) (s : Started) (v : Moving) (left : ℕ) (x : Sending)
-    (later : List Sending) → IsSized plan sectors → IsSending plan sectors m.medium s.command left v → (left ≡ 1 → ⊥)
+    (later : List Sending) → IsSized plan → IsSending plan sectors m.medium s.command left v → (left ≡ 1 → ⊥)
     → sends_left plan m.medium s.command (left - 1) ≡ x ∷ later → IsHeld m.queued [] s.command.tag
     → AreSetUp plan s.command (left - 1) v.setups → Stands plan sectors (reading m s) (sent_so_far plan m k s.command left v)
     → Carried plan sectors (reading m s) k s.command left v (x ∷ later)
@@ -357,6 +358,7 @@ read_goes_on plan sectors m k s v left x later sized sending other next held nam
             among = omega (arith, mv.among);
             inside = mv.inside;
             some = mv.some;
+            few = mv.few;
             tag = mv.tag;
             moved = moved;
           };

@@ -37,7 +37,7 @@ pub record InEachCase (plan : DiskPlan) (sectors : ℕ) (queued : List Command) 
   pub goes_on : (now : Moving) (x : Sending) → v ≡ Some now → IsTransfer x → Shows x b → P
 
 begins_by : (plan : DiskPlan) (sectors : ℕ) (m : Moment) (owed : List Answer) (c : Command) (bad : Option Fault) (write : Bool)
-    (b : List ℕ) (P : Type 0) → IsSized plan sectors → InEachCase plan sectors m.queued owed None b P
+    (b : List ℕ) (P : Type 0) → IsSized plan → InEachCase plan sectors m.queued owed None b P
     → picked plan.order m.queued ≡ Some c → IsIn m.queued c → fault_of plan sectors c ≡ bad
     → IsTurn (begun_by plan m c bad write) b → P
 begins_by plan sectors m owed c (Some f) write b P sized cases turn here is may = cases.fails c f turn is refl may
@@ -47,7 +47,7 @@ begins_by plan sectors m owed c None false b P sized cases turn here is may =
     cases.starts c turn here is refl (subst (λ (xs : List Sending). IsTurn (read_turn m c xs) b) next may)
 
 picks_by : (plan : DiskPlan) (sectors : ℕ) (m : Moment) (owed : List Answer) (o : Option Command) (b : List ℕ) (P : Type 0)
-    → IsSized plan sectors → IsQueue m.queued → InEachCase plan sectors m.queued owed None b P → picked plan.order m.queued ≡ o
+    → IsSized plan → IsQueue m.queued → InEachCase plan sectors m.queued owed None b P → picked plan.order m.queued ≡ o
     → IsTurn (pick_turn plan sectors m o) b → P
 picks_by plan sectors m owed None b P sized queue cases is may = absurd may
 picks_by plan sectors m owed (Some c) b P sized queue cases is may = begins_by plan sectors m owed c _ c.write b P sized cases is (picked_in plan.order m.queued c queue is) refl (same_turn plan m c (fault_of plan sectors c) b may)
@@ -72,7 +72,7 @@ writes_by plan sectors m queued owed w v SetUp b P cases r may = cases.goes_on v
 writes_by plan sectors m queued owed w v Asked b P cases r may = absurd (subst (λ (xs : List Sending). IsTurn (write_turn m w xs) b) r.stage.0 may)
 
 turn_by : (plan : DiskPlan) (sectors : ℕ) (m : Moment) (owed : List Answer) (s : Option Started) (w : Option Writing)
-    (v : Option Moving) (b : List ℕ) (P : Type 0) → IsSized plan sectors → IsQueue m.queued
+    (v : Option Moving) (b : List ℕ) (P : Type 0) → IsSized plan → IsQueue m.queued
     → Moves plan sectors m.medium m.queued owed s w v → InEachCase plan sectors m.queued owed v b P
     → IsTurn (turn plan sectors (under m owed s w)) b → P
 turn_by plan sectors m (x ∷ later) s w v b P sized queue moves cases may = cases.answers x later refl may

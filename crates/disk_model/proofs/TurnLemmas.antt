@@ -1,19 +1,36 @@
 -- What a disk's turn is, from the facts that its code has.
 use Rattle.std.proofs.lemmas.Bool.Decides.{nat_tests}
-use Rattle.std.proofs.Common.{◌≡◌, ◌≢◌, ◌==◌, ◌≤◌, length-drop, rules, tests, ℕ, ◌+◌, ◌-◌, ◌*◌, ◌<◌, Bool, true, false, List, [], ◌∷◌, Some, None, length, get_or, drop, refl, ap, sym, ◌∙◌, arith}
-use Rattle.std.specs.Prelude.{Result, Ok, Err, OnErr}
+use Rattle.std.proofs.Common.{◌≡◌, ◌≢◌, ◌==◌, ◌≤◌, length-drop, rules, tests, ℕ, ◌+◌, ◌-◌, ◌*◌, ◌<◌, Bool, true, false, List, [], ◌∷◌, Some, None, length, get_or, drop, refl, ap, sym, subst, ◌∙◌, arith}
+use Rattle.std.specs.Prelude.{Result, Ok, Err, OnErr, All, slice_get}
+use Rattle.std.proofs.lemmas.List.Elements.{All-get_or}
+use Rattle.std.proofs.lemmas.Option.{get_or_from_slice_get, slice_get_within}
 use Rattle.disk_model.specs.declared.request.Command.{Command}
 use Rattle.disk_model.specs.declared.answer.Answer.{Answer}
 use Rattle.disk_model.specs.declared.answer.Fault.{Fault}
 use Rattle.disk_model.specs.declared.plan.DiskPlan.{DiskPlan}
+use Rattle.disk_model.specs.declared.plan.Order.{Order}
+use Rattle.disk_model.specs.declared.plan.Order.TheVariants.{Oldest, Newest}
 use Rattle.disk_model.specs.declared.disk.Reading.{Reading}
 use Rattle.disk_model.specs.declared.disk.Transfer.TheVariants.{Read}
+use Rattle.disk_model.specs.Requests.{IsCounted}
 use Rattle.disk_model.specs.Sendings.{Sending, Shows, answer_sent}
 use Rattle.disk_model.specs.Chunks.{activations, sends_left, asks_for, chunks, chunk_from, chunk_count, fault_of, report, put}
 use Rattle.disk_model.specs.Disks.{Moment, Turn, turn, went, ended, stopped, picked, starts, read_turn, write_turn, begun_write, data_taken}
 use Rattle.disk_model.specs.Runs.{Takes}
 use Rattle.disk_model.specs.Insides.{sends_of, sends_after, moved, started_by, Leads}
 use Rattle.disk_model.proofs.SendLemmas.{sends_left_next}
+
+-- ## The command that starts next
+
+counted_at : (queued : List Command) (i : ℕ) (c : Command) → All (λ q. IsCounted q) queued → slice_get queued i ≡ Some c → IsCounted c
+counted_at queued i c all is =
+    subst (λ (q : Command). IsCounted q) (get_or_from_slice_get queued i c c is)
+    (All-get_or (λ q. IsCounted q) queued i c (slice_get_within queued i c is) all)
+
+pub picked_counted : (order : Order) (queued : List Command) (c : Command) → All (λ q. IsCounted q) queued
+    → picked order queued ≡ Some c → IsCounted c
+picked_counted Oldest queued c all is = counted_at queued 0 c all is
+picked_counted Newest queued c all is = counted_at queued (length queued - 1) c all is
 
 -- ## A turn that is known
 

@@ -12,6 +12,7 @@ use Rattle.disk_model.specs.declared.plan.DiskPlan.{DiskPlan}
 use Rattle.fis_view.specs.Frames.{Stamped}
 use Rattle.disk_model.specs.Sendings.{Sending, Shows}
 use Rattle.disk_model.specs.Chunks.{sends_left, asks_for, chunks}
+use Rattle.disk_model.specs.Requests.{IsCounted}
 use Rattle.disk_model.specs.Disks.{Moment, Started, Writing, DiskValue, turn}
 use Rattle.disk_model.specs.Runs.{Gave}
 
@@ -53,13 +54,15 @@ seen_as d = record {
   };
 }
 
--- a transfer lies within the disk, and has a chunk to move
+-- a transfer lies within the disk, has a chunk to move, and is no longer than a command can say
 abbrev pub IsTransfer : DiskPlan → ℕ → Transfer → Type 0
 IsTransfer plan sectors Idle = Unit {0}
 IsTransfer plan sectors (Write w) =
     (0 < w.left) × (w.left ≤ chunks plan w.command) × (w.command.lba + w.command.count ≤ sectors)
+    × (w.command.count ≤ 65536)
 IsTransfer plan sectors (Read r) =
     (0 < r.left) × (r.left ≤ chunks plan r.command) × (r.command.lba + r.command.count ≤ sectors)
+    × (r.command.count ≤ 65536)
 
 -- the buffer has the length of the write
 abbrev pub IsStaged : List ℕ → Transfer → Type 0
@@ -68,11 +71,10 @@ IsStaged staged (Read r) = Unit {0}
 IsStaged staged (Write w) = length staged ≡ 512 * w.command.count
 
 pub record IsDisk (d : Inside) : Type 0 where
-  pub sectors : d.sectors ≤ 8388607
   pub medium : length d.medium.items ≡ 512 * d.sectors
   pub low : 512 ≤ d.plan.chunk
   pub high : d.plan.chunk ≤ 8192
-  pub counts : All (λ c. 0 < c.count) d.queue.items
+  pub counts : All (λ c. IsCounted c) d.queue.items
   pub staged : IsStaged d.staged.items d.transfer
   pub transfer : IsTransfer d.plan d.sectors d.transfer
   -- there is room for 64 answers, and for 32 commands, one for each tag

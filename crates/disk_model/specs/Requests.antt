@@ -1,5 +1,5 @@
 -- What a Register Host to Device FIS asks of a disk (ACS-3, commands; Serial ATA 3.x, 10.5.5).
-use Rattle.std.specs.Prelude.{ℕ, ◌/◌, ◌%◌, ◌==◌, ◌&&◌, ◌<◌, Bool, true, false, List, if◌then◌else◌}
+use Rattle.std.specs.Prelude.{ℕ, ◌/◌, ◌%◌, ◌==◌, ◌&&◌, ◌<◌, ◌≤◌, Bool, true, false, List, if◌then◌else◌}
 use Rattle.fis_view.specs.Table.{H2d, C, Command, Features, Lba, Count, Control, field}
 use Rattle.disk_model.specs.declared.request.Command as queued
 use Rattle.disk_model.specs.declared.request.Request.{Request}
@@ -37,9 +37,13 @@ abbrev pub request_of : List ℕ → Request
 request_of f = (if field H2d C f == 1 then command_request f (field H2d Command f)
     else Reset (field H2d Control f / 4 % 2 == 1))
 
--- a queued command asks for at least one sector and has one of 32 tags
+-- a command asks for 1 to 65,536 sectors, as many as a count of 16 bits can say
+abbrev pub IsCounted : queued.Command → Type 0
+IsCounted c = (0 < c.count) × (c.count ≤ 65536)
+
+-- a queued command asks for so many sectors, and has one of 32 tags
 abbrev pub Asks : Request → Type 0
-Asks (Queue c) = (0 < c.count) × (c.tag < 32)
+Asks (Queue c) = IsCounted c × (c.tag < 32)
 Asks (Reset on) = Unit {0}
 Asks ReadErrorLog = Unit {0}
 Asks Identify = Unit {0}

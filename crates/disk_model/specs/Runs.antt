@@ -8,10 +8,11 @@ use Rattle.disk_model.specs.Histories.{Happening, Received, Sent, Plugged, Plan,
 use Rattle.disk_model.specs.Sendings.{Shows}
 use Rattle.disk_model.specs.Disks.{Moment, DiskValue, Turn, turn, after, opening, moment_after}
 
--- the most sectors that a disk can have: those of a stock disk are fewer than 2^32 bytes
+-- the most sectors that a disk can have: the number of those of a stock disk fits into 28 bits, as words 60 and 61
+-- of IDENTIFY DEVICE and the LBA of READ DMA say it (ACS-3)
 abbrev pub most_sectors : Profile → ℕ
 most_sectors Bare = 65536
-most_sectors (Stock serial) = 8388607
+most_sectors (Stock serial) = 268435455
 
 -- a disk of this profile can have this many sectors, and chunks of this size
 abbrev pub is_size : Profile → (sectors chunk : ℕ) → Bool

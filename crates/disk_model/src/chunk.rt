@@ -57,7 +57,7 @@ pub fn command_fault(plan: &DiskPlan, sectors: u32, command: Command) -> Option<
 pub fn chunks_of(plan: &DiskPlan, command: Command) -> u32
     requires chunk { 512 ≤ plan.now.chunk }
     requires some { 0 < command.count }
-    requires short { command.count ≤ 8388607 }
+    requires short { command.count ≤ 65536 }
     ensures chunks { result ≡ chunks plan.now command }
     ensures some { 0 < result }
 {
@@ -85,7 +85,7 @@ impl Chunk {
     pub fn at(plan: &DiskPlan, command: Command, left: u32) -> Chunk
         requires low { 512 ≤ plan.now.chunk }
         requires high { plan.now.chunk ≤ 8192 }
-        requires short { command.count ≤ 8388607 }
+        requires short { command.count ≤ 65536 }
         requires some { 0 < left }
         requires among { left ≤ chunks plan.now command }
         ensures from { result.from ≡ chunk_from plan.now command left }

@@ -5,6 +5,7 @@ ghost use Rattle.std.specs.List.{list_any};
 ghost use Rattle.disk_model.specs.Chunks.{put, sectors_at};
 ghost use Rattle.disk_model.specs.Disks.{opening, opening_medium, without};
 ghost use Rattle.disk_model.specs.Histories.{DiskOf};
+ghost use Rattle.disk_model.specs.Requests.{IsCounted};
 ghost use Rattle.disk_model.specs.Runs.{DiskStandsFor, disk_plan, is_size, most_sectors};
 
 mod quiet;
@@ -105,23 +106,21 @@ impl From<AllocError> for DiskError {
 
 /// The most sectors that a disk of this profile can have.
 fn most_sectors(profile: Profile) -> u32
-    ensures most { result ≡ most_sectors profile }
-    ensures few { result ≤ 8388607 }
+    ensures { result ≡ most_sectors profile }
 {
     match profile {
         Profile::Bare => 65_536,
-        Profile::Stock(_) => 8_388_607,
+        Profile::Stock(_) => 268_435_455,
     }
 }
 
 /// The sectors of a new disk.
 fn new_medium(alloc: Global, sectors: u32) -> Result<Vec<u8>, AllocError>
-    requires { sectors ≤ 8388607 }
     ensures items { IfOk result (λ v. v.items ≡ opening_medium sectors) }
     ensures len { IfOk result (λ v. length v.items ≡ 512 * sectors) }
 {
-    let len = 512 * sectors;
-    let mut medium = Vec::with_capacity(alloc, len as usize)?;
+    let len = 512 * sectors as usize;
+    let mut medium = Vec::with_capacity(alloc, len)?;
     for at in 0..len {
         medium.push(((at / 512 + at % 512) % 256) as u8)?;
     }
@@ -137,7 +136,7 @@ fn put_at(bytes: &mut Vec<u8>, at: usize, part: &[u8])
 
 fn remove_tag(queue: &mut Vec<Command>, tag: u8)
     ensures items { queue.new.items ≡ filter (λ q. not (q.tag == tag)) queue.old.items }
-    ensures counts { All (λ c. 0 < c.count) queue.old.items → All (λ c. 0 < c.count) queue.new.items }
+    ensures counts { All (λ c. IsCounted c) queue.old.items → All (λ c. IsCounted c) queue.new.items }
     ensures capacity { vec_capacity queue.new ≡ vec_capacity queue.old }
 {
     queue.retain(|queued| queued.tag != tag);
@@ -150,7 +149,7 @@ fn is_queued(queue: &[Command], tag: u8) -> bool
 }
 
 impl Disk {
-    /// A disk with this many sectors of 512 bytes: 1 to 65,536, with the stock profile to 8,388,607. The sizes
+    /// A disk with this many sectors of 512 bytes: 1 to 65,536, with the stock profile to 268,435,455. The sizes
     /// are tested before memory is asked for.
     pub fn new(alloc: Global, sectors: u32, plan: DiskPlan) -> Result<Disk, DiskError>
         ensures ok { IfOk result (λ d.

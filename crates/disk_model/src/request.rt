@@ -1,7 +1,7 @@
 //! What a Register Host to Device FIS asks of a disk (ACS-3, commands).
 
 ghost use Rattle.std.specs.Prelude.{◌≡◌, ◌<◌, ◌≤◌};
-ghost use Rattle.disk_model.specs.Requests.{Asks, command_request, names_error_log, queued_command, request_of, sectors_asked};
+ghost use Rattle.disk_model.specs.Requests.{Asks, IsCounted, command_request, names_error_log, queued_command, request_of, sectors_asked};
 
 use fis_view::RegH2D;
 
@@ -50,7 +50,7 @@ fn asked(features: u16) -> u32
 
 fn queued(fis: &RegH2D<'_>, write: bool) -> Command
     ensures command { result ≡ queued_command fis.now write }
-    ensures some { 0 < result.count }
+    ensures counted { IsCounted result }
     ensures tag { result.tag < 32 }
 {
     Command {

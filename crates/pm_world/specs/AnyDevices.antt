@@ -1,7 +1,7 @@
 -- A device that is a unit or the caller's own: what laws see of it, and what it does itself.
 use Rattle.std.specs.Prelude.{ℕ, List}
-use Rattle.disk_model.specs.Histories.{GoesOn, Happening, Plan, SendsNext}
-use Rattle.disk_model.specs.Units.{UnitGoesOn, UnitSends}
+use Rattle.disk_model.specs.Histories.{GoesOn, Happening, IsSilent, Plan, SendsNext}
+use Rattle.disk_model.specs.Units.{UnitGoesOn, UnitIsSilent, UnitSends}
 use Rattle.pm_world.specs.Attached.{Attached, Modelled, Own}
 use Rattle.pm_world.specs.declared.device.AnyDevice.{AnyDevice}
 use Rattle.pm_world.specs.declared.device.AnyDevice.TheVariants as any
@@ -23,3 +23,9 @@ abbrev pub AnySends : {D : Type 0} → (D → Plan) → (D → List Happening �
 AnySends plan_of StandsFor MaySend (any.Unit old) bytes (any.Unit new) = UnitSends old bytes new
 AnySends plan_of StandsFor MaySend (any.Own old) bytes (any.Own new) = SendsNext plan_of StandsFor MaySend old bytes new
 AnySends plan_of StandsFor MaySend old bytes new = ⊥
+
+-- the unit has nothing to send, or the caller's device has not
+abbrev pub AnyIsSilent : {D : Type 0} → (D → Plan) → (D → List Happening → Type 0)
+    → (Plan → List Happening → List ℕ → Type 0) → AnyDevice D → Type 0
+AnyIsSilent plan_of StandsFor MaySend (any.Unit unit) = UnitIsSilent unit
+AnyIsSilent plan_of StandsFor MaySend (any.Own device) = IsSilent plan_of StandsFor MaySend device

@@ -64,7 +64,7 @@ pub enum AnyDevice<D: Device + Drop> {
 }
 
 impl<D: Device + Drop> PortDevice for AnyDevice<D> {
-    ghost use Rattle.pm_world.specs.AnyDevices.{AnyGoesOn, AnySends, seen_any};
+    ghost use Rattle.pm_world.specs.AnyDevices.{AnyGoesOn, AnyIsSilent, AnySends, seen_any};
 
     ghost seen = { seen_any };
 
@@ -83,6 +83,7 @@ impl<D: Device + Drop> PortDevice for AnyDevice<D> {
     fn send(&mut self, alloc: Global, stamp: Stamp) -> Result<Option<Frame>, AllocError>
         ensures any { IfOk result (λ out. IfSome out (λ frame.
             AnySends D.plan_of D.stands_for D.may_send self.old frame.bytes self.new)) }
+        ensures none { IfOk result (λ out. IfNone out (AnyIsSilent D.plan_of D.stands_for D.may_send self.old)) }
         ensures sent { IfOk result (λ out. IfSome out (λ frame.
             SendsAttached (seen_any self.old) frame.bytes (seen_any self.new))) }
         ensures stamp { IfOk result (λ out. IfSome out (λ frame. frame.stamp ≡ stamp)) }

@@ -7,9 +7,10 @@ ghost use Rattle.disk_model.specs.Disks.{opening as opening_moment};
 ghost use Rattle.disk_model.specs.Histories.{DiskOf};
 ghost use Rattle.disk_model.specs.Insides.{HasTurn};
 ghost use Rattle.disk_model.specs.Quiet.{due_in, is_at_rest};
+ghost use Rattle.disk_model.specs.Requests.{IsCounted};
 ghost use Rattle.disk_model.specs.Runs.{is_size};
 ghost use Rattle.disk_model.specs.Sendings.{Activates, Shows};
-ghost use Rattle.stock_disk.specs.Dmas.{dma_fault};
+ghost use Rattle.stock_disk.specs.Dmas.{as_queued, dma_fault};
 ghost use Rattle.stock_disk.specs.Faces.{MaySendBy, OutOf, Served, StockStandsFor, WentOut, stock_plan};
 ghost use Rattle.stock_disk.specs.Fronts.{opening};
 ghost use Rattle.stock_disk.specs.Losses.{after_if, asked, begins, is_activate, is_setup};
@@ -83,7 +84,7 @@ fn drop_activate(disk: &mut Disk)
 /// queued command and a read's first DMA Setup are sent to nobody.
 fn begin(disk: &mut Disk, dma: Dma)
     requires rest { is_at_rest disk.old.now ≡ true }
-    requires count { 0 < dma.count }
+    requires count { IsCounted (as_queued dma) }
     ensures { disk.new ≡ begins (dma_fault disk.old dma) disk.old dma }
 {
     let command = dma.queued();
@@ -172,7 +173,7 @@ fn next_of_disk(
 }
 
 impl StockDisk {
-    /// A disk with this many sectors of 512 bytes: 1 to 65,536, with the stock profile to 8,388,607. The sizes
+    /// A disk with this many sectors of 512 bytes: 1 to 65,536, with the stock profile to 268,435,455. The sizes
     /// are tested before memory is asked for.
     pub fn new(alloc: Global, sectors: u32, plan: DiskPlan) -> Result<StockDisk, DiskError>
         ensures disk { IfOk result (λ s. s.disk

@@ -60,7 +60,7 @@ pub struct Disk {
 unsafe impl Send for Disk {}
 
 impl Disk {
-    /// A disk with 1 to 65,536 sectors of 512 bytes, a stock one with up to 8,388,607.
+    /// A disk with 1 to 65,536 sectors of 512 bytes, a stock one with up to 268,435,455.
     ///
     /// # Errors
     /// [`Error::BadDisk`] and [`Error::NoMemory`].

@@ -6,6 +6,7 @@ ghost use Rattle.disk_model.specs.Chunks.{fault_of};
 ghost use Rattle.disk_model.specs.Disks.{Moment, read_turn};
 ghost use Rattle.disk_model.specs.Insides.{sends_of};
 ghost use Rattle.disk_model.specs.Quiet.{after_next, begun_with, due_by, due_in, is_at_rest, kind_of};
+ghost use Rattle.disk_model.specs.Requests.{IsCounted};
 ghost use Rattle.disk_model.specs.Sendings.{answer_sent};
 
 use super::send::{asked, moved_on, zeros};
@@ -245,7 +246,7 @@ impl Disk {
     /// memory.
     pub fn begin(&mut self, command: Command)
         requires rest { is_at_rest self.old.now ≡ true }
-        requires count { 0 < command.count }
+        requires count { IsCounted command }
         ensures { self.new ≡ begun_with self.old command }
     {
         match self.queue.push(command) {

@@ -3,7 +3,7 @@
 ghost use Rattle.std.specs.Prelude.{◌≡◌, ◌<◌, ◌++◌, ◌∷◌, [], None, OnErr, OnOk};
 ghost use Rattle.disk_model.specs.Disks.{cleared, data_taken, flushed, identified, is_held as is_held_by, logged, owes, owes_alone, owes_page, queues, received, refused, with_now};
 ghost use Rattle.disk_model.specs.Insides.{WantsRoom};
-ghost use Rattle.disk_model.specs.Requests.{Asks};
+ghost use Rattle.disk_model.specs.Requests.{Asks, IsCounted};
 
 use super::{Disk, Transfer, Waiting, is_queued, put_at, remove_tag};
 use crate::answer::{Answer, Fault, Page};
@@ -65,7 +65,7 @@ impl Disk {
     }
 
     fn enqueue(&mut self, command: Command) -> Result<(), AllocError>
-        requires { 0 < command.count }
+        requires { IsCounted command }
         ensures ok { OnOk result (self.new ≡ with_now self.old (queues self.old.now command)) }
         ensures err { OnErr result (self.new ≡ self.old) }
         ensures no_memory { OnErr result (WantsRoom self.old.now (queues self.old.now command)) }

@@ -25,7 +25,6 @@ fn reading_frame(
 ) -> Result<Frame, AllocError>
     requires low { 512 ≤ plan.now.chunk }
     requires high { plan.now.chunk ≤ 8192 }
-    requires sectors { sectors ≤ 8388607 }
     requires medium { length medium.now ≡ 512 * sectors }
     requires transfer { IsTransfer plan.now sectors (Read reading) }
     ensures leads { IfOk result (λ f. Leads
@@ -61,7 +60,7 @@ fn asking_frame(
 ) -> Result<Frame, AllocError>
     requires low { 512 ≤ plan.now.chunk }
     requires high { plan.now.chunk ≤ 8192 }
-    requires short { waiting.command.count ≤ 8388607 }
+    requires short { waiting.command.count ≤ 65536 }
     requires some { 0 < waiting.left }
     requires among { waiting.left ≤ chunks plan.now waiting.command }
     requires more { waiting.gone < 1 + length (activations plan.now.auto) }

@@ -114,7 +114,7 @@ fn plugging_ends_a_reset(rt: HostRuntime) -> Result<(), DiskError> {
     assert_disk(&rt, rt.alloc(), 16, DiskPlan::plain(), &PLUGGED_IN_RESET)
 }
 
-/// A disk has at least one sector, and at most 65,536; with the stock profile at most 8,388,607.
+/// A disk has at least one sector, and at most 65,536; with the stock profile at most 268,435,455.
 #[test]
 fn sizes_that_no_disk_has(rt: HostRuntime) {
     let stock = Profile::Stock(0);
@@ -124,7 +124,7 @@ fn sizes_that_no_disk_has(rt: HostRuntime) {
         (u32::MAX, Profile::Bare, Some(DiskError::BadSize)),
         (0, stock, Some(DiskError::BadSize)),
         (65_537, stock, None),
-        (8_388_608, stock, Some(DiskError::BadSize)),
+        (268_435_456, stock, Some(DiskError::BadSize)),
     ] {
         let plan = DiskPlan {
             profile,

@@ -17,7 +17,7 @@ use Rattle.disk_model.specs.Histories.{Happening, Plugged, Received, Sent}
 use Rattle.disk_model.specs.Ledger.{IsSize, Moving, ledger}
 use Rattle.disk_model.specs.Runs.{IsDiskRun, IsTurn, moment, most_sectors}
 use Rattle.disk_model.specs.Sendings.{Sending, Shows, answer_sent}
-use Rattle.disk_model.proofs.Door.{agrees, Asked, at, begun_by, can_be_done, chunk_part, ChunkPart, Fresh, IsIn}
+use Rattle.disk_model.proofs.Door.{agrees, Asked, at, begun_by, chunk_part, ChunkPart, Fresh, IsIn}
 use Rattle.disk_model.proofs.Door.{IsQueue, IsReading, IsSized, IsWriting, last_may, linked_since_new, Moves}
 use Rattle.disk_model.proofs.Door.{picked_in, same_turn, sends_left_next, SetUp, setup_of_chunk, sized_by}
 use Rattle.disk_model.proofs.Door.{some_chunks, Stage, TellsSetup}
@@ -36,33 +36,33 @@ chunk_short plan c left b high told =
     let small : field Setup Count b ≤ 8192 = subst (λ (n : ℕ). n ≤ 8192) (sym told.count_is) few in
     rw told.viewed small
 
-start_short : (plan : DiskPlan) (sectors : ℕ) (queued : List Command) (c : Command) (b : List ℕ) → plan.chunk ≤ 8192 → IsSized plan sectors
-    → IsIn queued c → c.lba + c.count ≤ sectors → Shows (chunk_setup plan c (chunks plan c)) b → IsShort (seen b)
-start_short plan sectors queued c b high sized here inside shows =
+start_short : (plan : DiskPlan) (queued : List Command) (c : Command) (b : List ℕ) → plan.chunk ≤ 8192 → IsSized plan
+    → IsIn queued c → Shows (chunk_setup plan c (chunks plan c)) b → IsShort (seen b)
+start_short plan queued c b high sized here shows =
     let all = chunks plan c in
     let more : 0 < chunks plan c = some_chunks plan c sized.low here.some in
     let part : ChunkPart plan c all = chunk_part plan c all sized.low here.some more (omega arith) in
-    chunk_short plan c all b high (setup_of_chunk plan sectors c all b sized part inside here.tag shows)
+    chunk_short plan c all b high (setup_of_chunk plan c all b part here.few here.tag shows)
 
-begin_short : (plan : DiskPlan) (sectors : ℕ) (m : Moment) (c : Command) (bad : Option Fault) (write : Bool) (b : List ℕ) → plan.chunk ≤ 8192
-    → fault_of plan sectors c ≡ bad → IsSized plan sectors → IsIn m.queued c → IsTurn (begun_by plan m c bad write) b → IsShort (seen b)
-begin_short plan sectors m c (Some f) write b high is sized here may = rw may.viewed tt
-begin_short plan sectors m c None true b high is sized here may =
-    start_short plan sectors m.queued c b high sized here (can_be_done plan sectors c is).inside may
-begin_short plan sectors m c None false b high is sized here may =
+begin_short : (plan : DiskPlan) (m : Moment) (c : Command) (bad : Option Fault) (write : Bool) (b : List ℕ) → plan.chunk ≤ 8192
+    → IsSized plan → IsIn m.queued c → IsTurn (begun_by plan m c bad write) b → IsShort (seen b)
+begin_short plan m c (Some f) write b high sized here may = rw may.viewed tt
+begin_short plan m c None true b high sized here may =
+    start_short plan m.queued c b high sized here may
+begin_short plan m c None false b high sized here may =
     let next = sends_left_next plan m.medium c (chunks plan c) (some_chunks plan c sized.low here.some) in
-    start_short plan sectors m.queued c b high sized here (can_be_done plan sectors c is).inside
+    start_short plan m.queued c b high sized here
     (subst (λ (xs : List Sending). IsTurn (read_turn m c xs) b) next may)
 
-pick_short : (plan : DiskPlan) (sectors : ℕ) (m : Moment) (o : Option Command) (b : List ℕ) → plan.chunk ≤ 8192 → IsSized plan sectors
+pick_short : (plan : DiskPlan) (sectors : ℕ) (m : Moment) (o : Option Command) (b : List ℕ) → plan.chunk ≤ 8192 → IsSized plan
     → IsQueue m.queued → picked plan.order m.queued ≡ o → IsTurn (pick_turn plan sectors m o) b → IsShort (seen b)
 pick_short plan sectors m None b high sized queue is may = absurd may
 pick_short plan sectors m (Some c) b high sized queue is may =
-    begin_short plan sectors m c _ c.write b high refl sized (picked_in plan.order m.queued c queue is)
+    begin_short plan m c (fault_of plan sectors c) c.write b high sized (picked_in plan.order m.queued c queue is)
     (same_turn plan m c (fault_of plan sectors c) b may)
 
 read_short : (plan : DiskPlan) (sectors : ℕ) (m : Moment) (medium : List ℕ) (s : Started) (v : Moving) (left : ℕ) (up : Bool) (b : List ℕ)
-    → plan.chunk ≤ 8192 → IsSized plan sectors → IsReading plan sectors medium s v left up → IsTurn (read_turn m s.command s.sends) b
+    → plan.chunk ≤ 8192 → IsSized plan → IsReading plan sectors medium s v left up → IsTurn (read_turn m s.command s.sends) b
     → IsShort (seen b)
 read_short plan sectors m medium s v left false b high sized r may =
     let c = s.command in
@@ -70,7 +70,7 @@ read_short plan sectors m medium s v left false b high sized r may =
     let next = sends_left_next plan medium c left mv.more in
     let shows = subst (λ (xs : List Sending). IsTurn (read_turn m c xs) b) (r.stage ∙ next) may in
     let part : ChunkPart plan c left = chunk_part plan c left sized.low mv.some mv.more mv.among in
-    chunk_short plan c left b high (setup_of_chunk plan sectors c left b sized part mv.inside mv.tag shows)
+    chunk_short plan c left b high (setup_of_chunk plan c left b part mv.few mv.tag shows)
 read_short plan sectors m medium s v left true b high sized r may =
     let c = s.command in
     let mv = r.moving in
@@ -79,13 +79,13 @@ read_short plan sectors m medium s v left true b high sized r may =
     rw shows.1 tt
 
 write_short : (plan : DiskPlan) (sectors : ℕ) (m : Moment) (w : Writing) (v : Moving) (stage : Stage) (b : List ℕ) → plan.chunk ≤ 8192
-    → IsSized plan sectors → IsWriting plan sectors w v stage → IsTurn (write_turn m w w.sends) b → IsShort (seen b)
+    → IsSized plan → IsWriting plan sectors w v stage → IsTurn (write_turn m w w.sends) b → IsShort (seen b)
 write_short plan sectors m w v Fresh b high sized r may =
     let c = w.command in
     let mv = r.moving in
     let shows = subst (λ (xs : List Sending). IsTurn (write_turn m w xs) b) r.stage.0 may in
     let part : ChunkPart plan c w.left = chunk_part plan c w.left sized.low mv.some mv.more mv.among in
-    chunk_short plan c w.left b high (setup_of_chunk plan sectors c w.left b sized part mv.inside mv.tag shows)
+    chunk_short plan c w.left b high (setup_of_chunk plan c w.left b part mv.few mv.tag shows)
 write_short plan sectors m w v SetUp b high sized r may =
     let shows = subst (λ (xs : List Sending). IsTurn (write_turn m w xs) b) r.stage.0 may in
     rw shows.viewed tt
@@ -93,7 +93,7 @@ write_short plan sectors m w v Asked b high sized r may = absurd (subst (λ (xs 
 
 turn_short : (plan : DiskPlan) (sectors : ℕ) (medium : List ℕ) (queued : List Command) (fault : Option Fault) (resetting : Bool) (owed : List Answer)
     (s : Option Started) (w : Option Writing) (v : Option Moving) (b : List ℕ)
-    → plan.chunk ≤ 8192 → IsSized plan sectors → IsQueue queued → Moves plan sectors medium queued owed s w v
+    → plan.chunk ≤ 8192 → IsSized plan → IsQueue queued → Moves plan sectors medium queued owed s w v
     → IsTurn (turn plan sectors (at medium queued fault resetting owed s w)) b → IsShort (seen b)
 turn_short plan sectors medium queued fault resetting (x ∷ later) s w v b high sized queue m may = answer_short sectors plan x b may
 turn_short plan sectors medium queued fault resetting [] None None None b high sized queue m may =

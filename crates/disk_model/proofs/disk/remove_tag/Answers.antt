@@ -1,7 +1,8 @@
-use Rattle.std.proofs.Common.{◌≡◌, ◌<◌, filter, not, ◌==◌, rules}
+use Rattle.std.proofs.Common.{◌≡◌, filter, not, ◌==◌, rules}
 use Rattle.std.proofs.lemmas.Fn.{filter_same}
 use Rattle.std.proofs.lemmas.List.Elements.{All-filter}
 use Rattle.disk_model.specs.declared.request.Command.{Command}
+use Rattle.disk_model.specs.Requests.{IsCounted}
 use Rattle.disk_model.proofs.disk.remove_tag.Goals as goal
 
 pub returns-clause-items : goal.returns-clause-items
@@ -10,4 +11,4 @@ returns-clause-items c = filter_same _ _ _ (λ x b f' k. search rules) _ _ c.ret
 pub returns-clause-counts : goal.returns-clause-counts
 returns-clause-counts c = λ old.
     let kept : c.retain.new.self.items ≡ filter (λ q. not (q.tag == c.args.tag)) c.args.queue.now.items = filter_same _ _ _ (λ x b f' k. search rules) _ _ c.retain.ensures.filtered in
-    rw kept (All-filter (λ q. not (q.tag == c.args.tag)) (λ (q : Command). 0 < q.count) c.args.queue.now.items old)
+    rw kept (All-filter (λ q. not (q.tag == c.args.tag)) (λ (q : Command). IsCounted q) c.args.queue.now.items old)

@@ -1,11 +1,14 @@
-use Rattle.std.proofs.Common.{◌<◌, ◌≡◌, ◌∙◌, List, None, ap, sym, subst, refl, false}
+use Rattle.std.proofs.Common.{◌<◌, ◌≤◌, ◌≡◌, ◌∙◌, ◌*◌, List, None, Some, ap, sym, subst, refl, false, length, arith}
+use Rattle.std.proofs.lemmas.List.{length-replicate}
 use Rattle.disk_model.specs.Sendings.{Sending}
 use Rattle.disk_model.specs.Chunks.{chunks, sends_left, fault_of}
-use Rattle.disk_model.specs.Disks.{DiskValue, went}
-use Rattle.disk_model.specs.Insides.{seen_as, sends_after, started_by, Leads}
+use Rattle.disk_model.specs.Requests.{IsCounted}
+use Rattle.disk_model.specs.Disks.{DiskValue, picked, went}
+use Rattle.disk_model.specs.Insides.{seen_as, sends_after, started_by, IsStaged, IsTransfer, Leads}
 use Rattle.disk_model.specs.declared.disk.Reading.{Reading}
-use Rattle.disk_model.specs.declared.disk.Transfer.TheVariants.{Read}
-use Rattle.disk_model.proofs.TurnLemmas.{on_err_so, has_start, takes_start, went_on, same_moment}
+use Rattle.disk_model.specs.declared.disk.Transfer.TheVariants.{Read, Write}
+use Rattle.disk_model.proofs.TurnLemmas.{on_err_so, has_start, takes_start, picked_counted, went_on, same_moment}
+use Rattle.disk_model.proofs.FaultLemmas.{can_be_done}
 use Rattle.disk_model.proofs.disk.Disk.give_start.Goals as goal
 
 pub returns-in_ok-frame-in-None-2-clause-gives : goal.returns-in_ok-frame-in-None-2-clause-gives
@@ -35,3 +38,54 @@ returns-in_err-frame-in-None-2-clause-no_memory c =
     let all = c.chunks_of.ensures.chunks ∙ ap (λ (x : DiskValue). chunks x.plan command) is in
     let some = subst (λ n. 0 < n) all c.chunks_of.ensures.some in
     on_err_so c.from_residual-in_err-frame-in-None-2.result (has_start v.plan v.sectors v.now command c.if-command.false c.requires.owed c.requires.started c.requires.writing (sym c.in-Some.ensures) good some)
+
+pub chunks_of-requires-clause-some : goal.chunks_of-requires-clause-some
+chunks_of-requires-clause-some c =
+    let d = c.self.inside in
+    let command = c.in-Some.command in
+    let next : picked d.plan.order d.queue.items ≡ Some command = ap (λ (x : DiskValue). picked x.plan.order x.now.queued) c.self.view_is ∙ sym c.in-Some.ensures in
+    let counted : IsCounted command = picked_counted d.plan.order d.queue.items command c.self.invariant.counts next in
+    counted.0
+
+pub chunks_of-requires-clause-short : goal.chunks_of-requires-clause-short
+chunks_of-requires-clause-short c =
+    let d = c.self.inside in
+    let command = c.in-Some.command in
+    let next : picked d.plan.order d.queue.items ≡ Some command = ap (λ (x : DiskValue). picked x.plan.order x.now.queued) c.self.view_is ∙ sym c.in-Some.ensures in
+    let counted : IsCounted command = picked_counted d.plan.order d.queue.items command c.self.invariant.counts next in
+    counted.1
+
+pub reading_frame-requires-clause-transfer : goal.reading_frame-requires-clause-transfer
+reading_frame-requires-clause-transfer c =
+    let d = c.self.inside in
+    let command = c.in-Some.command in
+    let next : picked d.plan.order d.queue.items ≡ Some command = ap (λ (x : DiskValue). picked x.plan.order x.now.queued) c.self.view_is ∙ sym c.in-Some.ensures in
+    let counted : IsCounted command = picked_counted d.plan.order d.queue.items command c.self.invariant.counts next in
+    let can = can_be_done d.plan d.sectors command (sym c.in-None.ensures) in
+    (c.chunks_of.ensures.some, omega (arith, c.chunks_of.ensures.chunks), can.inside, counted.1)
+
+pub invariant_of-self-in-None-2 : goal.invariant_of-self-in-None-2
+invariant_of-self-in-None-2 c =
+    let d = c.self.inside in
+    let command = c.in-Some.command in
+    let next : picked d.plan.order d.queue.items ≡ Some command = ap (λ (x : DiskValue). picked x.plan.order x.now.queued) c.self.view_is ∙ sym c.in-Some.ensures in
+    let counted : IsCounted command = picked_counted d.plan.order d.queue.items command c.self.invariant.counts next in
+    let i = c.self.invariant in
+    let can = can_be_done d.plan d.sectors command (sym c.in-None.ensures) in
+    let among : c.chunks_of.result ≤ chunks d.plan command = omega (arith, c.chunks_of.ensures.chunks) in
+    let transfer : IsTransfer d.plan d.sectors (Read c.moved_on.result) = rw c.moved_on.ensures (c.chunks_of.ensures.some, among, can.inside, counted.1) in
+    record { medium = i.medium; low = i.low; high = i.high; counts = i.counts; staged = tt; transfer = transfer; answers = i.answers; queue = i.queue }
+
+pub invariant_of-self-then-command : goal.invariant_of-self-then-command
+invariant_of-self-then-command c =
+    let d = c.self.inside in
+    let command = c.in-Some.command in
+    let next : picked d.plan.order d.queue.items ≡ Some command = ap (λ (x : DiskValue). picked x.plan.order x.now.queued) c.self.view_is ∙ sym c.in-Some.ensures in
+    let counted : IsCounted command = picked_counted d.plan.order d.queue.items command c.self.invariant.counts next in
+    let i = c.self.invariant in
+    let can = can_be_done d.plan d.sectors command (sym c.in-None.ensures) in
+    let among : c.chunks_of-left.result ≤ chunks d.plan command = omega (arith, c.chunks_of-left.ensures.chunks) in
+    let zeros : length c.in_ok-staged-in-None.staged.items ≡ 512 * command.count = ap length c.in_ok-staged-in-None.ensures ∙ length-replicate (512 * command.count) 0 in
+    let staged : IsStaged c.in_ok-staged-in-None.staged.items (Write c.asked-in-None.result) = rw c.asked-in-None.ensures zeros in
+    let transfer : IsTransfer d.plan d.sectors (Write c.asked-in-None.result) = rw c.asked-in-None.ensures (c.chunks_of-left.ensures.some, among, can.inside, counted.1) in
+    record { medium = i.medium; low = i.low; high = i.high; counts = i.counts; staged = staged; transfer = transfer; answers = i.answers; queue = i.queue }

@@ -20,7 +20,8 @@ pub begin-requires-clause-count : goal.begin-requires-clause-count
 begin-requires-clause-count c =
     let is : course c.self.inside.front (is_at_rest c.self.inside.disk.now) (seen c.args.frame.now.bytes) ≡ Serves c.in-Serves.dma =
     rw (← c.fis-fis.ensures.view, ← c.is_at_rest.ensures) (sym c.in-Serves.ensures) in
-    (serves_is c.self.inside.front (is_at_rest c.self.inside.disk.now) (seen c.args.frame.now.bytes) c.in-Serves.dma is).asks.some
+    let asks = (serves_is c.self.inside.front (is_at_rest c.self.inside.disk.now) (seen c.args.frame.now.bytes) c.in-Serves.dma is).asks in
+    (asks.some, asks.most)
 
 pub invariant_of-self-in-Serves : goal.invariant_of-self-in-Serves
 invariant_of-self-in-Serves c =
