@@ -1,7 +1,7 @@
 -- What the ledger of a run says about the disk: how both agree, and how they still agree after the host
 -- sends.
-use Rattle.std.proofs.Common.{◌≡◌, ◌==◌, ◌||◌, ℕ, ◌+◌, ◌-◌, ◌*◌, ◌<◌, ◌≤◌, Bool, true, false, List, [], ◌∷◌, ◌++◌, Option, Some, None, length, drop, refl, ap, sym, subst, ◌∙◌}
-use Rattle.std.specs.Prelude.{is_some, All, if◌then◌else◌}
+use Rattle.std.proofs.Common.{◌≡◌, ◌==◌, ◌||◌, ℕ, ◌<◌, Bool, true, false, List, [], ◌∷◌, ◌++◌, Option, Some, None, refl, ap, sym, subst, ◌∙◌}
+use Rattle.std.specs.Prelude.{is_some, if◌then◌else◌}
 use Rattle.std.proofs.lemmas.Bool.{or_from}
 use Rattle.std.proofs.lemmas.List.{append-nil}
 use Rattle.std.proofs.lemmas.List.Folds.{list_any-append}
@@ -17,108 +17,14 @@ use Rattle.disk_model.specs.declared.answer.Page.TheVariants.{ErrorLog, Identity
 use Rattle.disk_model.specs.declared.answer.Fault.{Fault}
 use Rattle.disk_model.specs.declared.answer.Fault.TheVariants.{Failed, Held, Mixed}
 use Rattle.disk_model.specs.Requests.{Asks, IsCounted}
-use Rattle.disk_model.specs.Sendings.{Sending, Activates}
-use Rattle.disk_model.specs.Chunks.{chunks, chunk_from, chunk_count, sends_left, asks_for, sectors_at}
 use Rattle.disk_model.specs.Disks.{Moment, Started, Writing, is_held, logged, received, refused}
-use Rattle.disk_model.specs.Ledger.{Ledger, Moving, Written, ReadOut, IsRead, Failure, Wanted, LogOf, IdentifyData, Reply, Signs, Accepts, Finishes, Refuses, ShowsPage, asks, given_up, reads_log, refuses, awaits, medium_with}
-use Rattle.disk_model.proofs.PlaceLemmas.{from_front, from_back}
-use Rattle.disk_model.proofs.GeometryLemmas.{moved_sectors}
-use Rattle.disk_model.proofs.SetupLemmas.{AreSetUp}
-use Rattle.disk_model.proofs.FaultLemmas.{IsNoted, IsWanted, AreWanted, AreWanted-append}
-use Rattle.disk_model.proofs.QueueLemmas.{replies, replies_more, pages_of, page_of, pages_same, has_tag, IsQueue, IsQueue-append, tag_of, ended_tags, is_page, has_page, AreTags}
+use Rattle.disk_model.specs.Ledger.{Ledger, Moving, Written, ReadOut, Failure, Wanted, LogOf, IdentifyData, Reply, Signs, Accepts, Finishes, Refuses, ShowsPage, asks, given_up, reads_log, refuses, awaits}
+use Rattle.disk_model.specs.Between.{Agrees, AreWanted, IsHeld, IsNoted, IsQueue, IsWanted, Moves, at, ended_tags, has_page}
+use Rattle.disk_model.specs.Between.{has_tag, is_page, page_of, pages_of, replies, tag_of}
+use Rattle.disk_model.proofs.FaultLemmas.{AreWanted-append}
+use Rattle.disk_model.proofs.QueueLemmas.{replies_more, pages_same, IsQueue-append}
 
 -- ## How both agree
-
--- the bytes of a read that have moved, and 0 for the others
-abbrev pub moved_bytes : (downwards : Bool) → List ℕ → (n k : ℕ) → List ℕ
-moved_bytes true s n k = from_back s n k
-moved_bytes false s n k = from_front s n k
-
--- a command whose data moves
-pub record IsMoving (plan : DiskPlan) (sectors : ℕ) (c : Command) (left : ℕ) (v : Moving) : Type 0 where
-  pub same : v.command ≡ c
-  pub more : 0 < left
-  pub among : left ≤ chunks plan c
-  pub inside : c.lba + c.count ≤ sectors
-  pub some : 0 < c.count
-  pub few : c.count ≤ 65536
-  pub tag : c.tag < 32
-  pub moved : v.moved ≡ 512 * moved_sectors plan c left
-
--- how far a read is with its next chunk: before its DMA Setup, or before its Data
-abbrev pub ReadStage : DiskPlan → List ℕ → Command → ℕ → Moving → List Sending → Bool → Type 0
-ReadStage plan medium c left v sends false = sends ≡ sends_left plan medium c left
-ReadStage plan medium c left v sends true = (sends ≡ drop 1 (sends_left plan medium c left)) × (v.offset ≡ 512 * chunk_from plan c left) × (v.count ≡ 512 * chunk_count plan c left)
-
--- how many chunks are not set up
-abbrev pub left_after : Bool → ℕ → ℕ
-left_after true left = left - 1
-left_after false left = left
-
-pub record IsReading (plan : DiskPlan) (sectors : ℕ) (medium : List ℕ) (s : Started) (v : Moving) (left : ℕ) (up : Bool) : Type 0 where
-  pub moving : IsMoving plan sectors s.command left v
-  pub reads : s.command.write ≡ false
-  pub before : medium_with sectors v.before ≡ medium
-  pub bytes : v.bytes ≡ moved_bytes plan.last_first (sectors_at medium s.command.lba s.command.count) (512 * s.command.count) (512 * moved_sectors plan s.command left)
-  pub idle : v.active ≡ false
-  pub stage : ReadStage plan medium s.command left v s.sends up
-  pub setups : AreSetUp plan s.command (left_after up left) v.setups
-
--- how far a write is with its next chunk
-pub data Stage : Type 0 where
-  Fresh : Stage
-  SetUp : Stage
-  Asked : Stage
-
--- the last DMA Setup was that of the next chunk
-abbrev pub IsSetUp : DiskPlan → Command → ℕ → Moving → Type 0
-IsSetUp plan c left v = (v.offset ≡ 512 * chunk_from plan c left) × (v.count ≡ 512 * chunk_count plan c left)
-
-abbrev pub WriteStage : DiskPlan → Command → ℕ → Moving → List Sending → Stage → Type 0
-WriteStage plan c left v sends Fresh = (sends ≡ asks_for plan c left) × (v.active ≡ false)
-WriteStage plan c left v sends SetUp = (sends ≡ Activates ∷ []) × (v.active ≡ false) × IsSetUp plan c left v
-WriteStage plan c left v sends Asked = (sends ≡ []) × (v.active ≡ true) × IsSetUp plan c left v
-
--- the next chunk is set up
-abbrev pub is_set_up : Stage → Bool
-is_set_up Fresh = false
-is_set_up SetUp = true
-is_set_up Asked = true
-
-pub record IsWriting (plan : DiskPlan) (sectors : ℕ) (w : Writing) (v : Moving) (at : Stage) : Type 0 where
-  pub moving : IsMoving plan sectors w.command w.left v
-  pub writes : w.command.write ≡ true
-  pub bytes : v.bytes ≡ w.staged
-  pub whole : length w.staged ≡ 512 * w.command.count
-  pub stage : WriteStage plan w.command w.left v w.sends at
-  pub setups : AreSetUp plan w.command (left_after (is_set_up at) w.left) v.setups
-
--- a command with the tag is in the queue, and no page waits
-pub record IsHeld (queued : List Command) (owed : List Answer) (tag : ℕ) : Type 0 where
-  pub has : has_tag tag queued ≡ true
-  pub quiet : has_page owed ≡ false
-
-abbrev pub Moves : DiskPlan → ℕ → List ℕ → List Command → List Answer → Option Started → Option Writing → Option Moving → Type 0
-Moves plan sectors medium queued owed None None None = Unit {0}
-Moves plan sectors medium queued owed (Some s) None (Some v) = (left : ℕ) × (up : Bool) × IsReading plan sectors medium s v left up × IsHeld queued owed s.command.tag
-Moves plan sectors medium queued owed None (Some w) (Some v) = (at : Stage) × IsWriting plan sectors w v at × IsHeld queued owed w.command.tag
-Moves plan sectors medium queued owed _ _ _ = ⊥
-
-pub record Agrees (plan : DiskPlan) (sectors : ℕ) (m : Moment) (l : Ledger) : Type 0 where
-  pub outstanding : l.outstanding ≡ m.queued
-  pub failed : l.failed ≡ is_some m.fault
-  pub unanswered : l.unanswered ≡ ended_tags m.owed
-  pub medium : m.medium ≡ medium_with sectors l.writes
-  pub length_is : length m.medium ≡ 512 * sectors
-  pub queue : IsQueue m.queued
-  pub tags : AreTags (ended_tags m.owed)
-  pub reads : All (IsRead sectors) l.reads
-  pub moving : Moves plan sectors m.medium m.queued m.owed m.started m.writing l.moving
-  pub failure : IsNoted plan sectors m.fault l.failure
-  pub resetting : l.resetting ≡ m.resetting
-  pub in_reset : l.in_reset ≡ is_held m.fault
-  pub awaited : l.awaited ≡ replies m.owed
-  pub pages : AreWanted plan sectors (pages_of m.owed) l.pages
 
 -- what the ledger knows and the disk does not
 pub record Beside : Type 0 where
@@ -169,17 +75,6 @@ ledger_is plan sectors m l a = λ i. record (shown m (beside l)) {
 }
 
 -- ## The disk between two FISes
-
-abbrev pub at : List ℕ → List Command → Option Fault → Bool → List Answer → Option Started → Option Writing → Moment
-at medium queued fault resetting owed started writing = record {
-  medium = medium;
-  queued = queued;
-  fault = fault;
-  resetting = resetting;
-  owed = owed;
-  started = started;
-  writing = writing;
-}
 
 -- these answers are owed, and this command is under way
 abbrev pub under : Moment → List Answer → Option Started → Option Writing → Moment

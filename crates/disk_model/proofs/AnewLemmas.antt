@@ -26,12 +26,9 @@ use Rattle.disk_model.specs.Ends.{FitsAll, Rests, reports, with_down, with_up, A
 use Rattle.disk_model.specs.Ends as link
 use Rattle.disk_model.specs.Anew.{AreUnheard, BeginsAnew, EndsTellTheSameAnew, IsCarefulSince, IsClear, IsLinkedOn, IsPassed, IsRequest, IsUnheard, LinkedSinceNew, OwesOnly, RestingIsSilent, RestsUntil}
 use Rattle.disk_model.specs.Anew as anew
-use Rattle.disk_model.proofs.AgreeLemmas.{Moves, at}
-use Rattle.disk_model.proofs.EndsLemmas.{FitsOne, Ties, agree, careful_last, ledger_push, run_before, sent_right, tie_comes, tie_gives, tie_sends, tie_takes}
-use Rattle.disk_model.proofs.EntersLemmas.{AreApart}
-use Rattle.disk_model.proofs.FaultLemmas.{AreWanted}
+use Rattle.disk_model.specs.Between.{AreApart, AreWanted, FitsOne, Moves, Ties, at, ended_tags, pages_of, replies}
+use Rattle.disk_model.proofs.EndsLemmas.{agree, careful_last, ledger_push, run_before, sent_right, tie_comes, tie_gives, tie_sends, tie_takes}
 use Rattle.disk_model.proofs.LawLemmas.{agrees, last_may}
-use Rattle.disk_model.proofs.QueueLemmas.{ended_tags, pages_of, replies}
 
 -- ## One more happening
 

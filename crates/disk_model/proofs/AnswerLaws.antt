@@ -11,8 +11,8 @@ use Rattle.disk_model.specs.Sendings.{Sending, Register, SetsBits, SetsUp, Activ
 use Rattle.disk_model.specs.Runs.{IsDiskRun}
 use Rattle.disk_model.specs.Ledger.{Ledger, IsSize, ledger}
 use Rattle.disk_model.specs.Laws.{IsRegister, AnswersRight}
-use Rattle.disk_model.proofs.QueueLemmas.{replies}
-use Rattle.disk_model.proofs.TurnCases.{IsTransfer, sent_by}
+use Rattle.disk_model.specs.Between.{IsTransfer, replies}
+use Rattle.disk_model.proofs.TurnCases.{sent_by}
 
 signs : (b : List ℕ) → Shows (register false 0x50 1 1) b → IsRegister D2h 0 0x50 1 1 b
 unfolding places cut

@@ -1,6 +1,6 @@
 -- A FIS that comes up and one that goes down at the same time may be told in either order.
-use Rattle.std.proofs.Common.{◌≡◌, ◌==◌, ◌&&◌, eqb, ℕ, ◌+◌, ◌*◌, Bool, true, false, List, [], ◌∷◌, ◌++◌, Option, Some, None, Ok, Err, Result, drop, length, refl, ap, sym, subst, ◌∙◌, cond, arith}
-use Rattle.std.specs.Prelude.{not, filter, find, if◌then◌else◌}
+use Rattle.std.proofs.Common.{◌≡◌, ◌==◌, ◌&&◌, eqb, ℕ, Bool, true, false, List, [], ◌∷◌, ◌++◌, Option, Some, None, Ok, Err, Result, drop, length, refl, ap, sym, subst, ◌∙◌, cond, arith}
+use Rattle.std.specs.Prelude.{not, find, if◌then◌else◌}
 use Rattle.std.specs.List.{list_any}
 use Rattle.std.specs.Option.{option_or}
 use Rattle.std.proofs.lemmas.Bool.{true≢false, and_from, eq-eqb, eqb-true, or_from, or_parts}
@@ -8,20 +8,17 @@ use Rattle.std.proofs.lemmas.Bool.Decides.{nat_tests}
 use Rattle.std.proofs.lemmas.List.Folds.{find-append, list_any-append}
 use Rattle.fis_view.specs.Table.{Bits, Setup, BufferId, Offset, SActive, Error, field}
 use Rattle.fis_view.specs.Table as table
-use Rattle.fis_view.specs.Seen.{seen}
 use Rattle.fis_view.specs.declared.view.Fis.{Fis}
 use Rattle.fis_view.specs.declared.view.Fis.TheVariants as view
 use Rattle.fis_view.specs.declared.view.FisFault.{FisFault}
 use Rattle.disk_model.specs.declared.request.Command.{Command}
 use Rattle.disk_model.specs.declared.request.Request.{Request}
 use Rattle.disk_model.specs.declared.request.Request.TheVariants.{Reset, Queue, ReadErrorLog, Identify, Flush, Other}
-use Rattle.disk_model.specs.Chunks.{put}
-use Rattle.disk_model.specs.Histories.{Received}
 use Rattle.disk_model.specs.Requests.{request_of}
-use Rattle.disk_model.specs.Ledger.{Accepts, Finishes, IdentifyData, Ledger, LogOf, Moving, Names, Refuses, activates, answers, asks, awaits, awaits_page, ends, goes_on, has_error, is_auto, listens, listens_down, listens_up, mixes, moves, refuses, sends_data, sets_up, starts_moving, takes_data, with_auto}
+use Rattle.disk_model.specs.Ledger.{Ledger, Moving, Names, activates, answers, asks, ends, goes_on, has_error, is_auto, listens_down, listens_up, mixes, moves, refuses, sends_data, sets_up, starts_moving, takes_data, with_auto}
 use Rattle.disk_model.specs.Laws.{ActivatesRight, AnswersFirst, AsksOnce, CarriesNext, CarriesRight, SetsUpRight, ShowsFirst, StartsOne}
 use Rattle.disk_model.specs.Ends.{Fits, FitsData, FitsRequest, IsAskedFor, IsFree, IsRight, MovesOther, PageAsked, Rests, has}
-use Rattle.disk_model.proofs.QueueLemmas.{has_tag}
+use Rattle.disk_model.specs.Between.{after_bytes, alone, but, has_tag, is_all, opened, with_bytes}
 
 -- ## Lists
 
@@ -35,10 +32,6 @@ not_of false e = refl
 keeps : (q : Command) (b : Bool) (rest : List Command) → b ≡ true → cond b (q ∷ rest) rest ≡ q ∷ rest
 keeps q true rest e = refl
 keeps q false rest e = cc e
-
--- the commands without those of a tag
-abbrev pub but : ℕ → List Command → List Command
-but tag cs = filter (λ q. not (q.tag == tag)) cs
 
 but_push : (tag : ℕ) (cs : List Command) (c : Command) → eqb c.tag tag ≡ false → but tag (cs ++ c ∷ []) ≡ but tag cs ++ c ∷ []
 but_push tag [] c other = keeps c (not (eqb c.tag tag)) [] (not_of (eqb c.tag tag) other)
@@ -105,10 +98,6 @@ never_empty (y ∷ xs) x e = cc e
 
 -- ## What each FIS leaves, if it fits
 
--- a queued command was accepted
-abbrev pub opened : Ledger → Command → Ledger
-opened l c = awaits (record l { outstanding = l.outstanding ++ c ∷ [] }) Accepts
-
 if_free : (l : Ledger) (c : Command) (b : Bool) → b ≡ false → (if b then refuses l else opened l c) ≡ opened l c
 if_free l c true e = cc e
 if_free l c false e = refl
@@ -122,18 +111,6 @@ answers_fine l e false is = refl
 
 pub bits_up : (l : Ledger) (f : List ℕ) → has_error f ≡ false → listens_up l (Ok (view.SetBits f)) ≡ record l { unanswered = drop 1 l.unanswered }
 bits_up l f fine = answers_fine l (field Bits Error f) (has_error f) fine
-
--- data that moved, after these bytes moved too
-abbrev pub with_bytes : Moving → List ℕ → Moving
-with_bytes v bytes = record v { bytes = put v.bytes v.offset bytes; moved = v.moved + length bytes; active = false }
-
--- all of it has moved
-abbrev pub is_all : Moving → Bool
-is_all v = v.moved == 512 * v.command.count
-
-abbrev pub after_bytes : Ledger → Moving → (all write : Bool) → Ledger
-after_bytes l v true write = ends l v write
-after_bytes l v false write = record l { moving = Some v }
 
 if_all : (l : Ledger) (v : Moving) (b : Bool) → (if b then ends l v v.command.write else record l { moving = Some v }) ≡ after_bytes l v b v.command.write
 if_all l v true = refl
@@ -160,15 +137,6 @@ opened_beside l c v false write other = refl
 opened_beside l c v true true other = ap (λ (xs : List Command). record (ends (opened l c) v true) { outstanding = xs }) (but_push v.command.tag l.outstanding c (eqb_turned v.command.tag c.tag other))
 opened_beside l c v true false other = ap (λ (xs : List Command). record (ends (opened l c) v false) { outstanding = xs }) (but_push v.command.tag l.outstanding c (eqb_turned v.command.tag c.tag other))
 
--- what a command leaves
-abbrev pub alone : Ledger → Request → Ledger
-alone l (Reset on) = l
-alone l (Queue c) = opened l c
-alone l ReadErrorLog = record (awaits_page l (LogOf l.failure)) { failed = false; failure = None }
-alone l Identify = awaits_page l IdentifyData
-alone l Flush = awaits l Finishes
-alone l Other = awaits l Refuses
-
 mixes_none : (l x : Ledger) (cs : List Command) → cs ≡ [] → mixes l x cs ≡ x
 mixes_none l x [] e = refl
 mixes_none l x (c ∷ cs) e = cc e
@@ -180,11 +148,6 @@ asks_fits l ReadErrorLog failed fits = ap (asks l ReadErrorLog) failed ∙ mixes
 asks_fits l Identify failed fits = ap (asks l Identify) failed ∙ mixes_none l (alone l Identify) l.outstanding fits.outstanding
 asks_fits l Flush failed fits = ap (asks l Flush) failed ∙ mixes_none l (alone l Flush) l.outstanding fits.outstanding
 asks_fits l Other failed fits = ap (asks l Other) failed ∙ mixes_none l (alone l Other) l.outstanding fits.outstanding
-
--- each of these FISes fits what is told before it
-abbrev pub AreFit : Ledger → List (List ℕ) → Type 0
-AreFit l [] = Unit {0}
-AreFit l (bytes ∷ later) = Fits l (seen bytes) × AreFit (listens l (Received bytes)) later
 
 -- ## A FIS that tells nothing
 

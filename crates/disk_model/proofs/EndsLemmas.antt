@@ -20,9 +20,10 @@ use Rattle.disk_model.specs.Runs.{IsDiskRun}
 use Rattle.disk_model.specs.Ledger.{IsRead, IsSize, Ledger, Moving, ReadOut, activates, answers, asks, empty, ends, goes_on, has_error, is_auto, ledger, ledger_after, listens, listens_down, listens_up, sends_data, sets_up, starts_moving, takes_data, with_auto}
 use Rattle.disk_model.specs.Laws.{ErrsRight, IsPage, PageRight}
 use Rattle.disk_model.specs.Ends.{AreRight, DataAsked, EndsAgree, EndsTellTheSame, Fits, FitsAll, FitsData, FitsRequest, IsCareful, IsLinked, IsRight, MovesOther, PageAsked, Rests, begins, comes, gives, reports, sends, takes, with_down, with_up}
+use Rattle.disk_model.specs.Between.{AreApart, AreFit, FitsOne, Ties, after_bytes, alone, is_all, opened, with_bytes}
 use Rattle.disk_model.proofs.AnswerLaws.{answers_right}
-use Rattle.disk_model.proofs.CrossLemmas.{AreFit, IsOpen, after_bytes, alone, asks_fits, cross, data_down, free_before, goes_by, has_parts, is_all, never_empty, open_beside, opened_beside, opens_free, opened, with_bytes}
-use Rattle.disk_model.proofs.EntersLemmas.{AreApart, apart_down, apart_up, entered_by, free_after}
+use Rattle.disk_model.proofs.CrossLemmas.{IsOpen, asks_fits, cross, data_down, free_before, goes_by, has_parts, never_empty, open_beside, opened_beside, opens_free}
+use Rattle.disk_model.proofs.EntersLemmas.{apart_down, apart_up, entered_by, free_after}
 use Rattle.disk_model.proofs.ErrorLaws.{errs_right}
 use Rattle.disk_model.proofs.LawLemmas.{agrees, answers_once, last_may}
 use Rattle.disk_model.proofs.MovesLemmas.{moves_right}
@@ -301,11 +302,6 @@ ledger_push history e = after_push empty history e
 
 -- ## Careful hosts
 
-abbrev pub FitsOne : Ledger → Happening → Type 0
-FitsOne l (Received bytes) = Fits l (seen bytes)
-FitsOne l (Sent bytes) = Unit {0}
-FitsOne l Plugged = Unit {0}
-
 pub careful_last : (l : Ledger) (host : List Happening) (e : Happening) → FitsAll l (host ++ e ∷ []) → FitsAll l host × FitsOne (ledger_after l host) e
 unfolding FitsAll ledger_after
 careful_last l [] (Received bytes) careful = (tt, careful.0)
@@ -394,12 +390,6 @@ all_reads_down l [] fit = refl
 all_reads_down l (b ∷ down) fit = all_reads_down (listens l (Received b)) down fit.1 ∙ reads_down l (seen b) fit.0
 
 -- ## The two ends
-
-pub record Ties (disk host : List Happening) (down up : List (List ℕ)) : Type 0 where
-  pub same : with_up (ledger host) up ≡ with_down (ledger disk) down
-  pub right : AreRight (ledger host) up
-  pub fit : AreFit (ledger disk) down
-  pub apart : AreApart (ledger host) (ledger host).unanswered
 
 tie_begins : Ties (Plugged ∷ []) (Plugged ∷ []) [] []
 unfolding with_up with_down AreRight ledger_after

@@ -19,8 +19,9 @@ use Rattle.disk_model.specs.Requests.{request_of}
 use Rattle.disk_model.specs.Ledger.{Ledger, Moving, Written, activates, answered, ends, is_auto, listens, listens_down, listens_up, sends_data, sets_up, starts_moving, with_auto}
 use Rattle.disk_model.specs.Laws.{ActivatesRight, CarriesNext, CarriesRight, SetsUpRight, StartsOne}
 use Rattle.disk_model.specs.Ends.{AnswersNext, AreEntered, AreRight, Fits, FitsData, FitsRequest, IsBits, IsFree, IsRight, MovesOther, Rests, has, with_down, with_up}
-use Rattle.disk_model.proofs.QueueLemmas.{has_tag}
-use Rattle.disk_model.proofs.CrossLemmas.{AreFit, alone, after_bytes, asks_fits, bits_up, but, but_free, data_down, found_not, goes_by, has_left, has_more, is_all, opened, with_bytes}
+use Rattle.disk_model.specs.Between.{AreApart, AreFit, UpLeaves, after_bytes, alone, but, has_tag, is_all, opened}
+use Rattle.disk_model.specs.Between.{with_bytes}
+use Rattle.disk_model.proofs.CrossLemmas.{asks_fits, bits_up, but_free, data_down, found_not, goes_by, has_left, has_more}
 
 -- ## Tags
 
@@ -50,11 +51,6 @@ differs tag t us true is here none =
 differs tag t us false is here none = is
 
 -- ## Commands that ended and were not answered
-
--- these tags are apart, and no outstanding command has one of them
-abbrev pub AreApart : Ledger → List ℕ → Type 0
-AreApart l [] = Unit {0}
-AreApart l (u ∷ us) = (has u us ≡ false) × (has_tag u l.outstanding ≡ false) × MovesOther u l.moving × AreApart l us
 
 -- a tag without an outstanding command has none afterwards
 abbrev Less : Ledger → Ledger → Type 0
@@ -86,13 +82,6 @@ apart_opened l c (u ∷ us) free a =
     (a.0, list_any-append (λ (q : Command). q.tag == u) l.outstanding (c ∷ []) ∙ or_from _ _ a.1 (or_from _ _ not_it refl), a.2, apart_opened l c us parts.1 a.3)
 
 -- ## A FIS that comes up
-
-pub record UpLeaves (l : Ledger) (s : Result Fis FisFault) : Type 0 where
-  pub after : Ledger
-  pub is : listens_up l s ≡ after
-  pub writes : after.writes ≡ l.writes
-  pub apart : AreApart l l.unanswered → AreApart after after.unanswered
-  pub free : (tag : ℕ) → IsFree l tag → IsFree after tag
 
 up_by : (l x : Ledger) (s : Result Fis FisFault) → listens_up l s ≡ x → x.writes ≡ l.writes → x.unanswered ≡ l.unanswered → Less l x → UpLeaves l s
 up_by l x s is writes same less = record {

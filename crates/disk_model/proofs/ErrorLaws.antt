@@ -18,16 +18,15 @@ use Rattle.disk_model.specs.Disks.{Moment, picked}
 use Rattle.disk_model.specs.Runs.{IsDiskRun}
 use Rattle.disk_model.specs.Ledger.{Ledger, Moving, Failure, Wanted, LogOf, IdentifyData, IsSize, ledger}
 use Rattle.disk_model.specs.Laws.{Fails, FailsNext, LogsNext, IsPage, ErrsRight}
+use Rattle.disk_model.specs.Between.{Agrees, AreWanted, IsIn, IsNoted, IsSized, IsTransfer, IsWanted, Moves, is_page}
+use Rattle.disk_model.specs.Between.{pages_of}
 use Rattle.disk_model.proofs.GeometryLemmas.{chunk_part, some_chunks}
 use Rattle.disk_model.proofs.ShowsLemmas.{error_field_tells, end_tells}
-use Rattle.disk_model.proofs.QueueLemmas.{IsIn, is_page, pages_of}
-use Rattle.disk_model.proofs.FaultLemmas.{FaultIs, IsNoted, IsWanted, AreWanted, fault_is, fault_small, can_be_done}
-use Rattle.disk_model.proofs.AgreeLemmas.{Agrees, Moves}
-use Rattle.disk_model.proofs.StoreLemmas.{IsSized}
+use Rattle.disk_model.proofs.FaultLemmas.{FaultIs, fault_is, fault_small, can_be_done}
 use Rattle.disk_model.proofs.ListenLemmas.{page_goes}
 use Rattle.disk_model.proofs.TransferLemmas.{setup_of_chunk}
 use Rattle.disk_model.proofs.LawLemmas.{sized_by}
-use Rattle.disk_model.proofs.TurnCases.{IsTransfer, sent_by}
+use Rattle.disk_model.proofs.TurnCases.{sent_by}
 
 -- ## Pages
 

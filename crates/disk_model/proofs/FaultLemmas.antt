@@ -7,11 +7,11 @@ use Rattle.disk_model.specs.declared.request.Command.{Command}
 use Rattle.disk_model.specs.declared.answer.Fault.{Fault}
 use Rattle.disk_model.specs.declared.answer.Fault.TheVariants.{Held, Mixed, Failed}
 use Rattle.disk_model.specs.declared.answer.Page.{Page}
-use Rattle.disk_model.specs.declared.answer.Page.TheVariants.{ErrorLog, Identity}
 use Rattle.disk_model.specs.Chunks.{fault_of, first_bad, error_of}
 use Rattle.disk_model.specs.Disks.{picked}
-use Rattle.disk_model.specs.Ledger.{Failure, Wanted, LogOf, IdentifyData}
+use Rattle.disk_model.specs.Ledger.{Wanted}
 use Rattle.disk_model.specs.Laws.{Fails, CanBeDone}
+use Rattle.disk_model.specs.Between.{AreWanted, IsNoted, IsWanted}
 
 -- ## Why a command fails
 
@@ -67,13 +67,6 @@ fault_small plan sectors c Held is = absurd is
 
 -- ## What is noted about it
 
-abbrev pub IsNoted : DiskPlan → ℕ → Option Fault → Option Failure → Type 0
-IsNoted plan sectors None None = Unit {0}
-IsNoted plan sectors (Some Mixed) None = Unit {0}
-IsNoted plan sectors (Some Held) None = Unit {0}
-IsNoted plan sectors (Some (Failed tag error lba)) (Some f) = (c : Command) × (picked plan.order f.among ≡ Some c) × (tag ≡ c.tag) × Fails plan sectors c error lba × (f.error ≡ error)
-IsNoted plan sectors _ _ = ⊥
-
 pub noted : (plan : DiskPlan) (sectors : ℕ) (c : Command) (f : Fault) (among : List Command) (error : ℕ)
     → picked plan.order among ≡ Some c → FaultIs plan sectors c f → error ≡ error_of f → IsNoted plan sectors (Some f)
     (Some (record { error = error; among = among }))
@@ -82,16 +75,6 @@ noted plan sectors c Mixed among error turn is same = absurd is
 noted plan sectors c Held among error turn is same = absurd is
 
 -- ## Pages
-
-abbrev pub IsWanted : DiskPlan → ℕ → Page → Wanted → Type 0
-IsWanted plan sectors (ErrorLog fault) (LogOf failure) = IsNoted plan sectors fault failure
-IsWanted plan sectors Identity IdentifyData = Unit {0}
-IsWanted plan sectors _ _ = ⊥
-
-abbrev pub AreWanted : DiskPlan → ℕ → List Page → List Wanted → Type 0
-AreWanted plan sectors [] [] = Unit {0}
-AreWanted plan sectors (p ∷ later) (w ∷ more) = IsWanted plan sectors p w × AreWanted plan sectors later more
-AreWanted plan sectors _ _ = ⊥
 
 pub AreWanted-append : (plan : DiskPlan) (sectors : ℕ) (pages : List Page) (ws : List Wanted) (p : Page) (w : Wanted)
     → AreWanted plan sectors pages ws → IsWanted plan sectors p w → AreWanted plan sectors (pages ++ p ∷ []) (ws ++ w ∷ [])

@@ -15,9 +15,9 @@ use Rattle.disk_model.specs.declared.request.Request.TheVariants.{Reset, Queue, 
 use Rattle.disk_model.specs.Histories.{Happening, Received, Sent, Plugged}
 use Rattle.disk_model.specs.Requests.{request_of}
 use Rattle.disk_model.specs.Ledger.{Accepts, Ledger, Moving, ReadOut, Written, activates, answers, asks, awaits, empty, ends, has_error, is_auto, ledger, ledger_after, listens, listens_down, listens_up, mixes, moves, reads_log, refuses, restarts, sends_data, sets_up, starts_moving, takes_data, with_auto}
-use Rattle.disk_model.proofs.CrossLemmas.{with_bytes}
 use Rattle.disk_model.specs.Ends.{with_down}
 use Rattle.disk_model.specs.Fronts.{BeforeIsFront, HostIsAhead, IsFront}
+use Rattle.disk_model.specs.Between.{with_bytes}
 use Rattle.disk_model.proofs.EntersLemmas.{all_writes_up}
 use Rattle.disk_model.proofs.WrittenLemmas.{GoesOn, down_stays}
 

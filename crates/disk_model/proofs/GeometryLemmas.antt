@@ -4,15 +4,8 @@ use Rattle.std.proofs.Math.Nat.{div-add-mod, mul_comm, mul-le-mul_right}
 use Rattle.std.specs.Prelude.{min, if◌then◌else◌}
 use Rattle.disk_model.specs.declared.request.Command.{Command}
 use Rattle.disk_model.specs.declared.plan.DiskPlan.{DiskPlan}
-use Rattle.disk_model.specs.Chunks.{chunks, chunk_from, chunk_count}
-
--- how many sectors have moved when left chunks are left
-abbrev pub done_by : (downwards : Bool) (all size count left : ℕ) → ℕ
-done_by true all size count left = count - left * size
-done_by false all size count left = min ((all - left) * size) count
-
-abbrev pub moved_sectors : DiskPlan → Command → ℕ → ℕ
-moved_sectors plan c left = done_by plan.last_first (chunks plan c) (plan.chunk / 512) c.count left
+use Rattle.disk_model.specs.Chunks.{chunks}
+use Rattle.disk_model.specs.Between.{ChunkPart, Part, done_by, moved_sectors}
 
 pred_mul : (q s : ℕ) → (q - 1) * s ≡ q * s - s
 pred_mul zero s = omega arith
@@ -40,17 +33,6 @@ none false all size count covered = let e : all - all ≡ 0 = omega arith in rw 
 
 pub moved_none : (plan : DiskPlan) (c : Command) → 512 ≤ plan.chunk → 0 < c.count → moved_sectors plan c (chunks plan c) ≡ 0
 moved_none plan c low some = none plan.last_first (chunks plan c) (plan.chunk / 512) c.count (covers (plan.chunk / 512) c.count (omega arith) some).0
-
--- what is known about a chunk, in plain numbers
-pub record Part (downwards : Bool) (all size count left from part : ℕ) : Type 0 where
-  -- it begins where the moved sectors end, on their side
-  pub upwards : downwards ≡ false → from ≡ done_by downwards all size count left
-  pub downwards_is : downwards ≡ true → from ≡ count - (done_by downwards all size count left + part)
-  pub next : done_by downwards all size count (left - 1) ≡ done_by downwards all size count left + part
-  pub within : done_by downwards all size count left + part ≤ count
-  pub inside : from + part ≤ count
-  pub last : left ≡ 1 → done_by downwards all size count left + part ≡ count
-  pub more : (left ≡ 1 → ⊥) → done_by downwards all size count left + part < count
 
 abbrev pub from_of : Bool → (all size left : ℕ) → ℕ
 from_of downwards all size left = (if downwards then left - 1 else all - left) * size
@@ -88,10 +70,6 @@ part_of false all size count left s l among covered short =
           let less : (all - (left - 1)) * size ≤ (all - 1) * size = mul-le-mul_right size (let h : all - (left - 1) ≤ all - 1 = omega (arith, e) in h) in
           omega (arith, step, low, less);
     }
-
--- the next chunk of a command
-abbrev pub ChunkPart : DiskPlan → Command → ℕ → Type 0
-ChunkPart plan c left = Part plan.last_first (chunks plan c) (plan.chunk / 512) c.count left (chunk_from plan c left) (chunk_count plan c left)
 
 pub chunk_part : (plan : DiskPlan) (c : Command) (left : ℕ) → 512 ≤ plan.chunk → 0 < c.count → 0 < left → left ≤ chunks plan c
     → ChunkPart plan c left

@@ -21,8 +21,9 @@ use Rattle.disk_model.specs.Ends as link
 use Rattle.disk_model.specs.Anew.{IsLinkedOn}
 use Rattle.disk_model.specs.Anew as anew
 use Rattle.disk_model.specs.Later.{LaterIsLinked, LaterTellsOfAll, TellsOfAll}
+use Rattle.disk_model.specs.Between.{alone, with_bytes}
 use Rattle.disk_model.proofs.AnewLemmas.{after_more, begins_anew}
-use Rattle.disk_model.proofs.CrossLemmas.{alone, asks_fits, with_bytes}
+use Rattle.disk_model.proofs.CrossLemmas.{asks_fits}
 use Rattle.disk_model.proofs.EndsLemmas.{ledger_push}
 
 -- ## Links

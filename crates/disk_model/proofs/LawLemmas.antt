@@ -22,15 +22,15 @@ use Rattle.disk_model.specs.Histories.{Happening, Received, Sent, Plugged}
 use Rattle.disk_model.specs.Requests.{Asks, IsCounted, queued_command, request_of, names_error_log}
 use Rattle.disk_model.specs.Sendings.{Sending, Register, SetsBits, SetsUp, Activates, SetsUpPio, Carries, Shows, answer_sent}
 use Rattle.disk_model.specs.Chunks.{chunks, chunk_setup, fault_of, report, error_of}
-use Rattle.disk_model.specs.Disks.{Moment, Started, Writing, Turn, turn, read_turn, write_turn, pick_turn, begun, starts, picked, heard, after, moment_after, opening, opening_byte}
+use Rattle.disk_model.specs.Disks.{Moment, Started, Writing, turn, read_turn, write_turn, pick_turn, begun, picked, heard, after, moment_after, opening, opening_byte}
 use Rattle.disk_model.specs.Runs.{IsTurn, MayHappen, Runs, IsDiskRun, moment, most_sectors}
 use Rattle.disk_model.specs.Ledger.{Ledger, Moving, empty, listens, listens_down, ledger_after, ledger, with_writes, Names, AnswersOne, IsSize}
+use Rattle.disk_model.specs.Between.{Agrees, AreTags, Asked, Fresh, IsQueue, IsReading, IsSized, IsWriting, Moves, SetUp}
+use Rattle.disk_model.specs.Between.{Stage, begun_by, ended_tags}
 use Rattle.disk_model.proofs.SendLemmas.{sends_left_next}
 use Rattle.disk_model.proofs.ShowsLemmas.{error_tells, sactive_tells}
 use Rattle.disk_model.proofs.GeometryLemmas.{some_chunks}
-use Rattle.disk_model.proofs.QueueLemmas.{ended_tags, AreTags, IsQueue}
-use Rattle.disk_model.proofs.AgreeLemmas.{Agrees, Asked, Beside, Fresh, IsReading, IsWriting, Moves, SetUp, Stage, Stands, beside, gives_up, idle, ledger_is, reading, shown, step_request, under, writing}
-use Rattle.disk_model.proofs.StoreLemmas.{IsSized}
+use Rattle.disk_model.proofs.AgreeLemmas.{Beside, Stands, beside, gives_up, idle, ledger_is, reading, shown, step_request, under, writing}
 use Rattle.disk_model.proofs.TransferLemmas.{step_data}
 use Rattle.disk_model.proofs.StartLemmas.{step_sent, picked_in}
 
@@ -175,11 +175,6 @@ answers_by l sectors plan (Ended t) later b is tags shows =
     let same : t % 32 ≡ t = omega (arith, tags.0) in
     let sactive : field Bits SActive b ≡ 2 ^ t = sactive_tells (2 ^ (t % 32)) b small shows ∙ ap (λ k. 2 ^ k) same in
     rw shows.viewed (λ fine. subst (λ (xs : List ℕ). Names xs (field Bits SActive b)) (sym is) sactive)
-
--- the turn that starts a command
-abbrev pub begun_by : DiskPlan → Moment → Command → Option Fault → Bool → Turn
-begun_by plan m c None write = starts plan m c write
-begun_by plan m c (Some f) write = begun plan m c (Some f)
 
 begins_answering : (plan : DiskPlan) (sectors : ℕ) (m : Moment) (l : Ledger) (c : Command) (bad : Option Fault) (write : Bool)
     (b : List ℕ) → IsSized plan → 0 < c.count → IsTurn (begun_by plan m c bad write) b → AnswersOne l (seen b)

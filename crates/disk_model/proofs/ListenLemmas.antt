@@ -9,10 +9,10 @@ use Rattle.disk_model.specs.declared.answer.Answer.TheVariants.{Signature, Accep
 use Rattle.disk_model.specs.Sendings.{Shows, answer_sent}
 use Rattle.disk_model.specs.Disks.{Moment, Started, Writing}
 use Rattle.disk_model.specs.Ledger.{Wanted, Ledger, Moving, listens_up, sends_data}
+use Rattle.disk_model.specs.Between.{Agrees, AreTags, AreWanted, IsHeld, Moves, ended_tags, has_page, is_page, pages_of}
 use Rattle.disk_model.proofs.ShowsLemmas.{end_tells}
-use Rattle.disk_model.proofs.QueueLemmas.{pages_of, has_page, is_page, ended_tags, AreTags}
-use Rattle.disk_model.proofs.FaultLemmas.{AreWanted, wanted_left}
-use Rattle.disk_model.proofs.AgreeLemmas.{Agrees, Beside, IsHeld, Moves, Stands, shown}
+use Rattle.disk_model.proofs.FaultLemmas.{wanted_left}
+use Rattle.disk_model.proofs.AgreeLemmas.{Beside, Stands, shown}
 
 -- ## An answer goes
 

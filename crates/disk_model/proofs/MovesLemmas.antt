@@ -14,17 +14,16 @@ use Rattle.disk_model.specs.Disks.{Moment, Started, Writing, turn, read_turn, wr
 use Rattle.disk_model.specs.Runs.{IsTurn, IsDiskRun, moment}
 use Rattle.disk_model.specs.Ledger.{Ledger, Moving, Stretch, IsSize, ledger}
 use Rattle.disk_model.specs.Laws.{SetsUpNext, AsksOnce, CarriesNext, MovesRight}
+use Rattle.disk_model.specs.Between.{AreSetUp, Asked, ChunkPart, Fresh, IsIn, IsQueue, IsReading, IsSized, IsWriting, Moves}
+use Rattle.disk_model.specs.Between.{SetUp, Stage, TellsSetup, begun_by, is_page, moved_sectors}
 use Rattle.disk_model.proofs.SendLemmas.{sends_left_next}
-use Rattle.disk_model.proofs.ShowsLemmas.{TellsSetup}
-use Rattle.disk_model.proofs.GeometryLemmas.{moved_sectors, moved_none, chunk_part, some_chunks, ChunkPart}
-use Rattle.disk_model.proofs.SetupLemmas.{AreSetUp, set_up_none, set_up_apart}
-use Rattle.disk_model.proofs.QueueLemmas.{IsQueue, IsIn, is_page}
-use Rattle.disk_model.proofs.AgreeLemmas.{Asked, Fresh, IsReading, IsWriting, Moves, SetUp, Stage, idle, reading, under, writing}
-use Rattle.disk_model.proofs.StoreLemmas.{IsSized}
+use Rattle.disk_model.proofs.GeometryLemmas.{moved_none, chunk_part, some_chunks}
+use Rattle.disk_model.proofs.SetupLemmas.{set_up_none, set_up_apart}
+use Rattle.disk_model.proofs.AgreeLemmas.{idle, reading, under, writing}
 use Rattle.disk_model.proofs.ListenLemmas.{page_goes}
 use Rattle.disk_model.proofs.TransferLemmas.{length-sectors_at, setup_of_chunk}
 use Rattle.disk_model.proofs.StartLemmas.{picked_in}
-use Rattle.disk_model.proofs.LawLemmas.{agrees, sized_by, last_may, same_turn, begun_by}
+use Rattle.disk_model.proofs.LawLemmas.{agrees, sized_by, last_may, same_turn}
 
 -- an answer moves no command's data
 answer_moves : (l : Ledger) (sectors : ℕ) (plan : DiskPlan) (a : Answer) (b : List ℕ) → (is_page a ≡ true → l.moving ≡ None)

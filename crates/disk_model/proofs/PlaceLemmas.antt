@@ -5,17 +5,10 @@ use Rattle.std.proofs.lemmas.List.{take-append-le, take-append-drop, drop-replic
 use Rattle.std.proofs.Math.Seq.{drop-append_seam, take-append_seam, drop-append-add, take-add, take-length}
 use Rattle.std.proofs.lemmas.Grind.{common_steps}
 use Rattle.disk_model.specs.Chunks.{put, sectors_at}
+use Rattle.disk_model.specs.Between.{from_back, from_front}
 
 pub length-put : (xs ys : List ℕ) (at : ℕ) → at + length ys ≤ length xs → length (put xs at ys) ≡ length xs
 length-put xs ys at fits = grind (arith, common_steps)
-
--- the first k bytes of the data, and zeros for the others
-abbrev pub from_front : List ℕ → (n k : ℕ) → List ℕ
-from_front s n k = take k s ++ replicate (n - k) 0
-
--- the last k bytes of the data, and zeros for the others
-abbrev pub from_back : List ℕ → (n k : ℕ) → List ℕ
-from_back s n k = replicate (n - k) 0 ++ drop (n - k) s
 
 put_seam : (a z p : List ℕ) → put (a ++ z) (length a) p ≡ a ++ p ++ drop (length p) z
 put_seam a z p = rw (take-append_seam a z, drop-append-add a z (length p)) refl

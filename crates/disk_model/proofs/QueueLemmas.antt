@@ -1,27 +1,17 @@
 -- Queues in which no tag occurs twice, and the answers that wait.
-use Rattle.std.proofs.Common.{◌≡◌, ◌==◌, ◌||◌, eqb, ℕ, zero, suc, ◌<◌, ◌≤◌, Bool, true, false, List, [], ◌∷◌, ◌++◌, Option, Some, None, refl, ap, sym, subst, ◌∙◌, arith, cond}
-use Rattle.std.specs.Prelude.{filter, find, slice_get, filter_map}
-use Rattle.std.specs.List.{list_any}
+use Rattle.std.proofs.Common.{◌≡◌, ◌==◌, ◌||◌, eqb, ℕ, zero, suc, ◌<◌, ◌≤◌, Bool, true, false, List, [], ◌∷◌, ◌++◌, Option, Some, refl, ap, sym, subst, ◌∙◌, arith, cond}
+use Rattle.std.specs.Prelude.{filter, slice_get}
 use Rattle.std.proofs.lemmas.Bool.{eq-eqb, eqb-true, or_from, or_parts}
 use Rattle.std.proofs.lemmas.Bool.Decides.{nat_tests}
 use Rattle.std.proofs.lemmas.List.Folds.{list_any-append}
 use Rattle.disk_model.specs.declared.request.Command.{Command}
 use Rattle.disk_model.specs.declared.answer.Answer.{Answer}
-use Rattle.disk_model.specs.declared.answer.Answer.TheVariants.{Signature, Accepted, Finished, Refused, Ended, PageFollows, PageData}
 use Rattle.disk_model.specs.declared.answer.Page.{Page}
 use Rattle.disk_model.specs.Requests.{IsCounted}
-use Rattle.disk_model.specs.Ledger.{Reply, Signs, Accepts, Finishes, Refuses, ShowsPage}
+use Rattle.disk_model.specs.Ledger.{Reply}
+use Rattle.disk_model.specs.Between.{AreTags, IsIn, IsQueue, has_tag, page_of, pages_of, replies, reply_of}
 use Rattle.std.proofs.lemmas.List.{append-nil}
 use Rattle.std.proofs.lemmas.List.Elements.{filter_map-append}
-
--- a command with the tag is in the queue
-abbrev pub has_tag : ℕ → List Command → Bool
-has_tag tag queued = list_any (λ q. q.tag == tag) queued
-
--- each command has 1 to 65,536 sectors, one of 32 tags, and a tag of its own
-abbrev pub IsQueue : List Command → Type 0
-IsQueue [] = Unit {0}
-IsQueue (c ∷ cs) = IsCounted c × (c.tag < 32) × (has_tag c.tag cs ≡ false) × IsQueue cs
 
 eqb_other_way : (a b : ℕ) → eqb a b ≡ false → eqb b a ≡ false
 eqb_other_way a b e = grind (arith, nat_tests)
@@ -52,14 +42,6 @@ queue_kept q false rest some tag none queue = queue
 pub IsQueue-filter : (p : Command → Bool) (cs : List Command) → IsQueue cs → IsQueue (filter p cs)
 IsQueue-filter p [] queue = tt
 IsQueue-filter p (q ∷ cs) queue = queue_kept q (p q) (filter p cs) queue.0 queue.1 (has_tag-filter q.tag p cs queue.2) (IsQueue-filter p cs queue.3)
-
--- what is known about a command in the queue
-pub record IsIn (queued : List Command) (c : Command) : Type 0 where
-  pub some : 0 < c.count
-  pub few : c.count ≤ 65536
-  pub tag : c.tag < 32
-  pub found : find (λ q. q.tag == c.tag) queued ≡ Some c
-  pub has : has_tag c.tag queued ≡ true
 
 find_here : (q c : Command) (b : Bool) (rest : Option Command) → b ≡ true → q ≡ c → cond b (Some q) rest ≡ Some c
 find_here q c true rest here is = ap Some is
@@ -103,34 +85,6 @@ is_in (q ∷ cs) (suc i) c queue at =
 
 -- ## Answers that wait
 
-abbrev pub tag_of : Answer → Option ℕ
-tag_of (Ended tag) = Some tag
-tag_of _ = None
-
--- the tags of the commands that ended
-abbrev pub ended_tags : List Answer → List ℕ
-ended_tags owed = filter_map tag_of owed
-
--- the ones that answer a command or a reset
-abbrev pub reply_of : Answer → Option Reply
-reply_of Signature = Some Signs
-reply_of Accepted = Some Accepts
-reply_of Finished = Some Finishes
-reply_of Refused = Some Refuses
-reply_of (Ended tag) = None
-reply_of PageFollows = Some ShowsPage
-reply_of (PageData page) = None
-
-abbrev pub replies : List Answer → List Reply
-replies owed = filter_map reply_of owed
-
-abbrev pub page_of : Answer → Option Page
-page_of (PageData page) = Some page
-page_of _ = None
-
-abbrev pub pages_of : List Answer → List Page
-pages_of owed = filter_map page_of owed
-
 -- no more page
 pub pages_same : (owed more : List Answer) → pages_of more ≡ [] → pages_of (owed ++ more) ≡ pages_of owed
 pages_same owed more none = filter_map-append page_of owed more ∙ ap (λ (xs : List Page). pages_of owed ++ xs) none ∙ append-nil (pages_of owed)
@@ -142,17 +96,6 @@ replies_more owed more r one = filter_map-append reply_of owed more ∙ ap (λ (
 -- no more reply
 pub replies_same : (owed more : List Answer) → replies more ≡ [] → replies (owed ++ more) ≡ replies owed
 replies_same owed more none = filter_map-append reply_of owed more ∙ ap (λ (xs : List Reply). replies owed ++ xs) none ∙ append-nil (replies owed)
-
-abbrev pub is_page : Answer → Bool
-is_page (PageData page) = true
-is_page _ = false
-
-abbrev pub has_page : List Answer → Bool
-has_page owed = list_any is_page owed
-
-abbrev pub AreTags : List ℕ → Type 0
-AreTags [] = Unit {0}
-AreTags (t ∷ ts) = (t < 32) × AreTags ts
 
 pub AreTags-append : (xs : List ℕ) (t : ℕ) → AreTags xs → t < 32 → AreTags (xs ++ t ∷ [])
 AreTags-append [] t tags small = (small, tt)

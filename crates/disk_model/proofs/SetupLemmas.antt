@@ -8,17 +8,8 @@ use Rattle.disk_model.specs.declared.request.Command.{Command}
 use Rattle.disk_model.specs.Chunks.{chunks, chunk_from, chunk_count}
 use Rattle.disk_model.specs.Ledger.{Stretch}
 use Rattle.disk_model.specs.Laws.{IsApart, bytes_named}
-use Rattle.disk_model.proofs.GeometryLemmas.{moved_sectors, moved_none, ChunkPart}
-
--- it names some of the done bytes: of n bytes so many are done, counted from below or from above
-abbrev pub IsDone : (downwards : Bool) → (n done : ℕ) → Stretch → Type 0
-IsDone true n done s = n - done ≤ s.at
-IsDone false n done s = s.at + s.count ≤ done
-
--- the DMA Setups named exactly the bytes that have moved when left chunks are left
-pub record AreSetUp (plan : DiskPlan) (c : Command) (left : ℕ) (setups : List Stretch) : Type 0 where
-  pub among : All (IsDone plan.last_first (512 * c.count) (512 * moved_sectors plan c left)) setups
-  pub named : bytes_named setups ≡ 512 * moved_sectors plan c left
+use Rattle.disk_model.specs.Between.{AreSetUp, ChunkPart, IsDone, moved_sectors}
+use Rattle.disk_model.proofs.GeometryLemmas.{moved_none}
 
 -- what the DMA Setup of the next chunk names
 abbrev pub chunk_stretch : DiskPlan → Command → ℕ → Stretch

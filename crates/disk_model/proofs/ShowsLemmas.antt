@@ -1,14 +1,14 @@
 -- What the FISes that a disk sends tell.
-use Rattle.std.proofs.Common.{◌≡◌, ◌==◌, ℕ, ◌%◌, ◌^◌, ◌<◌, Bool, true, false, List, [], ◌∷◌, Ok, refl, sym, subst, ◌∙◌, arith}
+use Rattle.std.proofs.Common.{◌≡◌, ◌==◌, ℕ, ◌%◌, ◌^◌, ◌<◌, Bool, true, false, List, [], ◌∷◌, refl, sym, subst, ◌∙◌, arith}
 use Rattle.std.proofs.lemmas.Bool.{and_parts, true≢false}
 use Rattle.std.specs.Prelude.{not, ◌&&◌}
 use Rattle.fis_view.specs.Table.{A, Run, Setup, Bits, BufferId, Offset, D, Count, Status, Error, SActive, field, places}
 use Rattle.std.specs.Int.{from_bool}
 use Rattle.fis_view.specs.Built.{cut}
-use Rattle.fis_view.specs.Seen.{seen}
 use Rattle.fis_view.specs.declared.view.Fis.TheVariants as view
 use Rattle.disk_model.specs.Sendings.{Shows, setup, bits}
 use Rattle.disk_model.specs.Ledger.{has_error, is_auto}
+use Rattle.disk_model.specs.Between.{TellsSetup}
 
 cut_run : (byte low n x : ℕ) → x % 2 ^ n ≡ x → cut (Run byte low n ∷ []) x ≡ x
 unfolding cut
@@ -17,13 +17,6 @@ cut_run byte low n x small = omega (arith, small)
 small_bool : (d : Bool) → from_bool d % 2 ^ 1 ≡ from_bool d
 small_bool true = refl
 small_bool false = refl
-
-pub record TellsSetup (tag offset count : ℕ) (d : Bool) (b : List ℕ) : Type 0 where
-  pub viewed : seen b ≡ Ok (view.DmaSetup b)
-  pub tag_is : field Setup BufferId b ≡ tag
-  pub offset_is : field Setup Offset b ≡ offset
-  pub count_is : field Setup Count b ≡ count
-  pub direction_is : field Setup D b ≡ from_bool d
 
 pub setup_tells : (tag offset count : ℕ) (d auto : Bool) (b : List ℕ) → tag < 32 → offset < 4294967296 → count < 4294967296 → Shows (setup tag offset count d auto) b → TellsSetup tag offset count d b
 unfolding places

@@ -14,15 +14,14 @@ use Rattle.disk_model.specs.Disks.{Moment, Started, Writing, turn, read_turn, wr
 use Rattle.disk_model.specs.Runs.{IsDiskRun, moment}
 use Rattle.disk_model.specs.Ledger.{Ledger, Moving, Wanted, IsSize, ledger}
 use Rattle.disk_model.specs.Laws.{OwesNothing, SilentRight}
+use Rattle.disk_model.specs.Between.{AreWanted, Asked, Fresh, IsQueue, IsReading, IsSized, IsWriting, Moves, SetUp, Stage}
+use Rattle.disk_model.specs.Between.{begun_by, ended_tags, pages_of, replies}
 use Rattle.disk_model.proofs.SendLemmas.{sends_left_next}
 use Rattle.disk_model.proofs.TurnLemmas.{none_left}
 use Rattle.disk_model.proofs.GeometryLemmas.{some_chunks}
-use Rattle.disk_model.proofs.QueueLemmas.{IsQueue, ended_tags, replies, pages_of}
-use Rattle.disk_model.proofs.FaultLemmas.{AreWanted}
-use Rattle.disk_model.proofs.AgreeLemmas.{Asked, Fresh, IsReading, IsWriting, Moves, SetUp, Stage, idle, reading, under, writing}
-use Rattle.disk_model.proofs.StoreLemmas.{IsSized}
+use Rattle.disk_model.proofs.AgreeLemmas.{idle, reading, under, writing}
 use Rattle.disk_model.proofs.StartLemmas.{picked_in}
-use Rattle.disk_model.proofs.LawLemmas.{agrees, sized_by, begun_by}
+use Rattle.disk_model.proofs.LawLemmas.{agrees, sized_by}
 
 -- ## No turn
 

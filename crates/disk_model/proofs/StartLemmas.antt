@@ -17,16 +17,18 @@ use Rattle.disk_model.specs.Chunks.{activations, chunks, chunk_from, chunk_count
 use Rattle.disk_model.specs.Disks.{Moment, Started, Writing, turn, read_turn, write_turn, begun, begun_write, starts, pick_turn, picked, went}
 use Rattle.disk_model.specs.Runs.{IsTurn}
 use Rattle.disk_model.specs.Ledger.{Failure, Ledger, Moving, is_auto, moves, listens_up, sets_up, with_auto}
+use Rattle.disk_model.specs.Between.{Agrees, AreSetUp, Asked, ChunkPart, Fresh, IsHeld, IsIn, IsMoving, IsQueue, IsReading}
+use Rattle.disk_model.specs.Between.{IsSetUp, IsSized, IsWriting, Moves, SetUp, Stage, TellsSetup, moved_bytes}
+use Rattle.disk_model.specs.Between.{moved_sectors}
 use Rattle.disk_model.proofs.SendLemmas.{sends_left_next}
-use Rattle.disk_model.proofs.ShowsLemmas.{TellsSetup, error_tells, error_field_tells}
+use Rattle.disk_model.proofs.ShowsLemmas.{error_tells, error_field_tells}
 use Rattle.disk_model.proofs.FaultLemmas.{can_be_done, fault_is, fault_small, noted}
 use Rattle.fis_view.specs.Table.{Bits, BufferId, Error, Offset, Setup, field}
 use Rattle.fis_view.specs.Table as table
-use Rattle.disk_model.proofs.GeometryLemmas.{moved_sectors, moved_none, chunk_part, some_chunks, ChunkPart}
-use Rattle.disk_model.proofs.SetupLemmas.{AreSetUp, chunk_stretch, set_up_none, set_up_next}
-use Rattle.disk_model.proofs.QueueLemmas.{IsQueue, IsIn, is_in}
-use Rattle.disk_model.proofs.AgreeLemmas.{Agrees, Asked, Beside, Fresh, IsHeld, IsMoving, IsReading, IsSetUp, IsWriting, Moves, SetUp, Stage, Stands, along, gives_up, idle, moved_bytes, reading, shown, under, writing}
-use Rattle.disk_model.proofs.StoreLemmas.{IsSized}
+use Rattle.disk_model.proofs.GeometryLemmas.{moved_none, chunk_part, some_chunks}
+use Rattle.disk_model.proofs.SetupLemmas.{chunk_stretch, set_up_none, set_up_next}
+use Rattle.disk_model.proofs.QueueLemmas.{is_in}
+use Rattle.disk_model.proofs.AgreeLemmas.{Beside, Stands, along, gives_up, idle, reading, shown, under, writing}
 use Rattle.disk_model.proofs.TransferLemmas.{auto_of_read, auto_of_write, Carried, Follows, IsSending, chunk_bytes, length-sectors_at, none_moved, read_ends, read_goes_on, read_sets_up, same_moving, sent_so_far, setup_of_chunk, so_far}
 use Rattle.disk_model.proofs.ListenLemmas.{step_answer}
 

@@ -9,15 +9,12 @@ use Rattle.disk_model.specs.declared.answer.Answer.TheVariants.{Ended}
 use Rattle.disk_model.specs.Chunks.{chunk_from, chunk_count, put}
 use Rattle.disk_model.specs.Disks.{Moment, Writing, stored}
 use Rattle.disk_model.specs.Ledger.{Moving, Written, moves, with_writes}
+use Rattle.disk_model.specs.Between.{Agrees, AreSetUp, AreTags, ChunkPart, Fresh, IsHeld, IsMoving, IsSized, ended_tags}
+use Rattle.disk_model.specs.Between.{moved_sectors, tag_of}
 use Rattle.disk_model.proofs.PlaceLemmas.{length-put}
-use Rattle.disk_model.proofs.GeometryLemmas.{moved_sectors, chunk_part, ChunkPart}
-use Rattle.disk_model.proofs.SetupLemmas.{AreSetUp}
-use Rattle.disk_model.proofs.QueueLemmas.{replies_same, pages_same, tag_of, ended_tags, AreTags, AreTags-append, IsQueue-filter}
-use Rattle.disk_model.proofs.AgreeLemmas.{Agrees, Beside, Fresh, IsHeld, IsMoving, Stands, along, shown, writing}
-
--- what is known about the chunks of a disk
-pub record IsSized (plan : DiskPlan) : Type 0 where
-  pub low : 512 ≤ plan.chunk
+use Rattle.disk_model.proofs.GeometryLemmas.{chunk_part}
+use Rattle.disk_model.proofs.QueueLemmas.{replies_same, pages_same, AreTags-append, IsQueue-filter}
+use Rattle.disk_model.proofs.AgreeLemmas.{Beside, Stands, along, shown, writing}
 
 pub with_writes-append : (medium : List ℕ) (ws : List Written) (w : Written)
     → with_writes medium (ws ++ w ∷ []) ≡ put (with_writes medium ws) w.at w.bytes

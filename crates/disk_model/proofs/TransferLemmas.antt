@@ -14,14 +14,16 @@ use Rattle.disk_model.specs.Chunks.{activations, chunk_from, chunk_count, chunk_
 use Rattle.disk_model.specs.Disks.{Moment, Started, Turn, Writing, data_taken, stored, read_turn, went, after_turn}
 use Rattle.disk_model.specs.Runs.{IsTurn}
 use Rattle.disk_model.specs.Ledger.{Ledger, Moving, ReadOut, IsRead, is_auto, moves, takes_data, listens_up, medium_with}
+use Rattle.disk_model.specs.Between.{Agrees, AreSetUp, Asked, ChunkPart, Fresh, IsHeld, IsMoving, IsReading, IsSized, Moves}
+use Rattle.disk_model.specs.Between.{SetUp, TellsSetup, from_back, from_front, moved_bytes, moved_sectors}
 use Rattle.disk_model.proofs.SendLemmas.{sends_left_next}
-use Rattle.disk_model.proofs.ShowsLemmas.{auto_none, auto_same, auto_tells, setup_tells, TellsSetup}
-use Rattle.disk_model.proofs.PlaceLemmas.{from_front, from_back, put_front, put_back, chunk_of_sectors}
-use Rattle.disk_model.proofs.GeometryLemmas.{moved_sectors, chunk_part, ChunkPart}
-use Rattle.disk_model.proofs.SetupLemmas.{AreSetUp, set_up_next}
+use Rattle.disk_model.proofs.ShowsLemmas.{auto_none, auto_same, auto_tells, setup_tells}
+use Rattle.disk_model.proofs.PlaceLemmas.{put_front, put_back, chunk_of_sectors}
+use Rattle.disk_model.proofs.GeometryLemmas.{chunk_part}
+use Rattle.disk_model.proofs.SetupLemmas.{set_up_next}
 use Rattle.disk_model.proofs.QueueLemmas.{IsQueue-filter}
-use Rattle.disk_model.proofs.AgreeLemmas.{Agrees, Asked, Beside, Fresh, IsHeld, IsMoving, IsReading, Moves, SetUp, Stands, along, moved_bytes, reading, shown, under, writing}
-use Rattle.disk_model.proofs.StoreLemmas.{IsAsking, IsSized, asked, asked_for, store_by}
+use Rattle.disk_model.proofs.AgreeLemmas.{Beside, Stands, along, reading, shown, under, writing}
+use Rattle.disk_model.proofs.StoreLemmas.{IsAsking, asked, asked_for, store_by}
 
 -- ## Bytes of reads
 

@@ -5,36 +5,18 @@ use Rattle.disk_model.specs.declared.request.Command.{Command}
 use Rattle.disk_model.specs.declared.answer.Answer.{Answer}
 use Rattle.disk_model.specs.declared.answer.Fault.{Fault}
 use Rattle.disk_model.specs.Histories.{Happening, Sent}
-use Rattle.disk_model.specs.Sendings.{Sending, SetsUp, Activates, Carries, Shows, answer_sent}
-use Rattle.disk_model.specs.Chunks.{chunks, chunk_from, chunk_count, chunk_setup, sectors_at, fault_of, report}
+use Rattle.disk_model.specs.Sendings.{Sending, Activates, Carries}
+use Rattle.disk_model.specs.Chunks.{chunks, chunk_from, chunk_count, chunk_setup, sectors_at, fault_of}
 use Rattle.disk_model.specs.Disks.{Moment, Started, Writing, turn, read_turn, write_turn, pick_turn, picked, opening}
 use Rattle.disk_model.specs.Runs.{IsTurn, IsDiskRun, moment}
 use Rattle.disk_model.specs.Ledger.{Moving, IsSize, ledger}
+use Rattle.disk_model.specs.Between.{Agrees, Asked, Fresh, InEachCase, IsIn, IsQueue, IsReading, IsSized, IsWriting, Moves}
+use Rattle.disk_model.specs.Between.{SetUp, Stage, begun_by}
 use Rattle.disk_model.proofs.SendLemmas.{sends_left_next}
 use Rattle.disk_model.proofs.GeometryLemmas.{some_chunks}
-use Rattle.disk_model.proofs.QueueLemmas.{IsQueue, IsIn}
-use Rattle.disk_model.proofs.AgreeLemmas.{Agrees, Asked, Fresh, IsReading, IsWriting, Moves, SetUp, Stage, idle, reading, under, writing}
-use Rattle.disk_model.proofs.StoreLemmas.{IsSized}
+use Rattle.disk_model.proofs.AgreeLemmas.{idle, reading, under, writing}
 use Rattle.disk_model.proofs.StartLemmas.{picked_in}
-use Rattle.disk_model.proofs.LawLemmas.{agrees, sized_by, last_may, same_turn, begun_by}
-
--- a FIS that moves data
-abbrev pub IsTransfer : Sending → Type 0
-IsTransfer (SetsUp f) = Unit {0}
-IsTransfer Activates = Unit {0}
-IsTransfer (Carries bytes) = Unit {0}
-IsTransfer _ = ⊥
-
--- what follows in each case in which these bytes are sent
-pub record InEachCase (plan : DiskPlan) (sectors : ℕ) (queued : List Command) (owed : List Answer) (v : Option Moving) (b : List ℕ) (P : Type 0) : Type 0 where
-  -- the oldest answer
-  pub answers : (a : Answer) (later : List Answer) → owed ≡ a ∷ later → Shows (answer_sent sectors plan a) b → P
-  -- a command that is to start fails
-  pub fails : (c : Command) (f : Fault) → picked plan.order queued ≡ Some c → fault_of plan sectors c ≡ Some f → v ≡ None → Shows (report f) b → P
-  -- a command starts
-  pub starts : (c : Command) → picked plan.order queued ≡ Some c → IsIn queued c → fault_of plan sectors c ≡ None → v ≡ None → Shows (chunk_setup plan c (chunks plan c)) b → P
-  -- a command goes on
-  pub goes_on : (now : Moving) (x : Sending) → v ≡ Some now → IsTransfer x → Shows x b → P
+use Rattle.disk_model.proofs.LawLemmas.{agrees, sized_by, last_may, same_turn}
 
 begins_by : (plan : DiskPlan) (sectors : ℕ) (m : Moment) (owed : List Answer) (c : Command) (bad : Option Fault) (write : Bool)
     (b : List ℕ) (P : Type 0) → IsSized plan → InEachCase plan sectors m.queued owed None b P

@@ -17,8 +17,8 @@ use Rattle.disk_model.specs.Requests.{request_of}
 use Rattle.disk_model.specs.Ledger.{Accepts, Ledger, Moving, Written, activates, answers, asks, awaits, empty, ends, has_error, is_auto, ledger, ledger_after, listens, listens_down, listens_up, mixes, moves, reads_log, refuses, restarts, sends_data, sets_up, starts_moving, takes_data, with_auto}
 use Rattle.disk_model.specs.Anew.{WritesStay}
 use Rattle.disk_model.specs.Ends.{with_down}
+use Rattle.disk_model.specs.Between.{with_bytes}
 use Rattle.disk_model.proofs.AnewLemmas.{after_more}
-use Rattle.disk_model.proofs.CrossLemmas.{with_bytes}
 
 pub record GoesOn (l x : Ledger) : Type 0 where
   pub later : List Written

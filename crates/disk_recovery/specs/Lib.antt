@@ -7,3 +7,4 @@ pub mod Stages
 pub mod Ends
 pub mod Flushes
 pub mod Resets
+pub mod Between

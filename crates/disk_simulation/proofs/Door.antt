@@ -4,10 +4,10 @@ pub use Rattle.disk_simulation.proofs.others.ElsewhereLemmas.{others_leave_devic
 pub use Rattle.disk_simulation.proofs.others.CalmLemmas.{calm_runs_keep}
 pub use Rattle.disk_simulation.proofs.together.TogetherLemmas.{no_end, not_pio}
 pub use Rattle.disk_simulation.proofs.joined.OutLemmas.{begun_none}
-pub use Rattle.disk_simulation.proofs.joined.HeardLemmas.{heard_as_told, IsThere, there_by}
+pub use Rattle.disk_simulation.proofs.joined.HeardLemmas.{heard_as_told, there_by}
 pub use Rattle.disk_simulation.proofs.joined.MarkedLemmas.{marks_tell_nothing}
 pub use Rattle.disk_simulation.proofs.anew.AnewHonest.{next_anew}
-pub use Rattle.disk_simulation.proofs.anew.SignsLemmas.{IsSigned, signature_is_none, signed, view_signed}
+pub use Rattle.disk_simulation.proofs.anew.SignsLemmas.{signature_is_none, signed, view_signed}
 pub use Rattle.disk_simulation.proofs.anew.AnewJoins.{hosted_on_is_kept, hosted_since_new, opens_after, opens_signing}
 pub use Rattle.disk_simulation.proofs.anew.HostedLemmas.{hosted_is_kept, no_context}
 pub use Rattle.disk_simulation.proofs.phases.AsideLemmas.{aside_is_kept}

@@ -18,3 +18,4 @@ pub mod Watched
 pub mod Line
 pub mod Files
 pub mod Outcomes
+pub mod Between

@@ -1,6 +1,6 @@
 -- The lemmas of this crate that proofs of other crates use. What else stands under proofs/ may change at any time, and is
 -- not seen from outside.
-pub use Rattle.hba_driver.proofs.ticks.DueLemmas.{Due, MayStep, Runs, runs_turn}
+pub use Rattle.hba_driver.proofs.ticks.DueLemmas.{runs_turn}
 pub use Rattle.hba_driver.proofs.ticks.LifeLemmas.{due_seen, keeps_tick}
 pub use Rattle.hba_driver.proofs.ticks.ServeLemmas.{act_clears, ticks_serve}
 pub use Rattle.hba_driver.proofs.modes.ModeLemmas.{ignores_as}
@@ -9,39 +9,39 @@ pub use Rattle.hba_driver.proofs.modes.SwitchLemmas.{sight_is, tick_acts}
 pub use Rattle.hba_driver.proofs.calls.RequestLemmas.{set_cases}
 pub use Rattle.hba_driver.proofs.calls.SubmitLemmas.{is_taken, none_conflict}
 pub use Rattle.hba_driver.proofs.requests.HistoryLemmas.{back_of, each_run_keeps, free_other, freed, lives_turn}
-pub use Rattle.hba_driver.proofs.requests.HistoryLemmas.{none_gives, poll_facts, PollFacts, requests_turn}
-pub use Rattle.hba_driver.proofs.requests.ComeLemmas.{comes_from, Fresh, Stood, ticks}
+pub use Rattle.hba_driver.proofs.requests.HistoryLemmas.{none_gives, poll_facts, requests_turn}
+pub use Rattle.hba_driver.proofs.requests.ComeLemmas.{comes_from}
 pub use Rattle.hba_driver.proofs.requests.StandLemmas.{in_slots}
 pub use Rattle.hba_driver.proofs.ends.FaultLemmas.{errors_are_named}
 pub use Rattle.hba_driver.proofs.events.DrivenLemmas.{not_below, tick_is}
-pub use Rattle.hba_driver.proofs.events.EventLemmas.{beside, sound_beside}
-pub use Rattle.hba_driver.proofs.events.OpenLemmas.{IsUp, up_of}
+pub use Rattle.hba_driver.proofs.events.EventLemmas.{sound_beside}
+pub use Rattle.hba_driver.proofs.events.OpenLemmas.{up_of}
 pub use Rattle.hba_driver.proofs.events.SoundLemmas.{hosts_stay_sound, sound_turn}
 pub use Rattle.hba_driver.proofs.events.TurnLemmas.{each_run_tells, sound_shared, turns_are_events}
 pub use Rattle.hba_driver.proofs.issued.IssueLemmas.{told_of}
-pub use Rattle.hba_driver.proofs.issued.IssuingLemmas.{asked_is, bit_other, From, issued_cases}
+pub use Rattle.hba_driver.proofs.issued.IssuingLemmas.{asked_is, bit_other, issued_cases}
 pub use Rattle.hba_driver.proofs.issued.ServingLemmas.{not_busy}
 pub use Rattle.hba_driver.proofs.issued.TickingLemmas.{free_slot}
-pub use Rattle.hba_driver.proofs.issued.EndingLemmas.{may_end, MayClear, MayEnd}
+pub use Rattle.hba_driver.proofs.issued.EndingLemmas.{may_end}
 pub use Rattle.hba_driver.proofs.issued.ServedLemmas.{seen_served, turns_serve}
 pub use Rattle.hba_driver.proofs.delivery.HeldLemmas.{turns_hold_writes}
-pub use Rattle.hba_driver.proofs.delivery.InsideLemmas.{as_long, good_since, HaveGoodPrds, issue_inside, tick_client}
+pub use Rattle.hba_driver.proofs.delivery.InsideLemmas.{as_long, good_since, issue_inside, tick_client}
 pub use Rattle.hba_driver.proofs.delivery.DeliveredLemmas.{turns_deliver}
-pub use Rattle.hba_driver.proofs.accepted.AcceptLemmas.{IsOnWay, none_here, way_opens, way_turn, writes_are_accepted}
+pub use Rattle.hba_driver.proofs.accepted.AcceptLemmas.{none_here, way_opens, way_turn, writes_are_accepted}
 pub use Rattle.hba_driver.proofs.steady.BesideLemmas.{tick_beside}
 pub use Rattle.hba_driver.proofs.steady.RowLemmas.{flush_row, opens_row, rows_stay}
-pub use Rattle.hba_driver.proofs.steady.SteadyLemmas.{act_keeps, keeps_then, of_turn, PlanKeeps, set_other}
+pub use Rattle.hba_driver.proofs.steady.SteadyLemmas.{act_keeps, keeps_then, of_turn, set_other}
 pub use Rattle.hba_driver.proofs.steady.SteadyLemmas.{turn_keeps}
 pub use Rattle.hba_driver.proofs.steady.SteadyTurns.{acted_plan, begun_calm, begun_later, begun_slot, calm_or_flush}
-pub use Rattle.hba_driver.proofs.steady.SteadyTurns.{DriverKeeps, flush_steady, issued_unended, opens_steady}
-pub use Rattle.hba_driver.proofs.steady.SteadyTurns.{signed_by, Signs, steady_fields, steps_alone, turn_steady}
+pub use Rattle.hba_driver.proofs.steady.SteadyTurns.{flush_steady, issued_unended, opens_steady}
+pub use Rattle.hba_driver.proofs.steady.SteadyTurns.{signed_by, steady_fields, steps_alone, turn_steady}
 pub use Rattle.hba_driver.proofs.steady.AbsentLemmas.{turn_was}
 pub use Rattle.hba_driver.proofs.done.TrueLemmas.{done_is_true}
-pub use Rattle.hba_driver.proofs.done.ReportLemmas.{all_wider, AllStand, Reports, Stands, turn_stands}
+pub use Rattle.hba_driver.proofs.done.ReportLemmas.{all_wider, turn_stands}
 pub use Rattle.hba_driver.proofs.goes_on.StopLemmas.{either}
 pub use Rattle.hba_driver.proofs.goes_on.PageLemmas.{poll_plan}
-pub use Rattle.hba_driver.proofs.goes_on.GoingLemmas.{goes_on, going_opens, going_turn, IsGoing}
-pub use Rattle.hba_driver.proofs.addresses.AddressLemmas.{AreOfTheir, none_issued, turn_addressed, turn_their}
+pub use Rattle.hba_driver.proofs.goes_on.GoingLemmas.{goes_on, going_opens, going_turn}
+pub use Rattle.hba_driver.proofs.addresses.AddressLemmas.{none_issued, turn_addressed, turn_their}
 pub use Rattle.hba_driver.proofs.slot31.Push31Lemmas.{begins_srst, ends_srst}
 pub use Rattle.hba_driver.proofs.slot31.Tick31Lemmas.{faulty_shown}
 pub use Rattle.hba_driver.proofs.slot31.Turn31Lemmas.{control_in31, opens31, turn31}
@@ -50,12 +50,11 @@ pub use Rattle.hba_driver.proofs.anew.FlushLemmas.{flush_unreset}
 pub use Rattle.hba_driver.proofs.anew.TendedLemmas.{at_stage, recovering_ready, stage_is, unworked}
 pub use Rattle.hba_driver.proofs.anew.TendedTurns.{issued_live, slot_over, steady_tends, stepless_slot, turn_tended}
 pub use Rattle.hba_driver.proofs.anew.SetsLemmas.{each_reset_is_driven}
-pub use Rattle.hba_driver.proofs.known.KnownLemmas.{is_trusted}
 pub use Rattle.hba_driver.proofs.known.PushedLemmas.{request_of_slot}
 pub use Rattle.hba_driver.proofs.known.QueuedLemmas.{queued_by}
-pub use Rattle.hba_driver.proofs.known.AsksLemmas.{asking_known, asking_opens, asking_turn, IsAsking}
+pub use Rattle.hba_driver.proofs.known.AsksLemmas.{asking_known, asking_opens, asking_turn}
 pub use Rattle.hba_driver.proofs.recovers.ApartPushes.{alone_issue, is_alone, pushes_on, stays_on}
-pub use Rattle.hba_driver.proofs.recovers.ApartViews.{clearing_own_view, clearing_view, Issues30, step30}
+pub use Rattle.hba_driver.proofs.recovers.ApartViews.{clearing_own_view, clearing_view, step30}
 pub use Rattle.hba_driver.proofs.recovers.UnsoughtLemmas.{stays_unsought}
 pub use Rattle.hba_driver.proofs.recovers.ApartTakes.{takes_lead}
 pub use Rattle.hba_driver.proofs.recovers.ApartTicks.{cleared_faulty, ticks_lead}

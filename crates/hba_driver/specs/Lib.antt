@@ -31,3 +31,4 @@ pub mod Absent
 pub mod Resetting
 pub mod Queued
 pub mod Spans
+pub mod Between

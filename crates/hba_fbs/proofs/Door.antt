@@ -2,6 +2,6 @@
 -- not seen from outside.
 pub use Rattle.hba_fbs.proofs.CmdLemmas.{cmd_are}
 pub use Rattle.hba_fbs.proofs.SlotLemmas.{none_have, own_at}
-pub use Rattle.hba_fbs.proofs.FillLemmas.{filled_all, filled_set, FilledTo}
+pub use Rattle.hba_fbs.proofs.FillLemmas.{filled_all, filled_set}
 pub use Rattle.hba_fbs.proofs.AimLemmas.{aimed_chosen, aimed_first}
 pub use Rattle.hba_fbs.proofs.SendLemmas.{on_err}

@@ -4,12 +4,7 @@ use Rattle.std.specs.List.{range_with_len}
 use Rattle.std.proofs.lemmas.Bool.{cases_lt}
 use Rattle.std.proofs.lemmas.List.{get_or-set_same, get_or-set_other, length-set}
 use Rattle.std.proofs.lemmas.List.FromFn.{fill_by_all}
-
--- the places below n have the values of f, and the others are as they were
-pub record FilledTo {A : Type 0} (n : ℕ) (f : ℕ → A) (d : A) (old new : List A) : Type 0 where
-  pub long : length new ≡ length old
-  pub filled : (k : ℕ) → k < n → get_or new k d ≡ f k
-  pub rest : (k : ℕ) → n ≤ k → get_or new k d ≡ get_or old k d
+use Rattle.hba_fbs.specs.Between.{FilledTo}
 
 pub filled_none : {A : Type 0} (f : ℕ → A) (d : A) (old : List A) → FilledTo 0 f d old old
 filled_none f d old = record { long = refl; filled = λ k below. absurd (omega (arith, below)); rest = λ k past. refl }

@@ -13,8 +13,9 @@ use Rattle.hba_commands.specs.Commands.{command_at}
 use Rattle.hba_fbs.specs.declared.registers.Registers.{Registers}
 use Rattle.hba_fbs.specs.Issuing.{any_slot, asked, is_busy, issue_with, issued_slots, issues_with, commands_with, slots_after, with_command}
 use Rattle.hba_fbs.specs.Views.{HaveCommands, last_command}
+use Rattle.hba_fbs.specs.Between.{FilledTo}
 use Rattle.hba_fbs.proofs.AnyLemmas.{none_passes}
-use Rattle.hba_fbs.proofs.FillLemmas.{FilledTo, filled_all, filled_same, filled_set}
+use Rattle.hba_fbs.proofs.FillLemmas.{filled_all, filled_same, filled_set}
 use Rattle.hba_fbs.proofs.SlotLemmas.{own_at, stays_free}
 
 -- what an issue makes of each slot of a device

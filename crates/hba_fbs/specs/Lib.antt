@@ -13,3 +13,4 @@ pub mod Taking
 pub mod Sending
 pub mod Due
 pub mod Resets
+pub mod Between

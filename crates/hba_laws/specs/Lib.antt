@@ -11,3 +11,4 @@ pub mod Sent
 pub mod Keeping
 pub mod Causes
 pub mod Alike
+pub mod Between

@@ -3,6 +3,7 @@ use Rattle.std.proofs.Common.{◌≡◌, ◌≢◌, ℕ, zero, suc, ◌+◌, ◌
 use Rattle.std.proofs.lemmas.Bool.{cond-true, cond-false, lt-ltb, le-ltb, cases_lt}
 use Rattle.host_memory.specs.declared.table.Prd.{Prd}
 use Rattle.host_memory.specs.Place.{total_of, place, LiesInClient, AreInside, IsByteOf, AreApart, HasOwnPlaces}
+use Rattle.host_memory.specs.Between.{HasByte}
 
 -- byte i lies in the first entry where it is below its count
 pub place_here : (p : Prd) (ps : List Prd) (i : ℕ) → i < p.bytes → place (p ∷ ps) i ≡ p.address + i
@@ -20,13 +21,6 @@ place_inside len (p ∷ ps) i a h =
       | inl lt ↦ let is = place_here p ps i lt in (omega (arith, is, a.0.0), omega (arith, is, a.0.1))
       | inr ge ↦ let is = place_later p ps i ge in let r = place_inside len ps (i - p.bytes) a.1 (omega arith) in (omega (arith, is, r.0), omega (arith, is, r.1))
     ]
-
--- the entry of a table that has this byte
-pub record HasByte (ps : List Prd) (at : ℕ) : Type 0 where
-  pub k : ℕ
-  pub prd : Prd
-  pub entry : slice_get ps k ≡ Some prd
-  pub has : IsByteOf prd at
 
 -- each place is a byte of some entry
 pub place_has : (ps : List Prd) (i : ℕ) → i < total_of ps → HasByte ps (place ps i)

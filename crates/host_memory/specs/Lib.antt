@@ -5,3 +5,4 @@ pub mod Parts
 pub mod Place
 pub mod Reading
 pub mod Writing
+pub mod Between

@@ -12,6 +12,7 @@ use Rattle.multiplier.specs.Arbiter.{control_port}
 use Rattle.multiplier.specs.State.{PmState, IsSound, port_at, with_port, held, ready, rising, next_place, control_stamp, counted}
 use Rattle.multiplier.specs.Rules.{NextUpRule, PlaceGives, ControlGives, PortGives, NextDownRule, KeepsPorts, held_source, may_go_back}
 use Rattle.multiplier.specs.declared.given.Source.TheVariants as source
+use Rattle.multiplier.specs.Between.{Answer, FromPort, Gives, Notice, lowered}
 use Rattle.multiplier.proofs.ArbiterLemmas.{served_below}
 use Rattle.multiplier.proofs.Ports.{kept_part}
 use Rattle.multiplier.proofs.Sound.{up_sound, down_sound, rest_sound, due_sound}
@@ -38,17 +39,6 @@ keeps_all old new count e = record {
 }
 
 -- ---- the three ways in which a frame goes up
-
-abbrev pub lowered : PmState → ℕ → PmState
-lowered pm n = with_port pm n (port.with_up (port_at pm n) None)
-
-pub data Gives (old : PmState) (frame : Stamped) (new : PmState) : Type 0 where
-  FromPort : (n : ℕ) (was : Stamped) → next_place old ≡ Some n → n ≢ control_port → held old n ≡ Some was → was.stamp.port ≡ n
-      → frame ≡ rising n was → new ≡ record (lowered old n) { served = n; given = may_go_back old (held_source was) frame } → Gives old frame new
-  Notice : next_place old ≡ Some control_port → old.registers.due ≡ true → IsNotice true (control_stamp old) (Some frame)
-      → new ≡ record old { registers = map.after_notice old.registers; number = counted old.number; served = control_port; given = may_go_back old source.Notice frame } → Gives old frame new
-  Answer : next_place old ≡ Some control_port → old.answer ≡ Some frame
-      → new ≡ record old { answer = None; served = control_port; given = may_go_back old source.Answer frame } → Gives old frame new
 
 module _ (old : PmState) (frame : Stamped) (new : PmState) where
   by_held : (n : ℕ) (was : Option Stamped) → next_place old ≡ Some n → n ≢ control_port → held old n ≡ was

@@ -10,7 +10,7 @@ use Rattle.pm_ports.specs.declared.port.GoneError.TheVariants.{NotThere}
 use Rattle.pm_ports.specs.declared.port.PortError.{PortError}
 use Rattle.pm_ports.specs.declared.port.PortError.TheVariants.{AlreadyThere, OldConnection}
 use Rattle.multiplier.specs.State.{IsSoundPort}
-use Rattle.multiplier.proofs.Ports.{Ports, at}
+use Rattle.multiplier.specs.Between.{Ports, at}
 
 -- ---- connections up to one
 

@@ -28,8 +28,9 @@ use Rattle.multiplier.specs.declared.multiplier.Passed.{Passed}
 use Rattle.multiplier.specs.declared.multiplier.Passed.TheVariants as passed
 use Rattle.multiplier.specs.declared.multiplier.PmRefusal.{PmRefusal}
 use Rattle.multiplier.specs.Passing.{Call, FromHost, FromDevice, Came, NextUp, PutBackUp, NextDown, PutBackDown, Past, Suits, EndsWith, past_after, but_last, made_by, of_conn, held_of, of_port, came_by, NeverFall, NeverFallTo, to_port, falls_to, passed_by, present_after, answers, answer_by, AreNumbered}
+use Rattle.multiplier.specs.Between.{Ports, at}
 use Rattle.multiplier.proofs.ArbiterLemmas.{different}
-use Rattle.multiplier.proofs.Ports.{Ports, at, kept_part, this_port, other_port, has_down}
+use Rattle.multiplier.proofs.Ports.{kept_part, this_port, other_port, has_down}
 use Rattle.multiplier.proofs.Gone.{accepted}
 use Rattle.multiplier.proofs.Sound.{answered_sound, answer_is, answer_shows, stamp_shows, came_sound, down_sound, kept_sound, rest_sound, settled_sound}
 use Rattle.multiplier.proofs.GiveLemmas.{gives, given_sound, down_rule_sound}

@@ -1,15 +1,10 @@
 -- A list of ports, or of anything, after a write to one place.
-use Rattle.std.proofs.Common.{◌≡◌, ◌≢◌, ℕ, zero, suc, ◌<◌, List, [], ◌∷◌, length, Some, refl, arith}
-use Rattle.std.specs.Prelude.{slice_set, slice_index_or}
+use Rattle.std.proofs.Common.{◌≡◌, ◌≢◌, ℕ, zero, suc, ◌<◌, [], ◌∷◌, length, Some, refl, arith}
+use Rattle.std.specs.Prelude.{slice_set}
 use Rattle.std.proofs.lemmas.List.{get_or-set_other, get_or-set_same}
 use Rattle.fis_view.specs.Frames.{Stamped}
 use Rattle.pm_ports.specs.Port as port
-
-abbrev pub Ports : Type 0
-Ports = List port.PortState
-
-abbrev pub at : Ports → ℕ → port.PortState
-at ports n = slice_index_or ports n port.empty_port
+use Rattle.multiplier.specs.Between.{Ports, at}
 
 pub other_port : (ports : Ports) (m n : ℕ) (p : port.PortState) → n ≢ m → at (slice_set ports m p) n ≡ at ports n
 other_port ports m n p h = get_or-set_other ports m n p port.empty_port h

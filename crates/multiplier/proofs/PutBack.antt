@@ -12,9 +12,10 @@ use Rattle.multiplier.specs.State.{PmState, IsSound, port_at, with_port, held, r
 use Rattle.multiplier.specs.Rules.{CanPutBackUp, CanPutBackDown, UndoesUp, UndoesDown, KeepsPorts, HasRoomFor, put_back, held_source, may_go_back}
 use Rattle.multiplier.specs.declared.given.Given.{Given}
 use Rattle.multiplier.specs.declared.given.Source.TheVariants as source
+use Rattle.multiplier.specs.Between.{Answer, FromPort, Gives, Notice, lowered}
 use Rattle.multiplier.proofs.ArbiterLemmas.{different}
 use Rattle.multiplier.proofs.Ports.{has_down, has_up}
-use Rattle.multiplier.proofs.GiveLemmas.{Gives, FromPort, Notice, Answer, gives, given_keeps, given_sound, lowered, place_small, up_rule_keeps, down_rule_keeps}
+use Rattle.multiplier.proofs.GiveLemmas.{gives, given_keeps, given_sound, place_small, up_rule_keeps, down_rule_keeps}
 
 gives_only : (test : Bool) (frame was : Stamped) → port.only_if test frame ≡ Some was → Some frame ≡ Some was
 gives_only true frame was e = e

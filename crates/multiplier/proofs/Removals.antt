@@ -18,35 +18,14 @@ use Rattle.multiplier.specs.Rules.{FromDeviceRule, GoneRule, without_device}
 use Rattle.multiplier.specs.declared.multiplier.Passed.{Passed}
 use Rattle.multiplier.specs.declared.multiplier.Passed.TheVariants as passed
 use Rattle.multiplier.specs.declared.multiplier.PmRefusal.{PmRefusal}
-use Rattle.multiplier.specs.Passing.{Call, FromHost, FromDevice, Came, Gone, NextUp, PutBackUp, NextDown, PutBackDown, Does, DoesAll, Past, Suits, past_after, all_past, lost_from, of_conn, for_conn, held_of, came_by, came_in, lost_up_by, lost_up, NeverFall, NeverFallTo, to_port, falls_to, falls, passed_by, passed_down, lost_down_by, lost_down, present_after, all_present, gone_by, all_gone, highest, answers, answer_by, answers_made, AreNumbered, PassInOrder}
-use Rattle.multiplier.proofs.Ports.{Ports, at, kept_part, this_port, other_port}
+use Rattle.multiplier.specs.Passing.{Call, FromHost, FromDevice, Came, Gone, NextUp, PutBackUp, NextDown, PutBackDown, Does, DoesAll, Past, Suits, past_after, all_past, lost_from, of_conn, for_conn, held_of, came_by, came_in, lost_up_by, lost_up, to_port, falls_to, falls, passed_by, passed_down, lost_down_by, lost_down, present_after, all_present, gone_by, all_gone, highest, answers, answer_by, answers_made, PassInOrder}
+use Rattle.multiplier.specs.Between.{IsOver, IsStep}
+use Rattle.multiplier.proofs.Ports.{kept_part, this_port, other_port}
 use Rattle.multiplier.proofs.Gone.{up_to, up_to_is, still_up_to, never_up_to, goes}
 use Rattle.multiplier.proofs.Sound.{gone_sound}
 use Rattle.multiplier.proofs.PassingLemmas.{IsPlain, same, keep_up, keep_down, keep_connections, keep_falling, keep_last, keep_answer, keep_numbers, host_step, offer_step, came_step, turn_step, put_back_step, lower_step, raise_step}
 
 -- ---- one call
-
--- of a connection that is gone nothing comes in, is passed down or is dropped
-pub record IsOver (n c : ℕ) (present : Option ℕ) (call : Call) : Type 0 where
-  pub came : came_by n c call ≡ []
-  pub lost : lost_up_by n c call ≡ []
-  pub passed : for_conn c (passed_by n present call) ≡ []
-  pub lost_down : for_conn c (lost_down_by n call) ≡ []
-
--- One call: what it gave, then what waits, and then what it dropped, is what waited and then what it took in.
-pub record IsStep (past : Past) (old : PmState) (call : Call) (new : PmState) : Type 0 where
-  pub sound : IsSound new
-  pub up : (n c : ℕ) → n < 15 → of_conn n c (past_after past call).up ++ held_of n c new ++ lost_up_by n c call ≡ of_conn n c past.up ++ held_of n c old ++ came_by n c call
-  pub connections : (n : ℕ) → n < 15 → NeverFall n past.up (port_at old n).last → NeverFall n (past_after past call).up (port_at new n).last
-  pub last : (n : ℕ) → (port_at old n).last ≤ (port_at new n).last
-  pub present : (n : ℕ) → n < 15 → (port_at new n).present ≡ present_after n (port_at old n).present call
-  pub down : (n : ℕ) → n < 15 → to_port n (past_after past call).down ++ falls_to n new ++ lost_down_by n call ≡ to_port n past.down ++ falls_to n old ++ passed_by n (port_at old n).present call
-  pub connections_down : (n : ℕ) → n < 15 → NeverFallTo n past.down (port_at old n).last → NeverFallTo n (past_after past call).down (port_at new n).last
-  pub gone : (n : ℕ) → n < 15 → (port_at new n).gone ≡ highest (port_at old n).gone (gone_by n call)
-  pub kept : (n c : ℕ) → n < 15 → port.is_gone (port_at new n) c ≡ false → (lost_up_by n c call ≡ []) × (for_conn c (lost_down_by n call) ≡ [])
-  pub over : (n c : ℕ) → n < 15 → port.is_gone (port_at old n) c ≡ true → IsOver n c (port_at old n).present call
-  pub answered : answers (past_after past call).up ++ option_to_list new.answer ≡ answers past.up ++ option_to_list old.answer ++ answer_by call
-  pub numbers : (first : ℕ) → AreNumbered first past.made old.number → AreNumbered first (past_after past call).made new.number
 
 -- a call that drops nothing
 record DropsNone (call : Call) : Type 0 where

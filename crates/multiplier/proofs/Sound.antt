@@ -26,7 +26,8 @@ use Rattle.multiplier.specs.Arbiter.{control_port}
 use Rattle.multiplier.specs.State.{PmState, IsSound, IsSoundPort, IsPlace, ShowsRecorded, control_stamp, is_answer, is_notice, port_at, with_port, settled, stamped, opening, opening_with_port_0, first_port}
 use Rattle.multiplier.specs.Rules.{with_device, without_device}
 use Rattle.multiplier.specs.declared.given.Given.{Given}
-use Rattle.multiplier.proofs.Ports.{at, each_port, this_port, other_port}
+use Rattle.multiplier.specs.Between.{at}
+use Rattle.multiplier.proofs.Ports.{each_port, this_port, other_port}
 use Rattle.multiplier.proofs.Gone.{accepted, came_port, goes, gone_port, removal_at}
 
 -- ---- types of FIS

@@ -24,11 +24,12 @@ use Rattle.multiplier.specs.declared.multiplier.Passed.TheVariants as passed
 use Rattle.multiplier.specs.declared.multiplier.PmRefusal.{PmRefusal}
 use Rattle.multiplier.specs.Passing.{Call, FromHost, FromDevice, Came, Gone, NextUp, PutBackUp, NextDown, PutBackDown, Does, DoesAll, Past, Suits, past_after, all_past, but_last, made_by, made_in, of_conn, held_of, came_by, all_gone, highest, ShowsRemovals}
 use Rattle.multiplier.specs.Stamping.{taken_by, taken_of, IsStamped, GoesUpStamped, BeginsStamped}
+use Rattle.multiplier.specs.Between.{Answer, FromPort, Gives, IsStep, Notice}
 use Rattle.multiplier.proofs.Gone.{never_up_to, not_up_to, removal_at}
-use Rattle.multiplier.proofs.GiveLemmas.{Gives, FromPort, Notice, Answer, gives}
+use Rattle.multiplier.proofs.GiveLemmas.{gives}
 use Rattle.multiplier.proofs.UpSteps.{IsUpStep, up_step, no_notice, answer_no_notice}
 use Rattle.multiplier.proofs.PassingLemmas.{last_gone}
-use Rattle.multiplier.proofs.Removals.{IsStep, one_step, step_gone, apart, pass_in_order}
+use Rattle.multiplier.proofs.Removals.{one_step, step_gone, apart, pass_in_order}
 use Rattle.multiplier.proofs.OrderLemmas.{device_prefixes, stamped_starts, stamped_prefixes, stamped_more, within_none, within_rises, within_more, within_less, number_is}
 
 -- ---- what was taken, as it goes up

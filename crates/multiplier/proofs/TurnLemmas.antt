@@ -18,10 +18,11 @@ use Rattle.multiplier.specs.declared.multiplier.Passed.{Passed}
 use Rattle.multiplier.specs.declared.multiplier.Passed.TheVariants as passed
 use Rattle.multiplier.specs.declared.multiplier.PmRefusal.{PmRefusal}
 use Rattle.multiplier.specs.Passing.{Call, FromHost, FromDevice, Came, Gone, NextUp, PutBackUp, NextDown, PutBackDown, Does, Runs, Past, Suits, PassesOver, past_after, all_past, but_last}
+use Rattle.multiplier.specs.Between.{Answer, FromPort, Gives, IsStep, Notice}
 use Rattle.multiplier.proofs.ArbiterLemmas.{WaitsAtMost, waits_some, Nearer, nearer}
-use Rattle.multiplier.proofs.GiveLemmas.{Gives, FromPort, Notice, Answer, gives}
+use Rattle.multiplier.proofs.GiveLemmas.{gives}
 use Rattle.multiplier.proofs.PassingLemmas.{last_gone}
-use Rattle.multiplier.proofs.Removals.{IsStep, one_step}
+use Rattle.multiplier.proofs.Removals.{one_step}
 
 -- so many frames went up; with the turns of others that can pass before the place is served they are within the limit,
 -- and so they are once the last one is put back

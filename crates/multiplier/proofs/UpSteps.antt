@@ -13,10 +13,11 @@ use Rattle.multiplier.specs.Arbiter.{control_port}
 use Rattle.multiplier.specs.State.{PmState, IsSound, ShowsRecorded, port_at, held, rising, control_stamp, counted, is_answer, is_notice}
 use Rattle.multiplier.specs.Rules.{KeepsPorts, held_source, may_go_back}
 use Rattle.multiplier.specs.Passing.{of_conn, held_of, falls_to, answers}
+use Rattle.multiplier.specs.Between.{Answer, FromPort, Gives, Notice, Ports, at, lowered}
 use Rattle.multiplier.proofs.ArbiterLemmas.{different}
-use Rattle.multiplier.proofs.Ports.{Ports, at, kept_part, this_port, other_port, has_up}
+use Rattle.multiplier.proofs.Ports.{kept_part, this_port, other_port, has_up}
 use Rattle.multiplier.proofs.Sound.{notice_is, notice_is_no_answer, stamp_shows}
-use Rattle.multiplier.proofs.GiveLemmas.{Gives, FromPort, Notice, Answer, given_keeps, lowered, place_small}
+use Rattle.multiplier.proofs.GiveLemmas.{given_keeps, place_small}
 use Rattle.multiplier.proofs.PutBack.{gives_held}
 
 pub record IsUpStep (old : PmState) (frame : Stamped) (new : PmState) : Type 0 where

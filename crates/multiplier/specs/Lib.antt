@@ -4,3 +4,4 @@ pub mod Rules
 pub mod Passing
 pub mod Orders
 pub mod Stamping
+pub mod Between

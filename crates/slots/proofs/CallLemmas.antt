@@ -15,9 +15,10 @@ use Rattle.slots.specs.Setup.{after_setup_pio, begun, came, is_outstanding, new_
 use Rattle.slots.specs.declared.answer.Answered.{Answered}
 use Rattle.slots.specs.declared.answer.SetupError.{SetupError}
 use Rattle.slots.specs.Table.{IsIssue, IsContextOf, IsFresh, IsTable, waits_for}
+use Rattle.slots.specs.Between.{Owns}
 use Rattle.slots.proofs.StretchLemmas.{few_first}
 use Rattle.slots.proofs.MaskLemmas.{none_below}
-use Rattle.slots.proofs.TableLemmas.{Keeps, context_some, Owns, own_at, owned_own, owned_same, owns_where, table_changed, table_with_issue, with_issue}
+use Rattle.slots.proofs.TableLemmas.{Keeps, context_some, own_at, owned_own, owned_same, owns_where, table_changed, table_with_issue, with_issue}
 
 -- what is issued in a slot, if it is the device's and a test holds for it
 pub record Found (test : Issue → Bool) (dev s : ℕ) (t : Slots) : Type 0 where

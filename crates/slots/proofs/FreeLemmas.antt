@@ -7,8 +7,9 @@ use Rattle.slots.specs.declared.table.Context.{Context}
 use Rattle.slots.specs.Commands.{is_slot}
 use Rattle.slots.specs.Slots.{Issue, Slots, issue_at, context_of, owned_by, slots_of, KeepsFree, LeavesOthers, holds, is_waiting, issues_unless, context_unless, freed}
 use Rattle.slots.specs.Table.{IsIssue, IsContextOf, IsContext, IsTable, waits_for}
+use Rattle.slots.specs.Between.{Owns}
 use Rattle.slots.proofs.MaskLemmas.{length-unless, get-unless}
-use Rattle.slots.proofs.TableLemmas.{Owns, owned_none}
+use Rattle.slots.proofs.TableLemmas.{owned_none}
 
 -- the table with these slots free; the device's context ends if its slot is one of them
 abbrev pub freed_table : ℕ → (ℕ → Bool) → Slots → Slots

@@ -12,6 +12,7 @@ use Rattle.std.specs.Option.{is_some, option_map}
 use Rattle.slots.specs.Commands.{is_any}
 use Rattle.slots.specs.Issued.{issued_of}
 use Rattle.slots.specs.Slots.{Issue, has_bit, holds, issues_unless, lowest_below, mask_below, owned_by, own_of, own_issue}
+use Rattle.slots.specs.Between.{IsLowest, MaskBelow}
 use Rattle.slots.proofs.ByteLemmas.{range_more}
 
 -- ---- the lowest
@@ -35,11 +36,6 @@ lowest_none test n none =
     let is : position_or_len test xs ≡ n = position_or_len_is test xs n 0 (omega (arith, lr)) (λ k below. ap test (at k below) ∙ none k below) (λ h. absurd (omega (arith, lr))) in
     let past : nat_lt n (length xs) ≡ false = le-ltb n (length xs) (omega (arith, lr)) in
     ap (λ (i : ℕ). cond (nat_lt i (length xs)) (Some i) None) is ∙ ap (λ (b : Bool). cond b (Some n) None) past
-
--- what is known of the lowest
-pub record IsLowest (test : ℕ → Bool) (n s : ℕ) : Type 0 where
-  pub below : s < n
-  pub passes : test s ≡ true
 
 pub lowest_is : (test : ℕ → Bool) (n s : ℕ) → lowest_below test n ≡ Some s → IsLowest test n s
 unfolding lowest_below
@@ -116,11 +112,6 @@ pub mask_same : (test : ℕ → Bool) (n bits : ℕ) → bits ≡ mask_below tes
 mask_same test n bits is fails =
     let next : mask_below test (n + 1) ≡ mask_below test n + 0 = mask_step test n false fails in
     is ∙ omega arith ∙ sym next
-
--- the bits of the number are those of the set
-pub record MaskBelow (test : ℕ → Bool) (mask i : ℕ) : Type 0 where
-  pub below : (s : ℕ) → s < i → has_bit mask s ≡ test s
-  pub above : (s : ℕ) → i ≤ s → has_bit mask s ≡ false
 
 bits_none : (test : ℕ → Bool) → MaskBelow test 0 0
 bits_none test = record { below = λ s h. absurd (omega arith); above = λ s h. ap (λ b. nat_eq b 1) (bit_at-zero s) }

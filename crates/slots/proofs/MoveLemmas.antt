@@ -11,9 +11,10 @@ use Rattle.slots.specs.Setup.{is_outstanding}
 use Rattle.slots.specs.Slots.{Issue, Slots, DeviceSlots, issue_at, context_of, owned_by, slots_of, holds, is_queued_issue, is_under_way, is_waiting}
 use Rattle.slots.specs.Table.{IsIssue, IsContextOf, IsTable, waits_for}
 use Rattle.slots.specs.Work.{needs_all}
+use Rattle.slots.specs.Between.{Owns}
 use Rattle.slots.proofs.ByteLemmas.{length_with_bytes}
 use Rattle.slots.proofs.StretchLemmas.{few_then, fresh_then, room_then, with_none}
-use Rattle.slots.proofs.TableLemmas.{Owns, context_in, context_some, own_changed, own_with_context, owned_own, owns_where, table_with_context, table_with_issue, with_context, with_issue}
+use Rattle.slots.proofs.TableLemmas.{context_in, context_some, own_changed, own_with_context, owned_own, owns_where, table_with_context, table_with_issue, with_context, with_issue}
 
 -- what is issued in the slot of a context
 pub record InContext (dev : ℕ) (c : Context) (t : Slots) : Type 0 where

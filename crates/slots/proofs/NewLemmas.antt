@@ -5,9 +5,7 @@ use Rattle.std.proofs.lemmas.List.{get_or_past, get_or-replicate, length-replica
 use Rattle.slots.specs.declared.table.Context.{Context}
 use Rattle.slots.specs.Slots.{Issue, holds, is_waiting, owned_by}
 use Rattle.slots.specs.Table.{IsTable}
-
-abbrev pub no_issue : Option Issue
-no_issue = None
+use Rattle.slots.specs.Between.{no_issue}
 
 abbrev pub no_context : Option Context
 no_context = None

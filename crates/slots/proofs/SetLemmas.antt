@@ -7,8 +7,9 @@ use Rattle.slots.specs.declared.table.Context.{Context}
 use Rattle.slots.specs.Commands.{is_done, is_any}
 use Rattle.slots.specs.Slots.{Issue, Slots, issue_at, context_of, owned_by, own_issue, own_of, slots_of, has_bit, holds, is_queued_issue, is_whole_issue, issues_unless, context_unless, freed, mask_below, no_own_slots}
 use Rattle.slots.specs.Table.{IsContextOf, IsContext, IsTable}
+use Rattle.slots.specs.Between.{Owns}
 use Rattle.slots.proofs.MaskLemmas.{has_bit_mask, length-unless, get-unless}
-use Rattle.slots.proofs.TableLemmas.{Owns, own_at, owned_own, owns_where}
+use Rattle.slots.proofs.TableLemmas.{own_at, owned_own, owns_where}
 use Rattle.slots.proofs.FreeLemmas.{AreOwn, no_issue}
 
 -- the bits of the number of a set

@@ -7,6 +7,7 @@ use Rattle.std.proofs.lemmas.List.{map-set, set-get_or, get_or_past, get_or_defa
 use Rattle.slots.specs.declared.table.Context.{Context}
 use Rattle.slots.specs.Slots.{Issue, Slots, issue_at, context_of, owned_by, own_issue, slots_of, LeavesOthers, holds, is_waiting, with_own_issue}
 use Rattle.slots.specs.Table.{IsIssue, IsContextOf, IsContext, IsTable, waits_for}
+use Rattle.slots.specs.Between.{Owns}
 
 abbrev pub with_issue : Slots → ℕ → Option Issue → Slots
 with_issue t s o = record t { issues = set t.issues s o }
@@ -21,10 +22,6 @@ owned_other dev other issue is ne = cond-false (nat_eq issue.dev other) (Some is
 
 pub owned_own : (dev : ℕ) (issue : Issue) → issue.dev ≡ dev → owned_by dev (Some issue) ≡ Some issue
 owned_own dev issue is = cond-true (nat_eq issue.dev dev) (Some issue) None (eq-eqb issue.dev dev is)
-
--- what is issued is the device's
-abbrev pub Owns : ℕ → Option Issue → Type 0
-Owns dev o = MatchOption o ⊥ (λ issue. issue.dev ≡ dev)
 
 owns_by : (dev : ℕ) (issue : Issue) (b : Bool) → nat_eq issue.dev dev ≡ b → is_some (cond b (Some issue) None) ≡ true → issue.dev ≡ dev
 owns_by dev issue true e h = eqb-true issue.dev dev e

@@ -8,3 +8,4 @@ pub mod Slots
 pub mod Stretches
 pub mod Table
 pub mod Work
+pub mod Between

@@ -8,7 +8,8 @@ use Rattle.fis_view.specs.declared.build.D2hFields.{D2hFields}
 use Rattle.fis_view.specs.declared.build.DmaSetupFields.{DmaSetupFields}
 use Rattle.fis_view.specs.declared.build.H2dFields.{H2dFields}
 use Rattle.fis_view.specs.declared.build.SetBitsFields.{SetBitsFields}
-use Rattle.fis_view.proofs.Door.{are_bytes, AreBytes, flag_fits, IsHead}
+use Rattle.fis_view.specs.Between.{activate_list, AreBytes, bits_list, d2h_list, h2d_list, IsHead, setup_list}
+use Rattle.fis_view.proofs.Door.{are_bytes, flag_fits}
 use Rattle.fis_view.proofs.Door as door
 use Rattle.disk_model.specs.Disks.{DiskValue, Moment, Turn, after, after_turn, heard, moment_after, opening as opening_moment, queues, received, turn, with_now}
 use Rattle.disk_model.specs.Histories.{Happening, Received}
@@ -71,14 +72,14 @@ setup_built v =
     let is : IsHead head v.pm_port (from_bool v.d) (from_bool v.i) (from_bool v.a) =
     record { is = refl; five_bit = flag_fits v.d; six_bit = flag_fits v.i; seven_bit = flag_fits v.a } in
     let small : head < 256 = omega (arith, is.five_bit, is.six_bit, is.seven_bit) in
-    let are : AreBytes (door.setup_list v head) = search (rules, small) in
-    door.setup_built v head (are_bytes (door.setup_list v head) are) is
+    let are : AreBytes (setup_list v head) = search (rules, small) in
+    door.setup_built v head (are_bytes (setup_list v head) are) is
 
 activate_built : Shows Activates (0x39 ∷ 0 ∷ 0 ∷ 0 ∷ [])
 activate_built =
     let is : IsHead 0 0 0 0 0 = record { is = refl; five_bit = omega arith; six_bit = omega arith; seven_bit = omega arith } in
-    let are : AreBytes (door.activate_list (record { pm_port = 0 }) 0) = search rules in
-    door.activate_built (record { pm_port = 0 }) 0 (are_bytes (door.activate_list (record { pm_port = 0 }) 0) are) is
+    let are : AreBytes (activate_list (record { pm_port = 0 }) 0) = search rules in
+    door.activate_built (record { pm_port = 0 }) 0 (are_bytes (activate_list (record { pm_port = 0 }) 0) are) is
 
 bits_same : (v : SetBitsFields) (name : Name)
     → cut (places Bits name) (set_bits_given (record v { error = v.error % 256 }) name) ≡ cut (places Bits name) (set_bits_given v name)
@@ -93,16 +94,16 @@ bits_built v =
     let is : IsHead head v.pm_port 0 (from_bool v.i) (from_bool v.n) =
     record { is = refl; five_bit = omega arith; six_bit = flag_fits v.i; seven_bit = flag_fits v.n } in
     let small : head < 256 = omega (arith, is.six_bit, is.seven_bit) in
-    let are : AreBytes (door.bits_list w head) = search (rules, small) in
-    let built : IsBuilt Bits (set_bits_given w) (door.bits_list w head) = door.bits_built w head (are_bytes (door.bits_list w head) are) is in
+    let are : AreBytes (bits_list w head) = search (rules, small) in
+    let built : IsBuilt Bits (set_bits_given w) (bits_list w head) = door.bits_built w head (are_bytes (bits_list w head) are) is in
     record { viewed = built.viewed; fields = λ name. built.fields name ∙ bits_same v name; others = built.others }
 
 accepted_built : Shows (register false 0x50 0 0) accepted_bytes
 accepted_built =
     let v : D2hFields = record { pm_port = 0; i = false; status = 0x50; error = 0; lba = 0; device = 0; count = 0 } in
     let is : IsHead 0 0 0 (from_bool false) 0 = record { is = refl; five_bit = omega arith; six_bit = flag_fits false; seven_bit = omega arith } in
-    let are : AreBytes (door.d2h_list v 0) = search rules in
-    door.d2h_built v 0 (are_bytes (door.d2h_list v 0) are) is
+    let are : AreBytes (d2h_list v 0) = search rules in
+    door.d2h_built v 0 (are_bytes (d2h_list v 0) are) is
 
 -- ## The queued command
 
@@ -134,8 +135,8 @@ queued_built c =
     let v = queued_fields c in
     let is : IsHead 0x80 0 0 0 (from_bool true) = record { is = refl; five_bit = omega arith; six_bit = omega arith; seven_bit = flag_fits true } in
     let code = code_is_byte c.write in
-    let are : AreBytes (door.h2d_list v 0x80) = search (rules, code) in
-    door.h2d_built v 0x80 (are_bytes (door.h2d_list v 0x80) are) is
+    let are : AreBytes (h2d_list v 0x80) = search (rules, code) in
+    door.h2d_built v 0x80 (are_bytes (h2d_list v 0x80) are) is
 
 -- ## What is sent to nobody
 

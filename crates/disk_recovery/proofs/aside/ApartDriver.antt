@@ -42,8 +42,9 @@ use Rattle.hba_driver.specs.Steady.{IsCalmTick, IsClearTick, IsFine, IsFlushTick
 use Rattle.hba_driver.specs.Tended.{Awaits, Fine, Identifies, IsLiveAt, IsTended, IsTendedBy, Logs, Releases, Spoilt, TendsOn}
 use Rattle.hba_driver.specs.Ticks.{acted, after_tick, cleared_plan, done_ended, due, effects_due, from_reset, plan_after, recovering, seen, turn}
 use Rattle.hba_driver.specs.Turns.{control_news, control_seen, control_turn, early_due, fault_due, opening_due, plain_turn, restart_due, turn_of}
+use Rattle.hba_driver.specs.Between.{MayClear, MayEnd}
 use Rattle.hba_driver.proofs.Door.{calm_or_flush, cleared_faulty, clearing_own_view, clearing_view, faulty_shown}
-use Rattle.hba_driver.proofs.Door.{may_end, MayClear, MayEnd, pushes_on, set_other, sight_is, skipped_as, stays_on}
+use Rattle.hba_driver.proofs.Door.{may_end, pushes_on, set_other, sight_is, skipped_as, stays_on}
 use Rattle.hba_driver.proofs.Door.{stays_unsought, takes_lead, tick_acts, ticks_lead, turn_tended}
 use Rattle.disk_recovery.proofs.honest.FisLemmas.{fields_read, request_by}
 use Rattle.disk_recovery.proofs.honest.PushLemmas.{frame_by}

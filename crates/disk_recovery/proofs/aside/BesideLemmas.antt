@@ -12,7 +12,8 @@ use Rattle.hba_laws.specs.Delivering.{issued_below, touched, touches_after}
 use Rattle.hba_laws.specs.History.{History, is_at, unless, waiting_in}
 use Rattle.hba_laws.specs.Hosts as event
 use Rattle.hba_laws.specs.Hosts.{HostEvent, Runs}
-use Rattle.hba_laws.proofs.Door.{history_below, own_app, own_below_is, with_issued}
+use Rattle.hba_laws.specs.Between.{history_below, with_issued}
+use Rattle.hba_laws.proofs.Door.{own_app, own_below_is}
 use Rattle.disk_simulation.specs.Elsewhere.{IsElsewhere, LeavesDevice}
 use Rattle.disk_simulation.specs.Files.{IsFineFile}
 use Rattle.disk_simulation.proofs.Door.{files_are_left, others_leave_device}
@@ -25,10 +26,12 @@ use Rattle.hba_driver.specs.Served.{AreBounded}
 use Rattle.hba_driver.specs.Sights.{file_shown}
 use Rattle.hba_driver.specs.Steady.{IsCalmTick, IsFine, IsSteadyPlan, IsSteadyTurn, Issues, slot_in}
 use Rattle.hba_driver.specs.Ticks.{after_tick, done_ended, seen, turn}
-use Rattle.hba_driver.proofs.Door.{act_keeps, acted_plan, keeps_then, of_turn, PlanKeeps, poll_plan, signed_by, Signs}
+use Rattle.hba_driver.specs.Between.{PlanKeeps, Signs}
+use Rattle.hba_driver.proofs.Door.{act_keeps, acted_plan, keeps_then, of_turn, poll_plan, signed_by}
 use Rattle.hba_driver.proofs.Door.{tick_beside, turn_keeps}
 use Rattle.disk_recovery.specs.Kept.{IsCalmTurn}
-use Rattle.disk_recovery.proofs.honest.AwayLemmas.{AreAway, beside_away}
+use Rattle.disk_recovery.specs.Between.{AreAway}
+use Rattle.disk_recovery.proofs.honest.AwayLemmas.{beside_away}
 
 -- ---- the plan
 

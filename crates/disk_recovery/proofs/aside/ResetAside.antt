@@ -21,8 +21,9 @@ use Rattle.hba_driver.specs.Slot30.{IsAt30, IsOn30, Sets}
 use Rattle.hba_driver.specs.Steady.{IsCalmAct}
 use Rattle.hba_driver.specs.Tended.{Awaits, Fine, Identifies, IsAtStage, IsReleasing, IsResetTurn, IsTendedBy, Logs, Releases, Spoilt, TendsOn}
 use Rattle.hba_driver.specs.Ticks.{done_ended, due, effects_due, seen}
-use Rattle.hba_driver.proofs.Door.{at_stage, beside, Due, due_seen, each_reset_is_driven, free_slot, Issues30, IsUp}
-use Rattle.hba_driver.proofs.Door.{MayStep, not_below, not_busy, Runs, runs_turn, seen_served, sound_beside, stage_is}
+use Rattle.hba_driver.specs.Between.{Due, IsUp, Issues30, MayStep, Runs, beside}
+use Rattle.hba_driver.proofs.Door.{at_stage, due_seen, each_reset_is_driven, free_slot}
+use Rattle.hba_driver.proofs.Door.{not_below, not_busy, runs_turn, seen_served, sound_beside, stage_is}
 use Rattle.hba_driver.proofs.Door.{step30, tick_acts, tick_is, turn_tended, unworked, up_of}
 use Rattle.disk_recovery.specs.Together.{IsServedOn, ResetsAt}
 use Rattle.disk_recovery.proofs.together.TogetherParts.{calm_turns_go_on}

@@ -32,7 +32,8 @@ use Rattle.hba_driver.specs.Slot30.{IsOn30, Sets}
 use Rattle.hba_driver.specs.Steady.{IsFine, IsSteadyPlan, IsSteadyTurn}
 use Rattle.hba_driver.specs.Tended.{Awaits, Fine, Identifies, IsAskedOn, IsAsking, IsAtStage, IsReleasing, IsResetTurn, IsTendedBy}
 use Rattle.hba_driver.specs.Tended.{Logs, Releases, Spoilt, TendsOn}
-use Rattle.hba_driver.proofs.Door.{at_stage, From, issued_live, recovering_ready, stage_is, turn_tended, turns_serve}
+use Rattle.hba_driver.specs.Between.{From}
+use Rattle.hba_driver.proofs.Door.{at_stage, issued_live, recovering_ready, stage_is, turn_tended, turns_serve}
 use Rattle.hba_driver.proofs.Door.{unworked}
 use Rattle.disk_recovery.specs.Kept.{IsCalmTurn, given_to}
 use Rattle.disk_recovery.specs.Steady.{HasSigned}

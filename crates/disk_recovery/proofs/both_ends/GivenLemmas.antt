@@ -8,7 +8,8 @@ use Rattle.hba_fbs.specs.Tables.{prds_of}
 use Rattle.disk_model.specs.Histories.{Received}
 use Rattle.hba_laws.specs.Client.{Touches}
 use Rattle.hba_laws.specs.Sound.{IsHost}
-use Rattle.hba_laws.proofs.Door.{goes_out, GoesOut}
+use Rattle.hba_laws.specs.Between.{GoesOut}
+use Rattle.hba_laws.proofs.Door.{goes_out}
 use Rattle.hba_driver.specs.Events.{IsSoundHost, shared_by}
 use Rattle.hba_driver.specs.HostTurns.{Does, Host, Pushed}
 use Rattle.hba_driver.specs.Served.{IsServed}

@@ -35,12 +35,10 @@ use Rattle.hba_driver.specs.HostTurns.{Does, DoesAll, Host, HostTurn, Polled, Pu
 use Rattle.hba_driver.specs.Sights.{file_shown}
 use Rattle.hba_driver.specs.Steady.{IsCalmTick, IsClearTick, IsFlushTick}
 use Rattle.hba_driver.specs.Ticks.{effects_due}
-use Rattle.hba_driver.proofs.Door.{calm_or_flush, each_run_tells, may_end, MayClear, MayEnd, poll_plan, spares_as}
+use Rattle.hba_driver.specs.Between.{MayClear, MayEnd}
+use Rattle.disk_recovery.specs.Between.{AreUnfaulted, IsUnfaulted}
+use Rattle.hba_driver.proofs.Door.{calm_or_flush, each_run_tells, may_end, poll_plan, spares_as}
 use Rattle.hba_driver.proofs.Door.{tick_is, turns_are_events}
-
--- no fault of the device stands
-abbrev pub IsUnfaulted : ℕ → Port → Type 0
-IsUnfaulted n port = (view_of n port).fault ≡ None
 
 same_port : (n : ℕ) (old new : Port) → new ≡ old → IsUnfaulted n old → IsUnfaulted n new
 same_port n old new same is = subst (IsUnfaulted n) (sym same) is
@@ -102,11 +100,6 @@ written_unfaulted n Fbs old memory value is = stopped_unfaulted (is_device n (cl
 written_unfaulted n register old memory value is = is
 
 -- ---- events
-
--- what is taken of the device is heard with no fault
-abbrev pub AreUnfaulted : ℕ → List (List ℕ × TakeReport) → Type 0
-AreUnfaulted n [] = Unit {0}
-AreUnfaulted n (t ∷ taken) = (port_of t.0 ≡ n → t.1.fault ≡ None) × AreUnfaulted n taken
 
 events_unfaulted : (n : ℕ) → n < 16 → (old : event.Host) (events : List HostEvent) (new : event.Host) → Runs old events new
     → AreUnfaulted n (flat_map took events) → IsUnfaulted n old.port → IsUnfaulted n new.port

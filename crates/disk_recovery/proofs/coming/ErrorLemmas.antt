@@ -32,8 +32,9 @@ use Rattle.disk_model.specs.Laws.{AnswersFirst, ErrsRight, FailsNext, IsRegister
 use Rattle.disk_model.specs.Ledger.{IsSize, Ledger, Moving, Reply, Signs, ledger, listens, listens_down}
 use Rattle.disk_model.specs.Requests.{request_of}
 use Rattle.disk_model.specs.Runs.{IsDiskRun}
-use Rattle.disk_model.proofs.Door.{alone, AreApart, AreFit, asks_fits, errs_right, never_empty, run_before}
-use Rattle.disk_model.proofs.Door.{sent_right, tie_comes, tie_gives, tie_sends, tie_takes, Ties}
+use Rattle.disk_model.specs.Between.{AreApart, AreFit, Ties, alone}
+use Rattle.disk_model.proofs.Door.{asks_fits, errs_right, never_empty, run_before}
+use Rattle.disk_model.proofs.Door.{sent_right, tie_comes, tie_gives, tie_sends, tie_takes}
 use Rattle.hba_laws.specs.Client.{Touches, own}
 use Rattle.disk_simulation.proofs.Door.{careful_before, hosted_on_is_kept, marks_ask_nothing, next_anew, next_of_disk}
 use Rattle.disk_simulation.proofs.Door.{next_or_fails, run_to, same_first, since_of, watches_on}

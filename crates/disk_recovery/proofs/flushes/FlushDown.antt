@@ -9,7 +9,8 @@ use Rattle.disk_model.specs.Ends.{Rests, reports, with_down}
 use Rattle.disk_model.specs.Histories.{Happening, Sent}
 use Rattle.disk_model.specs.Ledger.{IsSize, Ledger, ledger, listens}
 use Rattle.disk_model.specs.Runs.{IsDiskRun}
-use Rattle.disk_model.proofs.Door.{AreFit, errs_right, Ties}
+use Rattle.disk_model.specs.Between.{AreFit, Ties}
+use Rattle.disk_model.proofs.Door.{errs_right}
 use Rattle.disk_simulation.specs.Watched.{Erred, Fine, IsWatchedTo}
 use Rattle.disk_simulation.proofs.Door.{run_to, same_first}
 use Rattle.disk_recovery.specs.Flushes.{flushes_among}

@@ -19,7 +19,8 @@ use Rattle.disk_model.specs.Histories.{Happening, Plugged, Received, Sent}
 use Rattle.disk_model.specs.Laws.{ActivatesRight, AnswersFirst, SetsUpRight, ShowsFirst, StartsOne}
 use Rattle.disk_model.specs.Ledger.{Accepts, Finishes, Ledger, Moving, Names, Refuses, Reply, ShowsPage, answered, ends, goes_on, listens, listens_down, listens_up, moves, takes_data}
 use Rattle.disk_model.specs.Requests.{request_of}
-use Rattle.disk_model.proofs.Door.{alone, AreFit, asks_fits, never_empty}
+use Rattle.disk_model.specs.Between.{AreFit, alone}
+use Rattle.disk_model.proofs.Door.{asks_fits, never_empty}
 use Rattle.hba_laws.specs.History.{History, Transfer, is_at, issued, waiting_in}
 use Rattle.hba_laws.proofs.Door.{some_inj}
 use Rattle.disk_simulation.specs.Together.{InTalk, IsWaited, Pages, Queues, Replies, Shows}

@@ -40,7 +40,8 @@ use Rattle.hba_laws.specs.History.{Event, History, Issued, Sent, SentControl, Se
 use Rattle.hba_laws.specs.Hosts as event
 use Rattle.hba_laws.specs.Hosts.{HostEvent, Runs}
 use Rattle.hba_laws.specs.Sound.{IsHost}
-use Rattle.hba_laws.proofs.Door.{goes_out, GoesOut, issued_before, NotIssue, some_inj}
+use Rattle.hba_laws.specs.Between.{GoesOut, NotIssue}
+use Rattle.hba_laws.proofs.Door.{goes_out, issued_before, some_inj}
 use Rattle.disk_simulation.specs.Line.{IsAskedAlike}
 use Rattle.disk_simulation.specs.Together.{is_sent}
 use Rattle.disk_simulation.proofs.Door.{marks_ask_nothing}
@@ -52,7 +53,8 @@ use Rattle.hba_driver.specs.Orders.{request_fields}
 use Rattle.hba_driver.specs.declared.request.Work as driver_work
 use Rattle.hba_driver.specs.declared.request.Work.TheVariants as work
 use Rattle.hba_driver.specs.Served.{IsBuiltOf, IsServed, RunServes}
-use Rattle.hba_driver.proofs.Door.{each_run_tells, From, sound_shared}
+use Rattle.hba_driver.specs.Between.{From}
+use Rattle.hba_driver.proofs.Door.{each_run_tells, sound_shared}
 use Rattle.disk_recovery.proofs.honest.FisLemmas.{flush_is, request_kind}
 use Rattle.disk_recovery.proofs.honest.PushLemmas.{HasLast, OutTold, out_last, out_told, short_frame}
 use Rattle.disk_recovery.proofs.honest.TurnLemmas.{after}

@@ -12,15 +12,16 @@ use Rattle.hba_fbs.specs.Issuing.{aimed, asked}
 use Rattle.disk_model.specs.Ledger.{Ledger}
 use Rattle.hba_laws.specs.Client.{Touches, own}
 use Rattle.hba_laws.specs.Delivering.{touched, touches_after}
-use Rattle.hba_laws.specs.History.{History, Transfer, issued}
+use Rattle.hba_laws.specs.History.{History, issued}
 use Rattle.hba_laws.specs.Hosts.{Does, Flushed, Gave, Host, HostEvent, Runs, Took, Wrote}
 use Rattle.hba_laws.proofs.Door.{own_app}
-use Rattle.disk_simulation.specs.Calm.{AreCalm, IsCalm}
+use Rattle.disk_simulation.specs.Calm.{IsCalm}
 use Rattle.disk_simulation.specs.Elsewhere.{IsElsewhere, LeavesDevice, WritesElsewhere}
 use Rattle.disk_simulation.specs.Together.{with_command}
 use Rattle.disk_simulation.proofs.Door.{others_leave_device}
 use Rattle.disk_simulation.specs.Same.{SlotCommand}
 use Rattle.hba_driver.specs.Steady.{AreBeside, IsBeside, Issues, WritesBeside}
+use Rattle.disk_recovery.specs.Between.{AreAway, CalmEnds, IsNewOrOld}
 use Rattle.hba_driver.proofs.Door.{bit_other, issued_cases}
 
 -- ---- events that are none of the disk's
@@ -38,26 +39,11 @@ away_of n h (Flushed dev) is = is
 away_of n h (Gave frame) is = absurd is
 away_of n h other is = tt
 
--- each of these events is none of the disk's, or issues for it
-abbrev pub AreAway : (n slot : ℕ) → (old new : Host) → (events : List HostEvent) → Runs old events new → Type 0
-AreAway n slot old new [] run = Unit {0}
-AreAway n slot old new (e ∷ events) run = (IsElsewhere n old e ⊎ Issues n slot old e) × AreAway n slot run.0 new events run.2
-
 pub beside_away : (n slot : ℕ) (old new : Host) (events : List HostEvent) (run : Runs old events new) → AreBeside n slot old new events run → AreAway n slot old new events run
 beside_away n slot old new [] run h = tt
 beside_away n slot old new (e ∷ events) run h = (elim h.0 [ inl is ↦ inl (away_of n old e is) | inr is ↦ inr is ], beside_away n slot run.0 new events run.2 h.1)
 
 -- ---- what they leave
-
--- what is issued is new in the slot, with its command, or was issued before
-abbrev pub IsNewOrOld : (slot : ℕ) → SlotCommand → (commands next : ℕ → SlotCommand) → (before after : History) → Type 0
-IsNewOrOld slot c commands next before after =
-    (s : ℕ) (t : Transfer) → issued s after ≡ Some t → ((s ≡ slot) × (next s ≡ c)) ⊎ ((issued s before ≡ Some t) × (next s ≡ commands s))
-
-pub record CalmEnds (n slot : ℕ) (k : Ledger) (c : SlotCommand) (commands : ℕ → SlotCommand) (old new : Host) (events : List HostEvent) (run : Runs old events new) (past : Touches) : Type 0 where
-  pub next : ℕ → SlotCommand
-  pub calm : AreCalm n k commands old new events run next
-  pub fresh : IsNewOrOld slot c commands next (own n past) (own n (touches_after past old new events run))
 
 command_same : (commands : ℕ → SlotCommand) (slot : ℕ) (c : SlotCommand) → with_command commands slot c slot ≡ c
 command_same commands slot c = ap (λ (b : Bool). if b then c else commands slot) (equal slot)

@@ -38,7 +38,8 @@ use Rattle.hba_laws.specs.History as told_as
 use Rattle.hba_laws.specs.History.{Event, History, Transfer, issued}
 use Rattle.hba_laws.specs.Hosts as event
 use Rattle.hba_laws.specs.Sound.{IsHost}
-use Rattle.hba_laws.proofs.Door.{goes_out, GoesOut, HasContext, is_own, IsOwn, out_none, own_app, own_here, own_one}
+use Rattle.hba_laws.specs.Between.{GoesOut, HasContext, IsOwn}
+use Rattle.hba_laws.proofs.Door.{goes_out, is_own, out_none, own_app, own_here, own_one}
 use Rattle.hba_laws.proofs.Door.{some_inj, was_there}
 use Rattle.disk_simulation.specs.Answers.{IsAlone}
 use Rattle.disk_simulation.specs.Elsewhere.{IsForOther, LeavesDevice}
@@ -55,7 +56,8 @@ use Rattle.hba_driver.specs.HostTurns.{Does, Host, Pushed}
 use Rattle.hba_driver.specs.Orders as orders
 use Rattle.hba_driver.specs.Served.{IsBuiltOf, IsFisOf, IsServed, RunServes}
 use Rattle.hba_driver.specs.Steady.{IsAskedOf, IsOpenAt}
-use Rattle.hba_driver.proofs.Door.{From, issued_unended, rows_stay, sound_shared, sound_turn, steady_fields}
+use Rattle.hba_driver.specs.Between.{From}
+use Rattle.hba_driver.proofs.Door.{issued_unended, rows_stay, sound_shared, sound_turn, steady_fields}
 use Rattle.hba_driver.proofs.Door.{steps_alone, told_of, turn_steady, turns_serve}
 use Rattle.disk_recovery.specs.Kept.{IsServedHonestly, PushesGoOn, PushesKeep, given_to}
 use Rattle.disk_recovery.specs.Steady.{HasSigned}

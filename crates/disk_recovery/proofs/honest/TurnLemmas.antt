@@ -26,13 +26,15 @@ use Rattle.hba_driver.specs.Sights.{file_shown}
 use Rattle.hba_driver.specs.Steady.{HasSignature, IsAskedOf, IsSteady, slot_in}
 use Rattle.hba_driver.specs.Submits.{new_entry, next_slot}
 use Rattle.hba_driver.specs.Ticks.{after_tick}
-use Rattle.hba_driver.proofs.Door.{back_of, DriverKeeps, flush_row, flush_steady, free_other, freed, From}
+use Rattle.hba_driver.specs.Between.{DriverKeeps, From, PollFacts, Signs}
+use Rattle.hba_driver.proofs.Door.{back_of, flush_row, flush_steady, free_other, freed}
 use Rattle.hba_driver.proofs.Door.{hosts_stay_sound, in_slots, issued_unended, keeps_tick, opens_row, opens_steady}
-use Rattle.hba_driver.proofs.Door.{poll_facts, PollFacts, rows_stay, set_cases, Signs, sound_turn, tick_beside}
+use Rattle.hba_driver.proofs.Door.{poll_facts, rows_stay, set_cases, sound_turn, tick_beside}
 use Rattle.hba_driver.proofs.Door.{turn_steady, turns_serve}
 use Rattle.disk_recovery.specs.Kept.{CalmTurnsKeep, FlushOpens, IsCalmTurn, IsServedHonestly, OpensHonestly, ServesOn}
 use Rattle.disk_recovery.specs.Steady.{AreNamed, IsAskedSigned, IsRowSigned, command_of}
-use Rattle.disk_recovery.proofs.honest.AwayLemmas.{AreAway, CalmEnds, IsNewOrOld, beside_away, calm_ends}
+use Rattle.disk_recovery.specs.Between.{AreAway, CalmEnds, IsNewOrOld}
+use Rattle.disk_recovery.proofs.honest.AwayLemmas.{beside_away, calm_ends}
 
 -- ---- one turn
 

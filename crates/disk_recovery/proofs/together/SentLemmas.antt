@@ -2,7 +2,7 @@
 use Rattle.std.proofs.Common.{◌≡◌, ℕ, Bool, true, false, cond, eqb, [], ◌∷◌, ◌++◌, refl}
 use Rattle.hba_laws.specs.Client.{By, Puts, Stops, Touches, own}
 use Rattle.hba_laws.specs.History.{Event, History, Issued, Sent}
-use Rattle.hba_laws.proofs.Door.{NoneIssues, NotIssue}
+use Rattle.hba_laws.specs.Between.{NoneIssues, NotIssue}
 use Rattle.disk_simulation.specs.Together.{is_sent}
 
 sent_test : (s : ℕ) (past : History) (b : Bool) → is_sent s past ≡ true → cond b true (is_sent s past) ≡ true

@@ -15,8 +15,9 @@ use Rattle.hba_laws.specs.Delivering.{touches_after}
 use Rattle.hba_laws.specs.History.{Transfer, issued}
 use Rattle.disk_simulation.specs.Anew.{IsAwaited}
 use Rattle.disk_simulation.specs.Anew as anew
-use Rattle.disk_simulation.proofs.Door.{hosted_since_new, IsThere, no_context, opens_after, opens_signing, there_by}
+use Rattle.disk_simulation.proofs.Door.{hosted_since_new, no_context, opens_after, opens_signing, there_by}
 use Rattle.disk_simulation.specs.Same.{SlotCommand}
+use Rattle.disk_simulation.specs.Between.{IsThere}
 use Rattle.hba_driver.specs.declared.path.Path.{Path}
 use Rattle.hba_driver.specs.declared.path.Recovery.{Recovery}
 use Rattle.hba_driver.specs.declared.path.Recovery.TheVariants.{Log, Reset}
@@ -31,7 +32,8 @@ use Rattle.hba_driver.specs.HostTurns.{Does, Host, Ticked}
 use Rattle.hba_driver.specs.Served.{IsServed, RunServes}
 use Rattle.hba_driver.specs.Steady.{IsAskedOf, IsFine, IsSteady, IsSteadyPlan}
 use Rattle.hba_driver.specs.Tended.{Awaits, Fine, Identifies, IsAskedOn, IsAsking, IsAtStage, IsBegun, IsLiveAt, IsReleasing, IsTended, IsTendedBy, Logs, Releases, Spoilt}
-use Rattle.hba_driver.proofs.Door.{flush_row, flush_steady, flush_unreset, From, in_slots, issued_live}
+use Rattle.hba_driver.specs.Between.{From}
+use Rattle.hba_driver.proofs.Door.{flush_row, flush_steady, flush_unreset, in_slots, issued_live}
 use Rattle.hba_driver.proofs.Door.{issued_unended, sound_turn, stage_is, steady_tends, turns_serve, unworked}
 use Rattle.disk_recovery.specs.Steady.{HasSigned}
 use Rattle.disk_recovery.specs.Together.{FlushOpensOn, IsServedOn, LogBeginsServed, ResetBeginsServed, ServedSinceFlush, SpoiltIsFree}

@@ -27,7 +27,8 @@ use Rattle.hba_laws.specs.Client.{Touches, own}
 use Rattle.hba_laws.specs.History.{History, Transfer, issued}
 use Rattle.hba_laws.specs.Hosts as event
 use Rattle.hba_laws.specs.Sound.{IsHost}
-use Rattle.hba_laws.proofs.Door.{GoesOut, own_here, some_inj}
+use Rattle.hba_laws.specs.Between.{GoesOut}
+use Rattle.hba_laws.proofs.Door.{own_here, some_inj}
 use Rattle.disk_simulation.specs.Answers.{IsAlone}
 use Rattle.disk_simulation.specs.Anew.{IsHostedOn}
 use Rattle.disk_simulation.specs.Anew as anew
@@ -46,7 +47,8 @@ use Rattle.hba_driver.specs.Orders as orders
 use Rattle.hba_driver.specs.Paths.{stage_fields}
 use Rattle.hba_driver.specs.Served.{IsBuiltOf}
 use Rattle.hba_driver.specs.Tended.{Awaits, Fine, Identifies, IsAsking, IsAtStage, IsBegun, IsLiveAt, IsReleasing, IsTendedBy, Logs, Releases, Spoilt}
-use Rattle.hba_driver.proofs.Door.{at_stage, From, issued_live}
+use Rattle.hba_driver.specs.Between.{From}
+use Rattle.hba_driver.proofs.Door.{at_stage, issued_live}
 use Rattle.disk_recovery.specs.Steady.{HasSigned}
 use Rattle.disk_simulation.specs.Watched.{IsPlain, IsPlainRequest}
 use Rattle.disk_simulation.specs.Same.{SlotCommand}

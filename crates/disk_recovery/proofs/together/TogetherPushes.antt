@@ -26,7 +26,8 @@ use Rattle.hba_laws.specs.History as told_as
 use Rattle.hba_laws.specs.History.{Event, History}
 use Rattle.hba_laws.specs.Hosts as event
 use Rattle.hba_laws.specs.Sound.{IsHost}
-use Rattle.hba_laws.proofs.Door.{goes_out, GoesOut, HasContext, is_own, IsOwn, out_none, own_app, own_one, was_there}
+use Rattle.hba_laws.specs.Between.{GoesOut, HasContext, IsOwn}
+use Rattle.hba_laws.proofs.Door.{goes_out, is_own, out_none, own_app, own_one, was_there}
 use Rattle.disk_simulation.specs.Anew.{IsHostedOn, IsKeptOn, asks, gives, sends, stays}
 use Rattle.disk_simulation.specs.Elsewhere.{IsForOther, LeavesDevice}
 use Rattle.disk_simulation.specs.Joined.{IsAskedBy}

@@ -22,9 +22,10 @@ use Rattle.hba_laws.proofs.Door.{own_app, took_none, was_there}
 use Rattle.disk_simulation.specs.Anew.{IsHostedOn, IsKeptOn, IsSignedWell}
 use Rattle.disk_simulation.specs.Anew as anew
 use Rattle.disk_simulation.specs.Together.{told}
-use Rattle.disk_simulation.proofs.Door.{heard_as_told, hosted_on_is_kept, IsSigned, marks_tell_nothing}
+use Rattle.disk_simulation.proofs.Door.{heard_as_told, hosted_on_is_kept, marks_tell_nothing}
 use Rattle.disk_simulation.proofs.Door.{signature_is_none, signed}
 use Rattle.disk_simulation.specs.Same.{SlotCommand}
+use Rattle.disk_simulation.specs.Between.{IsSigned}
 use Rattle.hba_driver.specs.Drivers.{Driver, device_at, entry_at}
 use Rattle.hba_driver.specs.Events.{shared_by}
 use Rattle.hba_driver.specs.HostTurns.{Does, DoesAll, Host, Took}

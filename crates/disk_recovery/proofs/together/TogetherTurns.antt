@@ -19,7 +19,8 @@ use Rattle.hba_laws.specs.History.{History}
 use Rattle.hba_laws.specs.Hosts as event
 use Rattle.hba_laws.specs.Hosts.{HostEvent, Runs}
 use Rattle.hba_laws.specs.Sound.{AreHosts}
-use Rattle.hba_laws.proofs.Door.{histories_are_parts, history_below, own_app, own_below_is, with_issued}
+use Rattle.hba_laws.specs.Between.{history_below, with_issued}
+use Rattle.hba_laws.proofs.Door.{histories_are_parts, own_app, own_below_is}
 use Rattle.disk_simulation.specs.Anew.{IsHostedOn}
 use Rattle.disk_simulation.specs.Calm.{AreCalm, IsCalm, IssuesFor, WritesIssues}
 use Rattle.disk_simulation.specs.Elsewhere.{IsElsewhere, LeavesDevice}
@@ -36,7 +37,8 @@ use Rattle.hba_driver.proofs.Door.{asked_is, rows_stay, sound_turn, stepless_slo
 use Rattle.hba_driver.proofs.Door.{turns_serve}
 use Rattle.disk_recovery.specs.Kept.{IsCalmTurn}
 use Rattle.disk_recovery.specs.Together.{CalmTurnsKeepOn, IsServedOn, ServesOnAnew}
-use Rattle.disk_recovery.proofs.honest.AwayLemmas.{AreAway, CalmEnds, beside_away, calm_ends}
+use Rattle.disk_recovery.specs.Between.{AreAway, CalmEnds}
+use Rattle.disk_recovery.proofs.honest.AwayLemmas.{beside_away, calm_ends}
 use Rattle.disk_recovery.proofs.honest.TurnLemmas.{after, command_in, named_then, tag_in, told_by}
 
 -- ---- calm runs

@@ -26,7 +26,8 @@ use Rattle.hba_laws.specs.Agreement.{IsHistoryOf}
 use Rattle.hba_laws.specs.Client.{Touches, own}
 use Rattle.hba_laws.specs.History.{Transfer, issued}
 use Rattle.hba_laws.specs.Sound.{IsHost}
-use Rattle.hba_laws.proofs.Door.{goes_out, GoesOut, the, the_transfer}
+use Rattle.hba_laws.specs.Between.{GoesOut}
+use Rattle.hba_laws.proofs.Door.{goes_out, the, the_transfer}
 use Rattle.disk_simulation.specs.Files.{IsOfDisk}
 use Rattle.hba_driver.specs.declared.path.Path.{Path}
 use Rattle.hba_driver.specs.declared.path.Recovery.{Recovery}
@@ -42,7 +43,8 @@ use Rattle.hba_driver.specs.Served.{IsServed}
 use Rattle.hba_driver.specs.Slot30.{Resets}
 use Rattle.hba_driver.specs.Steady.{IsSteadyTurn}
 use Rattle.hba_driver.specs.Tended.{Awaits, Fine, Identifies, IsTended, IsTendedBy, Logs, Releases, Spoilt}
-use Rattle.hba_driver.proofs.Door.{From, issued_live, sound_shared, turn_was}
+use Rattle.hba_driver.specs.Between.{From}
+use Rattle.hba_driver.proofs.Door.{issued_live, sound_shared, turn_was}
 use Rattle.disk_recovery.specs.Kept.{IsCalmTurn, given_to}
 use Rattle.disk_recovery.proofs.honest.PushLemmas.{HasLast, OutData, OutTold, given_elsewhere, out_data, out_last, out_told}
 use Rattle.disk_recovery.proofs.honest.SignLemmas.{ledger_more}

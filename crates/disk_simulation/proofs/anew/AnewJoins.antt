@@ -17,7 +17,8 @@ use Rattle.disk_model.specs.Anew.{IsCarefulSince, IsClear, OwesOnly}
 use Rattle.disk_model.specs.Ends.{FitsAll}
 use Rattle.disk_model.specs.Histories.{Happening, Plugged, Received, Sent}
 use Rattle.disk_model.specs.Ledger.{Ledger, ShowsPage, Signs, Wanted, empty, ledger, ledger_after, listens}
-use Rattle.disk_model.proofs.Door.{after_more, begins_anew, FitsOne, ledger_push}
+use Rattle.disk_model.specs.Between.{FitsOne}
+use Rattle.disk_model.proofs.Door.{after_more, begins_anew, ledger_push}
 use Rattle.hba_laws.specs.Agreement.{ContextAgrees, IsHistoryOf, work_of_transfer}
 use Rattle.hba_laws.specs.History as event
 use Rattle.hba_laws.specs.History.{History, Transfer, issued}
@@ -28,7 +29,7 @@ use Rattle.disk_simulation.specs.Hosted as since_new
 use Rattle.disk_simulation.specs.Joined.{IsJoined, JoinsGiven, SentAgrees}
 use Rattle.disk_simulation.specs.Together.{AtMostOne, IsWaitedUnset, NoneQueued, Replies, Shows, is_sent, told}
 use Rattle.disk_simulation.specs.Marked.{IsHeardAlike}
-use Rattle.disk_simulation.proofs.joined.HeardLemmas.{IsThere, there_by}
+use Rattle.disk_simulation.proofs.joined.HeardLemmas.{there_by}
 use Rattle.disk_simulation.proofs.joined.IssueJoins.{joins_issues, keeps_joined}
 use Rattle.disk_simulation.proofs.joined.JoinLemmas.{joins_frames}
 use Rattle.disk_simulation.proofs.joined.MarkedLemmas.{marks_tell_nothing}
@@ -36,6 +37,7 @@ use Rattle.disk_simulation.proofs.joined.OrderJoins.{joins_commands, joins_data,
 use Rattle.disk_simulation.proofs.anew.SignsLemmas.{joins_signs}
 use Rattle.disk_simulation.proofs.together.TogetherLemmas.{opens_the_same}
 use Rattle.disk_simulation.specs.Same.{SlotCommand}
+use Rattle.disk_simulation.specs.Between.{IsThere}
 
 -- ## Where they begin
 

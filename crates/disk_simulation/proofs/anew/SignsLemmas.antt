@@ -33,13 +33,9 @@ use Rattle.disk_simulation.proofs.events.AnswerLemmas.{IsBeside, free_beside, li
 use Rattle.disk_simulation.proofs.joined.HeardLemmas.{heard_if, list_of, own_list}
 use Rattle.disk_simulation.proofs.joined.JoinLemmas.{asked_same}
 use Rattle.disk_simulation.specs.Same.{SlotCommand}
+use Rattle.disk_simulation.specs.Between.{IsSigned, reset_by}
 
 -- ## The frame
-
-pub record IsSigned (r : Result Fis FisFault) : Type 0 where
-  pub frame : List ℕ
-  pub is : r ≡ Ok (view.RegD2H frame)
-  pub signature : is_signature frame ≡ true
 
 signed_by : (r : Result Fis FisFault) → signs r ≡ true → IsSigned r
 signed_by (Ok (view.RegD2H f)) is = record { frame = f; is = refl; signature = is }
@@ -66,9 +62,6 @@ signed host new frame report well =
     (not_ignored host new frame report well)).1 well.resetting)
 
 -- ## What the port makes of it
-
-abbrev pub reset_by : DeviceView → List ℕ → Heard
-reset_by v f = signing f (quietly (after_reset v.state (field D2h Status f) (field D2h table.Error f)) happening.Nothing)
 
 signed_heard : (dev : ℕ) (v : DeviceView) (sound : Bool) (f : List ℕ) (resetting : Bool) → v.state.resetting ≡ resetting → resetting ≡ true
     → heard dev v sound (admitted dev (Ok (view.RegD2H f))) ≡ reset_by v f

@@ -12,7 +12,8 @@ use Rattle.disk_model.specs.declared.request.Request.{Request}
 use Rattle.disk_model.specs.declared.request.Request.TheVariants as asked
 use Rattle.disk_model.specs.Ends.{FitsRequest, IsFree, MovesOther, has}
 use Rattle.disk_model.specs.Ledger.{Ledger, Moving, Names, ReadOut, Written, answered, answers, asks, sends_data}
-use Rattle.disk_model.proofs.Door.{alone, asks_fits, has_left}
+use Rattle.disk_model.specs.Between.{alone}
+use Rattle.disk_model.proofs.Door.{asks_fits, has_left}
 use Rattle.hba_laws.specs.History.{Answered, Carried, History, Named, PioSetUp, Sent, filled, filled_from, is_at, is_set_up, next_number, none_filled, waiting_in}
 use Rattle.disk_simulation.specs.Same.{InLife, IsEndedBy, Moves, Open, ReadEnded, SlotCommand, StandsOnce, Unsent, Unset, WriteEnded}
 use Rattle.disk_simulation.specs.Answers.{AnswersKeep, ByRead, ByWrite, HasEnded, IsAlone, IsIdle, NamesKeep, OthersKeep}

@@ -8,8 +8,8 @@ use Rattle.disk_model.specs.Chunks.{put}
 use Rattle.disk_model.specs.Ends.{IsFree, MovesOther, has}
 use Rattle.disk_model.specs.Laws.{bytes_named}
 use Rattle.disk_model.specs.Ledger.{Ledger, Moving, ReadOut, Written, ends, sends_data, takes_data}
-use Rattle.disk_model.proofs.Door.{after_bytes, but_free, data_down, goes_by, has_more, is_all, length-put}
-use Rattle.disk_model.proofs.Door.{with_bytes}
+use Rattle.disk_model.specs.Between.{after_bytes, is_all, with_bytes}
+use Rattle.disk_model.proofs.Door.{but_free, data_down, goes_by, has_more, length-put}
 use Rattle.hba_laws.specs.History.{Carried, History, filled, filled_from, is_at, is_set_up, next_number, waiting_in}
 use Rattle.disk_simulation.specs.Same.{InLife, IsEndedBy, IsLastOf, IsMovingAt, Moves, Open, ReadEnded, SlotCommand, Stand, StandsOnce, Unsent, Unset, WriteEnded}
 use Rattle.disk_simulation.proofs.events.MoveLemmas.{IsMoved, not_own, other_life, own_life, unset_other}

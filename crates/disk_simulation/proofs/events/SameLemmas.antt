@@ -13,7 +13,8 @@ use Rattle.disk_model.specs.Chunks.{put}
 use Rattle.disk_model.specs.Ends.{IsFree, MovesOther, has}
 use Rattle.disk_model.specs.Laws.{bytes_named}
 use Rattle.disk_model.specs.Ledger.{Ledger, Moving, starts_moving}
-use Rattle.disk_model.proofs.Door.{lie_where_put, opened, opens_free}
+use Rattle.disk_model.specs.Between.{opened}
+use Rattle.disk_model.proofs.Door.{lie_where_put, opens_free}
 use Rattle.hba_laws.specs.History.{Carried, History, Issued, Sent, SetUp, Setup, Transfer, carried, filled, filled_from, is_at, is_set_up, last_setup, next_number, none_filled, unless, waiting_in}
 use Rattle.disk_simulation.specs.Same.{CommandsKeep, DataFills, InLife, IsEndedBy, IsLastOf, IsMovingAt, IssuesKeep, Moves, Open, ReadEnded, SetupsStart, SlotCommand, Stand, StandsOnce, Unsent, WriteEnded}
 

@@ -47,12 +47,14 @@ use Rattle.hba_laws.specs.Delivering.{by_device, event_heard}
 use Rattle.hba_laws.specs.History as event
 use Rattle.hba_laws.specs.History.{Event, History, Transfer, completes, filled, is_all_filled, is_at, issued, waiting_in}
 use Rattle.hba_laws.specs.Hosts.{Host, TakesFrame}
-use Rattle.hba_laws.proofs.Door.{is_own, IsOwn, own_below, payload_is, whole_is}
+use Rattle.hba_laws.specs.Between.{IsOwn}
+use Rattle.hba_laws.proofs.Door.{is_own, own_below, payload_is, whole_is}
 use Rattle.disk_simulation.specs.Together.{IsHeard, NoneQueued, Same, told}
 use Rattle.disk_simulation.specs.Heard.{HeardAsTold, IsTakenWell}
 use Rattle.disk_simulation.proofs.together.TogetherLemmas.{set_up_now}
 use Rattle.disk_simulation.proofs.joined.OutLemmas.{IsRefused, pio_up, refuses_up}
 use Rattle.disk_simulation.specs.Same.{SlotCommand}
+use Rattle.disk_simulation.specs.Between.{IsThere}
 
 -- ## Events as lists
 
@@ -188,12 +190,6 @@ told_data own state sound count payload (Some c) =
 
 none_issue : (t : Transfer) → Some (work_of_transfer t) ≡ None → ⊥
 none_issue t e = cc e
-
--- what the history has issued in a slot stands there
-pub record IsThere (own : DeviceSlots) (s : ℕ) (t : Transfer) : Type 0 where
-  pub issue : Issue
-  pub there : own_issue own s ≡ Some issue
-  pub work : t.work ≡ issue.work
 
 pub there_by : (own : DeviceSlots) (s : ℕ) (t : Transfer) (o : Option Issue) → own_issue own s ≡ o
     → Some (work_of_transfer t) ≡ option_map work_of_issue o → IsThere own s t

@@ -19,8 +19,9 @@ use Rattle.hba_laws.specs.Client.{own}
 use Rattle.hba_laws.specs.Delivering.{issued_below, touched}
 use Rattle.hba_laws.specs.History.{History, Issued, Transfer, issued}
 use Rattle.hba_laws.specs.Hosts.{Host, Wrote}
-use Rattle.hba_laws.proofs.Door.{asked_free, ext, history_below, is_own, IsOwn, issue_below, own_below, own_below_is}
-use Rattle.hba_laws.proofs.Door.{own_issued, step, transfer_of, with_issued}
+use Rattle.hba_laws.specs.Between.{IsOwn, history_below, issue_below, transfer_of, with_issued}
+use Rattle.hba_laws.proofs.Door.{asked_free, ext, is_own, own_below, own_below_is}
+use Rattle.hba_laws.proofs.Door.{own_issued, step}
 use Rattle.slots.proofs.Door.{own_at}
 use Rattle.disk_simulation.specs.Anew.{KeepsSlots}
 use Rattle.disk_simulation.specs.Same.{InLife, SlotCommand}

@@ -42,12 +42,14 @@ use Rattle.hba_laws.specs.Client.{own}
 use Rattle.hba_laws.specs.History as event
 use Rattle.hba_laws.specs.History.{Event, History, Transfer, carried, is_at, is_set_up, issued, last_setup, unless, waiting_in}
 use Rattle.hba_laws.specs.Hosts.{TakesFrame, Took}
-use Rattle.hba_laws.proofs.Door.{is_own, IsOwn, own_freed, step, unless_some}
+use Rattle.hba_laws.specs.Between.{IsOwn}
+use Rattle.hba_laws.proofs.Door.{is_own, own_freed, step, unless_some}
 use Rattle.disk_simulation.specs.Same.{InLife, IsMovingAt, SlotCommand}
 use Rattle.disk_simulation.specs.Together.{NoneQueued, Same, is_sent, told}
 use Rattle.disk_simulation.specs.Heard.{IsToldSo}
 use Rattle.disk_simulation.specs.Joined.{IsAskedBy, JoinsFrames}
-use Rattle.disk_simulation.proofs.joined.HeardLemmas.{IsThere, heard_as_told, heard_if, setup_tag, there_by}
+use Rattle.disk_simulation.specs.Between.{IsThere}
+use Rattle.disk_simulation.proofs.joined.HeardLemmas.{heard_as_told, heard_if, setup_tag, there_by}
 use Rattle.disk_simulation.proofs.events.MoveLemmas.{own_life}
 use Rattle.disk_simulation.proofs.joined.ShortLemmas.{short_up}
 use Rattle.disk_simulation.proofs.together.TogetherLemmas.{same_goes_on, set_up_now}

@@ -37,10 +37,11 @@ use Rattle.hba_laws.specs.History as event
 use Rattle.hba_laws.specs.History.{Event, History, Transfer, carried, is_at, is_set_up, issued, last_setup, unless, waiting_in}
 use Rattle.hba_laws.specs.Hosts.{Does, Gave, Host}
 use Rattle.hba_laws.specs.Sound.{IsHost}
-use Rattle.hba_laws.proofs.Door.{goes_out, GoesOut, HasContext, is_own, IsOwn, none_waits, own_here, own_one, step}
+use Rattle.hba_laws.specs.Between.{GoesOut, HasContext, IsOwn}
+use Rattle.hba_laws.proofs.Door.{goes_out, is_own, none_waits, own_here, own_one, step}
 use Rattle.disk_simulation.specs.Together.{NothingWaits, QueuesOne, Same, is_sent}
 use Rattle.disk_simulation.specs.Joined.{AreShort, IsAskedBy, IsJoined, JoinsCommands, JoinsData, JoinsGiven, JoinsOthers, SentAgrees}
-use Rattle.disk_simulation.proofs.joined.HeardLemmas.{IsThere, there_by}
+use Rattle.disk_simulation.proofs.joined.HeardLemmas.{there_by}
 use Rattle.disk_simulation.proofs.joined.ShortLemmas.{short_down}
 use Rattle.disk_simulation.proofs.together.TogetherLemmas.{same_goes_on}
 use Rattle.disk_simulation.proofs.joined.OutLemmas.{begun_none}
@@ -48,6 +49,7 @@ use Rattle.disk_simulation.specs.Together.{AsksOne}
 use Rattle.disk_simulation.proofs.events.AnswerLemmas.{IsBeside, asks_beside}
 use Rattle.disk_simulation.proofs.joined.JoinLemmas.{WasSent, asked_same, inactive, set_sent}
 use Rattle.disk_simulation.specs.Same.{SlotCommand}
+use Rattle.disk_simulation.specs.Between.{IsThere}
 
 -- ## A command goes out
 

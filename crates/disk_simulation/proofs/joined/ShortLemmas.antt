@@ -8,7 +8,8 @@ use Rattle.fis_view.specs.declared.view.FisFault.{FisFault}
 use Rattle.disk_model.specs.Ends.{IsAskedFor, IsRight}
 use Rattle.disk_model.specs.Laws.{ActivatesRight, CarriesNext, CarriesRight}
 use Rattle.disk_model.specs.Ledger.{Ledger, Moving, activates, is_auto, listens_up, sends_data, sets_up, takes_data, with_auto}
-use Rattle.disk_model.proofs.Door.{after_bytes, bits_up, data_down, goes_by, is_all, with_bytes}
+use Rattle.disk_model.specs.Between.{after_bytes, is_all, with_bytes}
+use Rattle.disk_model.proofs.Door.{bits_up, data_down, goes_by}
 use Rattle.disk_simulation.specs.Joined.{AreShort, IsShort}
 use Rattle.disk_simulation.proofs.together.TogetherLemmas.{set_up_now}
 

@@ -17,10 +17,12 @@ use Rattle.disk_model.specs.Histories.{Happening, Plugged, Received, Sent}
 use Rattle.disk_model.specs.Ledger.{IsSize, Moving, ledger}
 use Rattle.disk_model.specs.Runs.{IsDiskRun, IsTurn, moment, most_sectors}
 use Rattle.disk_model.specs.Sendings.{Sending, Shows, answer_sent}
-use Rattle.disk_model.proofs.Door.{agrees, Asked, at, begun_by, chunk_part, ChunkPart, Fresh, IsIn}
-use Rattle.disk_model.proofs.Door.{IsQueue, IsReading, IsSized, IsWriting, last_may, linked_since_new, Moves}
-use Rattle.disk_model.proofs.Door.{picked_in, same_turn, sends_left_next, SetUp, setup_of_chunk, sized_by}
-use Rattle.disk_model.proofs.Door.{some_chunks, Stage, TellsSetup}
+use Rattle.disk_model.specs.Between.{Asked, ChunkPart, Fresh, IsIn, IsQueue, IsReading, IsSized, IsWriting, Moves, SetUp}
+use Rattle.disk_model.specs.Between.{Stage, TellsSetup, at, begun_by}
+use Rattle.disk_model.proofs.Door.{agrees, chunk_part}
+use Rattle.disk_model.proofs.Door.{last_may, linked_since_new}
+use Rattle.disk_model.proofs.Door.{picked_in, same_turn, sends_left_next, setup_of_chunk, sized_by}
+use Rattle.disk_model.proofs.Door.{some_chunks}
 use Rattle.disk_simulation.specs.Joined.{IsShort}
 use Rattle.disk_simulation.specs.Hosted.{NextIsShort}
 

@@ -22,7 +22,8 @@ use Rattle.disk_model.specs.Laws.{ActivatesRight, SetsUpRight, ShowsFirst, Start
 use Rattle.disk_model.specs.Ledger.{IsSize, Ledger, Moving, Names, Reply, Signs, Wanted, ledger, ledger_after, listens, listens_up}
 use Rattle.disk_model.specs.Requests.{request_of}
 use Rattle.disk_model.specs.Runs.{IsDiskRun}
-use Rattle.disk_model.proofs.Door.{after_more, careful_last, ends_agree_anew, FitsOne, ledger_push, run_before}
+use Rattle.disk_model.specs.Between.{FitsOne}
+use Rattle.disk_model.proofs.Door.{after_more, careful_last, ends_agree_anew, ledger_push, run_before}
 use Rattle.disk_model.proofs.Door.{sent_right}
 use Rattle.disk_simulation.specs.Files.{IsOfDisk}
 use Rattle.disk_simulation.specs.Line.{EachReply, IsFailed, IsLoose, IsNoSignature, IsSigning, IsUnsigned, IsWatchedWell, LinesBegin, NoneSigns, PluggingLeavesReset, ToSign, Unsigned}

@@ -34,7 +34,8 @@ use Rattle.hba_laws.specs.Delivering.{begun_by, by_device, event_heard, event_of
 use Rattle.hba_laws.specs.History.{Carried, Emptied, Event, History, Issued, PioSetUp, Sent, SentControl, SetUp, Transfer, completes, issued, unless}
 use Rattle.hba_laws.specs.Hosts.{Does, Flushed, Gave, Host, HostEvent, Put, Rewrote, Stored, TakesFrame, Took, Wrote}
 use Rattle.hba_laws.specs.Isolation.{fails_by_bus}
-use Rattle.hba_laws.proofs.Door.{history_below, other_below, own_below_is, transfer_of, with_issued}
+use Rattle.hba_laws.specs.Between.{history_below, transfer_of, with_issued}
+use Rattle.hba_laws.proofs.Door.{other_below, own_below_is}
 use Rattle.disk_simulation.specs.Aside.{AreUnqueued, AsideIsKept, Faulty, Halted, IsAside, IssuesNoneQueued, SetsAside, Spared, WritesAside, WritesNoneQueued}
 use Rattle.disk_simulation.specs.Elsewhere.{IsElsewhere}
 use Rattle.disk_simulation.specs.Together.{NoneQueued}

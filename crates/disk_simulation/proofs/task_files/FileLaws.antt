@@ -22,7 +22,8 @@ use Rattle.disk_model.specs.Ends.{Fits, FitsAll, IsRight}
 use Rattle.disk_model.specs.Histories.{Happening, Plugged, Received, Sent}
 use Rattle.disk_model.specs.Ledger.{Accepts, Finishes, Ledger, ShowsPage, ledger, ledger_after, listens, listens_down}
 use Rattle.disk_model.specs.Requests.{request_of}
-use Rattle.disk_model.proofs.Door.{after_more, alone, asks_fits}
+use Rattle.disk_model.specs.Between.{alone}
+use Rattle.disk_model.proofs.Door.{after_more, asks_fits}
 use Rattle.hba_laws.specs.Hosts.{Host, TakesFrame}
 use Rattle.disk_simulation.specs.Anew.{IsNextRight}
 use Rattle.disk_simulation.specs.Files.{BothHaveBegun, FilesStayFine, IsFineFile, IsNextHeard, IsNoRefusal, IsOfDisk, IsUnrefused, NothingIsRefused}

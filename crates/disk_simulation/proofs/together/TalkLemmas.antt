@@ -12,7 +12,7 @@ use Rattle.disk_model.specs.declared.request.Request.TheVariants as asked
 use Rattle.disk_model.specs.Ends.{FitsRequest, Rests}
 use Rattle.disk_model.specs.Laws.{ActivatesRight, AnswersFirst, SetsUpRight, ShowsFirst, StartsOne}
 use Rattle.disk_model.specs.Ledger.{Accepts, Finishes, IdentifyData, Ledger, LogOf, Moving, Names, Refuses, Reply, ShowsPage, Signs, Wanted, answered}
-use Rattle.disk_model.proofs.Door.{alone, opened}
+use Rattle.disk_model.specs.Between.{alone, opened}
 use Rattle.hba_laws.specs.History.{Answered, Carried, History, Issued, PioSetUp, Sent, Transfer, completes, is_at, is_set_up, issued, unless, waiting_in}
 use Rattle.disk_simulation.specs.Answers.{IsAlone, IsIdle}
 use Rattle.disk_simulation.specs.Together.{AtMostAccepts, AtMostOne, InTalk, IsOwnReply, IsWaited, IsWaitedUnset, NothingWaits, Pages, Queues, Replies, Shows}

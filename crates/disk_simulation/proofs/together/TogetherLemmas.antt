@@ -21,8 +21,9 @@ use Rattle.disk_model.specs.declared.request.Request.TheVariants as asked
 use Rattle.disk_model.specs.Ends.{FitsData, FitsRequest, IsFree, IsRight, MovesOther, PageAsked, Rests, has}
 use Rattle.disk_model.specs.Laws.{ActivatesRight, AsksOnce, CarriesNext, CarriesRight, SetsUpNext, SetsUpRight, StartsOne, bytes_named}
 use Rattle.disk_model.specs.Ledger.{Ledger, Moving, Signs, Stretch, activates, answers, asks, ends, is_auto, listens_up, sends_data, sets_up, starts_moving, takes_data, with_auto}
-use Rattle.disk_model.proofs.Door.{after_bytes, alone, asks_fits, bits_up, data_down, found_not, goes_by, is_all}
-use Rattle.disk_model.proofs.Door.{opened, opens_free, up_leaves, with_bytes}
+use Rattle.disk_model.specs.Between.{after_bytes, alone, is_all, opened, with_bytes}
+use Rattle.disk_model.proofs.Door.{asks_fits, bits_up, data_down, found_not, goes_by}
+use Rattle.disk_model.proofs.Door.{opens_free, up_leaves}
 use Rattle.hba_laws.specs.History.{Answered, Carried, History, Issued, Named, Sent, SetUp, Transfer, completes, is_at, is_set_up, issued, unless, waiting_in}
 use Rattle.disk_simulation.specs.Same.{InLife, SlotCommand}
 use Rattle.disk_simulation.specs.Anew.{OpensTheSame}

@@ -50,22 +50,24 @@ use Rattle.hba_driver.specs.Served.{IsServed, RunServes}
 use Rattle.hba_driver.specs.Sights.{file_shown, px_cmd, px_fbs}
 use Rattle.hba_driver.specs.Ticks.{done_ended, due, effects, effects_due, is_done, seen, turn}
 use Rattle.hba_driver.specs.Turns.{control_beside, device_of, is_issued_of_other, may_go, may_go_to, path_beside}
+use Rattle.hba_driver.specs.Between.{AreFit, Due, From, IsFit, IsFree, IsIssuedAt, IsOnWayIn, IsUpIn, MayEnd, Runs, Waiting}
+use Rattle.hba_driver.specs.Between.{beside}
 use Rattle.hba_driver.proofs.events.DrivenLemmas.{not_below, tick_is}
-use Rattle.hba_driver.proofs.ticks.DueLemmas.{Due, MayGo, PlanGoes, Runs, Waiting, goes_turn, runs_then, turn_alone}
-use Rattle.hba_driver.proofs.issued.EndingLemmas.{MayEnd, clear_taken, is_accepted, stop_taken}
-use Rattle.hba_driver.proofs.events.EventLemmas.{beside, sound_beside}
-use Rattle.hba_driver.proofs.accepted.FitLemmas.{AreFit, IsFit, fit_rephased, fit_turn}
+use Rattle.hba_driver.proofs.ticks.DueLemmas.{MayGo, PlanGoes, goes_turn, runs_then, turn_alone}
+use Rattle.hba_driver.proofs.issued.EndingLemmas.{clear_taken, is_accepted, stop_taken}
+use Rattle.hba_driver.proofs.events.EventLemmas.{sound_beside}
+use Rattle.hba_driver.proofs.accepted.FitLemmas.{fit_rephased, fit_turn}
 use Rattle.hba_driver.proofs.requests.HistoryLemmas.{back_of}
 use Rattle.hba_driver.proofs.issued.IssueLemmas.{told_of}
-use Rattle.hba_driver.proofs.issued.IssuingLemmas.{From, slot_of_issue}
+use Rattle.hba_driver.proofs.issued.IssuingLemmas.{slot_of_issue}
 use Rattle.hba_driver.proofs.ticks.LifeLemmas.{due_seen, entry_of_rephased, keeps_seen, length_of_rephased}
-use Rattle.hba_driver.proofs.events.OpenLemmas.{IsUpIn, opens_taken, restart_taken, stays_gives, stays_took, up_of, zero_either}
+use Rattle.hba_driver.proofs.events.OpenLemmas.{opens_taken, restart_taken, stays_gives, stays_took, up_of, zero_either}
 use Rattle.hba_driver.proofs.issued.ServedLemmas.{bit_on, may_end_in, not_done, seen_served, turns_serve}
-use Rattle.hba_driver.proofs.issued.ServingLemmas.{IsFree, not_busy}
+use Rattle.hba_driver.proofs.issued.ServingLemmas.{not_busy}
 use Rattle.hba_driver.proofs.events.SoundLemmas.{hosts_stay_sound, sound_turn}
 use Rattle.hba_driver.proofs.issued.TickingLemmas.{else_entry, free_order, free_slot, not_both, request_port, step_dev}
 use Rattle.hba_driver.proofs.calls.SubmitLemmas.{none_conflict}
-use Rattle.hba_driver.proofs.accepted.UpLemmas.{IsIssuedAt, Issues, MayAim, Placed, alone_by, free_by, issuing_taken, same_alone, same_free, sntf_step}
+use Rattle.hba_driver.proofs.accepted.UpLemmas.{Issues, MayAim, Placed, alone_by, free_by, issuing_taken, same_alone, same_free, sntf_step}
 
 -- ---- what an act leaves, if the port takes it
 
@@ -361,19 +363,6 @@ act_taken d v (Some (act.Issues slot dev queued)) old new before after k due run
     record { accepted = i.accepted; unarmed = i.unarmed }
 
 -- ---- a host on its way
-
--- What holds for a host over turns from an opening, besides that it is sound: no bit of PxSACT waits for its
--- command between two turns.
-pub record IsOnWayIn (mode : Mode) (h : Host) : Type 0 where
-  pub sound : IsSoundHostIn mode h
-  pub past : Touches
-  pub served : IsServed h.driver (shared_by h) past
-  pub unarmed : h.port.registers.armed ≡ 0
-  pub fit : AreFit h.driver h.memory
-
--- the same with FIS-based switching
-abbrev pub IsOnWay : Host → Type 0
-IsOnWay h = IsOnWayIn Switching h
 
 -- what a tick of an open port knows
 pub knows_seen : {mode : Mode} (h : Host) → IsOnWayIn mode h → 7 ≤ h.driver.plan.opened → Knows (seen (sight_in h) h.driver) h.port h.memory

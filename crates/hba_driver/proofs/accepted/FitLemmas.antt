@@ -18,7 +18,7 @@ use Rattle.hba_driver.specs.declared.request.Request.{Request}
 use Rattle.hba_driver.specs.declared.request.Work.{Work}
 use Rattle.hba_driver.specs.declared.request.Work.TheVariants as work
 use Rattle.hba_driver.specs.declared.slot.Phase.{Phase}
-use Rattle.hba_driver.specs.Drivers.{Driver, Entry, entry_at, rephased}
+use Rattle.hba_driver.specs.Drivers.{Entry, rephased}
 use Rattle.hba_driver.specs.Effects.{table_of}
 use Rattle.hba_driver.specs.Events.{IsSoundHostIn, events_over, shared_by}
 use Rattle.hba_driver.specs.HostTurns.{Does, DoesAll, Host, HostTurn, Took, Submitted}
@@ -26,23 +26,16 @@ use Rattle.hba_driver.specs.Orders.{is_flush, is_queued, request_fields, work_fi
 use Rattle.hba_driver.specs.Requests.{is_bad_prd}
 use Rattle.hba_driver.specs.Served.{AreBounded}
 use Rattle.hba_driver.specs.Submits.{end_of, new_entry, next_slot}
-use Rattle.hba_driver.proofs.requests.ComeLemmas.{Fresh, comes_from}
+use Rattle.hba_driver.specs.Between.{AreFit, Fresh, IsFit, IsTaken}
+use Rattle.hba_driver.proofs.requests.ComeLemmas.{comes_from}
 use Rattle.hba_driver.proofs.requests.HistoryLemmas.{free_below}
 use Rattle.hba_driver.proofs.issued.ServedLemmas.{device_there}
 use Rattle.hba_driver.proofs.events.SoundLemmas.{sound_host}
 use Rattle.hba_driver.proofs.requests.StandLemmas.{agree_turn, in_slots, table_area}
-use Rattle.hba_driver.proofs.calls.SubmitLemmas.{IsTaken, is_taken}
+use Rattle.hba_driver.proofs.calls.SubmitLemmas.{is_taken}
 use Rattle.hba_driver.proofs.events.TurnLemmas.{turns_are_events}
 
 -- ---- the request of a slot is a proper command
-
--- its PRDs are sound where they are, and header, command FIS and PRDs belong to one command
-pub record IsFit (s : ℕ) (e : Entry) (m : Memory) : Type 0 where
-  pub total : total_at m.structure (length m.client) (table_of s) (length e.prds) ≡ Some (total_of e.prds)
-  pub proper : is_proper (header_for (request_of (request_fields s e.head)) (table_of s) (length e.prds)) (request_of (request_fields s e.head)) (total_of e.prds) s (is_queued e.head.work) ≡ true
-
-abbrev pub AreFit : Driver → Memory → Type 0
-AreFit d m = (s : ℕ) (e : Entry) → entry_at d.entries s ≡ Some e → IsFit s e m
 
 pub fit_rephased : (phase : Phase) (s : ℕ) (e : Entry) (m : Memory) → IsFit s e m → IsFit s (rephased phase e) m
 unfolding request_fields

@@ -45,9 +45,10 @@ use Rattle.hba_driver.specs.Accepted.{AreAccepted}
 use Rattle.hba_driver.specs.Effects.{Acts, ActsAll, issuing, table_of}
 use Rattle.hba_driver.specs.Modes.{is_switching}
 use Rattle.hba_driver.specs.Sights.{px_ci, px_fbs, px_sact, px_sntf}
+use Rattle.hba_driver.specs.Between.{IsIssuedAt, IsUpIn}
 use Rattle.hba_driver.proofs.events.DrivenLemmas.{no_dec, refusal_is}
 use Rattle.hba_driver.proofs.issued.IssuingLemmas.{bit_other, bit_same}
-use Rattle.hba_driver.proofs.events.OpenLemmas.{IsUpIn, taken}
+use Rattle.hba_driver.proofs.events.OpenLemmas.{taken}
 
 -- ---- small facts
 
@@ -136,10 +137,6 @@ command_is slot dev prds fields armed memory below p =
     ∙ then_is (is_proper h (request_of fields) (total_of prds) slot armed) whole p.proper
 
 -- ---- what is issued stays issued
-
--- something is issued in a slot of a device
-abbrev pub IsIssuedAt : Port → (n s : ℕ) → Issue → Type 0
-IsIssuedAt port n s i = own_issue (slots_of n port.slots) s ≡ Some i
 
 in_table : (port : Port) (s : ℕ) (i : Issue) → issue_at port.slots s ≡ Some i → s < length port.slots.issues
 in_table port s i at = elim (cases_lt s (length port.slots.issues)) [

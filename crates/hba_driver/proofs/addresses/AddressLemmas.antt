@@ -17,7 +17,7 @@ use Rattle.hba_commands.specs.Requests.{kind_of, request_at, request_in, work_of
 use Rattle.slots.specs.Data.{payload}
 use Rattle.slots.specs.Slots.{DeviceSlots, Issue, context_of, has_bit, issue_at, match_some, no_own_slots, own_issue, slots_of}
 use Rattle.slots.specs.Table.{IsIssue}
-use Rattle.slots.proofs.Door.{Owns}
+use Rattle.slots.specs.Between.{Owns}
 use Rattle.hba_fbs.specs.declared.error.WriteError.TheVariants as refusal
 use Rattle.hba_fbs.specs.declared.register.Register.{Register}
 use Rattle.hba_fbs.specs.declared.register.Register.TheVariants.{Cmd, Ci, Fbs}
@@ -29,7 +29,8 @@ use Rattle.hba_fbs.specs.Sending.{Data, Gives, Nothing, Order, Outgoing, Unreada
 use Rattle.hba_fbs.specs.Taking.{ignores, port_of}
 use Rattle.hba_fbs.specs.Views.{DeviceView, Port, last_command, stopped_view, view_of}
 use Rattle.hba_fbs.specs.Writing.{Accepts, cleared_by, commands_after, is_device, refusal_of, view_after}
-use Rattle.hba_laws.proofs.Door.{asked_free, data_is, is_own, keeps_fed, keeps_moved, keeps_sent, KeepsOwn}
+use Rattle.hba_laws.specs.Between.{KeepsOwn}
+use Rattle.hba_laws.proofs.Door.{asked_free, data_is, is_own, keeps_fed, keeps_moved, keeps_sent}
 use Rattle.hba_laws.proofs.Door.{order_filled, order_is, own_in, own_issued, some_inj, the}
 use Rattle.hba_driver.specs.declared.effect.Effect.{Effect}
 use Rattle.hba_driver.specs.declared.effect.Effect.TheVariants as effect
@@ -39,6 +40,7 @@ use Rattle.hba_driver.specs.Effects.{Acts, ActsAll, IsRuled, Tries}
 use Rattle.hba_driver.specs.Events.{IsSoundHostIn, opening_host_in}
 use Rattle.hba_driver.specs.HostTurns.{Does, DoesAll, Host, HostTurn, Took, Pushed, Ticked, sight_in}
 use Rattle.hba_driver.specs.Ticks.{effects}
+use Rattle.hba_driver.specs.Between.{AreOfTheir}
 use Rattle.hba_driver.proofs.events.DrivenLemmas.{tried_at}
 use Rattle.hba_driver.proofs.issued.IssuingLemmas.{aimed_is}
 use Rattle.hba_driver.proofs.events.SoundLemmas.{hosts_stay_sound, sound_turn}
@@ -80,10 +82,6 @@ addressed_at memory clb slot armed command h =
     middle false b c h = absurd (false≢true h)
 
 -- ---- what is issued
-
--- the command of each slot of a device has its PM Port
-abbrev pub AreOfTheir : Port → Type 0
-AreOfTheir port = (n s : ℕ) (c : Command) → n < 16 → is_some (own_issue (slots_of n port.slots) s) ≡ true → last_command port.commands s ≡ Some c → slice_index c.cfis 1 % 16 ≡ n
 
 busy_before : (old new : DeviceSlots) (s : ℕ) → KeepsOwn old new → is_some (own_issue new s) ≡ true → is_some (own_issue old s) ≡ true
 busy_before old new s keeps busy = by_issue (own_issue old s) refl

@@ -26,8 +26,9 @@ use Rattle.hba_driver.specs.Steady.{IsAskedOf, IsCalmAct, IsFine, IsSteadyPlan, 
 use Rattle.hba_driver.specs.Tended.{Awaits, Fine, Identifies, IsAskedOn, IsAsking, IsAtStage, IsBegun, IsReleasing, IsStepless, IsTendedBy, IsTendedPlan, IsUnworked, Logs, Releases, Spoilt, WorksOn}
 use Rattle.hba_driver.specs.Ticks.{plan_after}
 use Rattle.hba_driver.specs.Turns.{advanced, allowed, control_news, control_seen, device_due, device_or_request, device_seen, device_turn, early_due, found_of, is_back, is_due, is_in_reset, met_path, met_stage, path_due, path_met, plain_turn, request_due, stage_due, stage_for, turn_of}
+use Rattle.hba_driver.specs.Between.{DueOf, PlanKeeps}
 use Rattle.hba_driver.proofs.ticks.DueLemmas.{allowed_by, early_by, goes_control, goes_device, order_allowed_by, request_by, turn_by}
-use Rattle.hba_driver.proofs.steady.SteadyLemmas.{Beside, DueOf, Plainly, PlanKeeps, act_beside, act_keeps, beside_same, control_beside, device_beside, equal_is, keeps_then, of_device, of_turn, set_same, turn_keeps}
+use Rattle.hba_driver.proofs.steady.SteadyLemmas.{Beside, Plainly, act_beside, act_keeps, beside_same, control_beside, device_beside, equal_is, keeps_then, of_device, of_turn, set_same, turn_keeps}
 
 -- ---- paths
 

@@ -30,9 +30,10 @@ use Rattle.hba_driver.specs.Submits.{after_submit, submit_refusal}
 use Rattle.hba_driver.specs.Tended.{AreTended, Fine, IsAskedOn, IsAtStage, IsBegun, IsLiveAt, IsReleasing, IsStepless, IsSteplessTurn, IsTended, IsTendedPlan, TendsOn, TurnsTend}
 use Rattle.hba_driver.specs.Ticks.{after_tick, done_ended, due, seen, turn}
 use Rattle.hba_driver.specs.Turns.{is_in_reset, turn_of}
+use Rattle.hba_driver.specs.Between.{Due, PollFacts}
 use Rattle.hba_driver.proofs.ends.DoneLemmas.{free_slot}
-use Rattle.hba_driver.proofs.ticks.DueLemmas.{Due, due_turn, goes_turn}
-use Rattle.hba_driver.proofs.requests.HistoryLemmas.{PollFacts, freed, poll_facts}
+use Rattle.hba_driver.proofs.ticks.DueLemmas.{due_turn, goes_turn}
+use Rattle.hba_driver.proofs.requests.HistoryLemmas.{freed, poll_facts}
 use Rattle.hba_driver.proofs.ticks.LifeLemmas.{keeps_tick}
 use Rattle.hba_driver.proofs.anew.FlushLemmas.{flush_unreset}
 use Rattle.hba_driver.proofs.steady.SteadyTurns.{Alone, IsKind, acted_plan, alone_fewer, alone_keep, alone_submit, fewer_by, flush_steady, opens_steady, signed_by}

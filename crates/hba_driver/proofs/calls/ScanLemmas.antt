@@ -6,7 +6,8 @@ use Rattle.std.proofs.lemmas.List.{get_or_default, get_or-replicate, length-repl
 use Rattle.std.proofs.lemmas.List.FromFn.{fill_by_all}
 use Rattle.slots.proofs.Door.{none_below}
 use Rattle.slots.specs.Slots.{lowest_below}
-use Rattle.hba_fbs.proofs.Door.{filled_all, filled_set, FilledTo}
+use Rattle.hba_fbs.specs.Between.{FilledTo}
+use Rattle.hba_fbs.proofs.Door.{filled_all, filled_set}
 use Rattle.hba_driver.specs.declared.slot.Head.{Head}
 use Rattle.hba_driver.specs.declared.slot.Phase.{Phase}
 use Rattle.hba_driver.specs.Drivers.{Entry, entry_at, holds, rephase, rephase_all, rephased}

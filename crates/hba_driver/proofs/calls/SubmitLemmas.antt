@@ -16,18 +16,10 @@ use Rattle.hba_driver.specs.declared.request.SubmitError.{SubmitError}
 use Rattle.hba_driver.specs.Drivers.{Driver, Entry, device_at, entry_at, is_read}
 use Rattle.hba_driver.specs.Requests.{conflicts, device_refusal, is_bad_count, is_bad_prd, is_full, is_mismatch, overlaps, room_refusal, shape_refusal}
 use Rattle.hba_driver.specs.Submits.{end_of, other_refusal, queue_refusal, submit_refusal}
+use Rattle.hba_driver.specs.Between.{IsTaken}
 
 abbrev no_entry : Option Entry
 no_entry = None
-
-pub record IsTaken (d : Driver) (memory : Memory) (request : Request) : Type 0 where
-  pub counted : is_bad_count request ≡ false
-  pub matched : is_mismatch request ≡ false
-  pub few : length request.prds.items ≤ 248
-  pub good : list_any (is_bad_prd (end_of memory)) request.prds.items ≡ false
-  pub apart : overlaps d request ≡ false
-  pub room : is_full d.entries ≡ false
-  pub below : d.given ≢ 4294967295
 
 -- a test that refuses does not apply
 unrefused : (b : Bool) (e : SubmitError) (rest : Option SubmitError) → (if b then Some e else rest) ≡ None → (b ≡ false) × (rest ≡ None)

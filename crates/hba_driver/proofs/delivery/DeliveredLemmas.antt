@@ -23,8 +23,9 @@ use Rattle.hba_driver.specs.Events.{IsSoundHostIn, events_over, opening_host_in,
 use Rattle.hba_driver.specs.HostTurns.{Does, DoesAll, Host, HostTurn, Took}
 use Rattle.hba_driver.specs.Served.{IsIssueOf, IsServed, RunServes}
 use Rattle.hba_driver.specs.Submits.{end_of}
+use Rattle.hba_driver.specs.Between.{HaveGoodPrds}
 use Rattle.hba_driver.proofs.issued.ApartLemmas.{issues_apart}
-use Rattle.hba_driver.proofs.delivery.InsideLemmas.{HaveGoodPrds, as_long, good_since, issue_inside, one_owner}
+use Rattle.hba_driver.proofs.delivery.InsideLemmas.{as_long, good_since, issue_inside, one_owner}
 use Rattle.hba_driver.proofs.issued.ServedLemmas.{turns_serve}
 use Rattle.hba_driver.proofs.events.SoundLemmas.{hosts_stay_sound}
 use Rattle.hba_driver.proofs.events.TurnLemmas.{each_run_tells}

@@ -35,8 +35,8 @@ use Rattle.hba_driver.specs.HostTurns.{Pushed, Put, Ticked, Took, sight_in}
 use Rattle.hba_driver.specs.Requests.{in_use}
 use Rattle.hba_driver.specs.Served.{AreBounded, IsIssueOf, IsRequest, IssuesAreRequests}
 use Rattle.hba_driver.specs.Ticks.{effects}
+use Rattle.hba_driver.specs.Between.{From}
 use Rattle.hba_driver.proofs.issued.ApartLemmas.{in_none, none_in, other_places, request_beside, some_same}
-use Rattle.hba_driver.proofs.issued.IssuingLemmas.{From}
 
 or_read : (a b : Bool) → b ≡ true → (a || b) ≡ true
 or_read true b h = refl

@@ -35,8 +35,8 @@ use Rattle.hba_driver.specs.Requests.{is_bad_prd}
 use Rattle.hba_driver.specs.Sights.{file_shown}
 use Rattle.hba_driver.specs.Submits.{after_poll, after_submit, completion_of, end_of, new_entry, next_slot, submit_refusal}
 use Rattle.hba_driver.specs.Ticks.{after_tick, effects}
+use Rattle.hba_driver.specs.Between.{From, HasGoodPrds, HaveGoodPrds}
 use Rattle.hba_driver.proofs.requests.HistoryLemmas.{back_of, freed, poll_facts, some_same}
-use Rattle.hba_driver.proofs.issued.IssuingLemmas.{From}
 use Rattle.hba_driver.proofs.ticks.LifeLemmas.{keeps_tick}
 use Rattle.hba_driver.proofs.calls.RequestLemmas.{set_cases}
 use Rattle.hba_driver.proofs.events.SoundLemmas.{sound_turn}
@@ -44,12 +44,6 @@ use Rattle.hba_driver.proofs.calls.SubmitLemmas.{is_taken}
 use Rattle.hba_driver.proofs.events.TurnLemmas.{turns_are_events}
 
 -- ---- the PRDs of requests are good ones, from their submits on
-
-abbrev pub HasGoodPrds : ℕ → Entry → Type 0
-HasGoodPrds end e = list_any (is_bad_prd end) e.prds ≡ false
-
-abbrev pub HaveGoodPrds : ℕ → Driver → Type 0
-HaveGoodPrds end d = (s : ℕ) (e : Entry) → entry_at d.entries s ≡ Some e → HasGoodPrds end e
 
 none_some : (e : Entry) {P : Type 0} → None ≡ Some e → P
 none_some e h = cc

@@ -55,22 +55,15 @@ use Rattle.hba_driver.specs.Paths.{reads_page, stage_fields}
 use Rattle.hba_driver.specs.Served.{IsServed}
 use Rattle.hba_driver.specs.Sights.{px_fbs, px_is}
 use Rattle.hba_driver.specs.Ticks.{effects_due}
+use Rattle.hba_driver.specs.Between.{HasOut, IsIssuedAt, MayClear, MayEnd}
 use Rattle.hba_driver.proofs.events.DrivenLemmas.{no_dec, tried_at}
 use Rattle.hba_driver.proofs.calls.EffectLemmas.{all_at, issuing_pass, order_pass, restarts_pass, sending_pass}
-use Rattle.hba_driver.proofs.issued.EndingLemmas.{MayClear, MayEnd, is_accepted, may_then, only_cleared}
+use Rattle.hba_driver.proofs.issued.EndingLemmas.{is_accepted, may_then, only_cleared}
 use Rattle.hba_driver.proofs.requests.StandLemmas.{both}
 use Rattle.hba_driver.proofs.issued.TickingLemmas.{is_calm}
 use Rattle.hba_driver.proofs.events.TurnLemmas.{sound_shared}
-use Rattle.hba_driver.proofs.accepted.UpLemmas.{IsIssuedAt}
 
 -- ---- a command that only its device completes
-
--- a command of a device is issued in a slot; it is not a Control, and not one whose data ends it
-pub record HasOut (port : Port) (slot dev : ℕ) : Type 0 where
-  pub issue : Issue
-  pub is : IsIssuedAt port dev slot issue
-  pub pio : is_pio issue.work.kind ≡ false
-  pub control : is_control issue.work.kind ≡ false
 
 pub out_same : (p q : Port) (slot dev : ℕ) → q ≡ p → HasOut p slot dev → HasOut q slot dev
 out_same p q slot dev is h = subst (λ (x : Port). HasOut x slot dev) (sym is) h

@@ -19,28 +19,16 @@ use Rattle.hba_driver.specs.HostTurns.{Does, Host, HostTurn, Took, Pushed, Ticke
 use Rattle.hba_driver.specs.Laws.{Goes, GoesOn, flushes}
 use Rattle.hba_driver.specs.Sights.{file_shown}
 use Rattle.hba_driver.specs.Ticks.{after_tick, due, effects}
-use Rattle.hba_driver.proofs.accepted.AcceptLemmas.{IsOnWayIn}
-use Rattle.hba_driver.proofs.requests.ComeLemmas.{Fresh, comes_from, ticks}
+use Rattle.hba_driver.specs.Between.{AllStand, Fresh, HasOut, IsOnWayIn, Reports, Stands, ticks}
+use Rattle.hba_driver.proofs.requests.ComeLemmas.{comes_from}
 use Rattle.hba_driver.proofs.ends.DoneLemmas.{done_is_free}
 use Rattle.hba_driver.proofs.requests.HistoryLemmas.{requests_turn}
-use Rattle.hba_driver.proofs.done.OutLemmas.{HasOut, out_pushed, out_same, out_took}
+use Rattle.hba_driver.proofs.done.OutLemmas.{out_pushed, out_same, out_took}
 use Rattle.hba_driver.proofs.ticks.ServeLemmas.{ticks_serve}
 use Rattle.hba_driver.proofs.requests.StandLemmas.{in_slots}
 use Rattle.hba_driver.proofs.done.TrueLemmas.{IssuesIt, WentOut, ended_same, issued_act, issued_is, none_some, out_tick, tick_issues, wider, went_out}
 
 -- ---- a request in its slot
-
--- A request that is issued was reported as done, or its command is out. One that ended as Done was reported.
-abbrev pub Stands : (ℕ → Entry → Type 0) → Port → ℕ → Entry → Phase → Type 0
-Stands P port s e Waits = Unit {0}
-Stands P port s e Issued = P s e ⊎ HasOut port s e.head.dev
-Stands P port s e Aside = Unit {0}
-Stands P port s e (Ended Done) = P s e
-Stands P port s e (Ended outcome) = Unit {0}
-
--- the same in each slot, told of a request as it waited
-abbrev pub AllStand : (ℕ → Entry → Type 0) → Host → Type 0
-AllStand P h = (s : ℕ) (e : Entry) → entry_at h.driver.entries s ≡ Some e → Stands P h.port s (rephased Waits e) e.head.phase
 
 stands_on : (P Q : ℕ → Entry → Type 0) (old new : Port) (s : ℕ) (e : Entry) (p : Phase) → (P s e → Q s e)
     → (p ≡ Issued → HasOut old s e.head.dev → Q s e ⊎ HasOut new s e.head.dev) → Stands P old s e p → Stands Q new s e p
@@ -57,10 +45,6 @@ stands_fresh Q port s old (Submitted dev request ticket) f is = subst (λ (x : E
 stands_fresh Q port s old other f is = absurd is
 
 -- ---- a turn
-
--- the turn reports the request
-abbrev pub Reports : Host → HostTurn → ℕ → Entry → Type 0
-Reports old t s e = (entry_at old.driver.entries s ≡ Some (rephased Issued e)) × (completes s e.head.dev t ≡ true)
 
 as_issued : (e : Entry) → e.head.phase ≡ Issued → e ≡ rephased Issued (rephased Waits e)
 as_issued e is = ap (λ (p : Phase). rephased p e) is

@@ -17,11 +17,12 @@ use Rattle.hba_driver.specs.Events.{opening_host_in}
 use Rattle.hba_driver.specs.HostTurns.{Does, DoesAll, Host, HostTurn, Took, Pushed, Submitted, Polled}
 use Rattle.hba_driver.specs.Reported.{DoneWasReported, IsTurnOf, WasReported}
 use Rattle.hba_driver.specs.Submits.{new_entry}
+use Rattle.hba_driver.specs.Between.{AllStand, Fresh, IsOnWayIn, PollFacts, Reports, Stands}
 use Rattle.hba_driver.proofs.accepted.AcceptLemmas as accept
-use Rattle.hba_driver.proofs.accepted.AcceptLemmas.{IsOnWayIn, way_opens, way_turn}
-use Rattle.hba_driver.proofs.requests.ComeLemmas.{Fresh, comes_from}
-use Rattle.hba_driver.proofs.requests.HistoryLemmas.{PollFacts, poll_facts}
-use Rattle.hba_driver.proofs.done.ReportLemmas.{AllStand, Reports, Stands, all_wider, turn_stands}
+use Rattle.hba_driver.proofs.accepted.AcceptLemmas.{way_opens, way_turn}
+use Rattle.hba_driver.proofs.requests.ComeLemmas.{comes_from}
+use Rattle.hba_driver.proofs.requests.HistoryLemmas.{poll_facts}
+use Rattle.hba_driver.proofs.done.ReportLemmas.{all_wider, turn_stands}
 
 -- ---- turns of a run
 

@@ -38,15 +38,16 @@ use Rattle.hba_driver.specs.Laws.{Goes, GoesOn, flushes}
 use Rattle.hba_driver.specs.Orders.{request_fields, work_fields}
 use Rattle.hba_driver.specs.Sights.{file_shown}
 use Rattle.hba_driver.specs.Ticks.{acted, after_tick, done_ended, due, effects, effects_due, entries_after, is_aside_of, is_done, is_open, is_open_of, removed, seen, stage_ended, turn}
-use Rattle.hba_driver.proofs.accepted.AcceptLemmas.{AloneFor, IsOnWayIn, goes_on, is_up, issue_taken, way_opens, way_turn}
+use Rattle.hba_driver.specs.Between.{Due, Fresh, HasOut, IsOnWayIn, PollFacts, Runs, ticks}
+use Rattle.hba_driver.proofs.accepted.AcceptLemmas.{AloneFor, goes_on, is_up, issue_taken, way_opens, way_turn}
 use Rattle.hba_driver.proofs.accepted.AcceptLemmas as accept
-use Rattle.hba_driver.proofs.requests.ComeLemmas.{Fresh, comes_from, ticks}
+use Rattle.hba_driver.proofs.requests.ComeLemmas.{comes_from}
 use Rattle.hba_driver.proofs.ends.DoneLemmas.{done_is_free}
 use Rattle.hba_driver.proofs.events.DrivenLemmas.{not_below, tick_is, turn_opens}
-use Rattle.hba_driver.proofs.ticks.DueLemmas.{Due, Runs, goes_turn}
-use Rattle.hba_driver.proofs.requests.HistoryLemmas.{PollFacts, poll_facts, requests_turn}
+use Rattle.hba_driver.proofs.ticks.DueLemmas.{goes_turn}
+use Rattle.hba_driver.proofs.requests.HistoryLemmas.{poll_facts, requests_turn}
 use Rattle.hba_driver.proofs.ticks.LifeLemmas.{entry_of_rephased, waiting_stays}
-use Rattle.hba_driver.proofs.done.OutLemmas.{HasOut, out_act, out_opening, out_pushed, out_same, out_took}
+use Rattle.hba_driver.proofs.done.OutLemmas.{out_act, out_opening, out_pushed, out_same, out_took}
 use Rattle.hba_driver.proofs.calls.RequestLemmas.{set_cases}
 use Rattle.hba_driver.proofs.issued.ServedLemmas.{may_end_in}
 use Rattle.hba_driver.proofs.ticks.ServeLemmas.{ticks_serve}

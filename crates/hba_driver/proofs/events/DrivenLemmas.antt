@@ -2,7 +2,7 @@
 use Rattle.std.proofs.Common.{◌≡◌, ℕ, ◌+◌, ◌*◌, ◌/◌, ◌<◌, ◌≤◌, ◌⊎◌, ◌&&◌, Bool, true, false, nat_lt, nat_le, List, [], ◌∷◌, refl, sym, ◌∙◌, ap, subst, inl, inr, arith, Option, Some, None}
 use Rattle.std.specs.Prelude.{if◌then◌else◌, ◌==◌, ◌%◌, MatchOption, not}
 use Rattle.std.proofs.lemmas.Nat.Bits.{bit_at-suc, bit_at_lowest}
-use Rattle.hba_fbs.specs.Bits.{dec, en, fre}
+use Rattle.hba_fbs.specs.Bits.{dec, en}
 use Rattle.std.specs.List.{list_all}
 use Rattle.std.proofs.lemmas.Bool.{cases_Bool, false≢true}
 use Rattle.std.proofs.lemmas.Bool.Decides.{nat_tests}
@@ -30,13 +30,14 @@ use Rattle.hba_driver.specs.declared.turn.Act.{Act}
 use Rattle.hba_driver.specs.declared.turn.Act.TheVariants as act
 use Rattle.hba_driver.specs.declared.turn.Turn.{Turn}
 use Rattle.hba_driver.specs.Drivers.{Driver, Entry}
-use Rattle.hba_driver.specs.Effects.{Acts, ActsAll, Tries, effects_of, issuing, opening_write, order_effects, restart_write}
+use Rattle.hba_driver.specs.Effects.{Acts, ActsAll, Tries, effects_of, issuing, order_effects, restart_write}
 use Rattle.hba_driver.specs.Events.{AreDriven, KnowsNone}
 use Rattle.hba_driver.specs.Modes.{clears_with, is_switching}
 use Rattle.hba_driver.specs.Paths.{reads_page, stage_fields}
-use Rattle.hba_driver.specs.Ticks.{acted, after_tick, done_ended, effects, effects_due, from_reset, logged_ended, plan_after, recovering, seen, turn}
+use Rattle.hba_driver.specs.Ticks.{acted, after_tick, done_ended, effects_due, from_reset, logged_ended, plan_after, recovering, seen, turn}
 use Rattle.hba_driver.specs.Turns.{early_due, plain_turn, turn_of}
-use Rattle.hba_driver.proofs.ticks.DueLemmas.{Due, PlanGoes, due_turn, goes_turn}
+use Rattle.hba_driver.specs.Between.{Due, Going, Opening, Way, calm, calm_effect, firm, firm_effect, keeps_en}
+use Rattle.hba_driver.proofs.ticks.DueLemmas.{PlanGoes, due_turn, goes_turn}
 use Rattle.hba_driver.proofs.calls.EffectLemmas.{issuing_pass, order_pass, restarts_pass, sending_pass}
 
 -- ---- a write is taken, or refused
@@ -72,25 +73,6 @@ pub tried_at : (register : Register) (offset value : ℕ) (old : Port) (memory :
 tried_at register offset value old memory new at tries = tried_by register offset value old memory new (write_refusal old memory offset value) at refl tries
 
 -- ---- what leaves command list and received area where they are
-
--- the value has EN as the mode has it
-abbrev keeps_en : Mode → ℕ → Bool
-keeps_en Switching value = has_bit value en
-keeps_en CommandBased value = not (has_bit value en)
-
-abbrev calm : Mode → Option Register → ℕ → Bool
-calm mode None value = false
-calm mode (Some Sact) value = true
-calm mode (Some Ci) value = true
-calm mode (Some Sntf) value = true
-calm mode (Some Is) value = true
-calm mode (Some Fbs) value = keeps_en mode value
-calm mode (Some Cmd) value = has_bit value fre
-calm mode (Some register) value = false
-
-abbrev pub calm_effect : Mode → Effect → Bool
-calm_effect mode (effect.Writes offset value) = calm mode (register_at offset) value
-calm_effect mode other = true
 
 -- FBS.EN stays as the mode has it, and FRE stays set
 pub record SamePlace (mode : Mode) (r s : Registers) : Type 0 where
@@ -192,15 +174,6 @@ calm_order mode order = order_pass (calm_effect mode) mode order refl (λ port i
 
 -- ---- what leaves ST
 
-abbrev firm : Option Register → Bool
-firm None = false
-firm (Some Cmd) = false
-firm (Some register) = true
-
-abbrev pub firm_effect : Effect → Bool
-firm_effect (effect.Writes offset value) = firm (register_at offset)
-firm_effect other = true
-
 written_firm : (register : Register) (r : Registers) (value : ℕ) → firm (Some register) ≡ true → (written register r value).started ≡ r.started
 unfolding written
 written_firm Cmd r value h = absurd (false≢true h)
@@ -261,35 +234,6 @@ driven_open n m k r s least same starts d = record {
 }
 
 -- ---- what a tick does
-
--- it is the next write that opens the port
-pub record Opening (v : Sight) (file : TaskFile) (d : Driver) : Type 0 where
-  pub less : d.plan.opened < 7
-  pub one : effects v d ≡ opening_write d.plan.mode d.plan.opened ∷ []
-  pub plan_is : (after_tick v file d).plan ≡ record d.plan { opened = d.plan.opened + 1 }
-
--- an act leaves ST, and the number of writes that start the port again
-pub record Steady (mode : Mode) (a : Option Act) (before after : ℕ) : Type 0 where
-  pub firm_is : list_all firm_effect (effects_due mode a) ≡ true
-  pub same : after ≡ before
-
--- it is the next of these writes
-pub record Restarting (mode : Mode) (a : Option Act) (before after : ℕ) : Type 0 where
-  pub less : before < 2
-  pub one : effects_due mode a ≡ restart_write before ∷ []
-  pub next : after ≡ before + 1
-
--- one of the two, or it stops the port
-abbrev pub Way : Mode → Option Act → (before after : ℕ) → Type 0
-Way mode a before after = Steady mode a before after ⊎ ((after ≡ 0) ⊎ Restarting mode a before after)
-
--- the port is open
-pub record Going (v : Sight) (file : TaskFile) (d : Driver) : Type 0 where
-  pub least : 7 ≤ d.plan.opened
-  pub quiet : list_all (calm_effect d.plan.mode) (effects v d) ≡ true
-  pub opened_is : (after_tick v file d).plan.opened ≡ d.plan.opened
-  pub mode_is : (after_tick v file d).plan.mode ≡ d.plan.mode
-  pub way : Way d.plan.mode (turn v d).act d.plan.restarted (after_tick v file d).plan.restarted
 
 -- an act that is not an opening write
 record Calm (a : Option Act) (d : Driver) : Type 0 where

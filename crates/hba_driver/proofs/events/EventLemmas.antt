@@ -24,7 +24,8 @@ use Rattle.hba_driver.specs.declared.effect.Effect.TheVariants as effect
 use Rattle.hba_driver.specs.declared.mode.Mode.{Mode}
 use Rattle.hba_driver.specs.Effects.{Acts, ActsAll, IsRuled, Tries, is_effect, prds_with, table_of}
 use Rattle.hba_driver.specs.Events.{events_of_effect, events_of_effects, wrote_to}
-use Rattle.hba_driver.proofs.events.DrivenLemmas.{SamePlace, calm_effect, place_effect, place_then, refusal_is, same_place}
+use Rattle.hba_driver.specs.Between.{beside, calm_effect}
+use Rattle.hba_driver.proofs.events.DrivenLemmas.{SamePlace, place_effect, place_then, refusal_is, same_place}
 use Rattle.hba_driver.proofs.requests.StandLemmas.{Same, both, few_prds, lt_of, same_written}
 
 -- ---- lists of events that run
@@ -45,10 +46,6 @@ good_then [] fs a b c g k = subst (λ (h : event.Host). Good h fs c) g.runs k
 good_then (e ∷ es) fs a b c g k =
     let rest : Good g.runs.0 (es ++ fs) c = good_then es fs g.runs.0 b c (record { runs = g.runs.2; hosts = g.hosts.1 }) k in
     record { runs = (g.runs.0, g.runs.1, rest.runs); hosts = (g.hosts.0, rest.hosts) }
-
--- port and memory
-abbrev pub beside : Port → Memory → event.Host
-beside port memory = record { port = port; memory = memory }
 
 pub beside_same : (p q : Port) (m n : Memory) → q ≡ p → n ≡ m → beside q n ≡ beside p m
 beside_same p q m n h k = rw (h, k) refl

@@ -32,22 +32,10 @@ use Rattle.hba_driver.specs.Effects.{Acts, Tries, opening_write, restart_write}
 use Rattle.hba_driver.specs.Events.{AreDriven}
 use Rattle.hba_driver.specs.HostTurns.{Does, Host, Took}
 use Rattle.hba_driver.specs.Modes.{enabled, is_switching}
+use Rattle.hba_driver.specs.Between.{IsUpIn}
 use Rattle.hba_driver.proofs.events.DrivenLemmas.{past, refusal_is}
 
 -- ---- what the registers are
-
--- the port is open, and runs in this mode
-pub record IsUpIn (mode : Mode) (r : Registers) : Type 0 where
-  pub list : r.clb ≡ 0
-  pub list_high : r.clbu ≡ 0
-  pub area_high : r.fbu ≡ 0
-  pub switches : r.switching ≡ is_switching mode
-  pub receives : r.receives ≡ true
-  pub starts : r.started ≡ true
-
--- the same with FIS-based switching
-abbrev pub IsUp : Registers → Type 0
-IsUp r = IsUpIn Switching r
 
 pub up_of : {mode : Mode} (n m : ℕ) (r : Registers) → 7 ≤ n → 2 ≤ m → AreDriven mode n m r → IsUpIn mode r
 up_of n m r least done d = record {

@@ -30,7 +30,8 @@ use Rattle.hba_driver.specs.HostTurns.{AreHosts, Does, DoesAll, Host, HostTurn, 
 use Rattle.hba_driver.specs.Sights.{file_shown}
 use Rattle.hba_driver.specs.Submits.{after_poll, lowest_ended, next_slot}
 use Rattle.hba_driver.specs.Ticks.{after_tick, effects, effects_due, turn}
-use Rattle.hba_driver.proofs.events.DrivenLemmas.{SamePlace, Way, driven_open, mode_ticked, none_ticked, past, started_effects, tick_is}
+use Rattle.hba_driver.specs.Between.{Way}
+use Rattle.hba_driver.proofs.events.DrivenLemmas.{SamePlace, driven_open, mode_ticked, none_ticked, past, started_effects, tick_is}
 use Rattle.hba_driver.proofs.events.EventLemmas.{Left, beside_area, left_effects, same_sizes, sized, sized_effect}
 use Rattle.hba_driver.proofs.requests.HistoryLemmas.{free_below, requests_turn}
 use Rattle.hba_driver.proofs.events.OpenLemmas.{Stays, opens_taken, restart_taken, stays_driven, stays_gives, stays_port, stays_took}

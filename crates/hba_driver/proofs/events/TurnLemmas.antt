@@ -31,9 +31,10 @@ use Rattle.hba_driver.specs.Requests.{device_refusal}
 use Rattle.hba_driver.specs.Sights.{file_shown}
 use Rattle.hba_driver.specs.Submits.{next_slot, submit_refusal}
 use Rattle.hba_driver.specs.Ticks.{effects}
+use Rattle.hba_driver.specs.Between.{beside}
 use Rattle.hba_driver.proofs.events.DrivenLemmas.{tick_is}
 use Rattle.hba_driver.proofs.calls.EffectLemmas.{all_at}
-use Rattle.hba_driver.proofs.events.EventLemmas.{Good, beside, beside_area, beside_same, does_store, good_effect, good_effects, good_none, good_one, good_then, sized_effect, sound_beside, wants_area}
+use Rattle.hba_driver.proofs.events.EventLemmas.{Good, beside_area, beside_same, does_store, good_effect, good_effects, good_none, good_one, good_then, sized_effect, sound_beside, wants_area}
 use Rattle.hba_driver.proofs.requests.HistoryLemmas.{free_below}
 use Rattle.hba_driver.proofs.events.SoundLemmas.{sound_turn}
 use Rattle.hba_driver.proofs.requests.StandLemmas.{both}

@@ -32,7 +32,7 @@ use Rattle.hba_fbs.specs.Sending.{Gives, Nothing, Outgoing, Unreadable, outgoing
 use Rattle.hba_fbs.specs.Taking.{admitted, fault_interrupts, heard_now, ignores, port_cause, port_of, posted_of, settled, stops_with}
 use Rattle.hba_fbs.specs.Views.{Port, view_of}
 use Rattle.hba_fbs.specs.Writing.{errors_after, refusal_of}
-use Rattle.hba_laws.specs.Delivering.{HaveTables, touches_after}
+use Rattle.hba_laws.specs.Delivering.{touches_after}
 use Rattle.hba_laws.specs.Isolation.{fails_by_bus}
 use Rattle.hba_laws.proofs.Door.{spared_tables_read}
 use Rattle.hba_driver.specs.declared.effect.Effect.{Effect}
@@ -49,14 +49,15 @@ use Rattle.hba_driver.specs.HostTurns.{Does, DoesAll, Host, HostTurn, Took, Push
 use Rattle.hba_driver.specs.Served.{RunServes}
 use Rattle.hba_driver.specs.Sights.{file_shown, shown, sight_of}
 use Rattle.hba_driver.specs.Submits.{after_poll, lowest_ended}
-use Rattle.hba_driver.specs.Ticks.{acted, after_tick, due, effects, plan_after, seen, turn}
+use Rattle.hba_driver.specs.Ticks.{acted, after_tick, due, effects, plan_after, seen}
 use Rattle.hba_driver.specs.Going.{AreOfControl, GoesOn, IsOfControl, NothingStops, PortsGoOn, leaves_port}
-use Rattle.hba_driver.proofs.accepted.AcceptLemmas.{IsOnWay, way_opens, way_turn}
+use Rattle.hba_driver.specs.Between.{Due, IsCalm, IsGoing, IsOfControlIn, IsOnWay, NoFatal}
+use Rattle.hba_driver.proofs.accepted.AcceptLemmas.{way_opens, way_turn}
 use Rattle.hba_driver.proofs.events.DrivenLemmas.{restarted_cleared, restarted_ordered, tried_at}
-use Rattle.hba_driver.proofs.ticks.DueLemmas.{Due, goes_turn}
+use Rattle.hba_driver.proofs.ticks.DueLemmas.{goes_turn}
 use Rattle.hba_driver.proofs.ticks.LifeLemmas.{due_seen}
 use Rattle.hba_driver.proofs.goes_on.PageLemmas.{page_turn}
-use Rattle.hba_driver.proofs.goes_on.ReadLemmas.{HasPage, can_read}
+use Rattle.hba_driver.proofs.goes_on.ReadLemmas.{can_read}
 use Rattle.hba_driver.proofs.modes.RowMode.{faultless_as, spares_as, started_mode}
 use Rattle.hba_driver.proofs.issued.ServedLemmas.{turns_serve}
 use Rattle.hba_driver.proofs.goes_on.StopLemmas.{either}
@@ -65,19 +66,11 @@ use Rattle.hba_driver.proofs.modes.SwitchLemmas.{sight_is}
 
 -- ---- bit HBFS, 29, of PxIS
 
-abbrev NoFatal : ℕ → Type 0
-NoFatal value = bit_at value 29 ≡ 0
-
 or_none : (a b : ℕ) → NoFatal a → NoFatal b → NoFatal (bit_or a b)
 or_none a b h k = let both : bit_at (bit_or a b) 29 ≡ max (bit_at a 29) (bit_at b 29) = bit_at_or a b 29 in omega (arith, both, h, k)
 
 and_none : (a b : ℕ) → NoFatal a → NoFatal (bit_and a b)
 and_none a b h = let both : bit_at (bit_and a b) 29 ≡ min (bit_at a 29) (bit_at b 29) = bit_at_and a b 29 in omega (arith, both, h)
-
--- no fault of the port stands, and PxIS shows none
-pub record IsCalm (port : Port) : Type 0 where
-  pub faultless : port.errors.port ≡ None
-  pub quiet : NoFatal port.registers.interrupts
 
 calm_as : (old new : Port) → new.errors.port ≡ old.errors.port → new.registers.interrupts ≡ old.registers.interrupts → IsCalm old → IsCalm new
 calm_as old new errors interrupts is = record { faultless = errors ∙ is.faultless; quiet = ap (λ (n : ℕ). bit_at n 29) interrupts ∙ is.quiet }
@@ -224,22 +217,10 @@ module _ (h : Host) (s : IsSoundHost h) (calm : IsCalm h.port) (up : h.driver.pl
 
 -- ---- a host that goes on
 
-pub record IsGoing (h : Host) : Type 0 where
-  pub way : IsOnWay h
-  pub tables : HaveTables (shared_by h) way.past
-  pub page : HasPage h.driver h.memory
-  pub calm : IsCalm h.port
-  pub up : h.driver.plan.restarted ≡ 2
-
 pub stops_none : (h : Host) → IsGoing h → NothingStops (shared_by h)
 stops_none h g =
     nothing_stops (shared_by h) (record { port = g.way.sound.ruled.rules; slots = g.way.sound.ruled.table; errors = g.way.sound.ruled.faults; memory = g.way.sound.memory })
     (started_mode h.driver.plan.opened h.driver.plan.restarted h.port.registers g.way.sound.registers) (can_read h g.way g.tables g.page)
-
--- the FIS of a turn that takes one
-abbrev pub IsOfControlIn : HostTurn → Type 0
-IsOfControlIn (Took frame report) = IsOfControl frame
-IsOfControlIn turn = Unit {0}
 
 calm_turn : (old : Host) (t : HostTurn) (new : Host) → Does old t new → IsGoing old → IsOfControlIn t → IsCalm new.port
 calm_turn old (Took frame report) new h g of = took_calm old new frame report h (stops_none old g) of g.calm

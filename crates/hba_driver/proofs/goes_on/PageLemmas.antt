@@ -38,11 +38,11 @@ use Rattle.hba_driver.specs.Submits.{after_poll, lowest_ended, next_slot}
 use Rattle.hba_driver.specs.Paths.{reads_page, stage_fields}
 use Rattle.hba_driver.specs.Ticks.{acted, after_tick, done_ended, due, effects_due, ordered, plan_after, seen, unless}
 use Rattle.hba_driver.specs.Turns.{turn_of}
+use Rattle.hba_driver.specs.Between.{HasPage}
 use Rattle.hba_driver.proofs.ticks.DueLemmas.{goes_turn}
 use Rattle.hba_driver.proofs.calls.EffectLemmas.{issuing_pass, opens_pass, order_pass, restarts_pass}
 use Rattle.hba_driver.proofs.requests.HistoryLemmas.{free_below}
 use Rattle.hba_driver.proofs.delivery.InsideLemmas.{as_long}
-use Rattle.hba_driver.proofs.goes_on.ReadLemmas.{HasPage}
 use Rattle.hba_driver.proofs.events.SoundLemmas.{sound_host}
 use Rattle.hba_driver.proofs.requests.StandLemmas.{Same, both, few_prds, lt_of, posted_beside, runs, same_beside, same_written}
 use Rattle.hba_driver.proofs.goes_on.StopLemmas.{either}

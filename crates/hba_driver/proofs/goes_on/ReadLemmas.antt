@@ -2,7 +2,6 @@
 use Rattle.std.proofs.Common.{◌≡◌, ℕ, zero, suc, ◌+◌, ◌*◌, ◌<◌, ◌≤◌, ◌⊎◌, Bool, true, false, ◌&&◌, List, length, refl, sym, ◌∙◌, ap, subst, inl, inr, arith, Option, Some, None}
 use Rattle.std.specs.Prelude.{◌==◌, if◌then◌else◌, is_none, is_some}
 use Rattle.std.proofs.lemmas.Bool.{false≢true, eq-eqb, le-ltb}
-use Rattle.host_memory.specs.Memory.{Memory}
 use Rattle.host_memory.specs.Place.{total_of}
 use Rattle.host_memory.specs.Reading.{prds_at, read_fault}
 use Rattle.host_memory.specs.declared.table.Prd.{Prd}
@@ -17,21 +16,13 @@ use Rattle.hba_laws.specs.Client.{own}
 use Rattle.hba_laws.specs.Delivering.{HaveTables}
 use Rattle.hba_laws.specs.History.{Transfer, issued}
 use Rattle.hba_laws.proofs.Door.{is_own, own_below, own_in, the, the_transfer}
-use Rattle.hba_driver.specs.declared.path.Path.{Path}
-use Rattle.hba_driver.specs.Drivers.{Driver}
 use Rattle.hba_driver.specs.Effects.{prds_with, table_of}
 use Rattle.hba_driver.specs.Events.{shared_by}
 use Rattle.hba_driver.specs.HostTurns.{Host}
 use Rattle.hba_driver.specs.Paths.{reads_page}
 use Rattle.hba_driver.specs.Served.{IsIssueOf, IsOrdered, IsRequest, IsStep}
-use Rattle.hba_driver.proofs.accepted.AcceptLemmas.{IsOnWay}
 use Rattle.hba_driver.specs.Going.{CanBeRead}
-
--- the table of slot 30 can be read while the path there waits for a page
-abbrev pub HasPage : Driver → Memory → Type 0
-HasPage d memory =
-    (path : Path) → d.plan.path ≡ Some path → path.asked ≡ true → reads_page path.stage ≡ true
-    → read_fault memory.structure (length memory.client) (table_of 30 + 128) 1 ≡ None
+use Rattle.hba_driver.specs.Between.{HasPage, IsOnWay}
 
 counted : (s : List ℕ) (at n : ℕ) → length (prds_at s at n) ≡ n
 counted s at zero = refl

@@ -33,7 +33,8 @@ use Rattle.hba_fbs.specs.Views.{DeviceView, Port, view_of}
 use Rattle.hba_laws.specs.Hosts as event
 use Rattle.hba_laws.specs.Isolation.{fails_by_bus, stops_port}
 use Rattle.hba_laws.specs.Sound.{IsHost}
-use Rattle.hba_laws.proofs.Door.{HasContext, is_own, IsOwn}
+use Rattle.hba_laws.specs.Between.{HasContext, IsOwn}
+use Rattle.hba_laws.proofs.Door.{is_own}
 use Rattle.hba_driver.specs.Orders.{control_port}
 use Rattle.hba_driver.specs.Going.{CanBeRead, FaultsNeverStop, IsOfControl, IsReport, NothingStops, SparesPort, SwitchesIfStarted}
 use Rattle.hba_driver.proofs.modes.ModeLemmas.{stops_as}

@@ -19,7 +19,7 @@ use Rattle.hba_driver.specs.Effects.{prds_with, buffer_prd}
 use Rattle.hba_driver.specs.Requests.{in_use, is_among, is_used_by, share_bytes}
 use Rattle.hba_driver.specs.Paths.{reads_page}
 use Rattle.hba_driver.specs.Served.{AreBounded, IsIssueOf, IsRequest, IsStep, IssuesAreRequests}
-use Rattle.hba_driver.proofs.issued.IssuingLemmas.{From}
+use Rattle.hba_driver.specs.Between.{From}
 use Rattle.hba_driver.proofs.requests.StandLemmas.{in_slots}
 use Rattle.hba_driver.proofs.calls.SubmitLemmas.{none_conflict}
 

@@ -43,11 +43,11 @@ use Rattle.hba_driver.specs.Modes.{is_switching}
 use Rattle.hba_driver.specs.Paths.{reset_if_there}
 use Rattle.hba_driver.specs.Sights.{faulty_in, px_cmd, px_fbs, px_is, shown, sight_of}
 use Rattle.hba_driver.specs.Ticks.{acted, cleared_plan, done_ended, effects_due, entries_after, from_reset, is_open, is_open_of, plan_after, recovering, stopped_plan, turn}
+use Rattle.hba_driver.specs.Between.{Due, From, MayClear, MayEnd, MayStop, Runs, beside}
 use Rattle.hba_driver.proofs.events.DrivenLemmas.{not_below}
-use Rattle.hba_driver.proofs.ticks.DueLemmas.{Due, Runs, due_turn, runs_turn}
-use Rattle.hba_driver.proofs.events.EventLemmas.{beside, same_sizes, sound_beside}
+use Rattle.hba_driver.proofs.ticks.DueLemmas.{due_turn, runs_turn}
+use Rattle.hba_driver.proofs.events.EventLemmas.{same_sizes, sound_beside}
 use Rattle.hba_driver.proofs.requests.HistoryLemmas.{back_of}
-use Rattle.hba_driver.proofs.issued.IssuingLemmas.{From}
 use Rattle.hba_driver.proofs.ticks.LifeLemmas.{entry_of_rephased, keeps_set_aside, keeps_stopped, length_of_rephased}
 use Rattle.hba_driver.proofs.issued.ServingLemmas.{Follows, Goes, first_goes, from_moves, not_flushed, taken_goes, write_goes}
 use Rattle.hba_driver.proofs.issued.TickingLemmas.{IsOurs, Needs, act_goes, else_entry, last_goes, unless_back, unless_other, unless_path}
@@ -77,11 +77,6 @@ stopped_follows d = record {
 none_issued : (b : Bool) (n s : ℕ) (t : Transfer) (past : Touches) {P : Type 0} → b ≡ true → issued s (own n ((if b then Stops ∷ [] else []) ++ past)) ≡ Some t → P
 none_issued true n s t past on h = let bad : None ≡ Some t = h in cc
 none_issued false n s t past on h = absurd (false≢true on)
-
--- FRE and ST are set
-pub record MayStop (r : Registers) : Type 0 where
-  pub receives : r.receives ≡ true
-  pub started : r.started ≡ true
 
 pub stop_taken : (port : Port) (memory : Memory) → port.registers.receives ≡ true → write_refusal port memory px_cmd 131088 ≡ None
 unfolding cmd_refusal own_refusal slots_refusal register_at
@@ -177,12 +172,6 @@ not_running false = refl
 pub clear_taken : (dev : ℕ) (port : Port) (memory : Memory) → port.registers.switching ≡ true → write_refusal port memory px_fbs (256 * dev + 3) ≡ None
 unfolding own_refusal slots_refusal register_at
 clear_taken dev port memory on = rw (has_en dev, on) (not_running port.registers.started)
-
--- the port switches between devices, and PxFBS shows this one with a fault
-pub record MayClear (dev : ℕ) (port : Port) : Type 0 where
-  pub below : dev < 16
-  pub switches : port.registers.switching ≡ true
-  pub faulty : cleared_device port.errors ≡ Some dev
 
 pub only_cleared : (dev : ℕ) (errors : Errors) → cleared_device errors ≡ Some dev → cleared_by errors (256 * dev + 3) ≡ Some dev
 only_cleared dev errors is = ap (λ (b : Bool). if b then cleared_device errors else None) (has_dec dev) ∙ is
@@ -295,12 +284,6 @@ faulty_reported port memory x ruled none is =
     (dwe_at (bit en port.registers.switching) port.registers.chosen x (bit_most port.registers.switching) ruled.rules.registers.chosen (ruled.faults.reported_is_marked x is).0)
 
 -- ---- each act
-
--- what the acts that end a fault need of the port
-abbrev pub MayEnd : Mode → Option Act → Port → Type 0
-MayEnd mode (Some act.Stops) port = MayStop port.registers
-MayEnd mode (Some (act.Clears dev)) port = (mode ≡ Switching) × MayClear dev port
-MayEnd mode a port = Unit {0}
 
 none_clears : {P : Type 0} → CommandBased ≡ Switching → P
 none_clears h = cc

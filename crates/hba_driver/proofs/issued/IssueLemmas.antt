@@ -22,7 +22,8 @@ use Rattle.hba_laws.specs.History.{Transfer, issued}
 use Rattle.hba_laws.specs.Hosts as event
 use Rattle.hba_laws.specs.Hosts.{HostEvent, Runs}
 use Rattle.hba_laws.specs.Sound as sound
-use Rattle.hba_laws.proofs.Door.{histories_step, NoneIssues, own_here, own_in, the_transfer, was_there}
+use Rattle.hba_laws.specs.Between.{NoneIssues}
+use Rattle.hba_laws.proofs.Door.{histories_step, own_here, own_in, the_transfer, was_there}
 use Rattle.hba_driver.specs.declared.mode.Mode.{Mode}
 use Rattle.hba_driver.specs.declared.mode.Mode.TheVariants.{Switching, CommandBased}
 use Rattle.hba_driver.specs.Drivers.{Driver, Entry}

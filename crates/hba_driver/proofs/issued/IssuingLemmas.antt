@@ -40,8 +40,9 @@ use Rattle.hba_laws.specs.Delivering.{issued_below, issued_in, touched}
 use Rattle.hba_laws.specs.History.{History, Transfer, issued}
 use Rattle.hba_laws.specs.Hosts as event
 use Rattle.hba_laws.specs.Sound as sound
-use Rattle.hba_laws.proofs.Door.{histories_step, history_below, other_below, own_app, own_below_is, own_in, some_inj}
-use Rattle.hba_laws.proofs.Door.{stands_readable, transfer_of, with_issued}
+use Rattle.hba_laws.specs.Between.{history_below, transfer_of, with_issued}
+use Rattle.hba_laws.proofs.Door.{histories_step, other_below, own_app, own_below_is, own_in, some_inj}
+use Rattle.hba_laws.proofs.Door.{stands_readable}
 use Rattle.hba_driver.specs.declared.path.Path.{Path}
 use Rattle.hba_driver.specs.Drivers.{Driver, Entry, entry_at}
 use Rattle.hba_driver.specs.Effects.{table_of}
@@ -50,7 +51,8 @@ use Rattle.hba_driver.specs.Paths.{stage_fields}
 use Rattle.hba_driver.specs.declared.mode.Mode.{Mode}
 use Rattle.hba_driver.specs.declared.mode.Mode.TheVariants.{Switching, CommandBased}
 use Rattle.hba_driver.specs.Modes.{is_switching}
-use Rattle.hba_driver.specs.Served.{AreOfOne, HasItsTable, HaveCommands, IsBuiltOf, IsFisOf, IsIssueOf, IsOrdered, IsRequest, IsServed, IsStep}
+use Rattle.hba_driver.specs.Served.{AreOfOne, HasItsTable, HaveCommands, IsBuiltOf, IsFisOf, IsIssueOf, IsServed}
+use Rattle.hba_driver.specs.Between.{Asked, From, New}
 
 -- ---- the command that stands in a slot
 
@@ -155,11 +157,6 @@ bit_same slot = ap (λ (k : ℕ). k == 1) (bit_at-pow_same slot)
 
 pub bit_other : (slot s : ℕ) → s ≢ slot → has_bit (2 ^ slot) s ≡ false
 bit_other slot s other = ap (λ (k : ℕ). k == 1) (bit_at-pow_other slot s other)
-
--- only this slot, and the command in it
-pub record Asked (port : Port) (memory : Memory) (slot s : ℕ) (command : Command) : Type 0 where
-  pub slot_is : s ≡ slot
-  pub command_is : command_at memory port.registers.clb slot (has_bit port.registers.armed slot) ≡ Some command
 
 pub asked_is : (port : Port) (memory : Memory) (slot s : ℕ) (command : Command) → asked port.registers memory (2 ^ slot) s ≡ Some command → Asked port memory slot s command
 asked_is port memory slot s command h = elim (cases_eq s slot) [
@@ -286,9 +283,6 @@ aimed_is port memory value s more h below bit =
 
 -- ---- what is issued after it
 
-abbrev pub New : Memory → (ℕ → Option Command) → ℕ → Transfer → Type 0
-New memory commands s t = (command : Command) × (commands s ≡ Some command) × (transfer_of memory command ≡ t)
-
 below_case : (memory : Memory) (commands : ℕ → Option Command) (h later : History) (m s : ℕ) (t : Transfer) → (issued s later ≡ Some t → New memory commands s t ⊎ (issued s h ≡ Some t)) → (o : Option Command) → commands m ≡ o
     → issued s (with_issued memory m o later) ≡ Some t → New memory commands s t ⊎ (issued s h ≡ Some t)
 below_case memory commands h later m s t rest None here e = rest e
@@ -342,10 +336,6 @@ command_then commands s old command last = elim (cases_lt s (length old)) [
 or_cases : {A : Type 0} (o p : Option A) (a : A) → option_or o p ≡ Some a → (o ≡ Some a) ⊎ (p ≡ Some a)
 or_cases None p a h = inr h
 or_cases (Some x) p a h = inl h
-
--- an issue is one of the driver's
-abbrev pub From : Driver → (n s : ℕ) → Transfer → Type 0
-From d n s t = IsRequest d n s t ⊎ (IsStep d n s t ⊎ IsOrdered d n s t)
 
 -- the fields are those of the request in the slot, or of the path that has slot 30
 pub record AreFields (d : Driver) (slot : ℕ) (fields : H2dFields) : Type 0 where

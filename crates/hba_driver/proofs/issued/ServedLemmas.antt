@@ -26,7 +26,8 @@ use Rattle.hba_laws.specs.History.{Sent, SentControl, SetUp, Transfer, issued}
 use Rattle.hba_laws.specs.Hosts as event
 use Rattle.hba_laws.specs.Hosts.{HostEvent}
 use Rattle.hba_laws.specs.Sound as sound
-use Rattle.hba_laws.proofs.Door.{gives_commands, NoneIssues, opens_untold, out_none, took_none}
+use Rattle.hba_laws.specs.Between.{NoneIssues}
+use Rattle.hba_laws.proofs.Door.{gives_commands, opens_untold, out_none, took_none}
 use Rattle.hba_driver.specs.declared.mode.Mode.{Mode}
 use Rattle.hba_driver.specs.declared.mode.Mode.TheVariants.{Switching, CommandBased}
 use Rattle.hba_driver.specs.declared.plan.Device.{Device}
@@ -53,18 +54,18 @@ use Rattle.hba_driver.specs.Served.{AreBounded, HasCommand, HaveCommands, HasSiz
 use Rattle.hba_driver.specs.Sights.{file_shown, sight_of}
 use Rattle.hba_driver.specs.Submits.{after_submit, end_of, lowest_ended, new_entry, new_head, next_slot, submit_refusal}
 use Rattle.hba_driver.specs.Ticks.{after_tick, done_ended, is_done, seen, turn}
+use Rattle.hba_driver.specs.Between.{From, IsFree, MayEnd, PollFacts, beside}
 use Rattle.hba_driver.proofs.issued.ApartLemmas.{issues_apart, kept_device, puts_spare}
 use Rattle.hba_driver.proofs.ends.DoneLemmas.{free_slot}
 use Rattle.hba_driver.proofs.events.DrivenLemmas.{not_below, turn_opens}
 use Rattle.hba_driver.proofs.ticks.DueLemmas.{goes_turn}
-use Rattle.hba_driver.proofs.events.EventLemmas.{beside, beside_area, beside_same, does_store, sound_beside}
-use Rattle.hba_driver.proofs.issued.EndingLemmas.{MayEnd, each_act, may_end}
-use Rattle.hba_driver.proofs.requests.HistoryLemmas.{PollFacts, back_of, free_below, free_other, freed, poll_facts}
+use Rattle.hba_driver.proofs.events.EventLemmas.{beside_area, beside_same, does_store, sound_beside}
+use Rattle.hba_driver.proofs.issued.EndingLemmas.{each_act, may_end}
+use Rattle.hba_driver.proofs.requests.HistoryLemmas.{back_of, free_below, free_other, freed, poll_facts}
 use Rattle.hba_driver.proofs.issued.IssueLemmas.{calm_event, command_stays, rest_none, rest_then, spares_by, told_at}
-use Rattle.hba_driver.proofs.issued.IssuingLemmas.{From}
 use Rattle.hba_driver.proofs.ticks.LifeLemmas.{due_seen, entry_of_rephased, keeps_seen, slots_seen, unaside_stays}
 use Rattle.hba_driver.proofs.calls.RequestLemmas.{set_cases}
-use Rattle.hba_driver.proofs.issued.ServingLemmas.{Follows, Goes, IsFree, beside_table, from_moves, moves_goes, not_busy, served_moves}
+use Rattle.hba_driver.proofs.issued.ServingLemmas.{Follows, Goes, beside_table, from_moves, moves_goes, not_busy, served_moves}
 use Rattle.hba_driver.proofs.events.SoundLemmas.{sound_host, sound_turn}
 use Rattle.hba_driver.proofs.requests.StandLemmas.{agree_turn, header_area, in_slots, posted_beside, runs, same_memory, same_written, table_area}
 use Rattle.hba_driver.proofs.calls.SubmitLemmas.{is_taken}

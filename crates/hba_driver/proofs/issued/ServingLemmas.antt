@@ -25,7 +25,8 @@ use Rattle.hba_laws.specs.History.{Emptied, Transfer, issued}
 use Rattle.hba_laws.specs.Hosts as event
 use Rattle.hba_laws.specs.Hosts.{HostEvent}
 use Rattle.hba_laws.specs.Sound as sound
-use Rattle.hba_laws.proofs.Door.{clear_none, falls_none, NoneIssues, NotIssue, the}
+use Rattle.hba_laws.specs.Between.{NoneIssues, NotIssue}
+use Rattle.hba_laws.proofs.Door.{clear_none, falls_none, the}
 use Rattle.hba_driver.specs.declared.effect.Effect.{Effect}
 use Rattle.hba_driver.specs.declared.effect.Effect.TheVariants as effect
 use Rattle.hba_driver.specs.declared.path.Path.{Path}
@@ -36,10 +37,11 @@ use Rattle.hba_driver.specs.Orders.{request_fields}
 use Rattle.hba_driver.specs.declared.mode.Mode.{Mode}
 use Rattle.hba_driver.specs.Modes.{is_switching}
 use Rattle.hba_driver.specs.Served.{AreBounded, AreOfOne, HasCommand, HaveCommands, IsBounded, IsBuiltOf, IsFisOf, IsServed}
+use Rattle.hba_driver.specs.Between.{From, IsFree, beside}
 use Rattle.hba_driver.proofs.events.DrivenLemmas.{refusal_is}
-use Rattle.hba_driver.proofs.events.EventLemmas.{beside, beside_area, beside_same, does_store}
+use Rattle.hba_driver.proofs.events.EventLemmas.{beside_area, beside_same, does_store}
 use Rattle.hba_driver.proofs.issued.IssueLemmas.{Rest, calm_event, command_stays, rest_then, spares_by, told_of}
-use Rattle.hba_driver.proofs.issued.IssuingLemmas.{From, MayIssue, Standing, ci_served, kept_below}
+use Rattle.hba_driver.proofs.issued.IssuingLemmas.{MayIssue, Standing, ci_served, kept_below}
 use Rattle.hba_driver.proofs.requests.StandLemmas.{Same, few_prds, header_area, in_slots, late, lt_of, same_act, same_beside, same_written, table_area}
 
 -- ---- the driver goes on
@@ -294,10 +296,6 @@ empties_goes D d fs c dev old new before after below is area host acts go past s
     (spares_by d (beside old before) (beside new after) past served ((same 0).long ∙ sym m.structure_len) (λ s busy. (same s).agree)) (λ k. k)
     (go past (calm_event d (beside old before) (beside new after) (event.Rewrote dev (replicate 256 0)) past host tt does tt (ap (λ (p : Port). p.commands) acts.0)
     (stands_act d (effect.Empties dev) old new before after served.bounded is refl m acts served.commands) served))
-
--- nothing is issued in a slot, for any device
-abbrev pub IsFree : Driver → ℕ → Type 0
-IsFree d slot = (n : ℕ) (t : Transfer) → From d n slot t → ⊥
 
 pub not_busy : (d : Driver) (h : event.Host) (past : Touches) (slot s : ℕ) → sound.IsHost h → IsServed d h past → IsFree d slot → is_some (issue_at h.port.slots s) ≡ true → s ≢ slot
 not_busy d h past slot s host served free busy same =

@@ -48,15 +48,15 @@ use Rattle.hba_driver.specs.Orders.{control_port, order_fields, request_fields, 
 use Rattle.hba_driver.specs.Paths.{reads_page, stage_fields}
 use Rattle.hba_driver.specs.Sights.{px_ci, px_fbs, px_sact, px_sntf}
 use Rattle.hba_driver.specs.Ticks.{acted, effects_due, entries_after, is_aside_of, is_open_of, plan_after, plan_without, removed, stage_ended, unless}
+use Rattle.hba_driver.specs.Between.{Due, From, IsFree, MayStep, Waiting, beside}
 use Rattle.hba_driver.proofs.events.DrivenLemmas.{SamePlace, en_chosen, place_effect}
-use Rattle.hba_driver.proofs.ticks.DueLemmas.{Due, MayStep, Waiting}
 use Rattle.hba_driver.proofs.calls.EffectLemmas.{all_at}
-use Rattle.hba_driver.proofs.events.EventLemmas.{beside, beside_same, same_sizes, sized_effect, sound_beside}
+use Rattle.hba_driver.proofs.events.EventLemmas.{beside_same, same_sizes, sized_effect, sound_beside}
 use Rattle.hba_driver.proofs.requests.HistoryLemmas.{back_of}
-use Rattle.hba_driver.proofs.issued.IssuingLemmas.{From, MayIssue, Standing}
+use Rattle.hba_driver.proofs.issued.IssuingLemmas.{MayIssue, Standing}
 use Rattle.hba_driver.proofs.ticks.LifeLemmas.{entry_of_rephased, keeps_removed, keeps_staged, length_of_rephased, length_staged}
 use Rattle.hba_driver.proofs.calls.RequestLemmas.{set_cases}
-use Rattle.hba_driver.proofs.issued.ServingLemmas.{Follows, Goes, IsFree, ci_goes, command_goes, empties_goes, first_goes, flush_goes, from_moves, is_ci, moves_goes, write_goes}
+use Rattle.hba_driver.proofs.issued.ServingLemmas.{Follows, Goes, ci_goes, command_goes, empties_goes, first_goes, flush_goes, from_moves, is_ci, moves_goes, write_goes}
 use Rattle.hba_driver.proofs.requests.StandLemmas.{both, lt_of}
 
 -- ---- lists of effects

@@ -9,16 +9,11 @@ use Rattle.host_memory.specs.Memory.{is_memory_size}
 use Rattle.hba_driver.specs.Events.{opening_host}
 use Rattle.hba_driver.specs.HostTurns.{Does, Host, HostTurn, Pushed}
 use Rattle.hba_driver.specs.Known.{is_request, known_after}
-use Rattle.hba_driver.proofs.accepted.AcceptLemmas.{IsOnWay, way_opens, way_turn}
-use Rattle.hba_driver.proofs.addresses.AddressLemmas.{AreOfTheir, none_issued, turn_addressed, turn_their}
-use Rattle.hba_driver.proofs.known.KnownRuns.{HostUnknown, known_turn, opening_unknown}
-use Rattle.hba_driver.proofs.known.PushedLemmas.{IsPlain, opening_plain, plain_turn, request_known}
-
-pub record IsAsking (n : ℕ) (known : Bool) (h : Host) : Type 0 where
-  pub way : IsOnWay h
-  pub plain : IsPlain h.port
-  pub their : AreOfTheir h.port
-  pub unknown : known ≡ false → HostUnknown n h
+use Rattle.hba_driver.specs.Between.{IsAsking}
+use Rattle.hba_driver.proofs.accepted.AcceptLemmas.{way_opens, way_turn}
+use Rattle.hba_driver.proofs.addresses.AddressLemmas.{none_issued, turn_addressed, turn_their}
+use Rattle.hba_driver.proofs.known.KnownRuns.{known_turn, opening_unknown}
+use Rattle.hba_driver.proofs.known.PushedLemmas.{opening_plain, plain_turn, request_known}
 
 pub asking_opens : (n given len : ℕ) → is_memory_size len ≡ true → IsAsking n false (opening_host given len)
 asking_opens n given len size = record {

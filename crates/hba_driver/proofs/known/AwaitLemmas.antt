@@ -36,14 +36,11 @@ use Rattle.hba_driver.specs.declared.effect.Effect.TheVariants as effect
 use Rattle.hba_driver.specs.Effects.{Acts, ActsAll, Tries}
 use Rattle.hba_driver.specs.HostTurns.{Host, Pushes, Took, Tooks}
 use Rattle.hba_driver.specs.Known.{identifies, is_identify, is_identity}
+use Rattle.hba_driver.specs.Between.{IsAwaited, IsShort}
 use Rattle.hba_driver.proofs.events.DrivenLemmas.{tried_at}
-use Rattle.hba_driver.proofs.known.IdentityLemmas.{IsShort, is_here, short_fed, short_sent, stays_heard}
+use Rattle.hba_driver.proofs.known.IdentityLemmas.{is_here, short_fed, short_sent, stays_heard}
 
 -- ---- slot 30 awaits the data of an IDENTIFY DEVICE of device n
-
-pub record IsAwaited (n : ℕ) (port : Port) : Type 0 where
-  pub own : IsShort (slots_of n port.slots)
-  pub command : is_identify (last_command port.commands 30) ≡ true
 
 awaited_as : (n : ℕ) (old new : Port) → view_of n new ≡ view_of n old → new.commands ≡ old.commands → IsAwaited n old → IsAwaited n new
 awaited_as n old new view commands h = record {

@@ -25,11 +25,10 @@ use Rattle.hba_driver.specs.Effects.{ActsAll, prds_with, sending, table_of}
 use Rattle.hba_driver.specs.Known.{is_identify}
 use Rattle.hba_driver.specs.Orders.{identify_fields}
 use Rattle.hba_driver.specs.Sights.{px_ci}
+use Rattle.hba_driver.specs.Between.{IsAwaited, IsIssuedAt, IsUp}
 use Rattle.hba_driver.proofs.accepted.AcceptLemmas.{buffer_usable, identify_proper}
-use Rattle.hba_driver.proofs.known.AwaitLemmas.{IsAwaited}
 use Rattle.hba_driver.proofs.events.DrivenLemmas.{tried_at}
-use Rattle.hba_driver.proofs.events.OpenLemmas.{IsUp}
-use Rattle.hba_driver.proofs.accepted.UpLemmas.{IsIssuedAt, Issues, Placed, Ready, asks, ci_taken, command_placed, fbs_step, issuing_taken, no_bit, placed_as, same_free}
+use Rattle.hba_driver.proofs.accepted.UpLemmas.{Issues, Placed, Ready, asks, ci_taken, command_placed, fbs_step, issuing_taken, no_bit, placed_as, same_free}
 
 -- ---- none of the bytes came
 

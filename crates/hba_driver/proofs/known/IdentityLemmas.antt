@@ -32,16 +32,11 @@ use Rattle.hba_fbs.specs.Hearing as hearing
 use Rattle.hba_fbs.specs.Status.{is_busy, is_error, is_quiet, with_file}
 use Rattle.hba_fbs.specs.Taking.{wrote_by}
 use Rattle.hba_laws.specs.History.{unless}
-use Rattle.hba_laws.proofs.Door.{IsOwn, own_freed, some_inj}
+use Rattle.hba_laws.specs.Between.{IsOwn}
+use Rattle.hba_driver.specs.Between.{IsShort}
+use Rattle.hba_laws.proofs.Door.{own_freed, some_inj}
 
 -- ---- slot 30 of a device
-
--- a PIO data-in with bytes missing
-pub record IsShort (own : DeviceSlots) : Type 0 where
-  pub issue : Issue
-  pub is : own_issue own 30 ≡ Some issue
-  pub pio : is_pio issue.work.kind ≡ true
-  pub short : is_whole_issue issue ≡ false
 
 pub short_as : (own new : DeviceSlots) → own_issue new 30 ≡ own_issue own 30 → IsShort own → IsShort new
 short_as own new same h = record { issue = h.issue; is = same ∙ h.is; pio = h.pio; short = h.short }

@@ -29,34 +29,13 @@ use Rattle.hba_driver.specs.Paths.{first_stage, next_stage, recovery, reset_if_t
 use Rattle.hba_driver.specs.Ticks.{acted, after_tick, done_ended, entries_after, from_reset, is_aside_of, is_done, is_named_of, is_open, is_open_of, log_outcome, logged_ended, ordered, plan_after, recovering, removed, seen, stage_ended, turn, unless}
 use Rattle.hba_driver.specs.Turns.{advanced, answered, control_seen, detected, device_seen, found_of, found_there, is_back, is_in_reset, is_ready, is_there, may_issue, met, met_order}
 use Rattle.hba_driver.specs.Turns.{met_path, met_stage, noted, path_answered, path_to, turn_of, with_next}
-use Rattle.hba_driver.proofs.ticks.DueLemmas.{Due, StepsBy, Waiting, early_by, late_by, order_allowed_by, turn_by}
+use Rattle.hba_driver.specs.Between.{Due, IsNew, IsUnknown, NoneIssued, Waiting, is_logging, is_named, is_reading}
+use Rattle.hba_driver.specs.Between.{is_trusted}
+use Rattle.hba_driver.proofs.ticks.DueLemmas.{StepsBy, early_by, late_by, order_allowed_by, turn_by}
 use Rattle.hba_driver.proofs.ticks.LifeLemmas.{due_seen, entry_of_rephased}
 use Rattle.hba_driver.proofs.calls.RequestLemmas.{set_cases}
 
 -- ---- a device that is not known
-
--- a device that the driver takes to be identified
-abbrev pub is_trusted : Device → Bool
-is_trusted Ready = true
-is_trusted (Recovering (Log file)) = true
-is_trusted device = false
-
-abbrev pub is_logging : Stage → Bool
-is_logging (ReadLog file) = true
-is_logging stage = false
-
--- slot 30 reads the error log of device n
-abbrev pub is_reading : ℕ → Option Path → Bool
-is_reading n None = false
-is_reading n (Some path) = (path.dev == n) && is_logging path.stage
-
-pub record IsNew (n : ℕ) (plan : Plan) : Type 0 where
-  pub device : is_trusted (device_at plan n) ≡ false
-  pub path : is_reading n plan.path ≡ false
-
-abbrev pub is_named : Stage → Bool
-is_named Identify = true
-is_named stage = false
 
 -- the IDENTIFY DEVICE of device n came back
 abbrev pub comes_back : Sight → ℕ → Option Path → Bool
@@ -277,10 +256,6 @@ new_after n other file plan h fits = record { device = h.device; path = h.path }
 
 -- ---- what an act leaves of the requests
 
--- no request of the device is issued
-abbrev pub NoneIssued : ℕ → List (Option Entry) → Type 0
-NoneIssued n entries = (s : ℕ) (e : Entry) → entry_at entries s ≡ Some e → is_issued e.head ≡ true → e.head.dev ≢ n
-
 issued_was : (b : Bool) (phase : Phase) (e f : Entry) → is_issued_in phase ≡ false → (if b then Some (rephased phase e) else Some e) ≡ Some f → is_issued f.head ≡ true → e ≡ f
 issued_was true phase e f other is issued =
     absurd (true≢false (sym issued ∙ sym (ap (λ (x : Entry). is_issued x.head) (same_entry (rephased phase e) f is)) ∙ other))
@@ -344,10 +319,6 @@ none_after n v (act.Issues slot dev queued) plan entries new due h = none_issue 
 none_after n v other plan entries new due h = h
 
 -- ---- a tick
-
-pub record IsUnknown (n : ℕ) (d : Driver) : Type 0 where
-  pub plan : IsNew n d.plan
-  pub entries : NoneIssued n d.entries
 
 pub unknown_tick : (n : ℕ) (v : Sight) (file : TaskFile) (d : Driver) → comes_back v n d.plan.path ≡ false → IsUnknown n d → IsUnknown n (after_tick v file d)
 unfolding after_tick

@@ -33,34 +33,26 @@ use Rattle.hba_driver.specs.Paths.{stage_fields}
 use Rattle.hba_driver.specs.Sights.{file_shown}
 use Rattle.hba_driver.specs.Submits.{after_poll, lowest_ended, new_entry, next_slot}
 use Rattle.hba_driver.specs.Ticks.{acted, after_tick, done_ended, due, effects, effects_due, from_reset, ordered, plan_after, recovering, seen, turn, unless}
-use Rattle.hba_driver.proofs.accepted.AcceptLemmas.{Goes, IsOnWay, free_here, goes_on, is_up, none_here, way_opens, way_turn}
+use Rattle.hba_driver.specs.Between.{Awaits, Due, HostUnknown, IsAwaited, IsIssuedAt, IsOnWay, IsUnknown, IsUpIn, MayClear}
+use Rattle.hba_driver.specs.Between.{MayEnd, NoneIssued, Runs, is_logging, is_named, is_reading, is_trusted}
+use Rattle.hba_driver.proofs.accepted.AcceptLemmas.{Goes, free_here, goes_on, is_up, none_here, way_opens, way_turn}
 use Rattle.hba_driver.proofs.known.ActLemmas.{here_act}
-use Rattle.hba_driver.proofs.known.AwaitLemmas.{IsAwaited, awaited_pushed, awaited_took, here_effects}
+use Rattle.hba_driver.proofs.known.AwaitLemmas.{awaited_pushed, awaited_took, here_effects}
 use Rattle.hba_driver.proofs.ends.DoneLemmas as done
 use Rattle.hba_driver.proofs.events.DrivenLemmas.{not_below}
-use Rattle.hba_driver.proofs.ticks.DueLemmas.{Due, Runs, goes_turn, runs_turn}
-use Rattle.hba_driver.proofs.issued.EndingLemmas.{MayClear, MayEnd, may_end}
+use Rattle.hba_driver.proofs.ticks.DueLemmas.{goes_turn, runs_turn}
+use Rattle.hba_driver.proofs.issued.EndingLemmas.{may_end}
 use Rattle.hba_driver.proofs.known.FreshLemmas.{fresh_identify}
-use Rattle.hba_driver.proofs.known.KnownLemmas.{IsUnknown, NoneIssued, comes_back, is_logging, is_named, is_reading, is_trusted, unknown_tick}
+use Rattle.hba_driver.proofs.known.KnownLemmas.{comes_back, unknown_tick}
 use Rattle.hba_driver.proofs.ticks.LifeLemmas.{due_seen}
-use Rattle.hba_driver.proofs.events.OpenLemmas.{IsUpIn}
 use Rattle.hba_driver.proofs.done.OutLemmas.{kept_clear, kept_effects, kept_stopped, lasting_act, opening_is}
 use Rattle.hba_driver.proofs.known.PushedLemmas.{plain_at, request_known}
 use Rattle.hba_driver.proofs.calls.RequestLemmas.{set_cases}
 use Rattle.hba_driver.proofs.ticks.ServeLemmas.{act_clears, cleared, ticks_serve}
 use Rattle.hba_driver.proofs.modes.SwitchLemmas.{tick_acts}
 use Rattle.hba_driver.proofs.issued.TickingLemmas.{free_slot}
-use Rattle.hba_driver.proofs.accepted.UpLemmas.{IsIssuedAt}
 
 -- ---- a device that is not known
-
--- if slot 30 has its IDENTIFY DEVICE, none of its data has come
-abbrev pub Awaits : ℕ → Option Path → Port → Type 0
-Awaits n o port = (p : Path) → o ≡ Some p → p.dev ≡ n → is_named p.stage ≡ true → p.asked ≡ true → IsAwaited n port
-
-pub record HostUnknown (n : ℕ) (h : Host) : Type 0 where
-  pub driver : IsUnknown n h.driver
-  pub awaits : Awaits n h.driver.plan.path h.port
 
 some_path : (x y : Path) → Some x ≡ Some y → x ≡ y
 some_path x y e = cc

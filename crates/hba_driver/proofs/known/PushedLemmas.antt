@@ -14,7 +14,7 @@ use Rattle.hba_commands.specs.Headers.{header_at}
 use Rattle.hba_commands.specs.Requests.{kind_of, request_at, request_of, work_of}
 use Rattle.hba_commands.specs.declared.command.Command.{Command}
 use Rattle.slots.specs.Slots.{Issue, has_bit, issue_at, match_some, own_issue, slots_of}
-use Rattle.slots.proofs.Door.{Owns}
+use Rattle.slots.specs.Between.{Owns}
 use Rattle.hba_fbs.specs.declared.register.Register.TheVariants.{Ci, Fbs}
 use Rattle.hba_fbs.specs.declared.registers.Registers.{Registers}
 use Rattle.hba_fbs.specs.Issuing.{asked, commands_with}
@@ -44,18 +44,15 @@ use Rattle.hba_driver.specs.Queued.{IsSomeCommand}
 use Rattle.hba_driver.specs.Served.{IsIssueOf}
 use Rattle.hba_driver.specs.Sights.{px_ci, px_fbs}
 use Rattle.hba_driver.specs.Ticks.{due, effects_due, seen}
-use Rattle.hba_driver.proofs.accepted.AcceptLemmas.{IsOnWay, way_turn}
+use Rattle.hba_driver.specs.Between.{Due, IsOnWay, IsPlain}
+use Rattle.hba_driver.proofs.accepted.AcceptLemmas.{way_turn}
 use Rattle.hba_driver.proofs.known.ActLemmas.{here_act}
 use Rattle.hba_driver.proofs.known.AwaitLemmas.{here_effects}
 use Rattle.hba_driver.proofs.events.DrivenLemmas.{tried_at}
-use Rattle.hba_driver.proofs.ticks.DueLemmas.{Due}
 use Rattle.hba_driver.proofs.ticks.LifeLemmas.{due_seen}
 use Rattle.hba_driver.proofs.modes.SwitchLemmas.{tick_acts}
 
 -- ---- slot 30 has no command of a request
-
-abbrev pub IsPlain : Port → Type 0
-IsPlain port = (c : Command) → last_command port.commands 30 ≡ Some c → is_request c.cfis ≡ false
 
 plain_as : (old new : Port) → last_command new.commands 30 ≡ last_command old.commands 30 → IsPlain old → IsPlain new
 plain_as old new same h c is = h c (sym same ∙ is)

@@ -16,9 +16,9 @@ use Rattle.hba_driver.specs.Sights.{file_shown}
 use Rattle.hba_driver.specs.Submits.{new_entry}
 use Rattle.hba_driver.specs.Tended.{IsLiveAt}
 use Rattle.hba_driver.specs.Ticks.{after_tick, effects}
-use Rattle.hba_driver.proofs.accepted.AcceptLemmas.{IsOnWay, way_opens, way_turn}
-use Rattle.hba_driver.proofs.requests.ComeLemmas.{Fresh, comes_from}
-use Rattle.hba_driver.proofs.requests.ComeLemmas as come
+use Rattle.hba_driver.specs.Between.{Fresh, IsOnWay, Stood as StoodOn}
+use Rattle.hba_driver.proofs.accepted.AcceptLemmas.{way_opens, way_turn}
+use Rattle.hba_driver.proofs.requests.ComeLemmas.{comes_from}
 use Rattle.hba_driver.proofs.known.PushedLemmas.{plain_at, request_of_slot}
 use Rattle.hba_driver.proofs.ticks.ServeLemmas.{ticks_serve}
 use Rattle.hba_driver.proofs.steady.SteadyTurns.{is_ready_dev}
@@ -47,7 +47,7 @@ module _ (n s : ℕ) (old : Host) (new : Host) (e : Entry) (live : IsLiveAt n s 
   unflushed (Took frame report) does = refl
   unflushed other does = refl
 
-  stood : (turn : HostTurn) → Does old turn new → come.Stood old.driver turn s e → IsQueuedBy n s old turn e
+  stood : (turn : HostTurn) → Does old turn new → StoodOn old.driver turn s e → IsQueuedBy n s old turn e
   stood turn does it =
       Stood it.entry
       (record {

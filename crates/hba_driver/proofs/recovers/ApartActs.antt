@@ -27,9 +27,9 @@ use Rattle.hba_driver.specs.Slot30.{Asks, Cleared, Clears, Faulty, IsPlan30, IsS
 use Rattle.hba_driver.specs.Steady.{IsCalmAct}
 use Rattle.hba_driver.specs.Ticks.{from_reset, ordered, plan_after, recovering}
 use Rattle.hba_driver.specs.Turns.{is_ready}
+use Rattle.hba_driver.specs.Between.{Due, DueOf, MayStep, Waiting}
 use Rattle.hba_driver.proofs.recovers.ApartPlans.{HasFields, recovers}
-use Rattle.hba_driver.proofs.ticks.DueLemmas.{Due, MayStep, Waiting}
-use Rattle.hba_driver.proofs.steady.SteadyLemmas.{DueOf, set_other}
+use Rattle.hba_driver.proofs.steady.SteadyLemmas.{set_other}
 use Rattle.hba_driver.proofs.issued.TickingLemmas.{unless_back, unless_other}
 
 -- ---- while the device's path is as it was

@@ -3,7 +3,8 @@ use Rattle.std.proofs.Common.{◌≡◌, List, [], ◌∷◌, ◌∙◌, ap}
 use Rattle.hba_driver.specs.Events.{opening_host}
 use Rattle.hba_driver.specs.HostTurns.{DoesAll, Host, HostTurn}
 use Rattle.hba_driver.specs.Slot30.{NoneIsArmed}
-use Rattle.hba_driver.proofs.accepted.AcceptLemmas.{IsOnWay, way_opens, way_turn}
+use Rattle.hba_driver.specs.Between.{IsOnWay}
+use Rattle.hba_driver.proofs.accepted.AcceptLemmas.{way_opens, way_turn}
 
 unarmed_over : (turns : List HostTurn) (old new : Host) → DoesAll old turns new → IsOnWay old → new.port.registers.armed ≡ 0
 unarmed_over [] old new run w = ap (λ (h : Host). h.port.registers.armed) run ∙ w.unarmed

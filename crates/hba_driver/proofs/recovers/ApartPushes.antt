@@ -29,7 +29,8 @@ use Rattle.hba_laws.specs.Agreement.{work_of_issue, work_of_transfer}
 use Rattle.hba_laws.specs.Client.{Touches, own}
 use Rattle.hba_laws.specs.History.{Transfer, issued}
 use Rattle.hba_laws.specs.Isolation.{may_leave, next_own}
-use Rattle.hba_laws.proofs.Door.{at_same, held, is_own, IsOrder, order_is, order_is_own, own_freed, own_set, some_inj}
+use Rattle.hba_laws.specs.Between.{IsOrder}
+use Rattle.hba_laws.proofs.Door.{at_same, held, is_own, order_is, order_is_own, own_freed, own_set, some_inj}
 use Rattle.hba_laws.proofs.Door.{the_transfer}
 use Rattle.hba_driver.specs.declared.plan.Device.TheVariants.{Ready, Recovering}
 use Rattle.hba_driver.specs.declared.plan.Plan.{Plan}
@@ -44,7 +45,8 @@ use Rattle.hba_driver.specs.Orders.{control, log_fields}
 use Rattle.hba_driver.specs.Served.{IsOrdered, IsRequest, IsServed, IsStep}
 use Rattle.hba_driver.specs.Slot30.{Asks, Cleared, Clears, Faulty, IsAlone30, IsAt30, IsFree30, IsPlan30, IsSlot30, IsUnsent30, LogSent, Off, On, PushesOn30, Sets, Stage30, StaysOn30, Turns30, fields30, is_faulty, is_resetting, sent30}
 use Rattle.hba_driver.specs.Submits.{after_submit, next_slot as place_for, new_entry}
-use Rattle.hba_driver.proofs.requests.HistoryLemmas.{PollFacts, freed as polled_is, poll_facts}
+use Rattle.hba_driver.specs.Between.{PollFacts}
+use Rattle.hba_driver.proofs.requests.HistoryLemmas.{freed as polled_is, poll_facts}
 use Rattle.hba_driver.proofs.slot31.Push31Lemmas.{third_bit}
 use Rattle.hba_driver.proofs.calls.RequestLemmas.{set_cases}
 use Rattle.hba_driver.proofs.steady.SteadyTurns.{is_ready_dev}

@@ -35,21 +35,22 @@ use Rattle.hba_driver.specs.Slot30.{Asks, Cleared, Clears, Faulty, FindsNone, Is
 use Rattle.hba_driver.specs.Steady.{IsCalmAct, IsFlushTick}
 use Rattle.hba_driver.specs.Ticks.{acted, after_tick, cleared_plan, done_ended, due, effects_due, from_reset, plan_after, recovering, seen, turn}
 use Rattle.hba_driver.specs.Turns.{control_news, control_seen, control_turn, early_due, fault_due, is_in_reset, is_there, plain_turn, restart_due, turn_of}
+use Rattle.hba_driver.specs.Between.{Due, IsUp, Issues30, MayClear, MayEnd, MayStep, Runs, beside}
 use Rattle.hba_driver.proofs.known.ActLemmas.{here_act}
 use Rattle.hba_driver.proofs.recovers.ApartActs.{Begins30, Rests30, act_plans, not_issued}
 use Rattle.hba_driver.proofs.recovers.ApartFiles.{clearing_shown, file_error}
 use Rattle.hba_driver.proofs.recovers.ApartPlans.{IsFound, Shows, fields_turn, turn_plan}
 use Rattle.hba_driver.proofs.recovers.ApartPushes.{IsDriven30, kept30}
-use Rattle.hba_driver.proofs.recovers.ApartViews.{Issues30, clearing_own_view, clearing_view, issuing_view, order_view, sending_view, step30}
+use Rattle.hba_driver.proofs.recovers.ApartViews.{clearing_own_view, clearing_view, issuing_view, order_view, sending_view, step30}
 use Rattle.hba_driver.proofs.known.AwaitLemmas.{here_effects}
 use Rattle.hba_driver.proofs.ends.DoneLemmas.{free_slot as slot_free}
 use Rattle.hba_driver.proofs.events.DrivenLemmas.{not_below, tick_is}
-use Rattle.hba_driver.proofs.ticks.DueLemmas.{Due, MayStep, Runs, goes_turn, runs_turn}
-use Rattle.hba_driver.proofs.issued.EndingLemmas.{MayClear, MayEnd, may_end}
-use Rattle.hba_driver.proofs.events.EventLemmas.{beside, sound_beside}
+use Rattle.hba_driver.proofs.ticks.DueLemmas.{goes_turn, runs_turn}
+use Rattle.hba_driver.proofs.issued.EndingLemmas.{may_end}
+use Rattle.hba_driver.proofs.events.EventLemmas.{sound_beside}
 use Rattle.hba_driver.proofs.requests.HistoryLemmas.{back_of}
 use Rattle.hba_driver.proofs.ticks.LifeLemmas.{due_seen, keeps_tick}
-use Rattle.hba_driver.proofs.events.OpenLemmas.{IsUp, up_of}
+use Rattle.hba_driver.proofs.events.OpenLemmas.{up_of}
 use Rattle.hba_driver.proofs.issued.ServedLemmas.{seen_served}
 use Rattle.hba_driver.proofs.ticks.ServeLemmas.{ticks_serve}
 use Rattle.hba_driver.proofs.issued.ServingLemmas.{not_busy}

@@ -37,11 +37,11 @@ use Rattle.hba_driver.specs.Effects.{Acts, ActsAll, IsRuled, clearing, issuing, 
 use Rattle.hba_driver.specs.Orders.{control, identify_fields, log_fields, order_fields}
 use Rattle.hba_driver.specs.Paths.{reads_page, stage_fields}
 use Rattle.hba_driver.specs.Sights.{px_ci, px_fbs, px_is, px_sact}
-use Rattle.hba_driver.specs.Slot30.{IsUnsent30}
+use Rattle.hba_driver.specs.Between.{IsUp, Issues30}
 use Rattle.hba_driver.proofs.accepted.AcceptLemmas.{buffer_usable, control_proper, identify_proper, log_proper, small_dev}
 use Rattle.hba_driver.proofs.events.DrivenLemmas.{tried_at}
 use Rattle.hba_driver.proofs.issued.EndingLemmas.{clear_taken, is_accepted, only_cleared}
-use Rattle.hba_driver.proofs.events.OpenLemmas.{IsUp, taken}
+use Rattle.hba_driver.proofs.events.OpenLemmas.{taken}
 use Rattle.hba_driver.proofs.accepted.UpLemmas.{Placed, Ready, asks, ci_step, ci_taken, command_placed, fbs_step, no_bit, same_free, sntf_step}
 
 -- ---- what leaves the view
@@ -128,13 +128,6 @@ clearing_own_view n old new before after low on is acts =
     ∙ ap (λ (b : Bool). if b then stopped_view (view_of n acts.0) else view_of n acts.0) (eq-eqb n n refl) ∙ ap stopped_view first
 
 -- ---- a command of the device's own
-
--- the command is issued in slot 30, and the rest of the view stays
-pub record Issues30 (n : ℕ) (fields : H2dFields) (old new : Port) : Type 0 where
-  pub state : (view_of n new).state ≡ (view_of n old).state
-  pub fault : (view_of n new).fault ≡ (view_of n old).fault
-  pub context : (view_of n new).slots.context ≡ (view_of n old).slots.context
-  pub unsent : IsUnsent30 n fields new
 
 issues_from : (n : ℕ) (fields : H2dFields) (a b c : Port) → view_of n b ≡ view_of n a → Issues30 n fields b c → Issues30 n fields a c
 issues_from n fields a b c same k = record {

@@ -18,9 +18,10 @@ use Rattle.hba_driver.specs.Slot30.{IsUnflushed, StaysUnsought}
 use Rattle.hba_driver.specs.Steady.{IsFlushTick, detects}
 use Rattle.hba_driver.specs.Ticks.{after_tick, done_ended, due, from_reset, ordered, plan_after, recovering, seen, turn}
 use Rattle.hba_driver.specs.Turns.{advanced, control_seen, device_seen, is_back, turn_of}
+use Rattle.hba_driver.specs.Between.{DueOf}
 use Rattle.hba_driver.proofs.goes_on.PageLemmas.{poll_plan}
 use Rattle.hba_driver.proofs.ticks.DueLemmas.{turn_by}
-use Rattle.hba_driver.proofs.steady.SteadyLemmas.{DueOf, detects_out, found_order, of_turn}
+use Rattle.hba_driver.proofs.steady.SteadyLemmas.{detects_out, found_order, of_turn}
 use Rattle.hba_driver.proofs.steady.SteadyTurns.{acted_plan}
 use Rattle.hba_driver.proofs.anew.TendedLemmas.{IsUnsought, control_leaves}
 

@@ -1,32 +1,16 @@
 -- For `writes_are_accepted`. Where a request comes from that is in a slot after a turn: it was there before, or the
 -- turn took it.
-use Rattle.std.proofs.Common.{◌≡◌, ℕ, ◌+◌, ◌⊎◌, Bool, true, false, sym, ◌∙◌, ap, refl, inl, inr, Option, Some, None}
+use Rattle.std.proofs.Common.{◌≡◌, ℕ, ◌+◌, ◌⊎◌, sym, ◌∙◌, ap, refl, inl, inr, Option, Some, None}
 use Rattle.std.proofs.lemmas.Bool.{true≢false}
 use Rattle.hba_driver.specs.Drivers.{Driver, Entry, entry_at}
 use Rattle.hba_driver.specs.HostTurns.{Does, Host, HostTurn, Ticked, Submitted, Polled, sight_in}
-use Rattle.hba_driver.specs.Laws.{GoesOn}
 use Rattle.hba_driver.specs.Sights.{file_shown}
 use Rattle.hba_driver.specs.Submits.{new_entry, next_slot}
 use Rattle.hba_driver.specs.Ticks.{after_tick}
-use Rattle.hba_driver.proofs.requests.HistoryLemmas.{PollFacts, back_of, freed, poll_facts, some_same}
+use Rattle.hba_driver.specs.Between.{Fresh, PollFacts, Stood}
+use Rattle.hba_driver.proofs.requests.HistoryLemmas.{back_of, freed, poll_facts, some_same}
 use Rattle.hba_driver.proofs.ticks.LifeLemmas.{goes_same, keeps_tick}
 use Rattle.hba_driver.proofs.calls.RequestLemmas.{set_cases}
-
-abbrev pub ticks : HostTurn → Bool
-ticks (Ticked acted) = true
-ticks turn = false
-
--- it was there before, and goes on if the turn is a tick
-pub record Stood (old : Driver) (t : HostTurn) (s : ℕ) (f : Entry) : Type 0 where
-  pub entry : Entry
-  pub here : entry_at old.entries s ≡ Some entry
-  pub on : GoesOn entry f
-  pub still : ticks t ≡ false → f ≡ entry
-
--- the turn took it
-abbrev pub Fresh : Driver → HostTurn → ℕ → Entry → Type 0
-Fresh old (Submitted dev request ticket) s f = (s ≡ next_slot old) × (new_entry (old.given + 1) dev request ≡ f)
-Fresh old turn s f = ⊥
 
 none_some : (e : Entry) {P : Type 0} → None ≡ Some e → P
 none_some e h = cc

@@ -27,6 +27,7 @@ use Rattle.hba_driver.specs.Requests.{is_free, lowest_free}
 use Rattle.hba_driver.specs.Submits.{after_poll, after_submit, completed, completion_at, completion_of, lowest_ended, new_entry, next_slot, submit_refusal}
 use Rattle.hba_driver.specs.Sights.{file_shown}
 use Rattle.hba_driver.specs.Ticks.{acted, after_tick, done_ended, entries_after, is_done, seen, turn}
+use Rattle.hba_driver.specs.Between.{LivesOn, PollFacts}
 use Rattle.hba_driver.proofs.ticks.LifeLemmas.{May, given_tick, goes_same, keeps_seen, keeps_tick, may_turn, on_then, slots_tick, waits_if_may}
 use Rattle.hba_driver.proofs.calls.RequestLemmas.{requests_freed, requests_from, requests_logged, requests_rephased, requests_taken, set_cases}
 use Rattle.hba_driver.proofs.calls.SubmitLemmas.{is_taken, no_conflict}
@@ -38,15 +39,6 @@ none_some : (e : Entry) → none_entry ≡ Some e → ⊥
 none_some e h = cc
 
 -- ---- what is polled
-
-pub record PollFacts (d : Driver) (c : Completion) : Type 0 where
-  pub place : ℕ
-  pub entry : Entry
-  pub lowest : lowest_ended d.entries ≡ Some place
-  pub there : entry_at d.entries place ≡ Some entry
-  pub ticket : c.ticket.0 ≡ entry.head.ticket
-  pub slot_is : c.slot ≡ place
-  pub ended : entry.head.phase ≡ Ended c.outcome
 
 completed_facts : (n : ℕ) (head : Head) (p : Phase) (c : Completion) → completed n head p ≡ Some c → (c.ticket.0 ≡ head.ticket) × (c.slot ≡ n) × (p ≡ Ended c.outcome)
 completed_facts n head (Ended o) c h =
@@ -276,9 +268,6 @@ polled_once (Put at bytes ∷ turns) old new run r = polled_once turns run.0 new
 
 kept_still : (e : Entry) (o : Option Entry) → o ≡ Some e → Kept e o
 kept_still e o is = record { entry = e; is = is; on = on_same e }
-
-abbrev LivesOn : ℕ → Entry → HostTurn → Host → Type 0
-LivesOn s e t new = Kept e (entry_at new.driver.entries s) ⊎ (gives s e t ≡ true)
 
 lives_same : (old new : Driver) → new ≡ old → (s : ℕ) (e : Entry) → entry_at old.entries s ≡ Some e → Kept e (entry_at new.entries s)
 lives_same old new is s e here = kept_still e (entry_at new.entries s) (ap (λ (d : Driver). entry_at d.entries s) is ∙ here)

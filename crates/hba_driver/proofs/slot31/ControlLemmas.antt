@@ -41,14 +41,15 @@ use Rattle.hba_driver.specs.Effects.{Acts, ActsAll, IsRuled, clearing, is_effect
 use Rattle.hba_driver.specs.Orders.{order_fields}
 use Rattle.hba_driver.specs.Slot31.{IsLow}
 use Rattle.hba_driver.specs.Sights.{px_ci, px_fbs, px_is, px_sact, px_sntf}
+use Rattle.hba_driver.specs.Between.{IsCalm, IsUp, beside}
 use Rattle.hba_driver.proofs.accepted.AcceptLemmas.{flushed_before}
 use Rattle.hba_driver.proofs.events.DrivenLemmas.{no_dec, refusal_is, tried_at}
 use Rattle.hba_driver.proofs.issued.EndingLemmas.{clear_taken, is_accepted, only_cleared}
-use Rattle.hba_driver.proofs.events.EventLemmas.{Good, beside, beside_same, good_effect, sized_effect, sound_beside}
-use Rattle.hba_driver.proofs.goes_on.GoingLemmas.{IsCalm, act_calm}
+use Rattle.hba_driver.proofs.events.EventLemmas.{Good, beside_same, good_effect, sized_effect, sound_beside}
+use Rattle.hba_driver.proofs.goes_on.GoingLemmas.{act_calm}
 use Rattle.hba_driver.proofs.issued.IssuingLemmas.{bit_same}
 use Rattle.hba_driver.proofs.modes.ModeLemmas.{written_chosen}
-use Rattle.hba_driver.proofs.events.OpenLemmas.{IsUp, taken}
+use Rattle.hba_driver.proofs.events.OpenLemmas.{taken}
 use Rattle.hba_driver.proofs.accepted.UpLemmas.{Placed, Ready, ci_step, ci_taken, command_is, command_placed, fbs_step, free_by, same_free, sntf_step}
 
 -- the control port's part

@@ -26,7 +26,8 @@ use Rattle.hba_laws.specs.Client.{own}
 use Rattle.hba_laws.specs.History.{Transfer, issued}
 use Rattle.hba_laws.specs.Isolation.{may_leave, next_own}
 use Rattle.hba_laws.specs.Parts.{DevicePart}
-use Rattle.hba_laws.proofs.Door.{at_same, data_is_own, held, is_own, IsOrder, order_is, order_is_own, own_freed}
+use Rattle.hba_laws.specs.Between.{IsOrder}
+use Rattle.hba_laws.proofs.Door.{at_same, data_is_own, held, is_own, order_is, order_is_own, own_freed}
 use Rattle.hba_laws.proofs.Door.{own_set, some_inj, the_transfer}
 use Rattle.hba_driver.specs.declared.order.Order.{Order}
 use Rattle.hba_driver.specs.declared.order.Order.TheVariants.{ResetOn, ResetOff, AwaitSignature, Watch}
@@ -35,7 +36,7 @@ use Rattle.hba_driver.specs.HostTurns.{Does, Host, Pushed}
 use Rattle.hba_driver.specs.Orders.{order_fields}
 use Rattle.hba_driver.specs.Served.{IsOrdered, IsRequest, IsStep}
 use Rattle.hba_driver.specs.Slot31.{Asks, IsAt31, IsIn, IsLow, IsUnsent, Fails, Follows31, Pushes31, Resets, Rests, Signs, Stage31, Told, Waits, control_of, has_failed, is_off, is_on, is_resetting}
-use Rattle.hba_driver.proofs.goes_on.GoingLemmas.{IsGoing}
+use Rattle.hba_driver.specs.Between.{IsGoing}
 use Rattle.hba_driver.proofs.goes_on.StopLemmas.{either}
 use Rattle.hba_driver.proofs.slot31.SentLemmas.{gone, gone_plain, no_dma}
 

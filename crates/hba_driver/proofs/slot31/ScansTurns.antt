@@ -35,10 +35,11 @@ use Rattle.hba_driver.specs.Slot31.{Asks, Follows31, IsAt31, IsIn, IsNext31, IsN
 use Rattle.hba_driver.specs.Steady.{IsRowTurn}
 use Rattle.hba_driver.specs.Ticks.{due}
 use Rattle.hba_driver.specs.Turns.{control_seen}
+use Rattle.hba_driver.specs.Between.{IsGoing}
 use Rattle.hba_driver.proofs.slot31.ControlLemmas.{part_event}
 use Rattle.hba_driver.proofs.ends.DoneLemmas.{free_slot as slot_free}
 use Rattle.hba_driver.proofs.events.DrivenLemmas.{tick_is}
-use Rattle.hba_driver.proofs.goes_on.GoingLemmas.{IsGoing, going_opens, going_turn, stops_none}
+use Rattle.hba_driver.proofs.goes_on.GoingLemmas.{going_opens, going_turn, stops_none}
 use Rattle.hba_driver.proofs.modes.ModeLemmas.{own_row_is}
 use Rattle.hba_driver.proofs.goes_on.PageLemmas.{poll_plan}
 use Rattle.hba_driver.proofs.steady.RowLemmas.{d2h_row, d2h_same, own_row, row_long, row_turn, set_long, set_window, sized, window_same}

@@ -30,15 +30,16 @@ use Rattle.hba_driver.specs.declared.turn.Turn.{Turn}
 use Rattle.std.specs.Option.{option_map, option_or}
 use Rattle.hba_laws.specs.Isolation.{Cleared, part_after}
 use Rattle.hba_driver.specs.Turns.{control_news, control_seen, control_turn, early_due, fault_due, met_order, plain_turn, restart_due, turn_of}
+use Rattle.hba_driver.specs.Between.{Due, IsGoing, IsUp, MayEnd, Waiting, beside}
 use Rattle.hba_driver.proofs.slot31.ControlLemmas.{Issues31, Leaves15, Runs15, clearing_leaves, clearing_own, command_leaves, issuing_leaves, leaves_then, nothing_leaves, order31}
 use Rattle.hba_driver.proofs.ends.DoneLemmas.{free_slot as slot_free}
 use Rattle.hba_driver.proofs.events.DrivenLemmas.{tick_is}
-use Rattle.hba_driver.proofs.ticks.DueLemmas.{Due, Waiting, goes_turn}
-use Rattle.hba_driver.proofs.issued.EndingLemmas.{MayEnd, faulty_reported, may_end}
-use Rattle.hba_driver.proofs.events.EventLemmas.{beside, sound_beside}
-use Rattle.hba_driver.proofs.goes_on.GoingLemmas.{IsGoing, leaves, never_stops}
+use Rattle.hba_driver.proofs.ticks.DueLemmas.{goes_turn}
+use Rattle.hba_driver.proofs.issued.EndingLemmas.{faulty_reported, may_end}
+use Rattle.hba_driver.proofs.events.EventLemmas.{sound_beside}
+use Rattle.hba_driver.proofs.goes_on.GoingLemmas.{leaves, never_stops}
 use Rattle.hba_driver.proofs.ticks.LifeLemmas.{due_seen}
-use Rattle.hba_driver.proofs.events.OpenLemmas.{IsUp, up_of}
+use Rattle.hba_driver.proofs.events.OpenLemmas.{up_of}
 use Rattle.hba_driver.proofs.issued.ServedLemmas.{seen_served}
 use Rattle.hba_driver.proofs.issued.ServingLemmas.{not_busy}
 use Rattle.hba_driver.proofs.slot31.Slot31Lemmas.{Control, IsAllowed, IsOther, Looks, Orders, Stays, Ticks31, met_off, next_off, seen_free, seen_out, seen_unasked, ticks31}

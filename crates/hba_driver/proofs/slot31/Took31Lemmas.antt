@@ -36,8 +36,9 @@ use Rattle.hba_driver.specs.Drivers.{Driver}
 use Rattle.hba_driver.specs.Going.{IsOfControl}
 use Rattle.hba_driver.specs.HostTurns.{Does, Host, Took}
 use Rattle.hba_driver.specs.Slot31.{Asks, IsAnswer31, IsAt31, IsFree31, IsIn, IsLow, IsNotice31, IsSent, IsSignature31, IsUnsent, Fails, MayCome31, Resets, Rests, Signs, Stage31, Told, Waits, control_of, has_failed, is_off, is_on, is_quiet, is_resetting}
+use Rattle.hba_driver.specs.Between.{IsGoing}
 use Rattle.hba_driver.proofs.slot31.ControlLemmas.{Runs15, part_event}
-use Rattle.hba_driver.proofs.goes_on.GoingLemmas.{IsGoing, stops_none}
+use Rattle.hba_driver.proofs.goes_on.GoingLemmas.{stops_none}
 use Rattle.hba_driver.proofs.events.OpenLemmas.{up_of}
 use Rattle.hba_driver.proofs.slot31.Push31Lemmas.{issued31}
 use Rattle.hba_driver.proofs.modes.RowMode.{skipped_as}

@@ -34,10 +34,11 @@ use Rattle.hba_driver.specs.Sights.{file_shown}
 use Rattle.hba_driver.specs.Slot31.{Asks, Comes31, IsAt31, IsIn, IsLow, MayBe31, MayCome31, OrdersTakeTurns, Rests, Signs, Stage31, Turns31, control_of, has_failed, is_off, is_pending, is_resetting, orders_clear}
 use Rattle.hba_driver.specs.Laws.{flushes}
 use Rattle.hba_driver.specs.Ticks.{done_ended, due, effects_due}
+use Rattle.hba_driver.specs.Between.{IsGoing, IsOfControlIn, Opening, Runs}
 use Rattle.hba_driver.proofs.slot31.ControlLemmas.{part_event}
-use Rattle.hba_driver.proofs.events.DrivenLemmas.{Opening, tick_is, tried_at}
-use Rattle.hba_driver.proofs.ticks.DueLemmas.{Runs, runs_turn}
-use Rattle.hba_driver.proofs.goes_on.GoingLemmas.{IsGoing, IsOfControlIn, going_opens, going_turn, stops_none}
+use Rattle.hba_driver.proofs.events.DrivenLemmas.{tick_is, tried_at}
+use Rattle.hba_driver.proofs.ticks.DueLemmas.{runs_turn}
+use Rattle.hba_driver.proofs.goes_on.GoingLemmas.{going_opens, going_turn, stops_none}
 use Rattle.hba_driver.proofs.goes_on.PageLemmas.{poll_plan}
 use Rattle.hba_driver.proofs.slot31.Push31Lemmas.{Pushed31, push31}
 use Rattle.hba_driver.proofs.ticks.ServeLemmas.{act_clears}

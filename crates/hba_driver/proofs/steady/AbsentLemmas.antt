@@ -25,18 +25,11 @@ use Rattle.hba_driver.specs.Sights.{file_shown}
 use Rattle.hba_driver.specs.Steady.{IsCalmAct, IsSteadyTurn, detects}
 use Rattle.hba_driver.specs.Ticks.{after_tick, done_ended, from_reset, ordered, plan_after, recovering, seen, turn}
 use Rattle.hba_driver.specs.Turns.{advanced, control_news, control_seen, device_seen, early_due, found_of, is_back, plain_turn, turn_of}
+use Rattle.hba_driver.specs.Between.{IsSoughtAbsent, PollFacts, WasAbsent}
 use Rattle.hba_driver.proofs.ticks.DueLemmas.{turn_by}
-use Rattle.hba_driver.proofs.requests.HistoryLemmas.{PollFacts, freed, poll_facts}
+use Rattle.hba_driver.proofs.requests.HistoryLemmas.{freed, poll_facts}
 use Rattle.hba_driver.proofs.steady.SteadyLemmas.{control_beside, detect_or_other, equal_is}
 use Rattle.hba_driver.proofs.steady.SteadyTurns.{acted_plan}
-
--- the device was absent before, if it is now
-abbrev WasAbsent : ℕ → Plan → Plan → Type 0
-WasAbsent n p q = device_at q n ≡ Absent → device_at p n ≡ Absent
-
--- it is looked for only while it is taken to be absent
-abbrev IsSoughtAbsent : ℕ → Plan → Type 0
-IsSoughtAbsent n p = detects n p.asked p.order ≡ true → device_at p n ≡ Absent
 
 -- a device that is set to something other than absent
 set_absent : (devices : List Device) (k n : ℕ) (device : Device) → (device ≡ Absent → ⊥) → get_or (set devices k device) n Absent ≡ Absent → get_or devices n Absent ≡ Absent

@@ -40,13 +40,13 @@ use Rattle.hba_driver.specs.Served.{AreBounded}
 use Rattle.hba_driver.specs.Sights.{px_ci, px_fbs, px_is, px_sact, px_sntf}
 use Rattle.hba_driver.specs.Steady.{AreBeside, IsBeside, IsCalmAct, IsCalmTick, Issues, slot_in, slot_of}
 use Rattle.hba_driver.specs.Ticks.{done_ended, due, effects_due, turn}
+use Rattle.hba_driver.specs.Between.{Due, MayEnd, Runs as RunsDue}
 use Rattle.hba_driver.proofs.events.DrivenLemmas.{en_chosen, no_dec, not_below, place_effect}
-use Rattle.hba_driver.proofs.ticks.DueLemmas.{Due, due_turn, goes_turn, runs_turn}
-use Rattle.hba_driver.proofs.ticks.DueLemmas as due_lemmas
+use Rattle.hba_driver.proofs.ticks.DueLemmas.{due_turn, goes_turn, runs_turn}
 use Rattle.hba_driver.proofs.calls.EffectLemmas.{all_at}
 use Rattle.hba_driver.proofs.requests.HistoryLemmas.{back_of}
 use Rattle.hba_driver.proofs.ticks.LifeLemmas.{keeps_done}
-use Rattle.hba_driver.proofs.issued.EndingLemmas.{MayEnd, may_end, only_cleared}
+use Rattle.hba_driver.proofs.issued.EndingLemmas.{may_end, only_cleared}
 use Rattle.hba_driver.proofs.issued.IssuingLemmas.{asks_here}
 
 -- ---- one event after another
@@ -292,7 +292,7 @@ switching old s up = s.registers.switches (omega (arith, not_below old.driver.pl
 
 -- what is known of the host if an act is due
 finds_of : (old : Host) (plan : Plan) (entries : List (Option Entry)) (a : Option Act) → IsSoundHost old → plan.opened ≡ old.driver.plan.opened → IsPath plan.path → ((s : ℕ) (e : Entry) → entry_at entries s ≡ Some e → e.head.dev < 15)
-    → Due (sight_in old) plan entries a → due_lemmas.Runs old.driver.plan a → MayEnd Switching a old.port → Finds a old.port (shared_by old)
+    → Due (sight_in old) plan entries a → RunsDue old.driver.plan a → MayEnd Switching a old.port → Finds a old.port (shared_by old)
 finds_of old plan entries (Some (act.Opens k)) s same path devs due runs may = s.registers.stopped (omega (arith, due.1, same))
 finds_of old plan entries (Some (act.Clears dev)) s same path devs due runs may = may.1.faulty
 finds_of old plan entries (Some (act.Orders order)) s same path devs due runs may = switching old s runs.0

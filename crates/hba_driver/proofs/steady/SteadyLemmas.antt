@@ -22,9 +22,10 @@ use Rattle.hba_driver.specs.declared.turn.Act.TheVariants as act
 use Rattle.hba_driver.specs.Drivers.{Entry, device_at, with_device}
 use Rattle.hba_driver.specs.Orders.{next_order, open_from, scan_from}
 use Rattle.hba_driver.specs.Paths.{first_stage, next_stage}
-use Rattle.hba_driver.specs.Steady.{IsAskedOf, IsCalmAct, IsFine, IsSteadyPlan, detects}
+use Rattle.hba_driver.specs.Steady.{IsCalmAct, IsFine, IsSteadyPlan, detects}
 use Rattle.hba_driver.specs.Ticks.{from_reset, ordered, plan_after, recovering, unless}
 use Rattle.hba_driver.specs.Turns.{advanced, allowed, answered, control_news, control_seen, control_turn, detected, device_due, device_or_request, device_seen, early_due, fault_due, found_of, is_back, is_due, is_there, issue_of, may_issue, met, met_order, met_path, noted, opening_due, order_allowed, order_due, path_answered, path_due, path_met, path_to, request_due, restart_due, signed_order, stage_due, stage_for, step_of, turn_of, with_next}
+use Rattle.hba_driver.specs.Between.{DueOf, PlanKeeps}
 use Rattle.hba_driver.proofs.ticks.DueLemmas.{early_by, met_asked, late_by, order_allowed_by, turn_by}
 
 -- ---- what does not concern the device
@@ -51,13 +52,6 @@ beside_path : (n : ℕ) (p q : Plan) → device_at q n ≡ device_at p n → q.p
 beside_path n p q device path order = record { device = device; path = λ x to here. path ∙ here; back = λ x to here. sym path ∙ here; order = order }
 
 -- ---- what goes on
-
--- The plan stays steady for the device. A ready device stays ready. It is asked only if it was asked before,
--- or if it signed.
-pub record PlanKeeps (n : ℕ) (signs : Type 0) (p q : Plan) : Type 0 where
-  pub steady : IsSteadyPlan n q
-  pub ready : device_at p n ≡ Ready → device_at q n ≡ Ready
-  pub asks : IsAskedOf n q → IsAskedOf n p ⊎ signs
 
 keeps_none : (n : ℕ) (signs : Type 0) (p : Plan) → IsSteadyPlan n p → PlanKeeps n signs p p
 keeps_none n signs p h = record { steady = h; ready = λ r. r; asks = λ a. inl a }
@@ -352,13 +346,6 @@ turn_keeps n signs v plan entries h =
     turn_by (λ t. PlanKeeps n signs plan t.plan) v plan entries (keeps_none n signs plan h) first (keeps_then n signs plan (control_seen v plan) _ first (device_keeps n signs v (control_seen v plan) first.steady))
 
 -- ---- what is due
-
--- an order that is due is the plan's; a stage is due for the path that has slot 30, or for its device
-abbrev pub DueOf : Sight → Plan → Option Act → Type 0
-DueOf v plan None = Unit {0}
-DueOf v plan (Some (act.Orders order)) = order ≡ plan.order
-DueOf v plan (Some (act.Steps dev stage)) = (plan.path ≡ Some (record { dev = dev; stage = stage; asked = false })) ⊎ (stage_for v plan dev ≡ Some stage)
-DueOf v plan (Some a) = Unit {0}
 
 pub of_device : (v : Sight) (plan : Plan) (entries : List (Option Entry)) → DueOf v plan (device_or_request v plan entries)
 of_device v plan entries = late_by (DueOf v plan) tt v plan entries (λ dev stage way fields. elim way [ inl free ↦ inr free.1.1 | inr on ↦ inl on ]) (λ slot e h. tt)

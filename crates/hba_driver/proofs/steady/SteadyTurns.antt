@@ -41,14 +41,15 @@ use Rattle.hba_driver.specs.HostTurns.{Does, Host, HostTurn, Ticked, Submitted, 
 use Rattle.hba_driver.specs.Laws.{Goes, GoesOn, Keeps, Kept, flushes}
 use Rattle.hba_driver.specs.Requests.{blocks, device_refusal}
 use Rattle.hba_driver.specs.Sights.{file_shown, is_ata, last_d2h, sight_of}
-use Rattle.hba_driver.specs.Steady.{AreSteady, HasSignature, IsAskedOf, IsCalmAct, IsCalmTick, IsClearTick, IsFine, IsFlushTick, IsOpenAt, IsSteady, IsSteadyPlan, IsSteadyTurn, IsSwitching, slot_in, slot_of}
+use Rattle.hba_driver.specs.Steady.{AreSteady, IsAskedOf, IsCalmAct, IsCalmTick, IsClearTick, IsFine, IsFlushTick, IsOpenAt, IsSteady, IsSteadyPlan, IsSteadyTurn, slot_in, slot_of}
 use Rattle.hba_driver.specs.Submits.{after_submit, is_blocked, new_entry, next_slot, queue_refusal, submit_refusal}
 use Rattle.hba_driver.specs.Ticks.{acted, after_tick, done_ended, due, effects, effects_due, plan_after, seen, turn, unless}
-use Rattle.hba_driver.proofs.requests.HistoryLemmas.{PollFacts, back_of, freed, poll_facts}
+use Rattle.hba_driver.specs.Between.{DriverKeeps, PlanKeeps, PollFacts, Signs}
+use Rattle.hba_driver.proofs.requests.HistoryLemmas.{back_of, freed, poll_facts}
 use Rattle.hba_driver.proofs.ticks.LifeLemmas.{keeps_seen, keeps_tick, waits_if_may}
 use Rattle.hba_driver.proofs.calls.RequestLemmas.{set_cases}
 use Rattle.hba_driver.proofs.ticks.ServeLemmas.{ticks_serve}
-use Rattle.hba_driver.proofs.steady.SteadyLemmas.{PlanKeeps, act_keeps, keeps_then, of_turn, turn_keeps, unless_here}
+use Rattle.hba_driver.proofs.steady.SteadyLemmas.{act_keeps, keeps_then, of_turn, turn_keeps, unless_here}
 use Rattle.hba_driver.proofs.calls.SubmitLemmas.{none_conflict}
 use Rattle.hba_driver.proofs.events.TurnLemmas.{first_none}
 
@@ -243,10 +244,6 @@ signed_by n Switching port memory on h = elim (cases_lt n 16) [
       absurd (false≢true (sym (get_or_past (map (λ dev. is_ata (seen_in (last_d2h memory.structure dev))) (range_with_len 0 16)) n false (omega (arith, long, past))) ∙ h))
 ]
 
--- its signature stands in its row, if the driver uses FIS-based switching
-abbrev pub Signs : ℕ → Host → Type 0
-Signs n old = IsSwitching old → HasSignature n old
-
 tick_plan : (n : ℕ) (old : Host) (file : TaskFile) → IsCalmTick n old → IsSteadyPlan n old.driver.plan → PlanKeeps n (Signs n old) old.driver.plan (after_tick (sight_in old) file old.driver).plan
 unfolding after_tick
 tick_plan n old file calm h =
@@ -255,11 +252,6 @@ tick_plan n old file calm h =
     let second = act_keeps n (Signs n old) v file (turn v old.driver).plan first.steady (turn v old.driver).act (λ bit on. signed_by n old.driver.plan.mode old.port old.memory on bit) calm (of_turn v old.driver.plan (done_ended v.issued old.driver.entries)) in
     let whole = keeps_then n (Signs n old) old.driver.plan (turn v old.driver).plan _ first second in
     subst (λ (p : Plan). PlanKeeps n (Signs n old) old.driver.plan p) (sym (acted_plan (turn v old.driver).act file (seen v old.driver))) whole
-
--- what a turn leaves of the driver
-pub record DriverKeeps (n : ℕ) (signs : Type 0) (d e : Driver) : Type 0 where
-  pub steady : IsSteady n e
-  pub asks : IsAskedOf n e.plan → IsAskedOf n d.plan ⊎ signs
 
 keeps_same : (n : ℕ) (signs : Type 0) (d e : Driver) → e ≡ d → IsSteady n d → DriverKeeps n signs d e
 keeps_same n signs d e is h = subst (λ (x : Driver). DriverKeeps n signs d x) (sym is) (record { steady = h; asks = λ a. inl a })

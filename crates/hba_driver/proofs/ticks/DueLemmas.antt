@@ -24,32 +24,9 @@ use Rattle.hba_driver.specs.Drivers.{Entry, IsPath, entry_at, waits}
 use Rattle.hba_driver.specs.Orders.{is_queued, order_fields}
 use Rattle.hba_driver.specs.Paths.{next_stage, stage_fields}
 use Rattle.hba_driver.specs.Turns.{advanced, allowed, answered, control_news, control_seen, control_turn, device_due, device_of, device_or_request, device_seen, device_turn, early_due, fault_due, found_of, is_back, is_due, issue_of, may_go_to, may_issue, met, met_order, met_path, noted, order_allowed, order_due, path_answered, path_due, path_met, path_to, plain_turn, request_due, stage_due, stage_for, step_of, turn_of, with_next}
+use Rattle.hba_driver.specs.Between.{Due, Runs}
 
 -- ---- what is due
-
--- a request for this device waits in a slot, and the device is ready
-pub record Waiting (plan : Plan) (entries : List (Option Entry)) (slot dev : ℕ) : Type 0 where
-  pub below : slot < 30
-  pub entry : Entry
-  pub stands : entry_at entries slot ≡ Some entry
-  pub may : may_issue plan (Some entry) ≡ true
-  pub waits_is : waits entry.head ≡ true
-  pub of_dev : entry.head.dev ≡ dev
-
--- slot 30 is free, or a path that holds it goes on with this stage
-abbrev pub MayStep : Plan → (dev : ℕ) → Stage → Type 0
-MayStep plan dev stage = ((plan.path ≡ None) × (dev < 15)) ⊎ (plan.path ≡ Some (record { dev = dev; stage = stage; asked = false }))
-
--- what is known if an act is due
-abbrev pub Due : Sight → Plan → List (Option Entry) → Option Act → Type 0
-Due v plan entries None = Unit {0}
-Due v plan entries (Some (act.Opens k)) = (k ≡ plan.opened) × (plan.opened < 7)
-Due v plan entries (Some act.Stops) = v.stopped ≡ true
-Due v plan entries (Some (act.Restarts k)) = (k ≡ plan.restarted) × (plan.restarted < 2)
-Due v plan entries (Some (act.Clears dev)) = v.faulty ≡ Some dev
-Due v plan entries (Some (act.Orders order)) = plan.asked ≡ false
-Due v plan entries (Some (act.Steps dev stage)) = MayStep plan dev stage
-Due v plan entries (Some (act.Issues slot dev queued)) = (w : Waiting plan entries slot dev) × (is_queued w.entry.head.work ≡ queued)
 
 -- ---- what holds of each act that may be due holds of what is due
 
@@ -336,13 +313,6 @@ goes_turn v plan entries =
     turn_by (λ t. PlanGoes v plan t.plan) v plan entries (goes_same v plan) first (goes_then v plan (control_seen v plan) _ first (goes_device v (control_seen v plan)))
 
 -- ---- what comes only once the port is open and runs
-
--- the writes that open the port come before those that start it again, and these before any other act
-abbrev pub Runs : Plan → Option Act → Type 0
-Runs plan None = Unit {0}
-Runs plan (Some (act.Opens k)) = Unit {0}
-Runs plan (Some (act.Restarts k)) = nat_lt plan.opened 7 ≡ false
-Runs plan (Some a) = (nat_lt plan.opened 7 ≡ false) × (nat_lt plan.restarted 2 ≡ false)
 
 runs_any : (plan : Plan) (a : Option Act) → nat_lt plan.opened 7 ≡ false → nat_lt plan.restarted 2 ≡ false → Runs plan a
 runs_any plan None ready up = tt

@@ -27,7 +27,8 @@ use Rattle.hba_driver.specs.Drivers.{Driver, Entry, entry_at, has_ended_in, hold
 use Rattle.hba_driver.specs.Laws.{Goes, GoesOn, Kept, Keeps, TicksKeep}
 use Rattle.hba_driver.specs.Ticks.{acted, after_tick, done_ended, entries_after, is_aside_of, is_done, is_named_of, is_open, is_open_of, log_outcome, logged_ended, removed, seen, stage_ended, turn}
 use Rattle.hba_driver.specs.Turns.{may_issue}
-use Rattle.hba_driver.proofs.ticks.DueLemmas.{Due, Waiting, due_turn}
+use Rattle.hba_driver.specs.Between.{Due, Waiting}
+use Rattle.hba_driver.proofs.ticks.DueLemmas.{due_turn}
 
 -- ---- phases
 

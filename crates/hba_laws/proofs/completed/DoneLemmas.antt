@@ -38,10 +38,11 @@ use Rattle.hba_laws.specs.History.{Event, History, Transfer, completes, issued, 
 use Rattle.fis_view.specs.Frames.{IsFrame}
 use Rattle.hba_laws.specs.Hosts.{Host, HostEvent, Runs, TakesFrame}
 use Rattle.hba_laws.specs.Sound.{AreHosts, IsHost}
+use Rattle.hba_laws.specs.Between.{IsOwn, at_slot}
 use Rattle.hba_laws.proofs.histories.EventLemmas.{says_of, views_are_told}
 use Rattle.hba_laws.proofs.histories.HearLemmas.{heard_follows, with_event}
 use Rattle.hba_laws.proofs.histories.StepLemmas.{Says}
-use Rattle.hba_laws.proofs.histories.ViewLemmas.{IsOwn, at_other, at_same, at_slot, held, is_own, own_below, own_freed, own_set}
+use Rattle.hba_laws.proofs.histories.ViewLemmas.{at_other, at_same, held, is_own, own_below, own_freed, own_set}
 
 -- ---- which slots become free
 

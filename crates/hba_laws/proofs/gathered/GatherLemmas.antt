@@ -38,13 +38,14 @@ use Rattle.hba_laws.specs.History.{Carried, Emptied, Sent, SentControl, SetUp, S
 use Rattle.hba_laws.specs.Hosts.{Gave, Host, HostEvent, Took, Wrote as WroteRegister}
 use Rattle.hba_laws.specs.Sent.{AreGathered, DataIsGathered, HoldsWrites, IsGathered}
 use Rattle.hba_laws.specs.Sound.{IsHost}
+use Rattle.hba_laws.specs.Between.{AreQuiet, HasContext, IsOwn}
 use Rattle.hba_laws.proofs.histories.CarryLemmas.{next_is}
 use Rattle.hba_laws.proofs.placed.ClientLemmas.{below_16, context_below, event_is, histories_step, no_fault}
 use Rattle.hba_laws.proofs.histories.EventLemmas.{says_of}
 use Rattle.hba_laws.proofs.placed.SpareLemmas.{event_reads, event_tables}
 use Rattle.hba_laws.proofs.histories.StandLemmas.{fills_as, filling_of, if_there, set_up_setup, some_inj}
 use Rattle.hba_laws.proofs.histories.StepLemmas.{Says}
-use Rattle.hba_laws.proofs.histories.ViewLemmas.{HasContext, IsOwn, is_own}
+use Rattle.hba_laws.proofs.histories.ViewLemmas.{is_own}
 use Rattle.hba_laws.proofs.placed.WithinLemmas.{Carries, CarriesFor, HasSetup, has_setup, heard_carries, within_is}
 
 -- ---- what goes out
@@ -212,13 +213,6 @@ module _ (old : Host) (host : IsHost old) (past : Touches) (n : ℕ) (told : IsH
       ∙ ap (λ k. client opening past (place t.table (k + j))) (from ∙ sym (next_is (own_issue v.slots) c ends (own n past) (says.agrees.context_agrees c due.1))))
 
 -- ---- touches that are neither Data nor bytes that are put
-
-unfoldable pub AreQuiet : Touches → Type 0
-AreQuiet [] = Unit {0}
-AreQuiet (By dev (Carried bytes) ∷ rest) = ⊥
-AreQuiet (By dev e ∷ rest) = AreQuiet rest
-AreQuiet (Stops ∷ rest) = AreQuiet rest
-AreQuiet (Puts at bytes ∷ rest) = ⊥
 
 pub quiet_gathered : (opening : ℕ → ℕ) (touches past : Touches) → AreQuiet touches → AreGathered opening past → AreGathered opening (touches ++ past)
 unfolding AreQuiet

@@ -10,8 +10,9 @@ use Rattle.slots.specs.declared.table.Context.{Context}
 use Rattle.slots.specs.declared.work.Work.{Work}
 use Rattle.hba_laws.specs.Agreement.{Agrees, ContextAgrees, IssueAgrees, SetupAgrees, is_for, is_pio_issue}
 use Rattle.hba_laws.specs.History.{Answered, History, Named, PioSetUp, Sent, SentControl, SetUp, Setup, bytes_of, carried, filled, is_at, is_set_up, last_setup, pio_setup, unless, waiting_in}
+use Rattle.hba_laws.specs.Between.{at_slot, frees}
 use Rattle.hba_laws.proofs.histories.StandLemmas.{some_inj}
-use Rattle.hba_laws.proofs.histories.ViewLemmas.{at_other, at_same, at_slot, frees}
+use Rattle.hba_laws.proofs.histories.ViewLemmas.{at_other, at_same}
 
 pub unless_some : {A : Type 0} (b : Bool) (o : Option A) (a : A) → unless b o ≡ Some a → (b ≡ false) × (o ≡ Some a)
 unless_some true o a e = cc

@@ -12,9 +12,10 @@ use Rattle.slots.specs.declared.table.Context.{Context}
 use Rattle.slots.proofs.Door.{any_at, count_more, length_with_bytes, over_none, over_with_bytes}
 use Rattle.hba_laws.specs.Agreement.{Agrees, ContextAgrees, IssueAgrees, SetupAgrees, is_for, is_pio_issue}
 use Rattle.hba_laws.specs.History.{Carried, History, Issued, Setup, Transfer, bytes_of, filled, filled_from, is_at, is_set_up, last_setup, next_number, unless, waiting_in}
+use Rattle.hba_laws.specs.Between.{at_slot}
 use Rattle.hba_laws.proofs.histories.StandLemmas.{some_inj}
 use Rattle.hba_laws.proofs.histories.AgreeLemmas.{context_in}
-use Rattle.hba_laws.proofs.histories.ViewLemmas.{at_other, at_same, at_slot}
+use Rattle.hba_laws.proofs.histories.ViewLemmas.{at_other, at_same}
 
 -- ---- the set of bytes
 

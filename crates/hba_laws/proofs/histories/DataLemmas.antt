@@ -14,11 +14,12 @@ use Rattle.hba_fbs.specs.Hearing.{block_ended}
 use Rattle.hba_fbs.specs.Status.{is_quiet}
 use Rattle.hba_laws.specs.Agreement.{Agrees, AreIssued, SetupAgrees, is_pio_issue}
 use Rattle.hba_laws.specs.History.{Carried, History, Setup, carried, completes, ends_well, is_set_up, last_setup}
+use Rattle.hba_laws.specs.Between.{HasContext, IsOwn, at_slot, frees}
 use Rattle.hba_laws.proofs.histories.StandLemmas.{some_inj}
 use Rattle.hba_laws.proofs.histories.AgreeLemmas.{agrees_freed}
 use Rattle.hba_laws.proofs.histories.CarryLemmas.{agrees_carried}
 use Rattle.hba_laws.proofs.histories.StepLemmas.{Says, frees_completed, kept, not_queued, pio_slot, whole_is, works_marked}
-use Rattle.hba_laws.proofs.histories.ViewLemmas.{HasContext, IsOwn, at_other, at_same, at_slot, ext, frees, holds_at, own_below, own_freed, own_set}
+use Rattle.hba_laws.proofs.histories.ViewLemmas.{at_other, at_same, ext, holds_at, own_below, own_freed, own_set}
 
 -- whether bytes that are the last of their setup, or not, end a block well
 abbrev pub ends_block : Option ℕ → Bool → Bool

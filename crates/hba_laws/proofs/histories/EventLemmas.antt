@@ -34,11 +34,12 @@ use Rattle.hba_laws.specs.Delivering.{HistoriesAreParts, IsFramed, ViewsAreTold,
 use Rattle.hba_laws.specs.History.{Carried, Emptied, Event, History, Sent, SentControl, SetUp}
 use Rattle.hba_laws.specs.Hosts.{Does, Flushed, Gave, Host, HostEvent, TakesFrame, Took, Wrote}
 use Rattle.hba_laws.specs.Sound.{IsHost}
+use Rattle.hba_laws.specs.Between.{GoesOut, HasContext, IsOwn, history_below}
 use Rattle.hba_laws.proofs.histories.DataLemmas.{ends_block, says_carried}
 use Rattle.hba_laws.proofs.histories.HearLemmas.{heard_follows, with_event}
-use Rattle.hba_laws.proofs.histories.IssueLemmas.{asked_free, history_below, other_below, own_app, own_below_is, says_issued}
+use Rattle.hba_laws.proofs.histories.IssueLemmas.{asked_free, other_below, own_app, own_below_is, says_issued}
 use Rattle.hba_laws.proofs.histories.StepLemmas.{Says, control_no_dma, ends_after, says_control, says_emptied, says_sent}
-use Rattle.hba_laws.proofs.histories.ViewLemmas.{HasContext, IsOwn, held, holds_at, is_own, own_here}
+use Rattle.hba_laws.proofs.histories.ViewLemmas.{held, holds_at, is_own, own_here}
 
 pub says_of : (v : DeviceView) (past : History) → IsTold v past → Says v.slots (option_map end_of v.state.block) past
 says_of v past t = record { issued = t.issued; agrees = t.agrees }
@@ -73,13 +74,6 @@ other_all n dev (y ∷ h) x past ne =
     ap (λ b. cond b (y ∷ own n (map (By dev) h ++ By dev x ∷ [])) (own n (map (By dev) h ++ By dev x ∷ [])) ++ past) (ne_eqb dev n ne) ∙ other_all n dev h x past ne
 
 -- ---- what goes out
-
--- what is known of it
-unfoldable pub GoesOut : Port → Outgoing → Type 0
-GoesOut port (out.Data dev offset len command) = (c : Context) × (context_of port.slots dev ≡ Some c) × (c.activated ≡ true) × (len ≡ payload_len c)
-GoesOut port (out.Order dev slot command) =
-    (i : Issue) × (issue_at port.slots slot ≡ Some i) × (dev ≡ i.dev) × (slot < 32) × (i.sent ≡ false) × (is_control i.work.kind ≡ false → waiting (slots_of i.dev port.slots) ≡ None)
-GoesOut port other = Unit {0}
 
 not_true : (b : Bool) → not b ≡ true → b ≡ false
 not_true true e = absurd (false≢true e)

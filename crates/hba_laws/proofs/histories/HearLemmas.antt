@@ -34,10 +34,11 @@ use Rattle.hba_fbs.specs.Views.{DeviceView}
 use Rattle.hba_laws.specs.Agreement.{end_of}
 use Rattle.hba_laws.specs.Delivering.{event_heard, event_of_answer}
 use Rattle.hba_laws.specs.History.{Event, History}
+use Rattle.hba_laws.specs.Between.{IsOwn}
 use Rattle.hba_laws.proofs.histories.AgreeLemmas.{agrees_activated}
 use Rattle.hba_laws.proofs.histories.DataLemmas.{ends_block, says_block}
 use Rattle.hba_laws.proofs.histories.StepLemmas.{Says, says_done, says_named, says_nobody, says_out, says_pio, says_queued, says_set_up}
-use Rattle.hba_laws.proofs.histories.ViewLemmas.{IsOwn, held}
+use Rattle.hba_laws.proofs.histories.ViewLemmas.{held}
 
 abbrev pub with_event : Option Event → History → History
 with_event None past = past

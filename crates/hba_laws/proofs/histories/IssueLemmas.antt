@@ -14,16 +14,16 @@ use Rattle.hba_fbs.specs.declared.error.WriteError.TheVariants as refusal
 use Rattle.hba_fbs.specs.declared.register.Register.TheVariants.{Ci}
 use Rattle.hba_fbs.specs.Issuing.{any_slot, asked, is_busy, issue_with, issued_slots}
 use Rattle.hba_fbs.specs.Registers.{own_refusal}
-use Rattle.hba_fbs.specs.Tables.{prds_of}
 use Rattle.hba_fbs.specs.Views.{Port}
 use Rattle.hba_fbs.specs.Writing.{refusal_of, slots_refusal}
 use Rattle.hba_laws.specs.Agreement.{Agrees, AreIssued, work_of_issue, work_of_transfer}
 use Rattle.hba_laws.specs.Client.{By, Puts, Stops, Touches, own}
 use Rattle.hba_laws.specs.Delivering.{issued_below, issued_in}
-use Rattle.hba_laws.specs.History.{Emptied, History, Issued, Transfer, issued}
+use Rattle.hba_laws.specs.History.{Emptied, History, Issued, issued}
+use Rattle.hba_laws.specs.Between.{at_slot, history_below, issue_below, transfer_of, with_issued}
 use Rattle.hba_laws.proofs.histories.CarryLemmas.{agrees_issued}
 use Rattle.hba_laws.proofs.histories.StepLemmas.{Says}
-use Rattle.hba_laws.proofs.histories.ViewLemmas.{at_other, at_same, at_slot, ext, issue_below, own_issued}
+use Rattle.hba_laws.proofs.histories.ViewLemmas.{at_other, at_same, ext, own_issued}
 
 -- ---- touches and histories
 
@@ -36,18 +36,6 @@ own_app n (By dev e ∷ xs) ys = by_test (eqb dev n) (own_app n xs ys)
     by_test false h = h
 own_app n (Stops ∷ xs) ys = ap (λ h. Emptied ∷ h) (own_app n xs ys)
 own_app n (Puts at bytes ∷ xs) ys = own_app n xs ys
-
--- the event of a command that is issued
-abbrev pub transfer_of : Memory → Command → Transfer
-transfer_of memory command = record { work = command.work; table = prds_of memory command }
-
-abbrev pub with_issued : Memory → ℕ → Option Command → History → History
-with_issued memory slot None past = past
-with_issued memory slot (Some command) past = Issued slot (transfer_of memory command) ∷ past
-
-abbrev pub history_below : Memory → (ℕ → Option Command) → History → ℕ → History
-history_below memory commands past zero = past
-history_below memory commands past (suc m) = with_issued memory m (commands m) (history_below memory commands past m)
 
 own_issued_in : (n slot : ℕ) (memory : Memory) (o : Option Command) (rest : Touches) (past : History)
     → own n (issued_in n memory slot o ++ rest) ++ past ≡ with_issued memory slot o (own n rest ++ past)

@@ -13,6 +13,7 @@ use Rattle.slots.specs.declared.work.Kind.{Kind}
 use Rattle.slots.specs.declared.work.Kind.TheVariants.{QueuedRead, DmaIn, PioIn}
 use Rattle.hba_laws.specs.Client.{AreApart, AreWithin, By, CompletesInPlace, Filling, FillsWithin, IsKept, IsReading, IsWithin, Puts, StandsInPlace, Stops, Touches, client, filling, filling_by, own}
 use Rattle.hba_laws.specs.History.{Answered, Carried, Emptied, Event, History, Issued, Named, PioSetUp, SentControl, SetUp, Setup, Transfer, bytes_of, completes, filled, filled_from, is_all_filled, is_at, is_set_up, issued, last_setup, next_number, none_filled, pio_setup, unless, waiting_in}
+use Rattle.hba_laws.specs.Between.{IsFilling}
 
 pub some_inj : {A : Type 0} (a b : A) → Some a ≡ Some b → a ≡ b
 some_inj a b e = cc
@@ -61,16 +62,6 @@ set_up_setup s (_ ∷ past) e = set_up_setup s past e
 
 pub if_there : {A : Type 0} (o : Option A) (Q : A → Type 0) (a : A) → o ≡ Some a → MatchOption o (Unit {0}) Q → Q a
 if_there o Q a e h = rw e at h
-
--- the filling is of an issued slot that was set up last, towards the host
-pub record IsFilling (past : History) (f : Filling) : Type 0 where
-  pub setup : Setup
-  pub last : last_setup past ≡ Some setup
-  pub host : setup.to_host ≡ true
-  pub slot_is : f.slot ≡ setup.slot
-  pub is_issued : issued f.slot past ≡ Some f.transfer
-  pub is_up : is_set_up f.slot past ≡ true
-  pub from_is : f.from ≡ next_number past
 
 abbrev pub filling_of : ℕ → History → Transfer → Filling
 filling_of s past t = record { slot = s; transfer = t; from = next_number past }

@@ -20,9 +20,10 @@ use Rattle.slots.proofs.Door.{get-free, lowest_found, lowest_is}
 use Rattle.hba_laws.specs.Agreement.{Agrees, AreIssued, ContextAgrees, IssueAgrees, work_of_issue, work_of_transfer}
 use Rattle.hba_laws.specs.Delivering.{begun_by}
 use Rattle.hba_laws.specs.History.{Answered, Emptied, Event, History, Named, PioSetUp, Sent, SentControl, SetUp, Transfer, completes, filled, is_all_filled, is_at, issued, unless, waiting_in}
+use Rattle.hba_laws.specs.Between.{IsOwn, at_slot, frees}
 use Rattle.hba_laws.proofs.histories.StandLemmas.{some_inj}
 use Rattle.hba_laws.proofs.histories.AgreeLemmas.{agrees_answered, agrees_freed, agrees_nobody, agrees_pio, agrees_sent, agrees_set_up, context_answered, context_control, context_named, issue_answered, issue_control, issue_named, others_calm}
-use Rattle.hba_laws.proofs.histories.ViewLemmas.{IsOwn, at_other, at_same, at_slot, ext, frees, held, holds_at, none_waits, own_below, own_freed, own_set}
+use Rattle.hba_laws.proofs.histories.ViewLemmas.{at_other, at_same, ext, held, holds_at, none_waits, own_below, own_freed, own_set}
 
 -- a device's part of the slots, and the Status at the end of its block, are what a history says
 pub record Says (own : DeviceSlots) (ends : Option ℕ) (past : History) : Type 0 where

@@ -1,6 +1,6 @@
 -- For `delivers`. A device's part of the slots, read slot by slot, and what a table of slots says of it.
 use Rattle.std.proofs.Common.{◌≡◌, ◌≢◌, ℕ, ◌<◌, Bool, true, false, cond, eqb, get_or, set, length, map, refl, sym, ap, subst, ◌∙◌, inl, inr, Option, Some, None, arith, get_or-set_same, get_or-set_other}
-use Rattle.std.specs.Prelude.{MatchOption, nat_lt}
+use Rattle.std.specs.Prelude.{MatchOption}
 use Rattle.std.proofs.lemmas.Bool.{cases_eq, cases_lt, eq-eqb, ne_eqb, false≢true, lt-ltb, le-ltb}
 use Rattle.std.proofs.lemmas.List.{get_or_past, length-map}
 use Rattle.std.proofs.lemmas.List.FromFn.{get_or-map-range_with_len, length-map-range_with_len}
@@ -11,23 +11,18 @@ use Rattle.slots.specs.declared.table.Context.{Context}
 use Rattle.slots.proofs.Door.{get-unless, length-unless, none_below, own_at, owned_own}
 use Rattle.hba_fbs.specs.Issuing.{issue_with, issued_slots, issues_with}
 use Rattle.hba_laws.specs.History.{unless}
+use Rattle.hba_laws.specs.Between.{HasContext, IsOwn, at_slot, frees, issue_below}
 
 pub ext : {A B : Type 0} (f g : A → B) → ((x : A) → f x ≡ g x) → f ≡ g
 ext f g h = λ i x. h x i
 
 -- ---- changes of one slot and of some
 
-abbrev pub at_slot : {A : Type 0} → (ℕ → A) → ℕ → A → ℕ → A
-at_slot f s x k = cond (eqb k s) x (f k)
-
 pub at_same : {A : Type 0} (f : ℕ → A) (s k : ℕ) (x : A) → k ≡ s → at_slot f s x k ≡ x
 at_same f s k x e = rw (eq-eqb k s e) refl
 
 pub at_other : {A : Type 0} (f : ℕ → A) (s k : ℕ) (x : A) → k ≢ s → at_slot f s x k ≡ f k
 at_other f s k x ne = rw (ne_eqb k s ne) refl
-
-abbrev pub frees : (ℕ → Bool) → (ℕ → Option Issue) → ℕ → Option Issue
-frees F issues s = unless (F s) (issues s)
 
 pub own_set : (own : DeviceSlots) (slot : ℕ) (x : Option Issue) → slot < length own.issues → own_issue (with_own_issue own slot x) ≡ at_slot (own_issue own) slot x
 own_set own slot x lt = ext (own_issue (with_own_issue own slot x)) (at_slot (own_issue own) slot x) (λ k. elim (cases_eq k slot) [
@@ -47,10 +42,6 @@ own_freed F own = ext (own_issue (freed F own)) (frees F (own_issue own)) (λ k.
       ∙ sym (none_either (F k) (own_issue own k) (get_or_past own.issues k None ge))
 ])
 
--- commands are issued in slots below a number
-abbrev pub issue_below : ℕ → (ℕ → Option Command) → (ℕ → Option Issue) → ℕ → ℕ → Option Issue
-issue_below dev commands issues m k = cond (nat_lt k m) (issue_with dev (commands k) (issues k)) (issues k)
-
 pub own_issued : (dev : ℕ) (commands : ℕ → Option Command) (own : DeviceSlots) (m : ℕ) → length own.issues ≡ m
     → own_issue (issued_slots dev commands own) ≡ issue_below dev commands (own_issue own) m
 unfolding issues_with
@@ -65,17 +56,6 @@ own_issued dev commands own m long = ext (own_issue (issued_slots dev commands o
 ])
 
 -- ---- a device's part of a table
-
--- a context is within what is issued in its slot
-pub record HasContext (n : ℕ) (own : DeviceSlots) (c : Context) : Type 0 where
-  pub issue : Issue
-  pub at : own_issue own c.slot ≡ Some issue
-  pub is : IsContextOf n c issue
-
-pub record IsOwn (n : ℕ) (own : DeviceSlots) : Type 0 where
-  pub long : length own.issues ≡ 32
-  pub issues : (s : ℕ) (i : Issue) → own_issue own s ≡ Some i → IsIssue i
-  pub contexts : (c : Context) → own.context ≡ Some c → HasContext n own c
 
 owned_some : (dev : ℕ) (o : Option Issue) (i : Issue) → owned_by dev o ≡ Some i → o ≡ Some i
 owned_some dev None i e = cc

@@ -30,11 +30,12 @@ use Rattle.hba_laws.specs.Hosts.{Does, Flushed, Gave, Host, HostEvent, Rewrote, 
 use Rattle.hba_laws.specs.Isolation.{AreOfDevices, Came, Cleared, Emptied, Issued, OwnEvent, Went, is_port_event, lowers_st, next_own, own_events, part_after, part_after_all, skips, stops, stops_port}
 use Rattle.hba_laws.specs.Parts.{DevicePart, part_of}
 use Rattle.hba_laws.specs.Sound.{AreHosts, IsHost}
+use Rattle.hba_laws.specs.Between.{IsOrder, history_below, with_issued}
 use Rattle.hba_laws.proofs.histories.EventLemmas.{other_all, other_one, own_all, own_one}
 use Rattle.hba_laws.proofs.isolation.IsolationLemmas.{heard_alike, own_step, row_shows}
-use Rattle.hba_laws.proofs.histories.IssueLemmas.{history_below, other_below, own_below_is, with_issued}
+use Rattle.hba_laws.proofs.histories.IssueLemmas.{other_below, own_below_is}
 use Rattle.hba_laws.proofs.soundness.KeptLemmas.{first_host}
-use Rattle.hba_laws.proofs.isolation.OutgoingLemmas.{IsOrder, data_is_own, order_is, order_is_own, order_no_payload, order_stands}
+use Rattle.hba_laws.proofs.isolation.OutgoingLemmas.{data_is_own, order_is, order_is_own, order_no_payload, order_stands}
 
 -- ---- a list of one own event, or none
 

@@ -13,7 +13,8 @@ use Rattle.hba_laws.specs.Hosts.{Host}
 use Rattle.hba_laws.specs.Isolation.{GoesByOwn, next_own, own_bytes, own_data, own_order}
 use Rattle.hba_laws.specs.Parts.{DevicePart, part_of}
 use Rattle.hba_laws.specs.Sound.{IsHost}
-use Rattle.hba_laws.proofs.isolation.OutgoingLemmas.{IsData, IsOrder, data_is, order_filled, order_is, order_is_own, order_no_payload}
+use Rattle.hba_laws.specs.Between.{IsData, IsOrder}
+use Rattle.hba_laws.proofs.isolation.OutgoingLemmas.{data_is, order_filled, order_is, order_is_own, order_no_payload}
 
 -- the command of a slot in which something of the device is issued
 command_of_slot : (n slot : ℕ) (host : Host) (command : Command) → is_some (own_issue (slots_of n host.port.slots) slot) ≡ true → last_command host.port.commands slot ≡ Some command

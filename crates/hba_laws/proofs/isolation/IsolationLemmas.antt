@@ -36,11 +36,12 @@ use Rattle.hba_laws.specs.Hosts.{Does, Flushed, Gave, Host, HostEvent, Put, Rewr
 use Rattle.hba_laws.specs.Isolation.{AreAlike, AreOfDevices, Came, Cleared, Rewritten, Emptied, IsFoldOfOwn, Issued, OwnEvent, Went, after_fis, after_going, after_order, fails_by_bus, gone_to, is_port_event, lowers_st, next_own, own_events, own_over, part_after, part_after_all, row_with, skips, stops, stops_port, written_to}
 use Rattle.hba_laws.specs.Parts.{DevicePart, commands_of, own_row, part_of, with_view}
 use Rattle.hba_laws.specs.Sound.{AreHosts, IsHost}
+use Rattle.hba_laws.specs.Between.{IsOrder, KeepsOwn}
 use Rattle.hba_laws.proofs.prd_tables.AreaLemmas.{row_beside, row_beside_posted, row_posted, row_rewritten}
 use Rattle.hba_laws.proofs.soundness.KeptLemmas.{fb_kept, first_host, mode_kept, receives, stays_put}
-use Rattle.hba_laws.proofs.isolation.OutgoingLemmas.{IsOrder, data_is_own, order_filled, order_is, order_is_own, order_no_payload}
+use Rattle.hba_laws.proofs.isolation.OutgoingLemmas.{data_is_own, order_filled, order_is, order_is_own, order_no_payload}
 use Rattle.hba_laws.proofs.isolation.PartLemmas.{SamePlace, becomes, issued_as, row_at, row_moved, row_same, same_place, shown_as, stays, stays_but, stays_by}
-use Rattle.hba_laws.proofs.isolation.SlotLemmas.{KeepsOwn, keeps_fed, keeps_moved, keeps_none, keeps_sent}
+use Rattle.hba_laws.proofs.isolation.SlotLemmas.{keeps_fed, keeps_moved, keeps_none, keeps_sent}
 use Rattle.hba_laws.proofs.soundness.WriteLemmas.{commands_chosen, commands_other}
 
 -- ---- a FIS that stops no port is heard as if its table were sound

@@ -10,13 +10,15 @@ use Rattle.port_errors.specs.declared.cause.DeviceCause.{DeviceCause}
 use Rattle.slots.specs.Commands.{may_begin, may_go}
 use Rattle.slots.specs.Data.{payload}
 use Rattle.slots.specs.Slots.{Issue, context_of, has_bit, holds, is_control, issue_at, mask_below, match_some, own_issue, slots_of, waiting}
-use Rattle.slots.proofs.Door.{lowest_before, lowest_found, lowest_is, mask_none, mask_same, mask_set, MaskBelow}
-use Rattle.slots.proofs.Door.{none_below, own_at, owned_same, Owns, owns_where}
+use Rattle.slots.specs.Between.{MaskBelow, Owns}
+use Rattle.slots.proofs.Door.{lowest_before, lowest_found, lowest_is, mask_none, mask_same, mask_set}
+use Rattle.slots.proofs.Door.{none_below, own_at, owned_same, owns_where}
 use Rattle.hba_fbs.specs.Sending.{Data, Nothing, Order, data_due, data_with, faulty_devices, is_ready, next_receiver, next_to_send, order_due, outgoing, ready_devices, is_due}
 use Rattle.hba_fbs.specs.Tables.{is_readable, sound_command}
 use Rattle.hba_fbs.specs.Taking.{is_running}
 use Rattle.hba_fbs.specs.Views.{Port, last_command, state_at, view_of}
 use Rattle.hba_laws.specs.Isolation.{may_leave, next_own}
+use Rattle.hba_laws.specs.Between.{IsData, IsOrder}
 
 -- ---- sets of devices, as numbers
 
@@ -85,15 +87,6 @@ sound_stands memory None q command h = cc
 sound_stands memory (Some issue) None command h = cc
 sound_stands memory (Some issue) (Some c) command h = (refl, read_stands (is_readable memory issue.work.len c) c command h)
 
--- what is known of data that goes out: it is the next of the device's setup, of the command of its slot
-pub record IsData (port : Port) (dev offset len : ℕ) (command : Command) : Type 0 where
-  pub next : ℕ × ℕ × ℕ
-  pub is : payload (context_of port.slots dev) ≡ Some next
-  pub offset_is : next.1 ≡ offset
-  pub len_is : next.2 ≡ len
-  pub filled : is_some (own_issue (slots_of dev port.slots) next.0) ≡ true
-  pub stands : last_command port.commands next.0 ≡ Some command
-
 data_found : (port : Port) (memory : Memory) (d dev offset len : ℕ) (command : Command)
     → IsDueData d dev offset len (payload (context_of port.slots d)) (λ next. sound_command memory port.commands (view_of d port).slots next.0) command → d ≡ dev → IsData port dev offset len command
 data_found port memory d dev offset len command due is =
@@ -133,13 +126,6 @@ pub data_is_own : (port : Port) (memory : Memory) (dev offset len : ℕ) (comman
 data_is_own port memory dev offset len command h = ap (λ (x : Option (ℕ × ℕ × ℕ)). is_some x) (data_is port memory dev offset len command h).is
 
 -- ---- commands
-
--- what is known of a command that goes out: no device waits for data, its slot is the next, and it is the device's
-pub record IsOrder (port : Port) (dev slot : ℕ) (command : Command) (r s : Option ℕ) : Type 0 where
-  pub no_data : r ≡ None
-  pub next : s ≡ Some slot
-  pub owns : Owns dev (issue_at port.slots slot)
-  pub stands : last_command port.commands slot ≡ Some command
 
 record IsDue (k dev slot : ℕ) (o : Option Issue) (q : Option Command) (command : Command) : Type 0 where
   is_slot : k ≡ slot

@@ -8,7 +8,7 @@ use Rattle.hba_fbs.specs.declared.registers.Registers.{Registers}
 use Rattle.hba_fbs.specs.Views.{DeviceView, last_command, view_of}
 use Rattle.hba_laws.specs.Hosts.{Host}
 use Rattle.hba_laws.specs.Parts.{DevicePart, commands_of, own_row, part_of, with_view}
-use Rattle.hba_laws.proofs.isolation.SlotLemmas.{KeepsOwn}
+use Rattle.hba_laws.specs.Between.{KeepsOwn}
 
 abbrev pub row_at : ℕ → Host → Option (List ℕ)
 row_at n host = own_row host.port.registers.switching host.port.registers.fb host.memory.structure n

@@ -18,10 +18,7 @@ use Rattle.std.specs.Prelude.{is_some, is_ok}
 use Rattle.hba_fbs.specs.declared.hearing.Happening.{Happening}
 use Rattle.hba_fbs.specs.declared.hearing.Happening.TheVariants as happening
 use Rattle.hba_fbs.specs.Hearing.{block_ended, moved}
-
--- no slot of the device that is free becomes filled
-abbrev pub KeepsOwn : DeviceSlots → DeviceSlots → Type 0
-KeepsOwn old new = (slot : ℕ) → own_issue old slot ≡ None → own_issue new slot ≡ None
+use Rattle.hba_laws.specs.Between.{KeepsOwn}
 
 -- ---- ways to leave it so
 

@@ -41,12 +41,13 @@ use Rattle.hba_laws.specs.Delivering.{begun_by, ClientIsTouched, DataIsWithin, D
 use Rattle.hba_laws.specs.History.{Carried, Emptied, Sent, SentControl, SetUp, Setup, is_set_up, issued}
 use Rattle.hba_laws.specs.Hosts.{Does, Flushed, Gave, Host, HostEvent, Put, PutsBytes, TakesFrame, Took, Wrote as WroteRegister}
 use Rattle.hba_laws.specs.Sound.{IsHost}
+use Rattle.hba_laws.specs.Between.{GoesOut, HasContext, IsOwn}
 use Rattle.hba_laws.proofs.histories.CarryLemmas.{next_is}
-use Rattle.hba_laws.proofs.histories.EventLemmas.{GoesOut, goes_out, says_of, step}
+use Rattle.hba_laws.proofs.histories.EventLemmas.{goes_out, says_of, step}
 use Rattle.hba_laws.proofs.histories.IssueLemmas.{own_app}
 use Rattle.hba_laws.proofs.histories.StandLemmas.{fills_as, filling_of, if_there}
 use Rattle.hba_laws.proofs.histories.StepLemmas.{Says}
-use Rattle.hba_laws.proofs.histories.ViewLemmas.{HasContext, IsOwn, is_own}
+use Rattle.hba_laws.proofs.histories.ViewLemmas.{is_own}
 use Rattle.hba_laws.proofs.placed.WithinLemmas.{Carries, CarriesFor, HasSetup, has_setup, heard_carries, the_transfer, within_is}
 
 -- ---- a table that can be used

@@ -32,16 +32,13 @@ use Rattle.hba_laws.specs.Delivering.{begun_by, DataReadsAsIssued, HasTables, Ha
 use Rattle.hba_laws.specs.History.{Carried, Emptied, Event, History, Issued, Sent, SentControl, SetUp, Transfer, completes, issued, unless}
 use Rattle.hba_laws.specs.Hosts.{Does, Flushed, Gave, Host, HostEvent, Put, TakesFrame, Took, Wrote}
 use Rattle.hba_laws.specs.Sound.{IsHost}
+use Rattle.hba_laws.specs.Between.{NoneIssues, NotIssue, history_below, transfer_of, with_issued}
 use Rattle.hba_laws.proofs.placed.ClientLemmas.{histories_step}
-use Rattle.hba_laws.proofs.histories.IssueLemmas.{asked_free, history_below, other_below, own_app, own_below_is, transfer_of, with_issued}
+use Rattle.hba_laws.proofs.histories.IssueLemmas.{asked_free, other_below, own_app, own_below_is}
 use Rattle.hba_laws.proofs.histories.StandLemmas.{filling_is, some_inj}
 use Rattle.hba_laws.proofs.histories.ViewLemmas.{own_in}
 
 -- ---- what was issued before
-
-unfoldable pub NotIssue : Event → Type 0
-NotIssue (Issued slot t) = ⊥
-NotIssue e = Unit {0}
 
 by_completion : (b : Event → History → Transfer → Bool) (e : Event) (past : History) (o : Option Transfer) (t : Transfer)
     → match_some o None (λ u. unless (b e past u) (Some u)) ≡ Some t → o ≡ Some t
@@ -62,13 +59,6 @@ issued_before s (Issued slot u) past t not h = absurd not
 issued_before s (SentControl slot) past t not h = by_control (eqb slot s) (issued s past) t h
 issued_before s Emptied past t not h = cc
 issued_before s e past t not h = by_completion (λ e past u. completes s e past u.work) e past (issued s past) t h
-
--- touches of which none issues
-unfoldable pub NoneIssues : Touches → Type 0
-NoneIssues [] = Unit {0}
-NoneIssues (By dev e ∷ rest) = NotIssue e × NoneIssues rest
-NoneIssues (Stops ∷ rest) = NoneIssues rest
-NoneIssues (Puts at bytes ∷ rest) = NoneIssues rest
 
 pub was_there : (n s : ℕ) (touches past : Touches) (t : Transfer) → NoneIssues touches → issued s (own n (touches ++ past)) ≡ Some t → issued s (own n past) ≡ Some t
 unfolding NoneIssues

@@ -30,11 +30,11 @@ use Rattle.hba_fbs.specs.Views.{DeviceView}
 use Rattle.hba_laws.specs.Agreement.{SetupAgrees, work_of_issue, work_of_transfer}
 use Rattle.hba_laws.specs.Client.{Filling, FillsWithin, IsWithin, filling}
 use Rattle.hba_laws.specs.History.{History, Setup, Transfer, is_set_up, issued, last_setup}
+use Rattle.hba_laws.specs.Between.{HasContext, IsOwn}
 use Rattle.hba_laws.proofs.histories.CarryLemmas.{next_is}
 use Rattle.hba_laws.proofs.histories.HearLemmas.{payload_is}
 use Rattle.hba_laws.proofs.histories.StandLemmas.{filling_is, some_inj}
 use Rattle.hba_laws.proofs.histories.StepLemmas.{Says}
-use Rattle.hba_laws.proofs.histories.ViewLemmas.{HasContext, IsOwn}
 
 -- ---- the last setup of a context
 

@@ -24,7 +24,8 @@ use Rattle.multiplier.specs.Rules.{FromHostRule, ToControl, ToDevice, ToNobody, 
 use Rattle.multiplier.specs.State.{PmState, passes_to, pm_port, port_at}
 use Rattle.multiplier.specs.declared.multiplier.Passed.{Passed}
 use Rattle.multiplier.specs.declared.multiplier.Passed.TheVariants as passed
-use Rattle.multiplier.proofs.Door.{Answer as Answers, at, FromPort, Gives, gives, kept_part, Notice, other_port}
+use Rattle.multiplier.specs.Between.{Answer as Answers, FromPort, Gives, Notice, at}
+use Rattle.multiplier.proofs.Door.{gives, kept_part, other_port}
 use Rattle.pm_world.specs.Attached.{Attached}
 use Rattle.pm_world.specs.Cleared.{EachWaits, NewDevicesWait, PassesNone, clears_x, is_cleared, is_up_from}
 use Rattle.pm_world.specs.Downward.{fell_to}

@@ -15,12 +15,14 @@ use Rattle.multiplier.specs.Rules.{FromHostRule, ToControl, ToDevice, ToNobody, 
 use Rattle.multiplier.specs.State.{PmState, control_stamp, passes_to, pm_port, port_at}
 use Rattle.multiplier.specs.declared.multiplier.Passed.{Passed}
 use Rattle.multiplier.specs.declared.multiplier.Passed.TheVariants as passed
-use Rattle.multiplier.proofs.Door.{Answer as Answers, FromPort, Gives, gives, Notice}
+use Rattle.multiplier.specs.Between.{Answer as Answers, FromPort, Gives, Notice}
+use Rattle.multiplier.proofs.Door.{gives}
 use Rattle.hba_driver.specs.declared.mode.Mode.TheVariants.{Switching}
 use Rattle.hba_driver.specs.HostTurns.{Does, Host, HostTurn, Ticks, Took, Pushed, Ticked, Submitted, Polled, Put}
 use Rattle.hba_driver.specs.declared.request.Request.{Request as Asked}
 use Rattle.hba_driver.specs.Slot31.{Asks, Follows31, IsAt31, IsNext31, IsNotice31, MayBe31, MayCome31, Pushes31, Resets, Rests, Signs, Stage31, TakesOn, TicksOn, Turns31, Waits, is_quiet, orders_clear}
-use Rattle.hba_driver.proofs.Door.{AreOfTheir, begins_srst, control_in31, ends_srst, going_opens, going_turn, IsGoing}
+use Rattle.hba_driver.specs.Between.{AreOfTheir, IsGoing}
+use Rattle.hba_driver.proofs.Door.{begins_srst, control_in31, ends_srst, going_opens, going_turn}
 use Rattle.hba_driver.proofs.Door.{none_issued, opens31, turn31, turn_addressed, turn_their}
 use Rattle.pm_world.specs.Attached.{Attached}
 use Rattle.pm_world.specs.Places.{IsOrderly, Place, Places, Queue, is_config, new_world, with_host}

@@ -10,7 +10,8 @@ use Rattle.disk_model.specs.Histories as history
 use Rattle.hba_driver.specs.HostTurns.{Does}
 use Rattle.hba_driver.proofs.Door.{act_clears, flush_unreset}
 use Rattle.disk_recovery.specs.Flushes.{bare_floors}
-use Rattle.disk_recovery.proofs.Door.{flush_begins, flush_unfaulted, IsUnfaulted, none_issued, since_begins}
+use Rattle.disk_recovery.specs.Between.{IsUnfaulted}
+use Rattle.disk_recovery.proofs.Door.{flush_begins, flush_unfaulted, none_issued, since_begins}
 use Rattle.disk_model.proofs.Door.{begins_anew}
 use Rattle.pm_world.specs.Attached.{Attached}
 use Rattle.pm_world.proofs.serving.TouchedLemmas.{touched_served}

@@ -5,6 +5,7 @@ use Rattle.std.proofs.Common.{Ok}
 use Rattle.std.proofs.lemmas.Bool.{eq-eqb, true≢false}
 use Rattle.hba_driver.specs.declared.mode.Mode.TheVariants.{Switching}
 use Rattle.hba_driver.specs.Events.{IsSoundHost}
+use Rattle.disk_recovery.specs.Between.{IsUnfaulted}
 use Rattle.hba_driver.proofs.Door.{calm_or_flush, hosts_stay_sound}
 use Rattle.pm_world.specs.Attached.{Attached}
 use Rattle.pm_world.proofs.serving.FirstLemmas.{OpensWell, is_taken_of}
@@ -20,7 +21,7 @@ use Rattle.pm_world.proofs.turns.Delivery.{sized}
 use Rattle.pm_world.proofs.turns.HostFold.{run_does}
 use Rattle.pm_world.proofs.upward.Law.{run_append}
 use Rattle.pm_world.specs.PortsGoOn.{PortGoesOn}
-use Rattle.disk_recovery.proofs.Door.{IsUnfaulted, never_cleared}
+use Rattle.disk_recovery.proofs.Door.{never_cleared}
 use Rattle.pm_world.proofs.honest.UnfaultedLemmas.{IsHeardUnfaulted}
 
 -- ## Steps

@@ -4,7 +4,8 @@ use Rattle.std.proofs.Common.{◌≡◌, ℕ, ◌<◌, ◌≤◌, Bool, true, Li
 use Rattle.hba_driver.specs.HostTurns.{Does, Host, Ticked, sight_in}
 use Rattle.hba_driver.specs.Steady.{IsFlushTick}
 use Rattle.hba_driver.specs.Ticks.{done_ended}
-use Rattle.hba_driver.proofs.Door.{not_below, Runs, runs_turn}
+use Rattle.hba_driver.specs.Between.{Runs}
+use Rattle.hba_driver.proofs.Door.{not_below, runs_turn}
 use Rattle.disk_recovery.proofs.Door.{opened_stays}
 use Rattle.pm_world.specs.Attached.{Attached}
 use Rattle.pm_world.specs.Places.{Places, is_config, new_world}

@@ -23,7 +23,8 @@ use Rattle.multiplier.specs.Rules.{FromHostRule, ToControl, ToDevice, ToNobody, 
 use Rattle.multiplier.specs.State.{PmState, passes_to, pm_port, port_at}
 use Rattle.multiplier.specs.declared.multiplier.Passed.{Passed}
 use Rattle.multiplier.specs.declared.multiplier.Passed.TheVariants as passed
-use Rattle.multiplier.proofs.Door.{Answer as Answers, FromPort, Gives, gives, Notice}
+use Rattle.multiplier.specs.Between.{Answer as Answers, FromPort, Gives, Notice}
+use Rattle.multiplier.proofs.Door.{gives}
 use Rattle.pm_world.specs.Downward.{times}
 use Rattle.pm_world.specs.Resting.{IsAtRest}
 use Rattle.pm_world.specs.Links.{changed_by, is_recorded, on_presence}

@@ -6,6 +6,7 @@ use Rattle.fis_view.specs.Frames.{Stamped}
 use Rattle.hba_fbs.specs.Taking.{port_of}
 use Rattle.hba_driver.specs.Events.{IsSoundHost, taken_by}
 use Rattle.hba_driver.specs.HostTurns.{Pushed}
+use Rattle.disk_recovery.specs.Between.{AreUnfaulted, IsUnfaulted}
 use Rattle.pm_world.specs.Places.{Places}
 use Rattle.pm_world.specs.Rules.{Rule}
 use Rattle.pm_world.specs.Turns.{turn_of}
@@ -14,7 +15,7 @@ use Rattle.pm_world.specs.declared.step.Step.TheVariants as step
 use Rattle.pm_world.specs.declared.step.Answer.{Answer}
 use Rattle.pm_world.specs.declared.step.Answer.TheVariants as answer
 use Rattle.pm_world.proofs.turns.HostFold.{rule_does}
-use Rattle.disk_recovery.proofs.Door.{AreUnfaulted, IsUnfaulted, turns_unfaulted}
+use Rattle.disk_recovery.proofs.Door.{turns_unfaulted}
 
 -- if the host takes a FIS of the device, no fault was heard
 abbrev pub IsHeardUnfaulted : ℕ → Answer → Type 0

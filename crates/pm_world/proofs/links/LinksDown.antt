@@ -14,8 +14,9 @@ use Rattle.multiplier.specs.Rules.{FromDeviceRule, FromHostRule, ToControl, ToDe
 use Rattle.multiplier.specs.State.{PmState, falling, passes_to, pm_port, port_at}
 use Rattle.multiplier.specs.declared.multiplier.Passed.{Passed}
 use Rattle.multiplier.specs.declared.multiplier.Passed.TheVariants as passed
-use Rattle.multiplier.proofs.Door.{Answer as Answers, at, FromPort, Gives, gives, has_down, kept_part, Notice}
-use Rattle.multiplier.proofs.Door.{other_port, Ports, this_port}
+use Rattle.multiplier.specs.Between.{Answer as Answers, FromPort, Gives, Notice, Ports, at}
+use Rattle.multiplier.proofs.Door.{gives, has_down, kept_part}
+use Rattle.multiplier.proofs.Door.{other_port, this_port}
 use Rattle.hba_driver.specs.HostTurns.{Host}
 use Rattle.hba_driver.specs.declared.request.Request.{Request}
 use Rattle.pm_world.specs.Downward.{is_down_to, is_passed, is_pushed, is_taken_at, on_down_link, times}

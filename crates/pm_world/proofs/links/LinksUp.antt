@@ -15,8 +15,9 @@ use Rattle.multiplier.specs.Arbiter.{control_port}
 use Rattle.multiplier.specs.State.{PmState, port_at, rising, stamped}
 use Rattle.multiplier.specs.declared.multiplier.Passed.{Passed}
 use Rattle.multiplier.specs.declared.multiplier.Passed.TheVariants as passed
-use Rattle.multiplier.proofs.Door.{Answer as Answers, at, FromPort, Gives, gives, gives_held, has_up, kept_part}
-use Rattle.multiplier.proofs.Door.{Notice, other_port, this_port}
+use Rattle.multiplier.specs.Between.{Answer as Answers, FromPort, Gives, Notice, at}
+use Rattle.multiplier.proofs.Door.{gives, gives_held, has_up, kept_part}
+use Rattle.multiplier.proofs.Door.{other_port, this_port}
 use Rattle.hba_driver.specs.HostTurns.{Host}
 use Rattle.hba_driver.specs.declared.request.Request.{Request}
 use Rattle.pm_world.specs.Attached.{Attached as Device}

@@ -19,7 +19,8 @@ use Rattle.multiplier.specs.Rules.{FromHostRule, ToControl, ToDevice, ToNobody, 
 use Rattle.multiplier.specs.State.{PmState, control_stamp, passes_to, pm_port, port_at}
 use Rattle.multiplier.specs.declared.multiplier.Passed.{Passed}
 use Rattle.multiplier.specs.declared.multiplier.Passed.TheVariants as passed
-use Rattle.multiplier.proofs.Door.{Answer as Answers, FromPort, Gives, gives, Notice}
+use Rattle.multiplier.specs.Between.{Answer as Answers, FromPort, Gives, Notice}
+use Rattle.multiplier.proofs.Door.{gives}
 use Rattle.pm_world.specs.Cleared.{is_up_from}
 use Rattle.pm_world.specs.Places.{Place, Places, Queue}
 use Rattle.pm_world.specs.Rules.{CameRule, DiskSendRule, DiskTakeRule, GoneRule, HostPushRule, HostTakeRule, InjectRule, OnDevice, OnDeviceAndMultiplier, Outcome, PmDownRule, PmFromDeviceRule, PmFromHostRule, PmPresenceRule, PmUpRule, PollRule, PutRule, Rule, SubmitRule, TickRule, recorded}

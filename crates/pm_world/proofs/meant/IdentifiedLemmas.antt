@@ -14,7 +14,8 @@ use Rattle.hba_driver.specs.Known as host
 use Rattle.hba_driver.specs.Known.{is_identity, is_request}
 use Rattle.hba_driver.specs.Laws.{flushes}
 use Rattle.hba_driver.specs.Ticks.{effects}
-use Rattle.hba_driver.proofs.Door.{asking_known, asking_opens, asking_turn, IsAsking}
+use Rattle.hba_driver.specs.Between.{IsAsking}
+use Rattle.hba_driver.proofs.Door.{asking_known, asking_opens, asking_turn}
 use Rattle.multiplier.specs.State.{pm_port}
 use Rattle.pm_world.specs.Attached.{Attached}
 use Rattle.pm_world.specs.Downward.{pushed_by}

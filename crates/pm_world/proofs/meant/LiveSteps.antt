@@ -15,7 +15,8 @@ use Rattle.hba_driver.specs.Known.{is_request}
 use Rattle.hba_driver.specs.Queued.{IsQueuedBy, IsSomeCommand, Stood, Taken}
 use Rattle.hba_driver.specs.Submits.{new_entry}
 use Rattle.hba_driver.specs.Tended.{IsLiveAt}
-use Rattle.hba_driver.proofs.Door.{IsAsking, queued_by, request_of_slot, turn_addressed}
+use Rattle.hba_driver.specs.Between.{IsAsking}
+use Rattle.hba_driver.proofs.Door.{queued_by, request_of_slot, turn_addressed}
 use Rattle.multiplier.specs.State.{pm_port}
 use Rattle.pm_world.specs.Downward.{pushed_by}
 use Rattle.pm_world.specs.Places.{Places}

@@ -10,7 +10,7 @@ use Rattle.hba_driver.specs.declared.slot.Phase.TheVariants.{Waits}
 use Rattle.hba_driver.specs.Drivers.{Entry, device_at, rephased}
 use Rattle.hba_driver.specs.Known.{is_request}
 use Rattle.hba_driver.specs.Tended.{IsLiveAt}
-use Rattle.hba_driver.proofs.Door.{is_trusted, IsAsking}
+use Rattle.hba_driver.specs.Between.{IsAsking, is_trusted}
 use Rattle.multiplier.specs.State.{falling, pm_port}
 use Rattle.pm_world.specs.Cleared.{is_up_from}
 use Rattle.pm_world.specs.Downward.{falling_to, fell_to, pushed_by}

@@ -16,8 +16,9 @@ use Rattle.hba_driver.specs.Known.{is_request}
 use Rattle.hba_driver.specs.Queued.{IsCommandOf}
 use Rattle.hba_driver.specs.Submits.{new_entry}
 use Rattle.hba_driver.specs.Tended.{IsLiveAt}
+use Rattle.hba_driver.specs.Between.{IsAsking}
 use Rattle.hba_driver.proofs.Door as accept
-use Rattle.hba_driver.proofs.Door.{asking_opens, IsAsking}
+use Rattle.hba_driver.proofs.Door.{asking_opens}
 use Rattle.multiplier.specs.State.{falling, port_at}
 use Rattle.pm_world.specs.Attached.{Attached}
 use Rattle.pm_world.specs.Cleared.{PassesNone, is_up_from}

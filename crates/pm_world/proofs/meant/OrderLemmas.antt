@@ -10,7 +10,7 @@ use Rattle.hba_driver.specs.declared.order.Order.{Order}
 use Rattle.hba_driver.specs.declared.order.Order.TheVariants.{Scan, Clear}
 use Rattle.hba_driver.specs.Slot31.{Asks, Stage31, Waits}
 use Rattle.hba_driver.specs.Scans.{IsFound, found}
-use Rattle.hba_driver.proofs.Door.{AreOfTheir, IsGoing}
+use Rattle.hba_driver.specs.Between.{AreOfTheir, IsGoing}
 use Rattle.pm_control.specs.Answers.{IsAnswer, answer_to_request, registers_after_request}
 use Rattle.pm_control.specs.Requests.{request_in}
 use Rattle.pm_control.specs.declared.request.Request.{Request}

@@ -16,7 +16,8 @@ use Rattle.hba_driver.specs.HostTurns.{Does, Host, HostTurn, Polled, Pushed, Put
 use Rattle.hba_driver.specs.Scans.{Finds, IsFound, ScansOn, found}
 use Rattle.hba_driver.specs.Slot31.{Asks, Fails, Follows31, IsAt31, IsNext31, MayBe31, Resets, Rests, Signs, Stage31, Stands31, TakesOn, TicksOn, Waits, is_idle, is_pending, is_quiet}
 use Rattle.hba_driver.specs.Slot31 as slot31
-use Rattle.hba_driver.proofs.Door.{AreOfTheir, found_opens, going_opens, IsGoing, none_issued, opens31, poll_plan}
+use Rattle.hba_driver.specs.Between.{AreOfTheir, IsGoing}
+use Rattle.hba_driver.proofs.Door.{found_opens, going_opens, none_issued, opens31, poll_plan}
 use Rattle.hba_driver.proofs.Door.{scans_on, turn_addressed}
 use Rattle.pm_control.specs.Requests.{request_in}
 use Rattle.pm_registers.specs.Bits.{shares}

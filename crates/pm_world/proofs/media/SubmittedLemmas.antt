@@ -31,7 +31,8 @@ use Rattle.hba_driver.specs.HostTurns.{Does, DoesAll, Host, HostTurn, Submitted,
 use Rattle.hba_driver.specs.Requests.{is_mismatch}
 use Rattle.hba_driver.specs.Served.{IsIssueOf, IsOrdered, IsRequest, IsServed, IsStep}
 use Rattle.hba_driver.specs.Submits.{end_of, new_entry}
-use Rattle.hba_driver.proofs.Door.{as_long, comes_from, each_run_keeps, Fresh, good_since, HaveGoodPrds}
+use Rattle.hba_driver.specs.Between.{Fresh, HaveGoodPrds}
+use Rattle.hba_driver.proofs.Door.{as_long, comes_from, each_run_keeps, good_since}
 use Rattle.hba_driver.proofs.Door.{hosts_stay_sound, in_slots, is_taken, issue_inside, turns_hold_writes}
 use Rattle.pm_world.specs.Attached.{Attached}
 use Rattle.pm_world.specs.Places.{Places, is_config, new_world}

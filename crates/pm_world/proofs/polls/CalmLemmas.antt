@@ -28,8 +28,9 @@ use Rattle.hba_driver.specs.HostTurns.{Does, Host, HostTurn, Pushed, Submitted, 
 use Rattle.hba_driver.specs.Laws.{GoesOn}
 use Rattle.hba_driver.specs.Served.{IsOrdered, IsRequest, IsServed, IsStep, RunServes}
 use Rattle.hba_driver.specs.Steady.{slot_in}
+use Rattle.disk_recovery.specs.Between.{CalmEnds}
 use Rattle.hba_driver.proofs.Door.{begun_calm, begun_slot, tick_beside}
-use Rattle.disk_recovery.proofs.Door.{beside_away, calm_ends, CalmEnds}
+use Rattle.disk_recovery.proofs.Door.{beside_away, calm_ends}
 
 -- nothing is issued in slot s for device n
 abbrev pub IsFreed : (n s : ℕ) → Touches → Type 0

@@ -38,9 +38,10 @@ use Rattle.hba_commands.specs.Requests.{request_of, work_of}
 use Rattle.host_memory.specs.declared.table.Prd.{Prd}
 use Rattle.hba_driver.specs.Requests.{is_mismatch}
 use Rattle.hba_driver.specs.Submits.{new_entry}
+use Rattle.hba_driver.specs.Between.{AllStand, IsOnWay, PollFacts, Stands}
 use Rattle.hba_driver.proofs.Door as accept
-use Rattle.hba_driver.proofs.Door.{AllStand, as_long, each_run_keeps, in_slots, is_taken, IsOnWay, poll_facts}
-use Rattle.hba_driver.proofs.Door.{PollFacts, Stands, way_opens}
+use Rattle.hba_driver.proofs.Door.{as_long, each_run_keeps, in_slots, is_taken, poll_facts}
+use Rattle.hba_driver.proofs.Door.{way_opens}
 use Rattle.pm_world.specs.Attached.{Attached}
 use Rattle.pm_world.specs.Places.{Places, is_config, new_world}
 use Rattle.pm_world.specs.Rules.{Rule, Run}

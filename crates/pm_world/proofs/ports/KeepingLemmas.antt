@@ -14,7 +14,8 @@ use Rattle.multiplier.specs.Arbiter.{control_port}
 use Rattle.multiplier.specs.Passing.{falls}
 use Rattle.multiplier.specs.State.{PmState, passes_to, port_at}
 use Rattle.multiplier.specs.declared.multiplier.Passed.TheVariants as passed
-use Rattle.multiplier.proofs.Door.{Answer as Answers, FromPort, Gives, gives, Notice}
+use Rattle.multiplier.specs.Between.{Answer as Answers, FromPort, Gives, Notice}
+use Rattle.multiplier.proofs.Door.{gives}
 use Rattle.hba_driver.specs.declared.mode.Mode.TheVariants.{Switching}
 use Rattle.pm_world.specs.Attached.{Attached}
 use Rattle.pm_world.specs.Cleared.{is_cleared}

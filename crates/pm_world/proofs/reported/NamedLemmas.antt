@@ -10,8 +10,9 @@ use Rattle.hba_driver.specs.Drivers.{Driver, Entry, entry_at, has_ended_in}
 use Rattle.hba_driver.specs.HostTurns.{DoesAll, Host, HostTurn, Pushed, Submitted, Ticked, Took, sight_in}
 use Rattle.hba_driver.specs.Laws.{Goes}
 use Rattle.hba_driver.specs.Sights.{file_shown}
+use Rattle.hba_driver.specs.Between.{Fresh, PollFacts, Stood, ticks}
 use Rattle.hba_driver.proofs.Door as accept
-use Rattle.hba_driver.proofs.Door.{comes_from, errors_are_named, Fresh, poll_facts, PollFacts, Stood, ticks}
+use Rattle.hba_driver.proofs.Door.{comes_from, errors_are_named, poll_facts}
 use Rattle.pm_world.specs.Named.{IsNamedIn, PolledErrorsAreNamed}
 use Rattle.pm_world.specs.Places.{Places, new_world}
 use Rattle.pm_world.specs.Rules.{Run}

@@ -16,7 +16,8 @@ use Rattle.hba_driver.specs.Drivers.{Entry, entry_at, has_ended_in, rephased}
 use Rattle.hba_driver.specs.Laws.{Goes}
 use Rattle.hba_driver.specs.HostTurns.{DoesAll, Host, HostTurn, Pushed, Submitted, Took}
 use Rattle.hba_driver.specs.Submits.{new_entry}
-use Rattle.hba_driver.proofs.Door.{all_wider, AllStand, comes_from, free_other, Fresh, IsOnWay, Reports, turn_stands}
+use Rattle.hba_driver.specs.Between.{AllStand, Fresh, IsOnWay, Reports}
+use Rattle.hba_driver.proofs.Door.{all_wider, comes_from, free_other, turn_stands}
 use Rattle.hba_driver.proofs.Door.{way_turn}
 use Rattle.pm_world.specs.Places.{Places}
 use Rattle.pm_world.specs.Rules.{CameRule, DiskSendRule, DiskTakeRule, GoneRule, InjectRule, PmDownRule, PmFromDeviceRule, PmPresenceRule, Rule, Run}

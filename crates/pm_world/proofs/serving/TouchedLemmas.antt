@@ -23,7 +23,8 @@ use Rattle.hba_driver.specs.Events.{IsSoundHost, events_over, opening_host, shar
 use Rattle.hba_driver.specs.HostTurns.{Does, DoesAll, Host, HostTurn, Took}
 use Rattle.hba_driver.specs.Served.{IsIssueOf, IsServed, RunServes}
 use Rattle.hba_driver.specs.Submits.{end_of}
-use Rattle.hba_driver.proofs.Door.{as_long, good_since, HaveGoodPrds, hosts_stay_sound, issue_inside, turns_serve}
+use Rattle.hba_driver.specs.Between.{HaveGoodPrds}
+use Rattle.hba_driver.proofs.Door.{as_long, good_since, hosts_stay_sound, issue_inside, turns_serve}
 use Rattle.pm_world.proofs.turns.HostFold.{does-append}
 use Rattle.pm_world.specs.HostTouches.{AreTouched, goes, opens}
 

@@ -19,6 +19,7 @@ use Rattle.multiplier.specs.Rules.{with_device as connected, without_device}
 use Rattle.multiplier.specs.declared.given.Source.TheVariants as source
 use Rattle.multiplier.specs.declared.multiplier.Passed.{Passed}
 use Rattle.multiplier.specs.declared.multiplier.Passed.TheVariants as passed
+use Rattle.multiplier.specs.Between.{at as state_at}
 use Rattle.multiplier.proofs.Door as ports
 use Rattle.multiplier.proofs.Door.{still_up_to}
 use Rattle.hba_driver.specs.declared.mode.Mode.{Mode}
@@ -75,7 +76,7 @@ abbrev pub LikePorts : PmState → PmState → Type 0
 LikePorts old new = (length new.ports ≡ length old.ports) × ((n : ℕ) → known (port_at new n) ≡ known (port_at old n))
 
 same_ports : (old new : PmState) → new.ports ≡ old.ports → LikePorts old new
-same_ports old new e = (ap length e, λ n. ap (λ all. known (ports.at all n)) e)
+same_ports old new e = (ap length e, λ n. ap (λ all. known (state_at all n)) e)
 
 -- no port forgets a removal
 abbrev pub Grows : PmState → PmState → Type 0
@@ -117,7 +118,7 @@ no_answer old new like none is = (
 )
 
 ports_as : (old new : PmState) (n : ℕ) (p : PortState) → new.ports ≡ slice_set old.ports n p → known p ≡ known (port_at old n) → LikePorts old new
-ports_as old new n p e same = (ap length e ∙ length-set old.ports n p, λ m. ap (λ all. known (ports.at all m)) e ∙ ports.kept_part known old.ports n p same m)
+ports_as old new n p e same = (ap length e ∙ length-set old.ports n p, λ m. ap (λ all. known (state_at all m)) e ∙ ports.kept_part known old.ports n p same m)
 
 same_leads : (pm : PmState) → IsRoomy pm → Leads pm pm
 same_leads pm is = (is, (refl, λ n. refl))

@@ -14,6 +14,7 @@ use Rattle.multiplier.specs.Rules.{with_device as connected, without_device}
 use Rattle.multiplier.specs.State.{PmState, held as goes_next, next_place, passes_to, pm_port, port_at, rising, stamped, with_port}
 use Rattle.multiplier.specs.declared.multiplier.Passed.{Passed}
 use Rattle.multiplier.specs.declared.multiplier.Passed.TheVariants as passed
+use Rattle.multiplier.specs.Between.{at as state_at}
 use Rattle.multiplier.proofs.Door as ports
 use Rattle.multiplier.proofs.Door.{apart, not_up_to}
 use Rattle.hba_driver.specs.HostTurns.{Host}
@@ -101,7 +102,7 @@ same_up e m = ap (λ (pm : PmState). (port_at pm m).up) e
 
 -- that holds if one port is written over, and holds what it held
 written_up : (old : PmState) (n : ℕ) (p : PortState) (new : PmState) → p.up ≡ (port_at old n).up → new.ports ≡ (with_port old n p).ports → KeepsUp old new
-written_up old n p new same e m = ap (λ (all : List PortState). (ports.at all m).up) e ∙ ports.kept_part (λ q. q.up) old.ports n p same m
+written_up old n p new same e m = ap (λ (all : List PortState). (state_at all m).up) e ∙ ports.kept_part (λ q. q.up) old.ports n p same m
 
 pub recorded_up : (pm : PmState) (n conn : ℕ) → KeepsUp pm (recorded pm n (change.Came conn))
 recorded_up pm n conn = by_test (is_none (port_came_refusal (port_at pm n) conn))

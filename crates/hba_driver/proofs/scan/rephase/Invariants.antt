@@ -1,5 +1,5 @@
 use Rattle.std.proofs.Common.{None}
-use Rattle.hba_fbs.proofs.Door.{FilledTo}
+use Rattle.hba_fbs.specs.Between.{FilledTo}
 use Rattle.hba_driver.specs.Ticks.{is_in}
 use Rattle.hba_driver.proofs.calls.ScanLemmas.{rephase_at}
 use Rattle.hba_driver.proofs.scan.rephase.Given as goal

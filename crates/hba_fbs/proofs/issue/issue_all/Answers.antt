@@ -4,7 +4,7 @@ use Rattle.std.specs.Option.{is_some}
 use Rattle.slots.specs.Slots.{DeviceSlots, Issue, owned_by, slots_of}
 use Rattle.hba_commands.specs.declared.command.Command.{Command}
 use Rattle.hba_fbs.specs.Issuing.{asked}
-use Rattle.hba_fbs.proofs.FillLemmas.{FilledTo}
+use Rattle.hba_fbs.specs.Between.{FilledTo}
 use Rattle.hba_fbs.proofs.IssueLemmas.{asked_free, command_after, commands_all, commands_step, context_step, have_step, issue_after, issues_all, issues_step}
 use Rattle.hba_fbs.proofs.issue.issue_all.Goals as goal
 

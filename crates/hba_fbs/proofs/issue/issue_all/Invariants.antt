@@ -2,7 +2,7 @@ use Rattle.std.proofs.Common.{◌≡◌, None}
 use Rattle.slots.specs.Slots.{LeavesOthers, slots_of}
 use Rattle.hba_fbs.specs.Issuing.{asked}
 use Rattle.hba_fbs.specs.Views.{HaveCommands}
-use Rattle.hba_fbs.proofs.FillLemmas.{FilledTo}
+use Rattle.hba_fbs.specs.Between.{FilledTo}
 use Rattle.hba_fbs.proofs.IssueLemmas.{command_after, issue_after}
 use Rattle.hba_fbs.proofs.issue.issue_all.Given as goal
 

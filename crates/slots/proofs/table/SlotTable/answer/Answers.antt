@@ -1,7 +1,8 @@
 use Rattle.std.proofs.Common.{◌≡◌, true, arith, refl, sym, ap, ◌∙◌}
 use Rattle.slots.specs.Commands.{answered_issue}
 use Rattle.slots.specs.Slots.{Slots, issue_at, holds, is_queued_issue, is_waiting, own_issue, slots_of}
-use Rattle.slots.proofs.TableLemmas.{Owns, own_at, own_changed, others_changed, owns_where}
+use Rattle.slots.specs.Between.{Owns}
+use Rattle.slots.proofs.TableLemmas.{own_at, own_changed, others_changed, owns_where}
 use Rattle.slots.proofs.CallLemmas.{table_answered}
 use Rattle.slots.proofs.table.SlotTable.answer.Goals as goal
 

@@ -2,7 +2,8 @@ use Rattle.std.proofs.Common.{◌≡◌, arith, refl, sym, subst}
 use Rattle.slots.specs.Commands.{is_slot}
 use Rattle.slots.specs.Slots.{Slots, LeavesOthers, issue_at, slots_of, freed}
 use Rattle.slots.specs.Table.{IsTable}
-use Rattle.slots.proofs.TableLemmas.{Owns, owns_from}
+use Rattle.slots.specs.Between.{Owns}
+use Rattle.slots.proofs.TableLemmas.{owns_from}
 use Rattle.slots.proofs.FreeLemmas.{freed_one, one_own, own_freed, others_freed, table_freed}
 use Rattle.slots.proofs.table.SlotTable.free.Goals as goal
 

@@ -2,7 +2,8 @@ use Rattle.std.proofs.Common.{◌≡◌, None, false, arith, refl}
 use Rattle.std.specs.Prelude.{MatchOption}
 use Rattle.slots.specs.Commands.{sent_issue}
 use Rattle.slots.specs.Slots.{Slots, issue_at, is_control, slots_of, waiting}
-use Rattle.slots.proofs.TableLemmas.{Owns, own_changed, others_changed}
+use Rattle.slots.specs.Between.{Owns}
+use Rattle.slots.proofs.TableLemmas.{own_changed, others_changed}
 use Rattle.slots.proofs.CallLemmas.{table_sent_at, owns_sent}
 use Rattle.slots.proofs.table.SlotTable.send.Goals as goal
 
