@@ -1,5 +1,5 @@
 -- A disk in software reset takes no command, and sends nothing.
-use Rattle.std.proofs.Common.{◌≡◌, ℕ, Bool, true, false, List, [], ◌∷◌, ◌++◌, Option, Some, None, Ok, Err, Result, drop, refl, ap, sym, subst, ◌∙◌}
+use Rattle.std.proofs.Common.{◌≡◌, ℕ, true, false, List, [], ◌∷◌, ◌++◌, Option, Some, None, Ok, Err, Result, refl, ap, sym, subst, ◌∙◌}
 use Rattle.fis_view.specs.Seen.{seen}
 use Rattle.fis_view.specs.declared.view.Fis.{Fis}
 use Rattle.fis_view.specs.declared.view.Fis.TheVariants as view
@@ -15,11 +15,10 @@ use Rattle.disk_model.specs.Anew.{IsRequest, OwesOnly}
 use Rattle.disk_model.specs.Disks.{Moment, after, cleared, heard, moment_after, opening, pick_turn, picked, received, turn}
 use Rattle.disk_model.specs.Histories.{Happening, Received, Sent, Plugged, sent_in}
 use Rattle.disk_model.specs.InReset.{IsHeldRun, LeavesReset, LeavesSet, NoneEndsReset, TakesNoCommand}
-use Rattle.disk_model.specs.Ledger.{Ledger, Signs, asks, given_up, ledger, ledger_after, listens, listens_down}
+use Rattle.disk_model.specs.Ledger.{Ledger, Signs, asks, ledger, ledger_after, listens, listens_down}
 use Rattle.disk_model.specs.Requests.{request_of}
-use Rattle.disk_model.specs.Runs.{IsDiskRun, IsTurn, Runs, moment}
+use Rattle.disk_model.specs.Runs.{IsTurn, Runs, moment}
 use Rattle.disk_model.proofs.AnewLemmas.{after_more, held_is, held_ledger, held_signs}
-use Rattle.disk_model.proofs.EndsLemmas.{ledger_push}
 use Rattle.disk_model.proofs.MomentLemmas.{moment_after-append}
 
 -- ## The disk

@@ -5,7 +5,6 @@ use Rattle.std.specs.Prelude.{not, ◌&&◌}
 use Rattle.fis_view.specs.Table.{A, Run, Setup, Bits, BufferId, Offset, D, Count, Status, Error, SActive, field, places}
 use Rattle.std.specs.Int.{from_bool}
 use Rattle.fis_view.specs.Built.{cut}
-use Rattle.fis_view.specs.declared.view.Fis.TheVariants as view
 use Rattle.disk_model.specs.Sendings.{Shows, setup, bits}
 use Rattle.disk_model.specs.Ledger.{has_error, is_auto}
 use Rattle.disk_model.specs.Between.{TellsSetup}

@@ -1,5 +1,5 @@
 -- The device at which a write of PxCI is aimed.
-use Rattle.std.proofs.Common.{◌≡◌, ℕ, ◌<◌, Bool, true, false, List, refl, ap, ◌∙◌, arith, Option, Some, None}
+use Rattle.std.proofs.Common.{◌≡◌, ℕ, ◌<◌, Bool, true, false, List, ap, ◌∙◌, Option, Some, None}
 use Rattle.std.specs.Prelude.{if◌then◌else◌}
 use Rattle.slots.specs.Slots.{has_bit, lowest, match_some}
 use Rattle.slots.proofs.Door.{lowest_found, lowest_none}

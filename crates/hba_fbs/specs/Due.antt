@@ -1,5 +1,5 @@
 -- The bytes of a write that go out next: AHCI 1.3.1, 5.3 (the port's states up to sending data).
-use Rattle.std.specs.Prelude.{ℕ, if◌then◌else◌, Option, Some, None}
+use Rattle.std.specs.Prelude.{if◌then◌else◌, Option, Some, None}
 use Rattle.slots.specs.Data.{payload}
 use Rattle.slots.specs.Slots.{context_of, match_some}
 use Rattle.hba_fbs.specs.declared.due.Due.{Due}

@@ -1,5 +1,5 @@
 -- A port that forwards has a connection.
-use Rattle.std.proofs.Common.{◌≡◌, ℕ, ◌==◌, ◌&&◌, Bool, true, sym, ◌∙◌}
+use Rattle.std.proofs.Common.{◌≡◌, ℕ, ◌==◌, ◌&&◌, true, sym, ◌∙◌}
 use Rattle.std.specs.Prelude.{bit_and, is_some, nat_lt}
 use Rattle.std.proofs.lemmas.Bool.{eqb-true}
 use Rattle.pm_registers.specs.declared.port.PortRegisters.{PortRegisters}

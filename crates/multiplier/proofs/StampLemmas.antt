@@ -1,8 +1,7 @@
 -- What goes up is in stamped order, and a FIS of the control port shows what is gone.
-use Rattle.std.proofs.Common.{◌≡◌, ◌≢◌, ℕ, ◌+◌, ◌<◌, ◌≤◌, ◌==◌, ◌&&◌, Bool, true, false, List, [], ◌∷◌, ◌++◌, append_assoc, length, map, slice_index, Option, Some, None, Result, Ok, Err, MatchOption, refl, sym, ap, ◌∙◌, subst, arith, inl, inr}
+use Rattle.std.proofs.Common.{◌≡◌, ◌≢◌, ℕ, ◌<◌, ◌==◌, Bool, true, false, List, [], ◌∷◌, ◌++◌, append_assoc, map, slice_index, Option, Some, None, Result, Ok, Err, MatchOption, refl, sym, ap, ◌∙◌, subst, arith, inl, inr}
 use Rattle.std.specs.Prelude.{if◌then◌else◌}
 use Rattle.std.specs.Bool.{MatchBool}
-use Rattle.std.specs.List.{filter}
 use Rattle.std.specs.Option.{option_to_list}
 use Rattle.std.proofs.lemmas.Bool.{cases_eq, eq-eqb, ne_eqb}
 use Rattle.std.proofs.lemmas.Option.{same_Some}
@@ -13,7 +12,6 @@ use Rattle.fis_view.specs.declared.build.D2hFields.{D2hFields}
 use Rattle.fis_view.specs.declared.frame.Stamp.{Stamp}
 use Rattle.pm_control.specs.Answers.{IsAnswer, answer_to}
 use Rattle.pm_ports.specs.Port as port
-use Rattle.pm_ports.specs.declared.port.Offered.{Offered}
 use Rattle.pm_ports.specs.declared.port.Offered.TheVariants as offered
 use Rattle.multiplier.specs.Arbiter.{control_port}
 use Rattle.multiplier.specs.Orders.{InDeviceOrder, InStampedOrder, IsNextAtHost, IsWithin, of_connection}
@@ -22,7 +20,7 @@ use Rattle.multiplier.specs.Rules.{FromHostRule, ToControl, ToDevice, ToNobody}
 use Rattle.multiplier.specs.declared.multiplier.Passed.{Passed}
 use Rattle.multiplier.specs.declared.multiplier.Passed.TheVariants as passed
 use Rattle.multiplier.specs.declared.multiplier.PmRefusal.{PmRefusal}
-use Rattle.multiplier.specs.Passing.{Call, FromHost, FromDevice, Came, Gone, NextUp, PutBackUp, NextDown, PutBackDown, Does, DoesAll, Past, Suits, past_after, all_past, but_last, made_by, made_in, of_conn, held_of, came_by, all_gone, highest, ShowsRemovals}
+use Rattle.multiplier.specs.Passing.{Call, FromHost, FromDevice, Came, Gone, NextUp, PutBackUp, NextDown, PutBackDown, Does, DoesAll, Past, Suits, past_after, but_last, made_by, made_in, of_conn, held_of, came_by, highest, ShowsRemovals}
 use Rattle.multiplier.specs.Stamping.{taken_by, taken_of, IsStamped, GoesUpStamped, BeginsStamped}
 use Rattle.multiplier.specs.Between.{Answer, FromPort, Gives, IsStep, Notice}
 use Rattle.multiplier.proofs.Gone.{never_up_to, not_up_to, removal_at}

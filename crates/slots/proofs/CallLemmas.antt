@@ -8,9 +8,9 @@ use Rattle.slots.specs.declared.table.Context.{Context}
 use Rattle.slots.specs.Commands.{MayBeSent, after_sent, answer_for, answer_of, answered_issue, is_slot, may_begin, may_go, sent_issue, with_sent}
 use Rattle.slots.specs.declared.slot.Issued.{Issued}
 use Rattle.slots.specs.declared.work.Work.{Work}
-use Rattle.slots.specs.Work.{IsWork, is_dma, needs_all}
+use Rattle.slots.specs.Work.{IsWork, needs_all}
 use Rattle.slots.specs.Issued.{issued_of, with_flags}
-use Rattle.slots.specs.Slots.{Issue, Slots, DeviceSlots, issue_at, owned_by, own_issue, slots_of, with_own_issue, freed, has_bit, holds, is_control, is_queued_issue, is_sent_pio, is_under_way, is_waiting, match_some, new_issue, sent_pio, waiting}
+use Rattle.slots.specs.Slots.{Issue, Slots, DeviceSlots, issue_at, owned_by, own_issue, slots_of, freed, has_bit, holds, is_control, is_queued_issue, is_sent_pio, is_under_way, is_waiting, match_some, new_issue, sent_pio, waiting}
 use Rattle.slots.specs.Setup.{after_setup_pio, begun, came, is_outstanding, new_context, pio_fault, pio_issue, with_own_context}
 use Rattle.slots.specs.declared.answer.Answered.{Answered}
 use Rattle.slots.specs.declared.answer.SetupError.{SetupError}

@@ -1,4 +1,4 @@
-use Rattle.std.proofs.Common.{arith, sym, ◌∙◌, below_more}
+use Rattle.std.proofs.Common.{arith, sym, ◌∙◌}
 use Rattle.hba_fbs.proofs.AimLemmas.{aimed_first, aimed_none}
 use Rattle.hba_fbs.proofs.issue.aimed.Goals as goal
 

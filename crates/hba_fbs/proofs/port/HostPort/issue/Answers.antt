@@ -1,6 +1,6 @@
 use Rattle.std.proofs.Common.{◌≡◌, ℕ, subst}
 use Rattle.std.specs.Prelude.{if◌then◌else◌, ◌==◌}
-use Rattle.hba_fbs.specs.Issuing.{aimed, asked, view_with}
+use Rattle.hba_fbs.specs.Issuing.{asked, view_with}
 use Rattle.hba_fbs.specs.Views.{LeavesOtherViews, view_of}
 use Rattle.hba_fbs.proofs.port.HostPort.issue.Goals as goal
 

@@ -1,4 +1,4 @@
-use Rattle.std.proofs.Common.{◌≡◌, None, sym, subst, ◌∙◌}
+use Rattle.std.proofs.Common.{sym, subst, ◌∙◌}
 use Rattle.slots.specs.declared.table.Context.{Context}
 use Rattle.slots.specs.Slots.{Slots}
 use Rattle.slots.specs.Table.{IsContext}

@@ -1,9 +1,8 @@
-use Rattle.std.proofs.Common.{◌≡◌, ℕ, false, None, Some, Result, Ok, sym, ap, subst, ◌∙◌}
-use Rattle.slots.specs.declared.answer.SetupError.{SetupError}
+use Rattle.std.proofs.Common.{◌≡◌, false, Some, Ok, sym, ap, subst, ◌∙◌}
 use Rattle.slots.specs.declared.table.Context.{Context}
 use Rattle.slots.specs.Data.{activated}
-use Rattle.slots.specs.Setup.{came, new_context, out_setup}
-use Rattle.slots.specs.Slots.{Slots, match_some, sent_out, slots_of}
+use Rattle.slots.specs.Setup.{new_context, out_setup}
+use Rattle.slots.specs.Slots.{Slots, sent_out, slots_of}
 use Rattle.slots.specs.Table.{IsContext}
 use Rattle.slots.proofs.FitLemmas.{out_answers, out_inside}
 use Rattle.slots.proofs.table.SlotTable.setup_out.Goals as goal
