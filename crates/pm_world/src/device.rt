@@ -69,7 +69,7 @@ impl<D: Device + Drop> PortDevice for AnyDevice<D> {
     ghost seen = { seen_any };
 
     fn hear(&mut self, alloc: Global, frame: &Frame) -> Result<(), AllocError>
-        ensures any { OnOk result (AnyGoesOn D.plan_of D.stands_for self.old (Received frame.now.bytes) self.new) }
+        ensures goes_on { OnOk result (AnyGoesOn D.plan_of D.stands_for self.old (Received frame.now.bytes) self.new) }
         ensures ok { OnOk result (GoesOnAttached (seen_any self.old) (Received frame.now.bytes) (seen_any self.new)) }
         ensures err { OnErr result (self.new ≡ self.old) }
         ensures no_memory { OnErr result (WantsRoom (seen_any self.old) (Received frame.now.bytes)) }
@@ -81,9 +81,9 @@ impl<D: Device + Drop> PortDevice for AnyDevice<D> {
     }
 
     fn send(&mut self, alloc: Global, stamp: Stamp) -> Result<Option<Frame>, AllocError>
-        ensures any { IfOk result (λ out. IfSome out (λ frame.
+        ensures sends { IfOk result (λ out. IfSome out (λ frame.
             AnySends D.plan_of D.stands_for D.may_send self.old frame.bytes self.new)) }
-        ensures none { IfOk result (λ out. IfNone out (AnyIsSilent D.plan_of D.stands_for D.may_send self.old)) }
+        ensures rests { IfOk result (λ out. IfNone out (AnyIsSilent D.plan_of D.stands_for D.may_send self.old)) }
         ensures sent { IfOk result (λ out. IfSome out (λ frame.
             SendsAttached (seen_any self.old) frame.bytes (seen_any self.new))) }
         ensures stamp { IfOk result (λ out. IfSome out (λ frame. frame.stamp ≡ stamp)) }
@@ -98,7 +98,7 @@ impl<D: Device + Drop> PortDevice for AnyDevice<D> {
     }
 
     fn plug(&mut self, alloc: Global) -> Result<(), AllocError>
-        ensures any { OnOk result (AnyGoesOn D.plan_of D.stands_for self.old Plugged self.new) }
+        ensures goes_on { OnOk result (AnyGoesOn D.plan_of D.stands_for self.old Plugged self.new) }
         ensures ok { OnOk result (GoesOnAttached (seen_any self.old) Plugged (seen_any self.new)) }
         ensures err { OnErr result (self.new ≡ self.old) }
         ensures no_memory { OnErr result (PlugWantsRoom (seen_any self.old)) }

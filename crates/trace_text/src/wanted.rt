@@ -63,6 +63,14 @@ impl Keyword {
     pub fn bytes(self) -> &'static [u8] {
         self.word().as_bytes()
     }
+
+    // What may stand in its place.
+    fn hint(self) -> &'static str {
+        match self {
+            Keyword::Capacity | Keyword::Memory => "",
+            Keyword::Sectors => ", or `file` under `run` and `guest`",
+        }
+    }
 }
 
 /// What a line should have had at the word for which it is refused.
@@ -145,7 +153,7 @@ pub enum Wanted {
 impl fmt::Display for Wanted {
     fn fmt<W: fmt::Write>(&self, f: &mut fmt::Formatter<W>) -> fmt::Result {
         match self {
-            Wanted::Keyword(keyword) => write!(f, "wanted `{}`", keyword.word()),
+            Wanted::Keyword(keyword) => write!(f, "wanted `{}`{}", keyword.word(), keyword.hint()),
             Wanted::Number(what, least, most) => write_number(*what, *least, *most, f),
             other => f.write_str(other.sentence()),
         }
