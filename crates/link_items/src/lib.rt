@@ -6,7 +6,7 @@
 #![tactic(auto)]
 
 mod items;
-mod orders;
+mod laws;
 
 pub use items::{Down, FromDevice, Presence, ToHost};
-pub use orders::order_goes_on;
+pub use laws::order_goes_on;

@@ -17,15 +17,14 @@
 //! many calls, `specs/Orders.antt` and `specs/Stamping.antt` the order of stamps.
 #![tactic(auto)]
 
-mod arbiter;
 mod given;
+mod laws;
 mod multiplier;
-mod passing;
 
-pub use arbiter::waits_for_at_most_fifteen;
 pub use given::{Given, Source};
-pub use multiplier::{Multiplier, Passed, PmRefusal};
-pub use passing::{
+pub use laws::{
     control_frames_show_removals, frames_pass_in_order, goes_up_in_stamped_order,
     is_passed_over_at_most_fifteen_times, ports_that_forward_have_connections,
+    waits_for_at_most_fifteen,
 };
+pub use multiplier::{Multiplier, Passed, PmRefusal};

@@ -9,7 +9,7 @@ pub mod control_port
 pub mod reported
 pub mod cleared
 pub mod paths
-pub mod laws
+pub mod reached
 pub mod ports
 pub mod meant
 pub mod serving

@@ -9,7 +9,7 @@ use Rattle.pm_world.specs.declared.step.Answer.{Answer}
 use Rattle.pm_world.specs.declared.step.Step.{Step}
 use Rattle.pm_world.specs.declared.step.StepError.TheVariants.{OutOfMemory}
 use Rattle.pm_world.proofs.upward.Law.{run_more}
-use Rattle.pm_world.proofs.laws.Laws.{obeys}
+use Rattle.pm_world.proofs.reached.Laws.{obeys}
 use Rattle.pm_world.proofs.steps.Lists.{none_first}
 use Rattle.pm_world.proofs.steps.Refused.{rule_refuses, refuses_or_wants, refusal_named}
 use Rattle.pm_world.proofs.machine.Machine.run_into.Goals as goal

@@ -1,5 +1,0 @@
-use Rattle.multiplier.proofs.StampLemmas.{shows_removals}
-use Rattle.multiplier.proofs.passing.control_frames_show_removals.Goals as goal
-
-pub returns : goal.returns
-returns c = shows_removals

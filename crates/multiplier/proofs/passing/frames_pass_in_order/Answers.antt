@@ -1,5 +1,0 @@
-use Rattle.multiplier.proofs.Removals.{pass_in_order}
-use Rattle.multiplier.proofs.passing.frames_pass_in_order.Goals as goal
-
-pub returns : goal.returns
-returns c = pass_in_order

@@ -1,5 +1,0 @@
-use Rattle.multiplier.proofs.Forwarding.{forwards_present}
-use Rattle.multiplier.proofs.passing.ports_that_forward_have_connections.Goals as goal
-
-pub returns : goal.returns
-returns c = forwards_present

@@ -1,5 +1,0 @@
-use Rattle.pm_world.proofs.media.InOrderLemmas.{reads_follow_writes}
-use Rattle.pm_world.proofs.theorems.bytes.reads_follow_writes.Goals as goal
-
-pub returns : goal.returns
-returns c = reads_follow_writes

@@ -1,5 +1,0 @@
-use Rattle.pm_world.proofs.honest.FlushLemmas.{ports_rest}
-use Rattle.pm_world.proofs.theorems.connections.ports_rest_at_a_flush.Goals as goal
-
-pub returns : goal.returns
-returns c = ports_rest

@@ -1,5 +1,0 @@
-use Rattle.pm_world.proofs.media.MediaLemmas.{media_are_of_writes}
-use Rattle.pm_world.proofs.theorems.ends.media_change_by_writes.Goals as goal
-
-pub returns : goal.returns
-returns c = media_are_of_writes

@@ -1,5 +1,0 @@
-use Rattle.pm_world.proofs.reported.NamedLemmas.{polled_errors_are_named}
-use Rattle.pm_world.proofs.theorems.ends.polled_errors_are_named.Goals as goal
-
-pub returns : goal.returns
-returns c = polled_errors_are_named

@@ -1,5 +1,0 @@
-use Rattle.pm_world.proofs.polls.PolledLemmas.{honest_polls}
-use Rattle.pm_world.proofs.theorems.ends.polled_is_honest.Goals as goal
-
-pub returns : goal.returns
-returns c = honest_polls

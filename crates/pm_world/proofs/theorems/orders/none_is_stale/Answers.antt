@@ -1,5 +1,0 @@
-use Rattle.pm_world.proofs.meant.OrderTurns.{none_is_stale}
-use Rattle.pm_world.proofs.theorems.orders.none_is_stale.Goals as goal
-
-pub returns : goal.returns
-returns c = none_is_stale

@@ -1,5 +1,0 @@
-use Rattle.pm_world.proofs.meant.StaleLemmas.{ordered_is_not_stale}
-use Rattle.pm_world.proofs.theorems.orders.ordered_is_not_stale.Goals as goal
-
-pub returns : goal.returns
-returns c = ordered_is_not_stale
