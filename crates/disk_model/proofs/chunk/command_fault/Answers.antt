@@ -6,7 +6,7 @@ use Rattle.disk_model.specs.declared.plan.DiskPlan.{DiskPlan}
 use Rattle.disk_model.specs.declared.request.Command.{Command}
 use Rattle.disk_model.specs.Chunks.{first_bad, fault_of}
 use Rattle.disk_model.specs.Insides.{lower_bad}
-use Rattle.disk_model.proofs.BadLemmas.{lowest_is_first}
+use Rattle.disk_model.proofs.turns.BadLemmas.{lowest_is_first}
 use Rattle.disk_model.proofs.chunk.command_fault.Goals as goal
 
 -- a read within the disk fails where a sector of it is bad

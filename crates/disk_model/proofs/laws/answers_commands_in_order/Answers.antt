@@ -1,4 +1,4 @@
-use Rattle.disk_model.proofs.AnswerLaws.{answers_right}
+use Rattle.disk_model.proofs.sent.AnswerLaws.{answers_right}
 use Rattle.disk_model.proofs.laws.answers_commands_in_order.Goals as goal
 
 pub returns : goal.returns

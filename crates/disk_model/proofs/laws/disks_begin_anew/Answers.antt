@@ -1,4 +1,4 @@
-use Rattle.disk_model.proofs.AnewLemmas.{begins_anew, resting_is_silent, rests_until}
+use Rattle.disk_model.proofs.both_ends.AnewLemmas.{begins_anew, resting_is_silent, rests_until}
 use Rattle.disk_model.proofs.laws.disks_begin_anew.Goals as goal
 
 pub returns-clause-begins : goal.returns-clause-begins

@@ -1,4 +1,4 @@
-use Rattle.disk_model.proofs.ErrorLaws.{errs_right}
+use Rattle.disk_model.proofs.sent.ErrorLaws.{errs_right}
 use Rattle.disk_model.proofs.laws.errors_are_of_their_command.Goals as goal
 
 pub returns : goal.returns

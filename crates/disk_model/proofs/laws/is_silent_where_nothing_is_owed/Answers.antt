@@ -1,4 +1,4 @@
-use Rattle.disk_model.proofs.SilenceLaws.{silent_right}
+use Rattle.disk_model.proofs.sent.SilenceLaws.{silent_right}
 use Rattle.disk_model.proofs.laws.is_silent_where_nothing_is_owed.Goals as goal
 
 pub returns : goal.returns

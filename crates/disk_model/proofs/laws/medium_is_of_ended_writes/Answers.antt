@@ -1,4 +1,4 @@
-use Rattle.disk_model.proofs.LawLemmas.{agrees}
+use Rattle.disk_model.proofs.agreement.LawLemmas.{agrees}
 use Rattle.disk_model.proofs.laws.medium_is_of_ended_writes.Goals as goal
 
 pub returns : goal.returns

@@ -1,4 +1,4 @@
-use Rattle.disk_model.proofs.LawLemmas.{agrees}
+use Rattle.disk_model.proofs.agreement.LawLemmas.{agrees}
 use Rattle.disk_model.proofs.laws.reads_are_of_their_start.Goals as goal
 
 pub returns : goal.returns

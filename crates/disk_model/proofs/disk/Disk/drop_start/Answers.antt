@@ -4,8 +4,8 @@ use Rattle.disk_model.specs.Disks.{DiskValue, after_turn, read_turn, starts, tur
 use Rattle.disk_model.specs.Insides.{seen_as, sends_after, started_by}
 use Rattle.disk_model.specs.declared.disk.Reading.{Reading}
 use Rattle.disk_model.specs.declared.disk.Transfer.TheVariants.{Read}
-use Rattle.disk_model.proofs.QuietLemmas.{turn_start, read_leaves, same_disk}
-use Rattle.disk_model.proofs.TurnLemmas.{went_on, same_moment}
+use Rattle.disk_model.proofs.turns.QuietLemmas.{turn_start, read_leaves, same_disk}
+use Rattle.disk_model.proofs.turns.TurnLemmas.{went_on, same_moment}
 use Rattle.disk_model.proofs.disk.Disk.drop_start.Goals as goal
 
 pub returns-in-None-2 : goal.returns-in-None-2

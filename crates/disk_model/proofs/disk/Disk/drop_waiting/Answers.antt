@@ -4,8 +4,8 @@ use Rattle.disk_model.specs.declared.disk.Transfer.TheVariants.{Write}
 use Rattle.disk_model.specs.declared.disk.Waiting.{Waiting}
 use Rattle.disk_model.specs.Disks.{DiskValue}
 use Rattle.disk_model.specs.Insides.{seen_as, started_by, writing_by}
-use Rattle.disk_model.proofs.QuietLemmas.{ask_leaves, same_disk_here}
-use Rattle.disk_model.proofs.TurnLemmas.{same_moment}
+use Rattle.disk_model.proofs.turns.QuietLemmas.{ask_leaves, same_disk_here}
+use Rattle.disk_model.proofs.turns.TurnLemmas.{same_moment}
 use Rattle.disk_model.proofs.disk.Disk.drop_waiting.Goals as goal
 
 pub returns-then-waiting-asks : goal.returns-then-waiting-asks

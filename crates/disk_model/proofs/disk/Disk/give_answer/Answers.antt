@@ -2,7 +2,7 @@ use Rattle.std.proofs.Common.{◌≡◌, ◌∷◌, ◌∙◌, ap, sym, subst, d
 use Rattle.disk_model.specs.Sendings.{Shows, answer_sent}
 use Rattle.disk_model.specs.Disks.{DiskValue}
 use Rattle.disk_model.specs.Insides.{seen_as}
-use Rattle.disk_model.proofs.TurnLemmas.{takes_answer, front_is, same_moment}
+use Rattle.disk_model.proofs.turns.TurnLemmas.{takes_answer, front_is, same_moment}
 use Rattle.disk_model.proofs.disk.Disk.give_answer.Goals as goal
 
 pub returns-in_ok-frame-in-Some-clause-gives : goal.returns-in_ok-frame-in-Some-clause-gives

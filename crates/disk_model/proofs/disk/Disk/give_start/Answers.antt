@@ -7,8 +7,8 @@ use Rattle.disk_model.specs.Disks.{DiskValue, picked, went}
 use Rattle.disk_model.specs.Insides.{seen_as, sends_after, started_by, IsStaged, IsTransfer, Leads}
 use Rattle.disk_model.specs.declared.disk.Reading.{Reading}
 use Rattle.disk_model.specs.declared.disk.Transfer.TheVariants.{Read, Write}
-use Rattle.disk_model.proofs.TurnLemmas.{on_err_so, has_start, takes_start, picked_counted, went_on, same_moment}
-use Rattle.disk_model.proofs.FaultLemmas.{can_be_done}
+use Rattle.disk_model.proofs.turns.TurnLemmas.{on_err_so, has_start, takes_start, picked_counted, went_on, same_moment}
+use Rattle.disk_model.proofs.agreement.FaultLemmas.{can_be_done}
 use Rattle.disk_model.proofs.disk.Disk.give_start.Goals as goal
 
 pub returns-in_ok-frame-in-None-2-clause-gives : goal.returns-in_ok-frame-in-None-2-clause-gives

@@ -1,6 +1,6 @@
 use Rattle.std.proofs.Common.{refl}
-use Rattle.disk_model.proofs.MomentLemmas.{disk_opens}
-use Rattle.disk_model.proofs.TurnLemmas.{same_moment}
+use Rattle.disk_model.proofs.turns.MomentLemmas.{disk_opens}
+use Rattle.disk_model.proofs.turns.TurnLemmas.{same_moment}
 use Rattle.disk_model.proofs.disk.Disk.new.Goals as goal
 
 pub returns-clause-opening : goal.returns-clause-opening

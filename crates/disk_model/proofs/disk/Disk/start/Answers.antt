@@ -1,4 +1,4 @@
-use Rattle.disk_model.proofs.QuietLemmas.{start_is_due}
+use Rattle.disk_model.proofs.turns.QuietLemmas.{start_is_due}
 use Rattle.disk_model.proofs.disk.Disk.start.Goals as goal
 
 pub start_write-requires-clause-owed : goal.start_write-requires-clause-owed

@@ -5,7 +5,7 @@ use Rattle.disk_model.specs.Histories.{SendsNext, IsSilent}
 use Rattle.disk_model.specs.Disks.{DiskValue}
 use Rattle.disk_model.specs.Runs.{disk_plan, DiskStandsFor, DiskMaySend}
 use Rattle.disk_model.specs.Insides.{Gives}
-use Rattle.disk_model.proofs.MomentLemmas.{disk_sends, disk_silent}
+use Rattle.disk_model.proofs.turns.MomentLemmas.{disk_sends, disk_silent}
 use Rattle.disk_model.proofs.disk.DiskDevice.next_out.Goals as goal
 
 gives_sends : (old new : DiskValue) (out : Option Stamped) → Gives old out new → IfSome out (λ frame. SendsNext disk_plan DiskStandsFor DiskMaySend old frame.bytes new)

@@ -5,7 +5,7 @@ use Rattle.fis_view.specs.declared.view.Fis.{Fis}
 use Rattle.fis_view.specs.declared.view.FisFault.{FisFault}
 use Rattle.disk_model.specs.Histories.{Received}
 use Rattle.disk_model.specs.Disks.{with_now, heard}
-use Rattle.disk_model.proofs.MomentLemmas.{disk_goes_on, hears_register, hears_data, hears_nothing}
+use Rattle.disk_model.proofs.turns.MomentLemmas.{disk_goes_on, hears_register, hears_data, hears_nothing}
 use Rattle.disk_model.proofs.disk.DiskDevice.on_frame.Goals as goal
 
 pub returns-in-RegH2D-clause-ok : goal.returns-in-RegH2D-clause-ok

@@ -1,4 +1,4 @@
-use Rattle.disk_model.proofs.QuietLemmas.{data_is_due, setup_is_due}
+use Rattle.disk_model.proofs.turns.QuietLemmas.{data_is_due, setup_is_due}
 use Rattle.disk_model.proofs.disk.quiet.due_reading.Goals as goal
 
 pub returns-then-reading : goal.returns-then-reading

@@ -1,6 +1,6 @@
 use Rattle.fis_view.specs.Frames.{Stamped}
 use Rattle.std.proofs.lemmas.Result.{IfOk-weaker}
-use Rattle.disk_model.proofs.SendLemmas.{leads_activate, leads_ask}
+use Rattle.disk_model.proofs.turns.SendLemmas.{leads_activate, leads_ask}
 use Rattle.disk_model.proofs.disk.send.asking_frame.Goals as goal
 
 pub returns-then-waiting-eq0-clause-leads : goal.returns-then-waiting-eq0-clause-leads

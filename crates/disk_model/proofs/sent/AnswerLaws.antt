@@ -1,0 +1,70 @@
+-- For `answers_commands_in_order`. Commands are answered in order.
+use Rattle.std.proofs.Common.{◌≡◌, ℕ, true, false, List, [], ◌∷◌, ◌++◌, ap, ◌∙◌}
+use Rattle.fis_view.specs.Table.{D2h, Pio, I, Status, Error, Lba, Count, D, Transfer, places, field}
+use Rattle.fis_view.specs.Built.{cut}
+use Rattle.fis_view.specs.Seen.{seen}
+use Rattle.disk_model.specs.declared.plan.DiskPlan.{DiskPlan}
+use Rattle.disk_model.specs.declared.answer.Answer.{Answer}
+use Rattle.disk_model.specs.declared.answer.Answer.TheVariants.{Signature, Accepted, Finished, Refused, Ended, PageFollows, PageData}
+use Rattle.disk_model.specs.Histories.{Happening, Sent}
+use Rattle.disk_model.specs.Sendings.{Sending, Register, SetsBits, SetsUp, Activates, SetsUpPio, Carries, Shows, register, page_follows, answer_sent}
+use Rattle.disk_model.specs.Runs.{IsDiskRun}
+use Rattle.disk_model.specs.Ledger.{Ledger, IsSize, ledger}
+use Rattle.disk_model.specs.Laws.{IsRegister, AnswersRight}
+use Rattle.disk_model.specs.Between.{IsTransfer, replies}
+use Rattle.disk_model.proofs.sent.TurnCases.{sent_by}
+
+signs : (b : List ℕ) → Shows (register false 0x50 1 1) b → IsRegister D2h 0 0x50 1 1 b
+unfolding places cut
+signs b shows = record { interrupt = shows.fields I; status_is = shows.fields Status; error_is = shows.fields Error; lba = shows.fields Lba; count = shows.fields Count }
+
+accepts : (b : List ℕ) → Shows (register false 0x50 0 0) b → IsRegister D2h 0 0x50 0 0 b
+unfolding places cut
+accepts b shows = record { interrupt = shows.fields I; status_is = shows.fields Status; error_is = shows.fields Error; lba = shows.fields Lba; count = shows.fields Count }
+
+finishes : (b : List ℕ) → Shows (register true 0x50 0 0) b → IsRegister D2h 1 0x50 0 0 b
+unfolding places cut
+finishes b shows = record { interrupt = shows.fields I; status_is = shows.fields Status; error_is = shows.fields Error; lba = shows.fields Lba; count = shows.fields Count }
+
+refuses : (b : List ℕ) → Shows (register true 0x51 4 0) b → IsRegister D2h 1 0x51 4 0 b
+unfolding places cut
+refuses b shows = record { interrupt = shows.fields I; status_is = shows.fields Status; error_is = shows.fields Error; lba = shows.fields Lba; count = shows.fields Count }
+
+opens_page : (b : List ℕ) → Shows page_follows b → IsRegister Pio 1 0x58 0 0 b
+unfolding places cut
+opens_page b shows = record { interrupt = shows.fields I; status_is = shows.fields Status; error_is = shows.fields Error; lba = shows.fields Lba; count = shows.fields Count }
+
+to_host : (b : List ℕ) → Shows page_follows b → field Pio D b ≡ 1
+unfolding places cut
+to_host b shows = shows.fields D
+
+of_512 : (b : List ℕ) → Shows page_follows b → field Pio Transfer b ≡ 512
+unfolding places cut
+of_512 b shows = shows.fields Transfer
+
+answers_by : (l : Ledger) (sectors : ℕ) (plan : DiskPlan) (a : Answer) (later : List Answer) (b : List ℕ) → l.awaited ≡ replies (a ∷ later)
+    → Shows (answer_sent sectors plan a) b → AnswersRight l (seen b)
+answers_by l sectors plan Signature later b is shows = rw (shows.viewed, is) (signs b shows)
+answers_by l sectors plan Accepted later b is shows = rw (shows.viewed, is) (accepts b shows)
+answers_by l sectors plan Finished later b is shows = rw (shows.viewed, is) (finishes b shows)
+answers_by l sectors plan Refused later b is shows = rw (shows.viewed, is) (refuses b shows)
+answers_by l sectors plan (Ended t) later b is shows = rw shows.viewed tt
+answers_by l sectors plan PageFollows later b is shows = rw (shows.viewed, is) (opens_page b shows, to_host b shows, of_512 b shows)
+answers_by l sectors plan (PageData page) later b is shows = rw shows.1 tt
+
+goes_by : (l : Ledger) (x : Sending) (b : List ℕ) → IsTransfer x → Shows x b → AnswersRight l (seen b)
+goes_by l (Register f) b moves shows = absurd moves
+goes_by l (SetsBits f) b moves shows = absurd moves
+goes_by l (SetsUp f) b moves shows = rw shows.viewed tt
+goes_by l Activates b moves shows = rw shows.viewed tt
+goes_by l (SetsUpPio f) b moves shows = absurd moves
+goes_by l (Carries bytes) b moves shows = rw shows.1 tt
+
+pub answers_right : (plan : DiskPlan) (sectors : ℕ) (h : List Happening) (b : List ℕ) → IsSize plan sectors
+    → IsDiskRun plan sectors (h ++ Sent b ∷ []) → AnswersRight (ledger h) (seen b)
+answers_right plan sectors h b size run = sent_by plan sectors h b _ size run (λ agrees. record {
+  answers = λ a later is shows. answers_by (ledger h) sectors plan a later b (agrees.awaited ∙ ap replies is) shows;
+  fails = λ c f turn is none shows. rw shows.viewed tt;
+  starts = λ c turn here is none shows. rw shows.viewed tt;
+  goes_on = λ now x is moves shows. goes_by (ledger h) x b moves shows;
+})
