@@ -5,6 +5,7 @@ use Rattle.slots.specs.Slots.{has_bit, lowest, match_some}
 use Rattle.slots.proofs.Door.{lowest_found, lowest_none}
 use Rattle.hba_fbs.specs.declared.registers.Registers.{Registers}
 use Rattle.hba_fbs.specs.Issuing.{aimed, first_named, named_in}
+use Rattle.hba_fbs.specs.Offering.{Offer, aimed_by, first_by}
 
 -- with FIS-based switching
 pub aimed_chosen : (r : Registers) (structure : List ℕ) (value : ℕ) → r.switching ≡ true → aimed r structure value ≡ r.chosen
@@ -19,6 +20,14 @@ pub aimed_first : (r : Registers) (structure : List ℕ) (value slot : ℕ) → 
     → aimed r structure value ≡ named_in r structure slot
 aimed_first r structure value slot off below here low = aimed_found r structure value (Some slot) off (lowest_found (has_bit value) 32 slot below here low)
 
+-- ---- the same where a list is offered
+
+aimed_found_by : (r : Registers) (offer : Offer) (value : ℕ) (o : Option ℕ) → r.switching ≡ false → lowest (has_bit value) ≡ o → aimed_by r offer value ≡ match_some o r.chosen offer.named
+aimed_found_by r offer value o off is = ap (λ (b : Bool). if b then r.chosen else first_by r offer value) off ∙ ap (λ (o : Option ℕ). match_some o r.chosen offer.named) is
+
+pub aimed_first_by : (r : Registers) (offer : Offer) (value slot : ℕ) → r.switching ≡ false → slot < 32 → has_bit value slot ≡ true → ((k : ℕ) → k < slot → has_bit value k ≡ false) → aimed_by r offer value ≡ offer.named slot
+aimed_first_by r offer value slot off below here low = aimed_found_by r offer value (Some slot) off (lowest_found (has_bit value) 32 slot below here low)
+
 -- or there is none
-pub aimed_none : (r : Registers) (structure : List ℕ) (value : ℕ) → r.switching ≡ false → ((k : ℕ) → k < 32 → has_bit value k ≡ false) → aimed r structure value ≡ r.chosen
-aimed_none r structure value off none = aimed_found r structure value None off (lowest_none (has_bit value) 32 none)
+pub aimed_none_by : (r : Registers) (offer : Offer) (value : ℕ) → r.switching ≡ false → ((k : ℕ) → k < 32 → has_bit value k ≡ false) → aimed_by r offer value ≡ r.chosen
+aimed_none_by r offer value off none = aimed_found_by r offer value None off (lowest_none (has_bit value) 32 none)

@@ -2,16 +2,14 @@
 use Rattle.std.proofs.Common.{◌≡◌, ◌≢◌, ℕ, ◌+◌, ◌<◌, ◌≤◌, Bool, true, false, ◌&&◌, List, length, get_or, set, refl, sym, ◌∙◌, ap, subst, inl, inr, arith, Option, Some, None}
 use Rattle.std.specs.Prelude.{if◌then◌else◌, ◌==◌}
 use Rattle.std.proofs.lemmas.Nat.Bits.{bit_at-zero}
-use Rattle.host_memory.specs.Memory.{Memory}
 use Rattle.std.specs.Option.{is_some, option_or}
 use Rattle.std.proofs.lemmas.Bool.{cases_eq, true≢false, false≢true}
 use Rattle.std.proofs.lemmas.List.{get_or-set_same, get_or-set_other}
 use Rattle.slots.specs.Slots.{DeviceSlots, Issue, LeavesOthers, Slots, has_bit, issue_at, own_issue, owned_by, slots_of}
 use Rattle.slots.specs.declared.table.Context.{Context}
 use Rattle.hba_commands.specs.declared.command.Command.{Command}
-use Rattle.hba_commands.specs.Commands.{command_at}
-use Rattle.hba_fbs.specs.declared.registers.Registers.{Registers}
-use Rattle.hba_fbs.specs.Issuing.{any_slot, asked, is_busy, issue_with, issued_slots, issues_with, commands_with, slots_after, with_command}
+use Rattle.hba_fbs.specs.Issuing.{any_slot, is_busy, issue_with, issued_slots, issues_with, commands_with, slots_after, with_command}
+use Rattle.hba_fbs.specs.Offering.{Offer, asked_by}
 use Rattle.hba_fbs.specs.Views.{HaveCommands, last_command}
 use Rattle.hba_fbs.specs.Between.{FilledTo}
 use Rattle.hba_fbs.proofs.AnyLemmas.{none_passes}
@@ -90,9 +88,9 @@ not_busy None h = refl
 not_busy (Some i) h = absurd (true≢false h)
 
 -- it was free at first, and no slot before it is this one
-pub asked_free : (r : Registers) (memory : Memory) (dev value slot : ℕ) (old now : Slots) → slot < 32 → any_slot value (is_busy old) ≡ false → is_some (asked r memory value slot) ≡ true → LeavesOthers dev old now
+pub asked_free : (offer : Offer) (dev value slot : ℕ) (old now : Slots) → slot < 32 → any_slot value (is_busy old) ≡ false → is_some (asked_by offer value slot) ≡ true → LeavesOthers dev old now
     → own_issue (slots_of dev now) slot ≡ own_issue (slots_of dev old) slot → is_busy now slot ≡ false
-asked_free r memory dev value slot old now below none some others own =
+asked_free offer dev value slot old now below none some others own =
     let free : issue_at old slot ≡ None = not_busy (issue_at old slot) (free_if (has_bit value slot) (is_busy old slot) _ some (none_passes value (is_busy old) slot none below)) in
     ap is_some (stays_free dev slot old now others (own ∙ nothing_there dev slot old free) free)
 
@@ -100,8 +98,8 @@ asked_free r memory dev value slot old now below none some others own =
 zero_has : (slot : ℕ) → has_bit 0 slot ≡ false
 zero_has slot = ap (λ (b : ℕ). b == 1) (bit_at-zero slot)
 
-pub nothing_asked : (r : Registers) (memory : Memory) (value slot : ℕ) → value ≡ 0 → asked r memory value slot ≡ None
-nothing_asked r memory value slot zero = ap (λ (b : Bool). if b then command_at memory r.clb slot (has_bit r.armed slot) else None) (ap (λ (v : ℕ). has_bit v slot) zero ∙ zero_has slot)
+pub nothing_asked : (offer : Offer) (value slot : ℕ) → value ≡ 0 → asked_by offer value slot ≡ None
+nothing_asked offer value slot zero = ap (λ (b : Bool). if b then offer.commands slot else None) (ap (λ (v : ℕ). has_bit v slot) zero ∙ zero_has slot)
 
 pub issued_none : (dev : ℕ) (commands : ℕ → Option Command) (own : DeviceSlots) → ((slot : ℕ) → commands slot ≡ None) → own ≡ issued_slots dev commands own
 issued_none dev commands own none = issues_all dev (length own.issues) commands own own (omega arith) refl (record {

@@ -8,5 +8,7 @@ mod WriteLemmas
 mod DataLemmas
 mod PostLemmas
 mod TakeLemmas
+mod CoreLemmas
+mod OfferLemmas
 mod SendLemmas
 pub mod Door

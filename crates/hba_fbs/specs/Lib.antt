@@ -10,6 +10,8 @@ pub mod Hearing
 pub mod Tables
 pub mod Posting
 pub mod Taking
+pub mod Deciding
+pub mod Offering
 pub mod Sending
 pub mod Due
 pub mod Resets

@@ -1,26 +1,19 @@
-//! Data FISes from devices, and the PRD tables that say where their bytes go.
+//! Data FISes from devices.
 
-ghost use Rattle.std.specs.Prelude.{◌≡◌, ◌<◌, ◌≤◌, ◌%◌, None, IfSome, MatchOption, is_some, length};
-ghost use Rattle.host_memory.specs.Memory.{IsHostMemory};
-ghost use Rattle.host_memory.specs.Place.{total_of};
-ghost use Rattle.slots.specs.Slots.{KeepsFree, LeavesOthers, context_of, issue_at, own_issue, slots_of};
+ghost use Rattle.std.specs.Prelude.{◌≡◌, ◌<◌, ◌≤◌, ◌+◌, ◌%◌, None, Some, false, IfSome, MatchOption};
+ghost use Rattle.slots.specs.Data.{receiving_slot};
+ghost use Rattle.slots.specs.Slots.{KeepsFree, LeavesOthers, context_of, issue_at, slots_of};
 ghost use Rattle.hba_fbs.specs.Hearing.{asks as asks_of, block_ended, bus_failed as bus_heard, carried as carried_heard, ended as ended_heard, ended_fault as ended_fault_of, heard_data, mask_of_slot, moved, overflowed as overflow_heard};
 ghost use Rattle.hba_fbs.specs.Status.{is_quiet as is_quiet_status};
-ghost use Rattle.hba_fbs.specs.Tables.{Delivers, IsTableOf, are_last as are_last_of, areas, is_readable as is_readable_of, is_sound, sound_command as sound_command_of, table_of};
+ghost use Rattle.hba_fbs.specs.Tables.{are_last as are_last_of};
 ghost use Rattle.hba_fbs.specs.Taking.{wrote_by};
-ghost use Rattle.hba_fbs.specs.Views.{last_command};
 
 use crate::hearing::{Fault, Happening, Heard, faulty, quietly};
 use crate::report::Wrote;
 use crate::state::DeviceState;
 use crate::status::{Block, is_error, is_quiet};
-use hba_commands::Command;
-use host_memory::{CLIENT_START, HostMemory, PrdTable};
 use port_errors::{DeviceCause, PortCause};
 use slots::{ArriveError, SlotTable};
-
-/// The offset of the PRDs in a command table.
-const PRDS: u32 = 0x80;
 
 fn asks(block: Option<Block>) -> bool
     ensures { result ≡ asks_of block }
@@ -53,57 +46,6 @@ fn overflowed(state: DeviceState) -> Heard
         done: 0,
         pss: asks(state.block),
     }
-}
-
-// The PRDs of a command, if they can be read and have `len` bytes in all.
-#[tactic(auto, using(crate::proofs::DataLemmas::not_read))]
-fn read_table<'m>(
-    structure: &'m [u8],
-    client: &[u8],
-    command: &Command,
-    len: u32,
-) -> Option<PrdTable<'m>>
-    requires memory { IsHostMemory (areas structure.now client.now) }
-    ensures readable { is_some result
-        ≡ is_readable_of (areas structure.now client.now) len command.now }
-    ensures entries { IfSome result (λ table. table
-        ≡ table_of (areas structure.now client.now) command.now) }
-{
-    if command.table > CLIENT_START - PRDS {
-        return None;
-    }
-    let client_len = client.len() as u32;
-    match PrdTable::read(structure, client_len, command.table + PRDS, command.count) {
-        Ok(table) if table.total() == len => Some(table),
-        _ => None,
-    }
-}
-
-/// The PRD table of a device's slot, if it can be read and has the slot's bytes.
-pub(crate) fn sound_table<'m>(
-    slots: &SlotTable,
-    structure: &'m [u8],
-    client: &[u8],
-    commands: &[Option<Command>; 32],
-    dev: u8,
-    slot: u8,
-) -> Option<PrdTable<'m>>
-    requires slot { slot < 32 }
-    requires owner { own_issue (slots_of dev slots.now) slot ≡ issue_at slots.now slot }
-    requires memory { IsHostMemory (areas structure.now client.now) }
-    ensures sound { is_some result ≡ is_some (sound_command_of (areas structure.now client.now)
-        commands.now (slots_of dev slots.now) slot) }
-    ensures table { IfSome result (λ table. IsTableOf (areas structure.now client.now)
-        (sound_command_of (areas structure.now client.now) commands.now
-        (slots_of dev slots.now) slot) table) }
-    ensures command { IfSome result (λ table. IsTableOf (areas structure.now client.now)
-        (last_command commands.now slot) table) }
-    ensures sized { IfSome result (λ table. MatchOption (issue_at slots.now slot) ⊥
-        (λ issue. total_of table.prds ≡ issue.work.len)) }
-{
-    let work = slots.work(slot)?;
-    let command = commands[slot as usize]?;
-    read_table(structure, client, &command, work.len)
 }
 
 fn mask(slot: Option<u8>) -> u32
@@ -163,42 +105,38 @@ fn are_last(slots: &SlotTable, dev: u8, count: u32) -> bool
     }
 }
 
-/// Hears a Data FIS of a device.
-#[tactic(auto, using(crate::proofs::DataLemmas::delivers_at))]
+/// Hears a Data FIS of a device with `len` bytes. `sound` says whether the table of the slot for which it comes can be
+/// used.
 pub(crate) fn hear_data(
     slots: &mut SlotTable,
-    memory: &mut HostMemory,
-    commands: &[Option<Command>; 32],
     dev: u8,
     state: DeviceState,
-    payload: &[u8],
+    sound: bool,
+    len: u32,
 ) -> Heard
     requires dev { dev < 16 }
-    requires dwords { length payload.now % 4 ≡ 0 }
-    requires few { length payload.now ≤ 8192 }
-    ensures heard { result
-        ≡ heard_data (slots_of dev slots.old) state
-        (is_sound memory.old commands.now (slots_of dev slots.old)) (length payload.now) }
+    requires dwords { len % 4 ≡ 0 }
+    ensures heard { result ≡ heard_data (slots_of dev slots.old) state sound len }
     ensures own { slots_of dev slots.new ≡ moved result.happening (slots_of dev slots.old) }
     ensures others { LeavesOthers dev slots.old slots.new }
     ensures frees { KeepsFree slots.old slots.new }
-    ensures structure { memory.new.structure ≡ memory.old.structure }
-    ensures client { Delivers memory.old commands.now payload.now (wrote_by result.happening)
-        memory.new.client }
+    ensures unsound { sound ≡ false → wrote_by result.happening ≡ None }
+    ensures len { IfSome (wrote_by result.happening) (λ wrote. wrote.len ≡ len) }
+    ensures slot { IfSome (wrote_by result.happening) (λ wrote.
+        receiving_slot (context_of slots.old dev) ≡ Some wrote.slot) }
+    ensures fits { IfSome (wrote_by result.happening) (λ wrote. MatchOption
+        (issue_at slots.old wrote.slot) ⊥ (λ issue. wrote.offset + wrote.len ≤ issue.work.len)) }
 {
     slots.keeps_rules();
-    let Some(slot) = slots.receiving(dev) else {
+    if slots.receiving(dev).is_none() {
         return faulty(state, DeviceCause::Stray);
-    };
-    let (structure, client) = memory.split();
-    let Some(table) = sound_table(slots, structure, client, commands, dev, slot) else {
+    }
+    if !sound {
         return bus_failed(state);
-    };
-    let len = payload.len() as u32;
+    }
     let last = are_last(slots, dev, len);
     match slots.arrive(dev, len) {
-        Ok((_, offset)) => {
-            table.scatter(client, offset, payload);
+        Ok((slot, offset)) => {
             let wrote = Wrote { slot, offset, len };
             match state.block {
                 Some(block) if last => ended(slots, dev, state, wrote, block),

@@ -3,9 +3,10 @@
 
 ghost use Rattle.std.specs.Prelude.{◌≡◌, ◌<◌, ◌≤◌, IfSome};
 ghost use Rattle.hba_fbs.specs.Due.{due_of};
+ghost use Rattle.hba_fbs.specs.Registers.{AreRegisters};
 ghost use Rattle.hba_fbs.specs.Issuing.{is_busy};
 
-use crate::port::HostPort;
+use crate::port::PortCore;
 use crate::registers::Registers;
 
 /// Bytes of a write that are due to its device.
@@ -19,10 +20,11 @@ pub struct Due {
     pub len: u32,
 }
 
-impl HostPort {
+impl PortCore {
     /// The port's own registers.
     pub fn registers(&self) -> Registers
-        ensures { result ≡ self.now.registers }
+        ensures value { result ≡ self.now.registers }
+        ensures are { AreRegisters result }
     {
         self.registers
     }
@@ -35,7 +37,7 @@ impl HostPort {
         self.slots.work(slot).is_some()
     }
 
-    /// The bytes of a write that [`next_out`](HostPort::next_out) gathers next, None where it gives no data next. Whoever
+    /// The bytes of a write that [`next_out`](PortCore::next_out) gathers next, None where it gives no data next. Whoever
     /// keeps the bytes elsewhere puts them to their places before that.
     pub fn due(&self) -> Option<Due>
         ensures value { result ≡ due_of self.now }

@@ -1,12 +1,13 @@
 //! What a FIS means for the device that sent it.
 
-ghost use Rattle.std.specs.Prelude.{◌≡◌, ◌<◌, ◌-◌, ◌%◌, ◌==◌, if◌then◌else◌, None, Some, drop, length};
+ghost use Rattle.std.specs.Prelude.{◌≡◌, ◌<◌, ◌≤◌, ◌+◌, ◌-◌, ◌%◌, ◌==◌, if◌then◌else◌, None, Some, false, drop, length, IfSome, MatchOption};
 ghost use Rattle.fis_view.specs.Seen.{frame_of};
-ghost use Rattle.slots.specs.Slots.{KeepsFree, LeavesOthers, slots_of};
+ghost use Rattle.slots.specs.Slots.{KeepsFree, LeavesOthers, context_of, issue_at, slots_of};
 ghost use Rattle.slots.specs.Commands.{IsSlotAnswer};
+ghost use Rattle.slots.specs.Data.{receiving_slot};
 ghost use Rattle.slots.specs.Setup.{out_setup};
 ghost use Rattle.hba_fbs.specs.Hearing.{answer_fault as answer_fault_of, answered as answered_heard, block_of as block_of_fis, cause_of_setup as cause_of_setup_error, done_by as done_by_answer, faulty as faulty_heard, heard_activate, heard_bad, heard_bits, heard_d2h, heard_fis, heard_out, heard_pio, heard_register, heard_setup, is_admitted as is_admitted_fis, moved, named as named_heard, quietly as quietly_heard, signing as signing_heard};
-ghost use Rattle.hba_fbs.specs.Tables.{Delivers, is_sound};
+ghost use Rattle.hba_fbs.specs.Deciding.{carries};
 ghost use Rattle.hba_fbs.specs.Taking.{wrote_by};
 
 use crate::data::hear_data;
@@ -15,8 +16,6 @@ use crate::report::Wrote;
 use crate::state::DeviceState;
 use crate::status::{Block, is_busy, is_error};
 use fis_view::{Fis, PioSetup, RegD2H};
-use hba_commands::Command;
-use host_memory::HostMemory;
 use port_errors::{DeviceCause, PortCause};
 use slots::{Answered, Completed, Context, SetupError, SlotTable};
 
@@ -367,26 +366,28 @@ fn block_of(fis: &PioSetup<'_>) -> Block
     }
 }
 
-/// Hears a FIS that may come from this PM Port.
+/// Hears a FIS that may come from this PM Port. `sound` says whether the table of the slot for which Data comes can be
+/// used.
 #[tactic(auto, unfolding(crate::specs::Hearing::heard_fis))]
 pub(crate) fn hear(
     slots: &mut SlotTable,
-    memory: &mut HostMemory,
-    commands: &[Option<Command>; 32],
     dev: u8,
     state: DeviceState,
+    sound: bool,
     fis: &Fis<'_>,
 ) -> Heard
     requires { dev < 16 }
-    ensures heard { result
-        ≡ heard_fis (slots_of dev slots.old) state
-        (is_sound memory.old commands.now (slots_of dev slots.old)) fis.now }
+    ensures heard { result ≡ heard_fis (slots_of dev slots.old) state sound fis.now }
     ensures own { slots_of dev slots.new ≡ moved result.happening (slots_of dev slots.old) }
     ensures others { LeavesOthers dev slots.old slots.new }
     ensures frees { KeepsFree slots.old slots.new }
-    ensures structure { memory.new.structure ≡ memory.old.structure }
-    ensures client { Delivers memory.old commands.now (drop 4 (frame_of fis.now))
-        (wrote_by result.happening) memory.new.client }
+    ensures unwritten { carries sound fis.now ≡ false → wrote_by result.happening ≡ None }
+    ensures len { IfSome (wrote_by result.happening)
+        (λ wrote. wrote.len ≡ length (drop 4 (frame_of fis.now))) }
+    ensures slot { IfSome (wrote_by result.happening) (λ wrote.
+        receiving_slot (context_of slots.old dev) ≡ Some wrote.slot) }
+    ensures fits { IfSome (wrote_by result.happening) (λ wrote. MatchOption
+        (issue_at slots.old wrote.slot) ⊥ (λ issue. wrote.offset + wrote.len ≤ issue.work.len)) }
 {
     match fis {
         Fis::RegD2H(fis) => {
@@ -413,7 +414,7 @@ pub(crate) fn hear(
                 block_of(fis),
             )
         }
-        Fis::Payload(fis) => hear_data(slots, memory, commands, dev, state, fis.payload()),
+        Fis::Payload(fis) => hear_data(slots, dev, state, sound, fis.payload().len() as u32),
         Fis::DmaActivate(_) => hear_activate(slots, dev, state),
         Fis::Unknown(_) | Fis::RegH2D(_) => quietly(state, Happening::Nothing),
     }

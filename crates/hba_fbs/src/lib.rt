@@ -11,12 +11,15 @@
 //! for memory.
 #![tactic(auto)]
 
+mod asking;
 mod bits;
 mod data;
 mod due;
 mod error;
 mod hearing;
 mod issue;
+mod list;
+mod offers;
 mod port;
 mod post;
 mod register;
@@ -24,16 +27,20 @@ mod registers;
 mod report;
 mod reset;
 mod sending;
+mod shell;
 mod state;
 mod status;
+mod tables;
 mod take;
 
 pub use due::Due;
 pub use error::{NoRegister, WriteError};
 pub use hearing::{Fault, Happening, Heard};
-pub use port::HostPort;
+pub use offers::Offers;
+pub use port::PortCore;
 pub use register::Register;
 pub use registers::Registers;
 pub use report::{TakeReport, Wrote};
+pub use shell::HostPort;
 pub use state::DeviceState;
 pub use status::Block;

@@ -1,31 +1,32 @@
 //! The host port.
 
-ghost use Rattle.std.specs.Prelude.{◌≡◌, ◌<◌, ◌+◌, ◌≤◌, ◌==◌, ◌&&◌, not, if◌then◌else◌, ℕ, None, false, OnErr, OnOk};
+ghost use Rattle.std.specs.Prelude.{◌≡◌, ◌<◌, ◌==◌, ◌&&◌, not, if◌then◌else◌, ℕ, None, false, true, OnErr, OnOk};
 ghost use Rattle.slots.specs.Commands.{own_slots};
 ghost use Rattle.slots.specs.Slots.{slots_of};
 ghost use Rattle.slots.specs.Table.{IsTable};
 ghost use Rattle.port_errors.specs.Errors.{AreErrors, after_clear, cleared_device, no_errors, port_cause_in};
 ghost use Rattle.std.specs.Result.{result_err};
-ghost use Rattle.hba_fbs.specs.Issuing.{aimed as aimed_at, any_beside as any_beside_of, any_slot, asked, commands_issued, is_busy, view_issued, view_with};
-ghost use Rattle.hba_fbs.specs.Writing.{Writes, active_after, apart_refusal as apart_refusal_of, commands_after, errors_after, is_apart as is_apart_of, issue_refusal as issue_refusal_of, refusal_of, slots_refusal as slots_refusal_of, view_after, view_cleared, write_refusal};
+ghost use Rattle.hba_fbs.specs.Issuing.{any_beside as any_beside_of, any_slot, commands_with, is_busy, view_with};
+ghost use Rattle.hba_fbs.specs.Offering.{WritesBy, active_by, aimed_by, asked_by, commands_by, is_apart_by, issue_refusal_by, refusal_by, slots_refusal_by, view_by, view_issued_by, write_refusal_by};
+ghost use Rattle.hba_fbs.specs.Writing.{apart_refusal as apart_refusal_of, errors_after, view_cleared};
 ghost use Rattle.hba_fbs.specs.Reading.{read_at, shown_device as shown_device_of, value_of};
 ghost use Rattle.hba_fbs.specs.Views.{Flushes, IsPort, LeavesOtherViews, opening_port, stopped_view, view_of};
 
 use crate::bits::{DEC, UNKNOWN, bit, has_bit, raised};
 use crate::error::{NoRegister, WriteError};
 use crate::issue::{aimed, any_bad, any_beside, any_busy, any_other, issue_all};
+use crate::offers::Offers;
 use crate::register::Register;
 use crate::registers::Registers;
 use crate::state::{DeviceState, state_of, stop_all};
 use hba_commands::Command;
-use host_memory::HostMemory;
 use port_errors::{DeviceCause, Interrupts, PortCause, PortErrors};
 use slots::SlotTable;
 use std::marker::Model;
 
 /// A host port.
 #[derive(Drop)]
-pub struct HostPort {
+pub struct PortCore {
     /// Its own registers.
     pub(crate) registers: Registers,
     /// What is issued in each slot, and the last setup of each device.
@@ -43,7 +44,7 @@ pub struct HostPort {
     pub(crate) active: u8,
 }
 
-impl Model for HostPort {
+impl Model for PortCore {
     ghost use Rattle.hba_fbs.specs.Views.{IsPort, Port};
 
     ghost Value = { Port };
@@ -79,12 +80,12 @@ fn active_with(active: u8, dev: u8, value: u32) -> u8
     if value == 0 { active } else { dev }
 }
 
-impl HostPort {
+impl PortCore {
     /// A new port: no command is issued, and the port is stopped.
-    pub fn new() -> HostPort
+    pub fn new() -> PortCore
         ensures { result ≡ opening_port }
     {
-        HostPort {
+        PortCore {
             registers: Registers::new(),
             slots: SlotTable::new(),
             errors: PortErrors::new(),
@@ -201,12 +202,12 @@ impl HostPort {
     }
 
     // The device for which a write of PxCI issues.
-    fn aimed(&self, value: u32, memory: &HostMemory) -> u8
-        requires { self.now.registers.clb + 1024 ≤ 1048576 }
-        ensures is { result ≡ aimed_at self.now.registers memory.now.structure value }
+    fn aimed<O: Offers>(&self, value: u32, offers: &O) -> u8
+        requires { O.can_offer offers.now }
+        ensures is { result ≡ aimed_by self.now.registers (O.offer offers.now) value }
         ensures low { result < 16 }
     {
-        aimed(self.registers, memory.structure(), value)
+        aimed(self.registers, offers, value)
     }
 
     // Whether, without FIS-based switching, a write of PxCI for a device would issue beside another one.
@@ -218,12 +219,12 @@ impl HostPort {
     }
 
     // Whether a slot that a write of PxCI is to issue is not for the device at which the write is aimed.
-    fn is_apart(&self, value: u32, memory: &HostMemory) -> bool
-        requires { self.now.registers.clb + 1024 ≤ 1048576 }
-        ensures { result ≡ is_apart_of self.now memory.now value }
+    fn is_apart<O: Offers>(&self, value: u32, offers: &O) -> bool
+        requires { O.can_offer offers.now }
+        ensures { result ≡ is_apart_by self.now (O.offer offers.now) value }
     {
-        let dev = self.aimed(value, memory);
-        self.is_beside(value, dev) || any_other(self.registers, memory.structure(), dev, value)
+        let dev = self.aimed(value, offers);
+        self.is_beside(value, dev) || any_other(offers, dev, value)
     }
 
     // The refusal of this.
@@ -238,46 +239,48 @@ impl HostPort {
     }
 
     // Why a write of PxCI is refused because of its slots.
-    fn issue_refusal(&self, value: u32, memory: &HostMemory) -> Option<WriteError>
-        requires { self.now.registers.clb + 0x400 ≤ 0x100000 }
-        ensures { result ≡ issue_refusal_of self.now memory.now value }
+    fn issue_refusal<O: Offers>(&self, value: u32, offers: &O) -> Option<WriteError>
+        requires { O.can_offer offers.now }
+        ensures { result ≡ issue_refusal_by self.now (O.offer offers.now) value }
     {
         if any_busy(&self.slots, value) {
             return Some(WriteError::SlotBusy);
         }
-        if self.is_apart(value, memory) {
+        if self.is_apart(value, offers) {
             return Some(self.apart_refusal());
         }
-        if any_bad(self.registers, memory, value) {
+        if any_bad(offers, value) {
             return Some(WriteError::BadTable);
         }
         None
     }
 
-    #[tactic(auto, unfolding(crate::specs::Writing::slots_refusal))]
-    fn slots_refusal(
+    #[tactic(auto, unfolding(crate::specs::Offering::slots_refusal_by))]
+    fn slots_refusal<O: Offers>(
         &self,
         register: Register,
         value: u32,
-        memory: &HostMemory,
+        offers: &O,
     ) -> Option<WriteError>
-        ensures { result ≡ slots_refusal_of register self.now memory.now value }
+        requires { self.now.registers.started ≡ true → O.can_offer offers.now }
+        ensures { result ≡ slots_refusal_by register self.now (O.offer offers.now) value }
     {
         match register {
             Register::Sact => any_busy(&self.slots, value).then_some(WriteError::SlotBusy),
-            Register::Ci if self.registers.started => self.issue_refusal(value, memory),
+            Register::Ci if self.registers.started => self.issue_refusal(value, offers),
             _ => None,
         }
     }
 
     // Why a write is refused.
-    fn refusal(&self, register: Register, value: u32, memory: &HostMemory) -> Option<WriteError>
-        ensures { result ≡ refusal_of register self.now memory.now value }
+    fn refusal<O: Offers>(&self, register: Register, value: u32, offers: &O) -> Option<WriteError>
+        requires { self.now.registers.started ≡ true → O.can_offer offers.now }
+        ensures { result ≡ refusal_by register self.now (O.offer offers.now) value }
     {
         if let Some(refusal) = self.registers.refusal(register, value) {
             return Some(refusal);
         }
-        self.slots_refusal(register, value, memory)
+        self.slots_refusal(register, value, offers)
     }
 
     // ST falls: all slots are freed, and all faults and resets end.
@@ -313,63 +316,56 @@ impl HostPort {
     }
 
     // Issues the commands in these slots for a device.
-    fn issue_for(&mut self, dev: u8, value: u32, memory: &HostMemory)
+    fn issue_for<O: Offers>(&mut self, dev: u8, value: u32, offers: &O)
         requires dev { dev < 16 }
-        requires list { self.old.registers.clb + 0x400 ≤ 0x100000 }
+        requires can { O.can_offer offers.now }
         requires free { any_slot value (is_busy self.old.slots) ≡ false }
         ensures own { view_of dev self.new
-            ≡ view_with dev (asked self.old.registers memory.now value) (view_of dev self.old) }
+            ≡ view_with dev (asked_by (O.offer offers.now) value) (view_of dev self.old) }
         ensures others { LeavesOtherViews dev self.old self.new }
         ensures registers { self.new.registers ≡ self.old.registers }
         ensures errors { self.new.errors ≡ self.old.errors }
         ensures commands { self.new.commands
-            ≡ commands_issued self.old.registers memory.now value self.old.commands }
+            ≡ commands_with (asked_by (O.offer offers.now) value) self.old.commands }
         ensures number { self.new.number ≡ self.old.number }
         ensures active { self.new.active ≡ (if value == 0 then self.old.active else dev) }
     {
-        let registers = self.registers;
-        issue_all(
-            registers,
-            &mut self.slots,
-            &mut self.commands,
-            memory,
-            dev,
-            value,
-        );
+        issue_all(&mut self.slots, &mut self.commands, offers, dev, value);
         self.active = active_with(self.active, dev, value);
     }
 
     // Issues the commands in these slots.
-    fn issue(&mut self, value: u32, memory: &HostMemory)
-        requires list { self.old.registers.clb + 0x400 ≤ 0x100000 }
+    fn issue<O: Offers>(&mut self, value: u32, offers: &O)
+        requires can { O.can_offer offers.now }
         requires free { any_slot value (is_busy self.old.slots) ≡ false }
-        ensures own { let dev = aimed_at self.old.registers memory.now.structure value in
-            view_of dev self.new ≡ view_issued self.old.registers memory.now value (view_of dev self.old) }
-        ensures others { LeavesOtherViews (aimed_at self.old.registers memory.now.structure value)
+        ensures own { let dev = aimed_by self.old.registers (O.offer offers.now) value in
+            view_of dev self.new ≡ view_issued_by self.old.registers (O.offer offers.now) value (view_of dev self.old) }
+        ensures others { LeavesOtherViews (aimed_by self.old.registers (O.offer offers.now) value)
             self.old self.new }
         ensures registers { self.new.registers ≡ self.old.registers }
         ensures errors { self.new.errors ≡ self.old.errors }
         ensures commands { self.new.commands
-            ≡ commands_issued self.old.registers memory.now value self.old.commands }
+            ≡ commands_with (asked_by (O.offer offers.now) value) self.old.commands }
         ensures number { self.new.number ≡ self.old.number }
         ensures active { self.new.active ≡ (if value == 0 then self.old.active
-            else aimed_at self.old.registers memory.now.structure value) }
+            else aimed_by self.old.registers (O.offer offers.now) value) }
     {
-        let dev = self.aimed(value, memory);
-        self.issue_for(dev, value, memory);
+        let dev = self.aimed(value, offers);
+        self.issue_for(dev, value, offers);
     }
 
     // What an accepted write changes apart from the port's own registers.
-    #[tactic(auto, unfolding(crate::specs::Writing::view_after, crate::specs::Writing::errors_after, crate::specs::Writing::commands_after, crate::specs::Writing::active_after))]
-    fn act(&mut self, register: Register, value: u32, memory: &HostMemory)
-        requires accepted { refusal_of register self.old memory.now value ≡ None }
+    #[tactic(auto, unfolding(crate::specs::Offering::view_by, crate::specs::Writing::errors_after, crate::specs::Offering::commands_by, crate::specs::Offering::active_by))]
+    fn act<O: Offers>(&mut self, register: Register, value: u32, offers: &O)
+        requires can { self.old.registers.started ≡ true → O.can_offer offers.now }
+        requires accepted { refusal_by register self.old (O.offer offers.now) value ≡ None }
         ensures views { (n : ℕ) → n < 16
-            → view_of n self.new ≡ view_after register self.old memory.now value n }
+            → view_of n self.new ≡ view_by register self.old (O.offer offers.now) value n }
         ensures registers { self.new.registers ≡ self.old.registers }
         ensures errors { self.new.errors ≡ errors_after register self.old value }
-        ensures commands { self.new.commands ≡ commands_after register self.old memory.now value }
+        ensures commands { self.new.commands ≡ commands_by register self.old (O.offer offers.now) value }
         ensures number { self.new.number ≡ self.old.number }
-        ensures active { self.new.active ≡ active_after register self.old memory.now value }
+        ensures active { self.new.active ≡ active_by register self.old (O.offer offers.now) value }
     {
         match register {
             Register::Cmd => {
@@ -379,7 +375,7 @@ impl HostPort {
             }
             Register::Ci => {
                 if self.registers.started {
-                    self.issue(value, memory);
+                    self.issue(value, offers);
                 }
             }
             Register::Fbs => {
@@ -402,20 +398,26 @@ impl HostPort {
     }
 
     /// Writes a register: all bits of the value, or none if the write is refused. Ones written to PxCI issue
-    /// the commands in those slots. A write of PxCMD that clears ST stops every device. A write of PxFBS with
-    /// DEC set clears the device whose error PxFBS shows. Only a write of PxCI looks at the memory.
-    pub fn write(&mut self, offset: u32, value: u32, memory: &HostMemory) -> Result<(), WriteError>
-        ensures refusal { result_err result ≡ write_refusal self.old memory.now offset value }
+    /// the commands in those slots, as they are offered. A write of PxCMD that clears ST stops every device. A write of
+    /// PxFBS with DEC set clears the device whose error PxFBS shows. Only a write of PxCI looks at the offers.
+    pub fn write<O: Offers>(
+        &mut self,
+        offset: u32,
+        value: u32,
+        offers: &O,
+    ) -> Result<(), WriteError>
+        requires can { self.old.registers.started ≡ true → O.can_offer offers.now }
+        ensures refusal { result_err result ≡ write_refusal_by self.old (O.offer offers.now) offset value }
         ensures refused { OnErr result (self.new ≡ self.old) }
-        ensures accepted { OnOk result (Writes self.old memory.now offset value self.new) }
+        ensures accepted { OnOk result (WritesBy self.old (O.offer offers.now) offset value self.new) }
     {
         let Some(register) = Register::at(offset) else {
             return Err(WriteError::NoRegister);
         };
-        if let Some(refusal) = self.refusal(register, value, memory) {
+        if let Some(refusal) = self.refusal(register, value, offers) {
             return Err(refusal);
         }
-        self.act(register, value, memory);
+        self.act(register, value, offers);
         self.registers = self.registers.written(register, value);
         Ok(())
     }

@@ -47,6 +47,20 @@ pub(crate) fn post(memory: &mut HostMemory, fb: u32, dev: u8, fis: &Fis<'_>) -> 
     post_at(memory.structure_mut(), fb, dev, fis)
 }
 
+/// The place of a FIS in its row of the received area.
+pub(crate) fn place_of(fis: &Fis<'_>) -> Posted
+    ensures { result ≡ posted_at fis.now }
+{
+    match fis {
+        Fis::DmaSetup(_) => Posted::Setup,
+        Fis::PioSetup(_) => Posted::Pio,
+        Fis::RegD2H(_) => Posted::D2h,
+        Fis::SetBits(_) => Posted::Bits,
+        Fis::Unknown(fis) if fis.bytes().len() <= 64 => Posted::Unknown,
+        _ => Posted::Nothing,
+    }
+}
+
 fn signature(fis: &RegD2H<'_>) -> u32
     ensures { result ≡ signature_of fis.now }
 {

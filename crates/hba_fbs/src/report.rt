@@ -89,7 +89,8 @@ impl TakeReport {
     /// The report of a FIS that is heard.
     #[tactic(auto, unfolding(crate::specs::Taking::heard_report))]
     pub(crate) fn heard(dev: u8, posted: Posted, heard: Heard) -> TakeReport
-        ensures { result ≡ heard_report dev posted heard }
+        ensures value { result ≡ heard_report dev posted heard }
+        ensures wrote { result.wrote ≡ wrote_by heard.happening }
     {
         TakeReport {
             dev,

@@ -4,20 +4,20 @@ ghost use Rattle.std.specs.Prelude.{◌≡◌};
 ghost use Rattle.hba_fbs.specs.Resets.{link_reset, reopened, whole_reset};
 ghost use Rattle.hba_fbs.specs.Registers.{AreRegisters};
 
-use crate::port::HostPort;
+use crate::port::PortCore;
 use crate::registers::Registers;
 
-impl HostPort {
+impl PortCore {
     // As it opens, with these registers, but that frames are counted on.
     fn reopen(&mut self, registers: Registers)
         requires { AreRegisters registers }
         ensures { self.new ≡ reopened self.old registers }
     {
         let number = self.number;
-        *self = HostPort {
+        *self = PortCore {
             registers,
             number,
-            ..HostPort::new()
+            ..PortCore::new()
         };
     }
 

@@ -1,32 +1,27 @@
 //! What goes out next: Data for writes, and commands.
 
-ghost use Rattle.std.specs.Prelude.{◌≡◌, ◌<◌, ◌≤◌, ◌+◌, ◌&&◌, [], None, Some, Ok, true, false, ℕ, if◌then◌else◌, is_none, is_some, bit_or, MatchOption, IfOk, IfSome, IsSome, OnErr, length};
+ghost use Rattle.std.specs.Prelude.{◌≡◌, ◌<◌, ◌&&◌, ◌||◌, not, true, None, Some, if◌then◌else◌, is_none, is_some, bit_or, MatchOption, IfOk, IfSome, IsSome, OnErr};
 ghost use Rattle.host_memory.specs.Memory.{Memory};
-ghost use Rattle.host_memory.specs.Place.{total_of};
 ghost use Rattle.port_errors.specs.Errors.{cause_of};
 ghost use Rattle.slots.specs.Commands.{MayBeSent, after_sent};
 ghost use Rattle.slots.specs.Data.{payload as payload_of};
 ghost use Rattle.slots.specs.Slots.{KeepsFree, LeavesOthers, context_of, issue_at, lowest_below, mask_below, slots_of};
 ghost use Rattle.hba_fbs.specs.Registers.{AreRegisters};
-ghost use Rattle.hba_fbs.specs.Sending.{Gives, MayRest, Sends, counted, data_due, data_fis, gathered, has_no_setup, host_stamp, is_due as is_due_of, is_ready as is_ready_state, is_sent, next_receiver as next_receiver_of, next_to_send as next_to_send_of, order_due, outgoing, resets as resets_of, state_sent, stopped_by_bus, view_fed, view_sent};
+ghost use Rattle.hba_fbs.specs.Sending.{Gives, counted, has_no_setup, host_stamp, is_due as is_due_of, is_ready as is_ready_state, is_sent, next_receiver as next_receiver_of, next_to_send as next_to_send_of, order_due, state_sent, stopped_by_bus, view_fed, view_sent};
 ghost use Rattle.hba_fbs.specs.Views.{LeavesOtherViews, last_command, state_at, view_of};
 
 use crate::bits::has_bit;
-use crate::data::sound_table;
-use crate::port::HostPort;
+use crate::port::PortCore;
 use crate::registers::Registers;
 use crate::state::{DeviceState, state_of};
 use crate::status::{Block, is_busy, wants_data};
 use bitflags::Flags;
 use fis_view::{Frame, Stamp};
 use hba_commands::Command;
-use host_memory::{HostMemory, PrdTable};
 use port_errors::{PortCause, PortErrors};
 use slots::{Kind, SlotTable};
 use std::alloc::{AllocError, Global};
 
-/// The type of a Data FIS (Serial ATA 3.x, 10.5.12).
-const DATA: u8 = 0x46;
 /// SRST, Software Reset, in the Control field.
 const SRST_BIT: u32 = 2;
 /// The Control field in a Register Host to Device FIS.
@@ -98,7 +93,7 @@ fn lowest_due(slots: &SlotTable, errors: &PortErrors) -> Option<u8>
 
 // ---- frames
 
-fn stamp(dev: u8, number: u32) -> Stamp
+pub(crate) fn stamp(dev: u8, number: u32) -> Stamp
     ensures { result ≡ host_stamp dev number }
 {
     Stamp {
@@ -107,37 +102,6 @@ fn stamp(dev: u8, number: u32) -> Stamp
         number,
         shown: [0; 15],
     }
-}
-
-// The head of a Data FIS to a device, in a vector with room for `len` bytes of data behind it.
-fn data_head(alloc: Global, dev: u8, len: u32) -> Result<Vec<u8>, AllocError>
-    ensures { IfOk result (λ bytes. bytes.items ≡ data_fis dev []) }
-{
-    let mut bytes = Vec::with_capacity(alloc, 4 + len as usize)?;
-    bytes.extend_from_slice(&[DATA, dev, 0, 0])?;
-    Ok(bytes)
-}
-
-// A Data FIS with bytes of a transfer, from `offset` on, as they are in client memory.
-fn gather(
-    alloc: Global,
-    dev: u8,
-    table: &PrdTable<'_>,
-    client: &[u8],
-    offset: u32,
-    len: u32,
-) -> Result<Vec<u8>, AllocError>
-    requires client { table.now.client_len ≡ length client.now }
-    requires fits { offset + len ≤ total_of table.now.prds }
-    ensures bytes { IfOk result (λ bytes. bytes.items
-        ≡ data_fis dev (gathered table.now.prds offset len client.now)) }
-    ensures len { IfOk result (λ bytes. length bytes.items ≡ len + 4) }
-{
-    let mut bytes = data_head(alloc, dev, len)?;
-    for part in table.parts(client, offset, len) {
-        bytes.extend_from_slice(part)?;
-    }
-    Ok(bytes)
 }
 
 // The frame of a command.
@@ -234,7 +198,7 @@ fn failed(registers: Registers, interrupts: u32) -> Registers
     }
 }
 
-impl HostPort {
+impl PortCore {
     // The device to which data goes next.
     #[tactic(auto, unfolding(crate::specs::Sending::next_receiver))]
     pub(crate) fn next_receiver(&self) -> Option<u8>
@@ -246,7 +210,7 @@ impl HostPort {
     }
 
     // The slot whose command goes out next.
-    fn next_to_send(&self) -> Option<u8>
+    pub(crate) fn next_to_send(&self) -> Option<u8>
         ensures value { result ≡ next_to_send_of self.now }
         ensures may { IfSome result (λ slot. (slot < 32) × MayBeSent self.now.slots slot) }
     {
@@ -255,7 +219,7 @@ impl HostPort {
         self.slots.next_command(ready, faulty)
     }
 
-    fn fail(&mut self)
+    pub(crate) fn fail(&mut self)
         ensures { self.new ≡ stopped_by_bus self.old }
     {
         let interrupts = self.errors.port(PortCause::Bus);
@@ -263,7 +227,7 @@ impl HostPort {
     }
 
     // The data that is due to a device goes out.
-    fn feed(&mut self, dev: u8)
+    pub(crate) fn feed(&mut self, dev: u8)
         requires dev { dev < 16 }
         requires due { IsSome (payload_of (context_of self.old.slots dev)) }
         ensures own { view_of dev self.new ≡ view_fed (view_of dev self.old) }
@@ -276,36 +240,6 @@ impl HostPort {
     {
         self.slots.payload_gone(dev);
         self.number = self.number.saturating_add(1);
-    }
-
-    // Gives the data that is due to a device.
-    fn give_data(
-        &mut self,
-        alloc: Global,
-        dev: u8,
-        memory: &HostMemory,
-    ) -> Result<Option<Frame>, AllocError>
-        requires dev { dev < 16 }
-        requires due { IsSome (payload_of (context_of self.old.slots dev)) }
-        ensures gives { IfOk result (λ frame. Gives (data_due self.old memory.now dev)
-            self.old memory.now frame self.new) }
-        ensures stops { result ≡ Ok None → is_some self.new.errors.port ≡ true }
-        ensures refused { OnErr result ((self.new ≡ self.old)
-            × (is_sent (data_due self.old memory.now dev) ≡ true)) }
-    {
-        let Some((slot, offset, len)) = self.slots.next_payload(dev) else {
-            unreachable!();
-        };
-        let (structure, client) = (memory.structure(), memory.client());
-        let found = sound_table(&self.slots, structure, client, &self.commands, dev, slot);
-        let Some(table) = found else {
-            self.fail();
-            return Ok(None);
-        };
-        let bytes = gather(alloc, dev, &table, client, offset, len)?;
-        let frame = Frame::from_vec(bytes, stamp(dev, self.number));
-        self.feed(dev);
-        Ok(Some(frame))
     }
 
     // The command of a device's slot goes out.
@@ -330,7 +264,11 @@ impl HostPort {
     }
 
     // Gives the command of a slot.
-    fn give_order(&mut self, alloc: Global, slot: u8) -> Result<Option<Frame>, AllocError>
+    pub(crate) fn give_order(
+        &mut self,
+        alloc: Global,
+        slot: u8,
+    ) -> Result<Option<Frame>, AllocError>
         requires slot { slot < 32 }
         requires may { MayBeSent self.old.slots slot }
         ensures gives { (memory : Memory) → IfOk result (λ frame. Gives (order_due self.old slot)
@@ -346,32 +284,5 @@ impl HostPort {
         let frame = order_frame(alloc, dev, &command.cfis, self.number)?;
         self.send(slot, dev, &command);
         Ok(Some(frame))
-    }
-
-    /// Gives the next frame to go out, if there is one. Data comes first, for the lowest device that asked
-    /// for it, with the bytes that are in client memory now. The command of the lowest slot that may be sent
-    /// comes next. A PRD table that can no longer be used stops the port. If memory for the frame is refused,
-    /// nothing changes.
-    pub fn next_out(
-        &mut self,
-        alloc: Global,
-        memory: &HostMemory,
-    ) -> Result<Option<Frame>, AllocError>
-        ensures gives { IfOk result (λ frame. Gives (outgoing self.old memory.now)
-            self.old memory.now frame self.new) }
-        ensures rests { (result ≡ Ok None) × (self.new ≡ self.old) → MayRest self.old }
-        ensures refused { OnErr result ((self.new ≡ self.old)
-            × (is_sent (outgoing self.old memory.now) ≡ true)) }
-    {
-        if !self.is_running() {
-            return Ok(None);
-        }
-        if let Some(dev) = self.next_receiver() {
-            return self.give_data(alloc, dev, memory);
-        }
-        let Some(slot) = self.next_to_send() else {
-            return Ok(None);
-        };
-        self.give_order(alloc, slot)
     }
 }

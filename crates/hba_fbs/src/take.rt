@@ -1,26 +1,24 @@
 //! Taking a FIS from a device.
 
-ghost use Rattle.std.specs.Prelude.{ℕ, List, ◌≡◌, ◌≢◌, ◌<◌, ◌≤◌, ◌+◌, ◌-◌, ◌||◌, None, Some, Ok, false, true, drop, is_some, length, IfSome};
+ghost use Rattle.std.specs.Prelude.{ℕ, Bool, ◌≡◌, ◌≢◌, ◌<◌, ◌≤◌, ◌+◌, ◌||◌, None, Some, Ok, false, true, drop, is_some, length, IfSome, MatchOption};
 ghost use Rattle.fis_view.specs.Seen.{frame_of, seen};
-ghost use Rattle.host_memory.specs.Memory.{Memory};
 ghost use Rattle.port_errors.specs.Errors.{KeepsCauses, cause_of};
-ghost use Rattle.slots.specs.Slots.{KeepsFree, issue_at, owned_by, slots_of};
-ghost use Rattle.hba_fbs.specs.Posting.{posted as posted_registers};
+ghost use Rattle.slots.specs.Data.{receiving_slot};
+ghost use Rattle.slots.specs.Slots.{KeepsFree, context_of, issue_at, owned_by, slots_of};
 ghost use Rattle.hba_fbs.specs.Registers.{AreRegisters};
-ghost use Rattle.hba_fbs.specs.Tables.{Delivers, is_sound};
-ghost use Rattle.hba_fbs.specs.Taking.{Hears, Ignores, PostsIn, Takes, admitted, device_cause, errors_in, fault_interrupts, heard_now, heard_report, heard_view, ignored_report, ignores, is_ignored as is_ignored_of, is_running as is_running_of, is_of_transfer as is_of_transfer_of, owns_none as owns_none_of, passes_over as passes_over_of, place_in, port_of, row_for, settled as settled_registers, wrote_by};
-ghost use Rattle.hba_fbs.specs.Views.{LeavesOtherViews, view_of};
+ghost use Rattle.hba_fbs.specs.Deciding.{Decides, Passes, carries};
+ghost use Rattle.hba_fbs.specs.Taking.{admitted, device_cause, errors_in, fault_interrupts, ignored_report, ignores, is_ignored as is_ignored_of, is_running as is_running_of, is_of_transfer as is_of_transfer_of, owns_none as owns_none_of, passes_over as passes_over_of, place_in, port_of, row_for, settled as settled_registers};
+ghost use Rattle.hba_fbs.specs.Views.{view_of};
 
 use crate::bits::raised;
 use crate::hearing::{Fault, Heard, bad, hear, is_admitted};
-use crate::port::HostPort;
-use crate::post::{post, posted, signs};
+use crate::port::PortCore;
+use crate::post::{place_of, posted, signs};
 use crate::registers::Registers;
 use crate::report::TakeReport;
 use crate::state::state_of;
 use bitflags::Flags;
 use fis_view::{Fis, FisFault, Frame};
-use host_memory::HostMemory;
 use port_errors::{Interrupts, PortErrors};
 use rx_area::Posted;
 use slots::SlotTable;
@@ -58,7 +56,7 @@ fn settled(registers: Registers, heard: Heard, interrupts: u32) -> Registers
 }
 
 // The FIS, if its length is right and it may come from this PM Port.
-fn admit(dev: u8, fis: Result<Fis<'_>, FisFault>) -> Option<Fis<'_>>
+pub(crate) fn admit(dev: u8, fis: Result<Fis<'_>, FisFault>) -> Option<Fis<'_>>
     ensures value { result ≡ admitted dev fis.entry }
     ensures is { IfSome result (λ f. fis.entry ≡ Ok f) }
 {
@@ -102,28 +100,24 @@ fn owns_none(slots: &SlotTable, dev: u8) -> bool
     true
 }
 
-// Posts a FIS in a row of the received area at `fb`, if there is one.
-fn post_in(memory: &mut HostMemory, fb: u32, row: Option<u8>, fis: &Fis<'_>) -> Posted
-    requires area { fb + 4096 ≤ 1048576 }
-    requires row { IfSome row (λ n. n < 16) }
-    ensures posted { result ≡ place_in row (Some fis.now) }
-    ensures posts { PostsIn fb row (Some fis.now) memory.old.structure memory.new.structure }
-    ensures client { memory.new.client ≡ memory.old.client }
+// Where a FIS is posted, in a row of the received area, if there is one.
+fn place_for(row: Option<u8>, fis: &Fis<'_>) -> Posted
+    ensures { result ≡ place_in row (Some fis.now) }
 {
     match row {
-        Some(row) => post(memory, fb, row, fis),
+        Some(_) => place_of(fis),
         None => Posted::Nothing,
     }
 }
 
-impl HostPort {
+impl PortCore {
     pub(crate) fn is_running(&self) -> bool
         ensures { result ≡ is_running_of self.now }
     {
         self.registers.started && !self.errors.stopped()
     }
 
-    fn is_ignored(&self, dev: u8, fis: &Result<Fis<'_>, FisFault>) -> bool
+    pub(crate) fn is_ignored(&self, dev: u8, fis: &Result<Fis<'_>, FisFault>) -> bool
         requires { dev < 16 }
         ensures { result
             ≡ (passes_over_of self.now.registers.switching dev (view_of dev self.now) fis.now
@@ -145,7 +139,7 @@ impl HostPort {
     }
 
     // The row of the received area in which FISes of a device are posted.
-    fn row(&self, dev: u8) -> Option<u8>
+    pub(crate) fn row(&self, dev: u8) -> Option<u8>
         requires { dev < 16 }
         ensures is { result ≡ row_for self.now dev }
         ensures low { IfSome result (λ row. row < 16) }
@@ -160,12 +154,12 @@ impl HostPort {
     }
 
     // Hears a frame that is no FIS, or a FIS that may not come from this PM Port.
-    fn hear_bad(&mut self, dev: u8) -> TakeReport
+    pub(crate) fn hear_bad(&mut self, dev: u8) -> TakeReport
         requires dev { dev < 16 }
-        requires sound { (view_of dev self.old).fault ≡ None }
-        ensures takes { (memory : Memory) → (payload : List ℕ)
-            → Takes self.old memory dev None payload result self.new memory }
+        requires healthy { (view_of dev self.old).fault ≡ None }
+        ensures decides { (sound : Bool) → Decides self.old dev sound None result self.new }
         ensures kept { KeepsCauses self.old.errors self.new.errors }
+        ensures unwritten { result.wrote ≡ None }
     {
         let heard = bad(dev, state_of(&self.states, dev));
         let switching = self.registers.switching;
@@ -175,38 +169,23 @@ impl HostPort {
     }
 
     // Hears a FIS that may come from this PM Port.
-    fn hear_good(&mut self, dev: u8, fis: &Fis<'_>, memory: &mut HostMemory) -> TakeReport
+    pub(crate) fn hear_good(&mut self, dev: u8, sound: bool, fis: &Fis<'_>) -> TakeReport
         requires dev { dev < 16 }
-        requires sound { (view_of dev self.old).fault ≡ None }
-        requires running { self.old.registers.started ≡ true }
-        ensures own { view_of dev self.new
-            ≡ heard_view dev (view_of dev self.old)
-            (is_sound memory.old self.old.commands (view_of dev self.old).slots) (Some fis.now) }
-        ensures others { LeavesOtherViews dev self.old self.new }
-        ensures reports { result
-            ≡ heard_report dev (place_in (row_for self.old dev) (Some fis.now))
-            (heard_now self.old memory.old dev (Some fis.now)) }
-        ensures registers { self.new.registers
-            ≡ settled_registers (posted_registers self.old.registers dev
-            (view_of dev self.old).state.resetting fis.now)
-            (heard_now self.old memory.old dev (Some fis.now)) }
-        ensures errors { self.new.errors
-            ≡ errors_in self.old.registers.switching self.old.errors dev
-            (heard_now self.old memory.old dev (Some fis.now)).fault }
-        ensures commands { self.new.commands ≡ self.old.commands }
-        ensures number { self.new.number ≡ self.old.number }
-        ensures active { self.new.active ≡ self.old.active }
-        ensures frees { KeepsFree self.old.slots self.new.slots }
-        ensures posts { PostsIn self.old.registers.fb (row_for self.old dev) (Some fis.now)
-            memory.old.structure memory.new.structure }
-        ensures client { Delivers memory.old self.old.commands (drop 4 (frame_of fis.now))
-            (wrote_by (heard_now self.old memory.old dev (Some fis.now)).happening)
-            memory.new.client }
+        requires healthy { (view_of dev self.old).fault ≡ None }
+        ensures decides { Decides self.old dev sound (Some fis.now) result self.new }
         ensures kept { KeepsCauses self.old.errors self.new.errors }
+        ensures unwritten { carries sound fis.now ≡ false → result.wrote ≡ None }
+        ensures len { IfSome result.wrote
+            (λ wrote. wrote.len ≡ length (drop 4 (frame_of fis.now))) }
+        ensures slot { IfSome result.wrote (λ wrote.
+            receiving_slot (context_of self.old.slots dev) ≡ Some wrote.slot) }
+        ensures fits { IfSome result.wrote (λ wrote. MatchOption
+            (issue_at self.old.slots wrote.slot) ⊥
+            (λ issue. wrote.offset + wrote.len ≤ issue.work.len)) }
     {
         let state = state_of(&self.states, dev);
-        let heard = hear(&mut self.slots, memory, &self.commands, dev, state, fis);
-        let place = post_in(memory, self.registers.fb, self.row(dev), fis);
+        let heard = hear(&mut self.slots, dev, state, sound, fis);
+        let place = place_for(self.row(dev), fis);
         let switching = self.registers.switching;
         let registers = posted(self.registers, dev, state.resetting, fis);
         let interrupts = mark(&mut self.errors, switching, dev, heard.fault);
@@ -216,41 +195,43 @@ impl HostPort {
     }
 
     // Takes a frame from this PM Port.
-    fn take_from(&mut self, dev: u8, frame: &Frame, memory: &mut HostMemory) -> TakeReport
+    fn take_from(&mut self, dev: u8, sound: bool, frame: &Frame) -> TakeReport
         requires dev { dev < 16 }
         ensures ignored { ignores dev self.old frame.now.bytes ≡ true
-            → Ignores dev self.old memory.old result self.new memory.new }
+            → Passes dev self.old result self.new }
         ensures heard { ignores dev self.old frame.now.bytes ≡ false
-            → Hears dev self.old memory.old frame.now.bytes result self.new memory.new }
+            → Decides self.old dev sound (admitted dev (seen frame.now.bytes)) result self.new }
         ensures kept { KeepsCauses self.old.errors self.new.errors }
-        ensures own { (other : ℕ) → other ≢ dev
-            → cause_of self.new.errors other ≡ cause_of self.old.errors other }
+        ensures fits { IfSome result.wrote (λ wrote. MatchOption
+            (issue_at self.old.slots wrote.slot) ⊥
+            (λ issue. wrote.offset + wrote.len ≤ issue.work.len)) }
     {
         let fis = frame.fis();
         if self.is_ignored(dev, &fis) {
             return TakeReport::ignored(dev);
         }
         match admit(dev, fis) {
-            Some(fis) => self.hear_good(dev, &fis, memory),
+            Some(fis) => self.hear_good(dev, sound, &fis),
             None => self.hear_bad(dev),
         }
     }
 
-    /// Takes a FIS from a device or from the control port. It is either ignored, or posted and heard. A
-    /// device that sends something wrong is faulty until it is flushed or cleared; the others go on. An error
-    /// of the control port or of the memory stops the port. No FIS changes a cause that already stands, and
-    /// none gives another device a cause.
-    pub fn take(&mut self, frame: &Frame, memory: &mut HostMemory) -> TakeReport
+    /// Takes a FIS from a device or from the control port. It is either ignored, or heard; then it is to be posted where
+    /// the report says, and its payload to be written as the report says. `sound` is the answer to `receiving`: whether
+    /// the PRD table of that slot can be used. A device that sends something wrong is faulty until it is flushed or
+    /// cleared; the others go on. An error of the control port or of the memory stops the port.
+    pub fn take(&mut self, sound: bool, frame: &Frame) -> TakeReport
         ensures ignored { ignores (port_of frame.now.bytes) self.old frame.now.bytes ≡ true
-            → Ignores (port_of frame.now.bytes) self.old memory.old result self.new memory.new }
+            → Passes (port_of frame.now.bytes) self.old result self.new }
         ensures heard { ignores (port_of frame.now.bytes) self.old frame.now.bytes ≡ false
-            → Hears (port_of frame.now.bytes) self.old memory.old frame.now.bytes
-            result self.new memory.new }
+            → Decides self.old (port_of frame.now.bytes) sound
+            (admitted (port_of frame.now.bytes) (seen frame.now.bytes)) result self.new }
         ensures kept { KeepsCauses self.old.errors self.new.errors }
-        ensures own { (other : ℕ) → other ≢ port_of frame.now.bytes
-            → cause_of self.new.errors other ≡ cause_of self.old.errors other }
+        ensures fits { IfSome result.wrote (λ wrote. MatchOption
+            (issue_at self.old.slots wrote.slot) ⊥
+            (λ issue. wrote.offset + wrote.len ≤ issue.work.len)) }
     {
         let dev = frame.pm_port();
-        self.take_from(dev, frame, memory)
+        self.take_from(dev, sound, frame)
     }
 }

@@ -5,3 +5,6 @@ pub mod PartLemmas
 pub mod IsolationLemmas
 pub mod GoingLemmas
 pub mod AlikeLemmas
+pub mod CoreLemmas
+pub mod CoreHostLemmas
+pub mod CoreFoldLemmas

@@ -11,4 +11,5 @@ pub mod Sent
 pub mod Keeping
 pub mod Causes
 pub mod Alike
+pub mod Cores
 pub mod Between

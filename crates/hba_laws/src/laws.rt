@@ -4,6 +4,7 @@
 ghost use Rattle.hba_laws.specs.Alike.{HistoriesByOwn, OwnFillAlike};
 ghost use Rattle.hba_laws.specs.Causes.{DeviceCausesStay, OthersFaultNone, PortCausesStay};
 ghost use Rattle.hba_laws.specs.Client.{CompletesInPlace, StandsInPlace};
+ghost use Rattle.hba_laws.specs.Cores.{HostsAreCores, HostsFoldByCore, IsFoldByOwn};
 ghost use Rattle.hba_laws.specs.Delivering.{ClientIsTouched, DataIsWithin, DoneIsCompleted, DoneReadsStand, HistoriesAreParts, OpensUntold, SparedTablesRead, ViewsAreTold};
 ghost use Rattle.hba_laws.specs.History.{CompletesOnce};
 ghost use Rattle.hba_laws.specs.Isolation.{AreAlike, GoesByOwn, IsFoldOfOwn};
@@ -87,4 +88,13 @@ pub fn isolated()
     ensures goes { GoesByOwn }
     ensures told { HistoriesByOwn }
     ensures filled { OwnFillAlike }
+{}
+
+/// A law for callers, isolation for a port that holds no memory; it runs no code. Whatever is answered about the
+/// tables, and whatever commands are offered, what belongs to a device is the fold of its own events, by the same
+/// function as beside a memory. Each event of a host is one of its core, with the answers that its memory gives.
+pub fn core_isolated()
+    ensures fold { IsFoldByOwn }
+    ensures hosts { HostsAreCores }
+    ensures derived { HostsFoldByCore }
 {}

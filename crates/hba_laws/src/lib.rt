@@ -7,4 +7,6 @@
 
 mod laws;
 
-pub use laws::{causes_stay, delivers, isolated, stays_sound, tables_stay, writes_are_gathered};
+pub use laws::{
+    causes_stay, core_isolated, delivers, isolated, stays_sound, tables_stay, writes_are_gathered,
+};

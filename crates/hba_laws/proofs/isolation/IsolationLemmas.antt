@@ -386,7 +386,7 @@ own_step n old new event lt is next does none =
 
 -- ---- lists of events
 
-after_append : (n : ℕ) (p : DevicePart) (xs ys : List OwnEvent) → part_after_all n p (xs ++ ys) ≡ part_after_all n (part_after_all n p xs) ys
+pub after_append : (n : ℕ) (p : DevicePart) (xs ys : List OwnEvent) → part_after_all n p (xs ++ ys) ≡ part_after_all n (part_after_all n p xs) ys
 after_append n p [] ys = refl
 after_append n p (x ∷ xs) ys = after_append n (part_after n p x) xs ys
 

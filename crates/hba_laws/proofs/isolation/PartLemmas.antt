@@ -30,10 +30,10 @@ kept_at o None x h = refl
 kept_at (Some i) (Some j) x h = refl
 kept_at None (Some j) x h = let e : Some j ≡ None = h refl in cc
 
-commands_kept : (old new : DeviceSlots) (f : ℕ → Option Command) → KeepsOwn old new → commands_of new f ≡ commands_of new (commands_of old f)
+pub commands_kept : (old new : DeviceSlots) (f : ℕ → Option Command) → KeepsOwn old new → commands_of new f ≡ commands_of new (commands_of old f)
 commands_kept old new f keeps = fun_ext (λ slot. kept_at (own_issue old slot) (own_issue new slot) (f slot) (keeps slot))
 
-commands_same : (v w : DeviceView) (c d : List (Option Command)) → v ≡ w → c ≡ d → commands_of v.slots (last_command c) ≡ commands_of w.slots (last_command d)
+pub commands_same : (v w : DeviceView) (c d : List (Option Command)) → v ≡ w → c ≡ d → commands_of v.slots (last_command c) ≡ commands_of w.slots (last_command d)
 commands_same v w c d p q = ap (λ (x : DeviceView). commands_of x.slots (last_command c)) p ∙ ap (λ (x : List (Option Command)). commands_of w.slots (last_command x)) q
 
 -- ---- parts

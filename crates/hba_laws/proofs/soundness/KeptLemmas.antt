@@ -72,7 +72,7 @@ posted_of_mode : (r : Registers) (dev : ℕ) (b : Bool) (fis : Option Fis) → (
 posted_of_mode r dev b None = refl
 posted_of_mode r dev b (Some fis) = posted_mode r dev b fis
 
-taken_mode : (r next : Registers) (dev : ℕ) (b : Bool) (fis : Option Fis) (h : Heard) → next ≡ settled (posted_of r dev b fis) h → next.switching ≡ r.switching
+pub taken_mode : (r next : Registers) (dev : ℕ) (b : Bool) (fis : Option Fis) (h : Heard) → next ≡ settled (posted_of r dev b fis) h → next.switching ≡ r.switching
 taken_mode r next dev b fis h is = ap (λ (x : Registers). x.switching) is ∙ settled_mode (posted_of r dev b fis) h ∙ posted_of_mode r dev b fis
 
 written_mode : (host : Host) (register : Register) (value : ℕ) → host.port.registers.started ≡ true → refusal_of register host.port host.memory value ≡ None

@@ -17,8 +17,10 @@ use Rattle.slots.proofs.Door.{none_below, own_at}
 use Rattle.hba_fbs.specs.declared.error.WriteError.{WriteError}
 use Rattle.hba_fbs.specs.declared.error.WriteError.TheVariants as refusal
 use Rattle.hba_fbs.specs.declared.register.Register.TheVariants.{Ci, Fb, Fbs}
+use Rattle.hba_fbs.specs.declared.registers.Registers.{Registers}
 use Rattle.hba_fbs.specs.Bits.{en}
 use Rattle.hba_fbs.specs.Issuing.{any_slot, asked, commands_with, is_bad, is_busy, issue_with, issued_slots, issues_with}
+use Rattle.hba_fbs.specs.Offering.{Offer, is_apart_by, is_bad_by, issue_refusal_by, refusal_by, slots_refusal_by}
 use Rattle.hba_fbs.specs.Registers.{own_refusal, running_if}
 use Rattle.hba_fbs.specs.Views.{HaveCommands, Port, last_command}
 use Rattle.hba_fbs.specs.Writing.{apart_refusal, is_apart, issue_refusal, refusal_of, slots_refusal}
@@ -39,7 +41,7 @@ test_false true e rest h = cc
 test_false false e rest h = refl
 
 -- nothing is issued in a slot in which a write issues
-none_busy : (port : Port) (memory : Memory) (value : ℕ) → port.registers.started ≡ true → refusal_of Ci port memory value ≡ None → any_slot value (is_busy port.slots) ≡ false
+pub none_busy : (port : Port) (memory : Memory) (value : ℕ) → port.registers.started ≡ true → refusal_of Ci port memory value ≡ None → any_slot value (is_busy port.slots) ≡ false
 unfolding slots_refusal
 none_busy port memory value started h =
     let both : (if port.registers.started then issue_refusal port memory value else None) ≡ None = second_none (own_refusal Ci port.registers value) (slots_refusal Ci port memory value) h in
@@ -47,6 +49,17 @@ none_busy port memory value started h =
     test_false (any_slot value (is_busy port.slots)) refusal.SlotBusy
     (if is_apart port memory value then Some (apart_refusal port.registers)
     else if any_slot value (is_bad port.registers memory) then Some refusal.BadTable
+    else None) issue
+
+-- the same where a list is offered
+pub free_by : (port : Port) (offer : Offer) (value : ℕ) → port.registers.started ≡ true → refusal_by Ci port offer value ≡ None → any_slot value (is_busy port.slots) ≡ false
+unfolding slots_refusal_by
+free_by port offer value started h =
+    let both : (if port.registers.started then issue_refusal_by port offer value else None) ≡ None = second_none (own_refusal Ci port.registers value) (slots_refusal_by Ci port offer value) h in
+    let issue : issue_refusal_by port offer value ≡ None = sym (cond-true port.registers.started (issue_refusal_by port offer value) None started) ∙ both in
+    test_false (any_slot value (is_busy port.slots)) refusal.SlotBusy
+    (if is_apart_by port offer value then Some (apart_refusal port.registers)
+    else if any_slot value (is_bad_by offer) then Some refusal.BadTable
     else None) issue
 
 -- while FRE is 1, the received area is not moved
@@ -75,6 +88,12 @@ mode_stays port memory value started h =
     let is : running_if (port.registers.started && not same) ≡ None = first_none (running_if (port.registers.started && not same)) (slots_refusal Fbs port memory value) h in
     same_bits (has_bit value en) port.registers.switching
     (started_off port.registers.started same started (test_false (port.registers.started && not same) refusal.Running None is))
+
+pub mode_own : (r : Registers) (value : ℕ) → r.started ≡ true → own_refusal Fbs r value ≡ None → has_bit value en ≡ r.switching
+unfolding own_refusal
+mode_own r value started is =
+    let same : Bool = beq (has_bit value en) r.switching in
+    same_bits (has_bit value en) r.switching (started_off r.started same started (test_false (r.started && not same) refusal.Running None is))
 
 -- ---- commands
 
@@ -167,20 +186,33 @@ slot_within n t slot some =
       | inr ge ↦ absurd (some_not_none (own_issue (slots_of n t) slot) some (get_or_past (map (owned_by n) t.issues) slot None (rw (length-map t.issues (owned_by n)) ge)))
     ]
 
-pub commands_other : (n : ℕ) (port : Port) (memory : Memory) (value : ℕ) (t : Slots) (new : List (Option Command)) → port.registers.started ≡ true → refusal_of Ci port memory value ≡ None → IsTable port.slots
-    → HaveCommands t new → slots_of n t ≡ slots_of n port.slots → new ≡ commands_with (asked port.registers memory value) port.commands
-    → commands_of (slots_of n t) (last_command new) ≡ commands_of (slots_of n port.slots) (last_command port.commands)
-commands_other n port memory value t new started accepted table have own_is new_is =
-    let a : ℕ → Option Command = asked port.registers memory value in
-    let old : List (Option Command) = port.commands in
-    let own : DeviceSlots = slots_of n port.slots in
+-- what is asked of slots in which nothing is issued
+pub none_busy_by : (t : Slots) (value : ℕ) (offered : ℕ → Option Command) → any_slot value (is_busy t) ≡ false → (slot : ℕ) → slot < 32 → is_some (issue_at t slot) ≡ true
+    → (if has_bit value slot then offered slot else None) ≡ None
+none_busy_by t value offered none slot lt busy =
+    let test : ℕ → Bool = λ s. has_bit value s && is_busy t s in
+    none_asked (has_bit value slot) (is_busy t slot) (offered slot) (none_below test 32 (no_number (lowest_below test 32) none) slot lt) busy
+
+pub commands_other_by : (n : ℕ) (before : Slots) (old : List (Option Command)) (a : ℕ → Option Command) (t : Slots) (new : List (Option Command))
+    → ((slot : ℕ) → slot < 32 → is_some (issue_at before slot) ≡ true → a slot ≡ None) → IsTable before
+    → HaveCommands t new → slots_of n t ≡ slots_of n before → new ≡ commands_with a old
+    → commands_of (slots_of n t) (last_command new) ≡ commands_of (slots_of n before) (last_command old)
+commands_other_by n before old a t new free table have own_is new_is =
+    let own : DeviceSlots = slots_of n before in
     let told : (slot : ℕ) → is_some (own_issue own slot) ≡ true → last_command new slot ≡ last_command old slot = λ slot some.
     let there : is_some (own_issue (slots_of n t) slot) ≡ true = ap (λ (x : DeviceSlots). is_some (own_issue x slot)) own_is ∙ some in
-    let within : slot < length port.slots.issues = slot_within n port.slots slot some in
-    let busy : is_some (issue_at port.slots slot) ≡ true = some_owned n (issue_at port.slots slot) (ap (λ (x : Option Issue). is_some x) (sym (own_at n port.slots slot within)) ∙ some) in
-    let none : a slot ≡ None = not_asked port memory value slot (none_busy port memory value started accepted) (omega (arith, within, table.slots)) busy in
+    let within : slot < length before.issues = slot_within n before slot some in
+    let busy : is_some (issue_at before slot) ≡ true = some_owned n (issue_at before slot) (ap (λ (x : Option Issue). is_some x) (sym (own_at n before slot within)) ∙ some) in
+    let none : a slot ≡ None = free slot (omega (arith, within, table.slots)) busy in
     ap (λ (x : List (Option Command)). last_command x slot) new_is
     ∙ command_after a old slot (λ gone. has_command n t new slot have there (ap (λ (x : List (Option Command)). last_command x slot) new_is ∙ gone))
     ∙ ap (λ (x : Option Command). option_or x (last_command old slot)) none in
     ap (λ (x : DeviceSlots). commands_of x (last_command new)) own_is
     ∙ fun_ext (λ slot. other_at (own_issue own slot) (last_command new slot) (last_command old slot) (told slot))
+
+pub commands_other : (n : ℕ) (port : Port) (memory : Memory) (value : ℕ) (t : Slots) (new : List (Option Command)) → port.registers.started ≡ true → refusal_of Ci port memory value ≡ None → IsTable port.slots
+    → HaveCommands t new → slots_of n t ≡ slots_of n port.slots → new ≡ commands_with (asked port.registers memory value) port.commands
+    → commands_of (slots_of n t) (last_command new) ≡ commands_of (slots_of n port.slots) (last_command port.commands)
+commands_other n port memory value t new started accepted table have own_is new_is =
+    commands_other_by n port.slots port.commands (asked port.registers memory value) t new
+    (λ slot lt busy. not_asked port memory value slot (none_busy port memory value started accepted) lt busy) table have own_is new_is

@@ -4,4 +4,4 @@ use Rattle.hba_fbs.proofs.issue.aimed.Given as goal
 
 -- no bit so far is set
 abbrev pub invariant-loop-slot : goal.invariant-loop-slot
-invariant-loop-slot l = (k : ℕ) → k < l.slot → has_bit l.value k ≡ false
+invariant-loop-slot g l = (k : ℕ) → k < l.slot → has_bit l.value k ≡ false

@@ -3,22 +3,22 @@ use Rattle.std.proofs.lemmas.List.{length-map}
 use Rattle.std.specs.Option.{is_some}
 use Rattle.slots.specs.Slots.{DeviceSlots, Issue, owned_by, slots_of}
 use Rattle.hba_commands.specs.declared.command.Command.{Command}
-use Rattle.hba_fbs.specs.Issuing.{asked}
+use Rattle.hba_fbs.specs.Offering.{asked_by}
 use Rattle.hba_fbs.specs.Between.{FilledTo}
 use Rattle.hba_fbs.proofs.IssueLemmas.{asked_free, command_after, commands_all, commands_step, context_step, have_step, issue_after, issues_all, issues_step}
 use Rattle.hba_fbs.proofs.issue.issue_all.Goals as goal
 
 pub issue_one-requires-clause-free : goal.issue_one-requires-clause-free
-issue_one-requires-clause-free c some =
-    asked_free c.args.registers c.args.memory.now c.args.dev c.args.value c.loop-slot.slot c.args.slots.now c.loop-slot.slots c.loop-slot-test.true c.requires.free
+issue_one-requires-clause-free g c some =
+    asked_free (g.O.Offers.offer c.args.offers.now) c.args.dev c.args.value c.loop-slot.slot c.args.slots.now c.loop-slot.slots c.loop-slot-test.true c.requires.free
     (ap is_some (sym c.asked-command.ensures.value) ∙ some) c.loop-slot.invariant.others (c.loop-slot.invariant.issues.rest c.loop-slot.slot (omega arith))
 
 pub loop-slot-preserved : goal.loop-slot-preserved
-loop-slot-preserved c =
+loop-slot-preserved g c =
     let dev : ℕ = c.args.dev in
     let n : ℕ = c.loop-slot.slot in
     let command : Option Command = c.asked-command.result in
-    let wanted : ℕ → Option Command = asked c.args.registers c.args.memory.now c.args.value in
+    let wanted : ℕ → Option Command = asked_by (g.O.Offers.offer c.args.offers.now) c.args.value in
     let first : List (Option Issue) = (slots_of dev c.args.slots.now).issues in
     let is : wanted n ≡ command = sym c.asked-command.ensures.value in
     let below : n < 32 = c.loop-slot-test.true in
@@ -36,12 +36,12 @@ loop-slot-preserved c =
     }
 
 pub returns-clause-own : goal.returns-clause-own
-returns-clause-own c =
+returns-clause-own g c =
     let dev : ℕ = c.args.dev in
     let past : length (slots_of dev c.args.slots.now).issues ≤ c.loop-slot.slot = omega (arith, length-map c.args.slots.now.issues (owned_by dev), c.keeps_rules.ensures.slots) in
     issues_all dev c.loop-slot.slot _ (slots_of dev c.args.slots.now) (slots_of dev c.loop-slot.slots) past c.loop-slot.invariant.context c.loop-slot.invariant.issues
 
 pub returns-clause-commands : goal.returns-clause-commands
-returns-clause-commands c =
+returns-clause-commands g c =
     let past : length c.args.commands.now ≤ c.loop-slot.slot = omega (arith, c.told-commands) in
     commands_all c.loop-slot.slot _ c.args.commands.now c.loop-slot.commands past c.loop-slot.invariant.commands

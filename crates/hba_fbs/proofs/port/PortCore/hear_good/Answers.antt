@@ -1,0 +1,14 @@
+use Rattle.std.proofs.Common.{◌∙◌}
+use Rattle.hba_fbs.proofs.port.PortCore.hear_good.Goals as goal
+
+pub returns-clause-unwritten : goal.returns-clause-unwritten
+returns-clause-unwritten c none = c.heard.ensures.wrote ∙ c.hear-heard.ensures.unwritten none
+
+pub returns-clause-len : goal.returns-clause-len
+returns-clause-len c = rw c.heard.ensures.wrote c.hear-heard.ensures.len
+
+pub returns-clause-slot : goal.returns-clause-slot
+returns-clause-slot c = rw (← c.self.view_is) (rw c.heard.ensures.wrote c.hear-heard.ensures.slot)
+
+pub returns-clause-fits : goal.returns-clause-fits
+returns-clause-fits c = rw (← c.self.view_is) (rw c.heard.ensures.wrote c.hear-heard.ensures.fits)

@@ -1,0 +1,13 @@
+use Rattle.hba_laws.proofs.isolation.CoreFoldLemmas.{hosts_fold_by_core}
+use Rattle.hba_laws.proofs.isolation.CoreHostLemmas.{hosts_are_cores}
+use Rattle.hba_laws.proofs.isolation.CoreLemmas.{fold_by_own}
+use Rattle.hba_laws.proofs.laws.core_isolated.Goals as goal
+
+pub returns-clause-fold : goal.returns-clause-fold
+returns-clause-fold c = fold_by_own
+
+pub returns-clause-hosts : goal.returns-clause-hosts
+returns-clause-hosts c = hosts_are_cores
+
+pub returns-clause-derived : goal.returns-clause-derived
+returns-clause-derived c = hosts_fold_by_core
