@@ -15,4 +15,7 @@ pub mod DisksLemmas
 pub mod FlushedLemmas
 pub mod AnewLemmas
 pub mod EndsRuns
+pub mod PulledLemmas
+pub mod ComingLemmas
+pub mod StageRuns
 pub mod HonestRuns

@@ -31,7 +31,7 @@ use Rattle.hba_driver.specs.Drivers.{Entry, entry_at, rephased}
 use Rattle.hba_driver.specs.HostTurns.{HostTurn}
 use Rattle.hba_driver.specs.Orders.{is_queued}
 use Rattle.pm_world.specs.Attached.{Attached, Modelled}
-use Rattle.pm_world.specs.PathEnds.{injects, unplugs}
+use Rattle.pm_world.specs.PathEnds.{injects}
 use Rattle.pm_world.specs.Units.{happens}
 use Rattle.pm_world.specs.Places.{Places, is_config, new_world}
 use Rattle.pm_world.specs.Rules.{Rule, Run}
@@ -57,13 +57,9 @@ pub record IsNewDisk (units : List Attached) (n : ℕ) (plan : DiskPlan) (sector
   pub sectors_are : disk.sectors ≡ sectors
   pub size : IsSize plan sectors
 
--- nothing is injected at port n, and the unit there is not unplugged
-pub record IsLeftAlone (n : ℕ) (steps : List Step) : Type 0 where
-  pub clean : list_any (injects n) steps ≡ false
-  pub stays : list_any (unplugs n) steps ≡ false
-
 -- A world came from a new one by any run. Then the disk at port n was plugged in, as connection conn,
--- and was left alone from there on.
+-- and was left alone from there on: nothing was injected at its port. It may have been unplugged since, and
+-- plugged in again.
 pub record DiskRun (config : Config) (units : List Attached) (n : ℕ) (now : Places) : Type 0 where
   pub first : List Step
   pub told : List Answer
@@ -73,7 +69,7 @@ pub record DiskRun (config : Config) (units : List Attached) (n : ℕ) (now : Pl
   pub steps : List Step
   pub answers : List Answer
   pub run : Run out (step.Came n ∷ steps) (answer.Came n conn ∷ answers) now
-  pub left : IsLeftAlone n steps
+  pub clean : list_any (injects n) steps ≡ false
 
 module _ (config : Config) (units : List Attached) (n : ℕ) (now : Places)
     (d : DiskRun config units n now) where
@@ -134,7 +130,7 @@ pub record TookHonestly (config : Config) (units : List Attached) (n sectors : �
       → FlushedSince config units n now d e
 
 -- Holds at each FIS of this connection that the host takes, whatever the disk and the other devices
--- do.
+-- do, even if the disk was unplugged since it sent the FIS.
 abbrev pub HonestDisks : Type 0
 HonestDisks =
     (config : Config) (units : List Attached) (n sectors : ℕ) (plan : DiskPlan)

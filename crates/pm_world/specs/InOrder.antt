@@ -4,7 +4,8 @@
 --
 -- Cited: requests that were polled (specs/Polled.antt), the run of a disk (specs/Disks.antt), which bytes a
 -- read and a write both have (specs/ReadBack.antt), and bytes in client memory (specs/Submitted.antt).
-use Rattle.std.specs.Prelude.{ℕ, ◌≡◌, ◌+◌, ◌-◌, ◌*◌, ◌<◌, suc, true, drop, List, length, slice_index, refl}
+use Rattle.std.specs.Prelude.{ℕ, ◌≡◌, ◌+◌, ◌-◌, ◌*◌, ◌<◌, suc, true, false, drop, List, length, slice_index, refl}
+use Rattle.std.specs.List.{list_any}
 use Rattle.host_memory.specs.Memory.{client_start}
 use Rattle.host_memory.specs.Place.{place}
 use Rattle.disk_model.specs.declared.plan.DiskPlan.{DiskPlan}
@@ -14,7 +15,8 @@ use Rattle.hba_driver.specs.declared.request.Work.TheVariants.{Read, Write}
 use Rattle.hba_driver.specs.Orders.{is_queued}
 use Rattle.hba_driver.specs.Submits.{new_entry}
 use Rattle.pm_world.specs.Attached.{Attached}
-use Rattle.pm_world.specs.Disks.{DiskRun, IsLeftAlone, IsNewDisk}
+use Rattle.pm_world.specs.Disks.{DiskRun, IsNewDisk}
+use Rattle.pm_world.specs.PathEnds.{injects}
 use Rattle.pm_world.specs.Places.{Places, is_config, new_world}
 use Rattle.pm_world.specs.Polled.{IsPolledHonestly}
 use Rattle.pm_world.specs.ReadBack.{IsOneByte}
@@ -31,7 +33,7 @@ use Rattle.pm_world.specs.declared.step.Answer.TheVariants as answer
 pub record IsLeftSince (n conn : ℕ) (old new : Places) (steps : List Step) (answers : List Answer)
     (run : Run old steps answers new) : Type 0 where
   pub came : IsStepOf (step.Came n) (answer.Came n conn) old new steps answers run
-  pub left : IsLeftAlone n came.after
+  pub clean : list_any (injects n) came.after ≡ false
 
 -- such a run is one of its disk
 abbrev pub disk_run : (config : Config) (units : List Attached) (n conn : ℕ) (now : Places) (steps : List Step)
@@ -46,7 +48,7 @@ disk_run config units n conn now steps answers run since = record {
   steps = since.came.after;
   answers = since.came.later;
   run = (since.came.next, since.came.rule, since.came.went);
-  left = since.left;
+  clean = since.clean;
 }
 
 -- In one run a write is polled as Done. Later a read is submitted to the same device, and is polled

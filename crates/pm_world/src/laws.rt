@@ -63,11 +63,12 @@ pub fn paths_go_on()
     ensures dropped { DroppedNeverComes }
 {}
 
-/// Holds from the plugging of a disk, the first or a later one, as long as the disk is left alone,
-/// whatever errors it reports, whatever faults the host finds in what it sends, whatever was before
-/// and whatever the other devices do. Each queued request that a FIS of this connection reports as
-/// done ended honestly, by all that the disk did since the world was made. A read has the sectors of
-/// the medium in client memory, as they were when the disk started it. A write is on the medium. If the FIS
+/// Holds from the plugging of a disk, the first or a later one, as long as the disk is left alone
+/// (nothing is injected at its port), whatever errors it reports, whatever faults the host finds in
+/// what it sends, whatever was before and whatever the other devices do. Each queued request that a FIS
+/// of this connection reports as done ended honestly, by all that the disk did since the world was
+/// made, even if the host takes that FIS after the disk was unplugged. A read has the sectors of the
+/// medium in client memory, as they were when the disk started it. A write is on the medium. If the FIS
 /// reports a Flush as done, the disk took one since that Flush was submitted.
 pub fn disks_are_honest()
     ensures { HonestDisks }

@@ -1,7 +1,7 @@
 -- For `disks_are_honest`. What a FIS of a disk that the host of a world takes reports as done ended honestly.
 use Rattle.std.proofs.Common.{◌≡◌, ◌≢◌, ◌==◌, ℕ, ◌*◌, ◌<◌, Bool, true, false, List, [], ◌∷◌, ◌++◌, refl, sym, ap, subst, ◌∙◌, inl, inr, ◌≤◌, length}
 use Rattle.std.proofs.Common.{Option, Some, None, Ok, arith}
-use Rattle.std.specs.Prelude.{◌⊎◌, if◌then◌else◌, IsSomeAnd}
+use Rattle.std.specs.Prelude.{◌⊎◌, if◌then◌else◌, IsSomeAnd, slice_get}
 use Rattle.std.specs.Option.{option_map}
 use Rattle.std.proofs.lemmas.Bool.{ne_eqb, true≢false}
 use Rattle.host_memory.specs.Memory.{Memory, is_memory_size}
@@ -21,7 +21,7 @@ use Rattle.disk_model.specs.Chunks.{sectors_at}
 use Rattle.disk_model.specs.Disks.{Moment}
 use Rattle.disk_model.specs.Disks as disks
 use Rattle.disk_model.specs.Histories.{DiskOf, Happening, Plugged, Received, Sent}
-use Rattle.disk_model.specs.Ledger.{IsSize, Written, ledger, medium_with}
+use Rattle.disk_model.specs.Ledger.{IsSize, ReadOut, Written, ledger, medium_with}
 use Rattle.disk_model.specs.Runs.{IsDiskRun, moment}
 use Rattle.disk_model.specs.Runs as runs
 use Rattle.disk_model.proofs.Door.{before_is_front, moment_after-append, writes_stay}
@@ -293,7 +293,8 @@ module _ (n len : ℕ) (below : n < 15) (right : is_memory_size len ≡ true) (p
     pub of_device : e.head.dev ≡ n
     of_device = request.of_dev
 
-    module _ (submitted : List Happening) (later_of : IsPart submitted disk) (floor : (floors slot).writes ≡ length (ledger submitted).writes) where
+    module _ (submitted : List Happening) (front : IsFront (ledger submitted).writes (ledger disk).writes)
+        (floor : (floors slot).writes ≡ length (ledger submitted).writes) where
       reads : e.head.work ≡ Read → ReadsSectors sectors slot e submitted disk new.host.memory
       reads read =
           let m : MovesAll issue.transfer e.head true = read_moves slot e.head issue.transfer read some built in
@@ -311,7 +312,7 @@ module _ (n len : ℕ) (below : n < 15) (right : is_memory_size len ≡ true) (p
               lba = ap (λ (c : Command). c.lba) b.command;
               count = ap (λ (c : Command). c.count) b.command;
             };
-            since = front_since (ledger submitted).writes b.read.before (ledger disk).writes (part_front submitted disk later_of) (before_is_front disk b.at b.read b.ended)
+            since = front_since (ledger submitted).writes b.read.before (ledger disk).writes front (before_is_front disk b.at b.read b.ended)
                 (subst (λ (m : ℕ). m ≤ length b.read.before) floor b.since);
             until = before_is_front disk b.at b.read b.ended;
             brought = λ i less.
@@ -338,3 +339,33 @@ module _ (n len : ℕ) (below : n < 15) (right : is_memory_size len ≡ true) (p
 
       pub ends_honestly : EndsHonestly sectors slot e submitted disk (filled slot (own n h.touches)) new.host.memory
       ends_honestly = record { reads = reads; writes = writes }
+
+-- what ended honestly did by what the disk did later, too, if no read and no write ended since
+pub ends_later : (sectors slot : ℕ) (e : Entry) (submitted disk whole : List Happening) (bytes : ℕ → Option ℕ) (memory : Memory)
+    → (ledger whole).writes ≡ (ledger disk).writes → (ledger whole).reads ≡ (ledger disk).reads → EndsHonestly sectors slot e submitted disk bytes memory
+    → EndsHonestly sectors slot e submitted whole bytes memory
+ends_later sectors slot e submitted disk whole bytes memory writes reads h = record {
+  reads = λ read.
+      let r : ReadsSectors sectors slot e submitted disk memory = h.reads read in
+      record {
+        at = r.at;
+        read = r.read;
+        ended = ap (λ (xs : List ReadOut). slice_get xs r.at) reads ∙ r.ended;
+        command = r.command;
+        since = r.since;
+        until = subst (IsFront r.read.before) (sym writes) r.until;
+        brought = r.brought;
+      };
+  writes = λ write.
+      let w : WritesSectors slot e submitted disk bytes = h.writes write in
+      record {
+        at = w.at;
+        written = w.written;
+        entered = ap (λ (xs : List Written). slice_get xs w.at) writes ∙ w.entered;
+        since = w.since;
+        tag = w.tag;
+        place = w.place;
+        long = w.long;
+        bytes = w.bytes;
+      };
+}

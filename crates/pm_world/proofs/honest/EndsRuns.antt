@@ -1,10 +1,9 @@
--- For `disks_are_honest`. A disk and the host of a world are ends that go on, from the step that plugs the disk in, as
--- long as the disk is left alone.
+-- For `disks_are_honest`. A disk and the host of a world are ends that go on, from the step that clears the port for the
+-- disk, as long as the disk is not unplugged.
 use Rattle.std.proofs.Common.{◌≡◌, ◌≢◌, ℕ, ◌<◌, Bool, true, false, List, [], ◌∷◌, ◌++◌, append_assoc, length, refl, sym, ap, subst, ◌∙◌, inl, inr, ◌==◌, None, Option}
 use Rattle.std.proofs.Common.{Some, Ok}
 use Rattle.std.specs.Prelude.{◌⊎◌}
-use Rattle.std.specs.List.{list_any}
-use Rattle.std.proofs.lemmas.Bool.{cases_Bool, eqb-true, false≢true, or_parts}
+use Rattle.std.proofs.lemmas.Bool.{eqb-true, false≢true}
 use Rattle.std.proofs.lemmas.List.{append-nil}
 use Rattle.host_memory.specs.Memory.{is_memory_size}
 use Rattle.disk_model.specs.declared.plan.DiskPlan.{DiskPlan}
@@ -13,16 +12,13 @@ use Rattle.disk_model.specs.Ledger.{IsSize}
 use Rattle.disk_model.specs.Runs.{IsDiskRun}
 use Rattle.disk_simulation.proofs.Door.{run_to}
 use Rattle.disk_recovery.specs.Flushes.{AreEndsSince, AreFloorsOf, Floor, IsFloor, bare_floors}
-use Rattle.disk_recovery.proofs.Door.{ends_since_go_on, floors_rise_since, floors_stay, none_in_slot, none_issued}
+use Rattle.disk_recovery.proofs.Door.{ends_since_go_on, floors_rise_since, none_in_slot, none_issued}
 use Rattle.hba_driver.specs.HostTurns.{Host, HostTurn}
 use Rattle.multiplier.specs.State.{port_at}
-use Rattle.pm_registers.specs.RegisterMap as registers
 use Rattle.pm_world.specs.Attached.{Attached}
-use Rattle.pm_world.specs.Disks.{IsLeftAlone}
 use Rattle.pm_world.specs.Cleared.{is_cleared}
 use Rattle.pm_world.specs.Places.{Places, is_config, new_world}
 use Rattle.pm_world.specs.Rules.{Rule, Run}
-use Rattle.pm_world.specs.Runs.{over}
 use Rattle.pm_world.specs.Stale.{unsent_after}
 use Rattle.pm_world.specs.Turns.{IsOfItsPort, turn_of}
 use Rattle.pm_world.specs.Units.{happens}
@@ -36,12 +32,11 @@ use Rattle.pm_world.proofs.honest.FineLemmas.{further}
 use Rattle.pm_world.proofs.ports.FirmLemmas.{IsFirm, firm_at}
 use Rattle.pm_world.proofs.serving.FirstLemmas.{comes_risen}
 use Rattle.pm_world.proofs.honest.FlushLemmas.{cut_there}
-use Rattle.pm_world.proofs.ports.KeepingLemmas.{is_there}
 use Rattle.pm_world.proofs.control_port.LineLemmas.{IsNow}
-use Rattle.pm_world.proofs.honest.LiveLemmas.{IsLive, IsOpenAt, StaysPresent, open_or_waits, stays_present}
+use Rattle.pm_world.proofs.honest.LiveLemmas.{IsLive, IsOpenAt, StaysPresent, stays_present}
 use Rattle.pm_world.proofs.meant.OrderTurns.{order_step}
 use Rattle.pm_world.proofs.upward.PortMarks.{opening_marks, run_marks}
-use Rattle.pm_world.proofs.honest.ShutLemmas.{WaitsFor, waits_after}
+use Rattle.pm_world.proofs.honest.ShutLemmas.{WaitsFor}
 use Rattle.pm_world.proofs.honest.AnewLemmas.{IsAnew, OrderedNow, cleared_anew, ends_now, now_at, ordered_on}
 use Rattle.pm_world.proofs.honest.EndsSteps.{HasEnds, HasEndsOn, IsNoTurn, IsUnflushed, ends_step, running, same_host}
 use Rattle.pm_world.proofs.honest.ExactLemmas.{GoesExact, IsOpenFor, cleared_exact, open_at, open_step}
@@ -51,22 +46,14 @@ use Rattle.disk_model.proofs.Door.{begins_anew}
 use Rattle.hba_driver.specs.Steady.{IsAskedOf, IsSteady}
 use Rattle.pm_world.proofs.serving.HostLemmas.{HostOn}
 use Rattle.pm_world.proofs.serving.TouchedLemmas.{touched_served}
-use Rattle.std.proofs.lemmas.List.Folds.{list_any-append}
 use Rattle.hba_laws.specs.Client.{own}
 use Rattle.hba_laws.specs.History.{Transfer, issued}
 use Rattle.hba_driver.specs.Drivers.{Entry, entry_at}
 use Rattle.pm_world.proofs.reported.ReportedLemmas.{IsFreeSlot}
 
 -- a run of a disk, up to a moment
-disk_front : (plan : DiskPlan) (sectors : ℕ) (xs ys : List Happening) → IsDiskRun plan sectors (xs ++ ys) → IsDiskRun plan sectors xs
+pub disk_front : (plan : DiskPlan) (sectors : ℕ) (xs ys : List Happening) → IsDiskRun plan sectors (xs ++ ys) → IsDiskRun plan sectors xs
 disk_front plan sectors xs ys run = run_to plan sectors (xs ++ ys) xs ys refl run
-
--- steps that leave a unit alone, in two parts
-pub left_parts : (n : ℕ) (xs ys : List Step) → IsLeftAlone n (xs ++ ys) → IsLeftAlone n xs × IsLeftAlone n ys
-left_parts n xs ys alone =
-    let clean = or_parts (list_any (injects n) xs) (list_any (injects n) ys) (sym (list_any-append (injects n) xs ys) ∙ alone.clean) in
-    let stays = or_parts (list_any (unplugs n) xs) (list_any (unplugs n) ys) (sym (list_any-append (unplugs n) xs ys) ∙ alone.stays) in
-    (record { clean = clean.0; stays = stays.0 }, record { clean = clean.1; stays = stays.1 })
 
 -- ## What waits at a port
 
@@ -134,11 +121,6 @@ module _ (config : Config) (units : List Attached) (fits : is_config config (len
     pub opens : IsOpenFor n c unsent now
     pub ends : HasEndsOn n c config.memory floors turns now (earlier ++ happened)
 
-  -- nothing of it passed its port yet, or so it is
-  pub data Stage (floors : ℕ → Floor) (now : Places) (happened : List Happening) (turns : List HostTurn) : Type 0 where
-    Waiting : IsWaiting n c now happened → WaitsFor n c now → Stage floors now happened turns
-    Serving : IsServing floors now happened turns → Stage floors now happened turns
-
   pub serving_step : (floors : ℕ → Floor) (before : List Step) (told : List Answer) (old : Places) → Run (new_world config units) before told old → (happened : List Happening)
       (turns : List HostTurn) → IsServing floors old happened turns → (s : Step) (a : Answer) (new : Places) → Rule old s (Ok a) new → injects n s ≡ false
       → unplugs n s ≡ false → IsDiskRun plan sectors (earlier ++ (happened ++ happens n old s a new))
@@ -160,35 +142,6 @@ module _ (config : Config) (units : List Attached) (fits : is_config config (len
             h.ends.up h.ends.both o.1.heard o.1.is o.1.moves);
       }
 
-  pub serving_run : (floors : ℕ → Floor) (before : List Step) (told : List Answer) (old : Places) → Run (new_world config units) before told old → (happened : List Happening)
-      (turns : List HostTurn) → IsServing floors old happened turns → (steps : List Step) (answers : List Answer) (new : Places)
-      (run : Run old steps answers new) → IsLeftAlone n steps
-      → IsDiskRun plan sectors (earlier ++ (happened ++ over (happens n) old steps answers new run))
-      → IsServing floors new (happened ++ over (happens n) old steps answers new run) (turns ++ over turn_of old steps answers new run)
-  serving_run floors before told old made happened turns h [] [] new run alone disk =
-      subst (λ (w : Places). IsServing floors w (happened ++ []) (turns ++ [])) (sym run)
-      (subst (λ (xs : List Happening). IsServing floors old xs (turns ++ [])) (sym (append-nil happened))
-      (subst (λ (ts : List HostTurn). IsServing floors old happened ts) (sym (append-nil turns)) h))
-  serving_run floors before told old made happened turns h [] (a ∷ answers) new run alone disk = absurd run
-  serving_run floors before told old made happened turns h (s ∷ steps) [] new run alone disk = absurd run
-  serving_run floors before told old made happened turns h (s ∷ steps) (a ∷ answers) new run alone disk =
-      let i = or_parts (injects n s) (list_any (injects n) steps) alone.clean in
-      let p = or_parts (unplugs n s) (list_any (unplugs n) steps) alone.stays in
-      let rest : List Happening = over (happens n) run.0 steps answers new run.2 in
-      let whole : (happened ++ happens n old s a run.0) ++ rest ≡ happened ++ (happens n old s a run.0 ++ rest) =
-      append_assoc happened (happens n old s a run.0) rest in
-      let later : IsDiskRun plan sectors (earlier ++ ((happened ++ happens n old s a run.0) ++ rest)) =
-      subst (λ (xs : List Happening). IsDiskRun plan sectors (earlier ++ xs)) (sym whole) disk in
-      let one : IsDiskRun plan sectors (earlier ++ (happened ++ happens n old s a run.0)) =
-      disk_front plan sectors (earlier ++ (happened ++ happens n old s a run.0)) rest
-      (subst (IsDiskRun plan sectors) (sym (append_assoc earlier (happened ++ happens n old s a run.0) rest)) later) in
-      subst (λ (xs : List Happening). IsServing floors new xs (turns ++ (turn_of old s a run.0 ++ over turn_of run.0 steps answers new run.2))) whole
-      (subst (λ (ts : List HostTurn). IsServing floors new ((happened ++ happens n old s a run.0) ++ rest) ts)
-      (append_assoc turns (turn_of old s a run.0) (over turn_of run.0 steps answers new run.2))
-      (serving_run floors (before ++ s ∷ []) (told ++ a ∷ []) run.0 (further config units fits n below before told old made s a run.0 run.1)
-      (happened ++ happens n old s a run.0) (turns ++ turn_of old s a run.0)
-      (serving_step floors before told old made happened turns h s a run.0 run.1 i.0 p.0 one) steps answers new run.2 (record { clean = i.1; stays = p.1 }) later))
-
   -- a request comes to a slot that is free
   no_entry : (slot : ℕ) (h : Host) → IsFreeSlot slot h → entry_at h.driver.entries slot ≡ None
   no_entry slot h free = by_entry (entry_at h.driver.entries slot) refl
@@ -197,44 +150,35 @@ module _ (config : Config) (units : List Attached) (fits : is_config config (len
       by_entry None is = refl
       by_entry (Some e) is = absurd (free e is)
 
-  pub serving_rises : (floors next : ℕ → Floor) (before : List Step) (told : List Answer) (old : Places) → Run (new_world config units) before told old
-      → (happened : List Happening) (turns : List HostTurn) → IsDiskRun plan sectors (earlier ++ happened) → (slot : ℕ) → slot < 30
-      → IsFreeSlot slot old.host → ((s : ℕ) → (slot == s) ≡ false → next s ≡ floors s) → IsFloor (next slot) (earlier ++ happened)
-      → IsServing floors old happened turns → IsServing next old happened turns
-  serving_rises floors next before told old made happened turns run slot low free others reached h = record {
-    unsent = h.unsent;
-    opens = h.opens;
-    ends = record {
-      down = h.ends.down;
-      up = h.ends.up;
-      exact = h.ends.exact;
-      both = record {
-        touches = h.ends.both.touches;
-        touched = h.ends.both.touched;
-        ends =
-            floors_rise_since n plan sectors old.host (earlier ++ happened) h.ends.down h.ends.up floors next h.ends.both.touches below
-            (running config.memory right plan sectors size (earlier ++ happened) run turns old (now_at config units fits before told old made)
-            h.ends.both.touches h.ends.both.touched) (λ s. may s (slot == s) refl) h.ends.both.ends;
-      };
-    };
+  pub ends_rise : (floors next : ℕ → Floor) (before : List Step) (told : List Answer) (old : Places) → Run (new_world config units) before told old
+      → (disk : List Happening) (turns : List HostTurn) → IsDiskRun plan sectors disk → (slot : ℕ) → slot < 30
+      → IsFreeSlot slot old.host → ((s : ℕ) → (slot == s) ≡ false → next s ≡ floors s) → IsFloor (next slot) disk
+      → (down up : List (List ℕ)) → HasEnds n config.memory floors turns old.host disk down up → HasEnds n config.memory next turns old.host disk down up
+  ends_rise floors next before told old made disk turns run slot low free others reached down up h = record {
+    touches = h.touches;
+    touched = h.touched;
+    ends =
+        floors_rise_since n plan sectors old.host disk down up floors next h.touches below
+        (running config.memory right plan sectors size disk run turns old (now_at config units fits before told old made)
+        h.touches h.touched) (λ s. may s (slot == s) refl) h.ends;
   }
     where
-      unissued : (t : Transfer) → issued slot (own n h.ends.both.touches) ≡ Some t → ⊥
+      unissued : (t : Transfer) → issued slot (own n h.touches) ≡ Some t → ⊥
       unissued t here =
-          none_in_slot n slot old.host h.ends.both.touches low (no_entry slot old.host free)
-          (touched_served config.memory turns old.host h.ends.both.touches right h.ends.both.touched) t here
+          none_in_slot n slot old.host h.touches low (no_entry slot old.host free)
+          (touched_served config.memory turns old.host h.touches right h.touched) t here
 
       may : (s : ℕ) (b : Bool) → (slot == s) ≡ b
-          → (next s ≡ floors s) ⊎ (((t : Transfer) → issued s (own n h.ends.both.touches) ≡ Some t → ⊥) × IsFloor (next s) (earlier ++ happened))
+          → (next s ≡ floors s) ⊎ (((t : Transfer) → issued s (own n h.touches) ≡ Some t → ⊥) × IsFloor (next s) disk)
       may s false other = inl (others s other)
       may s true at =
           let is : slot ≡ s = eqb-true slot s at in
-          inr (subst (λ (m : ℕ). ((t : Transfer) → issued m (own n h.ends.both.touches) ≡ Some t → ⊥) × IsFloor (next m) (earlier ++ happened)) is
+          inr (subst (λ (m : ℕ). ((t : Transfer) → issued m (own n h.touches) ≡ Some t → ⊥) × IsFloor (next m) disk) is
           (unissued, reached))
 
   -- ## From the plugging on
 
-  abbrev Orders : List HostTurn → Places → Type 0
+  abbrev pub Orders : List HostTurn → Places → Type 0
   Orders turns now = OrderedNow config units fits n below plan sectors size earlier first turns now
 
   -- a step that clears the port does not flush the unit
@@ -278,8 +222,30 @@ module _ (config : Config) (units : List Attached) (fits : is_config config (len
         )) h.ends;
   }
 
-  -- the port is cleared for the unit
-  begins_serving : (floors : ℕ → Floor) (before : List Step) (told : List Answer) (old : Places) → (made : Run (new_world config units) before told old)
+  -- the port is cleared, and the host and the unit that sent these are ends
+  pub begun_ends : (floors : ℕ → Floor) (before : List Step) (told : List Answer) (old : Places) (made : Run (new_world config units) before told old)
+      (turns : List HostTurn) → Orders turns old → (s : Step) (a : Answer) (new : Places) → Rule old s (Ok a) new → is_cleared n old a ≡ true
+      → (rising : List (List ℕ)) → IsDiskRun plan sectors ((earlier ++ Plugged ∷ []) ++ all_sent rising)
+      → AreFloorsOf floors ((earlier ++ Plugged ∷ []) ++ all_sent rising)
+      → HasEnds n config.memory floors (turns ++ turn_of old s a new) new.host ((earlier ++ Plugged ∷ []) ++ all_sent rising) [] rising
+  begun_ends floors before told old made turns o s a new rule cleared rising run are =
+      let both = order_step n below o.unsent old o.knows s a new rule in
+      let anew : IsAnew config units fits n below plan sectors size earlier first turns old =
+      cleared_anew config units fits n below plan sectors size earlier first before told old made o.unsent o.knows turns o.touched s a new rule both.0
+      o.ordered cleared in
+      let i : IsNow new = now_at config units fits (before ++ s ∷ []) (told ++ a ∷ []) new (further config units fits n below before told old made s a new rule) in
+      let plain : HasEnds n config.memory bare_floors (turns ++ turn_of old s a new) new.host (earlier ++ Plugged ∷ []) [] [] =
+      ends_now config units fits n below plan sectors size earlier first before told old made o.unsent o.knows turns o.touched s a new rule both.0 anew
+      (clears_unflushed old a cleared) in
+      let ends : HasEnds n config.memory bare_floors (turns ++ turn_of old s a new) new.host ((earlier ++ Plugged ∷ []) ++ all_sent rising) [] rising =
+      sends_all n config.memory below right plan sectors size bare_floors (turns ++ turn_of old s a new) new i (earlier ++ Plugged ∷ []) [] rising run
+      (subst (λ (xs : List Happening). HasEnds n config.memory bare_floors (turns ++ turn_of old s a new) new.host xs [] []) (sym (append-nil (earlier ++ Plugged ∷ [])))
+      plain) in
+      cleared_rises floors ((earlier ++ Plugged ∷ []) ++ all_sent rising) (turns ++ turn_of old s a new) new i rising run
+      (subst (λ (x : Host). Unasked x) (sym (same_host old new s a rule (clears_quiet old a cleared))) (anew_unasked anew.host)) are ends
+
+  -- and the unit is there
+  pub begins_serving : (floors : ℕ → Floor) (before : List Step) (told : List Answer) (old : Places) → (made : Run (new_world config units) before told old)
       → (happened : List Happening) (turns : List HostTurn) → Orders turns old → IsWaiting n c old happened → WaitsFor n c old → (s : Step) (a : Answer)
       (new : Places) → Rule old s (Ok a) new → injects n s ≡ false → unplugs n s ≡ false
       → IsDiskRun plan sectors (earlier ++ (happened ++ happens n old s a new)) → is_cleared n old a ≡ true
@@ -301,20 +267,9 @@ module _ (config : Config) (units : List Attached) (fits : is_config config (len
       let on : IsWaiting n c new (happened ++ happens n old s a new) = waits_on n c below old s a new rule happened h clean stays waits in
       let sent_is : earlier ++ (happened ++ happens n old s a new) ≡ (earlier ++ Plugged ∷ []) ++ all_sent on.rising =
       ap (λ (xs : List Happening). earlier ++ xs) on.is ∙ sym (append_assoc earlier (Plugged ∷ []) (all_sent on.rising)) in
-      let plain : HasEnds n config.memory bare_floors (turns ++ turn_of old s a new) new.host (earlier ++ Plugged ∷ []) [] [] =
-      ends_now config units fits n below plan sectors size earlier first before told old made o.unsent o.knows turns o.touched s a new rule both.0 anew
-      (clears_unflushed old a cleared) in
-      let ends : HasEnds n config.memory bare_floors (turns ++ turn_of old s a new) new.host ((earlier ++ Plugged ∷ []) ++ all_sent on.rising) [] on.rising =
-      sends_all n config.memory below right plan sectors size bare_floors (turns ++ turn_of old s a new) new
-      (now_at config units fits (before ++ s ∷ []) (told ++ a ∷ []) new made_on) (earlier ++ Plugged ∷ []) [] on.rising
-      (subst (IsDiskRun plan sectors) sent_is run)
-      (subst (λ (xs : List Happening). HasEnds n config.memory bare_floors (turns ++ turn_of old s a new) new.host xs [] []) (sym (append-nil (earlier ++ Plugged ∷ [])))
-      plain) in
       let raised : HasEnds n config.memory floors (turns ++ turn_of old s a new) new.host ((earlier ++ Plugged ∷ []) ++ all_sent on.rising) [] on.rising =
-      cleared_rises floors ((earlier ++ Plugged ∷ []) ++ all_sent on.rising) (turns ++ turn_of old s a new) new
-      (now_at config units fits (before ++ s ∷ []) (told ++ a ∷ []) new made_on) on.rising (subst (IsDiskRun plan sectors) sent_is run)
-      (subst (λ (x : Host). Unasked x) (sym (same_host old new s a rule (clears_quiet old a cleared))) (anew_unasked anew.host))
-      (subst (AreFloorsOf floors) sent_is are) ends in
+      begun_ends floors before told old made turns o s a new rule cleared on.rising (subst (IsDiskRun plan sectors) sent_is run)
+      (subst (AreFloorsOf floors) sent_is are) in
       record {
         unsent = ordered.unsent;
         opens = open_at config units fits n c below within (before ++ s ∷ []) (told ++ a ∷ []) new made_on ordered.unsent ordered.knows live on.off.there;
@@ -326,71 +281,3 @@ module _ (config : Config) (units : List Attached) (fits : is_config config (len
               subst (λ (xs : List Happening). HasEnds n config.memory floors (turns ++ turn_of old s a new) new.host xs [] on.rising) (sym sent_is) raised;
         };
       }
-
-  pub run_opens : (floors : ℕ → Floor) (before : List Step) (told : List Answer) (old : Places) → Run (new_world config units) before told old → (happened : List Happening)
-      (turns : List HostTurn) → Orders turns old → IsWaiting n c old happened → WaitsFor n c old → (steps : List Step) (answers : List Answer) (new : Places)
-      (run : Run old steps answers new) → IsLeftAlone n steps
-      → IsDiskRun plan sectors (earlier ++ (happened ++ over (happens n) old steps answers new run)) → AreFloorsOf floors (earlier ++ happened)
-      → Stage floors new (happened ++ over (happens n) old steps answers new run) (turns ++ over turn_of old steps answers new run)
-  run_opens floors before told old made happened turns o h waits [] [] new run alone disk are =
-      subst (λ (w : Places). Stage floors w (happened ++ []) (turns ++ [])) (sym run)
-      (subst (λ (xs : List Happening). Stage floors old xs (turns ++ [])) (sym (append-nil happened)) (Waiting h waits))
-  run_opens floors before told old made happened turns o h waits [] (a ∷ answers) new run alone disk are = absurd run
-  run_opens floors before told old made happened turns o h waits (s ∷ steps) [] new run alone disk are = absurd run
-  run_opens floors before told old made happened turns o h waits (s ∷ steps) (a ∷ answers) new run alone disk are =
-      subst (λ (xs : List Happening). Stage floors new xs (turns ++ (turn_of old s a run.0 ++ over turn_of run.0 steps answers new run.2))) whole
-      (subst (λ (ts : List HostTurn). Stage floors new ((happened ++ happens n old s a run.0) ++ over (happens n) run.0 steps answers new run.2) ts) (append_assoc turns (turn_of old s a run.0) (over turn_of run.0 steps answers new run.2))
-      (let goes_on : WaitsFor n c run.0
-      → Stage floors new ((happened ++ happens n old s a run.0) ++ over (happens n) run.0 steps answers new run.2)
-      ((turns ++ turn_of old s a run.0) ++ over turn_of run.0 steps answers new run.2) =
-      λ next. run_opens floors (before ++ s ∷ []) (told ++ a ∷ []) run.0 made_on (happened ++ happens n old s a run.0) (turns ++ turn_of old s a run.0) ordered
-      (waits_on n c below old s a run.0 run.1 happened h i.0 p.0 waits) next steps answers new run.2 apart later now_are in
-      elim (cases_Bool (is_cleared n old a)) [
-        | inl cleared ↦ by_there goes_on cleared (is_there (port_at old.multiplier n).present c)
-        | inr none ↦ goes_on (waits_after n c below old s a run.0 run.1 h.off.true_is (λ here. none) waits)
-      ]))
-    where
-      i : (injects n s ≡ false) × (list_any (injects n) steps ≡ false)
-      i = or_parts (injects n s) (list_any (injects n) steps) alone.clean
-
-      p : (unplugs n s ≡ false) × (list_any (unplugs n) steps ≡ false)
-      p = or_parts (unplugs n s) (list_any (unplugs n) steps) alone.stays
-
-      apart : IsLeftAlone n steps
-      apart = record { clean = i.1; stays = p.1 }
-
-      made_on : Run (new_world config units) (before ++ s ∷ []) (told ++ a ∷ []) run.0
-      made_on = further config units fits n below before told old made s a run.0 run.1
-
-      ordered : Orders (turns ++ turn_of old s a run.0) run.0
-      ordered = ordered_on config units fits n below plan sectors size earlier first before told old made turns o s a run.0 run.1
-
-      whole : (happened ++ happens n old s a run.0) ++ over (happens n) run.0 steps answers new run.2
-          ≡ happened ++ (happens n old s a run.0 ++ over (happens n) run.0 steps answers new run.2)
-      whole = append_assoc happened (happens n old s a run.0) (over (happens n) run.0 steps answers new run.2)
-
-      later : IsDiskRun plan sectors (earlier ++ ((happened ++ happens n old s a run.0) ++ over (happens n) run.0 steps answers new run.2))
-      later = subst (λ (xs : List Happening). IsDiskRun plan sectors (earlier ++ xs)) (sym whole) disk
-
-      now_are : AreFloorsOf floors (earlier ++ (happened ++ happens n old s a run.0))
-      now_are =
-          subst (AreFloorsOf floors) (append_assoc earlier happened (happens n old s a run.0))
-          (floors_stay floors (earlier ++ happened) (happens n old s a run.0) are)
-
-      one : IsDiskRun plan sectors (earlier ++ (happened ++ happens n old s a run.0))
-      one =
-          disk_front plan sectors (earlier ++ (happened ++ happens n old s a run.0)) (over (happens n) run.0 steps answers new run.2)
-          (subst (IsDiskRun plan sectors) (sym (append_assoc earlier (happened ++ happens n old s a run.0) (over (happens n) run.0 steps answers new run.2))) later)
-
-      by_there : (WaitsFor n c run.0 → Stage floors new ((happened ++ happens n old s a run.0) ++ over (happens n) run.0 steps answers new run.2)
-          ((turns ++ turn_of old s a run.0) ++ over turn_of run.0 steps answers new run.2)) → is_cleared n old a ≡ true
-          → ((port_at old.multiplier n).present ≡ Some c) ⊎ ((port_at old.multiplier n).present ≢ Some c)
-          → Stage floors new ((happened ++ happens n old s a run.0) ++ over (happens n) run.0 steps answers new run.2)
-          ((turns ++ turn_of old s a run.0) ++ over turn_of run.0 steps answers new run.2)
-      by_there goes_on cleared (inr other) = goes_on (waits_after n c below old s a run.0 run.1 h.off.true_is (λ here. absurd (other here)) waits)
-      by_there goes_on cleared (inl here) = elim (open_or_waits (registers.port_at run.0.multiplier.registers n)) [
-        | inl opens ↦
-            Serving (serving_run floors (before ++ s ∷ []) (told ++ a ∷ []) run.0 made_on (happened ++ happens n old s a run.0) (turns ++ turn_of old s a run.0)
-            (begins_serving floors before told old made happened turns o h waits s a run.0 run.1 i.0 p.0 one cleared here opens now_are) steps answers new run.2 apart later)
-        | inr told_still ↦ goes_on (λ present. told_still)
-      ]

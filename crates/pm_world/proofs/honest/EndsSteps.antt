@@ -272,7 +272,7 @@ module _ (n len : ℕ) (below : n < 15) (right : is_memory_size len ≡ true) (p
             (λ one_run. (ends_since_go_on n plan sectors).0.beside old.host one.0 new.host one_run disk down up floors h.touches below (runs disk run) one.1.1 h.ends)
 
     -- the host gives one to it
-    gives_one_to : (bytes : List ℕ) → IsDiskRun plan sectors disk → a ≡ answer.Pushed → IsAtHost n old a new (Received bytes ∷ [])
+    pub gives_one_to : (bytes : List ℕ) → IsDiskRun plan sectors disk → a ≡ answer.Pushed → IsAtHost n old a new (Received bytes ∷ [])
         → HasEnds n len floors (turns ++ turn_of old s a new) new.host disk (down ++ bytes ∷ []) up
     gives_one_to bytes run told is =
         let its : Rule old s (Ok answer.Pushed) new = subst (λ (b : Answer). Rule old s (Ok b) new) told rule in
@@ -299,7 +299,7 @@ module _ (n len : ℕ) (below : n < 15) (right : is_memory_size len ≡ true) (p
         ((ends_since_go_on n plan sectors).1.sends old.host disk down up bytes floors h.touches below (runs (disk ++ Sent bytes ∷ []) run) h.ends)
 
     -- the host takes its next one
-    takes_one : (c number : ℕ) (bytes : List ℕ) (later : List (List ℕ)) (report : TakeReport) → IsDiskRun plan sectors disk → IsOfItsPort a
+    pub takes_one : (c number : ℕ) (bytes : List ℕ) (later : List (List ℕ)) (report : TakeReport) → IsDiskRun plan sectors disk → IsOfItsPort a
         → a ≡ answer.Took n c number (marked bytes n) report → up ≡ bytes ∷ later → HasEnds n len floors (turns ++ turn_of old s a new) new.host disk down later
     takes_one c number bytes later report run its told is =
         let own_rule : Rule old s (Ok (answer.Took n c number (marked bytes n) report)) new = subst (λ (b : Answer). Rule old s (Ok b) new) told rule in

@@ -1,31 +1,31 @@
 -- For `disks_are_honest`. Honest disks on each connection, over whole runs of a world.
-use Rattle.std.proofs.Common.{◌≡◌, ◌≢◌, ◌==◌, ℕ, ◌<◌, Bool, true, false, List, [], ◌∷◌, ◌++◌, append_assoc, length, refl, sym, ap, subst, ◌∙◌, inl, inr, Some}
+use Rattle.std.proofs.Common.{◌≡◌, ◌==◌, ℕ, ◌<◌, Bool, true, false, List, [], ◌∷◌, ◌++◌, append_assoc, length, refl, sym, ap, subst, ◌∙◌, inl, inr, Some}
 use Rattle.std.proofs.Common.{Ok, arith}
-use Rattle.std.specs.Prelude.{MatchBool, if◌then◌else◌, slice_get}
-use Rattle.std.proofs.lemmas.Bool.{eq-eqb, eqb-true, true≢false}
+use Rattle.std.specs.Prelude.{if◌then◌else◌, slice_get}
+use Rattle.std.specs.List.{list_any}
+use Rattle.std.proofs.lemmas.Bool.{eq-eqb, eqb-true, or_parts}
+use Rattle.std.proofs.lemmas.List.Folds.{list_any-append}
 use Rattle.std.proofs.lemmas.Option.{slice_get_within}
 use Rattle.fis_view.specs.Frames.{marked}
 use Rattle.host_memory.specs.Memory.{is_memory_size}
 use Rattle.hba_fbs.specs.declared.report.TakeReport.{TakeReport}
 use Rattle.hba_fbs.specs.Taking.{port_of}
-use Rattle.multiplier.specs.Arbiter.{control_port}
 use Rattle.disk_model.specs.declared.plan.DiskPlan.{DiskPlan}
 use Rattle.disk_model.specs.declared.unit.Unit.TheVariants.{Disk}
-use Rattle.disk_model.specs.Histories.{Happening, Plugged, Sent}
+use Rattle.disk_model.specs.Histories.{Happening, Plugged}
 use Rattle.disk_model.specs.Runs.{IsDiskRun}
 use Rattle.hba_driver.specs.declared.mode.Mode.TheVariants.{Switching}
 use Rattle.hba_driver.specs.HostTurns.{HostTurn}
 use Rattle.disk_simulation.proofs.Door.{run_to}
 use Rattle.pm_world.specs.Attached.{Attached, Modelled, plan_of}
-use Rattle.pm_world.specs.Disks.{Before, DiskRun, EndedSince, FlushedSince, HonestDisks, IsLeftAlone, IsNewDisk, Since, WasSubmitted, disk_history, host_turns}
-use Rattle.pm_world.specs.Places.{IsOrderly, Places, is_config, new_world}
+use Rattle.pm_world.specs.Disks.{Before, DiskRun, EndedSince, FlushedSince, HonestDisks, IsNewDisk, Since, WasSubmitted, disk_history, host_turns}
+use Rattle.pm_world.specs.Places.{Places, is_config, new_world}
 use Rattle.pm_world.specs.Rules.{Rule, Run}
 use Rattle.pm_world.specs.Runs.{IsStepOf, over}
 use Rattle.pm_world.specs.HostTouches.{AreTouched}
 use Rattle.pm_world.specs.Turns.{turn_of}
 use Rattle.pm_world.specs.Units.{MaySendAll, happens}
-use Rattle.pm_world.specs.DevicePaths.{Comes, Gives, GoesOnPath, IsOnPath, Sends, Still, Takes, PathMoves}
-use Rattle.pm_world.specs.PathEnds.{IsAtHost}
+use Rattle.pm_world.specs.PathEnds.{injects}
 use Rattle.pm_world.specs.declared.step.Answer.{Answer}
 use Rattle.pm_world.specs.declared.step.Answer.TheVariants as answer
 use Rattle.pm_world.specs.declared.step.Config.{Config}
@@ -34,23 +34,23 @@ use Rattle.pm_world.specs.declared.step.Step.TheVariants as step
 use Rattle.pm_world.proofs.honest.AnewLemmas.{OrderedNow, now_at, order_run, ordered_after, ordered_on}
 use Rattle.pm_world.proofs.turns.Delivery.{sized}
 use Rattle.pm_world.specs.ReadBack.{IsPart}
-use Rattle.pm_world.proofs.honest.DisksLemmas.{ends_honestly, flush_of_device, flush_taken, from_opening, lived_run, may_run, of_device}
-use Rattle.pm_world.proofs.ports.EachLemmas.{Each}
+use Rattle.pm_world.proofs.honest.DisksLemmas.{ends_honestly, ends_later, flush_of_device, flush_taken, from_opening, lived_run, may_run, of_device}
+use Rattle.pm_world.proofs.honest.DisksLemmas.{part_front}
 use Rattle.pm_world.proofs.honest.EarlyLemmas.{ComesShut, comes_shut}
-use Rattle.pm_world.proofs.honest.EndsRuns.{IsServing, Serving, Stage, Waiting, its_port, left_parts, run_opens, serving_rises, serving_run}
-use Rattle.pm_world.proofs.honest.EndsSteps.{HasEnds}
+use Rattle.pm_world.proofs.honest.EndsRuns.{its_port}
+use Rattle.pm_world.proofs.honest.StageRuns.{Hears, Stage, Waiting, hears, stage_rises, stage_run}
 use Rattle.pm_world.proofs.honest.TakenLemmas.{took_since}
 use Rattle.pm_world.proofs.honest.FineLemmas.{further}
 use Rattle.pm_world.proofs.upward.Law.{run_append}
-use Rattle.pm_world.proofs.upward.FrameMoves.{rule_moves}
 use Rattle.pm_world.proofs.paths.RunLemmas.{if_some}
-use Rattle.pm_world.proofs.honest.ShutLemmas.{IsNoneOf}
 use Rattle.pm_world.proofs.units.Units.{units_lived_on}
 use Rattle.pm_world.proofs.honest.WaitingLemmas.{IsWaiting, came_waiting}
-use Rattle.pm_world.proofs.paths.PathLemmas.{paths_go_on}
 use Rattle.std.proofs.lemmas.List.{append-nil}
 use Rattle.slots.specs.Slots.{has_bit}
+use Rattle.disk_model.specs.Fronts.{IsFront}
 use Rattle.disk_model.specs.Ledger.{ledger}
+use Rattle.hba_laws.specs.Client.{own}
+use Rattle.hba_laws.specs.History.{filled}
 use Rattle.hba_driver.specs.Drivers.{Entry, entry_at, rephased}
 use Rattle.hba_driver.specs.Orders.{is_queued}
 use Rattle.hba_driver.specs.Submits.{new_entry}
@@ -62,41 +62,6 @@ use Rattle.disk_recovery.proofs.Door.{floor_stays}
 use Rattle.hba_driver.proofs.Door as accept
 use Rattle.pm_world.proofs.reported.ReportedLemmas.{StoodIn, SubmittedIn, later_of, renamed, step_stood, submitted_over}
 use Rattle.pm_world.proofs.control_port.LineLemmas.{IsNow}
-
--- ## The next FIS
-
--- these bytes come next on connection c of port n, which is the connection of the answer
-record IsNextOf (n c port conn : ℕ) (bytes : List ℕ) (up : List (List ℕ)) : Type 0 where
-  plain : List ℕ
-  later : List (List ℕ)
-  port_is : port ≡ n
-  marks : bytes ≡ marked plain n
-  is : up ≡ plain ∷ later
-
-taken_next : (n c : ℕ) → n < 15 → (old new : Places) (s : Step) (port conn number : ℕ) (bytes : List ℕ) (report : TakeReport) (down up : List (List ℕ))
-    → IsOrderly old → Rule old s (Ok (answer.Took port conn number bytes report)) new → (port == n) ≡ true → IsOnPath n c old down up
-    → IsNextOf n c port conn bytes up
-taken_next n c below old new s port conn number bytes report down up orderly rule here path = by_moves w.heard w.is w.moves
-  where
-    device : n ≢ control_port
-    device e = absurd (omega (arith, e, below))
-
-    w : GoesOnPath n c old (answer.Took port conn number bytes report) new [] down up
-    w = paths_go_on n c old new s (answer.Took port conn number bytes report) down up device orderly rule tt path
-
-    some_heard : (b : Bool) → b ≡ true → MatchBool b ((plain : List ℕ) × ([] ≡ Sent plain ∷ []) × (bytes ≡ marked plain n)) (◌≡◌ {A = List Happening} [] []) → ⊥
-    some_heard true e is = let wrong : [] ≡ Sent is.0 ∷ [] = is.1 in cc
-    some_heard false e is = true≢false (sym e)
-
-    by_moves : (heard : List Happening) → IsAtHost n old (answer.Took port conn number bytes report) new heard
-        → PathMoves n c (answer.Took port conn number bytes report) new [] heard down up → IsNextOf n c port conn bytes up
-    by_moves heard is (Still none quiet on) =
-        absurd (some_heard (port == n) here (subst (IsAtHost n old (answer.Took port conn number bytes report) new) quiet is))
-    by_moves heard is (Gives b told none gave on) = absurd (cc told)
-    by_moves heard is (Comes front back b told took quiet split near far) = absurd (cc told)
-    by_moves heard is (Sends k b told sent quiet on) = absurd (cc told)
-    by_moves heard is (Takes k plain later r told none took first on) =
-        record { plain = plain; later = later; port_is = cc told; marks = cc told; is = first }
 
 -- ## The law
 
@@ -188,13 +153,14 @@ module _ (config : Config) (units : List Attached) (n sectors : ℕ) (plan : Dis
   At floors w happened ts = Stage config units fits n below plan sectors disk.size before first_run within right d.conn floors w happened ts
 
   -- from the plugging on, over some of its steps
-  opens_over : (floors : ℕ → Floor) (steps : List Step) (answers : List Answer) (new : Places) (run : Run d.run.0 steps answers new) → IsLeftAlone n steps
+  opens_over : (floors : ℕ → Floor) (steps : List Step) (answers : List Answer) (new : Places) (run : Run d.run.0 steps answers new)
+      → list_any (injects n) steps ≡ false
       → IsDiskRun plan sectors (before ++ (came ++ over (happens n) d.run.0 steps answers new run)) → AreFloorsOf floors (before ++ came)
       → At floors new (came ++ over (happens n) d.run.0 steps answers new run)
       ((first_turns ++ came_turns) ++ over turn_of d.run.0 steps answers new run)
-  opens_over floors steps answers new run alone whole are =
-      run_opens config units fits n below plan sectors disk.size before first_run within right d.conn floors (d.first ++ step.Came n ∷ []) (d.told ++ answer.Came n d.conn ∷ []) d.run.0 made_came came (first_turns ++ came_turns) orders
-      waiting comes.waits steps answers new run alone whole are
+  opens_over floors steps answers new run clean whole are =
+      stage_run config units fits n below plan sectors disk.size before first_run within right d.conn floors (d.first ++ step.Came n ∷ []) (d.told ++ answer.Came n d.conn ∷ []) d.run.0 made_came came (first_turns ++ came_turns) orders
+      (Waiting are waiting comes.waits) steps answers new run clean whole
 
   -- ## Where a request was submitted
 
@@ -251,7 +217,7 @@ module _ (config : Config) (units : List Attached) (n sectors : ℕ) (plan : Dis
                 is = ap (λ (xs : List Happening). xs ++ since) (i.happened n) ∙ append_assoc done more since;
               };
               stage =
-                  opens_over (floor_for slot (floor_of done)) d.steps d.answers now d.run.2 d.left whole_run
+                  opens_over (floor_for slot (floor_of done)) d.steps d.answers now d.run.2 d.clean whole_run
                   (part_floor slot done (before ++ came) first_part);
             }
 
@@ -314,8 +280,11 @@ module _ (config : Config) (units : List Attached) (n sectors : ℕ) (plan : Dis
           is = ap (λ (xs : List Happening). before ++ xs) (sym since_is) ∙ sym (append_assoc before (came ++ so_far) more);
         }
 
-        alone : IsLeftAlone n i.its.before × IsLeftAlone n (step.Submit i.dev i.request ∷ i.its.after)
-        alone = left_parts n i.its.before (step.Submit i.dev i.request ∷ i.its.after) (subst (IsLeftAlone n) i.its.steps_are d.left)
+        alone : (list_any (injects n) i.its.before ≡ false) × (list_any (injects n) (step.Submit i.dev i.request ∷ i.its.after) ≡ false)
+        alone =
+            or_parts (list_any (injects n) i.its.before) (list_any (injects n) (step.Submit i.dev i.request ∷ i.its.after))
+            (sym (list_any-append (injects n) i.its.before (step.Submit i.dev i.request ∷ i.its.after)) ∙ ap (list_any (injects n)) (sym i.its.steps_are)
+            ∙ d.clean)
 
         rest_run : IsDiskRun plan sectors (before ++ ((came ++ so_far) ++ more))
         rest_run = subst (λ (xs : List Happening). IsDiskRun plan sectors (before ++ xs)) (sym since_is) whole_run
@@ -333,124 +302,102 @@ module _ (config : Config) (units : List Attached) (n sectors : ℕ) (plan : Dis
         own_floor = part_floor slot done done (record { later = []; is = sym (append-nil done) })
 
         goes_on : At bare_floors i.its.at (came ++ so_far) at_turns → At floors now ((came ++ so_far) ++ more) (at_turns ++ more_turns)
-        goes_on (Serving h) =
-            Serving (serving_run config units fits n below plan sectors disk.size before first_run within right d.conn floors ((d.first ++ step.Came n ∷ []) ++ i.its.before) ((d.told ++ answer.Came n d.conn ∷ []) ++ i.its.told) i.its.at made
-            (came ++ so_far) at_turns
-            (serving_rises config units fits n below plan sectors disk.size before first_run within right d.conn bare_floors floors ((d.first ++ step.Came n ∷ []) ++ i.its.before) ((d.told ++ answer.Came n d.conn ∷ []) ++ i.its.told) i.its.at made
-            (came ++ so_far) at_turns (run_to plan sectors (before ++ since) done more whole_part.is whole_run) slot low i.free (λ m other. ap (λ (b : Bool). if b then floor_of done else bare_floor) other) (own_floor slot) h)
-            (step.Submit i.dev i.request ∷ i.its.after) (answer.Submitted i.ticket ∷ i.its.later) now (i.its.next, i.its.rule, i.its.went) alone.1 rest_run)
-        goes_on (Waiting still waits) =
-            run_opens config units fits n below plan sectors disk.size before first_run within right d.conn floors ((d.first ++ step.Came n ∷ []) ++ i.its.before) ((d.told ++ answer.Came n d.conn ∷ []) ++ i.its.told) i.its.at made
+        goes_on st =
+            stage_run config units fits n below plan sectors disk.size before first_run within right d.conn floors ((d.first ++ step.Came n ∷ []) ++ i.its.before) ((d.told ++ answer.Came n d.conn ∷ []) ++ i.its.told) i.its.at made
             (came ++ so_far) at_turns
             (order_run config units fits n below plan sectors disk.size before first_run (d.first ++ step.Came n ∷ []) (d.told ++ answer.Came n d.conn ∷ [])
             d.run.0 made_came (first_turns ++ came_turns) orders i.its.before i.its.told i.its.at i.its.came)
-            still waits (step.Submit i.dev i.request ∷ i.its.after) (answer.Submitted i.ticket ∷ i.its.later) now (i.its.next, i.its.rule, i.its.went) alone.1
-            rest_run own_floor
+            (stage_rises config units fits n below plan sectors disk.size before first_run within right d.conn bare_floors floors ((d.first ++ step.Came n ∷ []) ++ i.its.before) ((d.told ++ answer.Came n d.conn ∷ []) ++ i.its.told) i.its.at made
+            (came ++ so_far) at_turns (run_to plan sectors (before ++ since) done more whole_part.is whole_run) slot low i.free
+            (λ m other. ap (λ (b : Bool). if b then floor_of done else bare_floor) other) own_floor st)
+            (step.Submit i.dev i.request ∷ i.its.after) (answer.Submitted i.ticket ∷ i.its.later) now (i.its.next, i.its.rule, i.its.went) alone.1 rest_run
 
     has_submit : HasSubmit slot e
     has_submit = elim (submitted_over d.run.0 d.steps d.answers now d.run.2 slot e stands) [ inl stood ↦ by_first stood | inr i ↦ by_later i ]
 
   plain_stage : At bare_floors now since turns
-  plain_stage = opens_over bare_floors d.steps d.answers now d.run.2 d.left whole_run (none_floor (before ++ came))
+  plain_stage = opens_over bare_floors d.steps d.answers now d.run.2 d.clean whole_run (none_floor (before ++ came))
 
   module _ (s : Step) (port conn number : ℕ) (bytes : List ℕ) (report : TakeReport) (new : Places)
       (rule : Rule now s (Ok (answer.Took port conn number bytes report)) new) (here : (port == n) ≡ true) (same : conn ≡ d.conn) where
-    -- nothing of it is on the host's link before that
-    never_waiting : IsWaiting n d.conn now since → ⊥
-    never_waiting waits =
-        let m = rule_moves now s (answer.Took port conn number bytes report) new waits.off.orderly rule in
-        (subst (Each (IsNoneOf n d.conn)) m.2.upward waits.off.up).0 (m.1.port_is ∙ eqb-true port n here) (m.1.conn_is ∙ same)
+    abbrev IsHeard : (ℕ → Floor) → Type 0
+    IsHeard floors = Hears config units fits n below plan sectors disk.size before first_run within right d.conn floors now since turns bytes
 
-    serving : (floors : ℕ → Floor) → At floors now since turns → IsServing config units fits n below plan sectors disk.size before first_run within right d.conn floors now since turns
-    serving floors (Waiting waits still) = absurd (never_waiting waits)
-    serving floors (Serving h) = h
+    heard : (floors : ℕ → Floor) → At floors now since turns → IsHeard floors
+    heard floors st =
+        hears config units fits n below plan sectors disk.size before first_run within right d.conn floors all_steps all_answers now all_run since turns
+        whole_run s port conn number bytes report new rule here same st
 
-    module _ (floors : ℕ → Floor) (h : IsServing config units fits n below plan sectors disk.size before first_run within right d.conn floors now since turns) where
-      next : IsNextOf n d.conn port conn bytes h.ends.up
-      next = taken_next n d.conn below now new s port conn number bytes report h.ends.down h.ends.up h.opens.firm.orderly rule here h.ends.exact.path
+    is_now : IsNow now
+    is_now = now_at config units fits all_steps all_answers now all_run
 
-      its : Rule now s (Ok (answer.Took n conn number (marked next.plain n) report)) new
+    module _ (floors : ℕ → Floor) (h : IsHeard floors) where
+      its : Rule now s (Ok (answer.Took n conn number (marked h.plain n) report)) new
       its =
-          subst (λ (m : ℕ). Rule now s (Ok (answer.Took m conn number (marked next.plain n) report)) new) next.port_is
-          (subst (λ (b : List ℕ). Rule now s (Ok (answer.Took port conn number b report)) new) next.marks rule)
+          subst (λ (m : ℕ). Rule now s (Ok (answer.Took m conn number (marked h.plain n) report)) new) (eqb-true port n here)
+          (subst (λ (b : List ℕ). Rule now s (Ok (answer.Took port conn number b report)) new) h.marks rule)
 
-      at_port : port_of (marked next.plain n) ≡ n
+      at_port : port_of (marked h.plain n) ≡ n
       at_port =
           (its_port config units fits n below plan sectors disk.size before first_run within right d.conn all_steps all_answers now all_run s
-          (answer.Took n conn number (marked next.plain n) report) new its).0
-
-      both : HasEnds n config.memory floors turns now.host (before ++ since) h.ends.down (next.plain ∷ next.later)
-      both = subst (HasEnds n config.memory floors turns now.host (before ++ since) h.ends.down) next.is h.ends.both
-
-      is_now : IsNow now
-      is_now = now_at config units fits all_steps all_answers now all_run
+          (answer.Took n conn number (marked h.plain n) report) new its).0
 
     -- the request's device is that of the FIS
     dev_of : (slot : ℕ) (e : Entry) → slot < 30 → entry_at now.host.driver.entries slot ≡ Some e → is_queued e.head.work ≡ true
         → has_bit report.done slot ≡ true → e.head.dev ≡ n
     dev_of slot e low is queued done =
-        let h : IsServing config units fits n below plan sectors disk.size before first_run within right d.conn bare_floors now since turns = serving bare_floors plain_stage in
-        of_device n config.memory below right plan sectors disk.size turns now (is_now bare_floors h) (before ++ since) whole_run h.ends.down
-        (next bare_floors h).later (next bare_floors h).plain bare_floors (both bare_floors h) s conn number report new (its bare_floors h) (at_port bare_floors h) slot e
-        low is queued done
+        let h : IsHeard bare_floors = heard bare_floors plain_stage in
+        of_device n config.memory below right plan sectors disk.size turns now is_now h.gone h.run h.down h.later h.plain bare_floors h.ends s conn number
+        report new (its bare_floors h) (at_port bare_floors h) slot e low is queued done
 
     flush_dev_of : (slot : ℕ) (e : Entry) → slot < 30 → entry_at now.host.driver.entries slot ≡ Some e → is_queued e.head.work ≡ false
         → has_bit report.done slot ≡ true → e.head.dev ≡ n
     flush_dev_of slot e low is calm done =
-        let h : IsServing config units fits n below plan sectors disk.size before first_run within right d.conn bare_floors now since turns = serving bare_floors plain_stage in
-        flush_of_device n config.memory below right plan sectors disk.size turns now (is_now bare_floors h) (before ++ since) whole_run h.ends.down
-        (next bare_floors h).later (next bare_floors h).plain bare_floors (both bare_floors h) s conn number report new (its bare_floors h) (at_port bare_floors h) slot e
-        low is calm done
+        let h : IsHeard bare_floors = heard bare_floors plain_stage in
+        flush_of_device n config.memory below right plan sectors disk.size turns now is_now h.gone h.run h.down h.later h.plain bare_floors h.ends s conn number
+        report new (its bare_floors h) (at_port bare_floors h) slot e low is calm done
 
     -- a FLUSH that is done was taken since it was submitted
     flushed : (slot : ℕ) (e : Entry) → slot < 30 → entry_at now.host.driver.entries slot ≡ Some e → is_queued e.head.work ≡ false
         → has_bit report.done slot ≡ true → FlushedSince config units n now d e
     flushed slot e low is calm done =
         let submit : HasSubmit slot e = has_submit slot low e (flush_dev_of slot e low is calm done) is in
-        let h : IsServing config units fits n below plan sectors disk.size before first_run within right d.conn (floor_for slot (floor_of submit.submit_before)) now since turns =
-        serving (floor_for slot (floor_of submit.submit_before)) submit.stage in
+        let h : IsHeard (floor_for slot (floor_of submit.submit_before)) = heard (floor_for slot (floor_of submit.submit_before)) submit.stage in
         let own_floor : (floor_for slot (floor_of submit.submit_before) slot).flushes ≡ flushes_taken submit.submit_before =
         ap (λ (b : Bool). (if b then floor_of submit.submit_before else bare_floor).flushes) (eq-eqb slot slot refl) in
-        let more : (floor_for slot (floor_of submit.submit_before) slot).flushes < flushes_taken (before ++ since) =
-        flush_taken n config.memory below right plan sectors disk.size turns now
-        (is_now (floor_for slot (floor_of submit.submit_before)) h) (before ++ since) whole_run h.ends.down
-        (next (floor_for slot (floor_of submit.submit_before)) h).later (next (floor_for slot (floor_of submit.submit_before)) h).plain
-        (floor_for slot (floor_of submit.submit_before)) (both (floor_for slot (floor_of submit.submit_before)) h) s conn number report new
-        (its (floor_for slot (floor_of submit.submit_before)) h) (at_port (floor_for slot (floor_of submit.submit_before)) h) slot e low is calm done in
+        let more : (floor_for slot (floor_of submit.submit_before) slot).flushes < flushes_taken h.gone =
+        flush_taken n config.memory below right plan sectors disk.size turns now is_now h.gone h.run h.down h.later h.plain
+        (floor_for slot (floor_of submit.submit_before)) h.ends s conn number report new (its (floor_for slot (floor_of submit.submit_before)) h)
+        (at_port (floor_for slot (floor_of submit.submit_before)) h) slot e low is calm done in
         record {
           before = submit.submit_before;
           submitted = submit.submitted;
           later = submit.part.later;
           is = submit.part.is;
           taken = took_since submit.submit_before submit.part.later (before ++ since) submit.part.is
-              (subst (λ (m : ℕ). m < flushes_taken (before ++ since)) own_floor more);
+              (subst (λ (m : ℕ). m < flushes_taken (before ++ since)) own_floor
+              (subst (λ (k : ℕ). (floor_for slot (floor_of submit.submit_before) slot).flushes < k) (sym h.flushes) more));
         }
 
     ended : (slot : ℕ) (e : Entry) → slot < 30 → entry_at now.host.driver.entries slot ≡ Some e → is_queued e.head.work ≡ true
         → has_bit report.done slot ≡ true → EndedSince config units n now d sectors slot e new.host.memory
     ended slot e low is queued done =
         let submit : HasSubmit slot e = has_submit slot low e (dev_of slot e low is queued done) is in
-        let floors : ℕ → Floor = floor_for slot (floor_of submit.submit_before) in
-        let h : IsServing config units fits n below plan sectors disk.size before first_run within right d.conn (floor_for slot (floor_of submit.submit_before)) now since turns =
-        serving (floor_for slot (floor_of submit.submit_before)) submit.stage in
+        let h : IsHeard (floor_for slot (floor_of submit.submit_before)) = heard (floor_for slot (floor_of submit.submit_before)) submit.stage in
         let own_floor : (floor_for slot (floor_of submit.submit_before) slot).writes ≡ length (ledger submit.submit_before).writes =
         ap (λ (b : Bool). (if b then floor_of submit.submit_before else bare_floor).writes) (eq-eqb slot slot refl) in
+        let front : IsFront (ledger submit.submit_before).writes (ledger h.gone).writes =
+        subst (IsFront (ledger submit.submit_before).writes) h.writes (part_front submit.submit_before (before ++ since) submit.part) in
         record {
           before = submit.submit_before;
           submitted = submit.submitted;
-          touches = (both (floor_for slot (floor_of submit.submit_before)) h).touches;
-          touched =
-              subst (λ (ts : List HostTurn). AreTouched config.memory ts now.host
-              (both (floor_for slot (floor_of submit.submit_before)) h).touches) turns_are
-              (both (floor_for slot (floor_of submit.submit_before)) h).touched;
+          touches = h.ends.touches;
+          touched = subst (λ (ts : List HostTurn). AreTouched config.memory ts now.host h.ends.touches) turns_are h.ends.touched;
           ends =
-              ends_honestly n config.memory below right plan sectors disk.size turns now
-              (is_now (floor_for slot (floor_of submit.submit_before)) h) (before ++ since) whole_run h.ends.down
-              (next (floor_for slot (floor_of submit.submit_before)) h).later
-              (next (floor_for slot (floor_of submit.submit_before)) h).plain
-              (floor_for slot (floor_of submit.submit_before)) (both (floor_for slot (floor_of submit.submit_before)) h) s conn
-              number report new (its (floor_for slot (floor_of submit.submit_before)) h)
-              (at_port (floor_for slot (floor_of submit.submit_before)) h) slot e low is queued done submit.submit_before submit.part own_floor;
+              ends_later sectors slot e submit.submit_before h.gone (before ++ since) (filled slot (own n h.ends.touches)) new.host.memory h.writes h.reads
+              (ends_honestly n config.memory below right plan sectors disk.size turns now is_now h.gone h.run h.down h.later h.plain
+              (floor_for slot (floor_of submit.submit_before)) h.ends s conn number report new (its (floor_for slot (floor_of submit.submit_before)) h)
+              (at_port (floor_for slot (floor_of submit.submit_before)) h) slot e low is queued done submit.submit_before front own_floor);
         }
 
 pub disks_are_honest : HonestDisks

@@ -198,7 +198,7 @@ module _ (n : ℕ) (old : Places) (a : Answer) (new : Places) (none : is_recorde
   rests : new.multiplier ≡ old.multiplier → IsOpenAt n new.multiplier.registers
   rests same = same_open n old.multiplier new.multiplier same is
 
-  rule_open : (s : Step) → Rule old s (Ok a) new → IsOpenAt n new.multiplier.registers
+  pub rule_open : (s : Step) → Rule old s (Ok a) new → IsOpenAt n new.multiplier.registers
   rule_open (step.Came k) rule = at_one k (CameRule k) rule
   rule_open (step.Gone k) rule = at_one k (GoneRule k) rule
   rule_open (step.DiskSend k) rule = at_one k (DiskSendRule k) rule
@@ -242,7 +242,7 @@ changed_before n c old s (answer.Gone port conn) new stays rule =
     subst (λ (b : Bool). AreBefore c (if b then change.Gone conn ∷ [] else [])) (sym (going n old new port conn s stays rule)) tt
 changed_before n c old s a new stays rule = tt
 
-none_told : (n : ℕ) (a : Answer) → 0 ≡ times (is_recorded n) (a ∷ []) → is_recorded n a ≡ false
+pub none_told : (n : ℕ) (a : Answer) → 0 ≡ times (is_recorded n) (a ∷ []) → is_recorded n a ≡ false
 none_told n a none = by_test (is_recorded n a) refl
   where
     by_test : (b : Bool) → is_recorded n a ≡ b → is_recorded n a ≡ false

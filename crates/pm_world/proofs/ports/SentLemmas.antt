@@ -30,13 +30,13 @@ use Rattle.pm_world.proofs.ports.FirmLemmas.{IsFirm, firm_after, opening_firm, s
 -- ## Who sends
 
 -- the unit at the port, which is plugged in, sends on its connection
-record IsSender (old : Places) (port conn : ℕ) : Type 0 where
-  place : Place
-  is : slice_get old.devices port ≡ Some place
-  plugged : place.plugged ≡ true
-  conn_is : conn ≡ place.conn
+pub record IsSender (old : Places) (port conn : ℕ) : Type 0 where
+  pub place : Place
+  pub is : slice_get old.devices port ≡ Some place
+  pub plugged : place.plugged ≡ true
+  pub conn_is : conn ≡ place.conn
 
-sender : (old new : Places) (port conn number : ℕ) (bytes : List ℕ) (s : Step) → Rule old s (Ok (answer.Sent port conn number bytes)) new
+pub sender : (old new : Places) (port conn number : ℕ) (bytes : List ℕ) (s : Step) → Rule old s (Ok (answer.Sent port conn number bytes)) new
     → IsSender old port conn
 sender old new port conn number bytes (step.DiskSend m) rule =
     let d : AtDevice old m (Ok (answer.Sent port conn number bytes)) new (DiskSendRule m) = at_device old m (answer.Sent port conn number bytes) new (DiskSendRule m) rule in
