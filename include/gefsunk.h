@@ -139,6 +139,8 @@ gef_status gef_pm_unplug(gef_pm *pm, uint8_t port);
  * GEF_OK: it was taken. GEF_DROPPED: there is no such port, or the port does not forward (no device, or not opened by
  * the host): the FIS is gone, and counted. GEF_FULL: the control port must give an answer first, or a FIS waits for the
  * device: you still own the FIS.
+ * A write of SControl (2) with DET 1, and then 0, is no COMRESET of the device: the port closes and opens, what the device
+ * sent before goes up afterwards, and the device is not reset. A software reset of the host does that.
  * Can return GEF_CLOSED, GEF_BAD_LENGTH, GEF_FULL, GEF_DROPPED, GEF_NO_MEMORY.
  */
 gef_status gef_pm_from_host(gef_pm *pm, const uint8_t *fis, size_t len);

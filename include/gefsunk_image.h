@@ -70,11 +70,12 @@ typedef struct gef_image {
 
     /* The image's own. */
     uint32_t from, to; /* the sectors that may have changed lie between these two */
-    uint32_t lost, lost_to; /* those that the image did not take when it failed last; none if it was not flushed */
+    uint32_t lost;     /* the first of those that the image did not take together when it failed last */
     uint64_t open;     /* writes whose end was not heard: a bit for each tag, and one for a DMA command */
     struct { uint32_t from, to; } writes[GEF_IMAGE_DMA + 1]; /* the sectors of each, of those that ended, too */
     uint8_t moving;    /* the tag that the disk asked data for last, and 1; 0: none */
     uint8_t is_due;    /* the next command that ends does so when all is saved */
+    uint8_t is_behind; /* the host heard of the end of a write that is not saved */
     uint8_t is_asked;  /* the last command asks for a write cache, and no answer came since */
     uint8_t is_cached; /* a write may end before */
     uint8_t is_kept;   /* the last FIS could not go on, and comes again */
@@ -115,14 +116,18 @@ static inline void gef_image_begin(gef_image *image, unsigned number, uint64_t l
     image->open |= (uint64_t)1 << number;
 }
 
-/* An answer, or the end of queued commands. The write cache is on once the host hears so, and off after any refusal. */
+/*
+ * An answer, or the end of queued commands. A write that ends well is to be saved before, or is promised for later if there is
+ * a write cache. That is on once the host hears so, and off after any refusal.
+ */
 static inline void gef_image_hear(gef_image *image, const uint8_t *fis) {
-    if (fis[0] == 0xA1) {
-        image->open &= ~(uint64_t)(fis[2] & 1 ? 0xFFFFFFFFu : gef_image_number(fis + 4));
-        return;
-    }
-    image->open &= ~((uint64_t)1 << GEF_IMAGE_DMA);
-    image->is_cached = !(fis[2] & 1) && (image->is_cached || image->is_asked);
+    int is_error = fis[2] & 1, is_answer = fis[0] != 0xA1;
+    uint64_t ended = is_answer ? (uint64_t)1 << GEF_IMAGE_DMA : is_error ? 0xFFFFFFFFu : gef_image_number(fis + 4);
+    if (image->open & ended && !is_error && image->is_cached) image->is_behind = 1;
+    if (image->open & ended && !is_error && !image->is_cached) image->is_due = 1;
+    image->open &= ~ended;
+    if (!is_answer) return;
+    image->is_cached = !is_error && (image->is_cached || image->is_asked);
     image->is_asked = 0;
 }
 
@@ -181,6 +186,16 @@ static inline gef_status gef_image_put(gef_disk *disk, uint32_t lba, uint32_t co
 static inline void gef_image_clear(gef_image *image) {
     if (image->to) memset(image->changed + image->from / 8, 0, (image->to - 1) / 8 - image->from / 8 + 1);
     image->from = image->to = 0;
+    image->is_behind = 0;
+}
+
+static inline int gef_image_is_changed(const gef_image *image, uint32_t at) {
+    return image->changed[at / 8] >> at % 8 & 1;
+}
+
+/* The next sector behind one that may have changed. */
+static inline uint32_t gef_image_next(const gef_image *image, uint32_t at) {
+    return image->changed[at / 8] ? at + 1 : (at | 7) + 1;
 }
 
 /* How many of these sectors come before the first bad one. */
@@ -198,14 +213,13 @@ static inline gef_status gef_image_save_run(gef_image *image, gef_disk *disk, ui
     *count = 0;
     while (*count < GEF_IMAGE_RUN && lba + *count < image->to) {
         uint32_t at = lba + *count;
-        if (!(image->changed[at / 8] >> at % 8 & 1)) break;
+        if (!gef_image_is_changed(image, at)) break;
         status = gef_disk_sector(disk, at, bytes + 512 * *count, 512);
         if (status != GEF_OK) return status;
         ++*count;
     }
     if (!*count || !image->write(image->context, 512 * (uint64_t)lba, bytes, 512 * (size_t)*count)) return GEF_OK;
     image->lost = lba;
-    image->lost_to = lba + *count;
     return GEF_IMAGE;
 }
 
@@ -221,19 +235,22 @@ static inline uint8_t gef_image_failing(const gef_image *image, const uint8_t *f
 }
 
 /*
- * What the image did not take together goes to it sector by sector. Those that it does not take then are lost. Says the first
- * of them.
+ * From what the image did not take on, all that changed goes to it sector by sector, and it is flushed. Says the first sector
+ * that it did not take. If it took all, nothing counts as changed. If not, all that changed still does where the host heard
+ * of the end of such a write; else it hears an error of each, and counts on none.
  */
-static inline uint32_t gef_image_lose(gef_image *image, gef_disk *disk) {
-    uint32_t first = image->lost, is_known = 0;
+static inline uint32_t gef_image_rescue(gef_image *image, gef_disk *disk) {
+    uint32_t first = image->lost, at, is_lost = 0;
     uint8_t bytes[512];
-    for (; image->lost < image->lost_to; image->lost++) {
-        image->changed[image->lost / 8] &= (uint8_t)~(1u << image->lost % 8);
-        if (gef_disk_sector(disk, image->lost, bytes, sizeof bytes) == GEF_OK &&
-            !image->write(image->context, 512 * (uint64_t)image->lost, bytes, sizeof bytes)) continue;
-        if (!is_known) first = image->lost;
-        is_known = 1;
+    for (at = first; at < image->to; at = gef_image_next(image, at)) {
+        if (!gef_image_is_changed(image, at)) continue;
+        if (gef_disk_sector(disk, at, bytes, sizeof bytes) == GEF_OK &&
+            !image->write(image->context, 512 * (uint64_t)at, bytes, sizeof bytes)) continue;
+        if (!is_lost) first = at;
+        is_lost = 1;
     }
+    if (image->flush(image->context)) is_lost = 1;
+    if (!is_lost || !image->is_behind) gef_image_clear(image);
     return first;
 }
 
@@ -280,6 +297,7 @@ static inline gef_status gef_image_load_but(gef_image *image, gef_disk *disk, co
     if (status != GEF_OK) return status;
     memset(image->changed, 0, image->sectors / 8 + (image->sectors % 8 != 0));
     image->from = image->to = 0;
+    image->is_behind = 0;
     gef_image_plug(image);
     while (status == GEF_OK && at < image->sectors) {
         count = image->sectors - at < GEF_IMAGE_RUN ? image->sectors - at : GEF_IMAGE_RUN;
@@ -302,11 +320,11 @@ static inline gef_status gef_image_load(gef_image *image, gef_disk *disk) {
  */
 static inline gef_status gef_image_save(gef_image *image, gef_disk *disk) {
     uint32_t at = image->from, count;
-    image->lost = image->lost_to = image->from;
+    image->lost = image->from;
     while (at < image->to) {
         gef_status status = gef_image_save_run(image, disk, at, &count);
         if (status != GEF_OK) return status;
-        at = count ? at + count : image->changed[at / 8] ? at + 1 : (at | 7) + 1;
+        at = count ? at + count : gef_image_next(image, at);
     }
     if (image->flush(image->context)) return GEF_IMAGE;
     gef_image_clear(image);
@@ -348,8 +366,9 @@ static inline void gef_image_down(gef_image *image, const uint8_t *fis, size_t l
         lba = (lba & 0xFFFFFF) | (uint64_t)(fis[7] & 0x0F) << 24;
         gef_image_begin(image, GEF_IMAGE_DMA, lba, fis[12] ? fis[12] : 256);
         break;
-    case 0xEF: /* SET FEATURES: the write cache is turned on, or off */
-        if (fis[3] == 0x82) image->is_cached = 0;
+    case 0xEF: /* SET FEATURES: the write cache is turned off */
+        if (fis[3] != 0x82) break;
+        image->is_cached = 0;
         image->is_due = 1;
         break;
     case 0xE0: case 0xE2: case 0xE6: case 0xE7: case 0xEA: /* STANDBY, SLEEP, FLUSH CACHE */
@@ -371,7 +390,7 @@ static inline gef_status gef_image_up(gef_image *image, gef_disk *disk, const ui
     /* Without I no command ends: a queued one was accepted, or the disk says what it is. With ERR none ends well. */
     if (len < 8 || (fis[0] != 0x34 && fis[0] != 0xA1) || !(fis[1] & 0x40)) return GEF_OK;
     if (!image->is_kept) gef_image_hear(image, fis);
-    if (!(fis[2] & 1) && (image->is_due || (image->to && !image->is_cached))) status = gef_image_save(image, disk);
+    if (!(fis[2] & 1) && image->is_due) status = gef_image_save(image, disk);
     if (status == GEF_OK) image->is_due = 0;
     image->is_kept = status != GEF_OK;
     return status;
@@ -380,20 +399,15 @@ static inline gef_status gef_image_up(gef_image *image, gef_disk *disk, const ui
 /*
  * In place of another call of gef_image_up with a FIS for which it failed: drop the FIS. Its command fails (gef_disk_fail,
  * with ABRT and the first sector that the image did not take), and all others that are queued end with it. The sectors that
- * the image takes are saved. Of the others it has what it had, or anything, until the host writes them again.
- * Can return GEF_CLOSED.
+ * the image takes are saved. If the host heard of the end of a write that was not saved (it had a write cache), the others
+ * still count as changed: the next save tries them again, and no flush ends before they are in the image. Else the image has
+ * of them what it had, or anything, until the host writes them again. Can return GEF_CLOSED.
  */
 static inline gef_status gef_image_fail(gef_image *image, gef_disk *disk, const uint8_t *fis) {
     uint8_t tag = gef_image_failing(image, fis);
-    gef_status status = gef_disk_fail(disk, tag, 0x04, gef_image_lose(image, disk));
-    if (status != GEF_OK) return status;
-    do {
-        status = gef_image_save(image, disk);
-        if (status == GEF_IMAGE && image->lost == image->lost_to) gef_image_clear(image); /* it was not flushed */
-        if (status == GEF_IMAGE) gef_image_lose(image, disk);
-    } while (status == GEF_IMAGE && image->to);
-    gef_image_plug(image);
-    return status == GEF_IMAGE ? GEF_OK : status;
+    gef_status status = gef_disk_fail(disk, tag, 0x04, gef_image_rescue(image, disk));
+    if (status == GEF_OK) gef_image_plug(image);
+    return status;
 }
 
 #ifdef __cplusplus

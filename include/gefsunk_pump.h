@@ -38,6 +38,9 @@ extern "C" {
 /* The most device ports of a multiplier. */
 #define GEF_PUMP_PORTS 15
 
+/* The most FISes that the controller sends in a round: a command for each slot, and Data for each device and port 15. */
+#define GEF_PUMP_OUT 48
+
 /* A FIS that waits until the other side takes it. A length of 0: none waits. */
 typedef struct gef_waiting {
     size_t len;
@@ -179,23 +182,34 @@ static inline gef_status gef_pump_from_link(gef_pump *pump) {
     return GEF_OK;
 }
 
-/* From the controller to the other end: one FIS. */
-static inline gef_status gef_pump_out(gef_pump *pump) {
+/* From the controller to the other end: one FIS. GEF_NOTHING: the controller has none. GEF_FULL: it waits for room. */
+static inline gef_status gef_pump_one_out(gef_pump *pump) {
     gef_memory memory = gef_pump_memory(pump);
     uint32_t message = 0;
     gef_status status;
     if (!pump->out.len) {
         status = gef_hba_next_out(&pump->hba, &memory, pump->out.fis, GEF_FIS_ROOM, &pump->out.len, &message);
         pump->message |= message;
-        if (status != GEF_OK) return status == GEF_NOTHING ? GEF_OK : status;
+        if (status != GEF_OK) return status;
         gef_pump_show(pump, 1, &pump->out);
     }
     status = gef_pump_to_link(pump);
-    if (status == GEF_FULL) return GEF_OK;
     if (status != GEF_OK && status != GEF_DROPPED) return status;
     pump->out.len = 0;
     pump->moved = 1;
     return GEF_OK;
+}
+
+/*
+ * From the controller to the other end: all that can go. The controller gives the lowest slot first. So one FIS a round would
+ * let a guest that refills low slots keep its high ones waiting for ever. A disk with no multiplier before it takes one: it
+ * answers with the PM Port of the FIS that it took last.
+ */
+static inline gef_status gef_pump_out(gef_pump *pump) {
+    uint32_t left = pump->ports ? GEF_PUMP_OUT : 1;
+    gef_status status = GEF_OK;
+    while (status == GEF_OK && left--) status = gef_pump_one_out(pump);
+    return status == GEF_NOTHING || status == GEF_FULL ? GEF_OK : status;
 }
 
 /* To the disk that the FIS on its way down is for. */
@@ -385,9 +399,10 @@ static inline gef_status gef_pump_write32(gef_pump *pump, uint32_t offset, uint3
 }
 
 /*
- * One round: a FIS of the controller goes out. At each port a FIS goes down to the disk, one comes up, and all that the
- * multiplier has for the controller goes in. Can return GEF_NULL, GEF_CLOSED, GEF_NO_MEMORY, GEF_IMAGE (an image failed:
- * the end of the command waits, and the next call tries again; the other disks had their round).
+ * One round: what the controller has goes out, as far as there is room, or one FIS where there is no multiplier. At each port
+ * a FIS goes down to the disk, one comes up, and all that the multiplier has for the controller goes in. Can return GEF_NULL,
+ * GEF_CLOSED, GEF_NO_MEMORY, GEF_IMAGE (an image failed: the end of the command waits, and the next call tries again; the
+ * other disks had their round).
  */
 static inline gef_status gef_pump_step(gef_pump *pump) {
     gef_status status = gef_pump_ready(pump), of_images = GEF_OK;

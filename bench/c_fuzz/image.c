@@ -6,9 +6,12 @@
  *                    flushed or as it was written later.
  *     image fails    plays the host again and again. The first write or flush of the image fails, then the second, and so
  *                    on. The host hears of no end until it is tried again, and at the end nothing is missing.
+ *     image owed     plays the host again and again. The image does not take a sector of its first write, then of its second,
+ *                    and so on, until the host hears an error. Each sector that the host heard to be flushed is in the image.
  *     image any      plays a host that sends anything, waits for no answer, and turns the write cache on and off, while
  *                    writes and flushes of the image fail. A sector that does not count as changed is in the image as it
- *                    is on the medium, and so is each one once the host hears an end without ERR while it has no write cache.
+ *                    is on the medium, and so is each one once the host hears the end of a write or a flush without ERR while
+ *                    it has no write cache.
  *     image tells    plays that host, but half of the failures are not tried again: the host hears an error next. The sectors
  *                    that the image did not take are the only ones that are not in it.
  *     image beside   a disk whose image fails stands beside another one in a pump: the other one is served.
@@ -58,8 +61,9 @@ static int read_image(void *context, uint64_t at, uint8_t *bytes, size_t len) {
 }
 
 static int is_telling; /* whether failures may be told */
+static int is_owing;   /* a call that fails goes on to do so until it is told */
 static uint8_t is_lost[SECTORS]; /* the image did not take the sector when it was written last */
-static int is_unflushed; /* the last flush failed */
+static int is_stuck; /* no flush works */
 static uint32_t broken = SECTORS; /* a sector that the image never takes, if it has it */
 
 /* A call that fails has written half of its sectors. */
@@ -67,21 +71,22 @@ static int write_image(void *context, uint64_t at, const uint8_t *bytes, size_t 
     int is_failing = calls + 1 == failing || (at <= 512 * broken && 512 * broken < at + len);
     (void)context;
     calls++;
+    if (is_owing && calls == failing) broken = (uint32_t)(at + len / 2) / 512;
     memset(is_lost + at / 512, is_failing, len / 512);
     memcpy(cache + at, bytes, is_failing ? len / 1024 * 512 : len);
     if (calls == cut) _exit(0);
     return is_failing;
 }
 
-/* At the cut, half of all sectors have come to the image. */
+/* At the cut, half of all sectors have come to the image. A flush that fails loses all that was not flushed before. */
 static int flush_image(void *context) {
+    int is_failing = calls + 1 == failing || is_stuck;
     (void)context;
     calls++;
-    is_unflushed = calls == failing;
-    if (calls == failing) return 1;
-    memcpy(it->image, cache, calls == cut ? sizeof cache / 1024 * 512 : sizeof cache);
+    is_stuck = is_owing && is_failing;
+    memcpy(is_failing ? cache : it->image, is_failing ? it->image : cache, calls == cut ? sizeof cache / 1024 * 512 : sizeof cache);
     if (calls == cut) _exit(0);
-    return 0;
+    return is_failing;
 }
 
 /* ---- a host ------------------------------------------------------------------------------------------------------ */
@@ -146,9 +151,16 @@ static void give(const uint8_t *setup) {
     gef_image_down(&image, fis, 4 + gef_image_number(setup + 20));
 }
 
-/* The host hears a FIS. */
+static void command(uint8_t code, uint8_t features, uint8_t lba, uint8_t device, uint8_t count);
+
+/* The host hears a FIS. After an error of queued commands it reads the log. */
 static void take(const uint8_t *fis, uint8_t *setup) {
     unsigned tag;
+    if ((fis[0] == 0xA1 || fis[0] == 0x34) && fis[2] & 1) outstanding = 0;
+    if (fis[0] == 0xA1 && fis[2] & 1) {
+        command(0x2F, 0, 0x10, 0, 1);
+        return;
+    }
     if (fis[0] == 0x41) memcpy(setup, fis, 28);
     if (fis[0] == 0x39 || (fis[0] == 0x41 && fis[1] & 0x80)) give(setup);
     for (tag = 0; tag < TAGS; tag++) {
@@ -156,8 +168,8 @@ static void take(const uint8_t *fis, uint8_t *setup) {
         outstanding &= ~(1u << tag);
         ended(tag);
     }
-    if (fis[0] == 0x34 && fis[2] & 1) fail("the disk reports an error", fis[3]);
-    if (fis[0] == 0x34 && is_flushing) hear(0, SECTORS);
+    if (fis[0] == 0x34 && fis[2] & 1 && !is_owing) fail("the disk reports an error", fis[3]);
+    if (fis[0] == 0x34 && !(fis[2] & 1) && is_flushing) hear(0, SECTORS);
     if (fis[0] == 0x34) is_flushing = 0;
 }
 
@@ -166,6 +178,12 @@ static void settle(unsigned most) {
     size_t len;
     while (most-- && gef_disk_to_host(&disk, fis, sizeof fis, &len) == GEF_OK) {
         gef_status status = gef_image_up(&image, &disk, fis, len);
+        if (status == GEF_IMAGE && is_owing) {
+            must("fail", gef_image_fail(&image, &disk, fis));
+            broken = SECTORS;
+            is_stuck = 0;
+            continue;
+        }
         if (status == GEF_IMAGE && calls == failing) status = gef_image_up(&image, &disk, fis, len);
         must("up", status);
         take(fis, setup);
@@ -259,6 +277,10 @@ static int play_cut(void) {
 
 static uint32_t is_cache_on, is_cache_asked; /* what the host heard, and what it asked for last: 1 off, 2 on */
 
+/* What the host sent that is to end with all in the image: a bit for a write of each tag, one for another write, one for a flush. */
+static uint64_t promised;
+static const uint64_t dma = (uint64_t)1 << 32, flush = (uint64_t)1 << 33;
+
 /* Sectors that do not count as changed are in the image, and all are where none may be missing. */
 static void compare(const char *what, int is_whole) {
     uint8_t bytes[512];
@@ -267,7 +289,7 @@ static void compare(const char *what, int is_whole) {
         if (!is_whole && changed[at / 8] >> at % 8 & 1) continue;
         if (is_telling && is_lost[at]) continue;
         must("sector", gef_disk_sector(&disk, at, bytes, sizeof bytes));
-        if (memcmp(bytes, (is_telling && is_unflushed ? cache : it->image) + 512 * at, 512)) fail(what, at);
+        if (memcmp(bytes, it->image + 512 * at, 512)) fail(what, at);
     }
 }
 
@@ -293,14 +315,20 @@ static void command_any(void) {
     fis[7] = any(16) ? 0x40 : 0xC0;
     fis[12] = (uint8_t)(is_queued ? any(TAGS) << 3 : code == 0x2F ? 1 : 1 + any(20));
     is_cache_asked = code == 0xEF ? (fis[3] == 0x02 ? 2 : 1) : 0;
+    if (code == 0x61 && fis[4] + fis[3] <= SECTORS) promised |= (uint64_t)1 << (fis[12] >> 3);
+    if ((code == 0xCA || code == 0x35) && fis[4] + fis[12] <= SECTORS) promised |= dma;
+    if (code == 0xEA || code == 0xE2 || is_cache_asked == 1) promised |= flush;
     send_any(fis, sizeof fis);
 }
 
 /* The host hears an answer, or an end, with what it had asked for when the disk sent it. */
 static void hear_any(const uint8_t *fis, uint32_t asked) {
-    if (fis[0] != 0x34 && fis[0] != 0xA1) return;
+    uint64_t ended = flush | (fis[0] == 0x34 ? dma : gef_image_number(fis + 4));
+    if ((fis[0] != 0x34 && fis[0] != 0xA1) || !(fis[1] & 0x40)) return;
+    if (fis[2] & 1) promised = 0;
     if (fis[0] == 0x34 && asked && !(fis[2] & 1)) is_cache_on = asked == 2;
-    if (!is_cache_on && fis[1] & 0x40 && !(fis[2] & 1)) compare("an end was heard", 1);
+    if (!is_cache_on && promised & ended) compare("an end was heard", 1);
+    promised &= ~ended;
 }
 
 static int is_error_due;    /* a failure was told, and the host is to hear an error */
@@ -309,13 +337,16 @@ static uint32_t told_lba;  /* and this sector, if it is one */
 
 /* The command of this FIS fails: the host hears that next. */
 static void tell(const uint8_t *fis) {
-    uint32_t at = image.lost, to = image.lost_to;
+    uint8_t before[sizeof changed];
+    uint32_t at = 0;
+    memcpy(before, changed, sizeof changed);
     must("fail", gef_image_fail(&image, &disk, fis));
     compare("after a failure was told", 1);
     is_error_due = 1;
+    promised = 0;
     told_tags = fis[0] == 0xA1 ? gef_image_number(fis + 4) : 0;
-    while (at < to && !is_lost[at]) at++;
-    told_lba = at < to ? at : SECTORS;
+    while (at < SECTORS && !(before[at / 8] >> at % 8 & 1 && is_lost[at])) at++;
+    told_lba = at;
 }
 
 /* A page of the error log says that a write of the host was aborted. */
@@ -373,13 +404,15 @@ static void reset_any(void) {
         gef_image_plug(&image);
     }
     is_cache_on = is_cache_asked = is_error_due = 0;
+    promised = 0;
 }
 
 static void play_any(unsigned number) {
     static const uint16_t chunks[] = {8192, 8192, 1024};
     uint32_t step, flags;
     seed = number;
-    calls = failing = is_cache_on = is_cache_asked = is_error_due = is_unflushed = 0;
+    calls = failing = is_cache_on = is_cache_asked = is_error_due = 0;
+    promised = 0;
     memset(is_lost, 0, sizeof is_lost);
     broken = SECTORS;
     memset(&image, 0, sizeof image);
@@ -536,7 +569,8 @@ int main(int argc, char **argv) {
     else if (strcmp(mode, "told") == 0) told();
     else if (strcmp(mode, "sizes") == 0) sizes();
     if (strcmp(mode, "beside") == 0 || strcmp(mode, "told") == 0 || strcmp(mode, "sizes") == 0) return 0;
-    if (!is_cut && strcmp(mode, "fails") != 0) return 2;
+    is_owing = strcmp(mode, "owed") == 0;
+    if (!is_cut && !is_owing && strcmp(mode, "fails") != 0) return 2;
     for (n = 1; !is_over; n++) {
         if (is_cut) {
             cut = n;
@@ -546,7 +580,7 @@ int main(int argc, char **argv) {
             failing = n;
             play();
             is_over = calls < n;
-            look(1);
+            look(!is_owing);
         }
     }
     printf("%u calls of the image, at each of which %s\n", n - 2, is_cut ? "the process ended" : "it failed");

@@ -180,7 +180,8 @@ static void look(found *now, unsigned disks) {
 
 /* Disks are found, and again after a reset of the link. Then each is read and written, with all commands under way. */
 static void scene(found *now, uint8_t ports) {
-    static const uint32_t flags[3] = {GEF_DISK_AUTO, GEF_DISK_NEWEST | GEF_DISK_LAST_FIRST, GEF_DISK_STOCK};
+    /* Not the newest command first: a round that begins anew may bring a disk two where it would have got one. */
+    static const uint32_t flags[3] = {GEF_DISK_AUTO, GEF_DISK_LAST_FIRST, GEF_DISK_STOCK};
     static const uint32_t bad[1] = {9};
     gef_status status;
     uint8_t port, disks = ports ? ports : 1;

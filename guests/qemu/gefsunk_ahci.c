@@ -6,10 +6,15 @@
  *   -device gefsunk-ahci,multiplier=off,disks=1
  *   -device gefsunk-ahci,port0=on                   port 0 is open, for a guest that knows no multipliers
  *   -device gefsunk-ahci,images=A:B:..              port 0 has the sectors of the file A, port 1 those of B, and so on
+ *   -device gefsunk-ahci,faults=on                  BAR 0 has a register for fault injection
  *
- * BAR 5 has the registers of AHCI. BAR 0 has one register, the hand: a write pulls a disk, plugs in a new one, or holds all
- * FISes back for a while. All else is the pump's and the library's. Here bytes are written to the guest's memory where the
- * pump says, and the interrupt is raised.
+ * BAR 5 has the registers of AHCI. With `faults=on` BAR 0 has one register, by which the guest pulls a disk, plugs in a new
+ * one, or holds all FISes back for a while. All else is the pump's and the library's. Here bytes are written to the guest's
+ * memory where the pump says, and the interrupt is raised. While bus mastering is off, no FIS moves, and the controller finds
+ * no memory where it looks for the commands that the guest issues.
+ *
+ * Not for a guest that is not trusted: the controller reads the guest's memory past the bus, so no IOMMU and no SMM bounds it,
+ * and while the processors run. The state of the device is not migrated or saved.
  *
  * What a guest wrote to a disk with a file is in the file when the guest hears that the write ended. A write that the file
  * does not take fails, and the guest hears that.
@@ -28,6 +33,7 @@
 #include "hw/pci/pci.h"
 #include "hw/pci/msi.h"
 #include "hw/qdev-properties.h"
+#include "migration/vmstate.h"
 #include "gefsunk_pump.h"
 #include "gefsunk_record.h"
 
@@ -46,18 +52,18 @@ typedef struct {
 
 struct GefsunkAhci {
     PCIDevice parent_obj;
-    MemoryRegion registers, hand;
+    MemoryRegion registers, fault_register;
     QEMUBH *later;
     gef_pump pump;
     gef_image images[GEF_PUMP_PORTS];
     File files[GEF_PUMP_PORTS];
-    bool is_held;
+    bool is_held, is_busy, is_reset_due;
     uint32_t serial, logged, raised;
     FILE *out;
     Recording recording;
     /* properties */
     uint32_t ports, disks, sectors, chunk, flags, lines;
-    bool fbs, multiplier, port0, accesses;
+    bool fbs, multiplier, port0, accesses, faults;
     char *log, *record, *names;
 };
 
@@ -68,6 +74,41 @@ static void must(gef_status status)
         error_report("gefsunk-ahci: %s", gef_status_text(status));
         abort();
     }
+}
+
+/* Memory may be refused: then what was under way is kept, and goes on with a later round. */
+static bool went_on(GefsunkAhci *s, gef_status status)
+{
+    if (status == GEF_NO_MEMORY) {
+        warn_report_once("gefsunk-ahci: %s", gef_status_text(status));
+        qemu_bh_schedule(s->later);
+        return false;
+    }
+    must(status);
+    return true;
+}
+
+/* Whether the guest lets the controller at its memory, by bus mastering. If not, the pump sees none. */
+static bool reaches_memory(GefsunkAhci *s)
+{
+    bool is_master = pci_get_word(PCI_DEVICE(s)->config + PCI_COMMAND) & PCI_COMMAND_MASTER;
+    s->pump.len = s->recording.memory.len = is_master ? current_machine->ram_size : 0;
+    return is_master;
+}
+
+/* After a reset of the machine: a new controller, and all behind it begins anew. The media stay. False: memory is refused. */
+static bool has_begun(GefsunkAhci *s)
+{
+    if (s->is_reset_due) {
+        gef_hba_free(&s->pump.hba);
+        if (!went_on(s, gef_hba_new(&s->pump.hba))) {
+            return false;
+        }
+        went_on(s, gef_pump_reset(&s->pump));
+        s->raised = s->pump.message = 0;
+        s->is_reset_due = false;
+    }
+    return true;
 }
 
 /* The pump shows a FIS. */
@@ -114,19 +155,28 @@ static void set_line(GefsunkAhci *s)
     s->pump.message = 0;
 }
 
-/* Rounds until nothing moves. The guest may come between some of them, but not while it is recorded. */
+/*
+ * Rounds until nothing moves. The guest may come between some of them, but not while it is recorded. In a round nothing begins
+ * another one, even if the guest has the controller write to its own registers.
+ */
 static void run_pump(void *opaque)
 {
     GefsunkAhci *s = opaque;
     unsigned round = 0;
-    bool moved = !s->is_held;
+    bool moved = !s->is_held && reaches_memory(s);
+    if (s->is_busy || !has_begun(s)) {
+        return;
+    }
     while (moved && (round++ < ROUNDS || s->recording.out)) {
-        gef_status status = gef_pump_step(&s->pump);
+        gef_status status;
+        s->is_busy = true;
+        status = gef_pump_step(&s->pump);
+        s->is_busy = false;
         if (status == GEF_IMAGE) {
             warn_report_once("gefsunk-ahci: %s", gef_status_text(status));
             must(gef_pump_fail(&s->pump));
-        } else {
-            must(status);
+        } else if (!went_on(s, status)) {
+            break;
         }
         moved = s->pump.moved;
         record_round(&s->recording, moved);
@@ -199,6 +249,9 @@ static uint64_t read_register(void *opaque, hwaddr at, unsigned size)
 {
     GefsunkAhci *s = opaque;
     uint32_t value = 0;
+    if (!has_begun(s)) {
+        return UINT32_MAX;
+    }
     if (at == PXTFD) {
         run_pump(s);
     }
@@ -211,29 +264,48 @@ static uint64_t read_register(void *opaque, hwaddr at, unsigned size)
 static void write_register(void *opaque, hwaddr at, uint64_t value, unsigned size)
 {
     GefsunkAhci *s = opaque;
+    if (s->is_busy || !has_begun(s)) {
+        return;
+    }
+    reaches_memory(s);
     record_issue(&s->recording, &s->pump.hba, at, value);
     show_access(s, "write", at, value);
-    must(gef_pump_write32(&s->pump, at, value));
+    went_on(s, gef_pump_write32(&s->pump, at, value));
     record_write(&s->recording, at, value, s->pump.link);
     set_line(s);
     qemu_bh_schedule(s->later);
 }
 
-/* A new disk at a port. All its sectors can be read, or all but one; or, if it has a file, all that can be read there. */
-static void plug(GefsunkAhci *s, unsigned port, bool is_bad)
+/*
+ * A new disk at a port. All its sectors can be read, or all but one; or, if it has a file, all that can be read there. False:
+ * there is none, as the message says.
+ */
+static bool plug(GefsunkAhci *s, unsigned port, bool is_bad, Error **errp)
 {
     uint32_t bad[GEF_IMAGE_BAD] = {5000};
     size_t bads = is_bad;
     gef_image *image = s->pump.images[port];
-    uint32_t sectors = image ? image->sectors : s->sectors;
-    if (image) {
-        must(gef_image_unread(image, bad, &bads));
+    gef_disk *disk = &s->pump.disks[port];
+    uint32_t sectors = image ? image->sectors : s->sectors, flags = s->flags | GEF_DISK_STOCK;
+    gef_status status = s->chunk > UINT16_MAX ? GEF_BAD_DISK : GEF_OK;
+    if (status == GEF_OK && image) {
+        status = gef_image_unread(image, bad, &bads);
     }
-    must(gef_disk_new(&s->pump.disks[port], sectors, s->chunk, s->flags | GEF_DISK_STOCK, s->serial++, bad, bads));
-    if (image) {
-        must(gef_image_load_but(image, &s->pump.disks[port], bad, bads));
+    if (status == GEF_OK) {
+        status = gef_disk_new(disk, sectors, s->chunk, flags, s->serial++, bad, bads);
     }
-    must(gef_pump_plug(&s->pump, port));
+    if (status == GEF_OK && image) {
+        status = gef_image_load_but(image, disk, bad, bads);
+    }
+    if (status == GEF_OK) {
+        status = gef_pump_plug(&s->pump, port);
+    }
+    if (status != GEF_OK) {
+        gef_disk_free(disk);
+        error_setg(errp, "port %u, sectors=%u, chunk=%u, flags=%u: %s", port, sectors, s->chunk, s->flags,
+                   gef_status_text(status));
+    }
+    return status == GEF_OK;
 }
 
 /* A disk that is pulled loses what a guest was not told to be on it. */
@@ -244,22 +316,23 @@ static void pull(GefsunkAhci *s, unsigned port)
 }
 
 /*
- * The hand: bits 7:0 are the port, bits 15:8 what is done. 1 pulls the disk, 2 plugs in one, 3 one with a bad sector. 4 holds
- * all FISes back, and 5 lets them go. 6 has the disk's file take nothing, 7 has it take all again.
+ * Fault injection: bits 7:0 are the port, bits 15:8 what is done. 1 pulls the disk, 2 plugs in one, 3 one with a bad sector. 4
+ * holds all FISes back, and 5 lets them go. 6 has the disk's file take nothing, 7 has it take all again.
  */
-static void write_hand(void *opaque, hwaddr at, uint64_t value, unsigned size)
+static void inject(void *opaque, hwaddr at, uint64_t value, unsigned size)
 {
     GefsunkAhci *s = opaque;
     unsigned port = value & 0xFF, what = value >> 8 & 0xFF;
     bool is_there = port < s->ports && s->pump.plugged >> port & 1;
-    if (port >= s->ports || at) {
+    Error *err = NULL;
+    if (port >= s->ports || at || s->is_busy) {
         return;
     }
-    record_end(&s->recording, "The hand moves.");
+    record_end(&s->recording, "A fault is injected.");
     if (what == 1 && is_there) {
         pull(s, port);
-    } else if ((what == 2 || what == 3) && !is_there) {
-        plug(s, port, what == 3);
+    } else if ((what == 2 || what == 3) && !is_there && !plug(s, port, what == 3, &err)) {
+        warn_report_err(err);
     }
     s->files[port].is_failing = what == 6 || (s->files[port].is_failing && what != 7);
     s->is_held = what == 4 || (s->is_held && what != 5);
@@ -267,25 +340,30 @@ static void write_hand(void *opaque, hwaddr at, uint64_t value, unsigned size)
 }
 
 /* Reads which disks are there, a bit each. */
-static uint64_t read_hand(void *opaque, hwaddr at, unsigned size)
+static uint64_t read_plugged(void *opaque, hwaddr at, unsigned size)
 {
     return GEFSUNK_AHCI(opaque)->pump.plugged;
 }
 
 #define DWORDS .endianness = DEVICE_LITTLE_ENDIAN, .valid = { 4, 4 }, .impl = { 4, 4 }
 static const MemoryRegionOps register_ops = { .read = read_register, .write = write_register, DWORDS };
-static const MemoryRegionOps hand_ops = { .read = read_hand, .write = write_hand, DWORDS };
+static const MemoryRegionOps fault_ops = { .read = read_plugged, .write = inject, DWORDS };
 
-/* The machine is reset: a new controller, and all behind it begins anew. The media stay. */
+/* The machine is reset. */
 static void begin(DeviceState *dev)
 {
     GefsunkAhci *s = GEFSUNK_AHCI(dev);
     record_reset(&s->recording);
-    must(gef_hba_free(&s->pump.hba));
-    must(gef_hba_new(&s->pump.hba));
-    must(gef_pump_reset(&s->pump));
-    s->raised = s->pump.message = 0;
+    s->is_reset_due = true;
+    has_begun(s);
     pci_set_irq(PCI_DEVICE(s), 0);
+}
+
+/* If the guest lets the controller at its memory now, what waited for that goes on. */
+static void write_config(PCIDevice *dev, uint32_t at, uint32_t value, int len)
+{
+    pci_default_write_config(dev, at, value, len);
+    qemu_bh_schedule(GEFSUNK_AHCI(dev)->later);
 }
 
 static void begin_recording(GefsunkAhci *s)
@@ -301,40 +379,66 @@ static void begin_recording(GefsunkAhci *s)
     }
 }
 
-static void realize(PCIDevice *dev, Error **errp)
+/* The controller with its disks. */
+static void make(GefsunkAhci *s, Error **errp)
 {
     ERRP_GUARD();
-    GefsunkAhci *s = GEFSUNK_AHCI(dev);
+    static uint32_t controllers;
+    gef_status status;
     unsigned port;
-    /* The controller reads the guest's memory as one block from address 0 on: so that it is one, it is no larger. */
-    s->ports = s->multiplier ? s->ports : 1;
-    if (current_machine->ram_size > 2 * GiB || s->ports < 1 || s->ports > GEF_PUMP_PORTS || s->disks > s->ports) {
-        error_setg(errp, "at most 2 GiB of memory, 15 ports, and as many disks as ports; 1 with no multiplier");
-        return;
-    }
     s->pump.memory = memory_region_get_ram_ptr(current_machine->ram);
     s->pump.len = current_machine->ram_size;
     s->pump.write = bring;
     s->pump.show = show;
     s->pump.context = s;
     s->pump.port_0_open = s->port0;
-    s->out = s->log ? fopen(s->log, "w") : NULL;
+    s->serial = controllers++ << 16;
     open_images(s, errp);
     if (*errp) {
         return;
     }
-    must(gef_pump_open(&s->pump, s->multiplier ? s->ports : 0));
-    for (port = 0; port < s->disks; port++) {
-        plug(s, port, false);
+    status = gef_pump_open(&s->pump, s->multiplier ? s->ports : 0);
+    if (status != GEF_OK) {
+        error_setg(errp, "%s", gef_status_text(status));
     }
+    for (port = 0; port < s->disks && !*errp; port++) {
+        plug(s, port, false, errp);
+    }
+}
+
+static void realize(PCIDevice *dev, Error **errp)
+{
+    ERRP_GUARD();
+    GefsunkAhci *s = GEFSUNK_AHCI(dev);
+    s->ports = s->multiplier ? s->ports : 1;
+    if (s->ports < 1 || s->ports > GEF_PUMP_PORTS || s->disks > s->ports) {
+        error_setg(errp, "1 to 15 ports, and no more disks than ports: 1 with no multiplier");
+        return;
+    }
+    /* The controller reads the guest's memory as one block from address 0 on. */
+    if (!memory_region_is_ram(current_machine->ram) || current_machine->ram_size > 2 * GiB) {
+        error_setg(errp, "the guest's memory must be one block, of 2 GiB at most");
+        return;
+    }
+    make(s, errp);
+    if (*errp) {
+        return;
+    }
+    s->out = s->log ? fopen(s->log, "w") : NULL;
     begin_recording(s);
+    if ((s->log && !s->out) || (s->record && !s->recording.out)) {
+        error_setg(errp, "%s cannot be written", s->log && !s->out ? s->log : s->record);
+        return;
+    }
     s->later = qemu_bh_new(run_pump, s);
     pci_config_set_prog_interface(dev->config, 1);
     pci_config_set_interrupt_pin(dev->config, 1);
-    memory_region_init_io(&s->hand, OBJECT(s), &hand_ops, s, "gefsunk-hand", 16);
     memory_region_init_io(&s->registers, OBJECT(s), &register_ops, s, "gefsunk-ahci", 4096);
-    pci_register_bar(dev, 0, PCI_BASE_ADDRESS_SPACE_MEMORY, &s->hand);
     pci_register_bar(dev, 5, PCI_BASE_ADDRESS_SPACE_MEMORY, &s->registers);
+    if (s->faults) {
+        memory_region_init_io(&s->fault_register, OBJECT(s), &fault_ops, s, "gefsunk-faults", 16);
+        pci_register_bar(dev, 0, PCI_BASE_ADDRESS_SPACE_MEMORY, &s->fault_register);
+    }
     msi_init(dev, 0x80, 1, true, false, NULL);
 }
 
@@ -349,21 +453,26 @@ static Property properties[] = {
     DEFINE_PROP_BOOL("multiplier", GefsunkAhci, multiplier, true),
     DEFINE_PROP_BOOL("port0", GefsunkAhci, port0, false),
     DEFINE_PROP_BOOL("accesses", GefsunkAhci, accesses, false),
+    DEFINE_PROP_BOOL("faults", GefsunkAhci, faults, false),
     DEFINE_PROP_STRING("log", GefsunkAhci, log),
     DEFINE_PROP_STRING("record", GefsunkAhci, record),
     DEFINE_PROP_STRING("images", GefsunkAhci, names),
     DEFINE_PROP_END_OF_LIST(),
 };
 
+static const VMStateDescription not_migrated = { .name = TYPE_GEFSUNK_AHCI, .unmigratable = 1 };
+
 static void class_init(ObjectClass *klass, void *data)
 {
     DeviceClass *dc = DEVICE_CLASS(klass);
     PCIDeviceClass *k = PCI_DEVICE_CLASS(klass);
     k->realize = realize;
+    k->config_write = write_config;
     k->vendor_id = 0x1b36;
     k->device_id = 0x00f0;
     k->class_id = PCI_CLASS_STORAGE_SATA;
     dc->reset = begin;
+    dc->vmsd = &not_migrated;
     dc->hotpluggable = false;
     device_class_set_props(dc, properties);
     set_bit(DEVICE_CATEGORY_STORAGE, dc->categories);
