@@ -3,7 +3,7 @@
 
 ghost use Rattle.std.specs.Prelude.{◌≡◌, ◌<◌, ◌≤◌, IfSome};
 ghost use Rattle.hba_fbs.specs.Due.{due_of};
-ghost use Rattle.hba_fbs.specs.Registers.{AreRegisters};
+ghost use Rattle.hba_fbs.specs.Registers.{AreOwn};
 ghost use Rattle.hba_fbs.specs.Issuing.{is_busy};
 
 use crate::port::PortCore;
@@ -24,7 +24,7 @@ impl PortCore {
     /// The port's own registers.
     pub fn registers(&self) -> Registers
         ensures value { result ≡ self.now.registers }
-        ensures are { AreRegisters result }
+        ensures are { AreOwn result }
     {
         self.registers
     }

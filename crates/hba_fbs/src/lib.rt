@@ -13,6 +13,7 @@
 
 mod asking;
 mod bits;
+mod bounds;
 mod data;
 mod due;
 mod error;
@@ -26,12 +27,14 @@ mod register;
 mod registers;
 mod report;
 mod reset;
+mod room;
 mod sending;
 mod shell;
 mod state;
 mod status;
 mod tables;
 mod take;
+mod turn;
 
 pub use due::Due;
 pub use error::{NoRegister, WriteError};
@@ -41,6 +44,8 @@ pub use port::PortCore;
 pub use register::Register;
 pub use registers::Registers;
 pub use report::{TakeReport, Wrote};
+pub use room::Room;
 pub use shell::HostPort;
 pub use state::DeviceState;
 pub use status::Block;
+pub use turn::Turn;
