@@ -9,6 +9,9 @@
 //! [`HostPort::read`] shows a register. [`HostPort::write`] takes all bits of a value, or refuses the write.
 //! [`HostPort::take`] takes a FIS. [`HostPort::next_out`] gives the next frame to go out; no other call asks
 //! for memory.
+//!
+//! A [`HostPort`] is a [`PortCore`] beside a memory. The core holds no memory: it says what a FIS does and what goes out
+//! next, and whoever has the memory reads commands and tables there, posts FISes and moves the bytes.
 #![tactic(auto)]
 
 mod asking;

@@ -255,7 +255,7 @@ impl HostPort {
         self.core.is_issued(slot)
     }
 
-    /// The bytes of a write that [`next_out`](PortCore::next_out) gathers next, None where it gives no data next. Whoever
+    /// The bytes of a write that [`next_out`](HostPort::next_out) gathers next, None where it gives no data next. Whoever
     /// keeps the bytes elsewhere puts them to their places before that.
     pub fn due(&self) -> Option<Due>
         ensures value { result ≡ due_of self.now }

@@ -139,8 +139,9 @@ impl PortCore {
         !self.registers.switching && dev != 15 && is_of_transfer(fis) && owns_none(&self.slots, dev)
     }
 
-    // The row of the received area in which FISes of a device are posted.
-    pub(crate) fn row(&self, dev: u8) -> Option<u8>
+    /// The row of the received area in which FISes of a device are posted. Where a report says that one is posted, there
+    /// is one.
+    pub fn row(&self, dev: u8) -> Option<u8>
         requires { dev < 16 }
         ensures is { result ≡ row_for self.now dev }
         ensures low { IfSome result (λ row. row < 16) }
