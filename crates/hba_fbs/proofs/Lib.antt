@@ -1,4 +1,4 @@
-mod CmdLemmas
+mod RegisterLemmas
 mod SlotLemmas
 mod FillLemmas
 mod AnyLemmas

@@ -9,7 +9,7 @@ use Rattle.hba_fbs.specs.declared.error.WriteError.TheVariants as refusal
 use Rattle.hba_fbs.specs.declared.register.Register.TheVariants.{Ci}
 use Rattle.hba_fbs.specs.Issuing.{any_slot, is_busy}
 use Rattle.hba_fbs.specs.Offering.{Offer, active_by, aimed_by, asked_by, commands_by, refusal_by, slots_refusal_by, view_by, view_issued_by}
-use Rattle.hba_fbs.specs.Registers.{own_refusal}
+use Rattle.hba_fbs.specs.Registers.{own_refusal, own_refusal_by}
 use Rattle.hba_fbs.specs.Views.{DeviceView, Port, view_of}
 use Rattle.hba_fbs.proofs.IssueLemmas.{commands_none, issued_none, nothing_asked}
 
@@ -24,7 +24,7 @@ free_when true test busy e o run h = not_one busy e o h
 free_when false test busy e o run h = absurd (false≢true run)
 
 pub accepted_free : (port : Port) (offer : Offer) (value : ℕ) → port.registers.started ≡ true → refusal_by Ci port offer value ≡ None → any_slot value (is_busy port.slots) ≡ false
-unfolding own_refusal slots_refusal_by
+unfolding own_refusal own_refusal_by slots_refusal_by
 accepted_free port offer value run h = free_when port.registers.started (not (value == 0)) (any_slot value (is_busy port.slots)) refusal.SlotBusy _ run h
 
 -- while ST is 0 the value is 0
@@ -34,7 +34,7 @@ zero_when false true o run h = refl
 zero_when false false o run h = cc
 
 pub stopped_zero : (port : Port) (offer : Offer) (value : ℕ) → port.registers.started ≡ false → refusal_by Ci port offer value ≡ None → value ≡ 0
-unfolding own_refusal
+unfolding own_refusal own_refusal_by
 stopped_zero port offer value run h = eqb-true value 0 (zero_when port.registers.started (value == 0) (slots_refusal_by Ci port offer value) run h)
 
 -- the view of each device

@@ -13,6 +13,7 @@ pub mod Taking
 pub mod Deciding
 pub mod Offering
 pub mod Sending
+pub mod Turning
 pub mod Due
 pub mod Resets
 pub mod Between

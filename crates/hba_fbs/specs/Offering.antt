@@ -15,7 +15,7 @@ use Rattle.hba_fbs.specs.declared.register.Register.TheVariants.{Cmd, Sact, Ci, 
 use Rattle.hba_fbs.specs.declared.registers.Registers.{Registers}
 use Rattle.hba_fbs.specs.Issuing.{any_beside, any_slot, commands_with, is_busy, named_in, view_with}
 use Rattle.hba_fbs.specs.Offsets.{register_at}
-use Rattle.hba_fbs.specs.Registers.{falls, own_refusal, written}
+use Rattle.hba_fbs.specs.Registers.{falls, own_refusal_by, written}
 use Rattle.hba_fbs.specs.Views.{DeviceView, Port, stopped_view, view_of}
 use Rattle.hba_fbs.specs.Writing.{apart_refusal, busy_refusal, cleared_by, errors_after, view_cleared}
 
@@ -67,7 +67,7 @@ slots_refusal_by register port offer value = None
 
 abbrev pub refusal_by : Register → Port → Offer → ℕ → Option WriteError
 refusal_by register port offer value =
-    option_or (own_refusal register port.registers value) (slots_refusal_by register port offer value)
+    option_or (own_refusal_by register port.registers value) (slots_refusal_by register port offer value)
 
 abbrev pub write_refusal_by : Port → Offer → ℕ → ℕ → Option WriteError
 write_refusal_by port offer offset value = match_some (register_at offset) (Some refusal.NoRegister)

@@ -33,8 +33,12 @@ opening_registers = record {
   chosen = 0;
 }
 
--- What holds for the registers of every port: PxFBS.DEV has four bits, and an area in use lies in the
--- structure area, which ends at 100000h.
+-- What holds for the registers of every port: PxFBS.DEV has four bits, and FRE is 1 while ST is.
+pub record AreOwn (r : Registers) : Type 0 where
+  pub chosen : r.chosen < 16
+  pub receives : r.started ≡ true → r.receives ≡ true
+
+-- The same for a port beside a memory, where an area in use lies in the structure area, which ends at 100000h.
 pub record AreRegisters (r : Registers) : Type 0 where
   pub chosen : r.chosen < 16
   -- the command list is in use while ST is 1, and FRE is 1 then
@@ -71,6 +75,18 @@ cmd_refusal r starts receives =
     else if starts && not r.started && (not receives || is_list_outside r) then Some refusal.BadTable
     else None
 
+-- PxCMD is to set FRE or ST for an area that does not lie in the structure area
+abbrev pub starts_outside : Registers → (starts receives : Bool) → Bool
+starts_outside r starts receives =
+    receives && (not r.receives && is_area_outside r || starts && not r.started && is_list_outside r)
+
+-- the refusal without it, for a port that holds no memory
+abbrev pub cmd_refusal_by : Registers → (starts receives : Bool) → Option WriteError
+cmd_refusal_by r starts receives =
+    if r.receives && not receives && starts then Some refusal.Running
+    else if starts && not r.started && not receives then Some refusal.BadTable
+    else None
+
 abbrev pub running_if : Bool → Option WriteError
 running_if b = if b then Some refusal.Running else None
 
@@ -94,6 +110,16 @@ own_refusal Sact r value = stopped_if_ones r value
 own_refusal Ci r value = stopped_if_ones r value
 own_refusal Sntf r value = None
 own_refusal Fbs r value = running_if (r.started && not (beq (has_bit value en) r.switching))
+
+-- the same for a port that holds no memory
+unfoldable pub own_refusal_by : Register → Registers → ℕ → Option WriteError
+own_refusal_by Cmd r value = cmd_refusal_by r (has_bit value st) (has_bit value fre)
+own_refusal_by register r value = own_refusal register r value
+
+-- what a memory refuses beside it
+abbrev pub is_outside : Register → Registers → ℕ → Bool
+is_outside Cmd r value = starts_outside r (has_bit value st) (has_bit value fre)
+is_outside register r value = false
 
 -- ---- what an accepted write leaves
 

@@ -8,7 +8,7 @@ use Rattle.port_errors.specs.declared.cause.DeviceCause.{DeviceCause}
 use Rattle.hba_commands.specs.declared.command.Command.{Command}
 use Rattle.hba_fbs.specs.declared.registers.Registers.{Registers}
 use Rattle.hba_fbs.specs.declared.state.DeviceState.{DeviceState}
-use Rattle.hba_fbs.specs.Registers.{AreRegisters, opening_registers}
+use Rattle.hba_fbs.specs.Registers.{AreOwn, AreRegisters, opening_registers}
 
 pub record Port : Type 0 where
   -- the port's own registers
@@ -56,7 +56,13 @@ task_file state = 256 * state.error + state.status
 abbrev pub HaveCommands : Slots → List (Option Command) → Type 0
 HaveCommands slots commands = (slot : ℕ) → last_command commands slot ≡ None → issue_at slots slot ≡ None
 
--- what holds for every port
+-- what holds for every port that holds no memory
+pub record IsCorePort (port : Port) : Type 0 where
+  pub registers : AreOwn port.registers
+  pub commands : HaveCommands port.slots port.commands
+  pub active : port.active < 16
+
+-- what holds for every port beside a memory
 pub record IsPort (port : Port) : Type 0 where
   pub registers : AreRegisters port.registers
   pub commands : HaveCommands port.slots port.commands

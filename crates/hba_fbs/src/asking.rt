@@ -1,15 +1,12 @@
 //! What the core asks of whoever has the memory.
 
-ghost use Rattle.std.specs.Prelude.{◌≡◌, ◌<◌, ◌≤◌, ◌+◌, ◌%◌, true, IfSome, MatchOption};
+ghost use Rattle.std.specs.Prelude.{◌≡◌, ◌<◌, true, IfSome};
 ghost use Rattle.std.specs.Option.{option_map};
-ghost use Rattle.slots.specs.Data.{IsWriteOf, payload as payload_of, receiving_slot};
+ghost use Rattle.slots.specs.Data.{receiving_slot};
 ghost use Rattle.slots.specs.Slots.{context_of, issue_at, own_issue, slots_of};
-ghost use Rattle.hba_fbs.specs.Sending.{host_stamp};
 ghost use Rattle.hba_fbs.specs.Views.{last_command};
 
 use crate::port::PortCore;
-use crate::sending::stamp;
-use fis_view::Stamp;
 use hba_commands::Command;
 use slots::Work;
 
@@ -24,21 +21,6 @@ impl PortCore {
     {
         self.slots.keeps_rules();
         self.slots.receiving(dev)
-    }
-
-    /// The slot, the offset and the length of the data that goes to a device next, if it asked for data.
-    pub fn payload(&self, dev: u8) -> Option<(u8, u32, u32)>
-        requires { dev < 16 }
-        ensures value { result ≡ payload_of (context_of self.now.slots dev) }
-        ensures below { IfSome result (λ next. next.0 < 32) }
-        ensures own { IfSome result (λ next.
-            own_issue (slots_of dev self.now.slots) next.0 ≡ issue_at self.now.slots next.0) }
-        ensures few { IfSome result (λ next. next.2 ≤ 8192) }
-        ensures dwords { IfSome result (λ next. next.2 % 4 ≡ 0) }
-        ensures inside { IfSome result
-            (λ next. MatchOption (issue_at self.now.slots next.0) ⊥ (IsWriteOf dev next.1 next.2)) }
-    {
-        self.slots.next_payload(dev)
     }
 
     /// What is issued in a slot.
@@ -61,15 +43,15 @@ impl PortCore {
     pub(crate) fn area(&self) -> u32
         requires { self.now.registers.started ≡ true }
         ensures value { result ≡ self.now.registers.fb }
-        ensures inside { result + 0x1000 ≤ 0x100000 }
+        ensures receives { self.now.registers.receives ≡ true }
     {
         self.registers.fb
     }
 
-    // The stamp of the next frame, to this device.
-    pub(crate) fn stamp(&self, dev: u8) -> Stamp
-        ensures { result ≡ host_stamp dev self.now.number }
+    /// The running number of the next frame that goes out.
+    pub fn number(&self) -> u32
+        ensures { result ≡ self.now.number }
     {
-        stamp(dev, self.number)
+        self.number
     }
 }

@@ -3,6 +3,7 @@
 ghost use Rattle.std.specs.Prelude.{◌≡◌, ◌<◌, ◌≤◌, ◌+◌, ◌%◌, None, Some, false, IfSome, MatchOption};
 ghost use Rattle.slots.specs.Data.{receiving_slot};
 ghost use Rattle.slots.specs.Slots.{KeepsFree, LeavesOthers, context_of, issue_at, slots_of};
+ghost use Rattle.hba_fbs.specs.Deciding.{goes_past as goes_past_of};
 ghost use Rattle.hba_fbs.specs.Hearing.{asks as asks_of, block_ended, bus_failed as bus_heard, carried as carried_heard, ended as ended_heard, ended_fault as ended_fault_of, heard_data, mask_of_slot, moved, overflowed as overflow_heard};
 ghost use Rattle.hba_fbs.specs.Status.{is_quiet as is_quiet_status};
 ghost use Rattle.hba_fbs.specs.Tables.{are_last as are_last_of};
@@ -36,7 +37,7 @@ fn bus_failed(state: DeviceState) -> Heard
     }
 }
 
-fn overflowed(state: DeviceState) -> Heard
+pub(crate) fn overflowed(state: DeviceState) -> Heard
     ensures { result ≡ overflow_heard state }
 {
     Heard {
@@ -105,6 +106,19 @@ fn are_last(slots: &SlotTable, dev: u8, count: u32) -> bool
     }
 }
 
+/// Whether so many bytes go past this one of the slot for which a device sends Data.
+pub(crate) fn goes_past(slots: &SlotTable, dev: u8, total: u32, count: u32) -> bool
+    requires { dev < 16 }
+    ensures { result ≡ goes_past_of total (context_of slots.now dev) count }
+{
+    match slots.context(dev) {
+        Some(context) => {
+            context.to_host && u64::from(total) < u64::from(context.next) + u64::from(count)
+        }
+        None => false,
+    }
+}
+
 /// Hears a Data FIS of a device with `len` bytes. `sound` says whether the table of the slot for which it comes can be
 /// used.
 pub(crate) fn hear_data(
@@ -124,6 +138,8 @@ pub(crate) fn hear_data(
     ensures len { IfSome (wrote_by result.happening) (λ wrote. wrote.len ≡ len) }
     ensures slot { IfSome (wrote_by result.happening) (λ wrote.
         receiving_slot (context_of slots.old dev) ≡ Some wrote.slot) }
+    ensures from { IfSome (wrote_by result.happening) (λ wrote. MatchOption
+        (context_of slots.old dev) ⊥ (λ context. wrote.offset ≡ context.next)) }
     ensures fits { IfSome (wrote_by result.happening) (λ wrote. MatchOption
         (issue_at slots.old wrote.slot) ⊥ (λ issue. wrote.offset + wrote.len ≤ issue.work.len)) }
 {

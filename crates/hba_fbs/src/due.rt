@@ -1,9 +1,9 @@
-//! What a controller round the port asks of it: its own registers, which slots are in use, and which bytes of a write it
-//! gathers next.
+//! What a controller round the port asks of it: its own registers, which slots are in use, and which bytes of a write go
+//! out next.
 
 ghost use Rattle.std.specs.Prelude.{◌≡◌, ◌<◌, ◌≤◌, IfSome};
 ghost use Rattle.hba_fbs.specs.Due.{due_of};
-ghost use Rattle.hba_fbs.specs.Registers.{AreRegisters};
+ghost use Rattle.hba_fbs.specs.Registers.{AreOwn};
 ghost use Rattle.hba_fbs.specs.Issuing.{is_busy};
 
 use crate::port::PortCore;
@@ -24,7 +24,7 @@ impl PortCore {
     /// The port's own registers.
     pub fn registers(&self) -> Registers
         ensures value { result ≡ self.now.registers }
-        ensures are { AreRegisters result }
+        ensures are { AreOwn result }
     {
         self.registers
     }
@@ -37,8 +37,7 @@ impl PortCore {
         self.slots.work(slot).is_some()
     }
 
-    /// The bytes of a write that [`next_out`](PortCore::next_out) gathers next, None where it gives no data next. Whoever
-    /// keeps the bytes elsewhere puts them to their places before that.
+    /// The bytes of a write that go out next, None where no data goes next.
     pub fn due(&self) -> Option<Due>
         ensures value { result ≡ due_of self.now }
         ensures slot { IfSome result (λ due. due.slot < 32) }

@@ -7,12 +7,13 @@ ghost use Rattle.slots.specs.Commands.{IsSlotAnswer};
 ghost use Rattle.slots.specs.Data.{receiving_slot};
 ghost use Rattle.slots.specs.Setup.{out_setup};
 ghost use Rattle.hba_fbs.specs.Hearing.{answer_fault as answer_fault_of, answered as answered_heard, block_of as block_of_fis, cause_of_setup as cause_of_setup_error, done_by as done_by_answer, faulty as faulty_heard, heard_activate, heard_bad, heard_bits, heard_d2h, heard_fis, heard_out, heard_pio, heard_register, heard_setup, is_admitted as is_admitted_fis, moved, named as named_heard, quietly as quietly_heard, signing as signing_heard};
-ghost use Rattle.hba_fbs.specs.Deciding.{carries};
+ghost use Rattle.hba_fbs.specs.Deciding.{Reaches, carries, has_table as has_table_of, heard_within, is_past as is_past_of};
 ghost use Rattle.hba_fbs.specs.Taking.{wrote_by};
 
-use crate::data::hear_data;
+use crate::data::{goes_past, hear_data, overflowed};
 use crate::post::is_ata_signature;
 use crate::report::Wrote;
+use crate::room::Room;
 use crate::state::DeviceState;
 use crate::status::{Block, is_busy, is_error};
 use fis_view::{Fis, PioSetup, RegD2H};
@@ -366,16 +367,10 @@ fn block_of(fis: &PioSetup<'_>) -> Block
     }
 }
 
-/// Hears a FIS that may come from this PM Port. `sound` says whether the table of the slot for which Data comes can be
-/// used.
+// Hears a FIS that may come from this PM Port. `sound` says whether the table of the slot for which Data comes can be
+// used.
 #[tactic(auto, unfolding(crate::specs::Hearing::heard_fis))]
-pub(crate) fn hear(
-    slots: &mut SlotTable,
-    dev: u8,
-    state: DeviceState,
-    sound: bool,
-    fis: &Fis<'_>,
-) -> Heard
+fn hear(slots: &mut SlotTable, dev: u8, state: DeviceState, sound: bool, fis: &Fis<'_>) -> Heard
     requires { dev < 16 }
     ensures heard { result ≡ heard_fis (slots_of dev slots.old) state sound fis.now }
     ensures own { slots_of dev slots.new ≡ moved result.happening (slots_of dev slots.old) }
@@ -386,6 +381,8 @@ pub(crate) fn hear(
         (λ wrote. wrote.len ≡ length (drop 4 (frame_of fis.now))) }
     ensures slot { IfSome (wrote_by result.happening) (λ wrote.
         receiving_slot (context_of slots.old dev) ≡ Some wrote.slot) }
+    ensures from { IfSome (wrote_by result.happening) (λ wrote. MatchOption
+        (context_of slots.old dev) ⊥ (λ context. wrote.offset ≡ context.next)) }
     ensures fits { IfSome (wrote_by result.happening) (λ wrote. MatchOption
         (issue_at slots.old wrote.slot) ⊥ (λ issue. wrote.offset + wrote.len ≤ issue.work.len)) }
 {
@@ -417,5 +414,61 @@ pub(crate) fn hear(
         Fis::Payload(fis) => hear_data(slots, dev, state, sound, fis.payload().len() as u32),
         Fis::DmaActivate(_) => hear_activate(slots, dev, state),
         Fis::Unknown(_) | Fis::RegH2D(_) => quietly(state, Happening::Nothing),
+    }
+}
+
+impl Room {
+    /// Whether the table can be used.
+    pub(crate) fn has_table(self) -> bool
+        ensures { result ≡ has_table_of self }
+    {
+        self != Room::NoTable
+    }
+}
+
+// Whether it is Data that goes past so many bytes of its slot.
+fn is_past(slots: &SlotTable, dev: u8, total: u32, fis: &Fis<'_>) -> bool
+    requires { dev < 16 }
+    ensures { result ≡ is_past_of total (context_of slots.now dev) fis.now }
+{
+    match fis {
+        Fis::Payload(fis) => goes_past(slots, dev, total, fis.payload().len() as u32),
+        _ => false,
+    }
+}
+
+/// Hears a FIS that may come from this PM Port. `room` is that of the table of the slot for which Data comes.
+#[tactic(auto, unfolding(crate::specs::Deciding::heard_within))]
+pub(crate) fn hear_within(
+    slots: &mut SlotTable,
+    dev: u8,
+    state: DeviceState,
+    room: Room,
+    fis: &Fis<'_>,
+) -> Heard
+    requires { dev < 16 }
+    ensures heard { result ≡ heard_within (slots_of dev slots.old) state room fis.now }
+    ensures own { slots_of dev slots.new ≡ moved result.happening (slots_of dev slots.old) }
+    ensures others { LeavesOthers dev slots.old slots.new }
+    ensures frees { KeepsFree slots.old slots.new }
+    ensures unwritten { carries (has_table_of room) fis.now ≡ false → wrote_by result.happening ≡ None }
+    ensures len { IfSome (wrote_by result.happening)
+        (λ wrote. wrote.len ≡ length (drop 4 (frame_of fis.now))) }
+    ensures slot { IfSome (wrote_by result.happening) (λ wrote.
+        receiving_slot (context_of slots.old dev) ≡ Some wrote.slot) }
+    ensures fits { IfSome (wrote_by result.happening) (λ wrote. MatchOption
+        (issue_at slots.old wrote.slot) ⊥ (λ issue. wrote.offset + wrote.len ≤ issue.work.len)) }
+    ensures reaches { IfSome (wrote_by result.happening) (λ wrote.
+        Reaches room (wrote.offset + wrote.len)) }
+{
+    match room {
+        Room::NoTable => hear(slots, dev, state, false, fis),
+        Room::Whole => hear(slots, dev, state, true, fis),
+        Room::Bytes(total) => {
+            if is_past(slots, dev, total, fis) {
+                return overflowed(state);
+            }
+            hear(slots, dev, state, true, fis)
+        }
     }
 }

@@ -9,10 +9,14 @@
 //! [`HostPort::read`] shows a register. [`HostPort::write`] takes all bits of a value, or refuses the write.
 //! [`HostPort::take`] takes a FIS. [`HostPort::next_out`] gives the next frame to go out; no other call asks
 //! for memory.
+//!
+//! A [`HostPort`] is a [`PortCore`] beside a memory. The core holds no memory: it says what a FIS does and what goes out
+//! next, and whoever has the memory reads commands and tables there, posts FISes and moves the bytes.
 #![tactic(auto)]
 
 mod asking;
 mod bits;
+mod bounds;
 mod data;
 mod due;
 mod error;
@@ -26,12 +30,14 @@ mod register;
 mod registers;
 mod report;
 mod reset;
+mod room;
 mod sending;
 mod shell;
 mod state;
 mod status;
 mod tables;
 mod take;
+mod turn;
 
 pub use due::Due;
 pub use error::{NoRegister, WriteError};
@@ -41,6 +47,8 @@ pub use port::PortCore;
 pub use register::Register;
 pub use registers::Registers;
 pub use report::{TakeReport, Wrote};
+pub use room::Room;
 pub use shell::HostPort;
 pub use state::DeviceState;
 pub use status::Block;
+pub use turn::Turn;

@@ -10,7 +10,7 @@ ghost use Rattle.hba_fbs.specs.Issuing.{any_beside as any_beside_of, any_slot, c
 ghost use Rattle.hba_fbs.specs.Offering.{WritesBy, active_by, aimed_by, asked_by, commands_by, is_apart_by, issue_refusal_by, refusal_by, slots_refusal_by, view_by, view_issued_by, write_refusal_by};
 ghost use Rattle.hba_fbs.specs.Writing.{apart_refusal as apart_refusal_of, errors_after, view_cleared};
 ghost use Rattle.hba_fbs.specs.Reading.{read_at, shown_device as shown_device_of, value_of};
-ghost use Rattle.hba_fbs.specs.Views.{Flushes, IsPort, LeavesOtherViews, opening_port, stopped_view, view_of};
+ghost use Rattle.hba_fbs.specs.Views.{Flushes, IsCorePort, LeavesOtherViews, opening_port, stopped_view, view_of};
 
 use crate::bits::{DEC, UNKNOWN, bit, has_bit, raised};
 use crate::error::{NoRegister, WriteError};
@@ -24,7 +24,7 @@ use port_errors::{DeviceCause, Interrupts, PortCause, PortErrors};
 use slots::SlotTable;
 use std::marker::Model;
 
-/// A host port.
+/// A host port that holds no memory: it decides, and whoever has the memory moves the bytes.
 #[derive(Drop)]
 pub struct PortCore {
     /// Its own registers.
@@ -45,7 +45,7 @@ pub struct PortCore {
 }
 
 impl Model for PortCore {
-    ghost use Rattle.hba_fbs.specs.Views.{IsPort, Port};
+    ghost use Rattle.hba_fbs.specs.Views.{IsCorePort, Port};
 
     ghost Value = { Port };
 
@@ -59,7 +59,7 @@ impl Model for PortCore {
       active = p.active;
     } };
 
-    ghost invariant = { λ p. IsPort (record {
+    ghost invariant = { λ p. IsCorePort (record {
       registers = p.registers;
       slots = p.slots;
       errors = p.errors;
@@ -98,7 +98,7 @@ impl PortCore {
 
     /// The rules that hold for every port, its slots and its errors. The call has no effect.
     pub fn keeps_rules(&self)
-        ensures port { IsPort self.now }
+        ensures port { IsCorePort self.now }
         ensures slots { IsTable self.now.slots }
         ensures errors { AreErrors self.now.errors }
     {

@@ -4,7 +4,7 @@ ghost use Rattle.std.specs.Prelude.{◌≡◌, ◌<◌, ◌≤◌, ◌+◌, bit_
 ghost use Rattle.rx_area.specs.Area.{LeavesOthers, after_post, posted_at, row_after, row_of};
 ghost use Rattle.hba_fbs.specs.Bits.{bit as bit_of};
 ghost use Rattle.hba_fbs.specs.Posting.{Posts, is_ata_signature as is_ata_signature_of, is_signature as is_signature_of, posted as posted_of, signature_of, signs as signs_of};
-ghost use Rattle.hba_fbs.specs.Registers.{AreRegisters};
+ghost use Rattle.hba_fbs.specs.Registers.{AreOwn};
 
 use crate::bits::raised;
 use crate::registers::Registers;
@@ -102,9 +102,9 @@ fn notified(old: u16, dev: u8, notifies: bool) -> u16
 #[tactic(auto, unfolding(crate::specs::Posting::posted))]
 pub(crate) fn posted(registers: Registers, dev: u8, resetting: bool, fis: &Fis<'_>) -> Registers
     requires dev { dev < 16 }
-    requires are { AreRegisters registers }
+    requires are { AreOwn registers }
     ensures value { result ≡ posted_of registers dev resetting fis.now }
-    ensures are { AreRegisters result }
+    ensures are { AreOwn result }
 {
     match fis {
         Fis::RegD2H(fis) => Registers {

@@ -3,19 +3,18 @@
 ghost use Rattle.std.specs.Prelude.{◌≡◌, None};
 ghost use Rattle.slots.specs.Slots.{has_bit as has_bit_of};
 ghost use Rattle.hba_fbs.specs.Bits.{fre as fre_bit, st as st_bit};
-ghost use Rattle.hba_fbs.specs.Registers.{AreRegisters, cmd_of, cmd_refusal as cmd_refusal_of, falls as falls_of, fbs_of, is_area_outside as is_area_outside_of, is_list_outside as is_list_outside_of, opening_registers, own_refusal, running_if as running_if_of, stopped_if_ones as stopped_if_ones_of, written as written_of};
+ghost use Rattle.hba_fbs.specs.Registers.{AreOwn, cmd_of, cmd_refusal_by, falls as falls_of, fbs_of, opening_registers, own_refusal_by, running_if as running_if_of, stopped_if_ones as stopped_if_ones_of, written as written_of};
 
 use crate::bits::{
     ADO, CR, DEV, EN, FBSCP, FR, FRE, PMA, ST, UNKNOWN, bit, clearable, cleared, has_bit,
 };
 use crate::error::WriteError;
 use crate::register::Register;
-use host_memory::CLIENT_START;
 
 /// The size of the command list in bytes: a header of 32 bytes for each slot.
-const LIST_LEN: u32 = 0x400;
+pub(crate) const LIST_LEN: u32 = 0x400;
 /// The size of the received area in bytes.
-const AREA_LEN: u32 = 0x1000;
+pub(crate) const AREA_LEN: u32 = 0x1000;
 
 /// The fields of the port's own registers.
 #[derive(Clone, Copy, Debug, PartialEq, Eq)]
@@ -62,7 +61,7 @@ impl Registers {
     /// The registers of a new port.
     pub(crate) fn new() -> Registers
         ensures value { result ≡ opening_registers }
-        ensures are { AreRegisters result }
+        ensures are { AreOwn result }
     {
         Registers {
             clb: 0,
@@ -97,36 +96,20 @@ impl Registers {
 
     /// PxFBS without SDE and DWE. DEC reads 0.
     pub(crate) fn fbs(self) -> u32
-        requires { AreRegisters self }
+        requires { AreOwn self }
         ensures { result ≡ fbs_of self }
     {
         bit(self.switching, EN) + (u32::from(self.chosen) << DEV) + ADO
     }
 
-    fn is_area_outside(self) -> bool
-        ensures { result ≡ is_area_outside_of self }
-    {
-        self.fbu != 0 || u64::from(self.fb) + u64::from(AREA_LEN) > u64::from(CLIENT_START)
-    }
-
-    fn is_list_outside(self) -> bool
-        ensures { result ≡ is_list_outside_of self }
-    {
-        self.clbu != 0 || u64::from(self.clb) + u64::from(LIST_LEN) > u64::from(CLIENT_START)
-    }
-
     // Why a write of PxCMD with these bits ST and FRE is refused.
-    #[tactic(auto, unfolding(crate::specs::Registers::cmd_refusal))]
     fn cmd_refusal(self, starts: bool, receives: bool) -> Option<WriteError>
-        ensures { result ≡ cmd_refusal_of self starts receives }
+        ensures { result ≡ cmd_refusal_by self starts receives }
     {
         if self.receives && !receives && starts {
             return Some(WriteError::Running);
         }
-        if receives && !self.receives && self.is_area_outside() {
-            return Some(WriteError::BadTable);
-        }
-        if starts && !self.started && (!receives || self.is_list_outside()) {
+        if starts && !self.started && !receives {
             return Some(WriteError::BadTable);
         }
         None
@@ -139,9 +122,9 @@ impl Registers {
     }
 
     /// Why a write is refused because of these registers.
-    #[tactic(auto, unfolding(crate::specs::Registers::own_refusal))]
+    #[tactic(auto, unfolding(crate::specs::Registers::own_refusal, crate::specs::Registers::own_refusal_by))]
     pub(crate) fn refusal(self, register: Register, value: u32) -> Option<WriteError>
-        ensures { result ≡ own_refusal register self value }
+        ensures { result ≡ own_refusal_by register self value }
     {
         match register {
             Register::Clb | Register::Clbu => running_if(self.started),
@@ -168,11 +151,11 @@ impl Registers {
     // The registers after an accepted write of PxCMD.
     #[tactic(auto, unfolding(crate::specs::Registers::written))]
     fn with_cmd(self, value: u32) -> Registers
-        requires are { AreRegisters self }
-        requires accepted { cmd_refusal_of self
+        requires are { AreOwn self }
+        requires accepted { cmd_refusal_by self
             (has_bit_of value st_bit) (has_bit_of value fre_bit) ≡ None }
         ensures written { result ≡ written_of Register.Cmd self value }
-        ensures are { AreRegisters result }
+        ensures are { AreOwn result }
     {
         Registers {
             started: has_bit(value, ST),
@@ -184,12 +167,12 @@ impl Registers {
     }
 
     /// The registers after an accepted write.
-    #[tactic(auto, unfolding(crate::specs::Registers::written, crate::specs::Registers::own_refusal))]
+    #[tactic(auto, unfolding(crate::specs::Registers::written, crate::specs::Registers::own_refusal, crate::specs::Registers::own_refusal_by))]
     pub(crate) fn written(self, register: Register, value: u32) -> Registers
-        requires are { AreRegisters self }
-        requires accepted { own_refusal register self value ≡ None }
+        requires are { AreOwn self }
+        requires accepted { own_refusal_by register self value ≡ None }
         ensures written { result ≡ written_of register self value }
-        ensures are { AreRegisters result }
+        ensures are { AreOwn result }
     {
         let mut registers = self;
         match register {

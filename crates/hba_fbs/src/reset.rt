@@ -2,7 +2,7 @@
 
 ghost use Rattle.std.specs.Prelude.{◌≡◌};
 ghost use Rattle.hba_fbs.specs.Resets.{link_reset, reopened, whole_reset};
-ghost use Rattle.hba_fbs.specs.Registers.{AreRegisters};
+ghost use Rattle.hba_fbs.specs.Registers.{AreOwn};
 
 use crate::port::PortCore;
 use crate::registers::Registers;
@@ -10,7 +10,7 @@ use crate::registers::Registers;
 impl PortCore {
     // As it opens, with these registers, but that frames are counted on.
     fn reopen(&mut self, registers: Registers)
-        requires { AreRegisters registers }
+        requires { AreOwn registers }
         ensures { self.new ≡ reopened self.old registers }
     {
         let number = self.number;

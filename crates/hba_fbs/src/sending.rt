@@ -6,7 +6,7 @@ ghost use Rattle.port_errors.specs.Errors.{cause_of};
 ghost use Rattle.slots.specs.Commands.{MayBeSent, after_sent};
 ghost use Rattle.slots.specs.Data.{payload as payload_of};
 ghost use Rattle.slots.specs.Slots.{KeepsFree, LeavesOthers, context_of, issue_at, lowest_below, mask_below, slots_of};
-ghost use Rattle.hba_fbs.specs.Registers.{AreRegisters};
+ghost use Rattle.hba_fbs.specs.Registers.{AreOwn};
 ghost use Rattle.hba_fbs.specs.Sending.{Gives, counted, has_no_setup, host_stamp, is_due as is_due_of, is_ready as is_ready_state, is_sent, next_receiver as next_receiver_of, next_to_send as next_to_send_of, order_due, state_sent, stopped_by_bus, view_fed, view_sent};
 ghost use Rattle.hba_fbs.specs.Views.{LeavesOtherViews, last_command, state_at, view_of};
 
@@ -91,30 +91,6 @@ fn lowest_due(slots: &SlotTable, errors: &PortErrors) -> Option<u8>
     None
 }
 
-// ---- frames
-
-pub(crate) fn stamp(dev: u8, number: u32) -> Stamp
-    ensures { result ≡ host_stamp dev number }
-{
-    Stamp {
-        port: dev,
-        conn: 0,
-        number,
-        shown: [0; 15],
-    }
-}
-
-// The frame of a command.
-fn order_frame(alloc: Global, dev: u8, cfis: &[u8; 20], number: u32) -> Result<Frame, AllocError>
-    ensures { IfOk result (λ frame. frame
-        ≡ record { bytes = cfis.now; stamp = host_stamp dev number }) }
-{
-    match Frame::from_bytes(alloc, cfis, stamp(dev, number)) {
-        Ok(frame) => Ok(frame),
-        Err(_) => Err(AllocError),
-    }
-}
-
 // ---- what a command leaves
 
 // The state of a device after a command is sent to it.
@@ -152,8 +128,8 @@ fn block_sent(slots: &SlotTable, slot: u8, dev: u8, state: DeviceState) -> Optio
     }
 }
 
-// The device of the command in a slot.
-fn owner_of(slots: &SlotTable, slot: u8) -> u8
+/// The device of the command in a slot.
+pub(crate) fn owner_of(slots: &SlotTable, slot: u8) -> u8
     requires slot { slot < 32 }
     requires there { MayBeSent slots.now slot }
     ensures owner { MatchOption (issue_at slots.now slot) ⊥ (λ issue. issue.dev ≡ result) }
@@ -178,8 +154,8 @@ fn send_slot(slots: &mut SlotTable, slot: u8, dev: u8)
     slots.sent(slot);
 }
 
-// The command that was issued last in a slot.
-fn command_of(commands: &[Option<Command>; 32], slot: u8) -> Option<Command>
+/// The command that was issued last in a slot.
+pub(crate) fn command_of(commands: &[Option<Command>; 32], slot: u8) -> Option<Command>
     requires { slot < 32 }
     ensures { result ≡ last_command commands.now slot }
 {
@@ -190,7 +166,7 @@ fn command_of(commands: &[Option<Command>; 32], slot: u8) -> Option<Command>
 fn failed(registers: Registers, interrupts: u32) -> Registers
     ensures value { result
         ≡ record registers { interrupts = bit_or registers.interrupts interrupts } }
-    ensures are { AreRegisters registers → AreRegisters result }
+    ensures are { AreOwn registers → AreOwn result }
 {
     Registers {
         interrupts: registers.interrupts | interrupts,
@@ -219,7 +195,8 @@ impl PortCore {
         self.slots.next_command(ready, faulty)
     }
 
-    pub(crate) fn fail(&mut self)
+    /// The PRD table of the data that is due cannot be used: a host bus error stops the port.
+    pub fn fail(&mut self)
         ensures { self.new ≡ stopped_by_bus self.old }
     {
         let interrupts = self.errors.port(PortCause::Bus);
@@ -243,7 +220,7 @@ impl PortCore {
     }
 
     // The command of a device's slot goes out.
-    fn send(&mut self, slot: u8, dev: u8, command: &Command)
+    pub(crate) fn send(&mut self, slot: u8, dev: u8, command: &Command)
         requires slot { slot < 32 }
         requires dev { dev < 16 }
         requires may { MayBeSent self.old.slots slot }
@@ -261,28 +238,5 @@ impl PortCore {
         send_slot(&mut self.slots, slot, dev);
         self.states[dev as usize] = sent_to(state, command).with_block(block);
         self.number = self.number.saturating_add(1);
-    }
-
-    // Gives the command of a slot.
-    pub(crate) fn give_order(
-        &mut self,
-        alloc: Global,
-        slot: u8,
-    ) -> Result<Option<Frame>, AllocError>
-        requires slot { slot < 32 }
-        requires may { MayBeSent self.old.slots slot }
-        ensures gives { (memory : Memory) → IfOk result (λ frame. Gives (order_due self.old slot)
-            self.old memory frame self.new) }
-        ensures refused { OnErr result ((self.new ≡ self.old)
-            × (is_sent (order_due self.old slot) ≡ true)) }
-        ensures given { IfOk result (λ frame. is_some frame ≡ true) }
-    {
-        let Some(command) = command_of(&self.commands, slot) else {
-            unreachable!();
-        };
-        let dev = owner_of(&self.slots, slot);
-        let frame = order_frame(alloc, dev, &command.cfis, self.number)?;
-        self.send(slot, dev, &command);
-        Ok(Some(frame))
     }
 }

@@ -1,23 +1,26 @@
 //! The host port beside a memory: what the core decides, with the bytes moved.
 
-ghost use Rattle.std.specs.Prelude.{ℕ, ◌≡◌, ◌≢◌, ◌<◌, ◌≤◌, ◌+◌, [], None, Some, Ok, false, true, drop, is_some, length, IfOk, IfSome, IsSome, OnErr, OnOk};
+ghost use Rattle.std.specs.Prelude.{ℕ, ◌≡◌, ◌≢◌, ◌<◌, ◌≤◌, ◌+◌, [], None, Some, Ok, false, true, drop, is_some, length, IfOk, IfSome, OnErr, OnOk};
 ghost use Rattle.std.specs.Result.{result_err};
 ghost use Rattle.fis_view.specs.Seen.{frame_of};
+ghost use Rattle.host_memory.specs.Memory.{Memory};
 ghost use Rattle.host_memory.specs.Place.{total_of};
 ghost use Rattle.port_errors.specs.Errors.{AreErrors, KeepsCauses, cause_of, port_cause_in};
 ghost use Rattle.slots.specs.Commands.{own_slots};
-ghost use Rattle.slots.specs.Data.{payload as payload_of};
-ghost use Rattle.slots.specs.Slots.{KeepsFree, context_of, slots_of};
+ghost use Rattle.slots.specs.Slots.{KeepsFree, match_some, slots_of};
 ghost use Rattle.slots.specs.Table.{IsTable};
-ghost use Rattle.hba_fbs.specs.Deciding.{Decides, carries};
+ghost use Rattle.hba_fbs.specs.Deciding.{Decides, carries, room_if};
 ghost use Rattle.hba_fbs.specs.Due.{due_of};
 ghost use Rattle.hba_fbs.specs.Issuing.{is_busy};
+ghost use Rattle.hba_fbs.specs.Offsets.{register_at};
 ghost use Rattle.hba_fbs.specs.Posting.{posted as posted_registers};
 ghost use Rattle.hba_fbs.specs.Reading.{read_at};
+ghost use Rattle.hba_fbs.specs.Registers.{is_outside as is_outside_of};
 ghost use Rattle.hba_fbs.specs.Resets.{link_reset, whole_reset};
-ghost use Rattle.hba_fbs.specs.Sending.{Gives, MayRest, data_due, data_fis, gathered, is_sent, outgoing};
+ghost use Rattle.hba_fbs.specs.Sending.{Gives, MayRest, Order, data_fis, gathered, host_stamp, is_sent, outgoing};
 ghost use Rattle.hba_fbs.specs.Tables.{Delivers, is_sound};
 ghost use Rattle.hba_fbs.specs.Taking.{Hears, Ignores, PostsIn, errors_in, heard_now, heard_report, heard_view, ignores, place_in, port_of, row_for, settled as settled_registers, wrote_by};
+ghost use Rattle.hba_fbs.specs.Turning.{IsFed, IsOrdered, outgoing_at};
 ghost use Rattle.hba_fbs.specs.Views.{Flushes, IsPort, LeavesOtherViews, opening_port, view_of};
 ghost use Rattle.hba_fbs.specs.Writing.{Writes, write_refusal};
 
@@ -26,11 +29,15 @@ use crate::error::{NoRegister, WriteError};
 use crate::list::CommandList;
 use crate::port::PortCore;
 use crate::post::post;
+use crate::register::Register;
 use crate::registers::Registers;
 use crate::report::TakeReport;
+use crate::room::Room;
 use crate::tables::{receiving_table, sound_table};
 use crate::take::admit;
-use fis_view::{Fis, Frame};
+use crate::turn::Turn;
+use fis_view::{Fis, Frame, Stamp};
+use hba_commands::Command;
 use host_memory::{HostMemory, PrdTable};
 use port_errors::{DeviceCause, PortCause};
 use rx_area::Posted;
@@ -46,11 +53,14 @@ pub struct HostPort {
 }
 
 impl Model for HostPort {
+    ghost use Rattle.hba_fbs.specs.Registers.{AreRegisters};
     ghost use Rattle.hba_fbs.specs.Views.{Port};
 
     ghost Value = { Port };
 
     ghost view = { λ p. p.core };
+
+    ghost invariant = { λ p. AreRegisters p.core.registers };
 }
 
 // Posts a FIS in a row of the received area at `fb`, if there is one.
@@ -98,6 +108,28 @@ fn gather(
     Ok(bytes)
 }
 
+fn stamp(dev: u8, number: u32) -> Stamp
+    ensures { result ≡ host_stamp dev number }
+{
+    Stamp {
+        port: dev,
+        conn: 0,
+        number,
+        shown: [0; 15],
+    }
+}
+
+// The frame of a command.
+fn order_frame(alloc: Global, dev: u8, cfis: &[u8; 20], number: u32) -> Result<Frame, AllocError>
+    ensures { IfOk result (λ frame. frame
+        ≡ record { bytes = cfis.now; stamp = host_stamp dev number }) }
+{
+    match Frame::from_bytes(alloc, cfis, stamp(dev, number)) {
+        Ok(frame) => Ok(frame),
+        Err(_) => Err(AllocError),
+    }
+}
+
 // The payload of a Data FIS.
 fn payload_of_fis<'f>(fis: &Fis<'f>) -> Option<&'f [u8]>
     ensures there { IfSome result (λ payload. payload.now ≡ drop 4 (frame_of fis.now)) }
@@ -106,6 +138,17 @@ fn payload_of_fis<'f>(fis: &Fis<'f>) -> Option<&'f [u8]>
     match fis {
         Fis::Payload(fis) => Some(fis.payload()),
         _ => None,
+    }
+}
+
+// Whether a write sets FRE or ST for an area that does not lie in the structure area.
+fn is_outside(registers: Registers, offset: u32, value: u32) -> bool
+    ensures { result
+        ≡ match_some (register_at offset) false (λ register. is_outside_of register registers value) }
+{
+    match Register::at(offset) {
+        Some(register) => registers.is_outside(register, value),
+        None => false,
     }
 }
 
@@ -189,11 +232,12 @@ impl HostPort {
         ensures refused { OnErr result (self.new ≡ self.old) }
         ensures accepted { OnOk result (Writes self.old memory.now offset value self.new) }
     {
-        let list = CommandList {
-            registers: self.core.registers(),
-            memory,
-        };
-        self.core.write(offset, value, &list)
+        let registers = self.core.registers();
+        if is_outside(registers, offset, value) {
+            return Err(WriteError::BadTable);
+        }
+        self.core
+            .write(offset, value, &CommandList { registers, memory })
     }
 
     /// The port's own registers.
@@ -211,7 +255,7 @@ impl HostPort {
         self.core.is_issued(slot)
     }
 
-    /// The bytes of a write that [`next_out`](PortCore::next_out) gathers next, None where it gives no data next. Whoever
+    /// The bytes of a write that [`next_out`](HostPort::next_out) gathers next, None where it gives no data next. Whoever
     /// keeps the bytes elsewhere puts them to their places before that.
     pub fn due(&self) -> Option<Due>
         ensures value { result ≡ due_of self.now }
@@ -236,28 +280,37 @@ impl HostPort {
         self.core.reset();
     }
 
+    // Where the received area begins, while the port runs.
+    fn area(&self) -> u32
+        requires { self.now.registers.started ≡ true }
+        ensures value { result ≡ self.now.registers.fb }
+        ensures inside { result + 0x1000 ≤ 0x100000 }
+    {
+        self.core.area()
+    }
+
     // Hears a FIS that may come from this PM Port, and writes its payload.
     #[tactic(auto, using(crate::proofs::DataLemmas::delivers_at))]
     fn hear_over(&mut self, dev: u8, fis: &Fis<'_>, memory: &mut HostMemory) -> TakeReport
         requires dev { dev < 16 }
         requires healthy { (view_of dev self.old).fault ≡ None }
         ensures decides { Decides self.old dev
-            (is_sound memory.old self.old.commands (view_of dev self.old).slots) (Some fis.now)
-            result self.new }
+            (room_if (is_sound memory.old self.old.commands (view_of dev self.old).slots))
+            (Some fis.now) result self.new }
         ensures structure { memory.new.structure ≡ memory.old.structure }
         ensures client { Delivers memory.old self.old.commands (drop 4 (frame_of fis.now))
             result.wrote memory.new.client }
         ensures kept { KeepsCauses self.old.errors self.new.errors }
     {
         let Some(payload) = payload_of_fis(fis) else {
-            return self.core.hear_good(dev, true, fis);
+            return self.core.hear_good(dev, Room::Whole, fis);
         };
         let (structure, client) = memory.split();
         let found = receiving_table(&self.core, structure, client, dev);
         let Some((_, table)) = found else {
-            return self.core.hear_good(dev, false, fis);
+            return self.core.hear_good(dev, Room::NoTable, fis);
         };
-        let report = self.core.hear_good(dev, true, fis);
+        let report = self.core.hear_good(dev, Room::Whole, fis);
         if let Some(wrote) = report.wrote {
             table.scatter(client, wrote.offset, payload);
         }
@@ -294,7 +347,7 @@ impl HostPort {
             memory.new.client }
         ensures kept { KeepsCauses self.old.errors self.new.errors }
     {
-        let (fb, row) = (self.core.area(), self.core.row(dev));
+        let (fb, row) = (self.area(), self.core.row(dev));
         let report = self.hear_over(dev, fis, memory);
         let _ = post_in(memory, fb, row, fis);
         report
@@ -343,19 +396,25 @@ impl HostPort {
     fn give_data(
         &mut self,
         alloc: Global,
-        dev: u8,
         memory: &HostMemory,
+        dev: u8,
+        slot: u8,
+        offset: u32,
+        len: u32,
     ) -> Result<Option<Frame>, AllocError>
-        requires dev { dev < 16 }
-        requires due { IsSome (payload_of (context_of self.old.slots dev)) }
-        ensures gives { IfOk result (λ frame. Gives (data_due self.old memory.now dev)
+        requires fed { IsFed self.old dev slot offset len }
+        ensures gives { IfOk result (λ frame. Gives
+            (outgoing_at self.old memory.now (Turn.Feeds dev slot offset len))
             self.old memory.now frame self.new) }
         ensures stops { result ≡ Ok None → is_some self.new.errors.port ≡ true }
-        ensures refused { OnErr result ((self.new ≡ self.old)
-            × (is_sent (data_due self.old memory.now dev) ≡ true)) }
+        ensures refused { OnErr result ((self.new ≡ self.old) × (is_sent
+            (outgoing_at self.old memory.now (Turn.Feeds dev slot offset len)) ≡ true)) }
     {
-        let Some((slot, offset, len)) = self.core.payload(dev) else {
-            unreachable!();
+        let data = Turn::Feeds {
+            dev,
+            slot,
+            offset,
+            len,
         };
         let (structure, client) = (memory.structure(), memory.client());
         let found = sound_table(&self.core, structure, client, dev, slot);
@@ -364,8 +423,27 @@ impl HostPort {
             return Ok(None);
         };
         let bytes = gather(alloc, dev, &table, client, offset, len)?;
-        let frame = Frame::from_vec(bytes, self.core.stamp(dev));
-        self.core.feed(dev);
+        let frame = Frame::from_vec(bytes, stamp(dev, self.core.number()));
+        self.core.went(data);
+        Ok(Some(frame))
+    }
+
+    // Gives the command of a device's slot.
+    fn give_order(
+        &mut self,
+        alloc: Global,
+        dev: u8,
+        slot: u8,
+        command: Command,
+    ) -> Result<Option<Frame>, AllocError>
+        requires ordered { IsOrdered self.old dev slot command }
+        ensures gives { (memory : Memory) → IfOk result (λ frame. Gives (Order dev slot command)
+            self.old memory frame self.new) }
+        ensures refused { OnErr result (self.new ≡ self.old) }
+        ensures given { IfOk result (λ frame. is_some frame ≡ true) }
+    {
+        let frame = order_frame(alloc, dev, &command.cfis, self.core.number())?;
+        self.core.went(Turn::Orders { dev, slot, command });
         Ok(Some(frame))
     }
 
@@ -384,15 +462,15 @@ impl HostPort {
         ensures refused { OnErr result ((self.new ≡ self.old)
             × (is_sent (outgoing self.old memory.now) ≡ true)) }
     {
-        if !self.core.is_running() {
-            return Ok(None);
+        match self.core.next_out() {
+            Turn::Rests => Ok(None),
+            Turn::Feeds {
+                dev,
+                slot,
+                offset,
+                len,
+            } => self.give_data(alloc, memory, dev, slot, offset, len),
+            Turn::Orders { dev, slot, command } => self.give_order(alloc, dev, slot, command),
         }
-        if let Some(dev) = self.core.next_receiver() {
-            return self.give_data(alloc, dev, memory);
-        }
-        let Some(slot) = self.core.next_to_send() else {
-            return Ok(None);
-        };
-        self.core.give_order(alloc, slot)
     }
 }

@@ -1,21 +1,22 @@
 //! Taking a FIS from a device.
 
-ghost use Rattle.std.specs.Prelude.{ℕ, Bool, ◌≡◌, ◌≢◌, ◌<◌, ◌≤◌, ◌+◌, ◌||◌, None, Some, Ok, false, true, drop, is_some, length, IfSome, MatchOption};
+ghost use Rattle.std.specs.Prelude.{ℕ, ◌≡◌, ◌≢◌, ◌<◌, ◌≤◌, ◌+◌, ◌||◌, None, Some, Ok, false, true, drop, is_some, length, IfSome, MatchOption};
 ghost use Rattle.fis_view.specs.Seen.{frame_of, seen};
 ghost use Rattle.port_errors.specs.Errors.{KeepsCauses, cause_of};
 ghost use Rattle.slots.specs.Data.{receiving_slot};
 ghost use Rattle.slots.specs.Slots.{KeepsFree, context_of, issue_at, owned_by, slots_of};
-ghost use Rattle.hba_fbs.specs.Registers.{AreRegisters};
-ghost use Rattle.hba_fbs.specs.Deciding.{Decides, Passes, carries};
+ghost use Rattle.hba_fbs.specs.Registers.{AreOwn};
+ghost use Rattle.hba_fbs.specs.Deciding.{Decides, Passes, Reaches, carries, has_table};
 ghost use Rattle.hba_fbs.specs.Taking.{admitted, device_cause, errors_in, fault_interrupts, ignored_report, ignores, is_ignored as is_ignored_of, is_running as is_running_of, is_of_transfer as is_of_transfer_of, owns_none as owns_none_of, passes_over as passes_over_of, place_in, port_of, row_for, settled as settled_registers};
 ghost use Rattle.hba_fbs.specs.Views.{view_of};
 
 use crate::bits::raised;
-use crate::hearing::{Fault, Heard, bad, hear, is_admitted};
+use crate::hearing::{Fault, Heard, bad, hear_within, is_admitted};
 use crate::port::PortCore;
 use crate::post::{place_of, posted, signs};
 use crate::registers::Registers;
 use crate::report::TakeReport;
+use crate::room::Room;
 use crate::state::state_of;
 use bitflags::Flags;
 use fis_view::{Fis, FisFault, Frame};
@@ -45,9 +46,9 @@ fn mark(errors: &mut PortErrors, switching: bool, dev: u8, fault: Option<Fault>)
 #[tactic(auto, unfolding(crate::specs::Taking::settled))]
 fn settled(registers: Registers, heard: Heard, interrupts: u32) -> Registers
     requires interrupts { interrupts ≡ fault_interrupts heard.fault }
-    requires are { AreRegisters registers }
+    requires are { AreOwn registers }
     ensures value { result ≡ settled_registers registers heard }
-    ensures are { AreRegisters result }
+    ensures are { AreOwn result }
 {
     Registers {
         interrupts: registers.interrupts | raised(heard.pss, Interrupts::PSS) | interrupts,
@@ -138,8 +139,9 @@ impl PortCore {
         !self.registers.switching && dev != 15 && is_of_transfer(fis) && owns_none(&self.slots, dev)
     }
 
-    // The row of the received area in which FISes of a device are posted.
-    pub(crate) fn row(&self, dev: u8) -> Option<u8>
+    /// The row of the received area in which FISes of a device are posted. Where a report says that one is posted, there
+    /// is one.
+    pub fn row(&self, dev: u8) -> Option<u8>
         requires { dev < 16 }
         ensures is { result ≡ row_for self.now dev }
         ensures low { IfSome result (λ row. row < 16) }
@@ -157,7 +159,7 @@ impl PortCore {
     pub(crate) fn hear_bad(&mut self, dev: u8) -> TakeReport
         requires dev { dev < 16 }
         requires healthy { (view_of dev self.old).fault ≡ None }
-        ensures decides { (sound : Bool) → Decides self.old dev sound None result self.new }
+        ensures decides { (room : Room) → Decides self.old dev room None result self.new }
         ensures kept { KeepsCauses self.old.errors self.new.errors }
         ensures unwritten { result.wrote ≡ None }
     {
@@ -169,12 +171,12 @@ impl PortCore {
     }
 
     // Hears a FIS that may come from this PM Port.
-    pub(crate) fn hear_good(&mut self, dev: u8, sound: bool, fis: &Fis<'_>) -> TakeReport
+    pub(crate) fn hear_good(&mut self, dev: u8, room: Room, fis: &Fis<'_>) -> TakeReport
         requires dev { dev < 16 }
         requires healthy { (view_of dev self.old).fault ≡ None }
-        ensures decides { Decides self.old dev sound (Some fis.now) result self.new }
+        ensures decides { Decides self.old dev room (Some fis.now) result self.new }
         ensures kept { KeepsCauses self.old.errors self.new.errors }
-        ensures unwritten { carries sound fis.now ≡ false → result.wrote ≡ None }
+        ensures unwritten { carries (has_table room) fis.now ≡ false → result.wrote ≡ None }
         ensures len { IfSome result.wrote
             (λ wrote. wrote.len ≡ length (drop 4 (frame_of fis.now))) }
         ensures slot { IfSome result.wrote (λ wrote.
@@ -182,9 +184,10 @@ impl PortCore {
         ensures fits { IfSome result.wrote (λ wrote. MatchOption
             (issue_at self.old.slots wrote.slot) ⊥
             (λ issue. wrote.offset + wrote.len ≤ issue.work.len)) }
+        ensures reaches { IfSome result.wrote (λ wrote. Reaches room (wrote.offset + wrote.len)) }
     {
         let state = state_of(&self.states, dev);
-        let heard = hear(&mut self.slots, dev, state, sound, fis);
+        let heard = hear_within(&mut self.slots, dev, state, room, fis);
         let place = place_for(self.row(dev), fis);
         let switching = self.registers.switching;
         let registers = posted(self.registers, dev, state.resetting, fis);
@@ -195,43 +198,49 @@ impl PortCore {
     }
 
     // Takes a frame from this PM Port.
-    fn take_from(&mut self, dev: u8, sound: bool, frame: &Frame) -> TakeReport
+    fn take_from(&mut self, dev: u8, room: Room, frame: &Frame) -> TakeReport
         requires dev { dev < 16 }
         ensures ignored { ignores dev self.old frame.now.bytes ≡ true
             → Passes dev self.old result self.new }
         ensures heard { ignores dev self.old frame.now.bytes ≡ false
-            → Decides self.old dev sound (admitted dev (seen frame.now.bytes)) result self.new }
+            → Decides self.old dev room (admitted dev (seen frame.now.bytes)) result self.new }
         ensures kept { KeepsCauses self.old.errors self.new.errors }
+        ensures slot { IfSome result.wrote (λ wrote.
+            receiving_slot (context_of self.old.slots dev) ≡ Some wrote.slot) }
         ensures fits { IfSome result.wrote (λ wrote. MatchOption
             (issue_at self.old.slots wrote.slot) ⊥
             (λ issue. wrote.offset + wrote.len ≤ issue.work.len)) }
+        ensures reaches { IfSome result.wrote (λ wrote. Reaches room (wrote.offset + wrote.len)) }
     {
         let fis = frame.fis();
         if self.is_ignored(dev, &fis) {
             return TakeReport::ignored(dev);
         }
         match admit(dev, fis) {
-            Some(fis) => self.hear_good(dev, sound, &fis),
+            Some(fis) => self.hear_good(dev, room, &fis),
             None => self.hear_bad(dev),
         }
     }
 
     /// Takes a FIS from a device or from the control port. It is either ignored, or heard; then it is to be posted where
-    /// the report says, and its payload to be written as the report says. `sound` is the answer to `receiving`: whether
-    /// the PRD table of that slot can be used. A device that sends something wrong is faulty until it is flushed or
+    /// the report says, and its payload to be written as the report says. `room` is that of the PRD table of the slot that
+    /// [`receiving`](PortCore::receiving) names; it is looked at for Data alone. A device that sends something wrong is faulty until it is flushed or
     /// cleared; the others go on. An error of the control port or of the memory stops the port.
-    pub fn take(&mut self, sound: bool, frame: &Frame) -> TakeReport
+    pub fn take(&mut self, room: Room, frame: &Frame) -> TakeReport
         ensures ignored { ignores (port_of frame.now.bytes) self.old frame.now.bytes ≡ true
             → Passes (port_of frame.now.bytes) self.old result self.new }
         ensures heard { ignores (port_of frame.now.bytes) self.old frame.now.bytes ≡ false
-            → Decides self.old (port_of frame.now.bytes) sound
+            → Decides self.old (port_of frame.now.bytes) room
             (admitted (port_of frame.now.bytes) (seen frame.now.bytes)) result self.new }
         ensures kept { KeepsCauses self.old.errors self.new.errors }
+        ensures slot { IfSome result.wrote (λ wrote.
+            receiving_slot (context_of self.old.slots (port_of frame.now.bytes)) ≡ Some wrote.slot) }
         ensures fits { IfSome result.wrote (λ wrote. MatchOption
             (issue_at self.old.slots wrote.slot) ⊥
             (λ issue. wrote.offset + wrote.len ≤ issue.work.len)) }
+        ensures reaches { IfSome result.wrote (λ wrote. Reaches room (wrote.offset + wrote.len)) }
     {
         let dev = frame.pm_port();
-        self.take_from(dev, sound, frame)
+        self.take_from(dev, room, frame)
     }
 }

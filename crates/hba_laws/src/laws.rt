@@ -90,9 +90,9 @@ pub fn isolated()
     ensures filled { OwnFillAlike }
 {}
 
-/// A law for callers, isolation for a port that holds no memory; it runs no code. Whatever is answered about the
-/// tables, and whatever commands are offered, what belongs to a device is the fold of its own events, by the same
-/// function as beside a memory. Each event of a host is one of its core, with the answers that its memory gives.
+/// A law for callers, isolation for a port that holds no memory; it runs no code. Whatever room its tables have, and
+/// whatever commands are offered, what belongs to a device is the fold of its own events. It is the fold of a host, but
+/// that Data may go past its table. Each event of a host is one of its core, with the answers that its memory gives.
 pub fn core_isolated()
     ensures fold { IsFoldByOwn }
     ensures hosts { HostsAreCores }

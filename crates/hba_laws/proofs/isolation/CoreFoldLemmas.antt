@@ -1,81 +1,95 @@
 -- For `core_isolated`. A host's isolation by that of its core: of the memory nothing is said but that rows stay rows.
-use Rattle.std.proofs.Common.{◌≡◌, ℕ, ◌<◌, Bool, true, false, ◌||◌, List, [], ◌∷◌, ◌++◌, refl, sym, ◌∙◌, ap, subst, Option, Some, None}
+use Rattle.std.proofs.Common.{◌≡◌, ℕ, ◌<◌, Bool, true, false, ◌&&◌, List, [], ◌∷◌, refl, sym, ◌∙◌, ap, subst, Option, Some, None}
 use Rattle.std.specs.Prelude.{◌==◌, if◌then◌else◌, is_some, not}
 use Rattle.std.specs.Option.{option_map}
 use Rattle.std.proofs.lemmas.Bool.{not-false, or_parts, true≢false}
 use Rattle.fis_view.specs.Frames.{Stamped}
+use Rattle.fis_view.specs.Seen.{seen}
+use Rattle.fis_view.specs.declared.view.Fis.{Fis}
 use Rattle.hba_commands.specs.declared.command.Command.{Command}
 use Rattle.host_memory.specs.Memory.{Memory}
-use Rattle.slots.specs.Data.{payload}
-use Rattle.slots.specs.Slots.{Issue, context_of, issue_at, match_some}
+use Rattle.hba_fbs.specs.declared.hearing.Heard.{Heard}
 use Rattle.hba_fbs.specs.declared.register.Register.{Register}
-use Rattle.hba_fbs.specs.declared.register.Register.TheVariants.{Cmd, Ci, Fbs}
+use Rattle.hba_fbs.specs.declared.register.Register.TheVariants.{Ci, Fbs}
+use Rattle.hba_fbs.specs.declared.turn.Turn.{Turn}
+use Rattle.hba_fbs.specs.declared.turn.Turn.TheVariants.{Feeds, Orders, Rests}
+use Rattle.hba_fbs.specs.Deciding.{heard_within, room_if}
+use Rattle.hba_fbs.specs.Issuing.{aimed, asked}
 use Rattle.hba_fbs.specs.Offering.{offer_of}
-use Rattle.hba_fbs.specs.Sending.{Gives, Nothing, Order, data_due, data_with, next_receiver, next_to_send, order_due}
+use Rattle.hba_fbs.specs.Sending.{Data, Gives, Nothing, Order, Outgoing, Unreadable, data_with, outgoing}
 use Rattle.hba_fbs.specs.Tables.{is_sound, sound_command}
-use Rattle.hba_fbs.specs.Taking.{is_running, port_of}
-use Rattle.hba_fbs.specs.Views.{Port, last_command, view_of}
+use Rattle.hba_fbs.specs.Taking.{admitted, ignored_report, ignores, is_running, port_of, stops_with}
+use Rattle.hba_fbs.specs.Turning.{outgoing_at, turn_of}
+use Rattle.hba_fbs.specs.Views.{DeviceView, Port, view_of}
+use Rattle.hba_fbs.specs.Writing.{cleared_by, is_device}
+use Rattle.hba_fbs.proofs.Door.{decided_if, outgoing_is}
 use Rattle.hba_laws.specs.Cores as core
-use Rattle.hba_laws.specs.Cores.{HostsFoldByCore, IsCore, IsPart, Orders, Rests, Turn, fails_in, feeds_if, orders, sound_for, told_to, turned_to}
+use Rattle.hba_laws.specs.Cores.{Arrived, CoreEvent, CoreOwn, DoesBy, HostsFoldByCore, IsCore, IsPart, Own, after_hearing, gave_event, part_by, part_by_all, stops_by, told_to, turned_to, used}
 use Rattle.hba_laws.specs.Hosts.{Does, Flushed, Gave, Host, HostEvent, Put, Rewrote, Runs, Stored, Took, Wrote}
-use Rattle.hba_laws.specs.Isolation.{AreOfDevices, OwnEvent, Rewritten, Went, fails_by_bus, gone_to, own_events, own_over, part_after_all, stops, written_to}
-use Rattle.hba_laws.specs.Parts.{DevicePart, own_row, part_of}
+use Rattle.hba_laws.specs.Isolation.{AreOfDevices, Came, Cleared, Emptied, Issued, OwnEvent, Rewritten, Went, after_fis, fails_by_bus, gone_to, own_events, own_over, part_after, part_after_all, skips, stops, stops_port, written_to}
+use Rattle.hba_laws.specs.Parts.{DevicePart, part_of}
 use Rattle.hba_laws.specs.Sound.{AreHosts, IsHost}
 use Rattle.hba_laws.proofs.soundness.KeptLemmas.{first_host}
 use Rattle.hba_laws.proofs.isolation.CoreHostLemmas.{hosts_are_cores}
-use Rattle.hba_laws.proofs.isolation.CoreLemmas.{one_if, same_port, step}
+use Rattle.hba_laws.proofs.isolation.CoreLemmas.{same_port, step}
 use Rattle.hba_laws.proofs.isolation.IsolationLemmas.{after_append, row_shows}
 
 is_core : (host : Host) → IsHost host → IsCore host.port
-is_core host is = record { port = is.port; slots = is.slots }
+is_core host is = record {
+  port = record {
+    registers = record { chosen = is.port.registers.chosen; receives = λ started. (is.port.registers.started started).0 };
+    commands = is.port.commands;
+    active = is.port.active;
+  };
+  slots = is.slots;
+}
 
--- ---- a write tells the same
+-- ---- what the core is told, the host is told
 
-told_same : (n : ℕ) (old : Host) (register : Register) (value : ℕ) → told_to n old.port register value (offer_of old.port.registers old.memory) ≡ written_to n old register value
-told_same n old Ci value = refl
-told_same n old Fbs value = refl
-told_same n old other value = refl
+same_if : (n : ℕ) (p : DevicePart) (b : Bool) (x : CoreOwn) (e : OwnEvent) → part_by n p x ≡ part_after n p e → part_by_all n p (if b then x ∷ [] else []) ≡ part_after_all n p (if b then e ∷ [] else [])
+same_if n p true x e is = is
+same_if n p false x e is = refl
 
--- ---- what goes out is the same
+one_own : (n : ℕ) (new : Port) (p : DevicePart) (b : Bool) (event : OwnEvent) → (b ≡ true → IsPart n new (part_after n p event)) → (b ≡ false → IsPart n new p) → IsPart n new (part_after_all n p (if b then event ∷ [] else []))
+one_own n new p true event one none = one refl
+one_own n new p false event one none = none refl
 
-record GoesAlike (n : ℕ) (frame : Option Stamped) (t : Turn) : Type 0 where
-  own : turned_to n t ≡ gone_to n frame
-  goes_on : fails_in t ≡ false
+heard_same : (n : ℕ) (p : DevicePart) (sound : Bool) (fis : Option Fis) → after_hearing n p (used (room_if sound)) fis ≡ after_fis n p fis
+unfolding heard_within
+heard_same n p true None = refl
+heard_same n p false None = refl
+heard_same n p true (Some fis) = refl
+heard_same n p false (Some fis) = refl
 
-goes_nowhere : (n : ℕ) (frame : Option Stamped) → frame ≡ None → GoesAlike n frame Rests
-goes_nowhere n frame none = record { own = sym (ap (gone_to n) none); goes_on = refl }
+came_same : (n : ℕ) (p : DevicePart) (sound : Bool) (frame : List ℕ) → part_by n p (Arrived (room_if sound) frame) ≡ part_after n p (Came frame)
+came_same n p sound frame = ap (λ (q : DevicePart). if skips n p (seen frame) then p else q) (heard_same n p sound (admitted n (seen frame)))
 
-gone_if : (n dev : ℕ) (f : Stamped) → f.stamp.port ≡ dev → (if dev == n then Went ∷ [] else []) ≡ gone_to n (Some f)
-gone_if n dev f to = ap (λ (d : ℕ). let own : List OwnEvent = if d == n then Went ∷ [] else [] in own) (sym to)
+told_same : (n : ℕ) (old : Host) (p : DevicePart) (register : Register) (value : ℕ) → part_by_all n p (told_to n old.port register value (offer_of old.port.registers old.memory)) ≡ part_after_all n p (written_to n old register value)
+told_same n old p Ci value = same_if n p (n == aimed old.port.registers old.memory.structure value) (Own (Issued (asked old.port.registers old.memory value))) (Issued (asked old.port.registers old.memory value)) refl
+told_same n old p Fbs value = same_if n p (is_device n (cleared_by old.port.errors value)) (Own Cleared) Cleared refl
+told_same n old p other value = refl
 
-data_alike : (n : ℕ) (old new : Port) (memory : Memory) (frame : Option Stamped) (dev : ℕ) (next : ℕ × ℕ × ℕ) (c : Option Command) → Gives (data_with dev next.1 next.2 c) old memory frame new
-    → fails_by_bus (data_with dev next.1 next.2 c) ≡ false → GoesAlike n frame (feeds_if (is_some c) dev next)
-data_alike n old new memory frame dev next None gives none = absurd (true≢false none)
-data_alike n old new memory None dev next (Some command) gives none = absurd gives
-data_alike n old new memory (Some f) dev next (Some command) gives none = record { own = gone_if n dev f (ap (λ (x : Stamped). x.stamp.port) gives.frame_is); goes_on = refl }
+gone_same : (n : ℕ) (p : DevicePart) (dev : ℕ) (f : Stamped) → f.stamp.port ≡ dev → part_by_all n p (if dev == n then Own Went ∷ [] else []) ≡ part_after_all n p (gone_to n (Some f))
+gone_same n p dev f to = same_if n p (dev == n) (Own Went) Went refl ∙ ap (λ (d : ℕ). part_after_all n p (if d == n then Went ∷ [] else [])) (sym to)
 
-due_alike : (n : ℕ) (old new : Port) (memory : Memory) (frame : Option Stamped) (dev : ℕ) (o : Option (ℕ × ℕ × ℕ)) (g : ℕ × ℕ × ℕ → Option Command)
-    → Gives (match_some o Nothing (λ next. data_with dev next.1 next.2 (g next))) old memory frame new → fails_by_bus (match_some o Nothing (λ next. data_with dev next.1 next.2 (g next))) ≡ false
-    → GoesAlike n frame (match_some o Rests (feeds_if (match_some o false (λ next. is_some (g next))) dev))
-due_alike n old new memory frame dev None g gives none = goes_nowhere n frame gives.0
-due_alike n old new memory frame dev (Some next) g gives none = data_alike n old new memory frame dev next (g next) gives none
+data_same : (n : ℕ) (old new : Port) (memory : Memory) (frame : Option Stamped) (p : DevicePart) (dev offset len : ℕ) (c : Option Command) → Gives (data_with dev offset len c) old memory frame new
+    → fails_by_bus (data_with dev offset len c) ≡ false → part_by_all n p (if dev == n then Own Went ∷ [] else []) ≡ part_after_all n p (gone_to n frame)
+data_same n old new memory frame p dev offset len None gives none = absurd (true≢false none)
+data_same n old new memory None p dev offset len (Some command) gives none = absurd gives
+data_same n old new memory (Some f) p dev offset len (Some command) gives none = gone_same n p dev f (ap (λ (x : Stamped). x.stamp.port) gives.frame_is)
 
-order_alike : (n : ℕ) (old new : Port) (memory : Memory) (frame : Option Stamped) (k : ℕ) (o : Option Issue) (q : Option Command)
-    → Gives (match_some o Nothing (λ issue. match_some q Nothing (Order issue.dev k))) old memory frame new → GoesAlike n frame (match_some o Rests (λ issue. match_some q Rests (Orders issue.dev k)))
-order_alike n old new memory frame k None q gives = goes_nowhere n frame gives.0
-order_alike n old new memory frame k (Some issue) None gives = goes_nowhere n frame gives.0
-order_alike n old new memory None k (Some issue) (Some command) gives = absurd gives
-order_alike n old new memory (Some f) k (Some issue) (Some command) gives = record { own = gone_if n issue.dev f (ap (λ (x : Stamped). x.stamp.port) gives.frame_is); goes_on = refl }
+turned_same : (n : ℕ) (old new : Port) (memory : Memory) (frame : Option Stamped) (p : DevicePart) (turn : Turn) → Gives (outgoing_at old memory turn) old memory frame new → fails_by_bus (outgoing_at old memory turn) ≡ false
+    → part_by_all n p (turned_to n turn) ≡ part_after_all n p (gone_to n frame)
+turned_same n old new memory frame p Rests gives none = sym (ap (λ (f : Option Stamped). part_after_all n p (gone_to n f)) gives.0)
+turned_same n old new memory frame p (Feeds dev slot offset len) gives none = data_same n old new memory frame p dev offset len (sound_command memory old.commands (view_of dev old).slots slot) gives none
+turned_same n old new memory None p (Orders dev slot command) gives none = absurd gives
+turned_same n old new memory (Some f) p (Orders dev slot command) gives none = gone_same n p dev f (ap (λ (x : Stamped). x.stamp.port) gives.frame_is)
 
-gave_alike : (n : ℕ) (old new : Port) (memory : Memory) (frame : Option Stamped) (b : Bool) (r s : Option ℕ)
-    → Gives (if b then Nothing else match_some r (match_some s Nothing (order_due old)) (data_due old memory)) old memory frame new
-    → fails_by_bus (if b then Nothing else match_some r (match_some s Nothing (order_due old)) (data_due old memory)) ≡ false
-    → GoesAlike n frame (if b then Rests else match_some r (match_some s Rests (orders old)) (λ dev. match_some (payload (context_of old.slots dev)) Rests (feeds_if (sound_for old memory r) dev)))
-gave_alike n old new memory frame true r s gives none = goes_nowhere n frame gives.0
-gave_alike n old new memory frame false None None gives none = goes_nowhere n frame gives.0
-gave_alike n old new memory frame false None (Some k) gives none = order_alike n old new memory frame k (issue_at old.slots k) (last_command old.commands k) gives
-gave_alike n old new memory frame false (Some d) s gives none =
-    due_alike n old new memory frame d (payload (context_of old.slots d)) (λ next. sound_command memory old.commands (view_of d old).slots next.0) gives none
+goes_on : (o : Outgoing) → fails_by_bus o ≡ false → gave_event o ≡ core.Gave
+goes_on Nothing none = refl
+goes_on (Unreadable dev) none = absurd (true≢false none)
+goes_on (Data dev offset len command) none = refl
+goes_on (Order dev slot command) none = refl
 
 -- ---- one event
 
@@ -83,22 +97,33 @@ row_is_row : (row : Option (List ℕ)) (bytes : List ℕ) → is_some (option_ma
 row_is_row None bytes = refl
 row_is_row (Some old) bytes = refl
 
+stops_same : (old : Host) (frame : List ℕ) → stops_port (port_of frame) old.port old.memory frame ≡ false
+    → stops_by old.port (core.Took frame (room_if (is_sound old.memory old.port.commands (view_of (port_of frame) old.port).slots)) (ignored_report 0)) ≡ false
+stops_same old frame none =
+    let dev : ℕ = port_of frame in
+    let v : DeviceView = view_of dev old.port in
+    ap (λ (h : Heard). not (ignores dev old.port frame) && stops_with old.port.registers.switching h.fault) (decided_if dev v (is_sound old.memory old.port.commands v.slots) (admitted dev (seen frame))) ∙ none
+
 host_step : (n : ℕ) (old new : Host) (event : HostEvent) (p : DevicePart) → n < 16 → IsHost old → IsHost new → is_running old.port ≡ true → Does old event new → stops old event ≡ false → IsPart n old.port p
     → IsPart n new.port (part_after_all n p (own_events n old event))
 host_step n old new (Took frame report) p lt before next runs does none is =
-    step n old.port new.port (core.Took frame (is_sound old.memory old.port.commands (view_of (port_of frame) old.port).slots) report) p lt (is_core old before) (is_core new next) runs
-    (hosts_are_cores old new (Took frame report) does) none is
+    let sound : Bool = is_sound old.memory old.port.commands (view_of (port_of frame) old.port).slots in
+    subst (IsPart n new.port) (same_if n p (port_of frame == n) (Arrived (room_if sound) frame) (Came frame) (came_same n p sound frame))
+    (step n old.port new.port (core.Took frame (room_if sound) report) p lt (is_core old before) (is_core new next) runs (hosts_are_cores old new (Took frame report) does) (stops_same old frame none) is)
 host_step n old new (Wrote register value) p lt before next runs does none is =
-    subst (λ (own : List OwnEvent). IsPart n new.port (part_after_all n p own)) (told_same n old register value)
+    subst (IsPart n new.port) (told_same n old p register value)
     (step n old.port new.port (core.Wrote register value (offer_of old.port.registers old.memory)) p lt (is_core old before) (is_core new next) runs (hosts_are_cores old new (Wrote register value) does) none is)
-host_step n old new (Flushed dev) p lt before next runs does none is = step n old.port new.port (core.Flushed dev) p lt (is_core old before) (is_core new next) runs does.0 refl is
+host_step n old new (Flushed dev) p lt before next runs does none is =
+    subst (IsPart n new.port) (same_if n p (dev == n) (Own Emptied) Emptied refl) (step n old.port new.port (core.Flushed dev) p lt (is_core old before) (is_core new next) runs does.0 refl is)
 host_step n old new (Gave frame) p lt before next runs does none is =
-    let alike = gave_alike n old.port new.port old.memory frame (not (is_running old.port)) (next_receiver old.port) (next_to_send old.port) does.0 none in
-    subst (λ (own : List OwnEvent). IsPart n new.port (part_after_all n p own)) alike.own
-    (step n old.port new.port (core.Gave (sound_for old.port old.memory (next_receiver old.port))) p lt (is_core old before) (is_core new next) runs (hosts_are_cores old new (Gave frame) does) alike.goes_on is)
+    let at : outgoing old.port old.memory ≡ outgoing_at old.port old.memory (turn_of old.port) = outgoing_is old.port old.memory in
+    let gives = subst (λ (o : Outgoing). Gives o old.port old.memory frame new.port) at does.0 in
+    let goes : fails_by_bus (outgoing_at old.port old.memory (turn_of old.port)) ≡ false = subst (λ (o : Outgoing). fails_by_bus o ≡ false) at none in
+    subst (IsPart n new.port) (turned_same n old.port new.port old.memory frame p (turn_of old.port) gives goes)
+    (step n old.port new.port core.Gave p lt (is_core old before) (is_core new next) runs (subst (λ (e : CoreEvent). DoesBy old.port e new.port) (goes_on (outgoing old.port old.memory) none) (hosts_are_cores old new (Gave frame) does)) refl is)
 host_step n old new (Rewrote dev row) p lt before next runs does none is =
     let here : IsPart n new.port p = same_port n old.port new.port p is does.1 in
-    one_if n new.port p (dev == n) (Rewritten row) (λ same. record { view = here.view; commands = here.commands; row = row_is_row p.row row ∙ here.row }) (λ differs. here)
+    one_own n new.port p (dev == n) (Rewritten row) (λ same. record { view = here.view; commands = here.commands; row = row_is_row p.row row ∙ here.row }) (λ differs. here)
 host_step n old new (Stored structure) p lt before next runs does none is = same_port n old.port new.port p is does.1
 host_step n old new (Put at bytes) p lt before next runs does none is = same_port n old.port new.port p is does.1
 

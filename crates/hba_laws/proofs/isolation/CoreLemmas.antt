@@ -1,36 +1,40 @@
 -- For `core_isolated`. One event of a port without a memory, and then a list of them.
 use Rattle.std.proofs.Common.{◌≡◌, ◌≢◌, ℕ, ◌<◌, Bool, true, false, ◌&&◌, ◌||◌, List, [], ◌∷◌, ◌++◌, refl, sym, ◌∙◌, ap, subst, inl, inr, Option, Some, None}
 use Rattle.std.specs.Prelude.{◌==◌, if◌then◌else◌, not, is_none, is_some, Result}
-use Rattle.std.specs.Option.{option_map, option_or}
-use Rattle.std.proofs.lemmas.Bool.{and_parts, cases_Bool, cond-false, cond-true, eqb-true, eqb-false, not-false, or_parts, false≢true, true≢false}
+use Rattle.std.specs.Option.{option_or}
+use Rattle.std.proofs.lemmas.Bool.{and_parts, cases_Bool, cond-false, cond-true, eqb-true, eqb-false, not-false, or_parts, true≢false}
 use Rattle.fis_view.specs.Seen.{seen}
 use Rattle.fis_view.specs.declared.view.Fis.{Fis}
 use Rattle.fis_view.specs.declared.view.FisFault.{FisFault}
 use Rattle.hba_commands.specs.declared.command.Command.{Command}
 use Rattle.slots.specs.Between.{Owns}
 use Rattle.slots.specs.Data.{payload}
-use Rattle.slots.specs.Slots.{DeviceSlots, Issue, context_of, issue_at, match_some, own_issue}
+use Rattle.slots.specs.Slots.{Issue, context_of, issue_at, match_some, own_issue}
 use Rattle.hba_fbs.specs.declared.hearing.Fault.{Fault}
-use Rattle.hba_fbs.specs.declared.hearing.Heard.{Heard}
 use Rattle.hba_fbs.specs.declared.register.Register.{Register}
 use Rattle.hba_fbs.specs.declared.register.Register.TheVariants.{Clb, Cmd, Ci, Fbs}
 use Rattle.hba_fbs.specs.declared.registers.Registers.{Registers}
 use Rattle.hba_fbs.specs.declared.report.TakeReport.{TakeReport}
-use Rattle.hba_fbs.specs.Deciding.{Decides}
+use Rattle.hba_fbs.specs.declared.room.Room.{Room}
+use Rattle.hba_fbs.specs.declared.room.Room.TheVariants.{Bytes, NoTable, Whole}
+use Rattle.hba_fbs.specs.declared.turn.Turn.{Turn}
+use Rattle.hba_fbs.specs.declared.turn.Turn.TheVariants.{Feeds, Orders, Rests}
+use Rattle.hba_fbs.specs.Deciding.{Decides, decided, decided_view, heard_within}
 use Rattle.hba_fbs.specs.Issuing.{any_slot, is_busy, issued_slots, view_with}
 use Rattle.hba_fbs.specs.Offering.{AcceptsBy, Offer, aimed_by, asked_by, commands_by, refusal_by, slots_refusal_by, view_by}
-use Rattle.hba_fbs.specs.Registers.{falls, own_refusal, written}
+use Rattle.hba_fbs.specs.Registers.{falls, own_refusal_by, written}
 use Rattle.hba_fbs.specs.Sending.{next_receiver, next_to_send, view_fed, view_sent}
-use Rattle.hba_fbs.specs.Taking.{admitted, heard, heard_view, ignores, is_ignored, is_running, passes_over, port_cause, port_of, stops_with, view_after_hearing}
+use Rattle.hba_fbs.specs.Taking.{admitted, ignores, is_ignored, is_running, passes_over, port_cause, port_of, stops_with, view_after_hearing}
+use Rattle.hba_fbs.specs.Turning.{Goes, Turns, feeds, orders, turn_of}
 use Rattle.hba_fbs.specs.Views.{DeviceView, Flushes, Port, flushed_view, last_command, stopped_view, view_of}
 use Rattle.hba_fbs.specs.Writing.{cleared_by, is_device}
 use Rattle.hba_laws.specs.Between.{IsOrder, KeepsOwn}
-use Rattle.hba_laws.specs.Cores.{AreCores, AreOfOnes, CoreEvent, DoesBy, Fails, Feeds, Flushed, Gave, Goes, Hearkens, IsCore, IsFoldByOwn, IsPart, Orders, Rests, RunsBy, Took, Turn, Turns, Wrote, fails_in, feeds_if, is_of_port, orders, own_by, own_through, stops_by, told_to, turn_of, turned_to}
-use Rattle.hba_laws.specs.Isolation.{OwnEvent, Came, Cleared, Emptied, Issued, Went, after_fis, after_going, after_order, lowers_st, next_own, part_after, part_after_all, row_with, skips}
+use Rattle.hba_laws.specs.Cores.{AreCores, AreOfOnes, Arrived, CoreEvent, CoreOwn, DoesBy, Failed, Flushed, Gave, IsCore, IsFoldByOwn, IsPart, Own, RunsBy, Took, Wrote, after_hearing, own_by, own_through, part_by, part_by_all, stops_by, told_to, turned_to, used}
+use Rattle.hba_laws.specs.Isolation.{Cleared, Emptied, Issued, Went, after_going, after_order, lowers_st, next_own, part_after, row_with, skips}
 use Rattle.hba_laws.specs.Parts.{DevicePart, commands_of, with_view}
 use Rattle.hba_laws.proofs.soundness.KeptLemmas.{taken_mode}
 use Rattle.hba_laws.proofs.soundness.WriteLemmas.{commands_chosen, commands_other_by, first_none, free_by, mode_own, none_busy_by}
-use Rattle.hba_laws.proofs.isolation.IsolationLemmas.{after_append, heard_alike}
+use Rattle.hba_laws.proofs.isolation.IsolationLemmas.{heard_alike}
 use Rattle.hba_laws.proofs.isolation.OutgoingLemmas.{order_filled, order_is_own, order_no_payload}
 use Rattle.hba_laws.proofs.isolation.PartLemmas.{commands_kept, commands_same}
 use Rattle.hba_laws.proofs.isolation.SlotLemmas.{keeps_fed, keeps_moved, keeps_none, keeps_sent}
@@ -59,7 +63,7 @@ pub same_port : (n : ℕ) (old new : Port) (p : DevicePart) → IsPart n old p �
 same_port n old new p is same = subst (λ (x : Port). IsPart n x p) (sym same) is
 
 -- a list of one own event, or none
-pub one_if : (n : ℕ) (new : Port) (p : DevicePart) (b : Bool) (event : OwnEvent) → (b ≡ true → IsPart n new (part_after n p event)) → (b ≡ false → IsPart n new p) → IsPart n new (part_after_all n p (if b then event ∷ [] else []))
+one_if : (n : ℕ) (new : Port) (p : DevicePart) (b : Bool) (event : CoreOwn) → (b ≡ true → IsPart n new (part_by n p event)) → (b ≡ false → IsPart n new p) → IsPart n new (part_by_all n p (if b then event ∷ [] else []))
 one_if n new p true event one none = one refl
 one_if n new p false event one none = none refl
 
@@ -86,57 +90,65 @@ unless_ignored : (i b : Bool) → i ≡ false → (not i && b) ≡ false → b �
 unless_ignored true b is h = absurd (true≢false is)
 unless_ignored false b is h = h
 
-mode_heard : (old new : Port) (dev : ℕ) (sound : Bool) (fis : Option Fis) (report : TakeReport) → Decides old dev sound fis report new → new.registers.switching ≡ old.registers.switching
-mode_heard old new dev sound fis report d =
-    taken_mode old.registers new.registers dev (view_of dev old).state.resetting fis (heard dev (view_of dev old) sound fis) d.registers
+mode_heard : (old new : Port) (dev : ℕ) (room : Room) (fis : Option Fis) (report : TakeReport) → Decides old dev room fis report new → new.registers.switching ≡ old.registers.switching
+mode_heard old new dev room fis report d =
+    taken_mode old.registers new.registers dev (view_of dev old).state.resetting fis (decided dev (view_of dev old) room fis) d.registers
 
-heard_own : (n : ℕ) (old new : Port) (p : DevicePart) (sound : Bool) (fis : Option Fis) (report : TakeReport) → IsPart n old p → Decides old n sound fis report new
-    → stops_with old.registers.switching (heard n (view_of n old) sound fis).fault ≡ false → IsPart n new (after_fis n p fis)
-heard_own n old new p sound fis report is d none =
+-- a FIS that stops no port is heard as if its table could be used
+decided_used : (n : ℕ) (v : DeviceView) (room : Room) (fis : Option Fis) → is_some (port_cause (decided n v room fis).fault) ≡ false → decided n v room fis ≡ decided n v (used room) fis
+unfolding heard_within
+decided_used n v NoTable None h = refl
+decided_used n v NoTable (Some fis) h = heard_alike n v false (Some fis) h
+decided_used n v (Bytes total) fis h = refl
+decided_used n v Whole fis h = refl
+
+heard_own : (n : ℕ) (old new : Port) (p : DevicePart) (room : Room) (fis : Option Fis) (report : TakeReport) → IsPart n old p → Decides old n room fis report new
+    → stops_with old.registers.switching (decided n (view_of n old) room fis).fault ≡ false → IsPart n new (after_hearing n p (used room) fis)
+heard_own n old new p room fis report is d none =
     let v : DeviceView = view_of n old in
-    let f : Option Fault = (heard n v sound fis).fault in
+    let f : Option Fault = (decided n v room fis).fault in
     let quiet : is_some (port_cause f) ≡ false = (or_parts (not old.registers.switching && is_some f) (is_some (port_cause f)) none).1 in
-    let w : DeviceView = heard_view n v true fis in
-    shown n old new p (after_fis n p fis) w is (d.own ∙ ap (view_after_hearing v) (heard_alike n v sound fis quiet)) (keeps_moved (heard n v true fis).happening v.slots) d.commands (mode_heard old new n sound fis report d)
-    (ap (λ (x : DeviceView). heard_view n x true fis) is.view) (ap (λ (x : DeviceView). commands_of (heard_view n x true fis).slots p.commands) is.view) (row_stays p.row fis)
+    let w : DeviceView = decided_view n v (used room) fis in
+    shown n old new p (after_hearing n p (used room) fis) w is (d.own ∙ ap (view_after_hearing v) (decided_used n v room fis quiet)) (keeps_moved (decided n v (used room) fis).happening v.slots) d.commands (mode_heard old new n room fis report d)
+    (ap (λ (x : DeviceView). decided_view n x (used room) fis) is.view) (ap (λ (x : DeviceView). commands_of (decided_view n x (used room) fis).slots p.commands) is.view) (row_stays p.row fis)
 
-took_own : (n : ℕ) (old new : Port) (p : DevicePart) (frame : List ℕ) (sound : Bool) (report : TakeReport) → n ≡ port_of frame → is_running old ≡ true → IsPart n old p → DoesBy old (Took frame sound report) new
-    → stops_by old (Took frame sound report) ≡ false → IsPart n new (part_after n p (Came frame))
-took_own n old new p frame sound report at runs is does none = subst Goal (sym at) here is
+took_own : (n : ℕ) (old new : Port) (p : DevicePart) (frame : List ℕ) (room : Room) (report : TakeReport) → n ≡ port_of frame → is_running old ≡ true → IsPart n old p → DoesBy old (Took frame room report) new
+    → stops_by old (Took frame room report) ≡ false → IsPart n new (part_by n p (Arrived room frame))
+took_own n old new p frame room report at runs is does none = subst Goal (sym at) here is
   where
     Goal : ℕ → Type 0
-    Goal m = IsPart m old p → IsPart m new (part_after m p (Came frame))
+    Goal m = IsPart m old p → IsPart m new (part_by m p (Arrived room frame))
 
     here : Goal (port_of frame)
     here is =
         let dev : ℕ = port_of frame in
         let fis : Option Fis = admitted dev (seen frame) in
         let s : skips dev p (seen frame) ≡ ignores dev old frame = skipped dev old p frame runs is in
-        pick dev new (skips dev p (seen frame)) p (after_fis dev p fis)
+        pick dev new (skips dev p (seen frame)) p (after_hearing dev p (used room) fis)
         (λ t. same_port dev old new p is (does.ignored (sym s ∙ t)).port)
         (λ f.
-        heard_own dev old new p sound fis report is (does.heard (sym s ∙ f))
-        (unless_ignored (ignores dev old frame) (stops_with old.registers.switching (heard dev (view_of dev old) sound fis).fault) (sym s ∙ f) none))
+        heard_own dev old new p room fis report is (does.heard (sym s ∙ f))
+        (unless_ignored (ignores dev old frame) (stops_with old.registers.switching (decided dev (view_of dev old) room fis).fault) (sym s ∙ f) none))
 
-took_other : (n : ℕ) (old new : Port) (p : DevicePart) (frame : List ℕ) (sound : Bool) (report : TakeReport) → n ≢ port_of frame → IsPart n old p → DoesBy old (Took frame sound report) new → IsPart n new p
-took_other n old new p frame sound report ne is does =
+took_other : (n : ℕ) (old new : Port) (p : DevicePart) (frame : List ℕ) (room : Room) (report : TakeReport) → n ≢ port_of frame → IsPart n old p → DoesBy old (Took frame room report) new → IsPart n new p
+took_other n old new p frame room report ne is does =
     let dev : ℕ = port_of frame in
     elim (cases_Bool (ignores dev old frame)) [
       | inl t ↦ same_port n old new p is (does.ignored t).port
-      | inr f ↦ stands n old new p is ((does.heard f).others n ne) (does.heard f).commands (mode_heard old new dev sound (admitted dev (seen frame)) report (does.heard f))
+      | inr f ↦ stands n old new p is ((does.heard f).others n ne) (does.heard f).commands (mode_heard old new dev room (admitted dev (seen frame)) report (does.heard f))
     ]
 
-took : (n : ℕ) (old new : Port) (p : DevicePart) (frame : List ℕ) (sound : Bool) (report : TakeReport) → is_running old ≡ true → IsPart n old p → DoesBy old (Took frame sound report) new
-    → stops_by old (Took frame sound report) ≡ false → IsPart n new (part_after_all n p (own_by n old (Took frame sound report)))
-took n old new p frame sound report runs is does none =
-    one_if n new p (port_of frame == n) (Came frame) (λ same. took_own n old new p frame sound report (sym (eqb-true (port_of frame) n same)) runs is does none)
-    (λ differs. took_other n old new p frame sound report (λ e. eqb-false (port_of frame) n differs (sym e)) is does)
+took : (n : ℕ) (old new : Port) (p : DevicePart) (frame : List ℕ) (room : Room) (report : TakeReport) → is_running old ≡ true → IsPart n old p → DoesBy old (Took frame room report) new
+    → stops_by old (Took frame room report) ≡ false → IsPart n new (part_by_all n p (own_by n old (Took frame room report)))
+took n old new p frame room report runs is does none =
+    one_if n new p (port_of frame == n) (Arrived room frame) (λ same. took_own n old new p frame room report (sym (eqb-true (port_of frame) n same)) runs is does none)
+    (λ differs. took_other n old new p frame room report (λ e. eqb-false (port_of frame) n differs (sym e)) is does)
 
 -- ---- a register is written
 
 -- a write that is not refused
 record Written (old : Port) (offer : Offer) (register : Register) (value : ℕ) (new : Port) : Type 0 where
-  own : own_refusal register old.registers value ≡ None
+  own : own_refusal_by register old.registers value ≡ None
   free : register ≡ Ci → old.registers.started ≡ true → any_slot value (is_busy old.slots) ≡ false
   registers : new.registers ≡ written register old.registers value
   views : (n : ℕ) → n < 16 → view_of n new ≡ view_by register old offer value n
@@ -144,15 +156,15 @@ record Written (old : Port) (offer : Offer) (register : Register) (value : ℕ) 
 
 accepted : (old new : Port) (register : Register) (value : ℕ) (offer : Offer) → refusal_by register old offer value ≡ None → AcceptsBy old offer register value new → Written old offer register value new
 accepted old new register value offer taken does = record {
-  own = first_none (own_refusal register old.registers value) (slots_refusal_by register old offer value) taken;
+  own = first_none (own_refusal_by register old.registers value) (slots_refusal_by register old offer value) taken;
   free = λ is started. free_by old offer value started (subst (λ (r : Register). refusal_by r old offer value ≡ None) is taken);
   registers = does.registers;
   views = does.views;
   commands = does.commands;
 }
 
-written_mode : (register : Register) (r : Registers) (value : ℕ) → r.started ≡ true → own_refusal register r value ≡ None → (written register r value).switching ≡ r.switching
-unfolding written
+written_mode : (register : Register) (r : Registers) (value : ℕ) → r.started ≡ true → own_refusal_by register r value ≡ None → (written register r value).switching ≡ r.switching
+unfolding written own_refusal_by
 written_mode Fbs r value started accepted = mode_own r value started accepted
 written_mode other r value started accepted = refl
 
@@ -202,18 +214,18 @@ cleared n old new p w is v c m =
     shown n old new p (with_view p (stopped_view p.view)) (stopped_view (view_of n old)) is v (keeps_none (view_of n old).slots) c m (ap stopped_view is.view) refl refl
 
 wrote : (n : ℕ) (old new : Port) (p : DevicePart) (register : Register) (value : ℕ) (offer : Offer) → n < 16 → old.registers.started ≡ true → IsCore old → IsCore new → IsPart n old p
-    → Written old offer register value new → lowers_st register old.registers value ≡ false → IsPart n new (part_after_all n p (told_to n old register value offer))
+    → Written old offer register value new → lowers_st register old.registers value ≡ false → IsPart n new (part_by_all n p (told_to n old register value offer))
 unfolding view_by commands_by
 wrote n old new p Cmd value offer lt started before next is does none =
     wrote_none n old new p Cmd value offer lt started is does (cond-false (falls old.registers value) (stopped_view (view_of n old)) (view_of n old) none) refl
 wrote n old new p Ci value offer lt started before next is does none =
-    one_if n new p (n == aimed_by old.registers offer value) (Issued (asked_by offer value))
+    one_if n new p (n == aimed_by old.registers offer value) (Own (Issued (asked_by offer value)))
     (λ same. issued_own n old new p value offer lt (eqb-true n (aimed_by old.registers offer value) same) same started next is does)
     (λ differs. issued_other n old new p value offer lt differs started before next is does)
 wrote n old new p Fbs value offer lt started before next is does none =
     let o : Option ℕ = cleared_by old.errors value in
     let v : DeviceView = view_of n old in
-    one_if n new p (is_device n o) Cleared
+    one_if n new p (is_device n o) (Own Cleared)
     (λ same. cleared n old new p v is (does.views n lt ∙ cond-true (is_device n o) (stopped_view v) v same) does.commands (mode_written old new Fbs value offer started does))
     (λ differs. wrote_none n old new p Fbs value offer lt started is does (cond-false (is_device n o) (stopped_view v) v differs) refl)
 wrote n old new p Clb value offer lt started before next is does none = wrote_none n old new p Clb value offer lt started is does refl refl
@@ -221,10 +233,10 @@ wrote n old new p other value offer lt started before next is does none = wrote_
 
 -- ---- a device is flushed
 
-emptied : (n : ℕ) (old new : Port) (p : DevicePart) (dev : ℕ) → IsPart n old p → Flushes old dev new → IsPart n new (part_after_all n p (if dev == n then Emptied ∷ [] else []))
+emptied : (n : ℕ) (old new : Port) (p : DevicePart) (dev : ℕ) → IsPart n old p → Flushes old dev new → IsPart n new (part_by_all n p (if dev == n then Own Emptied ∷ [] else []))
 emptied n old new p dev is does =
     let mode : new.registers.switching ≡ old.registers.switching = ap (λ (r : Registers). r.switching) does.registers in
-    one_if n new p (dev == n) Emptied
+    one_if n new p (dev == n) (Own Emptied)
     (λ same.
     shown n old new p (with_view p flushed_view) flushed_view is (subst (λ (m : ℕ). view_of m new ≡ flushed_view) (eqb-true dev n same) does.own) (keeps_none (view_of n old).slots) does.commands mode refl refl refl)
     (λ differs. stands n old new p is (does.others n (λ e. eqb-false dev n differs (sym e))) does.commands mode)
@@ -235,24 +247,23 @@ goes_other : (n : ℕ) (old new : Port) (p : DevicePart) (dev : ℕ) (w : Device
 goes_other n old new p dev w ne is goes = stands n old new p is (goes.others n ne) goes.commands (ap (λ (r : Registers). r.switching) goes.registers)
 
 -- what is due is data that the device asked for
-feeds_data : (sound : Bool) (d dev slot offset len : ℕ) (o : Option (ℕ × ℕ × ℕ)) → match_some o Rests (feeds_if sound d) ≡ Feeds dev slot offset len → (d ≡ dev) × (is_some o ≡ true)
-feeds_data sound d dev slot offset len None h = cc
-feeds_data true d dev slot offset len (Some next) h = (cc, refl)
-feeds_data false d dev slot offset len (Some next) h = cc
+feeds_data : (d dev slot offset len : ℕ) (o : Option (ℕ × ℕ × ℕ)) → match_some o Rests (feeds d) ≡ Feeds dev slot offset len → (d ≡ dev) × (is_some o ≡ true)
+feeds_data d dev slot offset len None h = cc
+feeds_data d dev slot offset len (Some next) h = (cc, refl)
 
 orders_feed : (k dev slot offset len : ℕ) (o : Option Issue) (q : Option Command) → match_some o Rests (λ issue. match_some q Rests (Orders issue.dev k)) ≡ Feeds dev slot offset len → ⊥
 orders_feed k dev slot offset len None q h = cc
 orders_feed k dev slot offset len (Some i) None h = cc
 orders_feed k dev slot offset len (Some i) (Some c) h = cc
 
-feeds_by : (old : Port) (sound b : Bool) (r s : Option ℕ) (dev slot offset len : ℕ)
-    → (if b then Rests else match_some r (match_some s Rests (orders old)) (λ d. match_some (payload (context_of old.slots d)) Rests (feeds_if sound d))) ≡ Feeds dev slot offset len
+feeds_by : (old : Port) (b : Bool) (r s : Option ℕ) (dev slot offset len : ℕ)
+    → (if b then Rests else match_some r (match_some s Rests (orders old)) (λ d. match_some (payload (context_of old.slots d)) Rests (feeds d))) ≡ Feeds dev slot offset len
     → is_some (payload (context_of old.slots dev)) ≡ true
-feeds_by old sound true r s dev slot offset len h = cc
-feeds_by old sound false None None dev slot offset len h = cc
-feeds_by old sound false None (Some k) dev slot offset len h = absurd (orders_feed k dev slot offset len (issue_at old.slots k) (last_command old.commands k) h)
-feeds_by old sound false (Some d) s dev slot offset len h =
-    let both = feeds_data sound d dev slot offset len (payload (context_of old.slots d)) h in
+feeds_by old true r s dev slot offset len h = cc
+feeds_by old false None None dev slot offset len h = cc
+feeds_by old false None (Some k) dev slot offset len h = absurd (orders_feed k dev slot offset len (issue_at old.slots k) (last_command old.commands k) h)
+feeds_by old false (Some d) s dev slot offset len h =
+    let both = feeds_data d dev slot offset len (payload (context_of old.slots d)) h in
     subst (λ (m : ℕ). is_some (payload (context_of old.slots m)) ≡ true) both.0 both.1
 
 record IsDue (k dev slot : ℕ) (o : Option Issue) (q : Option Command) (command : Command) : Type 0 where
@@ -265,17 +276,16 @@ due_order k dev slot None q command h = cc
 due_order k dev slot (Some issue) None command h = cc
 due_order k dev slot (Some issue) (Some c) command h = record { is_slot = cc; owns = cc; stands = cc }
 
-feeds_order : (sound : Bool) (d dev slot : ℕ) (o : Option (ℕ × ℕ × ℕ)) (command : Command) → match_some o Rests (feeds_if sound d) ≡ Orders dev slot command → ⊥
-feeds_order sound d dev slot None command h = cc
-feeds_order true d dev slot (Some next) command h = cc
-feeds_order false d dev slot (Some next) command h = cc
+feeds_order : (d dev slot : ℕ) (o : Option (ℕ × ℕ × ℕ)) (command : Command) → match_some o Rests (feeds d) ≡ Orders dev slot command → ⊥
+feeds_order d dev slot None command h = cc
+feeds_order d dev slot (Some next) command h = cc
 
-order_by : (old : Port) (sound b : Bool) (r s : Option ℕ) (dev slot : ℕ) (command : Command)
-    → (if b then Rests else match_some r (match_some s Rests (orders old)) (λ d. match_some (payload (context_of old.slots d)) Rests (feeds_if sound d))) ≡ Orders dev slot command
+order_by : (old : Port) (b : Bool) (r s : Option ℕ) (dev slot : ℕ) (command : Command)
+    → (if b then Rests else match_some r (match_some s Rests (orders old)) (λ d. match_some (payload (context_of old.slots d)) Rests (feeds d))) ≡ Orders dev slot command
     → IsOrder old dev slot command r s
-order_by old sound true r s dev slot command h = cc
-order_by old sound false None None dev slot command h = cc
-order_by old sound false None (Some k) dev slot command h =
+order_by old true r s dev slot command h = cc
+order_by old false None None dev slot command h = cc
+order_by old false None (Some k) dev slot command h =
     let due = due_order k dev slot (issue_at old.slots k) (last_command old.commands k) command h in
     record {
       no_data = refl;
@@ -283,7 +293,7 @@ order_by old sound false None (Some k) dev slot command h =
       owns = subst (λ (j : ℕ). Owns dev (issue_at old.slots j)) due.is_slot due.owns;
       stands = subst (λ (j : ℕ). last_command old.commands j ≡ Some command) due.is_slot due.stands;
     }
-order_by old sound false (Some d) s dev slot command h = absurd (feeds_order sound d dev slot (payload (context_of old.slots d)) command h)
+order_by old false (Some d) s dev slot command h = absurd (feeds_order d dev slot (payload (context_of old.slots d)) command h)
 
 -- data goes to the device
 fed_own : (n : ℕ) (old new : Port) (p : DevicePart) → is_some (payload (context_of old.slots n)) ≡ true → IsPart n old p → Goes old n (view_fed (view_of n old)) new → IsPart n new (after_going p)
@@ -317,20 +327,18 @@ order_own n old new p slot command lt before order is goes =
     (shown n old new p sent (view_sent v slot command) is goes.own (keeps_sent v.slots slot) goes.commands (ap (λ (r : Registers). r.switching) goes.registers)
     (ap (λ (x : DeviceView). view_sent x slot command) is.view) (ap (λ (x : DeviceView). commands_of (view_sent x slot command).slots p.commands) is.view) refl)
 
-gave : (n : ℕ) (old new : Port) (p : DevicePart) (sound : Bool) (t : Turn) → n < 16 → IsCore old → turn_of old sound ≡ t → Turns t old new → fails_in t ≡ false → IsPart n old p
-    → IsPart n new (part_after_all n p (turned_to n t))
-gave n old new p sound Rests lt before next turns none is = same_port n old new p is turns
-gave n old new p sound (Fails dev) lt before next turns none is = absurd (true≢false none)
-gave n old new p sound (Feeds dev slot offset len) lt before next turns none is =
-    let has : is_some (payload (context_of old.slots dev)) ≡ true = feeds_by old sound (not (is_running old)) (next_receiver old) (next_to_send old) dev slot offset len next in
-    one_if n new p (dev == n) Went
+gave : (n : ℕ) (old new : Port) (p : DevicePart) (t : Turn) → n < 16 → IsCore old → turn_of old ≡ t → Turns t old new → IsPart n old p → IsPart n new (part_by_all n p (turned_to n t))
+gave n old new p Rests lt before next turns is = same_port n old new p is turns
+gave n old new p (Feeds dev slot offset len) lt before next turns is =
+    let has : is_some (payload (context_of old.slots dev)) ≡ true = feeds_by old (not (is_running old)) (next_receiver old) (next_to_send old) dev slot offset len next in
+    one_if n new p (dev == n) (Own Went)
     (λ same.
     let at : dev ≡ n = eqb-true dev n same in
     fed_own n old new p (subst (λ (m : ℕ). is_some (payload (context_of old.slots m)) ≡ true) at has) is (subst (λ (m : ℕ). Goes old m (view_fed (view_of m old)) new) at turns))
     (λ differs. goes_other n old new p dev (view_fed (view_of dev old)) (λ e. eqb-false dev n differs (sym e)) is turns)
-gave n old new p sound (Orders dev slot command) lt before next turns none is =
-    let order : IsOrder old dev slot command (next_receiver old) (next_to_send old) = order_by old sound (not (is_running old)) (next_receiver old) (next_to_send old) dev slot command next in
-    one_if n new p (dev == n) Went
+gave n old new p (Orders dev slot command) lt before next turns is =
+    let order : IsOrder old dev slot command (next_receiver old) (next_to_send old) = order_by old (not (is_running old)) (next_receiver old) (next_to_send old) dev slot command next in
+    one_if n new p (dev == n) (Own Went)
     (λ same.
     let at : dev ≡ n = eqb-true dev n same in
     order_own n old new p slot command lt before (subst (λ (m : ℕ). IsOrder old m slot command (next_receiver old) (next_to_send old)) at order) is
@@ -340,26 +348,31 @@ gave n old new p sound (Orders dev slot command) lt before next turns none is =
 -- ---- one event, and a list of them
 
 pub step : (n : ℕ) (old new : Port) (event : CoreEvent) (p : DevicePart) → n < 16 → IsCore old → IsCore new → is_running old ≡ true → DoesBy old event new → stops_by old event ≡ false → IsPart n old p
-    → IsPart n new (part_after_all n p (own_by n old event))
-step n old new (Took frame sound report) p lt before next runs does none is = took n old new p frame sound report runs is does none
+    → IsPart n new (part_by_all n p (own_by n old event))
+step n old new (Took frame room report) p lt before next runs does none is = took n old new p frame room report runs is does none
 step n old new (Wrote register value offer) p lt before next runs does none is =
     wrote n old new p register value offer lt (and_parts old.registers.started (is_none old.errors.port) runs).0 before next is (accepted old new register value offer does.0 does.1) none
 step n old new (Flushed dev) p lt before next runs does none is = emptied n old new p dev is does
-step n old new (Gave sound) p lt before next runs does none is = gave n old new p sound (turn_of old sound) lt before refl does none is
+step n old new Gave p lt before next runs does none is = gave n old new p (turn_of old) lt before refl does is
+step n old new Failed p lt before next runs does none is = absurd (true≢false none)
+
+by_append : (n : ℕ) (p : DevicePart) (xs ys : List CoreOwn) → part_by_all n p (xs ++ ys) ≡ part_by_all n (part_by_all n p xs) ys
+by_append n p [] ys = refl
+by_append n p (x ∷ xs) ys = by_append n (part_by n p x) xs ys
 
 first_core : (old new : Port) (events : List CoreEvent) (run : RunsBy old events new) → AreCores old new events run → IsCore old
 first_core old new [] run cores = cores
 first_core old new (event ∷ events) run cores = cores.0
 
 fold_through : (n : ℕ) → n < 16 → (old new : Port) (events : List CoreEvent) (run : RunsBy old events new) → AreCores old new events run → AreOfOnes old new events run → (p : DevicePart) → IsPart n old p
-    → IsPart n new (part_after_all n p (own_through n old new events run))
+    → IsPart n new (part_by_all n p (own_through n old new events run))
 fold_through n lt old new [] run cores ones p is = same_port n old new p is run
 fold_through n lt old new (event ∷ events) run cores ones p is =
-    let own : List OwnEvent = own_by n old event in
+    let own : List CoreOwn = own_by n old event in
     let parts = or_parts (not (is_running old)) (stops_by old event) ones.0 in
     let next : IsCore run.0 = first_core run.0 new events run.2 cores.1 in
-    let now : IsPart n run.0 (part_after_all n p own) = step n old run.0 event p lt cores.0 next (not-false (is_running old) parts.0) run.1 parts.1 is in
-    subst (IsPart n new) (sym (after_append n p own (own_through n run.0 new events run.2))) (fold_through n lt run.0 new events run.2 cores.1 ones.1 (part_after_all n p own) now)
+    let now : IsPart n run.0 (part_by_all n p own) = step n old run.0 event p lt cores.0 next (not-false (is_running old) parts.0) run.1 parts.1 is in
+    subst (IsPart n new) (sym (by_append n p own (own_through n run.0 new events run.2))) (fold_through n lt run.0 new events run.2 cores.1 ones.1 (part_by_all n p own) now)
 
 pub fold_by_own : IsFoldByOwn
 fold_by_own n lt old new events run part is = fold_through n lt old new events run.run run.cores run.ones part is

@@ -7,7 +7,6 @@ use Rattle.std.proofs.lemmas.List.{get_or-replicate, get_or_past, length-replica
 use Rattle.fis_view.specs.Frames.{Stamped}
 use Rattle.fis_view.specs.Seen.{seen}
 use Rattle.fis_view.specs.declared.view.Fis.{Fis}
-use Rattle.fis_view.specs.declared.view.Fis.TheVariants as view
 use Rattle.host_memory.specs.Memory.{Memory, client_start, zeros}
 use Rattle.host_memory.proofs.Door.{zeros_sized}
 use Rattle.port_errors.specs.Errors.{AreErrors, Errors, after_clear, cause_of, cleared_device, is_reported, lowest_marked, no_errors, with_port, without}
@@ -18,21 +17,19 @@ use Rattle.port_errors.proofs.Door.{after_clear_none, after_clear_some, cleared_
 use Rattle.port_errors.proofs.Door.{without_other, without_reported}
 use Rattle.slots.specs.Slots.{has_bit}
 use Rattle.slots.proofs.Door.{new_table}
-use Rattle.hba_fbs.specs.declared.error.WriteError.{WriteError}
 use Rattle.hba_fbs.specs.declared.hearing.Fault.{Fault}
 use Rattle.hba_fbs.specs.declared.hearing.Fault.TheVariants as fault
 use Rattle.hba_fbs.specs.declared.hearing.Heard.{Heard}
 use Rattle.hba_fbs.specs.declared.register.Register.{Register}
-use Rattle.hba_fbs.specs.declared.register.Register.TheVariants.{Clb, Fb, Cmd, Tfd, Sig, Fbs}
+use Rattle.hba_fbs.specs.declared.register.Register.TheVariants.{Cmd, Fbs}
 use Rattle.hba_fbs.specs.declared.registers.Registers.{Registers}
-use Rattle.hba_fbs.specs.Bits.{dec, fre, pma, st}
-use Rattle.hba_fbs.specs.Posting.{posted}
-use Rattle.hba_fbs.specs.Registers.{AreRegisters, cmd_refusal, falls, opening_registers, own_refusal, running_if, written}
+use Rattle.hba_fbs.specs.Bits.{dec}
+use Rattle.hba_fbs.specs.Registers.{AreRegisters, falls, opening_registers, own_refusal, written}
 use Rattle.hba_fbs.specs.Sending.{Gives, Nothing, Outgoing, Unreadable, outgoing}
 use Rattle.hba_fbs.specs.Taking.{admitted, errors_alone, errors_in, errors_with, heard_now, ignores, port_of, posted_of, settled}
 use Rattle.hba_fbs.specs.Views.{Port, view_of}
-use Rattle.hba_fbs.specs.Writing.{errors_after, refusal_of, slots_refusal}
-use Rattle.hba_fbs.proofs.Door.{cmd_are, none_have}
+use Rattle.hba_fbs.specs.Writing.{errors_after, slots_refusal}
+use Rattle.hba_fbs.proofs.Door.{heard_are, none_have, written_are}
 use Rattle.hba_laws.specs.Hosts.{Does, Flushed, Gave, Host, HostEvent, Took, Wrote}
 use Rattle.hba_laws.specs.Sound.{OpensSound, RegistersStaySound, SizesStay}
 use Rattle.hba_laws.proofs.soundness.KeptLemmas.{client_lens, structure_lens}
@@ -105,41 +102,6 @@ written_errors Cmd port value are = stopped_if (falls port.registers value) port
 written_errors Fbs port value are = cleared_if (has_bit value dec) port.errors are
 written_errors register port value are = are
 
--- ---- registers
-
-posted_are : (r : Registers) (dev : ℕ) (b : Bool) (fis : Option Fis) → AreRegisters r → AreRegisters (posted_of r dev b fis)
-unfolding posted
-posted_are r dev b (Some (view.RegD2H f)) are = record { chosen = are.chosen; started = are.started; receives = are.receives }
-posted_are r dev b (Some (view.SetBits f)) are = record { chosen = are.chosen; started = are.started; receives = are.receives }
-posted_are r dev b (Some (view.DmaSetup f)) are = record { chosen = are.chosen; started = are.started; receives = are.receives }
-posted_are r dev b (Some (view.Unknown f)) are = record { chosen = are.chosen; started = are.started; receives = are.receives }
-posted_are r dev b other are = are
-
-settled_are : (r : Registers) (h : Heard) → AreRegisters r → AreRegisters (settled r h)
-unfolding settled
-settled_are r h are = record { chosen = are.chosen; started = are.started; receives = are.receives }
-
-not_used : (b : Bool) (x : Option WriteError) {P : Type 0} → running_if b ≡ None → b ≡ true → P
-not_used true x h is = cc
-not_used false x h is = absurd (false≢true is)
-
-written_are : (register : Register) (port : Port) (memory : Memory) (value : ℕ) → AreRegisters port.registers → refusal_of register port memory value ≡ None → AreRegisters (written register port.registers value)
-unfolding written own_refusal
-written_are Clb port memory value are h =
-    let free : running_if port.registers.started ≡ None = first_none (running_if port.registers.started) (slots_refusal Clb port memory value) h in
-    record { chosen = are.chosen; started = λ s. not_used port.registers.started None free s; receives = are.receives }
-written_are Fb port memory value are h =
-    let free : running_if port.registers.receives ≡ None = first_none (running_if port.registers.receives) (slots_refusal Fb port memory value) h in
-    record { chosen = are.chosen; started = are.started; receives = λ s. not_used port.registers.receives None free s }
-written_are Cmd port memory value are h =
-    let r : Registers = port.registers in
-    let free : cmd_refusal r (has_bit value st) (has_bit value fre) ≡ None = first_none (cmd_refusal r (has_bit value st) (has_bit value fre)) (slots_refusal Cmd port memory value) h in
-    cmd_are r (has_bit value st) (has_bit value fre) (has_bit value pma) (if falls r value then 0 else r.armed) are free
-written_are Fbs port memory value are h = record { chosen = omega arith; started = are.started; receives = are.receives }
-written_are Tfd port memory value are h = are
-written_are Sig port memory value are h = are
-written_are other port memory value are h = record { chosen = are.chosen; started = are.started; receives = are.receives }
-
 -- ---- events
 
 abbrev AreSound : Registers → Errors → Type 0
@@ -174,11 +136,11 @@ stays_by old new (Took frame report) are does =
           let h : Heard = heard_now old.port old.memory dev fis in
           let resets : Bool = (view_of dev old.port).state.resetting in
           sound_by new.port.registers (settled (posted_of old.port.registers dev resets fis) h) new.port.errors (errors_in old.port.registers.switching old.port.errors dev h.fault) (does.heard f).registers (does.heard f).errors
-          (settled_are (posted_of old.port.registers dev resets fis) h (posted_are old.port.registers dev resets fis are.0), errors_either old.port.registers.switching old.port.errors dev h.fault (port_below frame) are.1)
+          (heard_are old.port.registers dev resets fis h are.0, errors_either old.port.registers.switching old.port.errors dev h.fault (port_below frame) are.1)
     ]
 stays_by old new (Wrote register value) are does =
     sound_by new.port.registers (written register old.port.registers value) new.port.errors (errors_after register old.port value) does.1.registers does.1.errors
-    (written_are register old.port old.memory value are.0 does.0, written_errors register old.port value are.1)
+    (written_are register old.port.registers value are.0 (first_none (own_refusal register old.port.registers value) (slots_refusal register old.port old.memory value) does.0), written_errors register old.port value are.1)
 stays_by old new (Flushed dev) are does =
     sound_by new.port.registers old.port.registers new.port.errors (without old.port.errors dev) does.0.registers does.0.errors (are.0, flushed_errors old.port.errors dev does.0.dev_below are.1)
 stays_by old new (Gave frame) are does = gives_are (outgoing old.port old.memory) old.port old.memory frame new.port does.0 are

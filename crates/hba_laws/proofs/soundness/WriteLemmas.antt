@@ -21,7 +21,7 @@ use Rattle.hba_fbs.specs.declared.registers.Registers.{Registers}
 use Rattle.hba_fbs.specs.Bits.{en}
 use Rattle.hba_fbs.specs.Issuing.{any_slot, asked, commands_with, is_bad, is_busy, issue_with, issued_slots, issues_with}
 use Rattle.hba_fbs.specs.Offering.{Offer, is_apart_by, is_bad_by, issue_refusal_by, refusal_by, slots_refusal_by}
-use Rattle.hba_fbs.specs.Registers.{own_refusal, running_if}
+use Rattle.hba_fbs.specs.Registers.{own_refusal, own_refusal_by, running_if}
 use Rattle.hba_fbs.specs.Views.{HaveCommands, Port, last_command}
 use Rattle.hba_fbs.specs.Writing.{apart_refusal, is_apart, issue_refusal, refusal_of, slots_refusal}
 use Rattle.hba_laws.specs.Parts.{commands_of}
@@ -55,7 +55,7 @@ none_busy port memory value started h =
 pub free_by : (port : Port) (offer : Offer) (value : ℕ) → port.registers.started ≡ true → refusal_by Ci port offer value ≡ None → any_slot value (is_busy port.slots) ≡ false
 unfolding slots_refusal_by
 free_by port offer value started h =
-    let both : (if port.registers.started then issue_refusal_by port offer value else None) ≡ None = second_none (own_refusal Ci port.registers value) (slots_refusal_by Ci port offer value) h in
+    let both : (if port.registers.started then issue_refusal_by port offer value else None) ≡ None = second_none (own_refusal_by Ci port.registers value) (slots_refusal_by Ci port offer value) h in
     let issue : issue_refusal_by port offer value ≡ None = sym (cond-true port.registers.started (issue_refusal_by port offer value) None started) ∙ both in
     test_false (any_slot value (is_busy port.slots)) refusal.SlotBusy
     (if is_apart_by port offer value then Some (apart_refusal port.registers)

@@ -1,7 +1,8 @@
-use Rattle.std.proofs.Common.{ap, sym, true, ◌∙◌}
+use Rattle.std.proofs.Common.{ap, sym, ◌∙◌}
+use Rattle.hba_fbs.specs.declared.room.Room.TheVariants as Room
 use Rattle.hba_fbs.specs.Taking.{admitted}
 use Rattle.hba_fbs.specs.Views.{DeviceView}
-use Rattle.hba_fbs.proofs.CoreLemmas.{takes_bad}
+use Rattle.hba_fbs.proofs.CoreLemmas.{decides_are, takes_bad}
 use Rattle.hba_fbs.proofs.TakeLemmas.{takes_from, takes_none, whole_of}
 use Rattle.hba_fbs.proofs.shell.HostPort.take_from.Goals as goal
 
@@ -18,4 +19,7 @@ returns-in-None-clause-heard c hears =
     (takes_bad _ c.args.memory.now c.args.dev _ c.hear_bad.result c.hear_bad.new.self c.hear_bad.ensures.decides))
 
 pub returns-in-None-clause-own : goal.returns-in-None-clause-own
-returns-in-None-clause-own c other apart = rw (← c.self.view_is) (ap (λ (v : DeviceView). v.fault) ((c.hear_bad.ensures.decides true).others other apart))
+returns-in-None-clause-own c other apart = rw (← c.self.view_is) (ap (λ (v : DeviceView). v.fault) ((c.hear_bad.ensures.decides Room.Whole).others other apart))
+
+pub invariant_of-self : goal.invariant_of-self
+invariant_of-self c = decides_are _ _ _ _ _ _ (c.hear_bad.ensures.decides Room.Whole) c.self.invariant
