@@ -1,7 +1,7 @@
 -- Accesses of a controller, one after another: AHCI 1.3.1, section 3 (registers) and 5 (frames). They are the
 -- calls of `ahci_port`, with what they answer.
 use Rattle.std.specs.Prelude.{◌≡◌, ℕ, ◌⊎◌, Bool, true, false, List, [], ◌∷◌, Option, Some, None, MatchOption}
-use Rattle.host_memory.specs.Memory.{IsHostMemory}
+use Rattle.fis_view.specs.Frames.{IsFrame}
 use Rattle.ahci_registers.specs.declared.link.Effect.{Effect}
 use Rattle.ahci_registers.specs.declared.link.Effect.TheVariants.{Nothing, LinkReset, LinkUp}
 use Rattle.ahci_registers.specs.Offsets.{register_at}
@@ -13,7 +13,7 @@ use Rattle.hba_fbs.specs.declared.register.Register.TheVariants as on_port
 use Rattle.hba_fbs.specs.Taking.{is_running}
 use Rattle.ahci_port.specs.Accesses.{WritesAt}
 use Rattle.ahci_port.specs.Sending.{Misses, Prepares, Sends, nothing_sent}
-use Rattle.ahci_port.specs.States.{ControllerState}
+use Rattle.ahci_port.specs.States.{ControllerState, IsController}
 use Rattle.ahci_port.specs.Taking.{Drops, Takes, is_deaf}
 use Rattle.ahci_port.specs.declared.sending.Sent.{Sent}
 use Rattle.ahci_port.specs.declared.taking.Took as taking
@@ -34,6 +34,7 @@ pub data Access : Type 0 where
 
 pub record HearsFrame (old : ControllerState) (frame : List ℕ) (took : taking.Took) (new : ControllerState)
     : Type 0 where
+  pub framed : IsFrame frame
   pub taken : is_deaf old ≡ false → Takes old frame took new
   pub dropped : is_deaf old ≡ true → Drops old frame took new
 
@@ -66,12 +67,13 @@ resets (Hears frame took) = false
 resets (Asks sent) = false
 resets Lacks = false
 
--- these accesses, one after another, and no reset among them; the host port's memory is one
+-- these accesses, one after another, and no reset among them; each controller keeps the rules of every one
+-- (`Controller::keeps_rules`)
 abbrev pub Serves : (ℕ → List ℕ → Type 0) → (ℕ → ℕ → Type 0) → ControllerState → List Access
     → ControllerState → Type 0
-Serves may_read may_miss old [] new = new ≡ old
+Serves may_read may_miss old [] new = IsController old × (new ≡ old)
 Serves may_read may_miss old (access ∷ accesses) new =
-    IsHostMemory old.memory × (resets access ≡ false) × ((next : ControllerState)
+    IsController old × (resets access ≡ false) × ((next : ControllerState)
     × Does may_read may_miss old access next × Serves may_read may_miss next accesses new)
 
 -- The port runs before each access and after the last: ST is 1, and no error stopped it.

@@ -13,7 +13,6 @@ use Rattle.hba_laws.specs.History.{History}
 use Rattle.hba_laws.specs.Hosts.{HostEvent, Runs}
 use Rattle.hba_laws.specs.Isolation.{AreOfDevices, own_over, part_after_all}
 use Rattle.hba_laws.specs.Parts.{part_of}
-use Rattle.hba_laws.specs.Sound.{AreHosts}
 use Rattle.ahci_laws.specs.Accesses.{Access, AreRunning, IsOfSome, IsPlaced, Serves, host_of}
 
 -- ---- accesses are events
@@ -26,6 +25,8 @@ pub record AreEvents (Of : HostEvent → Type 0) (Quiet : Type 0) (old new : Con
   pub run : Runs (host_of old) events (host_of new)
   pub devices : Quiet → AreOfDevices (host_of old) (host_of new) events run
   pub placed : new.port.registers.fb ≡ old.port.registers.fb
+  -- each host in between keeps the rules of every host, and what is received is a frame
+  pub sound : IsSound (host_of old) (host_of new) events run
 
 -- so it is over accesses; none is one of the port as a whole where that runs all the time
 abbrev pub AccessesAreEvents : (ℕ → List ℕ → Type 0) → (ℕ → ℕ → Type 0) → Type 0
@@ -45,7 +46,7 @@ pub record Isolates (accesses : List Access) (old new : ControllerState) : Type 
   pub events : List HostEvent
   pub each : All (IsOfSome accesses) events
   pub run : Runs (host_of old) events (host_of new)
-  pub fold : AreHosts (host_of old) (host_of new) events run → (n : ℕ) → n < 16
+  pub fold : (n : ℕ) → n < 16
       → part_of n (host_of new) ≡ part_after_all n (part_of n (host_of old))
       (own_over n (host_of old) (host_of new) events run)
 
@@ -65,7 +66,7 @@ pub record Completes (accesses : List Access) (old new : ControllerState) (frame
   pub events : List HostEvent
   pub each : All (IsOfSome accesses) events
   pub run : Runs (host_of old) events (host_of new)
-  pub done : IsSound (host_of old) (host_of new) events run → ReportsDone (host_of new) frame took.report
+  pub done : ReportsDone (host_of new) frame took.report
       (history_after (port_of frame) past (host_of old) (host_of new) events run)
 
 -- so it is after accesses

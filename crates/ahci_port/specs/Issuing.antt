@@ -20,7 +20,7 @@ use Rattle.hba_fbs.specs.Writing.{Accepts, refusal_of}
 use Rattle.hba_fbs.specs.declared.register.Register.TheVariants.{Ci}
 use Rattle.ahci_port.specs.Causes.{bad_causes, missing_causes}
 use Rattle.ahci_port.specs.Own.{is_failed}
-use Rattle.ahci_port.specs.States.{ControllerState}
+use Rattle.ahci_port.specs.States.{ControllerState, IsRuled}
 
 -- a command that moves so many bytes stands in a slot of the host port's memory: with its own header, its own
 -- table, and one entry, which is the slot's lane
@@ -37,6 +37,7 @@ pub record Issues (may_read : ℕ → List ℕ → Type 0) (slot : ℕ) (old new
   pub put : Puts slot command.head.fields command.head.len old.memory new.memory
   pub taken : refusal_of Ci old.port new.memory (2 ^ slot) ≡ None
   pub port : Accepts old.port new.memory Ci (2 ^ slot) new.port
+  pub ruled : IsRuled new.port
   pub rest : new ≡ record old {
     port = new.port;
     memory = new.memory;

@@ -2,12 +2,14 @@
 -- commands section 4.2.3.3.
 use Rattle.std.specs.Prelude.{◌≡◌, ℕ, List, Option, None, MatchOption, slice_index_or}
 use Rattle.guest_bytes.specs.declared.entry.Segment.{Segment}
-use Rattle.host_memory.specs.Memory.{Memory}
+use Rattle.host_memory.specs.Memory.{IsHostMemory, Memory}
+use Rattle.port_errors.specs.Errors.{AreErrors}
+use Rattle.slots.specs.Table.{IsTable}
 use Rattle.ahci_registers.specs.declared.lines.Lines.{Lines}
 use Rattle.ahci_registers.specs.declared.link.LinkControl.{LinkControl}
 use Rattle.hba_fbs.specs.declared.register.Register.{Register}
 use Rattle.hba_fbs.specs.declared.report.Wrote.{Wrote}
-use Rattle.hba_fbs.specs.Views.{Port}
+use Rattle.hba_fbs.specs.Views.{IsPort, Port}
 use Rattle.hba_fbs.specs.Writing.{Accepts, refusal_of}
 use Rattle.ahci_port.specs.declared.own.OwnRegisters.{OwnRegisters}
 
@@ -36,3 +38,14 @@ count_of c slot = slice_index_or c.counts slot 0
 abbrev pub Tried : Register → Port → Memory → ℕ → Port → Type 0
 Tried register old memory value new = MatchOption (refusal_of register old memory value)
     (Accepts old memory register value new) (λ e. new ≡ old)
+
+-- what holds for every host port, its slots and its errors
+pub record IsRuled (port : Port) : Type 0 where
+  pub rules : IsPort port
+  pub table : IsTable port.slots
+  pub faults : AreErrors port.errors
+
+-- what holds for every controller: the rules of its host port, and that the memory of that is one
+pub record IsController (c : ControllerState) : Type 0 where
+  pub port : IsRuled c.port
+  pub memory : IsHostMemory c.memory

@@ -3,7 +3,7 @@
 ghost use Rattle.std.specs.Prelude.{◌≡◌, IfErr, IfOk};
 ghost use Rattle.hba_fbs.specs.Views.{opening_port};
 ghost use Rattle.ahci_port.specs.Opening.{IsOpening};
-ghost use Rattle.ahci_port.specs.States.{Tried};
+ghost use Rattle.ahci_port.specs.States.{IsController, Tried};
 
 use crate::own::OwnRegisters;
 use ahci_registers::{Lines, LinkControl};
@@ -74,5 +74,13 @@ impl Controller {
             counts: [0; 32],
             brought: None,
         })
+    }
+
+    /// The rules that hold for every controller. The call has no effect.
+    pub fn keeps_rules(&self)
+        ensures { IsController self.now }
+    {
+        self.port.keeps_rules();
+        let _ = self.memory.structure();
     }
 }

@@ -6,6 +6,7 @@ ghost use Rattle.hba_fbs.specs.Writing.{Accepts, refusal_of};
 ghost use Rattle.guest_commands.specs.Commands.{IsCommandAt};
 ghost use Rattle.ahci_port.specs.Issuing.{Attempts, FetchRefused, Issues, IssuesBelow, Refuses, Steps, WritesIssue, causes_for, fresh_slots};
 ghost use Rattle.ahci_port.specs.Own.{is_failed};
+ghost use Rattle.ahci_port.specs.States.{IsRuled};
 
 use crate::bits::{has_bit, without};
 use crate::controller::Controller;
@@ -49,12 +50,16 @@ fn give(port: &mut HostPort, memory: &HostMemory, slot: u8) -> Result<(), Comman
     requires { slot < 32 }
     ensures ok { OnOk result (Accepts port.old memory.now Register.Ci (2 ^ slot) port.new) }
     ensures taken { OnOk result (refusal_of Register.Ci port.old memory.now (2 ^ slot) ≡ None) }
+    ensures ruled { OnOk result (IsRuled port.new) }
     ensures err { OnErr result (port.new ≡ port.old) }
     ensures why { IfErr result (λ error. (error ≡ CommandError.Bad)
         × (is_some (refusal_of Register.Ci port.old memory.now (2 ^ slot)) ≡ true)) }
 {
     match port.write(Register::Ci.offset(), slot_bit(slot), memory) {
-        Ok(()) => Ok(()),
+        Ok(()) => {
+            port.keeps_rules();
+            Ok(())
+        }
         Err(_) => Err(CommandError::Bad),
     }
 }

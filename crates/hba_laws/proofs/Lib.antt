@@ -1,4 +1,5 @@
 mod soundness
+mod cores
 mod prd_tables
 mod histories
 mod isolation

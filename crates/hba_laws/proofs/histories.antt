@@ -7,4 +7,5 @@ pub mod CarryLemmas
 pub mod DataLemmas
 pub mod HearLemmas
 pub mod IssueLemmas
+pub mod CoreEventLemmas
 pub mod EventLemmas

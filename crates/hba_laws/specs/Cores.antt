@@ -1,10 +1,11 @@
 -- A host port without a memory, as a list of events: what it decides, and what it is told of memory for that. The
 -- memory's part is, at a FIS, the room of the PRD table; at a write of PxCI, the devices and the commands that the command
 -- list has in the slots (AHCI 1.3.1, chapters 5 and 9).
-use Rattle.std.specs.Prelude.{ℕ, ◌≡◌, ◌<◌, ◌==◌, ◌&&◌, ◌||◌, Bool, true, false, not, if◌then◌else◌, List, []}
-use Rattle.std.specs.Prelude.{◌∷◌, ◌++◌, Option, Some, None, is_some}
+use Rattle.std.specs.Prelude.{ℕ, ◌≡◌, ◌+◌, ◌<◌, ◌==◌, ◌&&◌, ◌||◌, Bool, true, false, not, if◌then◌else◌, List, []}
+use Rattle.std.specs.Prelude.{◌∷◌, ◌++◌, length, Option, Some, None, is_some}
 use Rattle.fis_view.specs.Seen.{seen}
 use Rattle.fis_view.specs.declared.view.Fis.{Fis}
+use Rattle.host_memory.specs.declared.table.Prd.{Prd}
 use Rattle.slots.specs.Table.{IsTable}
 use Rattle.hba_fbs.specs.declared.register.Register.{Register}
 use Rattle.hba_fbs.specs.declared.register.Register.TheVariants.{Ci, Fbs}
@@ -14,6 +15,7 @@ use Rattle.hba_fbs.specs.declared.room.Room.TheVariants.{NoTable, Whole}
 use Rattle.hba_fbs.specs.declared.turn.Turn.{Turn}
 use Rattle.hba_fbs.specs.declared.turn.Turn.TheVariants.{Feeds, Orders, Rests}
 use Rattle.hba_fbs.specs.Deciding.{Decides, Passes, decided, decided_view, room_if}
+use Rattle.hba_fbs.specs.Issuing.{asked}
 use Rattle.hba_fbs.specs.Offering.{AcceptsBy, Offer, aimed_by, asked_by, offer_of, refusal_by}
 use Rattle.hba_fbs.specs.Sending.{Outgoing, Unreadable, outgoing, stopped_by_bus}
 use Rattle.hba_fbs.specs.Tables.{is_sound}
@@ -21,6 +23,7 @@ use Rattle.hba_fbs.specs.Taking.{admitted, ignores, is_running, port_of, stops_w
 use Rattle.hba_fbs.specs.Turning.{Turns, turn_of}
 use Rattle.hba_fbs.specs.Views.{Flushes, IsCorePort, Port, last_command, view_of}
 use Rattle.hba_fbs.specs.Writing.{cleared_by, is_device}
+use Rattle.hba_laws.specs.Alike.{bytes_out, tables_in}
 use Rattle.hba_laws.specs.Hosts as host
 use Rattle.hba_laws.specs.Hosts.{Does, Host, HostEvent}
 use Rattle.hba_laws.specs.Isolation.{OwnEvent, Cleared, Emptied, Issued, RunsByDevices, Went, lowers_st}
@@ -40,21 +43,26 @@ pub record Hearkens (old : Port) (frame : List ℕ) (room : Room) (report : Take
 pub data CoreEvent : Type 0 where
   -- a frame is received, for a table of this room, and with this report
   Took : (frame : List ℕ) → (room : Room) → (report : TakeReport) → CoreEvent
-  -- a value is written to a register, and not refused
-  Wrote : (register : Register) → (value : ℕ) → Offer → CoreEvent
+  -- a value is written to a register, and not refused; for each command that is offered its caller keeps a PRD table
+  Wrote : (register : Register) → (value : ℕ) → Offer → (tables : ℕ → List Prd) → CoreEvent
   -- a device is flushed
   Flushed : (dev : ℕ) → CoreEvent
-  -- what goes out next went, if anything may go
-  Gave : CoreEvent
+  -- what goes out next went in a frame of these bytes, if anything may go
+  Gave : (bytes : List ℕ) → CoreEvent
   -- the table of the data that is due cannot be used
   Failed : CoreEvent
 
+-- a Data FIS is its header and as many bytes as the turn says
+abbrev pub HasBytes : Turn → List ℕ → Type 0
+HasBytes (Feeds dev slot offset len) bytes = length bytes ≡ 4 + len
+HasBytes turn bytes = Unit {0}
+
 abbrev pub DoesBy : Port → CoreEvent → Port → Type 0
 DoesBy old (Took frame room report) new = Hearkens old frame room report new
-DoesBy old (Wrote register value offer) new =
+DoesBy old (Wrote register value offer tables) new =
     (refusal_by register old offer value ≡ None) × AcceptsBy old offer register value new
 DoesBy old (Flushed dev) new = Flushes old dev new
-DoesBy old Gave new = Turns (turn_of old) old new
+DoesBy old (Gave bytes) new = Turns (turn_of old) old new × HasBytes (turn_of old) bytes
 DoesBy old Failed new = new ≡ stopped_by_bus old
 
 abbrev pub RunsBy : Port → List CoreEvent → Port → Type 0
@@ -76,9 +84,9 @@ abbrev pub stops_by : Port → CoreEvent → Bool
 stops_by port (Took frame room report) = not (ignores (port_of frame) port frame)
     && stops_with port.registers.switching
     (decided (port_of frame) (view_of (port_of frame) port) room (admitted (port_of frame) (seen frame))).fault
-stops_by port (Wrote register value offer) = lowers_st register port.registers value
+stops_by port (Wrote register value offer tables) = lowers_st register port.registers value
 stops_by port (Flushed dev) = false
-stops_by port Gave = false
+stops_by port (Gave bytes) = false
 stops_by port Failed = true
 
 abbrev pub is_of_port : Port → CoreEvent → Bool
@@ -105,9 +113,9 @@ turned_to n (Orders dev slot command) = if dev == n then Own Went ∷ [] else []
 
 abbrev pub own_by : ℕ → Port → CoreEvent → List CoreOwn
 own_by n port (Took frame room report) = if port_of frame == n then Arrived room frame ∷ [] else []
-own_by n port (Wrote register value offer) = told_to n port register value offer
+own_by n port (Wrote register value offer tables) = told_to n port register value offer
 own_by n port (Flushed dev) = if dev == n then Own Emptied ∷ [] else []
-own_by n port Gave = turned_to n (turn_of port)
+own_by n port (Gave bytes) = turned_to n (turn_of port)
 own_by n port Failed = []
 
 -- ---- what they leave
@@ -167,18 +175,20 @@ IsFoldByOwn =
 
 -- ---- a host with a memory is such a port, and its memory gives the answers
 
-abbrev pub gave_event : Outgoing → CoreEvent
-gave_event (Unreadable dev) = Failed
-gave_event outgoing = Gave
+abbrev pub gave_event : Outgoing → (bytes : List ℕ) → CoreEvent
+gave_event (Unreadable dev) bytes = Failed
+gave_event outgoing bytes = Gave bytes
 
 abbrev pub core_event : Host → HostEvent → Option CoreEvent
 core_event h (host.Took frame report) =
     let dev = port_of frame in
     Some (Took frame (room_if (is_sound h.memory h.port.commands (view_of dev h.port).slots)) report)
 core_event h (host.Wrote register value) =
-    Some (Wrote register value (offer_of h.port.registers h.memory))
+    let r = h.port.registers in
+    Some (Wrote register value (offer_of r h.memory) (tables_in h.memory (Issued (asked r h.memory value))))
 core_event h (host.Flushed dev) = Some (Flushed dev)
-core_event h (host.Gave frame) = Some (gave_event (outgoing h.port h.memory))
+core_event h (host.Gave frame) =
+    Some (gave_event (outgoing h.port h.memory) (bytes_out (host.Gave frame)))
 core_event h (host.Stored structure) = None
 core_event h (host.Rewrote dev row) = None
 core_event h (host.Put at bytes) = None

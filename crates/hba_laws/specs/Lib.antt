@@ -12,4 +12,6 @@ pub mod Keeping
 pub mod Causes
 pub mod Alike
 pub mod Cores
+pub mod CoreHistories
+pub mod CoreCauses
 pub mod Between

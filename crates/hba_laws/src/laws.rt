@@ -4,6 +4,8 @@
 ghost use Rattle.hba_laws.specs.Alike.{HistoriesByOwn, OwnFillAlike};
 ghost use Rattle.hba_laws.specs.Causes.{DeviceCausesStay, OthersFaultNone, PortCausesStay};
 ghost use Rattle.hba_laws.specs.Client.{CompletesInPlace, StandsInPlace};
+ghost use Rattle.hba_laws.specs.CoreCauses.{CoreDeviceCausesStay, CoreOthersFaultNone, CorePortCausesStay};
+ghost use Rattle.hba_laws.specs.CoreHistories.{CoreDataIsWithin, CoreDoneIsCompleted, CoreFillAlike, CoreHistoriesByOwn, CoreOpensUntold, CoreReportsFilled, CoreSendsFilled, CoreViewsAreTold};
 ghost use Rattle.hba_laws.specs.Cores.{HostsAreCores, HostsFoldByCore, IsFoldByOwn};
 ghost use Rattle.hba_laws.specs.Delivering.{ClientIsTouched, DataIsWithin, DoneIsCompleted, DoneReadsStand, HistoriesAreParts, OpensUntold, SparedTablesRead, ViewsAreTold};
 ghost use Rattle.hba_laws.specs.History.{CompletesOnce};
@@ -92,9 +94,35 @@ pub fn isolated()
 
 /// A law for callers, isolation for a port that holds no memory; it runs no code. Whatever room its tables have, and
 /// whatever commands are offered, what belongs to a device is the fold of its own events. It is the fold of a host, but
-/// that Data may go past its table. Each event of a host is one of its core, with the answers that its memory gives.
+/// that Data may go past its table. Its history follows from the same events, and so does what its slots are filled
+/// with. Each event of a host is one of its core, with the answers that its memory gives.
 pub fn core_isolated()
     ensures fold { IsFoldByOwn }
+    ensures told { CoreHistoriesByOwn }
+    ensures filled { CoreFillAlike }
     ensures hosts { HostsAreCores }
     ensures derived { HostsFoldByCore }
+{}
+
+/// A law for callers; it runs no code. It says what a port that holds no memory decides, over every list of its
+/// events and with every history of a device; a port that opens has none yet. A device's view says what its history
+/// says. A slot is reported as done exactly where the frame completes what its own device had there, which happens
+/// at most once. Data is within what is issued. The slot and the numbers of its bytes, as reports and turns tell
+/// them, are those that the history fills.
+pub fn core_delivers()
+    ensures agrees { CoreViewsAreTold }
+    ensures opens { CoreOpensUntold }
+    ensures done { CoreDoneIsCompleted }
+    ensures once { CompletesOnce }
+    ensures within { CoreDataIsWithin }
+    ensures reports { CoreReportsFilled }
+    ensures sends { CoreSendsFilled }
+{}
+
+/// A law for callers; it runs no code. How long the cause of a fault stands at a port that holds no memory: as
+/// beside a memory.
+pub fn core_causes_stay()
+    ensures kept { CoreDeviceCausesStay }
+    ensures own { CoreOthersFaultNone }
+    ensures port { CorePortCausesStay }
 {}

@@ -8,5 +8,6 @@
 mod laws;
 
 pub use laws::{
-    causes_stay, core_isolated, delivers, isolated, stays_sound, tables_stay, writes_are_gathered,
+    causes_stay, core_causes_stay, core_delivers, core_isolated, delivers, isolated, stays_sound,
+    tables_stay, writes_are_gathered,
 };

@@ -25,22 +25,28 @@ use Rattle.hba_fbs.specs.declared.hearing.Happening.{Happening}
 use Rattle.hba_fbs.specs.declared.hearing.Happening.TheVariants as happening
 use Rattle.hba_fbs.specs.declared.hearing.Heard.{Heard}
 use Rattle.hba_fbs.specs.declared.report.TakeReport.{TakeReport}
+use Rattle.hba_fbs.specs.declared.room.Room.{Room}
 use Rattle.hba_fbs.specs.declared.state.DeviceState.{DeviceState}
 use Rattle.hba_fbs.specs.declared.status.Block.{Block}
 use Rattle.hba_fbs.specs.Hearing.{answered, block_ended, block_of, bus_failed, done_by, faulty, heard_bytes, heard_d2h, heard_data, heard_data_of, heard_fis, heard_out, mask_of_slot, moved, named, overflowed, quietly, set_up, tag_of}
 use Rattle.hba_fbs.specs.Status.{after_reset, is_busy, is_error, is_quiet, with_bits, with_file}
-use Rattle.hba_fbs.specs.Taking.{admitted, heard, heard_now, heard_report, ignores, port_of}
+use Rattle.hba_fbs.specs.Deciding.{decided, room_if}
+use Rattle.hba_fbs.specs.Taking.{admitted, heard, heard_report, ignores, port_of}
 use Rattle.hba_fbs.specs.Tables.{is_sound}
-use Rattle.hba_fbs.specs.Views.{DeviceView, view_of}
-use Rattle.hba_laws.specs.Agreement.{IsHistoryOf, end_of, work_of_issue, work_of_transfer}
+use Rattle.hba_fbs.specs.Views.{DeviceView, Port, view_of}
+use Rattle.hba_laws.specs.Agreement.{IsHistoryOf, IsTold, end_of, work_of_issue, work_of_transfer}
+use Rattle.hba_laws.specs.CoreHistories.{CoreDoneIsCompleted, CoreOpensUntold, ReportsDoneBy, history_through}
+use Rattle.hba_laws.specs.Cores.{AreCores, CoreEvent, Hearkens, IsCore, RunsBy}
 use Rattle.hba_laws.specs.Delivering.{DoneIsCompleted, OpensUntold, ReportsDone, event_heard, event_of, history_after}
 use Rattle.hba_laws.specs.History.{Event, History, Transfer, completes, issued, unless}
 use Rattle.fis_view.specs.Frames.{IsFrame}
-use Rattle.hba_laws.specs.Hosts.{Host, HostEvent, Runs, TakesFrame}
+use Rattle.hba_laws.specs.Hosts.{Host, HostEvent, Runs, TakesFrame, Took}
 use Rattle.hba_laws.specs.Sound.{AreHosts, IsHost}
 use Rattle.hba_laws.specs.Between.{IsOwn, at_slot}
-use Rattle.hba_laws.proofs.histories.EventLemmas.{says_of, views_are_told}
-use Rattle.hba_laws.proofs.histories.HearLemmas.{heard_follows, with_event}
+use Rattle.hba_laws.proofs.cores.CoreHostLemmas.{hosts_are_cores, is_core}
+use Rattle.hba_laws.proofs.histories.CoreEventLemmas.{core_views_are_told, says_of}
+use Rattle.hba_laws.proofs.histories.EventLemmas.{event_by_is, views_are_told}
+use Rattle.hba_laws.proofs.histories.HearLemmas.{decided_cases, decided_follows, with_event}
 use Rattle.hba_laws.proofs.histories.StepLemmas.{Says}
 use Rattle.hba_laws.proofs.histories.ViewLemmas.{at_other, at_same, held, is_own, own_below, own_freed, own_set}
 
@@ -257,6 +263,11 @@ heard_frees : (n : ℕ) (v : DeviceView) (sound : Bool) (o : Option Fis) → IsO
 heard_frees n v sound None is = quiet n v.slots v.state is
 heard_frees n v sound (Some fis) is = fis_frees n v.slots v.state is sound fis
 
+decided_frees : (n : ℕ) (v : DeviceView) (room : Room) (o : Option Fis) → IsOwn n v.slots → (s : ℕ) → s < 32
+    → has_bit (decided n v room o).done s ≡ becomes_free v.slots (moved (decided n v room o).happening v.slots) s
+decided_frees n v room o is s lt =
+    decided_cases (λ (h : Heard). has_bit h.done s ≡ becomes_free v.slots (moved h.happening v.slots) s) n v o room (heard_frees n v false o is s lt) (heard_frees n v true o is s lt) (quiet n v.slots v.state is s lt)
+
 -- ---- what the history says of them
 
 -- the event completes what is issued in s, or there is none
@@ -313,26 +324,27 @@ never : (o : Option Transfer) → match_some o false (λ t. false) ≡ false
 never None = refl
 never (Some t) = refl
 
-module _ (host : Host) (sound : IsHost host) (frame : List ℕ) (framed : IsFrame frame) (report : TakeReport) (new : Host) (past : History) (told : IsHistoryOf (port_of frame) host past) (does : TakesFrame host frame report new) where
+module _ (port : Port) (core : IsCore port) (frame : List ℕ) (framed : IsFrame frame) (room : Room) (report : TakeReport) (new : Port) (past : History) (told : IsTold (view_of (port_of frame) port) past)
+    (does : Hearkens port frame room report new) where
   abbrev n : ℕ
   n = port_of frame
 
   abbrev v : DeviceView
-  v = view_of n host.port
+  v = view_of n port
 
   abbrev h : Heard
-  h = heard_now host.port host.memory n (admitted n (seen frame))
+  h = decided n v room (admitted n (seen frame))
 
   owns : IsOwn n v.slots
-  owns = is_own n host.port.slots sound.slots
+  owns = is_own n port.slots core.slots
 
   later : Says (moved h.happening v.slots) (option_map end_of h.state.block) (with_event (event_heard h (drop 4 frame)) past)
   later =
       let p = and_parts (nat_le 4 (length frame) && nat_le (length frame) 8196) (eqb (length frame % 4) 0) framed in
       let q = and_parts (nat_le 4 (length frame)) (nat_le (length frame) 8196) p.0 in
-      heard_follows n v frame past owns (says_of v past told) (leb-true 4 (length frame) q.0) (eqb-true (length frame % 4) 0 p.1) (is_sound host.memory host.port.commands v.slots)
+      decided_follows n v frame past owns (says_of v past told) (leb-true 4 (length frame) q.0) (eqb-true (length frame % 4) 0 p.1) room
 
-  by_ignored : (b : Bool) → ignores n host.port frame ≡ b
+  by_ignored : (b : Bool) → ignores n port frame ≡ b
       → (report.dev ≡ n) × ((s : ℕ) → s < 32 → has_bit report.done s ≡ match_some (issued s past) false (λ t. match_some (cond b None (event_heard h (drop 4 frame))) false (λ e. completes s e past t.work)))
   unfolding heard_report
   by_ignored true e =
@@ -342,13 +354,25 @@ module _ (host : Host) (sound : IsHost host) (frame : List ℕ) (framed : IsFram
       let r = (does.heard e).reports in (
         ap (λ (x : TakeReport). x.dev) r,
         λ s lt.
-            ap (λ (x : TakeReport). has_bit x.done s) r ∙ heard_frees n v (is_sound host.memory host.port.commands v.slots) (admitted n (seen frame)) owns s lt
+            ap (λ (x : TakeReport). has_bit x.done s) r ∙ decided_frees n v room (admitted n (seen frame)) owns s lt
             ∙ free_completes v.slots (moved h.happening v.slots) (option_map end_of v.state.block) (option_map end_of h.state.block) past (event_heard h (drop 4 frame)) (says_of v past told) later
             (event_is_taken h.happening h.state.block (drop 4 frame) past) s,
       )
 
-  pub reports_done : ReportsDone host frame report past
-  reports_done = let r = by_ignored (ignores n host.port frame) refl in record { own_device = r.0; done = r.1 }
+  reports_done_by : ReportsDoneBy port room frame report past
+  reports_done_by = let r = by_ignored (ignores n port frame) refl in record { own_device = r.0; done = r.1 }
+
+-- a host's report is its core's
+pub reports_done : (host : Host) → IsHost host → (frame : List ℕ) → IsFrame frame → (report : TakeReport) (new : Host) (past : History) → IsHistoryOf (port_of frame) host past → TakesFrame host frame report new
+    → ReportsDone host frame report past
+reports_done host sound frame framed report new past told does =
+    let v : DeviceView = view_of (port_of frame) host.port in
+    let readable : Bool = is_sound host.memory host.port.commands v.slots in
+    let r = reports_done_by host.port (is_core host sound) frame framed (room_if readable) report new.port past told (hosts_are_cores host new (Took frame report) does) in
+    record {
+      own_device = r.own_device;
+      done = λ s lt. r.done s lt ∙ ap (λ (o : Option Event). match_some (issued s past) false (completes_by s o past)) (event_by_is host frame);
+    }
 
 -- ---- after lists of events
 
@@ -356,8 +380,17 @@ last_host : (old new : Host) (events : List HostEvent) (run : Runs old events ne
 last_host old new [] run hosts = subst IsHost (sym run) hosts
 last_host old new (event ∷ events) run hosts = last_host run.0 new events run.2 hosts.1
 
-below_16 : (n : ℕ) → n % 16 < 16
+pub last_core : (old new : Port) (events : List CoreEvent) (run : RunsBy old events new) → AreCores old new events run → IsCore new
+last_core old new [] run cores = subst IsCore (sym run) cores
+last_core old new (event ∷ events) run cores = last_core run.0 new events run.2 cores.1
+
+pub below_16 : (n : ℕ) → n % 16 < 16
 below_16 n = omega arith
+
+pub core_done_is_completed : CoreDoneIsCompleted
+core_done_is_completed old port new events run runs frame room report past framed told does =
+    reports_done_by port (last_core old port events run runs.cores) frame framed room report new (history_through (port_of frame) past old port events run)
+    (core_views_are_told (port_of frame) (below_16 (slice_index frame 1)) old port events run runs past told) does
 
 pub done_is_completed : DoneIsCompleted
 done_is_completed old host new events run sound frame report past framed told does =
@@ -389,11 +422,14 @@ no_own n m k o e = elim (cases_lt k m) [
       get_or_past (map (owned_by n) (replicate m o)) k None (omega (arith, long, same, past))
 ]
 
-pub opens_untold : OpensUntold
-opens_untold n memory = record {
+pub core_opens_untold : CoreOpensUntold
+core_opens_untold n = record {
   issued = λ s. sym (ap (option_map work_of_issue) (no_own n 32 s None refl));
   agrees = record {
     issues_agree = λ s i e. let bad : None ≡ Some i = sym (no_own n 32 s None refl) ∙ e in cc;
     context_agrees = λ c e. let bad : None ≡ Some c = sym (no_context 16 n None refl) ∙ e in cc;
   };
 }
+
+pub opens_untold : OpensUntold
+opens_untold n memory = core_opens_untold n

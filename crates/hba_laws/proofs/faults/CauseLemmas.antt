@@ -1,10 +1,8 @@
--- For `causes_stay`. Which events leave the cause of a fault as it is.
+-- For `core_causes_stay` and `causes_stay`. Which events leave the cause of a fault as it is.
 use Rattle.std.proofs.Common.{◌≡◌, ◌≢◌, ℕ, ◌<◌, Bool, true, false, ◌||◌, List, [], ◌∷◌, refl, sym, ap, ◌∙◌, inl, inr, Option, Some, None}
 use Rattle.std.specs.Prelude.{◌==◌, ◌&&◌, if◌then◌else◌, is_none, is_some, not, unwrap_or}
 use Rattle.std.specs.Option.{option_map_or}
 use Rattle.std.proofs.lemmas.Bool.{cases_Bool, cases_eq, eqb-false, eqb-true, false≢true, or_parts, true≢false}
-use Rattle.fis_view.specs.Frames.{Stamped}
-use Rattle.host_memory.specs.Memory.{Memory}
 use Rattle.port_errors.specs.Errors.{Errors, after_clear, cleared_device, no_errors, without}
 use Rattle.port_errors.specs.declared.cause.DeviceCause.{DeviceCause}
 use Rattle.port_errors.specs.declared.cause.Stop.{Stop}
@@ -14,16 +12,24 @@ use Rattle.slots.specs.Slots.{has_bit}
 use Rattle.hba_fbs.specs.declared.register.Register.{Register}
 use Rattle.hba_fbs.specs.declared.register.Register.TheVariants.{Ci, Cmd, Fbs}
 use Rattle.hba_fbs.specs.declared.report.TakeReport.{TakeReport}
+use Rattle.hba_fbs.specs.declared.room.Room.{Room}
+use Rattle.hba_fbs.specs.declared.turn.Turn.{Turn}
+use Rattle.hba_fbs.specs.declared.turn.Turn.TheVariants.{Feeds, Orders, Rests}
 use Rattle.hba_fbs.specs.Bits.{dec}
-use Rattle.hba_fbs.specs.Issuing.{aimed, view_issued}
+use Rattle.hba_fbs.specs.Offering.{Offer, aimed_by, view_by, view_issued_by}
 use Rattle.hba_fbs.specs.Registers.{falls}
-use Rattle.hba_fbs.specs.Sending.{Data, Gives, Nothing, Order, Outgoing, Unreadable, outgoing}
+use Rattle.hba_fbs.specs.Sending.{Outgoing, Unreadable, outgoing}
 use Rattle.hba_fbs.specs.Taking.{ignores, port_of}
+use Rattle.hba_fbs.specs.Turning.{Turns, turn_of}
 use Rattle.hba_fbs.specs.Views.{DeviceView, Port, stopped_view, view_of}
-use Rattle.hba_fbs.specs.Writing.{cleared_by, errors_after, is_device, view_after}
-use Rattle.hba_laws.specs.Causes.{DeviceCausesStay, OthersFaultNone, PortCausesStay, clears, clears_device, clears_port, comes_from}
-use Rattle.hba_laws.specs.Hosts.{Does, Flushed, Gave, Host, HostEvent, Took, Wrote}
+use Rattle.hba_fbs.specs.Writing.{cleared_by, errors_after, is_device}
+use Rattle.hba_laws.specs.Causes.{DeviceCausesStay, OthersFaultNone, PortCausesStay, clears, clears_port, comes_from}
+use Rattle.hba_laws.specs.CoreCauses.{CoreDeviceCausesStay, CoreOthersFaultNone, CorePortCausesStay, clears_all, clears_by, clears_one, is_from}
+use Rattle.hba_laws.specs.Cores.{CoreEvent, DoesBy, Failed, Flushed, Gave, Hearkens, StepsBy, Took, Wrote, core_event, gave_event}
+use Rattle.hba_laws.specs.Hosts as host
+use Rattle.hba_laws.specs.Hosts.{Does, Host, HostEvent}
 use Rattle.hba_laws.specs.Isolation.{lowers_st}
+use Rattle.hba_laws.proofs.cores.CoreHostLemmas.{hosts_are_cores}
 
 abbrev fault_of : ℕ → Port → Option DeviceCause
 fault_of n port = (view_of n port).fault
@@ -36,10 +42,10 @@ fault_in v w is = ap (λ (x : DeviceView). x.fault) is
 
 -- ---- a FIS is taken
 
-took_apart : (n : ℕ) (old new : Host) (frame : List ℕ) (report : TakeReport) → Does old (Took frame report) new → port_of frame ≢ n → fault_of n new.port ≡ fault_of n old.port
-took_apart n old new frame report does apart = elim (cases_Bool (ignores (port_of frame) old.port frame)) [
-  | inl t ↦ same_fault n old.port new.port (does.ignored t).port
-  | inr f ↦ fault_in (view_of n new.port) (view_of n old.port) ((does.heard f).others n (λ e. apart (sym e)))
+took_apart : (n : ℕ) (old new : Port) (frame : List ℕ) (room : Room) (report : TakeReport) → Hearkens old frame room report new → port_of frame ≢ n → fault_of n new ≡ fault_of n old
+took_apart n old new frame room report does apart = elim (cases_Bool (ignores (port_of frame) old frame)) [
+  | inl t ↦ same_fault n old new (does.ignored t).port
+  | inr f ↦ fault_in (view_of n new) (view_of n old) ((does.heard f).others n (λ e. apart (sym e)))
 ]
 
 -- a faulty device is not heard
@@ -49,10 +55,10 @@ faulty_ignored false false resets o cause is = refl
 faulty_ignored false true resets None cause is = cc
 faulty_ignored false true resets (Some c) cause is = refl
 
-took_own : (n : ℕ) (cause : DeviceCause) (old new : Host) (frame : List ℕ) (report : TakeReport) → Does old (Took frame report) new → port_of frame ≡ n → fault_of n old.port ≡ Some cause
-    → fault_of n new.port ≡ fault_of n old.port
-took_own n cause old new frame report does from is =
-    same_fault n old.port new.port (does.ignored (faulty_ignored _ _ _ (fault_of (port_of frame) old.port) cause (ap (λ (k : ℕ). fault_of k old.port) from ∙ is))).port
+took_own : (n : ℕ) (cause : DeviceCause) (old new : Port) (frame : List ℕ) (room : Room) (report : TakeReport) → Hearkens old frame room report new → port_of frame ≡ n → fault_of n old ≡ Some cause
+    → fault_of n new ≡ fault_of n old
+took_own n cause old new frame room report does from is =
+    same_fault n old new (does.ignored (faulty_ignored _ _ _ (fault_of (port_of frame) old) cause (ap (λ (k : ℕ). fault_of k old) from ∙ is))).port
 
 -- ---- a register is written
 
@@ -64,15 +70,15 @@ unless_chosen : (b : Bool) (v w : DeviceView) → b ≡ false → (if b then v e
 unless_chosen true v w off = absurd (true≢false off)
 unless_chosen false v w off = refl
 
-written_fault : (n : ℕ) (register : Register) (host : Host) (value : ℕ) → clears_device n host register value ≡ false → lowers_st register host.port.registers value ≡ false
-    → (view_after register host.port host.memory value n).fault ≡ fault_of n host.port
-unfolding view_after
-written_fault n Cmd host value device lowers = unless_chosen (falls host.port.registers value) (stopped_view (view_of n host.port)) (view_of n host.port) lowers
-written_fault n Ci host value device lowers =
-    chosen_fault (n == aimed host.port.registers host.memory.structure value) (view_issued host.port.registers host.memory value (view_of n host.port)) (view_of n host.port) refl
-written_fault n Fbs host value device lowers =
-    unless_chosen (is_device n (cleared_by host.port.errors value)) (stopped_view (view_of n host.port)) (view_of n host.port) device
-written_fault n register host value device lowers = refl
+written_fault : (n : ℕ) (register : Register) (port : Port) (value : ℕ) (offer : Offer) → clears_one n port register value ≡ false → lowers_st register port.registers value ≡ false
+    → (view_by register port offer value n).fault ≡ fault_of n port
+unfolding view_by
+written_fault n Cmd port value offer device lowers = unless_chosen (falls port.registers value) (stopped_view (view_of n port)) (view_of n port) lowers
+written_fault n Ci port value offer device lowers =
+    chosen_fault (n == aimed_by port.registers offer value) (view_issued_by port.registers offer value (view_of n port)) (view_of n port) refl
+written_fault n Fbs port value offer device lowers =
+    unless_chosen (is_device n (cleared_by port.errors value)) (stopped_view (view_of n port)) (view_of n port) device
+written_fault n register port value offer device lowers = refl
 
 -- ---- a frame goes out
 
@@ -84,48 +90,46 @@ sent_fault n dev old new view own same others = elim (cases_eq n dev) [
   | inr apart ↦ fault_in (view_of n new) (view_of n old) (others n apart)
 ]
 
-gave_fault : (n : ℕ) (o : Outgoing) (old : Port) (memory : Memory) (frame : Option Stamped) (new : Port) → Gives o old memory frame new → fault_of n new ≡ fault_of n old
-gave_fault n Nothing old memory frame new gives = same_fault n old new gives.1
-gave_fault n (Unreadable dev) old memory frame new gives = ap (λ (p : Port). fault_of n p) gives.1
-gave_fault n (Data dev offset len command) old memory (Some f) new gives = sent_fault n dev old new _ gives.own refl gives.others
-gave_fault n (Order dev slot command) old memory (Some f) new gives = sent_fault n dev old new _ gives.own refl gives.others
-gave_fault n other old memory None new gives = absurd gives
+turned_fault : (n : ℕ) (t : Turn) (old new : Port) → Turns t old new → fault_of n new ≡ fault_of n old
+turned_fault n Rests old new does = same_fault n old new does
+turned_fault n (Feeds dev slot offset len) old new does = sent_fault n dev old new _ does.own refl does.others
+turned_fault n (Orders dev slot command) old new does = sent_fault n dev old new _ does.own refl does.others
 
 -- ---- events
 
-event_fault : (n : ℕ) → n < 16 → (old new : Host) (event : HostEvent) → Does old event new → comes_from n event ≡ false → clears n old event ≡ false → fault_of n new.port ≡ fault_of n old.port
-event_fault n lt old new (Took frame report) does from none = took_apart n old new frame report does (eqb-false (port_of frame) n from)
-event_fault n lt old new (Wrote register value) does from none =
-    let neither = or_parts (clears_device n old register value) (lowers_st register old.port.registers value) none in
-    fault_in (view_of n new.port) (view_after register old.port old.memory value n) (does.1.views n lt) ∙ written_fault n register old value neither.0 neither.1
+event_fault : (n : ℕ) → n < 16 → (old new : Port) (event : CoreEvent) → DoesBy old event new → is_from n event ≡ false → clears_by n old event ≡ false → fault_of n new ≡ fault_of n old
+event_fault n lt old new (Took frame room report) does from none = took_apart n old new frame room report does (eqb-false (port_of frame) n from)
+event_fault n lt old new (Wrote register value offer tables) does from none =
+    let neither = or_parts (clears_one n old register value) (lowers_st register old.registers value) none in
+    fault_in (view_of n new) (view_by register old offer value n) (does.1.views n lt) ∙ written_fault n register old value offer neither.0 neither.1
 event_fault n lt old new (Flushed dev) does from none =
-    fault_in (view_of n new.port) (view_of n old.port) (does.0.others n (λ e. eqb-false dev n none (sym e)))
-event_fault n lt old new (Gave frame) does from none = gave_fault n (outgoing old.port old.memory) old.port old.memory frame new.port does.0
-event_fault n lt old new other does from none = same_fault n old.port new.port does.1
+    fault_in (view_of n new) (view_of n old) (does.others n (λ e. eqb-false dev n none (sym e)))
+event_fault n lt old new (Gave bytes) does from none = turned_fault n (turn_of old) old new does.0
+event_fault n lt old new Failed does from none = ap (λ (p : Port). fault_of n p) does
 
-event_keeps : (n : ℕ) → n < 16 → (cause : DeviceCause) (old new : Host) (event : HostEvent) → Does old event new → clears n old event ≡ false → fault_of n old.port ≡ Some cause
-    → fault_of n new.port ≡ Some cause
-event_keeps n lt cause old new event does none is = elim (cases_Bool (comes_from n event)) [
+event_keeps : (n : ℕ) → n < 16 → (cause : DeviceCause) (old new : Port) (event : CoreEvent) → DoesBy old event new → clears_by n old event ≡ false → fault_of n old ≡ Some cause
+    → fault_of n new ≡ Some cause
+event_keeps n lt cause old new event does none is = elim (cases_Bool (is_from n event)) [
   | inl own ↦ own_event event does own ∙ is
   | inr apart ↦ event_fault n lt old new event does apart none ∙ is
 ]
   where
-    own_event : (e : HostEvent) → Does old e new → comes_from n e ≡ true → fault_of n new.port ≡ fault_of n old.port
-    own_event (Took frame report) d own = took_own n cause old new frame report d (eqb-true (port_of frame) n own) is
+    own_event : (e : CoreEvent) → DoesBy old e new → is_from n e ≡ true → fault_of n new ≡ fault_of n old
+    own_event (Took frame room report) d own = took_own n cause old new frame room report d (eqb-true (port_of frame) n own) is
     own_event other d own = absurd (false≢true own)
 
 -- ---- runs
 
-pub device_causes_stay : DeviceCausesStay
-device_causes_stay n lt cause old new [] run none is = same_fault n old.port new.port (ap (λ (h : Host). h.port) run) ∙ is
-device_causes_stay n lt cause old new (event ∷ events) run none is =
-    device_causes_stay n lt cause run.0 new events run.2 none.1 (event_keeps n lt cause old run.0 event run.1 none.0 is)
+pub core_device_causes_stay : CoreDeviceCausesStay
+core_device_causes_stay n lt cause old new [] run none is = same_fault n old new run ∙ is
+core_device_causes_stay n lt cause old new (event ∷ events) run none is =
+    core_device_causes_stay n lt cause run.0 new events run.2 none.1 (event_keeps n lt cause old run.0 event run.1 none.0 is)
 
-pub others_fault_none : OthersFaultNone
-others_fault_none n lt old new [] run none = same_fault n old.port new.port (ap (λ (h : Host). h.port) run)
-others_fault_none n lt old new (event ∷ events) run none =
-    let neither = or_parts (comes_from n event) (clears n old event) none.0 in
-    others_fault_none n lt run.0 new events run.2 none.1 ∙ event_fault n lt old run.0 event run.1 neither.0 neither.1
+pub core_others_fault_none : CoreOthersFaultNone
+core_others_fault_none n lt old new [] run none = same_fault n old new run
+core_others_fault_none n lt old new (event ∷ events) run none =
+    let neither = or_parts (is_from n event) (clears_by n old event) none.0 in
+    core_others_fault_none n lt run.0 new events run.2 none.1 ∙ event_fault n lt old run.0 event run.1 neither.0 neither.1
 
 -- ---- the port
 
@@ -162,22 +166,82 @@ written_port register port value none = refl
 port_in : (e f : Errors) → e ≡ f → e.port ≡ f.port
 port_in e f is = ap (λ (x : Errors). x.port) is
 
-gave_port : (o : Outgoing) (cause : Stop) (old : Port) (memory : Memory) (frame : Option Stamped) (new : Port) → Gives o old memory frame new → stopped_by old ≡ Some cause → stopped_by new ≡ Some cause
-gave_port Nothing cause old memory frame new gives is = ap (λ (p : Port). stopped_by p) gives.1 ∙ is
-gave_port (Unreadable dev) cause old memory frame new gives is = ap (λ (p : Port). stopped_by p) gives.1 ∙ ap (λ (o : Option Stop). Some (unwrap_or o (stop.Port Bus))) is
-gave_port other cause old memory None new gives is = absurd gives
-gave_port rest cause old memory (Some f) new gives is = port_in new.errors old.errors gives.errors ∙ is
+turned_port : (t : Turn) (cause : Stop) (old new : Port) → Turns t old new → stopped_by old ≡ Some cause → stopped_by new ≡ Some cause
+turned_port Rests cause old new does is = ap (λ (p : Port). stopped_by p) does ∙ is
+turned_port (Feeds dev slot offset len) cause old new does is = port_in new.errors old.errors does.errors ∙ is
+turned_port (Orders dev slot command) cause old new does is = port_in new.errors old.errors does.errors ∙ is
 
-event_stops : (cause : Stop) (old new : Host) (event : HostEvent) → Does old event new → clears_port old event ≡ false → stopped_by old.port ≡ Some cause → stopped_by new.port ≡ Some cause
-event_stops cause old new (Took frame report) does none is =
-    ap (λ (p : Port). stopped_by p) (does.ignored (stopped_ignored _ old.port.registers.started _ _ old.port.errors.port cause is)).port ∙ is
-event_stops cause old new (Wrote register value) does none is =
-    port_in new.port.errors (errors_after register old.port value) does.1.errors ∙ written_port register old.port value none ∙ is
-event_stops cause old new (Flushed dev) does none is = port_in new.port.errors (without old.port.errors dev) does.0.errors ∙ is
-event_stops cause old new (Gave frame) does none is = gave_port (outgoing old.port old.memory) cause old.port old.memory frame new.port does.0 is
-event_stops cause old new other does none is = ap (λ (p : Port). stopped_by p) does.1 ∙ is
+event_stops : (cause : Stop) (old new : Port) (event : CoreEvent) → DoesBy old event new → clears_all old event ≡ false → stopped_by old ≡ Some cause → stopped_by new ≡ Some cause
+event_stops cause old new (Took frame room report) does none is =
+    ap (λ (p : Port). stopped_by p) (does.ignored (stopped_ignored _ old.registers.started _ _ old.errors.port cause is)).port ∙ is
+event_stops cause old new (Wrote register value offer tables) does none is =
+    port_in new.errors (errors_after register old value) does.1.errors ∙ written_port register old value none ∙ is
+event_stops cause old new (Flushed dev) does none is = port_in new.errors (without old.errors dev) does.errors ∙ is
+event_stops cause old new (Gave bytes) does none is = turned_port (turn_of old) cause old new does.0 is
+event_stops cause old new Failed does none is = ap (λ (p : Port). stopped_by p) does ∙ ap (λ (o : Option Stop). Some (unwrap_or o (stop.Port Bus))) is
+
+pub core_port_causes_stay : CorePortCausesStay
+core_port_causes_stay cause old new [] run none is = ap (λ (p : Port). stopped_by p) run ∙ is
+core_port_causes_stay cause old new (event ∷ events) run none is =
+    core_port_causes_stay cause run.0 new events run.2 none.1 (event_stops cause old run.0 event run.1 none.0 is)
+
+-- ---- hosts
+
+-- An event of the core that is as this one of a host keeps this; so does none.
+by_core : (old new : Host) (event : HostEvent) → Does old event new → (Keeps : Type 0) → ((e : CoreEvent) → core_event old event ≡ Some e → DoesBy old.port e new.port → Keeps) → (new.port ≡ old.port → Keeps) → Keeps
+by_core old new event does Keeps goes stays = by_event (core_event old event) refl (hosts_are_cores old new event does)
+  where
+    by_event : (o : Option CoreEvent) → core_event old event ≡ o → StepsBy old.port o new.port → Keeps
+    by_event None is same = stays same
+    by_event (Some e) is steps = goes e is steps
+
+-- what goes out is no FIS of a device, and clears nothing
+gave_keeps : (test : CoreEvent → Bool) (o : Outgoing) (bytes : List ℕ) → test (Gave bytes) ≡ false → test Failed ≡ false → test (gave_event o bytes) ≡ false
+gave_keeps test (Unreadable dev) bytes gave failed = failed
+gave_keeps test other bytes gave failed = gave
+
+-- what an event of the core is, it is of the host
+from_is : (n : ℕ) (old : Host) (event : HostEvent) (e : CoreEvent) → core_event old event ≡ Some e → is_from n e ≡ comes_from n event
+from_is n old (host.Took frame report) e is = sym (ap (λ (o : Option CoreEvent). option_map_or (is_from n) o false) is)
+from_is n old (host.Wrote register value) e is = sym (ap (λ (o : Option CoreEvent). option_map_or (is_from n) o false) is)
+from_is n old (host.Flushed dev) e is = sym (ap (λ (o : Option CoreEvent). option_map_or (is_from n) o false) is)
+from_is n old (host.Gave frame) e is = sym (ap (λ (o : Option CoreEvent). option_map_or (is_from n) o false) is) ∙ gave_keeps (is_from n) (outgoing old.port old.memory) _ refl refl
+from_is n old other e is = cc
+
+device_is : (n : ℕ) (register : Register) (old : Host) (value : ℕ) → clears n old (host.Wrote register value) ≡ (clears_one n old.port register value || lowers_st register old.port.registers value)
+device_is n Fbs old value = refl
+device_is n register old value = refl
+
+clears_is : (n : ℕ) (old : Host) (event : HostEvent) (e : CoreEvent) → core_event old event ≡ Some e → clears_by n old.port e ≡ clears n old event
+clears_is n old (host.Took frame report) e is = sym (ap (λ (o : Option CoreEvent). option_map_or (clears_by n old.port) o false) is)
+clears_is n old (host.Wrote register value) e is = sym (ap (λ (o : Option CoreEvent). option_map_or (clears_by n old.port) o false) is) ∙ sym (device_is n register old value)
+clears_is n old (host.Flushed dev) e is = sym (ap (λ (o : Option CoreEvent). option_map_or (clears_by n old.port) o false) is)
+clears_is n old (host.Gave frame) e is = sym (ap (λ (o : Option CoreEvent). option_map_or (clears_by n old.port) o false) is) ∙ gave_keeps (clears_by n old.port) (outgoing old.port old.memory) _ refl refl
+clears_is n old other e is = cc
+
+all_is : (old : Host) (event : HostEvent) (e : CoreEvent) → core_event old event ≡ Some e → clears_all old.port e ≡ clears_port old event
+all_is old (host.Took frame report) e is = sym (ap (λ (o : Option CoreEvent). option_map_or (clears_all old.port) o false) is)
+all_is old (host.Wrote register value) e is = sym (ap (λ (o : Option CoreEvent). option_map_or (clears_all old.port) o false) is)
+all_is old (host.Flushed dev) e is = sym (ap (λ (o : Option CoreEvent). option_map_or (clears_all old.port) o false) is)
+all_is old (host.Gave frame) e is = sym (ap (λ (o : Option CoreEvent). option_map_or (clears_all old.port) o false) is) ∙ gave_keeps (clears_all old.port) (outgoing old.port old.memory) _ refl refl
+all_is old other e is = cc
+
+pub device_causes_stay : DeviceCausesStay
+device_causes_stay n lt cause old new [] run none is = same_fault n old.port new.port (ap (λ (h : Host). h.port) run) ∙ is
+device_causes_stay n lt cause old new (event ∷ events) run none is =
+    device_causes_stay n lt cause run.0 new events run.2 none.1
+    (by_core old run.0 event run.1 (fault_of n run.0.port ≡ Some cause) (λ e at does. event_keeps n lt cause old.port run.0.port e does (clears_is n old event e at ∙ none.0) is) (λ same. same_fault n old.port run.0.port same ∙ is))
+
+pub others_fault_none : OthersFaultNone
+others_fault_none n lt old new [] run none = same_fault n old.port new.port (ap (λ (h : Host). h.port) run)
+others_fault_none n lt old new (event ∷ events) run none =
+    let neither = or_parts (comes_from n event) (clears n old event) none.0 in
+    others_fault_none n lt run.0 new events run.2 none.1
+    ∙ by_core old run.0 event run.1 (fault_of n run.0.port ≡ fault_of n old.port)
+    (λ e at does. event_fault n lt old.port run.0.port e does (from_is n old event e at ∙ neither.0) (clears_is n old event e at ∙ neither.1)) (same_fault n old.port run.0.port)
 
 pub port_causes_stay : PortCausesStay
 port_causes_stay cause old new [] run none is = ap (λ (h : Host). stopped_by h.port) run ∙ is
 port_causes_stay cause old new (event ∷ events) run none is =
-    port_causes_stay cause run.0 new events run.2 none.1 (event_stops cause old run.0 event run.1 none.0 is)
+    port_causes_stay cause run.0 new events run.2 none.1
+    (by_core old run.0 event run.1 (stopped_by run.0.port ≡ Some cause) (λ e at does. event_stops cause old.port run.0.port e does (all_is old event e at ∙ none.0) is) (λ same. ap (λ (p : Port). stopped_by p) same ∙ is))

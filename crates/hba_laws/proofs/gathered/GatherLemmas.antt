@@ -41,7 +41,7 @@ use Rattle.hba_laws.specs.Sound.{IsHost}
 use Rattle.hba_laws.specs.Between.{AreQuiet, HasContext, IsOwn}
 use Rattle.hba_laws.proofs.histories.CarryLemmas.{next_is}
 use Rattle.hba_laws.proofs.placed.ClientLemmas.{below_16, context_below, event_is, histories_step, no_fault}
-use Rattle.hba_laws.proofs.histories.EventLemmas.{says_of}
+use Rattle.hba_laws.proofs.histories.CoreEventLemmas.{says_of}
 use Rattle.hba_laws.proofs.placed.SpareLemmas.{event_reads, event_tables}
 use Rattle.hba_laws.proofs.histories.StandLemmas.{fills_as, filling_of, if_there, set_up_setup, some_inj}
 use Rattle.hba_laws.proofs.histories.StepLemmas.{Says}

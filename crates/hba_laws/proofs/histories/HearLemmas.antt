@@ -1,6 +1,6 @@
 -- For `delivers`. What a device's part of the slots says after a FIS that is heard.
 use Rattle.std.proofs.Common.{◌≡◌, ℕ, ◌-◌, ◌%◌, ◌≤◌, Bool, true, false, cond, eqb, List, ◌∷◌, drop, length, refl, sym, ap, subst, ◌∙◌, Option, Some, None, arith, length-drop}
-use Rattle.std.specs.Prelude.{is_ok, is_some, ◌&&◌, not, nat_lt, Result, Ok, Err}
+use Rattle.std.specs.Prelude.{if◌then◌else◌, is_ok, is_some, ◌&&◌, not, nat_lt, Result, Ok, Err}
 use Rattle.std.specs.Option.{option_map}
 use Rattle.std.proofs.lemmas.Bool.{false≢true, ltb-false}
 use Rattle.fis_view.specs.Seen.{kind_of, may_have, seen, view_as}
@@ -25,8 +25,11 @@ use Rattle.slots.proofs.Door.{lowest_is}
 use Rattle.hba_fbs.specs.declared.hearing.Heard.{Heard}
 use Rattle.hba_fbs.specs.declared.hearing.Happening.TheVariants as happening
 use Rattle.hba_fbs.specs.declared.report.Wrote.{Wrote}
+use Rattle.hba_fbs.specs.declared.room.Room.{Room}
+use Rattle.hba_fbs.specs.declared.room.Room.TheVariants.{Bytes, NoTable, Whole}
 use Rattle.hba_fbs.specs.declared.state.DeviceState.{DeviceState}
 use Rattle.hba_fbs.specs.declared.status.Block.{Block}
+use Rattle.hba_fbs.specs.Deciding.{decided, heard_within, is_past}
 use Rattle.hba_fbs.specs.Hearing.{answered, block_ended, block_of, bus_failed, faulty, heard_bytes, heard_d2h, heard_data, heard_data_of, heard_fis, heard_out, heard_setup, is_admitted, moved, named, overflowed, quietly, set_up, tag_of}
 use Rattle.hba_fbs.specs.Status.{after_reset, is_busy, is_error, is_quiet, with_bits, with_file}
 use Rattle.hba_fbs.specs.Taking.{admitted, heard}
@@ -215,3 +218,20 @@ heard_follows n v frame past is says long dwords sound = by_seen (seen frame) re
     by_seen : (r : Result Fis FisFault) → seen frame ≡ r → Follows v.slots (drop 4 frame) past (heard n v sound (admitted n r))
     by_seen (Err fault) e = says
     by_seen (Ok fis) e = by_test fis e (is_admitted n fis)
+
+-- what a FIS means for a table of some room is what it means for one that can be used or not, or an overflow
+pub decided_cases : (P : Heard → Type 0) (n : ℕ) (v : DeviceView) (fis : Option Fis) (room : Room) → P (heard n v false fis) → P (heard n v true fis) → P (overflowed v.state) → P (decided n v room fis)
+unfolding heard_within
+decided_cases P n v None room bad sound over = bad
+decided_cases P n v (Some fis) NoTable bad sound over = bad
+decided_cases P n v (Some fis) Whole bad sound over = sound
+decided_cases P n v (Some fis) (Bytes total) bad sound over = by_test (is_past total v.slots.context fis)
+  where
+    by_test : (b : Bool) → P (if b then overflowed v.state else heard_fis v.slots v.state true fis)
+    by_test true = over
+    by_test false = sound
+
+pub decided_follows : (n : ℕ) (v : DeviceView) (frame : List ℕ) (past : History) → IsOwn n v.slots → Says v.slots (option_map end_of v.state.block) past → 4 ≤ length frame → length frame % 4 ≡ 0 → (room : Room)
+    → Follows v.slots (drop 4 frame) past (decided n v room (admitted n (seen frame)))
+decided_follows n v frame past is says long dwords room =
+    decided_cases (Follows v.slots (drop 4 frame) past) n v (admitted n (seen frame)) room (heard_follows n v frame past is says long dwords false) (heard_follows n v frame past is says long dwords true) says

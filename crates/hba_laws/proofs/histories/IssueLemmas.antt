@@ -1,26 +1,30 @@
 -- For `delivers`. What a device's part of the slots says once a write of PxCI issued commands.
-use Rattle.std.proofs.Common.{◌≡◌, ◌≢◌, ℕ, zero, suc, ◌<◌, ◌≤◌, Bool, true, false, cond, eqb, [], ◌∷◌, ◌++◌, length, refl, sym, ap, subst, ◌∙◌, inl, inr, Option, Some, None, arith}
+use Rattle.std.proofs.Common.{◌≡◌, ◌≢◌, ℕ, zero, suc, ◌<◌, ◌≤◌, Bool, true, false, cond, eqb, [], ◌∷◌, ◌++◌, length, refl, sym, ap, subst, ◌∙◌, inl, inr, List, Option, Some, None, arith, append_assoc}
 use Rattle.std.specs.Prelude.{is_some, ◌&&◌, ◌==◌, not, if◌then◌else◌}
 use Rattle.std.specs.Option.{option_map, option_or}
 use Rattle.std.proofs.lemmas.Bool.{cases_Bool, cases_eq, cases_lt, eq-eqb, eqb-true, ne_eqb, false≢true, true≢false, lt-ltb, le-ltb}
 use Rattle.host_memory.specs.Memory.{Memory}
+use Rattle.host_memory.specs.declared.table.Prd.{Prd}
 use Rattle.hba_commands.specs.declared.command.Command.{Command}
-use Rattle.hba_commands.specs.Commands.{command_at}
 use Rattle.slots.specs.Slots.{DeviceSlots, Issue, has_bit, issue_at, lowest, new_issue, own_issue}
 use Rattle.slots.proofs.Door.{none_below}
 use Rattle.std.proofs.lemmas.Nat.Bits.{bit_at-zero}
 use Rattle.hba_fbs.specs.declared.error.WriteError.{WriteError}
 use Rattle.hba_fbs.specs.declared.error.WriteError.TheVariants as refusal
 use Rattle.hba_fbs.specs.declared.register.Register.TheVariants.{Ci}
-use Rattle.hba_fbs.specs.Issuing.{any_slot, asked, is_busy, issue_with, issued_slots}
-use Rattle.hba_fbs.specs.Registers.{own_refusal}
+use Rattle.hba_fbs.specs.Issuing.{asked, is_busy, issue_with, issued_slots}
+use Rattle.hba_fbs.specs.Offering.{Offer, asked_by, offer_of, refusal_by, slots_refusal_by}
+use Rattle.hba_fbs.specs.Registers.{own_refusal, own_refusal_by}
 use Rattle.hba_fbs.specs.Views.{Port}
-use Rattle.hba_fbs.specs.Writing.{refusal_of, slots_refusal}
+use Rattle.hba_fbs.specs.Writing.{refusal_of}
 use Rattle.hba_laws.specs.Agreement.{Agrees, AreIssued, work_of_issue, work_of_transfer}
 use Rattle.hba_laws.specs.Client.{By, Puts, Stops, Touches, own}
+use Rattle.hba_laws.specs.Alike.{told_issue, told_issued}
 use Rattle.hba_laws.specs.Delivering.{issued_below, issued_in}
 use Rattle.hba_laws.specs.History.{Emptied, History, Issued, issued}
 use Rattle.hba_laws.specs.Between.{at_slot, history_below, issue_below, transfer_of, with_issued}
+use Rattle.hba_laws.proofs.soundness.WriteLemmas.{free_by}
+use Rattle.hba_laws.proofs.cores.CoreHostLemmas.{core_accepts}
 use Rattle.hba_laws.proofs.histories.CarryLemmas.{agrees_issued}
 use Rattle.hba_laws.proofs.histories.StepLemmas.{Says}
 use Rattle.hba_laws.proofs.histories.ViewLemmas.{at_other, at_same, ext, own_issued}
@@ -66,7 +70,7 @@ pub record Holds (issues : ℕ → Option Issue) (own : DeviceSlots) (ends : Opt
   pub issued : AreIssued issues past
   pub agrees : Agrees issues own.context ends past
 
-module _ (dev : ℕ) (memory : Memory) (commands : ℕ → Option Command) (own : DeviceSlots) (ends : Option ℕ) (past : History) (says : Says own ends past)
+module _ (dev : ℕ) (tables : ℕ → List Prd) (commands : ℕ → Option Command) (own : DeviceSlots) (ends : Option ℕ) (past : History) (says : Says own ends past)
     (free : (s : ℕ) → s < 32 → is_some (commands s) ≡ true → own_issue own s ≡ None) where
   abbrev at_least : ℕ → ℕ → Bool → Option Issue
   at_least m k b = cond b (issue_with dev (commands k) (own_issue own k)) (own_issue own k)
@@ -103,59 +107,49 @@ module _ (dev : ℕ) (memory : Memory) (commands : ℕ → Option Command) (own 
     ]
   ])
 
-  works_issued : (issues : ℕ → Option Issue) (h : History) (slot : ℕ) (command : Command) → AreIssued issues h
-      → AreIssued (at_slot issues slot (Some (new_issue dev command.work))) (Issued slot (transfer_of memory command) ∷ h)
-  works_issued issues h slot command w s = elim (cases_eq s slot) [
+  works_issued : (issues : ℕ → Option Issue) (h : History) (slot : ℕ) (command : Command) (table : List Prd) → AreIssued issues h
+      → AreIssued (at_slot issues slot (Some (new_issue dev command.work))) (Issued slot (record { work = command.work; table = table }) ∷ h)
+  works_issued issues h slot command table w s = elim (cases_eq s slot) [
     | inl e ↦
-        ap (λ b. option_map work_of_transfer (cond b (Some (transfer_of memory command)) (issued s h))) (eq-eqb slot s (sym e))
+        ap (λ b. option_map work_of_transfer (cond b (Some (record { work = command.work; table = table })) (issued s h))) (eq-eqb slot s (sym e))
         ∙ sym (ap (option_map work_of_issue) (at_same issues slot s (Some (new_issue dev command.work)) e))
     | inr ne ↦
-        ap (λ b. option_map work_of_transfer (cond b (Some (transfer_of memory command)) (issued s h))) (ne_eqb slot s (λ e. ne (sym e)))
+        ap (λ b. option_map work_of_transfer (cond b (Some (record { work = command.work; table = table })) (issued s h))) (ne_eqb slot s (λ e. ne (sym e)))
         ∙ w s ∙ sym (ap (option_map work_of_issue) (at_other issues slot s (Some (new_issue dev command.work)) ne))
   ]
 
   holds_more : (m : ℕ) → m < 32 → (o : Option Command) → commands m ≡ o → (h : History) → Holds (issue_below dev commands (own_issue own) m) own ends h
-      → Holds (issue_below dev commands (own_issue own) (suc m)) own ends (with_issued memory m o h)
+      → Holds (issue_below dev commands (own_issue own) (suc m)) own ends (told_issue m (tables m) o ++ h)
   holds_more m lt None here h x = subst (λ (f : ℕ → Option Issue). Holds f own ends h) (sym (same_more m here)) x
   holds_more m lt (Some command) here h x =
       let empty : issue_below dev commands (own_issue own) m m ≡ None = ap (at_least m m) (le-ltb m m (omega arith)) ∙ free m lt (ap is_some here) in
-      subst (λ (f : ℕ → Option Issue). Holds f own ends (Issued m (transfer_of memory command) ∷ h)) (sym (set_more m command here)) (record {
-        issued = works_issued (issue_below dev commands (own_issue own) m) h m command x.issued;
-        agrees = agrees_issued (issue_below dev commands (own_issue own) m) own.context ends h x.agrees m dev (transfer_of memory command) empty;
+      subst (λ (f : ℕ → Option Issue). Holds f own ends (Issued m (record { work = command.work; table = tables m }) ∷ h)) (sym (set_more m command here)) (record {
+        issued = works_issued (issue_below dev commands (own_issue own) m) h m command (tables m) x.issued;
+        agrees = agrees_issued (issue_below dev commands (own_issue own) m) own.context ends h x.agrees m dev (record { work = command.work; table = tables m }) empty;
       })
 
-  holds_below : (m : ℕ) → m ≤ 32 → Holds (issue_below dev commands (own_issue own) m) own ends (history_below memory commands past m)
+  holds_below : (m : ℕ) → m ≤ 32 → Holds (issue_below dev commands (own_issue own) m) own ends (told_issued commands tables m ++ past)
+  unfolding told_issued
   holds_below zero below = subst (λ (f : ℕ → Option Issue). Holds f own ends past) (sym none_below_first) (record { issued = says.issued; agrees = says.agrees })
-  holds_below (suc m) below = holds_more m (omega arith) (commands m) refl (history_below memory commands past m) (holds_below m (omega arith))
+  holds_below (suc m) below =
+      subst (Holds (issue_below dev commands (own_issue own) (suc m)) own ends) (sym (append_assoc (told_issue m (tables m) (commands m)) (told_issued commands tables m) past))
+      (holds_more m (omega arith) (commands m) refl (told_issued commands tables m ++ past) (holds_below m (omega arith)))
 
-  pub says_issued : (m : ℕ) → m ≤ 32 → length own.issues ≡ m → Says (issued_slots dev commands own) ends (history_below memory commands past m)
+  pub says_issued : (m : ℕ) → m ≤ 32 → length own.issues ≡ m → Says (issued_slots dev commands own) ends (told_issued commands tables m ++ past)
   says_issued m below long =
-      let x = subst (λ (f : ℕ → Option Issue). Holds f own ends (history_below memory commands past m)) (sym (own_issued dev commands own m long)) (holds_below m below) in
+      let x = subst (λ (f : ℕ → Option Issue). Holds f own ends (told_issued commands tables m ++ past)) (sym (own_issued dev commands own m long)) (holds_below m below) in
       record { issued = x.issued; agrees = x.agrees }
 
 -- ---- a write that is not refused issues in free slots
-
-not_one : (b : Bool) (e : WriteError) (o : Option WriteError) → (if b then Some e else o) ≡ None → b ≡ false
-not_one true e o h = cc
-not_one false e o h = refl
-
-free_when : (started test : Bool) (busy : Bool) (e : WriteError) (o : Option WriteError) → started ≡ true
-    → option_or (if not started && test then Some refusal.Stopped else None) (if started then (if busy then Some e else o) else None) ≡ None → busy ≡ false
-free_when true test busy e o run h = not_one busy e o h
-free_when false test busy e o run h = absurd (false≢true run)
-
-accepted_free : (port : Port) (memory : Memory) (value : ℕ) → port.registers.started ≡ true → refusal_of Ci port memory value ≡ None → any_slot value (is_busy port.slots) ≡ false
-unfolding own_refusal slots_refusal
-accepted_free port memory value run h = free_when port.registers.started (not (value == 0)) (any_slot value (is_busy port.slots)) refusal.SlotBusy _ run h
 
 zero_when : (started is_zero : Bool) (o : Option WriteError) → started ≡ false → option_or (if not started && not is_zero then Some refusal.Stopped else None) o ≡ None → is_zero ≡ true
 zero_when true is_zero o run h = absurd (true≢false run)
 zero_when false true o run h = refl
 zero_when false false o run h = cc
 
-stopped_zero : (port : Port) (memory : Memory) (value : ℕ) → port.registers.started ≡ false → refusal_of Ci port memory value ≡ None → value ≡ 0
-unfolding own_refusal
-stopped_zero port memory value run h = eqb-true value 0 (zero_when port.registers.started (value == 0) (slots_refusal Ci port memory value) run h)
+stopped_zero : (port : Port) (offer : Offer) (value : ℕ) → port.registers.started ≡ false → refusal_by Ci port offer value ≡ None → value ≡ 0
+unfolding own_refusal own_refusal_by
+stopped_zero port offer value run h = eqb-true value 0 (zero_when port.registers.started (value == 0) (slots_refusal_by Ci port offer value) run h)
 
 not_some : (o : Option ℕ) → is_some o ≡ false → o ≡ None
 not_some None h = refl
@@ -169,16 +163,19 @@ flag_set : (b : Bool) (c : Option Command) → is_some (cond b c None) ≡ true 
 flag_set true c e = refl
 flag_set false c e = absurd (false≢true e)
 
-pub asked_free : (port : Port) (memory : Memory) (value s : ℕ) → refusal_of Ci port memory value ≡ None → s < 32 → is_some (asked port.registers memory value s) ≡ true → issue_at port.slots s ≡ None
-asked_free port memory value s accepted lt some =
-    let bit : has_bit value s ≡ true = flag_set (has_bit value s) (command_at memory port.registers.clb s (has_bit port.registers.armed s)) some in
+pub offered_free : (port : Port) (offer : Offer) (value s : ℕ) → refusal_by Ci port offer value ≡ None → s < 32 → is_some (asked_by offer value s) ≡ true → issue_at port.slots s ≡ None
+offered_free port offer value s accepted lt some =
+    let bit : has_bit value s ≡ true = flag_set (has_bit value s) (offer.commands s) some in
     elim (cases_Bool port.registers.started) [
       | inl run ↦
           let calm : (has_bit value s && is_busy port.slots s) ≡ false =
           none_below (λ k. has_bit value k && is_busy port.slots k) 32
-          (not_some (lowest (λ k. has_bit value k && is_busy port.slots k)) (accepted_free port memory value run accepted)) s lt in
+          (not_some (lowest (λ k. has_bit value k && is_busy port.slots k)) (free_by port offer value run accepted)) s lt in
           not_issued (issue_at port.slots s) (sym (ap (λ b. b && is_busy port.slots s) bit) ∙ calm)
       | inr stopped ↦
-          let zero_has : has_bit value s ≡ false = ap (λ v. has_bit v s) (stopped_zero port memory value stopped accepted) ∙ ap (λ b. b == 1) (bit_at-zero s) in
+          let zero_has : has_bit value s ≡ false = ap (λ v. has_bit v s) (stopped_zero port offer value stopped accepted) ∙ ap (λ b. b == 1) (bit_at-zero s) in
           absurd (false≢true (sym zero_has ∙ bit))
     ]
+
+pub asked_free : (port : Port) (memory : Memory) (value s : ℕ) → refusal_of Ci port memory value ≡ None → s < 32 → is_some (asked port.registers memory value s) ≡ true → issue_at port.slots s ≡ None
+asked_free port memory value s accepted = offered_free port (offer_of port.registers memory) value s (core_accepts Ci port memory value accepted)

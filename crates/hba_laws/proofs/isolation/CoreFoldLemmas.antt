@@ -23,6 +23,7 @@ use Rattle.hba_fbs.specs.Turning.{outgoing_at, turn_of}
 use Rattle.hba_fbs.specs.Views.{DeviceView, Port, view_of}
 use Rattle.hba_fbs.specs.Writing.{cleared_by, is_device}
 use Rattle.hba_fbs.proofs.Door.{decided_if, outgoing_is}
+use Rattle.hba_laws.specs.Alike.{bytes_out, tables_in}
 use Rattle.hba_laws.specs.Cores as core
 use Rattle.hba_laws.specs.Cores.{Arrived, CoreEvent, CoreOwn, DoesBy, HostsFoldByCore, IsCore, IsPart, Own, after_hearing, gave_event, part_by, part_by_all, stops_by, told_to, turned_to, used}
 use Rattle.hba_laws.specs.Hosts.{Does, Flushed, Gave, Host, HostEvent, Put, Rewrote, Runs, Stored, Took, Wrote}
@@ -30,19 +31,9 @@ use Rattle.hba_laws.specs.Isolation.{AreOfDevices, Came, Cleared, Emptied, Issue
 use Rattle.hba_laws.specs.Parts.{DevicePart, part_of}
 use Rattle.hba_laws.specs.Sound.{AreHosts, IsHost}
 use Rattle.hba_laws.proofs.soundness.KeptLemmas.{first_host}
-use Rattle.hba_laws.proofs.isolation.CoreHostLemmas.{hosts_are_cores}
+use Rattle.hba_laws.proofs.cores.CoreHostLemmas.{hosts_are_cores, is_core}
 use Rattle.hba_laws.proofs.isolation.CoreLemmas.{same_port, step}
-use Rattle.hba_laws.proofs.isolation.IsolationLemmas.{after_append, row_shows}
-
-is_core : (host : Host) → IsHost host → IsCore host.port
-is_core host is = record {
-  port = record {
-    registers = record { chosen = is.port.registers.chosen; receives = λ started. (is.port.registers.started started).0 };
-    commands = is.port.commands;
-    active = is.port.active;
-  };
-  slots = is.slots;
-}
+use Rattle.hba_laws.proofs.isolation.HeardLemmas.{after_append, row_shows}
 
 -- ---- what the core is told, the host is told
 
@@ -85,11 +76,11 @@ turned_same n old new memory frame p (Feeds dev slot offset len) gives none = da
 turned_same n old new memory None p (Orders dev slot command) gives none = absurd gives
 turned_same n old new memory (Some f) p (Orders dev slot command) gives none = gone_same n p dev f (ap (λ (x : Stamped). x.stamp.port) gives.frame_is)
 
-goes_on : (o : Outgoing) → fails_by_bus o ≡ false → gave_event o ≡ core.Gave
-goes_on Nothing none = refl
-goes_on (Unreadable dev) none = absurd (true≢false none)
-goes_on (Data dev offset len command) none = refl
-goes_on (Order dev slot command) none = refl
+pub goes_on : (o : Outgoing) (bytes : List ℕ) → fails_by_bus o ≡ false → gave_event o bytes ≡ core.Gave bytes
+goes_on Nothing bytes none = refl
+goes_on (Unreadable dev) bytes none = absurd (true≢false none)
+goes_on (Data dev offset len command) bytes none = refl
+goes_on (Order dev slot command) bytes none = refl
 
 -- ---- one event
 
@@ -97,14 +88,14 @@ row_is_row : (row : Option (List ℕ)) (bytes : List ℕ) → is_some (option_ma
 row_is_row None bytes = refl
 row_is_row (Some old) bytes = refl
 
-stops_same : (old : Host) (frame : List ℕ) → stops_port (port_of frame) old.port old.memory frame ≡ false
+pub stops_same : (old : Host) (frame : List ℕ) → stops_port (port_of frame) old.port old.memory frame ≡ false
     → stops_by old.port (core.Took frame (room_if (is_sound old.memory old.port.commands (view_of (port_of frame) old.port).slots)) (ignored_report 0)) ≡ false
 stops_same old frame none =
     let dev : ℕ = port_of frame in
     let v : DeviceView = view_of dev old.port in
     ap (λ (h : Heard). not (ignores dev old.port frame) && stops_with old.port.registers.switching h.fault) (decided_if dev v (is_sound old.memory old.port.commands v.slots) (admitted dev (seen frame))) ∙ none
 
-host_step : (n : ℕ) (old new : Host) (event : HostEvent) (p : DevicePart) → n < 16 → IsHost old → IsHost new → is_running old.port ≡ true → Does old event new → stops old event ≡ false → IsPart n old.port p
+pub host_step : (n : ℕ) (old new : Host) (event : HostEvent) (p : DevicePart) → n < 16 → IsHost old → IsHost new → is_running old.port ≡ true → Does old event new → stops old event ≡ false → IsPart n old.port p
     → IsPart n new.port (part_after_all n p (own_events n old event))
 host_step n old new (Took frame report) p lt before next runs does none is =
     let sound : Bool = is_sound old.memory old.port.commands (view_of (port_of frame) old.port).slots in
@@ -112,7 +103,7 @@ host_step n old new (Took frame report) p lt before next runs does none is =
     (step n old.port new.port (core.Took frame (room_if sound) report) p lt (is_core old before) (is_core new next) runs (hosts_are_cores old new (Took frame report) does) (stops_same old frame none) is)
 host_step n old new (Wrote register value) p lt before next runs does none is =
     subst (IsPart n new.port) (told_same n old p register value)
-    (step n old.port new.port (core.Wrote register value (offer_of old.port.registers old.memory)) p lt (is_core old before) (is_core new next) runs (hosts_are_cores old new (Wrote register value) does) none is)
+    (step n old.port new.port (core.Wrote register value (offer_of old.port.registers old.memory) (tables_in old.memory (Issued (asked old.port.registers old.memory value)))) p lt (is_core old before) (is_core new next) runs (hosts_are_cores old new (Wrote register value) does) none is)
 host_step n old new (Flushed dev) p lt before next runs does none is =
     subst (IsPart n new.port) (same_if n p (dev == n) (Own Emptied) Emptied refl) (step n old.port new.port (core.Flushed dev) p lt (is_core old before) (is_core new next) runs does.0 refl is)
 host_step n old new (Gave frame) p lt before next runs does none is =
@@ -120,7 +111,7 @@ host_step n old new (Gave frame) p lt before next runs does none is =
     let gives = subst (λ (o : Outgoing). Gives o old.port old.memory frame new.port) at does.0 in
     let goes : fails_by_bus (outgoing_at old.port old.memory (turn_of old.port)) ≡ false = subst (λ (o : Outgoing). fails_by_bus o ≡ false) at none in
     subst (IsPart n new.port) (turned_same n old.port new.port old.memory frame p (turn_of old.port) gives goes)
-    (step n old.port new.port core.Gave p lt (is_core old before) (is_core new next) runs (subst (λ (e : CoreEvent). DoesBy old.port e new.port) (goes_on (outgoing old.port old.memory) none) (hosts_are_cores old new (Gave frame) does)) refl is)
+    (step n old.port new.port (core.Gave (bytes_out (Gave frame))) p lt (is_core old before) (is_core new next) runs (subst (λ (e : CoreEvent). DoesBy old.port e new.port) (goes_on (outgoing old.port old.memory) (bytes_out (Gave frame)) none) (hosts_are_cores old new (Gave frame) does)) refl is)
 host_step n old new (Rewrote dev row) p lt before next runs does none is =
     let here : IsPart n new.port p = same_port n old.port new.port p is does.1 in
     one_own n new.port p (dev == n) (Rewritten row) (λ same. record { view = here.view; commands = here.commands; row = row_is_row p.row row ∙ here.row }) (λ differs. here)

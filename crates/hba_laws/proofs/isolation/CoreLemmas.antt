@@ -34,7 +34,7 @@ use Rattle.hba_laws.specs.Isolation.{Cleared, Emptied, Issued, Went, after_going
 use Rattle.hba_laws.specs.Parts.{DevicePart, commands_of, with_view}
 use Rattle.hba_laws.proofs.soundness.KeptLemmas.{taken_mode}
 use Rattle.hba_laws.proofs.soundness.WriteLemmas.{commands_chosen, commands_other_by, first_none, free_by, mode_own, none_busy_by}
-use Rattle.hba_laws.proofs.isolation.IsolationLemmas.{heard_alike}
+use Rattle.hba_laws.proofs.isolation.HeardLemmas.{heard_alike}
 use Rattle.hba_laws.proofs.isolation.OutgoingLemmas.{order_filled, order_is_own, order_no_payload}
 use Rattle.hba_laws.proofs.isolation.PartLemmas.{commands_kept, commands_same}
 use Rattle.hba_laws.proofs.isolation.SlotLemmas.{keeps_fed, keeps_moved, keeps_none, keeps_sent}
@@ -79,7 +79,7 @@ row_stays None (Some fis) = refl
 row_stays (Some bytes) (Some fis) = refl
 
 -- the device skips what the port ignores
-skipped : (n : ℕ) (old : Port) (p : DevicePart) (frame : List ℕ) → is_running old ≡ true → IsPart n old p → skips n p (seen frame) ≡ ignores n old frame
+pub skipped : (n : ℕ) (old : Port) (p : DevicePart) (frame : List ℕ) → is_running old ≡ true → IsPart n old p → skips n p (seen frame) ≡ ignores n old frame
 skipped n old p frame runs is =
     let fis : Result Fis FisFault = seen frame in
     ap (λ (b : Bool). passes_over b n p.view fis || is_ignored true p.view fis) is.row
@@ -95,7 +95,7 @@ mode_heard old new dev room fis report d =
     taken_mode old.registers new.registers dev (view_of dev old).state.resetting fis (decided dev (view_of dev old) room fis) d.registers
 
 -- a FIS that stops no port is heard as if its table could be used
-decided_used : (n : ℕ) (v : DeviceView) (room : Room) (fis : Option Fis) → is_some (port_cause (decided n v room fis).fault) ≡ false → decided n v room fis ≡ decided n v (used room) fis
+pub decided_used : (n : ℕ) (v : DeviceView) (room : Room) (fis : Option Fis) → is_some (port_cause (decided n v room fis).fault) ≡ false → decided n v room fis ≡ decided n v (used room) fis
 unfolding heard_within
 decided_used n v NoTable None h = refl
 decided_used n v NoTable (Some fis) h = heard_alike n v false (Some fis) h
@@ -256,7 +256,7 @@ orders_feed k dev slot offset len None q h = cc
 orders_feed k dev slot offset len (Some i) None h = cc
 orders_feed k dev slot offset len (Some i) (Some c) h = cc
 
-feeds_by : (old : Port) (b : Bool) (r s : Option ℕ) (dev slot offset len : ℕ)
+pub feeds_by : (old : Port) (b : Bool) (r s : Option ℕ) (dev slot offset len : ℕ)
     → (if b then Rests else match_some r (match_some s Rests (orders old)) (λ d. match_some (payload (context_of old.slots d)) Rests (feeds d))) ≡ Feeds dev slot offset len
     → is_some (payload (context_of old.slots dev)) ≡ true
 feeds_by old true r s dev slot offset len h = cc
@@ -280,7 +280,7 @@ feeds_order : (d dev slot : ℕ) (o : Option (ℕ × ℕ × ℕ)) (command : Com
 feeds_order d dev slot None command h = cc
 feeds_order d dev slot (Some next) command h = cc
 
-order_by : (old : Port) (b : Bool) (r s : Option ℕ) (dev slot : ℕ) (command : Command)
+pub order_by : (old : Port) (b : Bool) (r s : Option ℕ) (dev slot : ℕ) (command : Command)
     → (if b then Rests else match_some r (match_some s Rests (orders old)) (λ d. match_some (payload (context_of old.slots d)) Rests (feeds d))) ≡ Orders dev slot command
     → IsOrder old dev slot command r s
 order_by old true r s dev slot command h = cc
@@ -350,17 +350,17 @@ gave n old new p (Orders dev slot command) lt before next turns is =
 pub step : (n : ℕ) (old new : Port) (event : CoreEvent) (p : DevicePart) → n < 16 → IsCore old → IsCore new → is_running old ≡ true → DoesBy old event new → stops_by old event ≡ false → IsPart n old p
     → IsPart n new (part_by_all n p (own_by n old event))
 step n old new (Took frame room report) p lt before next runs does none is = took n old new p frame room report runs is does none
-step n old new (Wrote register value offer) p lt before next runs does none is =
+step n old new (Wrote register value offer tables) p lt before next runs does none is =
     wrote n old new p register value offer lt (and_parts old.registers.started (is_none old.errors.port) runs).0 before next is (accepted old new register value offer does.0 does.1) none
 step n old new (Flushed dev) p lt before next runs does none is = emptied n old new p dev is does
-step n old new Gave p lt before next runs does none is = gave n old new p (turn_of old) lt before refl does is
+step n old new (Gave bytes) p lt before next runs does none is = gave n old new p (turn_of old) lt before refl does.0 is
 step n old new Failed p lt before next runs does none is = absurd (true≢false none)
 
 by_append : (n : ℕ) (p : DevicePart) (xs ys : List CoreOwn) → part_by_all n p (xs ++ ys) ≡ part_by_all n (part_by_all n p xs) ys
 by_append n p [] ys = refl
 by_append n p (x ∷ xs) ys = by_append n (part_by n p x) xs ys
 
-first_core : (old new : Port) (events : List CoreEvent) (run : RunsBy old events new) → AreCores old new events run → IsCore old
+pub first_core : (old new : Port) (events : List CoreEvent) (run : RunsBy old events new) → AreCores old new events run → IsCore old
 first_core old new [] run cores = cores
 first_core old new (event ∷ events) run cores = cores.0
 

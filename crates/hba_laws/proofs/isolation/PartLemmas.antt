@@ -7,7 +7,7 @@ use Rattle.slots.specs.Slots.{DeviceSlots, Issue, own_issue}
 use Rattle.hba_fbs.specs.declared.registers.Registers.{Registers}
 use Rattle.hba_fbs.specs.Views.{DeviceView, last_command, view_of}
 use Rattle.hba_laws.specs.Hosts.{Host}
-use Rattle.hba_laws.specs.Parts.{DevicePart, commands_of, own_row, part_of, with_view}
+use Rattle.hba_laws.specs.Parts.{DevicePart, commands_of, own_row}
 use Rattle.hba_laws.specs.Between.{KeepsOwn}
 
 abbrev pub row_at : ℕ → Host → Option (List ℕ)
@@ -19,8 +19,9 @@ commands_at n host = commands_of (view_of n host.port).slots (last_command host.
 abbrev device_part : DeviceView → (ℕ → Option Command) → Option (List ℕ) → DevicePart
 device_part view commands row = record { view = view; commands = commands; row = row }
 
-part_is : (v w : DeviceView) (c d : ℕ → Option Command) (r s : Option (List ℕ)) → v ≡ w → c ≡ d → r ≡ s → device_part v c r ≡ device_part w d s
-part_is v w c d r s p q e = λ i. device_part (p i) (q i) (e i)
+-- parts that are equal piece by piece are equal
+pub same_part : (v w : DeviceView) (c d : ℕ → Option Command) (r s : Option (List ℕ)) → v ≡ w → c ≡ d → r ≡ s → device_part v c r ≡ device_part w d s
+same_part v w c d r s p q e = λ i. device_part (p i) (q i) (e i)
 
 -- ---- commands of slots that stay filled
 
@@ -36,31 +37,7 @@ commands_kept old new f keeps = fun_ext (λ slot. kept_at (own_issue old slot) (
 pub commands_same : (v w : DeviceView) (c d : List (Option Command)) → v ≡ w → c ≡ d → commands_of v.slots (last_command c) ≡ commands_of w.slots (last_command d)
 commands_same v w c d p q = ap (λ (x : DeviceView). commands_of x.slots (last_command c)) p ∙ ap (λ (x : List (Option Command)). commands_of w.slots (last_command x)) q
 
--- ---- parts
-
--- nothing of a device changes
-pub stays_by : (n : ℕ) (old new : Host) → view_of n new.port ≡ view_of n old.port → commands_at n new ≡ commands_at n old → row_at n new ≡ row_at n old → part_of n new ≡ part_of n old
-stays_by n old new v c r = part_is (view_of n new.port) (view_of n old.port) (commands_at n new) (commands_at n old) (row_at n new) (row_at n old) v c r
-
-pub stays : (n : ℕ) (old new : Host) → view_of n new.port ≡ view_of n old.port → new.port.commands ≡ old.port.commands → row_at n new ≡ row_at n old → part_of n new ≡ part_of n old
-stays n old new v c r = stays_by n old new v (commands_same (view_of n new.port) (view_of n old.port) new.port.commands old.port.commands v c) r
-
--- its view becomes this, and its row
-pub becomes : (n : ℕ) (old new : Host) (w : DeviceView) (s : Option (List ℕ)) → view_of n new.port ≡ w → KeepsOwn (view_of n old.port).slots w.slots → new.port.commands ≡ old.port.commands → row_at n new ≡ s
-    → part_of n new ≡ record (with_view (part_of n old) w) { row = s }
-becomes n old new w s v keeps c r =
-    part_is (view_of n new.port) w (commands_at n new) (commands_of w.slots (commands_at n old)) (row_at n new) s v
-    (commands_same (view_of n new.port) w new.port.commands old.port.commands v c ∙ commands_kept (view_of n old.port).slots w.slots (last_command old.port.commands) keeps) r
-
--- its view becomes this, and its commands and its row stay what they are of it
-pub shown_as : (n : ℕ) (old new : Host) (w : DeviceView) → view_of n new.port ≡ w → KeepsOwn (view_of n old.port).slots w.slots → new.port.commands ≡ old.port.commands → row_at n new ≡ row_at n old
-    → part_of n new ≡ with_view (part_of n old) w
-shown_as n old new w v keeps c r = becomes n old new w (row_at n old) v keeps c r
-
--- its view becomes this, and its commands are these of it
-pub issued_as : (n : ℕ) (old new : Host) (w : DeviceView) (f : ℕ → Option Command) → view_of n new.port ≡ w → commands_at n new ≡ commands_of w.slots f → row_at n new ≡ row_at n old
-    → part_of n new ≡ with_view (record (part_of n old) { commands = f }) w
-issued_as n old new w f v c r = part_is (view_of n new.port) w (commands_at n new) (commands_of w.slots f) (row_at n new) (row_at n old) v c r
+-- ---- rows
 
 -- the place of the received area stays, and the mode
 abbrev pub SamePlace : Registers → Registers → Type 0
@@ -78,9 +55,3 @@ row_same n old new place s =
 pub row_moved : (n : ℕ) (old new : Host) → SamePlace old.port.registers new.port.registers → row_at n new ≡ own_row old.port.registers.switching old.port.registers.fb new.memory.structure n
 row_moved n old new place =
     ap (λ (k : ℕ). own_row new.port.registers.switching k new.memory.structure n) place.0 ∙ ap (λ (b : Bool). own_row b old.port.registers.fb new.memory.structure n) place.1
-
--- its row becomes this alone
-pub stays_but : (n : ℕ) (old new : Host) (row : Option (List ℕ)) → view_of n new.port ≡ view_of n old.port → new.port.commands ≡ old.port.commands → row_at n new ≡ row → part_of n new ≡ record (part_of n old) { row = row }
-stays_but n old new row v c r =
-    part_is (view_of n new.port) (view_of n old.port) (commands_at n new) (commands_at n old) (row_at n new) row v
-    (commands_same (view_of n new.port) (view_of n old.port) new.port.commands old.port.commands v c) r

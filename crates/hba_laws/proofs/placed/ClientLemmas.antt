@@ -43,7 +43,8 @@ use Rattle.hba_laws.specs.Hosts.{Does, Flushed, Gave, Host, HostEvent, Put, Puts
 use Rattle.hba_laws.specs.Sound.{IsHost}
 use Rattle.hba_laws.specs.Between.{GoesOut, HasContext, IsOwn}
 use Rattle.hba_laws.proofs.histories.CarryLemmas.{next_is}
-use Rattle.hba_laws.proofs.histories.EventLemmas.{goes_out, says_of, step}
+use Rattle.hba_laws.proofs.histories.CoreEventLemmas.{says_of}
+use Rattle.hba_laws.proofs.histories.EventLemmas.{goes_out, step}
 use Rattle.hba_laws.proofs.histories.IssueLemmas.{own_app}
 use Rattle.hba_laws.proofs.histories.StandLemmas.{fills_as, filling_of, if_there}
 use Rattle.hba_laws.proofs.histories.StepLemmas.{Says}

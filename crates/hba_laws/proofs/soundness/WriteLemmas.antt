@@ -8,7 +8,6 @@ use Rattle.std.proofs.Math.Path.{fun_ext}
 use Rattle.std.proofs.lemmas.Bool.{cases_lt, cond-true, false≢true, true≢false}
 use Rattle.std.proofs.lemmas.List.{get_or_past, length-map}
 use Rattle.std.proofs.lemmas.List.FromFn.{get_or-map-range_with_len, length-map-range_with_len}
-use Rattle.hba_commands.specs.Commands.{command_at}
 use Rattle.hba_commands.specs.declared.command.Command.{Command}
 use Rattle.host_memory.specs.Memory.{Memory}
 use Rattle.slots.specs.Slots.{DeviceSlots, Issue, Slots, has_bit, issue_at, lowest_below, own_issue, owned_by, slots_of}
@@ -19,11 +18,11 @@ use Rattle.hba_fbs.specs.declared.error.WriteError.TheVariants as refusal
 use Rattle.hba_fbs.specs.declared.register.Register.TheVariants.{Ci, Fb, Fbs}
 use Rattle.hba_fbs.specs.declared.registers.Registers.{Registers}
 use Rattle.hba_fbs.specs.Bits.{en}
-use Rattle.hba_fbs.specs.Issuing.{any_slot, asked, commands_with, is_bad, is_busy, issue_with, issued_slots, issues_with}
+use Rattle.hba_fbs.specs.Issuing.{any_slot, commands_with, is_busy, issue_with, issued_slots, issues_with}
 use Rattle.hba_fbs.specs.Offering.{Offer, is_apart_by, is_bad_by, issue_refusal_by, refusal_by, slots_refusal_by}
 use Rattle.hba_fbs.specs.Registers.{own_refusal, own_refusal_by, running_if}
 use Rattle.hba_fbs.specs.Views.{HaveCommands, Port, last_command}
-use Rattle.hba_fbs.specs.Writing.{apart_refusal, is_apart, issue_refusal, refusal_of, slots_refusal}
+use Rattle.hba_fbs.specs.Writing.{apart_refusal, refusal_of, slots_refusal}
 use Rattle.hba_laws.specs.Parts.{commands_of}
 
 -- ---- refusals
@@ -41,17 +40,6 @@ test_false true e rest h = cc
 test_false false e rest h = refl
 
 -- nothing is issued in a slot in which a write issues
-pub none_busy : (port : Port) (memory : Memory) (value : ℕ) → port.registers.started ≡ true → refusal_of Ci port memory value ≡ None → any_slot value (is_busy port.slots) ≡ false
-unfolding slots_refusal
-none_busy port memory value started h =
-    let both : (if port.registers.started then issue_refusal port memory value else None) ≡ None = second_none (own_refusal Ci port.registers value) (slots_refusal Ci port memory value) h in
-    let issue : issue_refusal port memory value ≡ None = sym (cond-true port.registers.started (issue_refusal port memory value) None started) ∙ both in
-    test_false (any_slot value (is_busy port.slots)) refusal.SlotBusy
-    (if is_apart port memory value then Some (apart_refusal port.registers)
-    else if any_slot value (is_bad port.registers memory) then Some refusal.BadTable
-    else None) issue
-
--- the same where a list is offered
 pub free_by : (port : Port) (offer : Offer) (value : ℕ) → port.registers.started ≡ true → refusal_by Ci port offer value ≡ None → any_slot value (is_busy port.slots) ≡ false
 unfolding slots_refusal_by
 free_by port offer value started h =
@@ -107,13 +95,6 @@ none_asked true false c h is = absurd (false≢true is)
 none_asked false busy c h is = refl
 
 -- a slot in which something is issued is not issued again
-not_asked : (port : Port) (memory : Memory) (value slot : ℕ) → any_slot value (is_busy port.slots) ≡ false → slot < 32 → is_some (issue_at port.slots slot) ≡ true
-    → asked port.registers memory value slot ≡ None
-not_asked port memory value slot none lt busy =
-    let test : ℕ → Bool = λ s. has_bit value s && is_busy port.slots s in
-    none_asked (has_bit value slot) (is_busy port.slots slot) (command_at memory port.registers.clb slot (has_bit port.registers.armed slot))
-    (none_below test 32 (no_number (lowest_below test 32) none) slot lt) busy
-
 -- the commands by slot after an issue
 command_after : (a : ℕ → Option Command) (old : List (Option Command)) (slot : ℕ) → (last_command (commands_with a old) slot ≡ None → ⊥)
     → last_command (commands_with a old) slot ≡ option_or (a slot) (last_command old slot)
@@ -209,10 +190,3 @@ commands_other_by n before old a t new free table have own_is new_is =
     ∙ ap (λ (x : Option Command). option_or x (last_command old slot)) none in
     ap (λ (x : DeviceSlots). commands_of x (last_command new)) own_is
     ∙ fun_ext (λ slot. other_at (own_issue own slot) (last_command new slot) (last_command old slot) (told slot))
-
-pub commands_other : (n : ℕ) (port : Port) (memory : Memory) (value : ℕ) (t : Slots) (new : List (Option Command)) → port.registers.started ≡ true → refusal_of Ci port memory value ≡ None → IsTable port.slots
-    → HaveCommands t new → slots_of n t ≡ slots_of n port.slots → new ≡ commands_with (asked port.registers memory value) port.commands
-    → commands_of (slots_of n t) (last_command new) ≡ commands_of (slots_of n port.slots) (last_command port.commands)
-commands_other n port memory value t new started accepted table have own_is new_is =
-    commands_other_by n port.slots port.commands (asked port.registers memory value) t new
-    (λ slot lt busy. not_asked port memory value slot (none_busy port memory value started accepted) lt busy) table have own_is new_is

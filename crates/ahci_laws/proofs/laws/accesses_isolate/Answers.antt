@@ -8,7 +8,7 @@ returns-clause-fold g c = λ old new accesses at serves running.
       events = are.events;
       each = are.each;
       run = are.run;
-      fold = λ hosts n below. c.isolated.ensures.fold n below (host_of old) (host_of new) are.events (record { run = are.run; hosts = hosts; devices = are.devices running });
+      fold = λ n below. c.isolated.ensures.fold n below (host_of old) (host_of new) are.events (record { run = are.run; hosts = are.sound.hosts; devices = are.devices running });
     }
 
 pub returns-clause-done : goal.returns-clause-done
@@ -18,6 +18,6 @@ returns-clause-done g c = λ old new last accesses at serves frame took past is 
       events = are.events;
       each = are.each;
       run = are.run;
-      done = λ sound. c.delivers.ensures.done (host_of old) (host_of new) (host_of last) are.events are.run sound frame took.report past is history
+      done = c.delivers.ensures.done (host_of old) (host_of new) (host_of last) are.events are.run are.sound frame took.report past is history
           (record { ignored = takes.port.ignored; heard = takes.port.heard });
     }

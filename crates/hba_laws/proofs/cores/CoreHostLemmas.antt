@@ -1,11 +1,14 @@
 -- For `core_isolated`. An event of a host is one of its core, with the answers that its memory gives.
-use Rattle.std.proofs.Common.{◌≡◌, ℕ, Bool, true, false, List, refl, sym, ◌∙◌, ap, subst, Option, Some, None}
-use Rattle.std.specs.Prelude.{if◌then◌else◌}
+use Rattle.std.proofs.Common.{◌≡◌, ℕ, suc, ◌+◌, ◌-◌, arith, length, Bool, true, false, List, refl, sym, ◌∙◌, ap, subst, Option, Some, None}
+use Rattle.std.specs.Prelude.{if◌then◌else◌, slice_index}
+use Rattle.std.proofs.lemmas.List.FromFn.{length-map-range_with_len}
 use Rattle.fis_view.specs.Frames.{Stamped}
 use Rattle.fis_view.specs.Seen.{seen}
 use Rattle.fis_view.specs.declared.view.Fis.{Fis}
 use Rattle.hba_commands.specs.declared.command.Command.{Command}
-use Rattle.host_memory.specs.Memory.{Memory}
+use Rattle.host_memory.specs.Memory.{Memory, client_start}
+use Rattle.host_memory.specs.Place.{place}
+use Rattle.host_memory.specs.declared.table.Prd.{Prd}
 use Rattle.hba_fbs.specs.declared.error.WriteError.{WriteError}
 use Rattle.hba_fbs.specs.declared.error.WriteError.TheVariants.{BadTable}
 use Rattle.hba_fbs.specs.declared.hearing.Heard.{Heard}
@@ -16,15 +19,28 @@ use Rattle.hba_fbs.specs.declared.turn.Turn.TheVariants.{Feeds, Orders, Rests}
 use Rattle.hba_fbs.specs.Deciding.{decided, room_if}
 use Rattle.hba_fbs.specs.Offering.{AcceptsBy, offer_of, refusal_by}
 use Rattle.hba_fbs.specs.Registers.{is_outside}
-use Rattle.hba_fbs.specs.Sending.{Gives, Outgoing, Sends, data_with, outgoing, view_fed, view_sent}
-use Rattle.hba_fbs.specs.Tables.{is_sound, sound_command}
+use Rattle.hba_fbs.specs.Sending.{Gives, Outgoing, Sends, data_fis, data_with, gathered, outgoing, view_fed, view_sent}
+use Rattle.hba_fbs.specs.Tables.{is_sound, prds_of, sound_command}
 use Rattle.hba_fbs.specs.Taking.{admitted, errors_in, heard, heard_report, place_in, port_of, posted_of, row_for, settled, view_after_hearing}
 use Rattle.hba_fbs.specs.Turning.{Goes, outgoing_at, turn_of}
 use Rattle.hba_fbs.specs.Views.{DeviceView, Port, view_of}
 use Rattle.hba_fbs.specs.Writing.{Accepts, refusal_of}
 use Rattle.hba_fbs.proofs.Door.{active_is, commands_are, decided_if, outgoing_is, refusal_is, view_is}
-use Rattle.hba_laws.specs.Cores.{DoesBy, Hearkens, HostsAreCores, gave_event}
+use Rattle.hba_laws.specs.Alike.{bytes_out}
+use Rattle.hba_laws.specs.Cores.{DoesBy, Hearkens, HostsAreCores, IsCore, gave_event}
+use Rattle.hba_laws.specs.Sound.{IsHost}
 use Rattle.hba_laws.specs.Hosts.{Flushed, Gave, Host, Put, Rewrote, Stored, TakesFrame, Took, Wrote}
+
+-- the core of a sound host keeps the rules of every core
+pub is_core : (host : Host) → IsHost host → IsCore host.port
+is_core host is = record {
+  port = record {
+    registers = record { chosen = is.port.registers.chosen; receives = λ started. (is.port.registers.started started).0 };
+    commands = is.port.commands;
+    active = is.port.active;
+  };
+  slots = is.slots;
+}
 
 -- ---- a frame
 
@@ -55,10 +71,14 @@ accepted_by : (b : Bool) (e : WriteError) (o : Option WriteError) → (if b then
 accepted_by true e o h = cc
 accepted_by false e o h = h
 
+pub core_accepts : (register : Register) (old : Port) (memory : Memory) (value : ℕ) → refusal_of register old memory value ≡ None → refusal_by register old (offer_of old.registers memory) value ≡ None
+core_accepts register old memory value taken =
+    accepted_by (is_outside register old.registers value) BadTable (refusal_by register old (offer_of old.registers memory) value) (sym (refusal_is register old memory value) ∙ taken)
+
 wrote : (old new : Port) (memory : Memory) (register : Register) (value : ℕ) → refusal_of register old memory value ≡ None → Accepts old memory register value new
     → (refusal_by register old (offer_of old.registers memory) value ≡ None) × AcceptsBy old (offer_of old.registers memory) register value new
 wrote old new memory register value taken does = (
-  accepted_by (is_outside register old.registers value) BadTable (refusal_by register old (offer_of old.registers memory) value) (sym (refusal_is register old memory value) ∙ taken),
+  core_accepts register old memory value taken,
   record {
     registers = does.registers;
     views = λ n lt. does.views n lt ∙ sym (view_is register old memory value n);
@@ -82,22 +102,29 @@ goes old new dev view bytes f sends = record {
   active = sends.active;
 }
 
+long_fis : (dev : ℕ) (prds : List Prd) (offset len : ℕ) (client : List ℕ) (f : Stamped) → f.bytes ≡ data_fis dev (gathered prds offset len client) → length f.bytes ≡ 4 + len
+long_fis dev prds offset len client f is =
+    let long : length (gathered prds offset len client) ≡ len = length-map-range_with_len (λ k. slice_index client (place prds (offset + k) - client_start)) 0 len in
+    let more : suc (suc (suc (suc (length (gathered prds offset len client))))) ≡ 4 + len = omega (arith, long) in
+    ap (λ (l : List ℕ). length l) is ∙ more
+
 data_turns : (old new : Port) (memory : Memory) (frame : Option Stamped) (dev slot offset len : ℕ) (c : Option Command) → Gives (data_with dev offset len c) old memory frame new → turn_of old ≡ Feeds dev slot offset len
-    → DoesBy old (gave_event (data_with dev offset len c)) new
+    → DoesBy old (gave_event (data_with dev offset len c) (bytes_out (Gave frame))) new
 data_turns old new memory frame dev slot offset len None gives is = gives.1
 data_turns old new memory None dev slot offset len (Some command) gives is = absurd gives
-data_turns old new memory (Some f) dev slot offset len (Some command) gives is = rw is (goes old new dev (view_fed (view_of dev old)) _ f gives)
+data_turns old new memory (Some f) dev slot offset len (Some command) gives is =
+    rw is (goes old new dev (view_fed (view_of dev old)) _ f gives, long_fis dev (prds_of memory command) offset len memory.client f (ap (λ (x : Stamped). x.bytes) gives.frame_is))
 
-gave : (old new : Port) (memory : Memory) (frame : Option Stamped) (turn : Turn) → turn_of old ≡ turn → Gives (outgoing_at old memory turn) old memory frame new → DoesBy old (gave_event (outgoing_at old memory turn)) new
-gave old new memory frame Rests is gives = rw is gives.1
+gave : (old new : Port) (memory : Memory) (frame : Option Stamped) (turn : Turn) → turn_of old ≡ turn → Gives (outgoing_at old memory turn) old memory frame new → DoesBy old (gave_event (outgoing_at old memory turn) (bytes_out (Gave frame))) new
+gave old new memory frame Rests is gives = rw is (gives.1, tt)
 gave old new memory frame (Feeds dev slot offset len) is gives = data_turns old new memory frame dev slot offset len (sound_command memory old.commands (view_of dev old).slots slot) gives is
 gave old new memory None (Orders dev slot command) is gives = absurd gives
-gave old new memory (Some f) (Orders dev slot command) is gives = rw is (goes old new dev (view_sent (view_of dev old) slot command) _ f gives)
+gave old new memory (Some f) (Orders dev slot command) is gives = rw is (goes old new dev (view_sent (view_of dev old) slot command) _ f gives, tt)
 
-gave_as : (old new : Port) (memory : Memory) (frame : Option Stamped) → Gives (outgoing old memory) old memory frame new → DoesBy old (gave_event (outgoing old memory)) new
+gave_as : (old new : Port) (memory : Memory) (frame : Option Stamped) → Gives (outgoing old memory) old memory frame new → DoesBy old (gave_event (outgoing old memory) (bytes_out (Gave frame))) new
 gave_as old new memory frame gives =
     let is : outgoing old memory ≡ outgoing_at old memory (turn_of old) = outgoing_is old memory in
-    subst (λ (o : Outgoing). DoesBy old (gave_event o) new) (sym is) (gave old new memory frame (turn_of old) refl (subst (λ (o : Outgoing). Gives o old memory frame new) is gives))
+    subst (λ (o : Outgoing). DoesBy old (gave_event o (bytes_out (Gave frame))) new) (sym is) (gave old new memory frame (turn_of old) refl (subst (λ (o : Outgoing). Gives o old memory frame new) is gives))
 
 -- ---- all of them
 

@@ -1,0 +1,2 @@
+-- Each event of a host is one of its core: `core_isolated`, clause `hosts`.
+pub mod CoreHostLemmas
