@@ -5,7 +5,7 @@ use Rattle.std.proofs.Common.{Option, Some, None, Ok, arith}
 use Rattle.std.specs.Int.{bit_at}
 use Rattle.std.specs.Prelude.{slice_get, MatchBool}
 use Rattle.std.specs.List.{flat_map}
-use Rattle.std.proofs.lemmas.Bool.{cases_Bool, cases_eq, cases_lt, eq-eqb, eqb-true, ne_eqb, true≢false}
+use Rattle.std.proofs.lemmas.Bool.{cases_Bool, cases_eq, cases_lt, eq-eqb, eqb-true, true≢false}
 use Rattle.std.proofs.lemmas.List.{append-nil}
 use Rattle.std.proofs.lemmas.Option.{same_Some}
 use Rattle.fis_view.specs.Frames.{Stamped, marked}
@@ -13,7 +13,6 @@ use Rattle.hba_fbs.specs.declared.report.TakeReport.{TakeReport}
 use Rattle.host_memory.specs.Memory.{is_memory_size}
 use Rattle.pm_control.specs.Requests.{request_in}
 use Rattle.pm_registers.specs.RegisterMap as registers
-use Rattle.pm_registers.specs.RegisterMap.{forwards}
 use Rattle.multiplier.specs.Arbiter.{control_port}
 use Rattle.multiplier.specs.State.{passes_to, pm_port, port_at}
 use Rattle.multiplier.proofs.Door.{up_to, up_to_is}
@@ -36,7 +35,6 @@ use Rattle.pm_world.specs.declared.step.Answer.{Answer}
 use Rattle.pm_world.specs.declared.step.Answer.TheVariants as answer
 use Rattle.pm_world.specs.declared.step.Step.{Step}
 use Rattle.pm_world.proofs.cleared.Cleared as cleared
-use Rattle.pm_world.proofs.cleared.Cleared.{forwards_none}
 use Rattle.pm_world.proofs.control_port.LineLemmas.{IsNow}
 use Rattle.pm_world.proofs.downward.DownMoves.{Starts, rule_moves_down}
 use Rattle.pm_world.proofs.honest.CutLemmas.{IsElsewhere}
@@ -45,7 +43,7 @@ use Rattle.pm_world.proofs.honest.EndsSteps.{HasEnds, IsUnflushed, gives_one_to,
 use Rattle.pm_world.proofs.honest.ExactLemmas.{IsExact, IsOpenFor}
 use Rattle.pm_world.proofs.honest.FlushLemmas.{flush_orders}
 use Rattle.pm_world.proofs.honest.LiveLemmas.{IsOpenAt, none_told, rule_open}
-use Rattle.pm_world.proofs.honest.ShutLemmas.{IsNoneOf, WaitsFor}
+use Rattle.pm_world.proofs.honest.ShutLemmas.{IsNoneOf, WaitsFor, none_taken, none_up}
 use Rattle.pm_world.proofs.meant.OrderLemmas.{Only}
 use Rattle.pm_world.proofs.meant.PortLemmas.{WritesChanges}
 use Rattle.pm_world.proofs.paths.PathLemmas.{and_both, and_false, if_false, if_true, one_step, still_above}
@@ -359,37 +357,11 @@ module _ (n c : ℕ) (below : n < 15) (old : Places) (s : Step) (a : Answer) (ne
   -- ---- of a connection of which the host hears nothing yet
 
   module _ (rising : List (List ℕ)) (h : IsUnheard n c old rising) where
-    never : forwards old.multiplier.registers n ≡ true → (port_at old.multiplier n).present ≡ Some c → ⊥
-    never opens there =
-        true≢false (sym opens ∙ forwards_none n old.multiplier.registers (record { shows = firm.true_is.shows; told = h.waits there }))
-
     up_unheard : Each (IsNoneOf n c) new.upward.frames
-    up_unheard = by_up (up_change n old new below firm.orderly s a rule)
-      where
-        by_up : UpChange n old s a new → Each (IsNoneOf n c) new.upward.frames
-        by_up (Same link none) = subst (Each (IsNoneOf n c)) (sym link) h.up
-        by_up (Rose f link none passes other idle) =
-            subst (Each (IsNoneOf n c)) (sym link)
-            (each_more (IsNoneOf n c) old.upward.frames f h.up
-            (λ here same. never (passes here).opens ((passes here).there ∙ ap (λ (k : ℕ). Some k) same)))
-        by_up (Left f link told idle) = (subst (Each (IsNoneOf n c)) link h.up).1
-
-    untaken : taken_by n c a ≡ []
-    untaken = by_answer a refl
-      where
-        by_answer : (b : Answer) → a ≡ b → taken_by n c a ≡ []
-        by_answer (answer.Took port conn number bytes report) is =
-            ap (taken_by n c) is ∙ if_false (port == n && conn == c) (bytes ∷ []) (and_false (port == n) (conn == c) none)
-          where
-            none : (port == n) ≡ true → (conn == c) ≡ false
-            none here =
-                let m = rule_moves old s (answer.Took port conn number bytes report) new firm.orderly (subst (λ (b : Answer). Rule old s (Ok b) new) is rule) in
-                let first = (subst (Each (IsNoneOf n c)) m.2.upward h.up).0 in
-                ne_eqb conn c (λ same. first (m.1.port_is ∙ eqb-true port n here) (m.1.conn_is ∙ same))
-        by_answer b is = ap (taken_by n c) is
+    up_unheard = none_up n c below old s a new rule firm.orderly firm.true_is h.waits h.up
 
     above_unheard : is_removed n c new ≡ false → transit n c new ≡ all_marked n rising
-    above_unheard still = still_above n c old new s a device firm.orderly rule untaken unsent still ∙ h.above
+    above_unheard still = still_above n c old new s a device firm.orderly rule (none_taken n c below old s a new rule firm.orderly firm.true_is h.waits h.up) unsent still ∙ h.above
 
     pub unheard_on : WaitsFor n c new → is_removed n c new ≡ false → IsUnheard n c new rising
     unheard_on waits still = record { up = up_unheard; above = above_unheard still; still = still; waits = waits }

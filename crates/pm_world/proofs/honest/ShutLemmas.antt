@@ -77,6 +77,43 @@ only_there n c now there = by_place (slice_get now.devices n) there
     by_place None there = absurd there
     by_place (Some place) there = λ plugged. there.1
 
+-- ## Nothing passes
+
+module _ (n c : ℕ) (below : n < 15) (old : Places) (s : Step) (a : Answer) (new : Places) (rule : Rule old s (Ok a) new) (orderly : IsOrderly old)
+    (true_is : IsTrue n old.multiplier) (waits : WaitsFor n c old) where
+  never : forwards old.multiplier.registers n ≡ true → (port_at old.multiplier n).present ≡ Some c → ⊥
+  never opens there =
+      true≢false (sym opens ∙ forwards_none n old.multiplier.registers (record { shows = true_is.shows; told = waits there }))
+
+  module _ (up : Each (IsNoneOf n c) old.upward.frames) where
+    pub none_up : Each (IsNoneOf n c) new.upward.frames
+    none_up = by_up (up_change n old new below orderly s a rule)
+      where
+        by_up : UpChange n old s a new → Each (IsNoneOf n c) new.upward.frames
+        by_up (Same link none) = subst (Each (IsNoneOf n c)) (sym link) up
+        by_up (Rose f link none passes other idle) =
+            subst (Each (IsNoneOf n c)) (sym link)
+            (each_more (IsNoneOf n c) old.upward.frames f up
+            (λ here same. never (passes here).opens ((passes here).there ∙ ap (λ (k : ℕ). Some k) same)))
+        by_up (Left f link told idle) = (subst (Each (IsNoneOf n c)) link up).1
+
+    -- the host takes none of it
+    pub none_taken : taken_by n c a ≡ []
+    none_taken = by_answer a refl
+      where
+        none : (port conn number : ℕ) (bytes : List ℕ) (report : TakeReport) → a ≡ answer.Took port conn number bytes report → (port == n) ≡ true
+            → (conn == c) ≡ false
+        none port conn number bytes report is here =
+            let m = rule_moves old s (answer.Took port conn number bytes report) new orderly (subst (λ (b : Answer). Rule old s (Ok b) new) is rule) in
+            let first = (subst (Each (IsNoneOf n c)) m.2.upward up).0 in
+            ne_eqb conn c (λ same. first (m.1.port_is ∙ eqb-true port n here) (m.1.conn_is ∙ same))
+
+        by_answer : (b : Answer) → a ≡ b → taken_by n c a ≡ []
+        by_answer (answer.Took port conn number bytes report) is =
+            ap (taken_by n c) is
+            ∙ if_false (port == n && conn == c) (bytes ∷ []) (and_false (port == n) (conn == c) (none port conn number bytes report is))
+        by_answer b is = ap (taken_by n c) is
+
 -- ## A step
 
 module _ (n c : ℕ) (below : n < 15) (old : Places) (s : Step) (a : Answer) (new : Places) (rule : Rule old s (Ok a) new) (rising : List (List ℕ))
@@ -93,22 +130,6 @@ module _ (n c : ℕ) (below : n < 15) (old : Places) (s : Step) (a : Answer) (ne
   there_still : is_removed n c new ≡ false
   there_still = unremoved n c new kept_now
 
-  -- nothing of it passes
-  never : forwards old.multiplier.registers n ≡ true → (port_at old.multiplier n).present ≡ Some c → ⊥
-  never opens there =
-      true≢false (sym opens ∙ forwards_none n old.multiplier.registers (record { shows = h.true_is.shows; told = waits there }))
-
-  up_now : Each (IsNoneOf n c) new.upward.frames
-  up_now = by_up (up_change n old new below h.orderly s a rule)
-    where
-      by_up : UpChange n old s a new → Each (IsNoneOf n c) new.upward.frames
-      by_up (Same link none) = subst (Each (IsNoneOf n c)) (sym link) h.up
-      by_up (Rose f link none passes other idle) =
-          subst (Each (IsNoneOf n c)) (sym link)
-          (each_more (IsNoneOf n c) old.upward.frames f h.up
-          (λ here same. never (passes here).opens ((passes here).there ∙ ap (λ (k : ℕ). Some k) same)))
-      by_up (Left f link told idle) = (subst (Each (IsNoneOf n c)) link h.up).1
-
   falls_now : Each (IsForOther c) (falling_to n new)
   falls_now = by_down (down_change n old s new h.orderly a rule)
     where
@@ -120,14 +141,14 @@ module _ (n c : ℕ) (below : n < 15) (old : Places) (s : Step) (a : Answer) (ne
           let opens = passes_open n old.multiplier fallen.conn fallen.passes in
           subst (Each (IsForOther c)) (sym fallen.here)
           (each_more (IsForOther c) (falling_to n old) (falling fallen.conn f) h.falls
-          (λ same. never opens.0 (opens.1 ∙ ap (λ (k : ℕ). Some k) same)))
+          (λ same. never n c below old s a new rule h.orderly h.true_is waits opens.0 (opens.1 ∙ ap (λ (k : ℕ). Some k) same)))
 
   off_now : (rising_now : List (List ℕ)) → transit n c new ≡ all_marked n rising_now → IsShutOff n c new rising_now
   off_now rising_now above = record {
     orderly = orderly_after old s a new h.orderly rule;
     risen = (comes_risen old s a new h.risen rule).risen;
     true_is = true_after n old s a new rule h.true_is;
-    up = up_now;
+    up = none_up n c below old s a new rule h.orderly h.true_is waits h.up;
     falls = falls_now;
     there = there_after n c old a new h.there s stays rule;
     kept = kept_now;
@@ -169,18 +190,6 @@ module _ (n c : ℕ) (below : n < 15) (old : Places) (s : Step) (a : Answer) (ne
       let other : (port == n) ≡ false = subst (StaysOn n c) is its.stays in
       waited_nothing (ap (befalls n old) is ∙ if_none (port == n) (Plugged ∷ []) other) (ap (taken_by n c) is) (ap (sent_by n c) is)
 
-  -- the host takes none of it
-  took_case : (port conn number : ℕ) (bytes : List ℕ) (report : TakeReport) → a ≡ answer.Took port conn number bytes report → Waited
-  took_case port conn number bytes report is =
-      waited_nothing (ap (befalls n old) is) (ap (taken_by n c) is ∙ if_false (port == n && conn == c) (bytes ∷ []) (and_false (port == n) (conn == c) none))
-      (ap (sent_by n c) is)
-    where
-      none : (port == n) ≡ true → (conn == c) ≡ false
-      none here =
-          let m = rule_moves old s (answer.Took port conn number bytes report) new h.orderly (subst (λ (b : Answer). Rule old s (Ok b) new) is rule) in
-          let first = (subst (Each (IsNoneOf n c)) m.2.upward h.up).0 in
-          ne_eqb conn c (λ same. first (m.1.port_is ∙ eqb-true port n here) (m.1.conn_is ∙ same))
-
   -- and the unit takes nothing
   disk_case : (port : ℕ) → a ≡ answer.DiskTook port false → Waited
   disk_case port is = by_test (port == n) refl
@@ -201,7 +210,8 @@ module _ (n c : ℕ) (below : n < 15) (old : Places) (s : Step) (a : Answer) (ne
   waited : (b : Answer) → a ≡ b → Waited
   waited (answer.Sent port conn number bytes) is = sent_case port conn number bytes is
   waited (answer.Came port conn) is = came_case port conn is
-  waited (answer.Took port conn number bytes report) is = took_case port conn number bytes report is
+  waited (answer.Took port conn number bytes report) is =
+      waited_nothing (ap (befalls n old) is) (none_taken n c below old s a new rule h.orderly h.true_is waits h.up) (ap (sent_by n c) is)
   waited (answer.DiskTook port false) is = disk_case port is
   waited (answer.DiskTook port true) is = waited_nothing (ap (befalls n old) is) (ap (taken_by n c) is) (ap (sent_by n c) is)
   waited b is = waited_nothing (ap (befalls n old) is) (ap (taken_by n c) is) (ap (sent_by n c) is)
