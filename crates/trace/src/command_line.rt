@@ -31,6 +31,13 @@ pub enum Task {
     Guest(bool),
 }
 
+impl Task {
+    /// Whether all output is JSON, an object a line.
+    pub fn is_json(self) -> bool {
+        matches!(self, Task::Run(Watch { is_json: true, .. }))
+    }
+}
+
 /// What the words after the program's name ask for, and where the input comes from: a file, or
 /// standard input if no file is named.
 #[derive(Drop)]

@@ -12,7 +12,7 @@ use std::io::{BufWriter, Eprint, Read, Write};
 use std::rt::Files;
 use std::sync::Wait;
 use std::thread::Threads;
-use std::{fmt, fs};
+use std::{fmt, fs, io};
 use trace_guest::play_guest;
 use trace_run::{Turns, play_steps, play_threads};
 use trace_text::{Failure, Note, Shown, decode, read_input};
@@ -98,7 +98,7 @@ fn show_help<W: Write + Drop>(alloc: Global, writer: W) -> u8
         Ok(()) => Ok(()),
         Err(error) => Err(Failure::from(error)),
     };
-    close(out, written)
+    close(out, written, false)
 }
 
 /// Writes to standard error. If that is closed, nobody hears it, and all else is the same.
@@ -145,7 +145,7 @@ pub fn refuse<W: Write + Drop>(alloc: Global, failure: Failure, writer: W) -> u8
     ensures { (result ≡ status_of failure) ⊎ (result ≡ 3) ⊎ (result ≡ 4) }
 {
     match BufWriter::new(alloc, writer) {
-        Ok(out) => close(out, Err(failure)),
+        Ok(out) => close(out, Err(failure), false),
         Err(_) => Failure::OutOfMemory.status(),
     }
 }
@@ -166,13 +166,13 @@ fn work<H: Files + Eprint, R: Read + Drop, W: Write + Drop>(
     };
     let input = match read_from(rt, alloc, file, reader) {
         Ok(input) => input,
-        Err(failure) => return close(out, Err(failure)),
+        Err(failure) => return close(out, Err(failure), task.is_json()),
     };
     let done = play(rt, alloc, task, &input, &mut out);
     if let Err(failure) = &done {
         tell_of(rt, *failure, &input);
     }
-    close(out, done)
+    close(out, done, task.is_json())
 }
 
 fn play<H: Files + Eprint, W: Write>(
@@ -206,23 +206,23 @@ fn work_in_threads<H: Threads + Wait + Sync + Files + Eprint, R: Read + Drop, W:
     };
     let input = match read_from(rt, alloc, file, reader) {
         Ok(input) => input,
-        Err(failure) => return close(out, Err(failure)),
+        Err(failure) => return close(out, Err(failure), false),
     };
     match play_threads(rt, alloc, turns, &input, &mut out) {
-        Ok(ending) => match close(out, Ok(())) {
+        Ok(ending) => match close(out, Ok(()), false) {
             0 => ending.status(),
             status => status,
         },
         Err(failure) => {
             tell_of(rt, failure, &input);
-            close(out, Err(failure))
+            close(out, Err(failure), false)
         }
     }
 }
 
-/// Writes the words of the failure, if there is one that has any, and what is still in the buffer,
-/// and gives the exit status. Nothing more is written once a write has failed.
-fn close<W: Write + Drop>(mut out: BufWriter<W>, done: Result<(), Failure>) -> u8
+/// Writes the words of the failure, if there is one that has any, as JSON or not, and what is still in
+/// the buffer, and gives the exit status. Nothing more is written once a write has failed.
+fn close<W: Write + Drop>(mut out: BufWriter<W>, done: Result<(), Failure>, is_json: bool) -> u8
     ensures done { result ≡ 0 → done ≡ Ok tt }
     ensures failed { IfErr done (λ failure. (result ≡ status_of failure) ⊎ (result ≡ 4)) }
     ensures status { result ≤ 6 }
@@ -230,7 +230,7 @@ fn close<W: Write + Drop>(mut out: BufWriter<W>, done: Result<(), Failure>) -> u
     let written = match done {
         Ok(()) | Err(Failure::OutOfMemory | Failure::DiskFile { .. }) => out.flush(),
         Err(Failure::ReadOrWrite) => Ok(()),
-        Err(failure) => writeln!(out, "{failure}").and_then(|()| out.flush()),
+        Err(failure) => write_failure(&mut out, failure, is_json).and_then(|()| out.flush()),
     };
     // If the buffer were dropped as a whole, it would try once more to write what could not be
     // written.
@@ -239,5 +239,14 @@ fn close<W: Write + Drop>(mut out: BufWriter<W>, done: Result<(), Failure>) -> u
         (Ok(()), Ok(())) => 0,
         (Err(failure), Ok(())) => failure.status(),
         (_, Err(_)) => Failure::ReadOrWrite.status(),
+    }
+}
+
+/// Writes the words of a failure in a line, which has no quotation mark and no backslash.
+fn write_failure<W: Write>(out: &mut W, failure: Failure, is_json: bool) -> io::Result<()> {
+    if is_json {
+        writeln!(out, "{{\"error\":\"{failure}\"}}")
+    } else {
+        writeln!(out, "{failure}")
     }
 }

@@ -4,7 +4,7 @@ use crate::opening::Sizes;
 use ahci_registers::Effect;
 use fis_view::Frame;
 use std::fmt;
-use trace_text::FisShort;
+use trace_text::FrameShort;
 
 /// What a line of a scenario prints.
 #[derive(Drop)]
@@ -75,9 +75,7 @@ impl fmt::Display for Moved<'_> {
             15 => write!(f, "{} control port", self.way)?,
             port => write!(f, "{} port {port}", self.way)?,
         }
-        if let Ok(fis) = self.frame.fis() {
-            write!(f, ": {}", FisShort(&fis))?;
-        }
+        write!(f, ": {}", FrameShort(self.frame.bytes()))?;
         f.write_str(if self.is_ignored {
             "; taken by nobody"
         } else {

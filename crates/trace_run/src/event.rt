@@ -2,12 +2,11 @@
 
 use crate::text::write_outcome;
 use crate::tickets::{Asked, SlotList, Tickets};
-use fis_view::Fis;
 use hba_driver::{Completion, Outcome};
 use hba_fbs::TakeReport;
 use port_errors::{DeviceCause, PortCause};
 use std::fmt;
-use trace_text::{FisShort, bit_of, named_slots};
+use trace_text::{FrameShort, bit_of, named_slots};
 
 /// Who did what in a step.
 #[derive(Clone, Copy)]
@@ -179,8 +178,8 @@ pub struct Event<'a> {
     pub port: Option<u8>,
     /// The connection and the number of the FIS that moved.
     pub mark: Option<Mark>,
-    /// That FIS; None if its bytes are no FIS of a known length.
-    pub fis: Option<Fis<'a>>,
+    /// The bytes of that FIS.
+    pub frame: Option<&'a [u8]>,
     /// The slots that it names, or that the driver issued.
     pub slots: u32,
     pub upshot: Upshot,
@@ -244,7 +243,7 @@ impl Event<'static> {
             act,
             port,
             mark: None,
-            fis: None,
+            frame: None,
             slots: 0,
             upshot,
             registers: None,
@@ -255,9 +254,9 @@ impl Event<'static> {
 impl Event<'_> {
     /// The slots of the FIS, of what it did, and of what the driver issued.
     pub fn all_slots(&self) -> u32 {
-        let named = match (&self.fis, self.act) {
-            (Some(fis), Act::PmTakesDown | Act::HostSends) => named_slots(fis),
-            (Some(fis), _) if self.port != Some(15) => named_slots(fis),
+        let named = match (self.frame, self.act) {
+            (Some(frame), Act::PmTakesDown | Act::HostSends) => named_slots(frame),
+            (Some(frame), _) if self.port != Some(15) => named_slots(frame),
             _ => 0,
         };
         self.slots | named
@@ -288,8 +287,8 @@ fn write_moved<W: fmt::Write>(event: &Event<'_>, f: &mut fmt::Formatter<W>) -> f
     if let Some(mark) = event.mark {
         write!(f, "{mark}")?;
     }
-    match &event.fis {
-        Some(fis) => write!(f, ": {}", FisShort(fis)),
+    match event.frame {
+        Some(frame) => write!(f, ": {}", FrameShort(frame)),
         None => Ok(()),
     }
 }

@@ -5,7 +5,7 @@ use crate::text::write_outcome;
 use crate::tickets::{SlotArray, Tickets};
 use hba_driver::Outcome;
 use std::fmt;
-use trace_text::FisShort;
+use trace_text::FrameShort;
 
 /// A step as an object of JSON, in one line. No string of it needs an escape.
 #[derive(Drop)]
@@ -50,8 +50,8 @@ fn write_frame<W: fmt::Write>(event: &Event<'_>, f: &mut fmt::Formatter<W>) -> f
     if let Some(mark) = event.mark {
         write_mark(mark, f)?;
     }
-    match &event.fis {
-        Some(fis) => write!(f, ",\"frame\":\"{}\"", FisShort(fis)),
+    match event.frame {
+        Some(frame) => write!(f, ",\"frame\":\"{}\"", FrameShort(frame)),
         None => Ok(()),
     }
 }

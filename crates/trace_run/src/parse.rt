@@ -242,9 +242,7 @@ fn sizes(words: &mut Words<'_>, has_modes: bool) -> Result<Sizes, Failure> {
 /// The words after `disk`.
 fn disk(words: &mut Words<'_>, opening: &Opening) -> Result<Option<Setting>, Failure> {
     let port = free_port(words, opening)?;
-    let shape = Shape::read(words, port)?;
-    words.end()?;
-    Ok(Some(Setting::Disk(port, shape)))
+    Ok(Some(Setting::Disk(port, Shape::read(words, port)?)))
 }
 
 /// A port of the world of whose device no line has spoken.
@@ -271,7 +269,6 @@ pub fn filed_disk<H: Files>(
     }
     let port = free_port(words, opening)?;
     let filed = read_filed(files, alloc, words, port, media)?;
-    words.end()?;
     Ok(Some((port, filed)))
 }
 

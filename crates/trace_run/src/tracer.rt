@@ -4,7 +4,7 @@ use crate::event::{Act, Change, Event, EventText, Mark, Registers, Upshot};
 use crate::event_json::EventJson;
 use crate::tickets::{Asked, Tickets};
 use crate::watch::Watch;
-use fis_view::{Fis, Frame};
+use fis_view::Frame;
 use hba_driver::{Completion, Ticket};
 use hba_fbs::{HostPort, Register};
 use host_memory::HostMemory;
@@ -13,7 +13,7 @@ use pm_world::{Answer, Hop, Step, World};
 use std::alloc::{AllocError, Global};
 use std::io::Write;
 use std::mem;
-use trace_text::{Failure, bit_of, fis_of};
+use trace_text::{Failure, bit_of};
 
 /// What is seen of a world before a step of it.
 #[derive(Drop)]
@@ -265,10 +265,10 @@ fn tick<'a>(world: &'a World, sight: &Sight) -> Event<'a> {
     let after = registers_of(world.host());
     let change = Change { before, after };
     let slots = change.issued();
-    let fis = command_of(world.memory(), slots.trailing_zeros() as usize);
+    let frame = command_of(world.memory(), slots.trailing_zeros() as usize);
     Event {
-        port: fis.as_ref().map(port_of),
-        fis,
+        port: frame.map(port_of),
+        frame,
         slots,
         registers: Some(change),
         ..plain
@@ -276,7 +276,7 @@ fn tick<'a>(world: &'a World, sight: &Sight) -> Event<'a> {
 }
 
 /// The command FIS that stands in memory for a slot.
-fn command_of(memory: &HostMemory, slot: usize) -> Option<Fis<'_>> {
+fn command_of(memory: &HostMemory, slot: usize) -> Option<&[u8]> {
     if slot >= 32 {
         return None;
     }
@@ -286,16 +286,12 @@ fn command_of(memory: &HostMemory, slot: usize) -> Option<Fis<'_>> {
         .iter()
         .rev()
         .fold(0usize, |value, byte| value << 8 | usize::from(*byte));
-    fis_of(bytes.get(start..start.saturating_add(20))?).ok()
+    bytes.get(start..start.saturating_add(20))
 }
 
-/// The PM Port of a FIS that goes down.
-fn port_of(fis: &Fis<'_>) -> u8 {
-    match fis {
-        Fis::RegH2D(fis) => fis.pm_port(),
-        Fis::Payload(fis) => fis.pm_port(),
-        _ => 0,
-    }
+/// The PM Port of a frame.
+fn port_of(frame: &[u8]) -> u8 {
+    frame.get(1).copied().unwrap_or(0) & 0x0F
 }
 
 /// A FIS moved.
@@ -381,7 +377,7 @@ fn with_bytes<'a>(told: Event<'a>, conn: u32, number: u32, bytes: &'a [u8]) -> E
             conn: Some(conn),
             number,
         }),
-        fis: fis_of(bytes).ok(),
+        frame: Some(bytes),
         ..told
     }
 }
@@ -409,7 +405,7 @@ fn down<'a>(act: Act, port: Option<u8>, upshot: Upshot, frame: Option<&'a Frame>
                 conn: None,
                 number: frame.stamp().number,
             }),
-            fis: fis_of(frame.bytes()).ok(),
+            frame: Some(frame.bytes()),
             ..told
         },
     }

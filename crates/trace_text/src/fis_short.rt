@@ -1,24 +1,34 @@
 //! A FIS in a few words.
 
+use crate::decoding::fis_of;
 use fis_view::{DmaSetup, Fis, RegD2H, RegH2D, SetBits};
 use std::fmt;
 
-/// A FIS in a few words: its kind, and the fields that tell what it does. Its port is left out.
+/// The bytes of a frame in a few words: the kind of its FIS, and the fields that tell what it does. Its port is
+/// left out. Where no FIS of its type has its length, it is the type and the length.
 #[derive(Drop)]
-pub struct FisShort<'a, 'b>(pub &'b Fis<'a>);
+pub struct FrameShort<'a>(pub &'a [u8]);
 
-impl fmt::Display for FisShort<'_, '_> {
+impl fmt::Display for FrameShort<'_> {
     fn fmt<W: fmt::Write>(&self, f: &mut fmt::Formatter<W>) -> fmt::Result {
-        match self.0 {
-            Fis::RegH2D(fis) => write_h2d(fis, f),
-            Fis::RegD2H(fis) => write_d2h(fis, f),
-            Fis::SetBits(fis) => write_bits(fis, f),
-            Fis::DmaActivate(_) => f.write_str("activate"),
-            Fis::DmaSetup(fis) => write_setup(fis, f),
-            Fis::PioSetup(fis) => write_pio(fis.status(), fis.transfer(), f),
-            Fis::Payload(fis) => write!(f, "data bytes {}", fis.payload().len()),
-            Fis::Unknown(fis) => write_unknown(fis.bytes(), f),
+        match fis_of(self.0) {
+            Ok(fis) => write_fis(&fis, f),
+            Err(_) => write_size("wrong length", self.0, f),
         }
+    }
+}
+
+/// Writes a FIS by its kind.
+fn write_fis<W: fmt::Write>(fis: &Fis<'_>, f: &mut fmt::Formatter<W>) -> fmt::Result {
+    match fis {
+        Fis::RegH2D(fis) => write_h2d(fis, f),
+        Fis::RegD2H(fis) => write_d2h(fis, f),
+        Fis::SetBits(fis) => write_bits(fis, f),
+        Fis::DmaActivate(_) => f.write_str("activate"),
+        Fis::DmaSetup(fis) => write_setup(fis, f),
+        Fis::PioSetup(fis) => write_pio(fis.status(), fis.transfer(), f),
+        Fis::Payload(fis) => write!(f, "data bytes {}", fis.payload().len()),
+        Fis::Unknown(fis) => write_size("unknown", fis.bytes(), f),
     }
 }
 
@@ -35,7 +45,8 @@ fn write_setup<W: fmt::Write>(fis: &DmaSetup<'_>, f: &mut fmt::Formatter<W>) -> 
     let way = if fis.d() { "to host" } else { "to disk" };
     let tag = fis.buffer_id() & 0x1F;
     write!(f, "setup tag {tag} {way}")?;
-    write!(f, " offset {} count {}", fis.offset(), fis.count())
+    let auto = if fis.a() { " auto" } else { "" };
+    write!(f, " offset {} count {}{auto}", fis.offset(), fis.count())
 }
 
 /// Writes a PIO Setup FIS.
@@ -43,18 +54,18 @@ fn write_pio<W: fmt::Write>(status: u8, bytes: u16, f: &mut fmt::Formatter<W>) -
     write!(f, "pio status {status:02x} bytes {bytes}")
 }
 
-/// Writes a FIS of no known kind.
-fn write_unknown<W: fmt::Write>(bytes: &[u8], f: &mut fmt::Formatter<W>) -> fmt::Result {
+/// Writes why nothing else is told of a frame, its type and its length.
+fn write_size<W: fmt::Write>(why: &str, bytes: &[u8], f: &mut fmt::Formatter<W>) -> fmt::Result {
     let kind = bytes.first().copied().unwrap_or(0);
-    write!(f, "unknown type {kind:02x} bytes {}", bytes.len())
+    write!(f, "{why} type {kind:02x} bytes {}", bytes.len())
 }
 
-/// The slots that a FIS names: a queued command, a DMA Setup and a Set Device Bits FIS do.
-pub fn named_slots(fis: &Fis<'_>) -> u32 {
-    match fis {
-        Fis::RegH2D(fis) if is_queued(fis.command()) => bit_of((fis.count() >> 3 & 0x1F) as u8),
-        Fis::DmaSetup(fis) => bit_of((fis.buffer_id() & 0x1F) as u8),
-        Fis::SetBits(fis) => fis.sactive(),
+/// The slots that a frame names: a queued command, a DMA Setup and a Set Device Bits FIS do.
+pub fn named_slots(frame: &[u8]) -> u32 {
+    match fis_of(frame) {
+        Ok(Fis::RegH2D(fis)) if is_queued(fis.command()) => bit_of((fis.count() >> 3 & 0x1F) as u8),
+        Ok(Fis::DmaSetup(fis)) => bit_of((fis.buffer_id() & 0x1F) as u8),
+        Ok(Fis::SetBits(fis)) => fis.sactive(),
         _ => 0,
     }
 }

@@ -21,9 +21,9 @@ mod wanted;
 mod words;
 
 pub use blocks::play_aside;
-pub use decoding::{DecodeError, decode, fis_of};
+pub use decoding::{DecodeError, decode};
 pub use failure::{Failure, Refusal};
-pub use fis_short::{FisShort, bit_of, named_slots};
+pub use fis_short::{FrameShort, bit_of, named_slots};
 pub use input::{LONGEST_INPUT, LONGEST_LINE, is_skipped, read_input, without_return};
 pub use lines::Lines;
 pub use media::{DiskFile, Filed, Media, read_filed};

@@ -30,9 +30,9 @@ pub struct Filed<F: Drop> {
     pub file: DiskFile<F>,
 }
 
-/// The words about the disk at this port that come after its number, where they begin with `file` and a path. A file
-/// that cannot be opened to be read and written, that no disk can have, or that one of these has, is `file`. Sectors that
-/// cannot be read are bad ones of the disk.
+/// The words about the disk at this port that come after its number, to the end of the line, where they begin with
+/// `file` and a path. A file that cannot be opened to be read and written, that no disk can have, or that one of these
+/// has, is `file`. Sectors that cannot be read are bad ones of the disk.
 pub fn read_filed<H: Files>(
     files: &H,
     alloc: Global,

@@ -32,14 +32,14 @@ impl Shape {
         }
     }
 
-    /// The words about the disk at this port, which come after its number.
+    /// The words about the disk at this port, which come after its number, to the end of the line.
     pub fn read(words: &mut Words<'_>, port: u8) -> Result<Shape, Failure> {
         words.keyword(Keyword::Sectors)?;
         let sectors = words.number(Quantity::Sectors, 1, 65_536)? as u32;
         Shape::of_size(words, port, sectors)
     }
 
-    /// The words about the disk at this port that come after its size.
+    /// The words about the disk at this port that come after its size, to the end of the line.
     pub fn of_size(words: &mut Words<'_>, port: u8, sectors: u32) -> Result<Shape, Failure>
         requires some { 1 ≤ sectors }
         requires at_most { sectors ≤ 65536 }
@@ -52,6 +52,7 @@ impl Shape {
             auto: words.takes(b"auto"),
             profile: profile(words, port),
         };
+        words.end_of(Wanted::Plan)?;
         Ok(Shape { sectors, plan })
     }
 

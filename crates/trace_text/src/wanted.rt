@@ -112,6 +112,8 @@ pub enum Wanted {
     OtherFile,
     /// `oldest` or `newest`.
     Order,
+    /// The words of a disk's plan, in their order.
+    Plan,
     /// At most 16 bad sectors.
     FewerBad,
     /// A decimal number within these limits.
@@ -193,6 +195,9 @@ impl Wanted {
             }
             Wanted::OtherFile => "another disk has this file",
             Wanted::Order => "wanted `oldest` or `newest`",
+            Wanted::Plan => {
+                "wanted `order`, `chunk`, `lastfirst`, `bad`, `auto`, `stock` in this order, each but `bad` once"
+            }
             Wanted::FewerBad => "wanted at most 16 sectors that cannot be read",
             Wanted::WholeSectors => "wanted a multiple of 512",
             Wanted::Address => "wanted an address, at most 8 hexadecimal digits without 0x",

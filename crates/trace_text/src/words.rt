@@ -198,11 +198,16 @@ impl<'a> Words<'a> {
     }
 
     /// Checks that no word is left.
-    pub fn end(&mut self) -> Result<(), Failure> {
-        match self.next_word() {
-            None => Ok(()),
-            Some(_) => Err(self.refused(Refusal::Number, Wanted::Nothing)),
+    pub fn end(&self) -> Result<(), Failure> {
+        self.end_of(Wanted::Nothing)
+    }
+
+    /// Checks that no word is left, where only this was wanted.
+    pub fn end_of(&self, wanted: Wanted) -> Result<(), Failure> {
+        if self.is_at_end() {
+            return Ok(());
         }
+        Err(self.refused_at(self.asked.saturating_add(1), Refusal::Number, wanted))
     }
 }
 
