@@ -36,12 +36,15 @@ use Rattle.hba_driver.specs.Paths.{first_stage, next_stage, stage_fields}
 abbrev pub is_there : ℕ → Bool
 is_there status = status % 16 == 3
 
--- What is known of a device that is there: it starts, and is to send its signature. A device that recovers
--- from a fault is reset, or its log is read; its signature may have come before that, and does not come
--- again.
+-- What is known of a device that is there. One of which nothing is known starts, and is to send its signature.
+-- One that recovers from a fault, or was identified since its flush, stays what it is: its signature came
+-- before, and does not come again. If it was exchanged since, its port has an error again, and is scanned.
 abbrev pub found_there : Device → Device
+found_there Absent = Starting
+found_there Starting = Starting
+found_there Ready = Ready
+found_there Unusable = Unusable
 found_there (Recovering way) = Recovering way
-found_there device = Starting
 
 -- what is known after the answer of PSCR[0] of its port, SStatus
 abbrev pub detected : ℕ → Device → Device

@@ -63,15 +63,14 @@ impl Device {
         }
     }
 
-    // The device is there. If it recovers, it goes on: its signature may have come already, so none is
-    // awaited.
+    // The device is there. If it recovers or was identified since its flush, it stays what it is: its signature
+    // came before, and does not come again.
     fn found_there(self) -> Device
         ensures { result ≡ found_there_of self }
     {
         match self {
-            Device::Recovering(way) => Device::Recovering(way),
-            Device::Absent | Device::Starting | Device::Ready | Device::Unusable =>
-                Device::Starting,
+            Device::Absent | Device::Starting => Device::Starting,
+            Device::Ready | Device::Unusable | Device::Recovering(_) => self,
         }
     }
 

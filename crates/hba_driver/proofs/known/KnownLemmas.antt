@@ -61,8 +61,11 @@ if_new n false p q h k = k
 -- ---- slot 31
 
 shown_new : (device : Device) → is_trusted device ≡ false → is_trusted (found_there device) ≡ false
+shown_new Absent new = new
+shown_new Starting new = new
+shown_new Ready new = new
+shown_new Unusable new = new
 shown_new (Recovering way) new = new
-shown_new other new = refl
 
 detected_new : (status : ℕ) (device : Device) → is_trusted device ≡ false → is_trusted (detected status device) ≡ false
 detected_new status device new = by_test (is_there status)
