@@ -16,8 +16,8 @@ use Rattle.block_command.specs.declared.command.Stage.TheVariants.{Ended}
 use Rattle.block_command.specs.Moments.{IsCommand, Moment, opening, whole, chunk, part_count, part_len, read_end, read_on, with_sectors}
 use Rattle.block_command.specs.Moments.{data_stage, first_data_stage, is_queued, is_verify, started, write_on}
 use Rattle.block_command.specs.Laws.{Input, Goes, Loads, Comes, Stores, Flushes, Fails, after, happening, account}
-use Rattle.block_command.specs.Laws.{Happening, SentEnd, SentData, HappensRightly, IsLoaded}
-use Rattle.block_command.specs.Laws.{Ledger, blank, entered, given_to, is_behind, IsEarned, Earned, EndsAreEarned}
+use Rattle.block_command.specs.Laws.{HappensRightly, IsLoaded}
+use Rattle.block_command.specs.Laws.{Ledger, blank, entered, is_behind, IsEarned, Earned, EndsAreEarned}
 
 abbrev pub read_ledger : List ℕ → Option ℕ → List ℕ → Ledger
 read_ledger given wanting sent = record {
@@ -394,9 +394,9 @@ at_data : (past bytes : List ℕ) (sent n : ℕ)
 at_data past bytes sent n = record {
   rest = drop (sent + n) bytes;
   is = sym (ap (λ x. x ++ drop (sent + n) bytes) (append_assoc past (take sent bytes) (take n (drop sent bytes))
-    ∙ ap (λ x. past ++ x) (sym (take-add sent n bytes)))
-    ∙ append_assoc past (take (sent + n) bytes) (drop (sent + n) bytes)
-    ∙ ap (λ x. past ++ x) (take-append-drop (sent + n) bytes));
+      ∙ ap (λ x. past ++ x) (sym (take-add sent n bytes)))
+      ∙ append_assoc past (take (sent + n) bytes) (drop (sent + n) bytes)
+      ∙ ap (λ x. past ++ x) (take-append-drop (sent + n) bytes));
 }
 
 rights : (c : Command) (past : List ℕ) (done : ℕ) (bytes : List ℕ) (sent : ℕ) (stage : Stage) (i : Input)

@@ -1,10 +1,10 @@
 -- A command of a block disk at one moment, what it does next, and what it makes of what it is given
 -- (ACS-3, 4, protocols; Serial ATA 3.x, 10.5, FIS types, and 13.6, native command queuing).
-use Rattle.std.specs.Prelude.{ℕ, ◌+◌, ◌-◌, ◌*◌, ◌<◌, ◌≤◌, ◌≡◌, ◌==◌, ◌%◌, ◌^◌, Bool, true, false, List, [], ◌++◌, length}
-use Rattle.std.specs.Prelude.{take, drop, nat_lt, if◌then◌else◌, ◌&&◌, ◌||◌, not}
+use Rattle.std.specs.Prelude.{ℕ, ◌+◌, ◌-◌, ◌*◌, ◌<◌, ◌≤◌, ◌==◌, ◌^◌, Bool, true, false, List, [], ◌++◌, length}
+use Rattle.std.specs.Prelude.{take, drop, nat_lt, if◌then◌else◌, ◌&&◌}
 use Rattle.block_command.specs.declared.command.Command.{Command}
 use Rattle.block_command.specs.declared.command.Protocol.{Protocol}
-use Rattle.block_command.specs.declared.command.Protocol.TheVariants.{Queued, Dma, Pio, Verify}
+use Rattle.block_command.specs.declared.command.Protocol.TheVariants.{Queued, Pio, Verify}
 use Rattle.block_command.specs.declared.command.Stage.{Stage}
 use Rattle.block_command.specs.declared.command.Stage.TheVariants.{Waiting, Load, Loading, SetUpRead, Announce, Sending}
 use Rattle.block_command.specs.declared.command.Stage.TheVariants.{SetUpWrite, Activate, Receiving}
@@ -120,7 +120,7 @@ read_on m done = record m {
 
 abbrev pub sent_to : Moment → ℕ → Moment
 sent_to m sent = if nat_lt sent (length m.bytes) then record m { sent = sent; stage = data_stage m.command.protocol }
-  else read_on m (m.done + part_count m.command m.done)
+    else read_on m (m.done + part_count m.command m.done)
 
 abbrev pub gone : Moment → Stage → Moment
 gone m Waiting = record m { stage = started m.command }
@@ -145,7 +145,7 @@ is_verify _ = false
 -- the sectors that were asked for came: a verify wants no more of them
 abbrev pub with_sectors : Moment → List ℕ → Moment
 with_sectors m bytes = if is_verify m.command.protocol then read_on m (m.done + part_count m.command m.done)
-  else record m { bytes = bytes; stage = first_data_stage m.command.protocol m.done }
+    else record m { bytes = bytes; stage = first_data_stage m.command.protocol m.done }
 
 abbrev pub after_loaded : Moment → Stage → List ℕ → Moment
 after_loaded m Loading bytes = if length bytes == part_len m.command m.done then with_sectors m bytes else m

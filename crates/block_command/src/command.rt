@@ -255,8 +255,8 @@ impl BlockCommand {
         match self.stage {
             Stage::Announce | Stage::Sending | Stage::Activate | Stage::Receiving => true,
             Stage::Waiting | Stage::Load | Stage::Loading => 0 < self.done,
-            Stage::Store | Stage::Storing =>
-                self.done + count_from(self.command, self.done) < self.command.count,
+            Stage::Store | Stage::Storing => self.done + count_from(self.command, self.done)
+                < self.command.count,
             _ => false,
         }
     }

@@ -14,4 +14,3 @@ mod laws;
 
 pub use command::{BlockCommand, Command, Protocol, Stage, Turn};
 pub use laws::ends_are_earned;
-

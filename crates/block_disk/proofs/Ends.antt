@@ -10,7 +10,7 @@ use Rattle.block_command.specs.Moments.{IsCommand, Moment, opening}
 use Rattle.block_command.specs.Laws as command
 use Rattle.block_command.specs.Laws.{Input, Happening, blank, entered, happening}
 use Rattle.block_command.proofs.Door.{Agrees, steps, rights_then, begins}
-use Rattle.block_disk.specs.Table.{Table, at, none_under_way, with_command}
+use Rattle.block_disk.specs.Table.{Table, none_under_way, with_command}
 use Rattle.block_disk.specs.Laws.{Event, Takes, Does, Resets, IsEvent, AreEvents, after, Shown, Took, Refused, At, shown_at, shown, account}
 use Rattle.block_disk.specs.Laws.{Page, at_page, page_entered, entered_in, PageAllows, IsAllowedBy, Earned, EndsAreEarned}
 

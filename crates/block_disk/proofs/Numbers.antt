@@ -1,15 +1,15 @@
 -- Late answers count for nothing, and each number is given once.
-use Rattle.std.proofs.Common.{◌≡◌, ℕ, ◌<◌, true, false, List, [], ◌∷◌, length, get_or, set, Some, None, refl, sym, ap, ◌∙◌, arith}
+use Rattle.std.proofs.Common.{◌≡◌, ℕ, ◌<◌, true, false, List, [], ◌∷◌, set, Some, None, refl, sym, ap, ◌∙◌, arith}
 use Rattle.std.specs.Prelude.{Option, Bool, if◌then◌else◌}
 use Rattle.std.proofs.lemmas.List.{set-get_or}
 use Rattle.block_command.specs.Moments.{Moment}
 use Rattle.block_command.specs.Laws.{Input, Goes, Loads, Comes, Stores, Flushes, Fails, Happening, happening}
-use Rattle.block_disk.specs.Table.{Table, at, with_input}
+use Rattle.block_disk.specs.Table.{at, with_input}
 use Rattle.block_disk.specs.Laws as laws
 use Rattle.block_disk.specs.Laws.{Page, At, Took, Refused, shown_at, entered_in, at_page, page_entered}
 use Rattle.block_disk.specs.Requests.{Queue, is_answer, Act, Takes, Sends, Asks, Hears, Answers, Resets, IsAct, AreActs, after_act, is_out, told, none_queued}
-use Rattle.block_disk.specs.Requests.{Seen, OnLink, Asked, Answered, seen, seen_by, Books, no_books, entered_by, out_after, IsSeenRightly, AreSeenRightly}
-use Rattle.block_disk.specs.Requests.{LateAnswersCountForNothing, numbers_of, numbers_given, Rises, NumbersAreFresh}
+use Rattle.block_disk.specs.Requests.{OnLink, seen, seen_by, Books, no_books, entered_by, out_after, IsSeenRightly, AreSeenRightly}
+use Rattle.block_disk.specs.Requests.{LateAnswersCountForNothing, numbers_given, Rises, NumbersAreFresh}
 use Rattle.block_disk.proofs.Ends.{Kept, Matches, kept_none, next}
 use Rattle.std.specs.Option.{option_map}
 use Rattle.block_command.specs.declared.command.Command.{Command}
@@ -80,9 +80,11 @@ one q (Asks place) b agree is =
     let n = next q.table b.pages (laws.Does place Goes) agree.kept is in
     (tt, record { kept = n.1; out = ap (λ out. set out place q.next) agree.out })
 one q (Hears place part) b agree is = does q b place (Comes part) agree is
-one q (Answers place number i) b agree is =
-    (tt, answers_case q b place i (is_out q.out place number) (is_out b.out place number)
-    (ap (λ out. is_out out place number) agree.out) agree is.0 is.1)
+one q (Answers place number i) b agree is = (
+  tt,
+  answers_case q b place i (is_out q.out place number) (is_out b.out place number)
+      (ap (λ out. is_out out place number) agree.out) agree is.0 is.1,
+)
 one q Resets b agree is = (tt, record { kept = kept_none 33 refl; out = refl })
 
 runs : (acts : List Act) (q : Queue) (b : Books) → Agree q b → AreActs acts → AreSeenRightly b (seen_by q acts)

@@ -1,20 +1,20 @@
 -- Data of queued commands are of the command that the last DMA Setup named: at most one command has the wire.
-use Rattle.std.proofs.Common.{◌≡◌, ℕ, ◌+◌, ◌<◌, true, false, List, [], ◌∷◌, length, get_or, set, Some, None, refl, sym, ap, ◌∙◌, arith, inl, inr, rules}
+use Rattle.std.proofs.Common.{◌≡◌, ℕ, ◌+◌, ◌<◌, true, false, List, [], ◌∷◌, length, get_or, set, Some, None, refl, sym, ap, ◌∙◌, arith, inl, inr}
 use Rattle.std.specs.Prelude.{Option, Bool, replicate, is_none, not, ◌||◌, ◌&&◌, ◌==◌, nat_lt, if◌then◌else◌}
 use Rattle.std.specs.Option.{option_map}
-use Rattle.std.proofs.lemmas.Bool.{cases_eq, cases_lt, lt-ltb, ltb-true, ltb-false, eqb-true, eqb-false}
+use Rattle.std.proofs.lemmas.Bool.{cases_eq, cases_lt, lt-ltb, eqb-true, eqb-false}
 use Rattle.std.proofs.lemmas.List.{get_or-set_same, get_or-set_other, length-set, length-replicate}
 use Rattle.block_command.specs.declared.command.Command.{Command}
 use Rattle.block_command.specs.declared.command.Protocol.{Protocol}
 use Rattle.block_command.specs.declared.command.Protocol.TheVariants.{Queued, Dma, Pio, Verify}
 use Rattle.block_command.specs.declared.command.Stage.{Stage}
-use Rattle.block_command.specs.declared.command.Stage.TheVariants.{Waiting, Load, Loading, SetUpRead, Announce, Sending, SetUpWrite, Activate, Receiving, Store, Storing, Flush, End, Fail, Ended}
-use Rattle.block_command.specs.Moments.{Moment, opening, holds, is_set_up, is_queued, is_verify, turn_of, part_count, part_len, first_data_stage, data_stage, read_end, read_on, chunk}
+use Rattle.block_command.specs.declared.command.Stage.TheVariants.{Waiting, Load, Loading, SetUpRead, Announce, Sending, SetUpWrite, Activate, Receiving, Store, Storing, Flush, End}
+use Rattle.block_command.specs.Moments.{Moment, opening, is_set_up, is_queued, is_verify, turn_of, part_count, part_len, first_data_stage, data_stage, read_on}
 use Rattle.block_command.specs.Laws.{Input, Goes, Loads, Comes, Stores, Flushes, Fails, Happening, happening}
 use Rattle.block_command.specs.Laws as command
 use Rattle.block_command.proofs.Door.{same_command, at as moment}
-use Rattle.block_disk.specs.Table.{Table, at, has_wire, may_go_at, wants_wire, wire_with, freed, none_under_way, with_command}
-use Rattle.block_disk.specs.Laws.{Event, Takes, Does, Resets, IsEvent, IsAllowed, AreAllowed, after, Shown, At, Took, Refused, shown, shown_at, account}
+use Rattle.block_disk.specs.Table.{Table, at, has_wire, may_go_at, wants_wire, freed, none_under_way, with_command}
+use Rattle.block_disk.specs.Laws.{Event, Takes, Does, Resets, IsAllowed, AreAllowed, after, Shown, At, Took, Refused, shown, shown_at, account}
 use Rattle.block_disk.specs.Laws.{wire_after, IsWired, AreWired, DataAreNamed}
 use Rattle.block_disk.proofs.Ends.{each_is}
 
@@ -249,8 +249,8 @@ does_other d place m w i e held low is own came =
     (λ h t. held.named place (has h (is_low place _ own t))) (λ part same t. held.named place (came part same t)) in
     let was : has_wire (Some (command.after m i)) ≡ true → d.wire ≡ Some place =
     λ h. (let both = of_and _ _ h in
-      let q : is_queued m.command.protocol ≡ true = sym (same_protocol m i) ∙ both.0 in
-      has (had m.command m.done m.bytes m.sent m.stage i q e both.1) q) in
+    let q : is_queued m.command.protocol ≡ true = sym (same_protocol m i) ∙ both.0 in
+    has (had m.command m.done m.bytes m.sent m.stage i q e both.1) q) in
     (all.0, rw all.1 (placed d w place _ held low (same_protocol m i ∙ own) was))
 
 does : (d : Table) (place : ℕ) (x : Option Moment) (w : Option ℕ) (i : Input) (b : Bool)

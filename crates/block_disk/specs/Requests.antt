@@ -50,7 +50,7 @@ with_asked q place = record {
 -- the answer to the request that is out; any other is one to nothing
 abbrev pub with_answer : Queue → ℕ → ℕ → Input → Queue
 with_answer q place number i = if is_out q.out place number
-  then record q { table = with_input q.table place i; out = slice_set q.out place 0 } else q
+    then record q { table = with_input q.table place i; out = slice_set q.out place 0 } else q
 
 -- nothing is under way any more: an answer that is still to come is one to nothing
 abbrev pub queue_reset : Queue → Queue
@@ -135,7 +135,7 @@ abbrev pub entered_by : Books → Seen → Books
 entered_by b (OnLink s) = record { pages = entered_in b.pages s; out = out_after b.out s }
 entered_by b (Asked place number s) = record { pages = entered_in b.pages s; out = slice_set b.out place number }
 entered_by b (Answered place number h) = if is_out b.out place number
-  then record { pages = entered_in b.pages (At place h); out = slice_set b.out place 0 } else b
+    then record { pages = entered_in b.pages (At place h); out = slice_set b.out place 0 } else b
 
 abbrev pub IsSeenRightly : Books → Seen → Type 0
 IsSeenRightly b (OnLink s) = IsAllowedBy b.pages s
