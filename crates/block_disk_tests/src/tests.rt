@@ -1,0 +1,131 @@
+//! What no clause says: that commands end, each kind of them, through thousands of turns.
+
+ghost use Rattle.std.specs.Prelude.{◌<◌};
+ghost use Rattle.block_command.specs.Moments.{IsCommand};
+
+use block_command::{Command, Protocol, Turn};
+use block_disk::{
+    Requests, data_are_named, ends_are_earned, late_answers_count_for_nothing, numbers_are_fresh,
+};
+use std::alloc::{AllocError, Global};
+use std::process::Abort;
+
+/// A read of a whole part and one sector more, by queued DMA.
+const READ: Command = Command {
+    place: 5,
+    lba: 100,
+    count: 2049,
+    write: false,
+    lasting: false,
+    protocol: Protocol::Queued,
+    block: 8192,
+};
+
+/// What is next for the command of a place.
+struct Next {
+    turn: Turn,
+    /// The bytes of its next Data FIS, in whichever direction.
+    len: usize,
+    /// The bytes of its load.
+    part: usize,
+}
+
+fn next(requests: &Requests, place: u8) -> Option<Next>
+    requires { place < 33 }
+{
+    let command = requests.get(place)?;
+    let part = command.part_count() as usize * 512;
+    let left = part.saturating_sub(command.bytes().len());
+    let turn = command.turn();
+    let len = match turn {
+        Turn::Data => command.part().len(),
+        _ => left.min(command.command().block as usize),
+    };
+    Some(Next { turn, len, part })
+}
+
+fn zeros(alloc: Global, len: usize) -> Result<Vec<u8>, AllocError> {
+    let mut bytes = Vec::new(alloc);
+    bytes.resize(len, 0)?;
+    Ok(bytes)
+}
+
+/// Does what is next for the command of a place; the caller answers at once, and the host sends what is asked for. So many
+/// bytes of Data went or came.
+fn go(rt: &impl Abort, alloc: Global, requests: &mut Requests, place: u8) -> usize
+    requires { place < 33 }
+{
+    let Some(next) = next(requests, place) else {
+        panic!(rt; "no command");
+    };
+    if !requests.may_go(place) {
+        panic!(rt; "it waits");
+    }
+    match next.turn {
+        Turn::Start => requests.start(place).expect(rt, "memory"),
+        Turn::Load => {
+            let number = requests.ask(place).expect(rt, "a number");
+            requests.loaded(place, number, zeros(alloc, next.part).expect(rt, "memory"));
+        }
+        Turn::Store => {
+            let number = requests.ask(place).expect(rt, "a number");
+            requests.stored(place, number);
+        }
+        Turn::Flush => {
+            let number = requests.ask(place).expect(rt, "a number");
+            requests.flushed(place, number);
+        }
+        Turn::Data => {
+            requests.send(place);
+            return next.len;
+        }
+        Turn::Activate => {
+            requests.send(place);
+            let bytes = zeros(alloc, next.len).expect(rt, "memory");
+            requests.came(place, &bytes).expect(rt, "memory");
+            return next.len;
+        }
+        Turn::Nothing => panic!(rt; "it waits for nothing"),
+        Turn::SetUp | Turn::Announce | Turn::End | Turn::Fail => requests.send(place),
+    }
+    0
+}
+
+/// The bytes that a command moves until its place is free.
+fn moved(rt: &impl Abort, alloc: Global, command: Command) -> usize
+    requires is { IsCommand command }
+    requires place { command.place < 33 }
+{
+    let mut requests = Requests::new(alloc).expect(rt, "memory");
+    let mut bytes = 0usize;
+    requests.take(alloc, command);
+    for _ in 0..20_000u32 {
+        if !requests.is_taken(command.place) {
+            return bytes;
+        }
+        bytes = bytes.saturating_add(go(rt, alloc, &mut requests, command.place));
+    }
+    panic!(rt; "it does not end");
+}
+
+#[test]
+fn each_kind_ends(rt: HostRuntime) {
+    let alloc = rt.alloc();
+    let all = 2049 * 512;
+    assert!(rt; moved(&rt, alloc, READ) == all);
+    assert!(rt; moved(&rt, alloc, Command { write: true, lasting: true, ..READ }) == all);
+    assert!(rt; moved(&rt, alloc, Command { place: 32, protocol: Protocol::Dma, ..READ }) == all);
+    assert!(rt; moved(&rt, alloc, Command { place: 32, protocol: Protocol::Verify, ..READ }) == 0);
+    let pio = Command { place: 32, protocol: Protocol::Pio, block: 512, ..READ };
+    assert!(rt; moved(&rt, alloc, pio) == all);
+    assert!(rt; moved(&rt, alloc, Command { write: true, ..pio }) == all);
+}
+
+#[test]
+fn laws_hold(_rt: HostRuntime) {
+    ends_are_earned();
+    data_are_named();
+    late_answers_count_for_nothing();
+    numbers_are_fresh();
+    block_command::ends_are_earned();
+}
