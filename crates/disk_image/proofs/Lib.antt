@@ -1,2 +1,1 @@
 pub mod SectorLemmas
-pub mod LoadLemmas

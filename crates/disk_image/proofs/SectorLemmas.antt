@@ -9,7 +9,7 @@ use Rattle.disk_model.specs.Chunks.{put, sectors_at}
 use Rattle.disk_image.specs.Failures.{FailsAt, SaveLeaves}
 use Rattle.disk_image.specs.declared.image.ImageError.{ImageError}
 use Rattle.disk_image.specs.declared.image.ImageError.TheVariants as image
-use Rattle.disk_image.specs.Media.{AreSaved, IsDue, IsPart, KeepsBut, IsWrittenAt, is_unread}
+use Rattle.disk_image.specs.Media.{AreSaved, HasBut, IsDue, IsPart, IsReadBut, KeepsBut, IsWrittenAt, is_unread}
 
 -- as many as before
 put_long : (xs ys : List ℕ) (at : ℕ) → at + length ys ≤ length xs → length (put xs at ys) ≡ length xs
@@ -173,7 +173,6 @@ leaves u m from k to old mid new (image.Medium at error) is (here, kept) =
     subst (λ (i : ℕ). IsPart i u from to m old new) (sym here) (leaves_at u m from (min k to) to k old mid new (grind (arith, nat_tests)) is kept)
 leaves u m from k to old mid new image.OtherSize is none = absurd none
 leaves u m from k to old mid new image.TooManyUnread is none = absurd none
-leaves u m from k to old mid new image.NotTaken is none = absurd none
 leaves u m from k to old mid new image.OutOfMemory is none = absurd none
 
 keeps_same : (k : ℕ) (old : Option (List ℕ)) → KeepsBut k (k + 1) old old
@@ -185,3 +184,23 @@ pub leaves_unflushed : (u m : List ℕ) (from k to : ℕ) (old mid new : Option 
     → IsPart from u from to m old new
 leaves_unflushed u m from k to old mid new is same =
     leaves_at u m from (min k to) to from old mid new (grind (arith, nat_tests)) is (subst (KeepsBut from (from + 1) mid) (sym same) (keeps_same from mid))
+
+-- ## What was read
+
+-- a sector that was read, or could not be, is put behind those that were read before
+pub reads_more : (u old s : List ℕ) (k : ℕ) (known : Option (List ℕ)) → length s ≡ 512 → 512 * k + 512 ≤ length old
+    → IsReadBut u k s known → HasBut u k old known → HasBut u (k + 1) (put old (512 * k) s) known
+reads_more u old s k None long fits read before = tt
+reads_more u old s k (Some all) long fits read before = λ j less known. elim (before_or j k (nat_lt j k) refl) [
+  | inl low ↦
+      let same : sectors_at (put old (512 * k) s) j 1 ≡ sectors_at old j 1 = put_before old s j k low fits in
+      before j low (subst (λ (x : List ℕ). is_unread u j x ≡ false) same known) ∙ sym same
+  | inr high ↦
+      let here : k ≡ j = omega (arith, less, high) in
+      let same : sectors_at (put old (512 * k) s) k 1 ≡ s = put_here old s k long fits in
+      subst (λ (i : ℕ). is_unread u i (sectors_at (put old (512 * k) s) i 1) ≡ false → sectors_at all i 1 ≡ sectors_at (put old (512 * k) s) i 1) here
+      (λ fresh. elim read [
+        | inl blank ↦ absurd (cc (blank, ap (is_unread u k) (sym same) ∙ fresh))
+        | inr at ↦ sym at.0 ∙ sym same
+      ]) known
+]

@@ -1,16 +1,19 @@
--- What happens to a disk while it gets its sectors: it takes and sends FISes, and nothing else.
-use Rattle.std.specs.Prelude.{◌≡◌, List, [], ◌∷◌, ◌++◌}
-use Rattle.disk_model.specs.Histories.{Happening, Plan, Received, Sent, Plugged}
+-- A disk that gets its sectors is a new one: it stands for the history in which it was given them, and nothing else.
+use Rattle.std.specs.Prelude.{ℕ, ◌≡◌, List, [], ◌∷◌}
+use Rattle.disk_model.specs.Disks.{DiskValue, new_with, with_now}
+use Rattle.disk_model.specs.Histories.{Loaded}
+use Rattle.disk_model.specs.Runs.{DiskStandsFor}
+use Rattle.failing_disk.specs.Faces.{FailingStandsFor, FailingValue}
+use Rattle.stock_disk.specs.Faces.{IsRenewed, StockStandsFor, StockValue}
 
--- FISes that came and went; the disk was not plugged in
-unfoldable pub AreFises : List Happening → Type 0
-AreFises [] = Unit {0}
-AreFises (Received bytes ∷ later) = AreFises later
-AreFises (Sent bytes ∷ later) = AreFises later
-AreFises (Plugged ∷ later) = ⊥
+pub record DiskRenewed (old : DiskValue) (medium : List ℕ) (new : DiskValue) : Type 0 where
+  pub is : new ≡ with_now old (new_with medium)
+  pub stands : DiskStandsFor new (Loaded medium ∷ [])
 
--- The plan stays. For each history that the old state may stand for, the new one may stand for it with some FISes behind it.
-pub record Grows {S : Type 0} (plan_of : S → Plan) (StandsFor : S → List Happening → Type 0) (old new : S) : Type 0 where
-  pub plan : plan_of new ≡ plan_of old
-  pub grows : (history : List Happening) → StandsFor old history
-      → (more : List Happening) × AreFises more × StandsFor new (history ++ more)
+pub record StockRenewed (old : StockValue) (medium : List ℕ) (new : StockValue) : Type 0 where
+  pub is : IsRenewed old medium new
+  pub stands : StockStandsFor new (Loaded medium ∷ [])
+
+pub record FailingRenewed (old : FailingValue) (medium : List ℕ) (new : FailingValue) : Type 0 where
+  pub is : IsRenewed old.disk medium new.disk
+  pub stands : FailingStandsFor new (Loaded medium ∷ [])

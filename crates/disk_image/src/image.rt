@@ -1,16 +1,13 @@
 //! Sectors go from a medium to a disk, and back.
 
-ghost use Rattle.std.specs.Prelude.{◌≡◌, ◌≢◌, ◌==◌, ◌+◌, ◌*◌, ◌<◌, ◌≤◌, min, true, All, AllPairs, Err, IfErr, IfOk, IfSome, MatchOption, OnOk, length};
+ghost use Rattle.std.specs.Prelude.{◌≡◌, ◌≢◌, ◌==◌, ◌+◌, ◌*◌, ◌<◌, ◌≤◌, min, true, All, AllPairs, Err, IfErr, IfOk, IfSome, MatchOption, OnErr, OnOk, length};
 ghost use Rattle.disk_image.specs.Failures.{FailsAt, FailsByMedium, IsTooMany, SaveLeaves};
-ghost use Rattle.disk_image.specs.Loads.{Grows};
 ghost use Rattle.disk_image.specs.Media.{AreSaved, HasBut, HasOtherSize, IsReadAt, IsReadBut, is_among, is_blank, is_unread};
-ghost use Rattle.disk_model.specs.Chunks.{sectors_at};
 
 use crate::medium::{Medium, MediumError};
+use crate::memory::{put_at, start_of};
 use crate::sectors::Sectors;
 use arrayvec::ArrayVec;
-use disk_model::Device;
-use fis_view::{Frame, H2dFields, Stamp, h2d, payload};
 use std::alloc::{AllocError, Global};
 use std::ops::Range;
 use thiserror::Error;
@@ -27,9 +24,6 @@ pub enum ImageError {
     /// More sectors of the medium cannot be read than a disk can have bad ones.
     #[error("more than 16 sectors cannot be read")]
     TooManyUnread,
-    /// The disk does not take sectors: it was plugged in or given commands before.
-    #[error("the disk does not take the sectors")]
-    NotTaken,
     /// An allocation was refused.
     #[error("out of memory")]
     OutOfMemory,
@@ -44,74 +38,6 @@ impl From<AllocError> for ImageError {
     fn from(_: AllocError) -> ImageError {
         ImageError::OutOfMemory
     }
-}
-
-/// The stamp of what a disk takes and sends while it is loaded. Nobody sees it.
-const STAMP: Stamp = Stamp {
-    port: 0,
-    conn: 0,
-    number: 0,
-    shown: [0; 15],
-};
-
-/// The most FISes that a disk sends for a FIS of a write.
-const MOST_ANSWERS: u8 = 16;
-
-/// WRITE FPDMA QUEUED of one sector, with tag 0 (ACS-3, 7.63).
-fn write_of(lba: u32) -> H2dFields {
-    H2dFields {
-        pm_port: 0,
-        c: true,
-        command: 0x61,
-        features: 1,
-        lba: u64::from(lba),
-        device: 0x40,
-        count: 0,
-        icc: 0,
-        control: 0,
-    }
-}
-
-/// What a disk sends next is heard by nobody. Says whether it sent something.
-fn drop_next<D: Device>(alloc: Global, disk: &mut D) -> Result<bool, AllocError>
-    ensures { Grows D.plan_of D.stands_for disk.old disk.new }
-{
-    match disk.next_out(alloc, STAMP)? {
-        Some(_) => Ok(true),
-        None => Ok(false),
-    }
-}
-
-/// What a disk sends is heard by nobody.
-fn drain<D: Device>(alloc: Global, disk: &mut D) -> Result<(), AllocError>
-    ensures { Grows D.plan_of D.stands_for disk.old disk.new }
-{
-    for _ in 0..MOST_ANSWERS {
-        if !drop_next(alloc, disk)? {
-            break;
-        }
-    }
-    Ok(())
-}
-
-/// A disk takes a FIS, and what it sends is heard by nobody.
-fn give<D: Device>(alloc: Global, disk: &mut D, frame: &Frame) -> Result<(), AllocError>
-    ensures { Grows D.plan_of D.stands_for disk.old disk.new }
-{
-    disk.on_frame(alloc, frame)?;
-    drain(alloc, disk)
-}
-
-/// A disk takes a sector, as from a host.
-fn store<D: Device>(alloc: Global, disk: &mut D, lba: u32, bytes: &[u8]) -> Result<(), AllocError>
-    ensures { Grows D.plan_of D.stands_for disk.old disk.new }
-{
-    give(alloc, disk, &h2d(alloc, &write_of(lba), STAMP)?)?;
-    // A sector is a payload, so nothing but memory is refused.
-    let Ok(data) = payload(alloc, 0, bytes, STAMP) else {
-        return Err(AllocError);
-    };
-    give(alloc, disk, &data)
 }
 
 /// Whether a disk has just so many sectors.
@@ -187,41 +113,44 @@ fn is_unread(unread: &[u32], lba: u32, bytes: &[u8]) -> bool
     is_among(unread, lba) && is_blank(bytes)
 }
 
-/// A disk takes a sector of a medium, or zeros if it could not be read.
-fn store_one<D: Device, M: Medium>(
-    alloc: Global,
-    disk: &mut D,
+/// Reads a sector of a medium, and leaves the room as it is if the sector could not be read and the room is blank.
+fn read_sector<M: Medium>(
     medium: &mut M,
     lba: u32,
     unread: &[u32],
+    room: &mut [u8],
 ) -> Result<(), ImageError>
-    ensures disk { Grows D.plan_of D.stands_for disk.old disk.new }
+    requires { length room.old ≡ 512 }
+    ensures long { length room.new ≡ length room.old }
+    ensures read { OnOk result (IsReadBut unread.now lba room.new (M.contents_of medium.old)) }
     ensures contents { M.contents_of medium.new ≡ M.contents_of medium.old }
-    ensures other { result ≢ Err ImageError.OtherSize }
+    ensures other { IfErr result FailsByMedium }
 {
-    let mut room = [0; 512];
-    if !is_among(unread, lba) {
-        read_at(medium, lba, &mut room)?;
+    if is_unread(unread, lba, room) {
+        return Ok(());
     }
-    Ok(store(alloc, disk, lba, &room)?)
+    read_at(medium, lba, room)
 }
 
-/// A disk takes the sectors of a medium below a number.
-fn store_all<D: Device, M: Medium>(
+/// The sectors of a medium below a number, with zeros for those that could not be read.
+fn read_all<M: Medium>(
     alloc: Global,
-    disk: &mut D,
     medium: &mut M,
     count: u32,
     unread: &[u32],
-) -> Result<(), ImageError>
-    ensures disk { Grows D.plan_of D.stands_for disk.old disk.new }
+) -> Result<Vec<u8>, ImageError>
+    ensures long { IfOk result (λ bytes. length bytes.items ≡ 512 * count) }
+    ensures same { IfOk result (λ bytes. HasBut unread.now count bytes.items (M.contents_of medium.old)) }
     ensures contents { M.contents_of medium.new ≡ M.contents_of medium.old }
-    ensures other { result ≢ Err ImageError.OtherSize }
+    ensures other { IfErr result (λ e. e ≢ ImageError.OtherSize) }
 {
+    let mut bytes = vec![in alloc; 0; 512 * count as usize]?;
     for lba in 0..count {
-        store_one(alloc, disk, medium, lba, unread)?;
+        let mut room = [0; 512];
+        read_sector(medium, lba, unread, &mut room)?;
+        put_at(&mut bytes, start_of(lba), &room);
     }
-    Ok(())
+    Ok(bytes)
 }
 
 /// Whether a medium has these bytes as a sector, and they can be read.
@@ -233,54 +162,9 @@ fn is_at<M: Medium>(medium: &mut M, lba: u32, bytes: &[u8]) -> bool
     medium.read(lba, &mut room).is_ok() && room.as_slice() == bytes
 }
 
-/// A sector of a disk is that of its medium, or could not be read there.
-fn check_one<D: Sectors, M: Medium>(
-    disk: &D,
-    medium: &mut M,
-    lba: u32,
-    unread: &[u32],
-) -> Result<(), ImageError>
-    ensures contents { M.contents_of medium.new ≡ M.contents_of medium.old }
-    ensures same { OnOk result (IsReadBut unread.now lba (sectors_at (D.medium_of disk.now) lba 1)
-        (M.contents_of medium.old)) }
-    ensures other { result ≢ Err ImageError.OtherSize }
-{
-    let Some(bytes) = disk.sector(lba) else {
-        return Err(ImageError::NotTaken);
-    };
-    if is_unread(unread, lba, bytes) {
-        return Ok(());
-    }
-    let mut room = [0; 512];
-    read_at(medium, lba, &mut room)?;
-    if room.as_slice() == bytes {
-        Ok(())
-    } else {
-        Err(ImageError::NotTaken)
-    }
-}
-
-/// The sectors of a disk below a number are those of its medium, but for those that could not be read.
-fn check_all<D: Sectors, M: Medium>(
-    disk: &D,
-    medium: &mut M,
-    count: u32,
-    unread: &[u32],
-) -> Result<(), ImageError>
-    ensures contents { M.contents_of medium.new ≡ M.contents_of medium.old }
-    ensures same { OnOk result (HasBut unread.now count (D.medium_of disk.now) (M.contents_of medium.old)) }
-    ensures other { result ≢ Err ImageError.OtherSize }
-{
-    for lba in 0..count {
-        check_one(disk, medium, lba, unread)?;
-    }
-    Ok(())
-}
-
-/// Gives a new disk, which was not plugged in yet, the sectors of a medium, and zeros in place of those that could not be
-/// read. The disk takes them by commands, one for each sector, before any host sees it, and is then what a disk is after
-/// them: plug it in. It is compared with the medium at the end.
-pub fn load<D: Device + Sectors, M: Medium>(
+/// A disk gets the sectors of a medium, and zeros in place of those that could not be read. It is a new disk with them,
+/// whatever it was: plug it in. After an error it is as it was.
+pub fn load<D: Sectors, M: Medium>(
     alloc: Global,
     disk: &mut D,
     medium: &mut M,
@@ -288,7 +172,8 @@ pub fn load<D: Device + Sectors, M: Medium>(
 ) -> Result<(), ImageError>
     ensures same { OnOk result
         (HasBut unread.now (D.count_of disk.new) (D.medium_of disk.new) (M.contents_of medium.old)) }
-    ensures disk { Grows D.plan_of D.stands_for disk.old disk.new }
+    ensures new { OnOk result (D.renewed disk.old (D.medium_of disk.new) disk.new) }
+    ensures err { OnErr result (disk.new ≡ disk.old) }
     ensures contents { M.contents_of medium.new ≡ M.contents_of medium.old }
     ensures other_size { result ≡ Err ImageError.OtherSize
         → HasOtherSize (D.count_of disk.old) (M.contents_of medium.old) }
@@ -296,11 +181,11 @@ pub fn load<D: Device + Sectors, M: Medium>(
     let Some(count) = common_count(disk, medium) else {
         return Err(ImageError::OtherSize);
     };
-    store_all(alloc, disk, medium, count, unread)?;
-    if !has_size(disk, count) {
-        return Err(ImageError::NotTaken);
+    let sectors = read_all(alloc, medium, count, unread)?;
+    match disk.renew(sectors) {
+        Ok(()) => Ok(()),
+        Err(_) => unreachable!(),
     }
-    check_all(disk, medium, count, unread)
 }
 
 /// A sector of a disk goes to its medium, if it stands otherwise there. One that could not be read stays as it is there,

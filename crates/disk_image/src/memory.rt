@@ -24,13 +24,13 @@ impl Model for MemoryMedium {
 }
 
 /// The bytes of a sector begin here in those of all.
-fn start_of(lba: u32) -> usize
+pub(crate) fn start_of(lba: u32) -> usize
     ensures { result ≡ 512 * lba }
 {
     lba as usize * 512
 }
 
-fn put_at(bytes: &mut Vec<u8>, at: usize, part: &[u8])
+pub(crate) fn put_at(bytes: &mut Vec<u8>, at: usize, part: &[u8])
     requires { at + length part.now ≤ length bytes.old.items }
     ensures { bytes.new.items ≡ put bytes.old.items at part.now }
 {

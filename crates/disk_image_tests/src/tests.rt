@@ -3,7 +3,7 @@
 use disk_image::{
     ImageError, Medium, MediumError, MemoryMedium, Sectors, load, save, save_range, unread_of,
 };
-use disk_model::{Device, Disk, DiskPlan, Order, Profile};
+use disk_model::{Device, Disk, DiskError, DiskPlan, Order, Profile};
 use fis_view::{H2dFields, Stamp, h2d, payload};
 use std::alloc::Global;
 use std::test::Fail;
@@ -101,6 +101,22 @@ fn a_disk_gets_sectors(rt: HostRuntime) -> Result<(), Fail> {
 }
 
 #[test]
+fn a_disk_opens_with_sectors(rt: HostRuntime) -> Result<(), Fail> {
+    let alloc = rt.alloc();
+    let medium = medium(alloc, 8192)?;
+    let mut bytes = Vec::new(alloc);
+    bytes.extend_from_slice(medium.bytes())?;
+    let disk = Disk::with_sectors(alloc, bytes, other_plan())?;
+    assert!(rt; has_sectors(&disk, &medium, 16));
+    for len in [0, 8191] {
+        let part = vec![in alloc; 7; len]?;
+        let refused = Disk::with_sectors(alloc, part, other_plan());
+        assert!(rt; matches!(refused, Err(DiskError::BadSize)));
+    }
+    Ok(())
+}
+
+#[test]
 fn a_medium_gets_what_changed(rt: HostRuntime) -> Result<(), Fail> {
     let alloc = rt.alloc();
     let mut medium = medium(alloc, 8192)?;
@@ -132,7 +148,7 @@ fn other_sizes_are_refused(rt: HostRuntime) -> Result<(), Fail> {
 }
 
 #[test]
-fn a_disk_in_reset_takes_none(rt: HostRuntime) -> Result<(), Fail> {
+fn a_disk_in_reset_is_new(rt: HostRuntime) -> Result<(), Fail> {
     let alloc = rt.alloc();
     let mut medium = medium(alloc, 8192)?;
     let mut disk = Disk::new(alloc, 16, DiskPlan::plain())?;
@@ -142,10 +158,9 @@ fn a_disk_in_reset_takes_none(rt: HostRuntime) -> Result<(), Fail> {
         ..command(0, 0)
     };
     disk.on_frame(alloc, &h2d(alloc, &reset, STAMP)?)?;
-    assert_eq!(rt;
-        load(alloc, &mut disk, &mut medium, &[]),
-        Err(ImageError::NotTaken)
-    );
+    assert!(rt; !disk.is_at_rest());
+    assert_eq!(rt; load(alloc, &mut disk, &mut medium, &[]), Ok(()));
+    assert!(rt; disk.is_at_rest() && has_sectors(&disk, &medium, 16));
     Ok(())
 }
 

@@ -1,6 +1,7 @@
 -- The lemmas of this crate that proofs of other crates use. What else stands under proofs/ may change at any time, and is
 -- not seen from outside.
-pub use Rattle.disk_model.proofs.turns.MomentLemmas.{disk_sends, moment_after-append}
+pub use Rattle.disk_model.proofs.turns.MomentLemmas.{disk_sends}
+pub use Rattle.disk_model.proofs.turns.RestLemmas.{Rests, at_rest, stands_loaded}
 pub use Rattle.disk_model.proofs.turns.SendLemmas.{sends_left_next}
 pub use Rattle.disk_model.proofs.agreement.ShowsLemmas.{write_of_auto}
 pub use Rattle.disk_model.proofs.agreement.PlaceLemmas.{length-put}

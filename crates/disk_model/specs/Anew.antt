@@ -12,7 +12,7 @@ use Rattle.disk_model.specs.declared.plan.DiskPlan.{DiskPlan}
 use Rattle.disk_model.specs.declared.request.Request.{Request}
 use Rattle.disk_model.specs.declared.request.Request.TheVariants as asked
 use Rattle.disk_model.specs.Ends.{EndsAgree, FitsAll, IsLinked, Rests, reports}
-use Rattle.disk_model.specs.Histories.{Happening, Received, Sent, Plugged}
+use Rattle.disk_model.specs.Histories.{Happening, Received, Sent, Plugged, Loaded}
 use Rattle.disk_model.specs.Requests.{request_of}
 use Rattle.disk_model.specs.Runs.{IsDiskRun}
 use Rattle.disk_model.specs.Ledger.{IsSize, Ledger, LogOf, Reply, ShowsPage, Signs, Wanted, Written}
@@ -58,6 +58,7 @@ AreUnheard [] = Unit {0}
 AreUnheard (Received bytes ∷ later) = IsUnheard (seen bytes) × AreUnheard later
 AreUnheard (Sent bytes ∷ later) = ⊥
 AreUnheard (Plugged ∷ later) = ⊥
+AreUnheard (Loaded bytes ∷ later) = ⊥
 
 -- Where both ends may begin anew, whatever happened before, and what the disk then owes.
 pub record BeginsAnew : Type 0 where

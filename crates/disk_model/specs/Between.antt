@@ -25,7 +25,7 @@ use Rattle.disk_model.specs.Chunks.{asks_for, chunk_count, chunk_from, chunk_set
 use Rattle.disk_model.specs.Chunks.{sectors_at, sends_left}
 use Rattle.disk_model.specs.Disks.{Moment, Started, Turn, Writing, begun, is_held, picked, starts}
 use Rattle.disk_model.specs.Ends.{AreRight, Fits, IsFree, MovesOther, has, with_down, with_up}
-use Rattle.disk_model.specs.Histories.{Happening, Plugged, Received, Sent}
+use Rattle.disk_model.specs.Histories.{Happening, Plugged, Loaded, Received, Sent}
 use Rattle.disk_model.specs.Laws.{Fails, bytes_named}
 use Rattle.disk_model.specs.Ledger.{Accepts, Failure, Finishes, IdentifyData, IsRead, Ledger, LogOf, Moving, Refuses, Reply}
 use Rattle.disk_model.specs.Ledger.{ShowsPage, Signs, Stretch, Wanted, awaits, awaits_page, ends, ledger, listens}
@@ -354,6 +354,7 @@ abbrev pub FitsOne : Ledger → Happening → Type 0
 FitsOne l (Received bytes) = Fits l (seen bytes)
 FitsOne l (Sent bytes) = Unit {0}
 FitsOne l Plugged = Unit {0}
+FitsOne l (Loaded bytes) = ⊥
 
 -- the ledgers of both ends of a link are one, but for the FISes on their way
 pub record Ties (disk host : List Happening) (down up : List (List ℕ)) : Type 0 where

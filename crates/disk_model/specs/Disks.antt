@@ -23,7 +23,7 @@ use Rattle.disk_model.specs.declared.answer.Fault.TheVariants.{Held, Mixed}
 use Rattle.disk_model.specs.declared.plan.DiskPlan.{DiskPlan}
 use Rattle.disk_model.specs.declared.plan.Order.{Order}
 use Rattle.disk_model.specs.declared.plan.Order.TheVariants.{Oldest, Newest}
-use Rattle.disk_model.specs.Histories.{Happening, Received, Sent, Plugged}
+use Rattle.disk_model.specs.Histories.{Happening, Received, Sent, Plugged, Loaded}
 use Rattle.disk_model.specs.Requests.{request_of}
 use Rattle.disk_model.specs.Sendings.{Sending, answer_sent}
 use Rattle.disk_model.specs.Chunks.{chunks, chunk_from, chunk_count, sends_left, asks_for, put, fault_of}
@@ -236,6 +236,7 @@ abbrev pub after : DiskPlan → ℕ → Moment → Happening → Moment
 after plan sectors m (Received bytes) = heard plan m (seen bytes)
 after plan sectors m (Sent bytes) = after_turn m (turn plan sectors m)
 after plan sectors m Plugged = owes (cleared m) Signature
+after plan sectors m (Loaded bytes) = record m { medium = bytes }
 
 unfoldable pub moment_after : DiskPlan → ℕ → Moment → List Happening → Moment
 moment_after plan sectors m [] = m
@@ -248,9 +249,10 @@ opening_byte at = (at / 512 + at % 512) % 256
 abbrev pub opening_medium : ℕ → List ℕ
 opening_medium sectors = map opening_byte (range_with_len 0 (512 * sectors))
 
-abbrev pub opening : ℕ → Moment
-opening sectors = record {
-  medium = opening_medium sectors;
+-- a new disk with this medium
+abbrev pub new_with : List ℕ → Moment
+new_with medium = record {
+  medium = medium;
   queued = [];
   fault = None;
   resetting = false;
@@ -258,3 +260,6 @@ opening sectors = record {
   started = None;
   writing = None;
 }
+
+abbrev pub opening : ℕ → Moment
+opening sectors = new_with (opening_medium sectors)

@@ -11,7 +11,7 @@ use Rattle.fis_view.specs.declared.view.FisFault.{FisFault}
 use Rattle.disk_model.specs.declared.plan.DiskPlan.{DiskPlan}
 use Rattle.disk_model.specs.declared.request.Request.{Request}
 use Rattle.disk_model.specs.declared.request.Request.TheVariants.{Reset, Queue}
-use Rattle.disk_model.specs.Histories.{Happening, Received, Sent, Plugged}
+use Rattle.disk_model.specs.Histories.{Happening, Received, Sent, Plugged, Loaded}
 use Rattle.disk_model.specs.Requests.{request_of}
 use Rattle.disk_model.specs.Runs.{IsDiskRun}
 use Rattle.disk_model.specs.Ledger.{AnswersOne, IsRead, IsSize, Ledger, Moving, Written, empty, has_error}
@@ -98,6 +98,7 @@ FitsAll l [] = Unit {0}
 FitsAll l (Received bytes ∷ later) = Fits l (seen bytes) × FitsAll (listens l (Received bytes)) later
 FitsAll l (Sent bytes ∷ later) = FitsAll (listens l (Sent bytes)) later
 FitsAll l (Plugged ∷ later) = FitsAll (listens l Plugged) later
+FitsAll l (Loaded bytes ∷ later) = ⊥
 
 -- the host at this end is careful: each FIS that it gives fits
 abbrev pub IsCareful : List Happening → Type 0

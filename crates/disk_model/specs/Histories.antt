@@ -14,6 +14,8 @@ pub data Happening : Type 0 where
   Sent : List ℕ → Happening
   -- the device was plugged in
   Plugged : Happening
+  -- the device was new, and its sectors are these bytes since
+  Loaded : List ℕ → Happening
 
 -- the FISes that were sent, in order
 abbrev pub sent_in : List Happening → List (List ℕ)
@@ -21,6 +23,7 @@ sent_in [] = []
 sent_in (Received bytes ∷ later) = sent_in later
 sent_in (Sent bytes ∷ later) = bytes ∷ sent_in later
 sent_in (Plugged ∷ later) = sent_in later
+sent_in (Loaded bytes ∷ later) = sent_in later
 
 -- what a device was made with
 pub data Plan : Type 0 where

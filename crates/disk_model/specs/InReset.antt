@@ -9,7 +9,7 @@ use Rattle.disk_model.specs.declared.plan.DiskPlan.{DiskPlan}
 use Rattle.disk_model.specs.declared.request.Request.{Request}
 use Rattle.disk_model.specs.declared.request.Request.TheVariants as asked
 use Rattle.disk_model.specs.Anew.{IsRequest, OwesOnly}
-use Rattle.disk_model.specs.Histories.{Happening, Received, Sent, Plugged, sent_in}
+use Rattle.disk_model.specs.Histories.{Happening, Received, Sent, Plugged, Loaded, sent_in}
 use Rattle.disk_model.specs.Ledger.{Signs, ledger}
 use Rattle.disk_model.specs.Requests.{request_of}
 use Rattle.disk_model.specs.Runs.{IsDiskRun, moment}
@@ -35,6 +35,7 @@ NoneEndsReset [] = Unit {0}
 NoneEndsReset (Received bytes ∷ later) = LeavesReset (seen bytes) × NoneEndsReset later
 NoneEndsReset (Sent bytes ∷ later) = NoneEndsReset later
 NoneEndsReset (Plugged ∷ later) = ⊥
+NoneEndsReset (Loaded bytes ∷ later) = ⊥
 
 -- a run of a disk in which SRST is set and stays set
 pub record IsHeldRun (plan : DiskPlan) (sectors : ℕ) (before : List Happening) (on : List ℕ)

@@ -18,7 +18,7 @@ use Rattle.disk_model.specs.declared.request.Command.{Command}
 use Rattle.disk_model.specs.declared.request.Request.{Request}
 use Rattle.disk_model.specs.declared.request.Request.TheVariants.{Reset, Queue, ReadErrorLog, Identify, Flush}
 use Rattle.disk_model.specs.declared.request.Request.TheVariants.{Other}
-use Rattle.disk_model.specs.Histories.{Happening, Received, Sent, Plugged}
+use Rattle.disk_model.specs.Histories.{Happening, Received, Sent, Plugged, Loaded}
 use Rattle.disk_model.specs.Requests.{request_of}
 use Rattle.disk_model.specs.Chunks.{put, sectors_at}
 use Rattle.disk_model.specs.Disks.{opening_medium}
@@ -295,10 +295,15 @@ listens_up l (Ok (view.RegD2H f)) = answered l
 listens_up l (Ok (view.PioSetup f)) = answered l
 listens_up l _ = l
 
+-- All sectors of a new disk at once. It counts as a write with a tag that no command has.
+abbrev pub loaded : List ℕ → Written
+loaded bytes = record { tag = 32; at = 0; bytes = bytes }
+
 abbrev pub listens : Ledger → Happening → Ledger
 listens l (Received bytes) = listens_down l (seen bytes)
 listens l (Sent bytes) = listens_up l (seen bytes)
 listens l Plugged = awaits (given_up l false) Signs
+listens l (Loaded bytes) = record l { writes = l.writes ++ loaded bytes ∷ [] }
 
 unfoldable pub ledger_after : Ledger → List Happening → Ledger
 ledger_after l [] = l

@@ -1,12 +1,12 @@
 -- The runs of a disk: what its plan and a history allow it to send (Serial ATA 3.x, 13.6, native command
 -- queuing).
-use Rattle.std.specs.Prelude.{ℕ, ◌≡◌, ◌%◌, ◌==◌, ◌&&◌, Bool, nat_le, List, [], ◌∷◌, Some, None}
+use Rattle.std.specs.Prelude.{ℕ, ◌≡◌, ◌*◌, ◌/◌, ◌%◌, ◌==◌, ◌&&◌, Bool, nat_le, length, List, [], ◌∷◌, Some, None}
 use Rattle.disk_model.specs.declared.plan.DiskPlan.{DiskPlan}
 use Rattle.disk_model.specs.declared.plan.Profile.{Profile}
 use Rattle.disk_model.specs.declared.plan.Profile.TheVariants.{Bare, Stock}
-use Rattle.disk_model.specs.Histories.{Happening, Received, Sent, Plugged, Plan, Script, DiskOf}
+use Rattle.disk_model.specs.Histories.{Happening, Received, Sent, Plugged, Loaded, Plan, Script, DiskOf}
 use Rattle.disk_model.specs.Sendings.{Shows}
-use Rattle.disk_model.specs.Disks.{Moment, DiskValue, Turn, turn, after, opening, moment_after}
+use Rattle.disk_model.specs.Disks.{Moment, DiskValue, Turn, turn, after, new_with, opening, moment_after}
 
 -- the most sectors that a disk can have: the number of those of a stock disk fits into 28 bits, as words 60 and 61
 -- of IDENTIFY DEVICE and the LBA of READ DMA say it (ACS-3)
@@ -19,6 +19,16 @@ abbrev pub is_size : Profile → (sectors chunk : ℕ) → Bool
 is_size profile sectors chunk = nat_le 1 sectors && nat_le sectors (most_sectors profile) && nat_le 512 chunk
     && nat_le chunk 8192 && chunk % 512 == 0
 
+-- so many bytes are sectors that a disk of this plan can have
+abbrev pub are_sectors : DiskPlan → ℕ → Bool
+are_sectors plan len = (len % 512 == 0) && is_size plan.profile (len / 512) plan.chunk
+
+-- a new disk with these sectors
+pub record IsLoaded (plan : DiskPlan) (medium : List ℕ) (d : DiskValue) : Type 0 where
+  pub plan_is : d.plan ≡ plan
+  pub sectors : length medium ≡ 512 * d.sectors
+  pub now : d.now ≡ new_with medium
+
 abbrev pub disk_plan : DiskValue → Plan
 disk_plan d = DiskOf d.plan d.sectors
 
@@ -27,11 +37,12 @@ abbrev pub IsTurn : Turn → List ℕ → Type 0
 IsTurn None bytes = ⊥
 IsTurn (Some t) bytes = Shows t.0 bytes
 
--- the event may happen to a disk in this state; what it sends is its turn
+-- the event may happen to a disk in this state; what it sends is its turn, and only a new disk is loaded
 abbrev pub MayHappen : DiskPlan → ℕ → Moment → Happening → Type 0
 MayHappen plan sectors m (Sent bytes) = IsTurn (turn plan sectors m) bytes
 MayHappen plan sectors m (Received bytes) = Unit {0}
 MayHappen plan sectors m Plugged = Unit {0}
+MayHappen plan sectors m (Loaded bytes) = (m ≡ opening sectors) × (length bytes ≡ 512 * sectors)
 
 -- the events of the list may happen, one after another, to a disk in this state
 unfoldable pub Runs : DiskPlan → ℕ → Moment → List Happening → Type 0

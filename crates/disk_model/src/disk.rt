@@ -1,12 +1,12 @@
 //! A disk with native command queuing (Serial ATA 3.x, first party DMA; ACS-3).
 
-ghost use Rattle.std.specs.Prelude.{◌≡◌, ◌+◌, ◌*◌, ◌<◌, ◌≤◌, ◌==◌, [], All, IfOk, IsErrOf, IsTrue, MatchOption, OnOk, filter, length, map, not, replicate, vec_capacity, ◌↔◌};
+ghost use Rattle.std.specs.Prelude.{◌≡◌, ◌+◌, ◌*◌, ◌<◌, ◌≤◌, ◌==◌, [], ◌∷◌, All, IfOk, IsErrOf, IsTrue, MatchOption, OnOk, filter, length, map, not, replicate, vec_capacity, ◌↔◌, ◌≢◌, IfErr, OnErr};
 ghost use Rattle.std.specs.List.{list_any};
 ghost use Rattle.disk_model.specs.Chunks.{put, sectors_at};
-ghost use Rattle.disk_model.specs.Disks.{opening, opening_medium, without};
-ghost use Rattle.disk_model.specs.Histories.{DiskOf};
+ghost use Rattle.disk_model.specs.Disks.{new_with, opening, opening_medium, with_now, without};
+ghost use Rattle.disk_model.specs.Histories.{DiskOf, Loaded};
 ghost use Rattle.disk_model.specs.Requests.{IsCounted};
-ghost use Rattle.disk_model.specs.Runs.{DiskStandsFor, disk_plan, is_size, most_sectors};
+ghost use Rattle.disk_model.specs.Runs.{DiskStandsFor, IsLoaded, are_sectors, disk_plan, is_size, most_sectors};
 
 mod quiet;
 mod receive;
@@ -50,8 +50,8 @@ enum Transfer {
     Write(Waiting),
 }
 
-/// A disk with its sectors in memory. At first, byte i of sector L is (L + i) mod 256. The disk queues reads
-/// and writes by tag, moves the data of each in chunks, and answers IDENTIFY DEVICE, FLUSH CACHE EXT and READ
+/// A disk with its sectors in memory: those of its maker, or else byte i of sector L is (L + i) mod 256 at first. The
+/// disk queues reads and writes by tag, moves the data of each in chunks, and answers IDENTIFY DEVICE, FLUSH CACHE EXT and READ
 /// LOG EXT of the NCQ Command Error log. A command that cannot be done ends all queued commands. From then on
 /// the disk hears only the read of that log and resets.
 #[derive(Drop)]
@@ -84,8 +84,8 @@ impl Model for Disk {
 /// Why a disk cannot be made.
 #[derive(Clone, Copy, Debug, PartialEq, Eq, Error)]
 pub enum DiskError {
-    /// The number of sectors is not from 1 to the most for the disk's profile, or the chunk is not a multiple
-    /// of 512 from 512 to 8,192.
+    /// The number of sectors is not whole, or not from 1 to the most for the disk's profile; or the chunk is not a
+    /// multiple of 512 from 512 to 8,192.
     #[error("bad size")]
     BadSize = 1,
     /// The allocator refused memory for the sectors.
@@ -112,6 +112,14 @@ fn most_sectors(profile: Profile) -> u32
         Profile::Bare => 65_536,
         Profile::Stock(_) => 268_435_455,
     }
+}
+
+/// Whether a disk of this plan can have this many sectors.
+fn can_be(sectors: u32, plan: &DiskPlan) -> bool
+    ensures { result ≡ is_size plan.now.profile sectors plan.now.chunk }
+{
+    let (chunk, most) = (plan.chunk, most_sectors(plan.profile));
+    1 <= sectors && sectors <= most && 512 <= chunk && chunk <= 8192 && chunk % 512 == 0
 }
 
 /// The sectors of a new disk.
@@ -159,12 +167,57 @@ impl Disk {
         ensures size { OnOk result (IsTrue (is_size plan.profile sectors plan.chunk)) }
         ensures bad_size { IsErrOf result DiskError.BadSize ↔ ¬ IsTrue (is_size plan.profile sectors plan.chunk) }
     {
-        let chunk = plan.chunk;
-        let most = most_sectors(plan.profile);
-        if sectors < 1 || most < sectors || chunk < 512 || 8192 < chunk || chunk % 512 != 0 {
+        if !can_be(sectors, &plan) {
             return Err(DiskError::BadSize);
         }
         let medium = new_medium(alloc, sectors)?;
+        Ok(Disk::made(alloc, sectors, medium, plan)?)
+    }
+
+    /// A new disk with these sectors, of 512 bytes each, which are not copied. `BadSize` if they are not whole sectors, or
+    /// not as many as a disk can have.
+    pub fn with_sectors(alloc: Global, medium: Vec<u8>, plan: DiskPlan) -> Result<Disk, DiskError>
+        ensures ok { IfOk result (λ d. IsLoaded plan medium.items d) }
+        ensures loaded { IfOk result (λ d. DiskStandsFor d (Loaded medium.items ∷ [])) }
+        ensures size { OnOk result (IsTrue (are_sectors plan (length medium.items))) }
+        ensures bad_size { IsErrOf result DiskError.BadSize ↔ ¬ IsTrue (are_sectors plan (length medium.items)) }
+    {
+        let count = medium.len() / 512;
+        if medium.len() % 512 != 0 || count > u32::MAX as usize || !can_be(count as u32, &plan) {
+            return Err(DiskError::BadSize);
+        }
+        Ok(Disk::made(alloc, count as u32, medium, plan)?)
+    }
+
+    /// It is a new disk with its plan and with these sectors, which are not copied. `BadSize` if they are not as many as it
+    /// has; then it is as it was. That takes no memory.
+    pub fn renew(&mut self, medium: Vec<u8>) -> Result<(), DiskError>
+        ensures ok { OnOk result (self.new ≡ with_now self.old (new_with medium.items)) }
+        ensures loaded { OnOk result (DiskStandsFor self.new (Loaded medium.items ∷ [])) }
+        ensures long { OnOk result (length medium.items ≡ 512 * self.old.sectors) }
+        ensures bad_size { IfErr result (λ e. (e ≡ DiskError.BadSize) × (length medium.items ≢ 512 * self.old.sectors)) }
+        ensures err { OnErr result (self.new ≡ self.old) }
+    {
+        if medium.len() != self.medium.len() {
+            return Err(DiskError::BadSize);
+        }
+        self.clear();
+        self.resetting = false;
+        self.medium = medium;
+        Ok(())
+    }
+
+    /// A new disk of a size that it can have.
+    fn made(
+        alloc: Global,
+        sectors: u32,
+        medium: Vec<u8>,
+        plan: DiskPlan,
+    ) -> Result<Disk, AllocError>
+        requires long { length medium.items ≡ 512 * sectors }
+        requires size { IsTrue (is_size plan.profile sectors plan.chunk) }
+        ensures { IfOk result (λ d. d ≡ record { plan = plan; sectors = sectors; now = new_with medium.items }) }
+    {
         let queue = Vec::with_capacity(alloc, 32)?;
         let answers = VecDeque::with_capacity(alloc, 64)?;
         Ok(Disk {

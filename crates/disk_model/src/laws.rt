@@ -9,6 +9,7 @@ ghost use Rattle.disk_model.specs.Fronts.{BeforeIsFront, HostIsAhead};
 ghost use Rattle.disk_model.specs.InReset.{TakesNoCommand};
 ghost use Rattle.disk_model.specs.Last.{LieOn, ShowsTheLast};
 ghost use Rattle.disk_model.specs.Later.{LaterIsLinked, LaterTellsOfAll};
+ghost use Rattle.disk_model.specs.Loads.{LoadedIsFirst, LoadedIsUnderWrites};
 ghost use Rattle.disk_model.specs.Laws.{AfterEachRun, AnswersRight, AtEachSending, ErrsRight, MovesRight, SilentRight};
 ghost use Rattle.disk_model.specs.Ledger.{AnswersOne, IsRead, ledger, medium_with};
 ghost use Rattle.disk_model.specs.Puts.{LieWherePut};
@@ -129,4 +130,11 @@ pub fn reads_have_the_first_writes()
 pub fn media_show_the_last_write()
     ensures shows { ShowsTheLast }
     ensures lie { AfterEachRun (λ plan sectors history. LieOn sectors (ledger history).writes) }
+{}
+
+/// A disk that has its first sectors from its maker shows them, and over them the bytes of each ended write, in
+/// order. Where a law speaks of the opening medium with writes put in, these sectors are the first of the writes.
+pub fn loaded_disks_show_their_sectors()
+    ensures first { LoadedIsFirst }
+    ensures under { LoadedIsUnderWrites }
 {}

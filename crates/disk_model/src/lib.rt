@@ -36,8 +36,8 @@ pub use laws::{
     answers_commands_in_order, answers_each_command_once, data_lies_where_it_is_put,
     disks_begin_anew, disks_in_reset_take_no_command, ends_tell_the_same, ends_tell_the_same_anew,
     errors_are_of_their_command, is_silent_where_nothing_is_owed, later_connections_tell_of_all,
-    media_show_the_last_write, medium_is_of_ended_writes, reads_are_of_their_start,
-    reads_have_the_first_writes, setups_name_what_moves,
+    loaded_disks_show_their_sectors, media_show_the_last_write, medium_is_of_ended_writes,
+    reads_are_of_their_start, reads_have_the_first_writes, setups_name_what_moves,
 };
 pub use plan::{DiskPlan, Order, Profile};
 pub use request::Command;

@@ -18,7 +18,7 @@ use Rattle.hba_fbs.specs.Taking.{port_of}
 use Rattle.disk_model.specs.declared.plan.DiskPlan.{DiskPlan}
 use Rattle.disk_model.specs.declared.request.Request.{Request}
 use Rattle.disk_model.specs.declared.request.Request.TheVariants.{Flush}
-use Rattle.disk_model.specs.Histories.{Happening, Plugged, Received, Sent}
+use Rattle.disk_model.specs.Histories.{Happening, Plugged, Loaded, Received, Sent}
 use Rattle.disk_model.specs.Ledger.{ledger}
 use Rattle.disk_model.specs.Requests.{request_of}
 use Rattle.hba_laws.specs.Client.{Touches, own}
@@ -55,6 +55,7 @@ flushes_taken [] = 0
 flushes_taken (Received bytes ∷ later) = one_if (is_flush (seen bytes)) + flushes_taken later
 flushes_taken (Sent bytes ∷ later) = flushes_taken later
 flushes_taken (Plugged ∷ later) = flushes_taken later
+flushes_taken (Loaded bytes ∷ later) = flushes_taken later
 
 -- ---- what a disk had done when a request was submitted
 

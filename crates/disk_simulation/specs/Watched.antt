@@ -12,7 +12,7 @@ use Rattle.disk_model.specs.declared.request.Request.{Request}
 use Rattle.disk_model.specs.declared.request.Request.TheVariants as asked
 use Rattle.disk_model.specs.Anew.{IsCarefulSince, IsClear, IsLinkedOn}
 use Rattle.disk_model.specs.Ends.{Rests, reports}
-use Rattle.disk_model.specs.Histories.{Happening, Plugged, Received, Sent}
+use Rattle.disk_model.specs.Histories.{Happening, Plugged, Loaded, Received, Sent}
 use Rattle.disk_model.specs.Ledger.{IsSize, Ledger, ledger}
 use Rattle.disk_model.specs.Requests.{request_of}
 use Rattle.disk_model.specs.Runs.{IsDiskRun}
@@ -45,6 +45,7 @@ GavePlain [] = Unit {0}
 GavePlain (Received bytes ∷ later) = IsPlain (seen bytes) × GavePlain later
 GavePlain (Sent bytes ∷ later) = GavePlain later
 GavePlain (Plugged ∷ later) = GavePlain later
+GavePlain (Loaded bytes ∷ later) = GavePlain later
 
 pub record IsPlainSince (base host : List Happening) : Type 0 where
   pub since : List Happening

@@ -1,12 +1,14 @@
 //! A stock disk behind its guard.
 
-ghost use Rattle.std.specs.Prelude.{◌≡◌, ◌≤◌, ◌<◌, IfNone, IfOk, IfSome, IsOk, MatchOption, OnErr, OnOk, length};
+ghost use Rattle.std.specs.Prelude.{◌≡◌, ◌≢◌, ◌*◌, ◌≤◌, ◌<◌, [], ◌∷◌, IfErr, IfNone, IfOk, IfSome, IsOk, MatchOption, OnErr, OnOk, length};
 ghost use Rattle.disk_model.specs.Chunks.{sectors_at};
-ghost use Rattle.failing_disk.specs.Faces.{Fails, Gave, IsQuiet, MayTake, Took, WantsRoomBehind, WasPlugged};
+ghost use Rattle.failing_disk.specs.Faces.{FailingStandsFor, Fails, Gave, IsQuiet, MayTake, Took, WantsRoomBehind, WasPlugged};
 ghost use Rattle.failing_disk.specs.declared.guard.Guard.TheVariants as guard;
+ghost use Rattle.disk_model.specs.Histories.{Loaded};
+ghost use Rattle.stock_disk.specs.Faces.{IsRenewed};
 
 use crate::guard::{Failure, Guard};
-use disk_model::Device;
+use disk_model::{Device, DiskError};
 use fis_view::{Frame, Stamp};
 use std::alloc::{AllocError, Global};
 use std::marker::Model;
@@ -37,6 +39,21 @@ impl FailingDisk {
             disk,
             guard: Guard::Sound,
         }
+    }
+
+    /// It is a new disk with its plan and with these sectors, which are not copied, and has not failed. `BadSize` if they
+    /// are not as many as it has; then it is as it was. That takes no memory.
+    pub fn renew(&mut self, medium: Vec<u8>) -> Result<(), DiskError>
+        ensures ok { OnOk result (IsRenewed self.old.disk medium.items self.new.disk) }
+        ensures loaded { OnOk result (FailingStandsFor self.new (Loaded medium.items ∷ [])) }
+        ensures long { OnOk result (length medium.items ≡ 512 * self.old.disk.disk.sectors) }
+        ensures bad_size { IfErr result (λ e.
+            (e ≡ DiskError.BadSize) × (length medium.items ≢ 512 * self.old.disk.disk.sectors)) }
+        ensures err { OnErr result (self.new ≡ self.old) }
+    {
+        self.disk.renew(medium)?;
+        self.guard = Guard::Sound;
+        Ok(())
     }
 
     /// The 512 bytes of a sector in memory, None behind the end.

@@ -48,11 +48,13 @@ use Rattle.hba_driver.specs.Submits.{new_entry}
 
 -- ---- the disk and its run
 
--- the unit at port n of a new world is a new disk of this plan, with this many sectors
-pub record IsNewDisk (units : List Attached) (n : ℕ) (plan : DiskPlan) (sectors : ℕ) : Type 0 where
+-- The unit at port n of a new world is a disk of this plan, with this many sectors. All this happened to it before: nothing
+-- to a new disk, that it got its sectors to one that has them from its maker, and its whole history to one that a world
+-- gave back. It is plugged in before the host hears of it, and what was asked of it before ends then.
+pub record HasDisk (units : List Attached) (n : ℕ) (plan : DiskPlan) (sectors : ℕ) (past : List Happening) : Type 0 where
   pub disk : DiskValue
   pub there : slice_get units n ≡ Some (Modelled (Disk disk))
-  pub fresh : DiskStandsFor disk []
+  pub stands : DiskStandsFor disk past
   pub plan_is : disk.plan ≡ plan
   pub sectors_are : disk.sectors ≡ sectors
   pub size : IsSize plan sectors
@@ -73,15 +75,17 @@ pub record DiskRun (config : Config) (units : List Attached) (n : ℕ) (now : Pl
 
 module _ (config : Config) (units : List Attached) (n : ℕ) (now : Places)
     (d : DiskRun config units n now) where
-  -- what happened to the disk since the world was made, on all its connections
-  abbrev pub disk_history : List Happening
-  disk_history = over (happens n) (new_world config units) d.first d.told d.out d.made
-      ++ over (happens n) d.out (step.Came n ∷ d.steps) (answer.Came n d.conn ∷ d.answers) now d.run
-
-  -- the turns of the host since then
+  -- the turns of the host since the world was made
   abbrev pub host_turns : List HostTurn
   host_turns = over turn_of (new_world config units) d.first d.told d.out d.made
       ++ over turn_of d.out (step.Came n ∷ d.steps) (answer.Came n d.conn ∷ d.answers) now d.run
+
+module _ (config : Config) (units : List Attached) (n : ℕ) (now : Places)
+    (d : DiskRun config units n now) (past : List Happening) where
+  -- what happened to the disk, before the world was made and since, on all its connections
+  abbrev pub disk_history : List Happening
+  disk_history = past ++ over (happens n) (new_world config units) d.first d.told d.out d.made
+      ++ over (happens n) d.out (step.Came n ∷ d.steps) (answer.Came n d.conn ∷ d.answers) now d.run
 
   -- The request of an entry was submitted in this run, before the disk was plugged in or since. The
   -- list is what had happened to the disk by then.
@@ -90,22 +94,22 @@ module _ (config : Config) (units : List Attached) (n : ℕ) (now : Places)
         → (i : IsStepOf (step.Submit n request) (answer.Submitted ticket) (new_world config units)
         d.out d.first d.told d.made)
         → new_entry ticket.0 n request ≡ rephased Waits e
-        → WasSubmitted e (over (happens n) (new_world config units) i.before i.told i.at i.came)
+        → WasSubmitted e (past ++ over (happens n) (new_world config units) i.before i.told i.at i.came)
     Since : (ticket : Ticket) (request : Request)
         → (i : IsStepOf (step.Submit n request) (answer.Submitted ticket) d.out now
         (step.Came n ∷ d.steps) (answer.Came n d.conn ∷ d.answers) d.run)
         → new_entry ticket.0 n request ≡ rephased Waits e
-        → WasSubmitted e (over (happens n) (new_world config units) d.first d.told d.out d.made
+        → WasSubmitted e (past ++ over (happens n) (new_world config units) d.first d.told d.out d.made
         ++ over (happens n) d.out i.before i.told i.at i.came)
 
   -- The request of the entry in slot s was submitted in this run, and has ended honestly since then.
-  -- That is judged by all that happened to the disk since the world was made, and by what was touched
-  -- at the host since its opening.
+  -- That is judged by all that happened to the disk, and by what was touched at the host since its
+  -- opening.
   pub record EndedSince (sectors s : ℕ) (e : Entry) (memory : Memory) : Type 0 where
     pub before : List Happening
     pub submitted : WasSubmitted e before
     pub touches : Touches
-    pub touched : AreTouched config.memory host_turns now.host touches
+    pub touched : AreTouched config.memory (host_turns config units n now d) now.host touches
     pub ends : EndsHonestly sectors s e before disk_history (filled s (own n touches)) memory
 
   -- The request of the entry was submitted in this run, and the disk took a FLUSH since then.
@@ -121,21 +125,21 @@ module _ (config : Config) (units : List Attached) (n : ℕ) (now : Places)
 -- Each queued request that the report says is done ended honestly, since it was submitted in this
 -- run; and if it says that a FLUSH is done, the disk took one since it was submitted.
 pub record TookHonestly (config : Config) (units : List Attached) (n sectors : ℕ) (now : Places)
-    (d : DiskRun config units n now) (report : TakeReport) (new : Places) : Type 0 where
+    (d : DiskRun config units n now) (past : List Happening) (report : TakeReport) (new : Places) : Type 0 where
   pub done : (s : ℕ) (e : Entry) → s < 30 → entry_at now.host.driver.entries s ≡ Some e
       → is_queued e.head.work ≡ true → has_bit report.done s ≡ true
-      → EndedSince config units n now d sectors s e new.host.memory
+      → EndedSince config units n now d past sectors s e new.host.memory
   pub flushed : (s : ℕ) (e : Entry) → s < 30 → entry_at now.host.driver.entries s ≡ Some e
       → is_queued e.head.work ≡ false → has_bit report.done s ≡ true
-      → FlushedSince config units n now d e
+      → FlushedSince config units n now d past e
 
 -- Holds at each FIS of this connection that the host takes, whatever the disk and the other devices
 -- do, even if the disk was unplugged since it sent the FIS.
 abbrev pub HonestDisks : Type 0
 HonestDisks =
-    (config : Config) (units : List Attached) (n sectors : ℕ) (plan : DiskPlan)
-    → is_config config (length units) ≡ true → n < 15 → IsNewDisk units n plan sectors
+    (config : Config) (units : List Attached) (n sectors : ℕ) (plan : DiskPlan) (past : List Happening)
+    → is_config config (length units) ≡ true → n < 15 → HasDisk units n plan sectors past
     → (now : Places) (d : DiskRun config units n now)
     → (s : Step) (port conn number : ℕ) (bytes : List ℕ) (report : TakeReport) (new : Places)
     → Rule now s (Ok (answer.Took port conn number bytes report)) new → (port == n) ≡ true
-    → conn ≡ d.conn → TookHonestly config units n sectors now d report new
+    → conn ≡ d.conn → TookHonestly config units n sectors now d past report new

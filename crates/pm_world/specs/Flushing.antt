@@ -9,6 +9,7 @@ use Rattle.std.specs.Prelude.{slice_index, refl, IsSomeAnd, Some}
 use Rattle.host_memory.specs.Memory.{client_start}
 use Rattle.host_memory.specs.Place.{place}
 use Rattle.disk_model.specs.declared.plan.DiskPlan.{DiskPlan}
+use Rattle.disk_model.specs.Histories.{Happening}
 use Rattle.disk_model.specs.Last.{NoneCovers}
 use Rattle.disk_model.specs.Ledger.{ledger}
 use Rattle.hba_driver.specs.declared.request.Completion.{Completion}
@@ -16,7 +17,7 @@ use Rattle.hba_driver.specs.declared.request.Work.TheVariants.{Flush, Write}
 use Rattle.hba_driver.specs.Orders.{is_queued}
 use Rattle.hba_driver.specs.Submits.{new_entry}
 use Rattle.pm_world.specs.Attached.{Attached}
-use Rattle.pm_world.specs.Disks.{DiskRun, FlushedSince, IsNewDisk, disk_history}
+use Rattle.pm_world.specs.Disks.{DiskRun, FlushedSince, HasDisk, disk_history}
 use Rattle.pm_world.specs.InOrder.{IsLeftSince, disk_run}
 use Rattle.pm_world.specs.Places.{Places, is_config, new_world}
 use Rattle.pm_world.specs.Polled.{IsPolledHonestly}
@@ -36,24 +37,24 @@ use Rattle.pm_world.specs.declared.step.Answer.TheVariants as answer
 abbrev pub HasWrites : (config : Config) (units : List Attached) (steps : List Step) (answers : List Answer)
     (now : Places)
     (run : Run (new_world config units) steps answers now) (flushed : Completion)
-    → (last : IsPolledHonestly config units now steps answers run flushed) → (sectors : ℕ) (plan : DiskPlan)
+    → (last : IsPolledHonestly config units now steps answers run flushed) → (sectors : ℕ) (plan : DiskPlan) (past : List Happening)
     → DiskRun config units last.reported.dev last.reported.took.at → Type 0
-HasWrites config units steps answers now run flushed last sectors plan f =
+HasWrites config units steps answers now run flushed last sectors plan past f =
     (written : Completion)
     (poll : IsStepOf step.Poll (answer.Polled written) (new_world config units) now steps answers run)
     (first : IsPolledHonestly config units poll.at poll.before poll.told poll.came written)
     → (writes : first.reported.request.work ≡ Write) (queued : is_queued first.reported.request.work ≡ true)
     → length poll.before < length last.reported.submitted.before
-    → last.reported.dev ≡ first.reported.dev → (disk : IsNewDisk units first.reported.dev plan sectors)
+    → last.reported.dev ≡ first.reported.dev → (disk : HasDisk units first.reported.dev plan sectors past)
     → (c : IsLeftSince first.reported.dev first.reported.conn (new_world config units) first.reported.took.at
     first.reported.took.before first.reported.took.told first.reported.took.came)
     → (j : ℕ) → j < 512 * first.reported.request.sectors
     → NoneCovers (512 * first.reported.request.lba + j)
-    (drop (suc ((first.honest sectors plan disk queued
+    (drop (suc ((first.honest sectors plan past disk queued
     (disk_run config units first.reported.dev first.reported.conn first.reported.took.at
     first.reported.took.before first.reported.took.told first.reported.took.came c) refl).ends.writes
     writes).at)
-    (ledger (disk_history config units last.reported.dev last.reported.took.at f)).writes)
+    (ledger (disk_history config units last.reported.dev last.reported.took.at f past)).writes)
     → IsSomeAnd (slice_get last.reported.took.at.devices last.reported.dev) (λ there.
     Shows (512 * first.reported.request.lba + j)
     (Some (slice_index first.reported.submitted.at.host.memory.client
@@ -69,13 +70,13 @@ FlushesFollowWrites =
     (run : Run (new_world config units) steps answers now) (flushed : Completion)
     (last : IsPolledHonestly config units now steps answers run flushed)
     → last.reported.request.work ≡ Flush
-    → (sectors : ℕ) (plan : DiskPlan) → IsNewDisk units last.reported.dev plan sectors
+    → (sectors : ℕ) (plan : DiskPlan) (past : List Happening) → HasDisk units last.reported.dev plan sectors past
     → (d : IsLeftSince last.reported.dev last.reported.conn (new_world config units) last.reported.took.at
     last.reported.took.before last.reported.took.told last.reported.took.came)
     → FlushedSince config units last.reported.dev last.reported.took.at
     (disk_run config units last.reported.dev last.reported.conn last.reported.took.at
-    last.reported.took.before last.reported.took.told last.reported.took.came d)
+    last.reported.took.before last.reported.took.told last.reported.took.came d) past
     (new_entry flushed.ticket.0 last.reported.dev last.reported.request)
-    × HasWrites config units steps answers now run flushed last sectors plan
+    × HasWrites config units steps answers now run flushed last sectors plan past
     (disk_run config units last.reported.dev last.reported.conn last.reported.took.at
     last.reported.took.before last.reported.took.told last.reported.took.came d)

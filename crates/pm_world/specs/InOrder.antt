@@ -9,13 +9,14 @@ use Rattle.std.specs.List.{list_any}
 use Rattle.host_memory.specs.Memory.{client_start}
 use Rattle.host_memory.specs.Place.{place}
 use Rattle.disk_model.specs.declared.plan.DiskPlan.{DiskPlan}
+use Rattle.disk_model.specs.Histories.{Happening}
 use Rattle.disk_model.specs.Last.{NoneCovers}
 use Rattle.hba_driver.specs.declared.request.Completion.{Completion}
 use Rattle.hba_driver.specs.declared.request.Work.TheVariants.{Read, Write}
 use Rattle.hba_driver.specs.Orders.{is_queued}
 use Rattle.hba_driver.specs.Submits.{new_entry}
 use Rattle.pm_world.specs.Attached.{Attached}
-use Rattle.pm_world.specs.Disks.{DiskRun, IsNewDisk}
+use Rattle.pm_world.specs.Disks.{DiskRun, HasDisk}
 use Rattle.pm_world.specs.PathEnds.{injects}
 use Rattle.pm_world.specs.Places.{Places, is_config, new_world}
 use Rattle.pm_world.specs.Polled.{IsPolledHonestly}
@@ -69,8 +70,8 @@ ReadsFollowWrites =
     (queued_too : is_queued second.reported.request.work ≡ true)
     → length poll.before < length second.reported.submitted.before
     → second.reported.dev ≡ first.reported.dev
-    → (sectors : ℕ) (plan : DiskPlan) (disk : IsNewDisk units first.reported.dev plan sectors)
-    (disk_too : IsNewDisk units second.reported.dev plan sectors)
+    → (sectors : ℕ) (plan : DiskPlan) (past : List Happening) (disk : HasDisk units first.reported.dev plan sectors past)
+    (disk_too : HasDisk units second.reported.dev plan sectors past)
     (c : IsLeftSince first.reported.dev first.reported.conn (new_world config units) first.reported.took.at
     first.reported.took.before first.reported.took.told first.reported.took.came)
     (d : IsLeftSince second.reported.dev second.reported.conn (new_world config units) second.reported.took.at
@@ -79,11 +80,11 @@ ReadsFollowWrites =
     → IsOneByte (new_entry read.ticket.0 second.reported.dev second.reported.request)
     (new_entry written.ticket.0 first.reported.dev first.reported.request) i j
     → NoneCovers (512 * second.reported.request.lba + i)
-    (drop (suc ((first.honest sectors plan disk queued
+    (drop (suc ((first.honest sectors plan past disk queued
     (disk_run config units first.reported.dev first.reported.conn first.reported.took.at
     first.reported.took.before first.reported.took.told first.reported.took.came c)
     refl).ends.writes writes).at)
-    ((second.honest sectors plan disk_too queued_too
+    ((second.honest sectors plan past disk_too queued_too
     (disk_run config units second.reported.dev second.reported.conn second.reported.took.at
     second.reported.took.before second.reported.took.told second.reported.took.came d)
     refl).ends.reads reads).read.before)

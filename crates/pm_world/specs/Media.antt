@@ -1,7 +1,7 @@
 -- What is on the medium of a disk, in every world: the bytes of whole writes that ended. So a write
 -- that ended otherwise than done is on the medium whole or not at all (ACS-3, WRITE FPDMA QUEUED).
 --
--- Cited: runs of a world and what is told over them (specs/Rules.antt, Runs.antt); a new disk
+-- Cited: runs of a world and what is told over them (specs/Rules.antt, Runs.antt); a disk
 -- (specs/Disks.antt); the history of a unit (specs/Units.antt). The writes that ended, each with its
 -- place and its bytes, and a medium with them, come from `disk_model` (specs/Ledger.antt).
 use Rattle.std.specs.Prelude.{ℕ, ◌≡◌, ◌++◌, true, List, length, slice_get, IsSomeAnd}
@@ -11,7 +11,7 @@ use Rattle.disk_model.specs.Fronts.{IsFront}
 use Rattle.disk_model.specs.Histories.{Happening}
 use Rattle.disk_model.specs.Ledger.{Written, ledger, medium_with}
 use Rattle.pm_world.specs.Attached.{Attached, Modelled, Own}
-use Rattle.pm_world.specs.Disks.{IsNewDisk}
+use Rattle.pm_world.specs.Disks.{HasDisk}
 use Rattle.pm_world.specs.Places.{Places, is_config, new_world}
 use Rattle.pm_world.specs.Rules.{Run}
 use Rattle.pm_world.specs.Runs.{over}
@@ -40,10 +40,10 @@ pub record ChangesByWrites (n sectors : ℕ) (before later : List Happening) (wa
 
 abbrev pub MediaAreOfWrites : Type 0
 MediaAreOfWrites =
-    (config : Config) (units : List Attached) (n sectors : ℕ) (plan : DiskPlan)
-    → is_config config (length units) ≡ true → IsNewDisk units n plan sectors
+    (config : Config) (units : List Attached) (n sectors : ℕ) (plan : DiskPlan) (past : List Happening)
+    → is_config config (length units) ≡ true → HasDisk units n plan sectors past
     → (first : List Step) (told : List Answer) (was : Places)
     (made : Run (new_world config units) first told was) (steps : List Step) (answers : List Answer)
     (now : Places) (run : Run was steps answers now)
-    → ChangesByWrites n sectors (over (happens n) (new_world config units) first told was made)
+    → ChangesByWrites n sectors (past ++ over (happens n) (new_world config units) first told was made)
     (over (happens n) was steps answers now run) was now

@@ -15,6 +15,7 @@ use Rattle.slots.specs.Slots.{has_bit}
 use Rattle.hba_fbs.specs.declared.report.TakeReport.{TakeReport}
 use Rattle.hba_fbs.specs.Taking.{port_of}
 use Rattle.disk_model.specs.declared.plan.DiskPlan.{DiskPlan}
+use Rattle.disk_model.specs.Histories.{Happening}
 use Rattle.hba_laws.specs.Client.{Touches, own}
 use Rattle.hba_laws.specs.History.{filled}
 use Rattle.hba_driver.specs.declared.request.Completion.{Completion}
@@ -37,7 +38,7 @@ use Rattle.pm_world.specs.declared.step.Step.{Step}
 use Rattle.pm_world.specs.declared.step.Step.TheVariants as step
 use Rattle.pm_world.specs.declared.step.Answer.{Answer}
 use Rattle.pm_world.specs.declared.step.Answer.TheVariants as answer
-use Rattle.pm_world.specs.Disks.{DiskRun, EndedSince, FlushedSince, IsNewDisk}
+use Rattle.pm_world.specs.Disks.{DiskRun, EndedSince, FlushedSince, HasDisk}
 
 -- ---- where it was reported
 
@@ -98,16 +99,16 @@ pub record IsPolledHonestly (config : Config) (units : List Attached) (now : Pla
   pub of_one : All (λ c. c ≡ reported.conn) (over (connection_by reported.dev) reported.submitted.next
       reported.submitted.after reported.submitted.later reported.took.at reported.submitted.went)
   -- for a disk
-  pub honest : (sectors : ℕ) (plan : DiskPlan) → IsNewDisk units reported.dev plan sectors
+  pub honest : (sectors : ℕ) (plan : DiskPlan) (past : List Happening) → HasDisk units reported.dev plan sectors past
       → is_queued reported.request.work ≡ true
       → (d : DiskRun config units reported.dev reported.took.at) → reported.conn ≡ d.conn
-      → EndedSince config units reported.dev reported.took.at d sectors completion.slot
+      → EndedSince config units reported.dev reported.took.at d past sectors completion.slot
       (new_entry completion.ticket.0 reported.dev reported.request) now.host.memory
   -- and where it is a FLUSH, the disk took one since it was submitted
-  pub flushed : (sectors : ℕ) (plan : DiskPlan) → IsNewDisk units reported.dev plan sectors
+  pub flushed : (sectors : ℕ) (plan : DiskPlan) (past : List Happening) → HasDisk units reported.dev plan sectors past
       → is_queued reported.request.work ≡ false
       → (d : DiskRun config units reported.dev reported.took.at) → reported.conn ≡ d.conn
-      → FlushedSince config units reported.dev reported.took.at d
+      → FlushedSince config units reported.dev reported.took.at d past
       (new_entry completion.ticket.0 reported.dev reported.request)
 
 -- That holds for each poll that answers Done, after every run from a new world.

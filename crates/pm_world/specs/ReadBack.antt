@@ -20,7 +20,7 @@ use Rattle.hba_laws.specs.History.{filled}
 use Rattle.hba_driver.specs.declared.request.Work.TheVariants.{Read, Write}
 use Rattle.hba_driver.specs.Drivers.{Entry}
 use Rattle.pm_world.specs.Attached.{Attached, Modelled, Own}
-use Rattle.pm_world.specs.Disks.{DiskRun, EndedSince, IsNewDisk, disk_history}
+use Rattle.pm_world.specs.Disks.{DiskRun, EndedSince, HasDisk, disk_history}
 use Rattle.pm_world.specs.Places.{Places, is_config}
 use Rattle.pm_world.specs.Rules.{Run}
 use Rattle.pm_world.specs.Runs.{over}
@@ -45,14 +45,14 @@ pub record IsOneByte (read write : Entry) (i j : ℕ) : Type 0 where
 -- read's place what went over for the write.
 abbrev pub ReadsBringWrites : Type 0
 ReadsBringWrites =
-    (config : Config) (units : List Attached) (n sectors : ℕ) (plan : DiskPlan)
-    → is_config config (length units) ≡ true → n < 15 → IsNewDisk units n plan sectors
+    (config : Config) (units : List Attached) (n sectors : ℕ) (plan : DiskPlan) (past : List Happening)
+    → is_config config (length units) ≡ true → n < 15 → HasDisk units n plan sectors past
     → (was now : Places) (d : DiskRun config units n was) (f : DiskRun config units n now) (s t : ℕ)
     (write read : Entry)
     (m l : Memory) (writes : write.head.work ≡ Write) (reads : read.head.work ≡ Read)
-    (w : EndedSince config units n was d sectors s write m)
-    (r : EndedSince config units n now f sectors t read l)
-    → IsPart (disk_history config units n was d) r.before
+    (w : EndedSince config units n was d past sectors s write m)
+    (r : EndedSince config units n now f past sectors t read l)
+    → IsPart (disk_history config units n was d past) r.before
     → (i j : ℕ) → IsOneByte read write i j
     → NoneCovers (512 * read.head.lba + i)
     (drop (suc (w.ends.writes writes).at) (r.ends.reads reads).read.before)
@@ -62,13 +62,13 @@ ReadsBringWrites =
 -- is there, except those that later writes have.
 abbrev pub WritesStayThere : Type 0
 WritesStayThere =
-    (config : Config) (units : List Attached) (n sectors : ℕ) (plan : DiskPlan)
-    → IsNewDisk units n plan sectors
+    (config : Config) (units : List Attached) (n sectors : ℕ) (plan : DiskPlan) (past : List Happening)
+    → HasDisk units n plan sectors past
     → (was : Places) (d : DiskRun config units n was) (s : ℕ) (write : Entry) (m : Memory)
     (writes : write.head.work ≡ Write)
-    (w : EndedSince config units n was d sectors s write m)
+    (w : EndedSince config units n was d past sectors s write m)
     → (history : List Happening) → IsDiskRun plan sectors history
-    → IsPart (disk_history config units n was d) history
+    → IsPart (disk_history config units n was d past) history
     → (j : ℕ) → j < 512 * write.head.sectors
     → NoneCovers (512 * write.head.lba + j) (drop (suc (w.ends.writes writes).at) (ledger history).writes)
     → slice_get (moment plan sectors history).medium (512 * write.head.lba + j) ≡ filled s (own n w.touches) j
@@ -83,15 +83,15 @@ Shows i byte Own = ⊥
 -- write on its medium, except those that later writes have.
 abbrev pub DisksHaveWrites : Type 0
 DisksHaveWrites =
-    (config : Config) (units : List Attached) (n sectors : ℕ) (plan : DiskPlan)
-    → is_config config (length units) ≡ true → IsNewDisk units n plan sectors
+    (config : Config) (units : List Attached) (n sectors : ℕ) (plan : DiskPlan) (past : List Happening)
+    → is_config config (length units) ≡ true → HasDisk units n plan sectors past
     → (was : Places) (d : DiskRun config units n was) (s : ℕ) (write : Entry) (m : Memory)
     (writes : write.head.work ≡ Write)
-    (w : EndedSince config units n was d sectors s write m)
+    (w : EndedSince config units n was d past sectors s write m)
     → (steps : List Step) (answers : List Answer) (now : Places) (run : Run was steps answers now)
     → (j : ℕ) → j < 512 * write.head.sectors
     → NoneCovers (512 * write.head.lba + j)
     (drop (suc (w.ends.writes writes).at)
-    (ledger (disk_history config units n was d ++ over (happens n) was steps answers now run)).writes)
+    (ledger (disk_history config units n was d past ++ over (happens n) was steps answers now run)).writes)
     → IsSomeAnd (slice_get now.devices n) (λ place.
     Shows (512 * write.head.lba + j) (filled s (own n w.touches) j) place.unit)

@@ -10,6 +10,7 @@ use Rattle.host_memory.specs.Memory.{Memory, client_start}
 use Rattle.host_memory.specs.Place.{LiesInClient, place}
 use Rattle.host_memory.specs.declared.table.Prd.{Prd}
 use Rattle.disk_model.specs.declared.plan.DiskPlan.{DiskPlan}
+use Rattle.disk_model.specs.Histories.{Happening}
 use Rattle.disk_model.specs.Last.{NoneCovers}
 use Rattle.hba_laws.specs.Client.{Touches, own}
 use Rattle.hba_laws.specs.History.{filled}
@@ -26,7 +27,7 @@ use Rattle.pm_world.specs.Rules.{Run}
 use Rattle.pm_world.specs.declared.step.Config.{Config}
 use Rattle.pm_world.specs.declared.step.Step.{Step}
 use Rattle.pm_world.specs.declared.step.Answer.{Answer}
-use Rattle.pm_world.specs.Disks.{DiskRun, EndedSince, IsNewDisk, disk_history}
+use Rattle.pm_world.specs.Disks.{DiskRun, EndedSince, HasDisk, disk_history}
 use Rattle.pm_world.specs.HonestEnds.{StandsAt}
 use Rattle.pm_world.specs.Polled.{IsPolledHonestly, IsReportedIn}
 use Rattle.pm_world.specs.ReadBack.{IsOneByte, IsPart}
@@ -65,12 +66,12 @@ WrittenAsSubmitted =
     (run : Run (new_world config units) steps answers now) (completion : Completion)
     (polled : IsPolledHonestly config units now steps answers run completion)
     → (writes : polled.reported.request.work ≡ Write)
-    → (sectors : ℕ) (plan : DiskPlan) (disk : IsNewDisk units polled.reported.dev plan sectors)
+    → (sectors : ℕ) (plan : DiskPlan) (past : List Happening) (disk : HasDisk units polled.reported.dev plan sectors past)
     (queued : is_queued polled.reported.request.work ≡ true)
     (d : DiskRun config units polled.reported.dev polled.reported.took.at)
     (same : polled.reported.conn ≡ d.conn)
     → (i : ℕ) → i < 512 * polled.reported.request.sectors
-    → StandsAt ((polled.honest sectors plan disk queued d same).ends.writes writes).written.bytes
+    → StandsAt ((polled.honest sectors plan past disk queued d same).ends.writes writes).written.bytes
     polled.reported.request.prds.items polled.reported.submitted.at.host.memory i
 
 -- ---- read after write
@@ -85,18 +86,18 @@ ReadsBringSubmitted =
     (run : Run (new_world config units) steps answers was) (completion : Completion)
     (polled : IsPolledHonestly config units was steps answers run completion)
     → (writes : polled.reported.request.work ≡ Write)
-    → (sectors : ℕ) (plan : DiskPlan) (disk : IsNewDisk units polled.reported.dev plan sectors)
+    → (sectors : ℕ) (plan : DiskPlan) (past : List Happening) (disk : HasDisk units polled.reported.dev plan sectors past)
     (queued : is_queued polled.reported.request.work ≡ true)
     (d : DiskRun config units polled.reported.dev polled.reported.took.at)
     (same : polled.reported.conn ≡ d.conn)
     → (now : Places) (f : DiskRun config units polled.reported.dev now) (t : ℕ) (read : Entry)
     (l : Memory) (reads : read.head.work ≡ Read)
-    (r : EndedSince config units polled.reported.dev now f sectors t read l)
-    → IsPart (disk_history config units polled.reported.dev polled.reported.took.at d) r.before
+    (r : EndedSince config units polled.reported.dev now f past sectors t read l)
+    → IsPart (disk_history config units polled.reported.dev polled.reported.took.at d past) r.before
     → (i j : ℕ)
     → IsOneByte read (new_entry completion.ticket.0 polled.reported.dev polled.reported.request) i j
     → NoneCovers (512 * read.head.lba + i)
-    (drop (suc ((polled.honest sectors plan disk queued d same).ends.writes writes).at)
+    (drop (suc ((polled.honest sectors plan past disk queued d same).ends.writes writes).at)
     (r.ends.reads reads).read.before)
     → StandsThere (slice_index l.client (place read.prds i - client_start))
     polled.reported.request.prds.items polled.reported.submitted.at.host.memory j

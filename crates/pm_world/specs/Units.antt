@@ -2,7 +2,7 @@
 -- multiplier). What a device may do is cited from `disk_model` (specs/Histories.antt and Units.antt).
 use Rattle.std.specs.Prelude.{ℕ, ◌≡◌, ◌==◌, if◌then◌else◌, false, List, [], ◌∷◌, ◌++◌, Some, None}
 use Rattle.std.specs.Prelude.{map, take, slice_get, IsSomeAnd, MatchOption}
-use Rattle.disk_model.specs.Histories.{Happening, Received, Sent, Plugged, Plan}
+use Rattle.disk_model.specs.Histories.{Happening, Received, Sent, Plugged, Loaded, Plan}
 use Rattle.disk_model.specs.Units.{MaySend}
 use Rattle.pm_world.specs.Attached.{Attached, plan_of, StandsFor}
 use Rattle.pm_world.specs.Downward.{on_down_link}
@@ -33,6 +33,7 @@ MaySendAll plan history (Sent bytes ∷ later) =
 MaySendAll plan history (Received bytes ∷ later) =
     MaySendAll plan (history ++ Received bytes ∷ []) later
 MaySendAll plan history (Plugged ∷ later) = MaySendAll plan (history ++ Plugged ∷ []) later
+MaySendAll plan history (Loaded bytes ∷ later) = ⊥
 
 -- The unit lived on through these events. Its plan is the same. It stands at the end for each history
 -- that it stood for, with these events added. What it sent in them it was allowed to send.

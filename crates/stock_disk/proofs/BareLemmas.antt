@@ -6,7 +6,7 @@ use Rattle.fis_view.specs.Table.{H2d, C, field}
 use Rattle.fis_view.specs.declared.view.Fis.{Fis}
 use Rattle.fis_view.specs.declared.view.Fis.TheVariants as view
 use Rattle.fis_view.specs.declared.view.FisFault.{FisFault}
-use Rattle.disk_model.specs.Histories.{Happening, Received, Sent, Plugged}
+use Rattle.disk_model.specs.Histories.{Happening, Received, Sent, Plugged, Loaded}
 use Rattle.disk_model.specs.Quiet.{is_at_rest}
 use Rattle.stock_disk.specs.declared.front.Course.{Course}
 use Rattle.stock_disk.specs.declared.front.Course.TheVariants.{Passes}
@@ -119,6 +119,7 @@ after_off s (Sent bytes) off =
       serving = ap (λ (f : Front). f.serving) is ∙ told_serves s.front (seen bytes) off.serving;
     }
 after_off s Plugged off = record { on = off.on; owed = refl; serving = refl }
+after_off s (Loaded bytes) off = record { on = off.on; owed = refl; serving = refl }
 
 -- the disk has the event
 has_all : (s : StockValue) (e : Happening) → IsOff s.front → inner_of s e ≡ e ∷ []
@@ -128,6 +129,7 @@ has_all s (Sent bytes) off =
     ap (λ (o : Option Own). inner_sent s.disk bytes o s.front.serving) off.owed
     ∙ ap (inner_sent s.disk bytes None) off.serving
 has_all s Plugged off = refl
+has_all s (Loaded bytes) off = refl
 
 has_whole : (s : StockValue) (h : List Happening) → IsOff s.front → inside s h ≡ h
 unfolding inside

@@ -12,7 +12,7 @@ use Rattle.disk_model.specs.declared.answer.Fault.{Fault}
 use Rattle.disk_model.specs.declared.disk.quiet.Due.TheVariants as due
 use Rattle.disk_model.specs.declared.plan.DiskPlan.{DiskPlan}
 use Rattle.disk_model.specs.declared.request.Command.{Command}
-use Rattle.disk_model.proofs.Door.{chunk_part}
+use Rattle.disk_model.proofs.Door.{Rests, at_rest, chunk_part}
 use Rattle.stock_disk.specs.declared.dma.Dma.{Dma}
 use Rattle.stock_disk.specs.declared.front.Course.TheVariants.{Serves}
 use Rattle.stock_disk.specs.declared.front.Front.{Front}
@@ -23,7 +23,7 @@ use Rattle.stock_disk.specs.Laws.{IsStockRun, WaitsThrough}
 use Rattle.stock_disk.specs.Losses.{begins}
 use Rattle.stock_disk.specs.Sectors.{fault_fields}
 use Rattle.stock_disk.proofs.DmaLemmas.{serves_is}
-use Rattle.stock_disk.proofs.LossLemmas.{IsDma, Rests, at_rest, begins_is}
+use Rattle.stock_disk.proofs.LossLemmas.{IsDma, begins_is}
 use Rattle.stock_disk.proofs.ModeLemmas.{after_keeps}
 use Rattle.stock_disk.proofs.PhaseLemmas.{Ends, ends_due}
 use Rattle.stock_disk.proofs.ServingLemmas.{IsServing, Outcome, begins_serving, comes, finishes, may_by, opens_sound, runs_first, sent_front, sound_at}

@@ -3,7 +3,7 @@ use Rattle.std.proofs.Common.{◌≡◌, ℕ, List, [], ◌∷◌, ◌++◌, Opt
 use Rattle.fis_view.specs.Seen.{seen}
 use Rattle.disk_model.specs.declared.answer.Fault.{Fault}
 use Rattle.disk_model.specs.Disks.{DiskValue, with_now}
-use Rattle.disk_model.specs.Histories.{Happening, Received, Sent, Plugged}
+use Rattle.disk_model.specs.Histories.{Happening, Received, Sent, Plugged, Loaded}
 use Rattle.disk_model.specs.Quiet.{due_in}
 use Rattle.stock_disk.specs.declared.dma.Dma.{Dma}
 use Rattle.stock_disk.specs.declared.front.Front.{Front}
@@ -58,6 +58,7 @@ event_stays s dma d fault (Sent bytes) can to may on =
 event_stays s dma d fault (Received bytes) can to may on =
     (received_stays s dma d fault bytes can to (received_on s dma bytes to.serving) on, refl)
 event_stays s dma d fault Plugged can to may on = absurd (cc on)
+event_stays s dma d fault (Loaded bytes) can to may on = absurd (cc on)
 
 stays_through : (s : StockValue) (dma : Dma) (d : DiskValue) (fault : Fault) (h : List Happening) → Cannot d dma fault
     → Stays s dma d → Runs s h → WaitsThrough s dma h → Stays (value_at s h) dma d × (data_sent h ≡ [])

@@ -5,7 +5,7 @@ use Rattle.fis_view.specs.Frames.{Stamped}
 use Rattle.fis_view.specs.Seen.{seen}
 use Rattle.disk_model.specs.declared.plan.DiskPlan.{DiskPlan}
 use Rattle.disk_model.specs.Disks.{DiskValue, turn, with_now}
-use Rattle.disk_model.specs.Histories.{Happening, Received, Sent, DiskOf, GoesOn, IsSilent, SendsNext}
+use Rattle.disk_model.specs.Histories.{Happening, Loaded, Received, Sent, DiskOf, GoesOn, IsSilent, SendsNext}
 use Rattle.disk_model.specs.Quiet.{due_in, is_at_rest}
 use Rattle.disk_model.specs.Runs.{DiskMaySend, DiskStandsFor, IsTurn, Runs as DiskRuns, disk_plan, moment}
 use Rattle.disk_model.specs.Sendings.{Shows}
@@ -259,3 +259,9 @@ unfolding value_at inside
 opens s plan sectors disk is front =
     let same : s.disk.plan ≡ plan = cc is in
     record { disk = disk; front = front ∙ ap opening (sym same) }
+
+-- a new disk that has its sectors from its maker
+pub opens_loaded : (s : StockValue) (medium : List ℕ) → DiskStandsFor s.disk (Loaded medium ∷ []) → s.front ≡ opening s.disk.plan
+    → StockStandsFor s (Loaded medium ∷ [])
+unfolding value_at inside
+opens_loaded s medium disk front = record { disk = disk; front = front }

@@ -11,6 +11,7 @@ use Rattle.fis_view.specs.declared.build.SetBitsFields.{SetBitsFields}
 use Rattle.fis_view.specs.Between.{activate_list, AreBytes, bits_list, d2h_list, h2d_list, IsHead, setup_list}
 use Rattle.fis_view.proofs.Door.{are_bytes, flag_fits}
 use Rattle.fis_view.proofs.Door as door
+use Rattle.disk_model.proofs.Door.{Rests, at_rest}
 use Rattle.disk_model.specs.Disks.{DiskValue, Moment, Turn, after, after_turn, heard, moment_after, opening as opening_moment, queues, received, turn, with_now}
 use Rattle.disk_model.specs.Histories.{Happening, Received}
 use Rattle.disk_model.specs.Quiet.{after_next, begun_with, due_by, due_in, is_at_rest, kind_of}
@@ -299,46 +300,6 @@ queued_asks dma is =
     ap sectors_asked low ∙ count_asked dma.count is.some is.most in
     let command : field H2d C f ≡ 1 = built.fields C ∙ refl in
     code_asks dma.write c f code refl count lba features refl (rw command refl)
-
--- a disk at rest has nothing queued and owes nothing, and takes commands
-pub record Rests (m : Moment) : Type 0 where
-  pub queued : m.queued ≡ []
-  pub owed : m.owed ≡ []
-  pub fault : m.fault ≡ None
-  pub started : m.started ≡ None
-  pub writing : m.writing ≡ None
-  pub resetting : m.resetting ≡ false
-
-no_length : {A : Type 0} → (xs : List A) → (length xs == 0) ≡ true → xs ≡ []
-no_length [] is = refl
-no_length (x ∷ xs) is = absurd (search (rules, is))
-
-no_some : {A : Type 0} → (o : Option A) → is_none o ≡ true → o ≡ None
-no_some None is = refl
-no_some (Some x) is = absurd (cc is)
-
-all_six : (a b c d e f : Bool) → (a && b && c && d && e && not f) ≡ true
-    → (a ≡ true) × (b ≡ true) × (c ≡ true) × (d ≡ true) × (e ≡ true) × (f ≡ false)
-all_six true true true true true false is = (refl, refl, refl, refl, refl, refl)
-all_six true true true true true true is = absurd (cc is)
-all_six true true true true false f is = absurd (cc is)
-all_six true true true false e f is = absurd (cc is)
-all_six true true false d e f is = absurd (cc is)
-all_six true false c d e f is = absurd (cc is)
-all_six false b c d e f is = absurd (cc is)
-
-pub at_rest : (m : Moment) → is_at_rest m ≡ true → Rests m
-at_rest m is =
-    let all =
-    all_six (length m.queued == 0) (length m.owed == 0) (is_none m.fault) (is_none m.started) (is_none m.writing) m.resetting is in
-    record {
-      queued = no_length m.queued all.0;
-      owed = no_length m.owed all.1;
-      fault = no_some m.fault all.2;
-      started = no_some m.started all.3;
-      writing = no_some m.writing all.4;
-      resetting = all.5;
-    }
 
 -- the disk queues the command
 queues_it : (plan : DiskPlan) (sectors : ℕ) (m : Moment) (dma : Dma) → Rests m → IsDma dma

@@ -6,7 +6,7 @@ use Rattle.fis_view.specs.declared.view.Fis.{Fis}
 use Rattle.fis_view.specs.declared.view.Fis.TheVariants as view
 use Rattle.fis_view.specs.declared.view.FisFault.{FisFault}
 use Rattle.disk_model.specs.Ends.{reports}
-use Rattle.disk_model.specs.Histories.{Happening, Received, Sent, Plugged}
+use Rattle.disk_model.specs.Histories.{Happening, Received, Sent, Plugged, Loaded}
 use Rattle.disk_model.specs.Quiet.{is_at_rest}
 use Rattle.stock_disk.specs.declared.front.Course.{Course}
 use Rattle.stock_disk.specs.declared.front.Course.TheVariants.{Answers, Serves, Loses, Passes}
@@ -126,6 +126,7 @@ after_keeps s (Received bytes) =
     comes_keeps s.front (seen bytes) (course s.front (is_at_rest s.disk.now) (seen bytes))
 after_keeps s (Sent bytes) = gone_keeps s.front s.front.owed bytes
 after_keeps s Plugged = record { on = refl; plain = refl }
+after_keeps s (Loaded bytes) = record { on = refl; plain = refl }
 
 -- the front answers, and is in the error mode
 pub record Refuses (front : Front) : Type 0 where
@@ -147,6 +148,7 @@ stays_failed s (Sent bytes ∷ h) now none =
       failed = sent_keeps s.front s.front.owed bytes now.failed;
     }) none
 stays_failed s (Plugged ∷ h) now none = absurd none
+stays_failed s (Loaded bytes ∷ h) now none = absurd none
 
 reports_fails : (front : Front) (fis : Result Fis FisFault) → reports fis ≡ true → (told front fis).failed ≡ true
 reports_fails front (Ok (view.SetBits f)) is = rw is refl

@@ -16,11 +16,11 @@ use Rattle.disk_model.specs.Quiet.{after_next, begun_with, due_by, due_in}
 use Rattle.disk_model.specs.Sendings.{Sending, Activates, Carries}
 use Rattle.disk_model.specs.Chunks.{put}
 use Rattle.disk_model.specs.Disks.{ended, stored, without}
-use Rattle.disk_model.proofs.Door.{sends_left_next, some_chunks, turn_read, turn_start}
+use Rattle.disk_model.proofs.Door.{Rests, sends_left_next, some_chunks, turn_read, turn_start}
 use Rattle.stock_disk.specs.declared.dma.Dma.{Dma}
 use Rattle.stock_disk.specs.Dmas.{as_queued, dma_fault}
 use Rattle.stock_disk.specs.Losses.{after_if, asked, begins, is_activate, is_setup, went_out}
-use Rattle.stock_disk.proofs.LossLemmas.{IsDma, Rests}
+use Rattle.stock_disk.proofs.LossLemmas.{IsDma}
 
 -- ## Where a command is
 

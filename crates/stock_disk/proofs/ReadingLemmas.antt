@@ -8,7 +8,7 @@ use Rattle.disk_model.specs.declared.plan.DiskPlan.{DiskPlan}
 use Rattle.disk_model.specs.declared.request.Command.{Command}
 use Rattle.disk_model.specs.Chunks.{chunk_count, chunk_from, chunks, sectors_at}
 use Rattle.disk_model.specs.Disks.{DiskValue, Turn, with_now}
-use Rattle.disk_model.specs.Histories.{Happening, Received, Sent, Plugged}
+use Rattle.disk_model.specs.Histories.{Happening, Received, Sent, Plugged, Loaded}
 use Rattle.disk_model.specs.Quiet.{begun_with}
 use Rattle.disk_model.specs.Runs.{IsTurn}
 use Rattle.disk_model.specs.Sendings.{Carries, Shows}
@@ -163,6 +163,7 @@ event_reads s dma (Received bytes) sent medium can to may on =
     subst (λ (l : List ℕ). ReadTo (value_after s (Received bytes)) dma l medium) (sym (append-nil sent))
     (received_reads s dma bytes sent medium to (received_on s dma bytes to.serving) on)
 event_reads s dma Plugged sent medium can to may on = absurd (cc on)
+event_reads s dma (Loaded bytes) sent medium can to may on = absurd (cc on)
 
 reads_through : (s : StockValue) (dma : Dma) (h : List Happening) (sent medium : List ℕ)
     → CanDo s.disk.plan s.disk.sectors dma → ReadTo s dma sent medium → Runs s h → WaitsThrough s dma h

@@ -1,7 +1,7 @@
 -- What the disk has of a run is a run of a disk.
 use Rattle.std.proofs.Common.{◌≡◌, ℕ, List, [], ◌∷◌, Option, Some, None, refl}
 use Rattle.disk_model.specs.Disks.{DiskValue}
-use Rattle.disk_model.specs.Histories.{Happening, Received, Sent, Plugged}
+use Rattle.disk_model.specs.Histories.{Happening, Received, Sent, Plugged, Loaded}
 use Rattle.disk_model.specs.Quiet.{due_in, is_at_rest}
 use Rattle.disk_model.specs.Runs.{Runs as DiskRuns}
 use Rattle.fis_view.specs.Seen.{seen}
@@ -45,6 +45,7 @@ inner_runs s (Received bytes) may =
     (λ dma is. serves_is s.front (is_at_rest s.disk.now) (seen bytes) dma is)
 inner_runs s (Sent bytes) may = sent_runs s bytes s.front.owed s.front.serving refl refl may
 inner_runs s Plugged may = (tt, tt)
+inner_runs s (Loaded bytes) may = (may, tt)
 
 pub inside_runs : (s : StockValue) (h : List Happening) → Runs s h
     → DiskRuns s.disk.plan s.disk.sectors s.disk.now (inside s h)

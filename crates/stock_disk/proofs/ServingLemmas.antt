@@ -6,12 +6,13 @@ use Rattle.fis_view.specs.Table.{C, Control, H2d, field}
 use Rattle.fis_view.specs.declared.view.Fis.{Fis}
 use Rattle.fis_view.specs.declared.view.Fis.TheVariants as view
 use Rattle.fis_view.specs.declared.view.FisFault.{FisFault}
+use Rattle.disk_model.proofs.Door.{Rests, at_rest}
 use Rattle.disk_model.specs.declared.answer.Fault.{Fault}
 use Rattle.disk_model.specs.declared.disk.quiet.Due.{Due}
 use Rattle.disk_model.specs.declared.disk.quiet.Due.TheVariants as due
 use Rattle.disk_model.specs.declared.plan.DiskPlan.{DiskPlan}
 use Rattle.disk_model.specs.Disks.{DiskValue, Moment, Turn, Writing, data_taken, moment_after, turn, with_now}
-use Rattle.disk_model.specs.Histories.{Happening, Received, Sent, Plugged}
+use Rattle.disk_model.specs.Histories.{Happening, Received, Sent, Plugged, Loaded}
 use Rattle.disk_model.specs.Quiet.{due_by, due_in, is_at_rest}
 use Rattle.disk_model.specs.Sendings.{Activates, Carries, Shows}
 use Rattle.disk_model.specs.Disks.{heard}
@@ -32,7 +33,7 @@ use Rattle.stock_disk.specs.Losses.{asked, begins, goes_by, goes_for, made_by, m
 use Rattle.stock_disk.specs.Sectors.{fault_fields}
 use Rattle.stock_disk.proofs.BareLemmas.{passed_serves, told_owes, told_serves}
 use Rattle.stock_disk.proofs.DmaLemmas.{serves_is}
-use Rattle.stock_disk.proofs.LossLemmas.{IsDma, Rests, at_rest, begins_is, goes_is}
+use Rattle.stock_disk.proofs.LossLemmas.{IsDma, begins_is, goes_is}
 use Rattle.stock_disk.proofs.PhaseLemmas.{PhaseOf, IsEnding, IsSending, IsTaking, IsWaiting, asks_due, asks_on, begins_phase, data_phase, ends_due, phase_resets, sends_due, sends_on, sends_turn, takes_due, waits_due, waits_on}
 
 -- ## A DMA command waits for its answer
@@ -423,6 +424,7 @@ waits_after s (Received bytes) waits =
     hears_waits s.front (seen bytes) (course s.front (is_at_rest s.disk.now) (seen bytes)) waits
 waits_after s (Sent bytes) waits = sent_waits s.front s.front.owed bytes refl waits
 waits_after s Plugged waits = λ own owed. refl
+waits_after s (Loaded bytes) waits = λ own owed. absurd (cc owed)
 
 -- a DMA command that waits for its answer is in a phase
 abbrev pub AreServed : StockValue → Type 0
@@ -474,6 +476,7 @@ served_after s (Sent bytes) None low sound is may =
 served_after s (Sent bytes) (Some dma) low sound is may =
     outcome_by s dma bytes (sent_on s dma bytes (sound.serves dma is) may)
 served_after s Plugged o low sound is may = served_none (value_after s Plugged) refl
+served_after s (Loaded bytes) o low sound is may = served_none (value_after s (Loaded bytes)) refl
 
 pub sound_at : (s : StockValue) (h : List Happening) → 512 ≤ s.disk.plan.chunk → IsSound s → Runs s h → IsSound (value_at s h)
 unfolding value_at Runs

@@ -14,7 +14,7 @@ use Rattle.disk_model.specs.declared.plan.DiskPlan.{DiskPlan}
 use Rattle.disk_model.specs.declared.request.Command.{Command}
 use Rattle.disk_model.specs.Chunks.{chunk_count, chunk_from, chunks, put}
 use Rattle.disk_model.specs.Disks.{DiskValue, Moment, Turn, Writing, begun_write, data_taken, stored, with_now}
-use Rattle.disk_model.specs.Histories.{Happening, Received, Sent, Plugged}
+use Rattle.disk_model.specs.Histories.{Happening, Received, Sent, Plugged, Loaded}
 use Rattle.disk_model.specs.Quiet.{due_by}
 use Rattle.disk_model.specs.Runs.{IsTurn}
 use Rattle.disk_model.specs.Sendings.{Activates, Shows}
@@ -314,6 +314,7 @@ event_writes s dma (Sent bytes) a medium can to may on = record {
 event_writes s dma (Received bytes) a medium can to may on =
     received_writes s dma bytes a medium can to (received_on s dma bytes to.serving) on
 event_writes s dma Plugged a medium can to may on = absurd (cc on)
+event_writes s dma (Loaded bytes) a medium can to may on = absurd (cc on)
 
 writes_through : (s : StockValue) (dma : Dma) (h : List Happening) (a : Arrived) (medium : List ℕ)
     → CanDo s.disk.plan s.disk.sectors dma → WriteTo s dma a medium → Runs s h → WaitsThrough s dma h

@@ -3,10 +3,10 @@
 use Rattle.std.specs.Prelude.{ℕ, ◌≡◌, List, [], ◌∷◌, ◌++◌, Option, Some, None}
 use Rattle.fis_view.specs.Frames.{Stamped}
 use Rattle.fis_view.specs.Seen.{seen}
-use Rattle.disk_model.specs.Disks.{DiskValue, Turn, after, moment_after, turn, with_now}
+use Rattle.disk_model.specs.Disks.{DiskValue, Turn, after, moment_after, new_with, turn, with_now}
 use Rattle.disk_model.specs.Disks.{opening as opening_moment}
 use Rattle.disk_model.specs.Insides.{Gives, HasTurn, WantsRoom}
-use Rattle.disk_model.specs.Histories.{Happening, Received, Sent, Plugged, Plan, Script, DiskOf, GoesOn}
+use Rattle.disk_model.specs.Histories.{Happening, Received, Sent, Plugged, Loaded, Plan, Script, DiskOf, GoesOn}
 use Rattle.disk_model.specs.Histories.{SendsNext}
 use Rattle.disk_model.specs.Quiet.{due_in, is_at_rest}
 use Rattle.disk_model.specs.Runs.{DiskMaySend, DiskStandsFor, IsTurn, disk_plan}
@@ -37,6 +37,7 @@ abbrev pub front_after : StockValue → Happening → Front
 front_after s (Received bytes) = heard s.front (is_at_rest s.disk.now) (seen bytes)
 front_after s (Sent bytes) = after_sent s.front s.front.owed bytes
 front_after s Plugged = settles s.front
+front_after s (Loaded bytes) = record s.front { owed = None; serving = None }
 
 -- what happens to the disk as a FIS of the host comes
 abbrev pub inner_heard : DiskValue → List ℕ → Course → List Happening
@@ -57,6 +58,7 @@ inner_of s (Received bytes) =
     inner_heard s.disk bytes (course s.front (is_at_rest s.disk.now) (seen bytes))
 inner_of s (Sent bytes) = inner_sent s.disk bytes s.front.owed s.front.serving
 inner_of s Plugged = Plugged ∷ []
+inner_of s (Loaded bytes) = Loaded bytes ∷ []
 
 -- the disk after these events of its own
 abbrev pub disk_after : DiskValue → List Happening → DiskValue
@@ -83,6 +85,11 @@ new_stock plan sectors = record {
   disk = record { plan = plan; sectors = sectors; now = opening_moment sectors };
   front = opening plan;
 }
+
+-- it is a new disk with its plan and with these sectors
+pub record IsRenewed (old : StockValue) (medium : List ℕ) (new : StockValue) : Type 0 where
+  pub disk : new.disk ≡ with_now old.disk (new_with medium)
+  pub front : new.front ≡ opening old.disk.plan
 
 abbrev pub stock_plan : StockValue → Plan
 stock_plan s = disk_plan s.disk

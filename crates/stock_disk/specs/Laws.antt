@@ -11,8 +11,9 @@ use Rattle.disk_model.specs.declared.plan.DiskPlan.{DiskPlan}
 use Rattle.disk_model.specs.declared.plan.Profile.TheVariants.{Bare}
 use Rattle.disk_model.specs.Chunks.{fault_of, put, sectors_at}
 use Rattle.disk_model.specs.Disks.{DiskValue}
+use Rattle.disk_model.specs.Disks.{opening as opening_moment}
 use Rattle.disk_model.specs.Ends.{reports}
-use Rattle.disk_model.specs.Histories.{Happening, Received, Sent, Plugged}
+use Rattle.disk_model.specs.Histories.{Happening, Received, Sent, Plugged, Loaded}
 use Rattle.disk_model.specs.Ledger.{IsSize}
 use Rattle.disk_model.specs.Quiet.{is_at_rest}
 use Rattle.disk_model.specs.Runs.{IsDiskRun}
@@ -31,6 +32,7 @@ abbrev pub MayHappen : StockValue → Happening → Type 0
 MayHappen s (Sent bytes) = IsNext s bytes
 MayHappen s (Received bytes) = Unit {0}
 MayHappen s Plugged = Unit {0}
+MayHappen s (Loaded bytes) = (s.disk.now ≡ opening_moment s.disk.sectors) × (length bytes ≡ 512 * s.disk.sectors)
 
 -- the events may happen, one after another, to a disk and its front
 unfoldable pub Runs : StockValue → List Happening → Type 0
@@ -67,6 +69,7 @@ NoneEndsMode [] = Unit {0}
 NoneEndsMode (Received bytes ∷ later) = (ends_mode (seen bytes) ≡ false) × NoneEndsMode later
 NoneEndsMode (Sent bytes ∷ later) = NoneEndsMode later
 NoneEndsMode (Plugged ∷ later) = ⊥
+NoneEndsMode (Loaded bytes ∷ later) = ⊥
 
 -- The disk reported an error of queued commands. Until its log is read, SRST is set or the disk is plugged in,
 -- whatever else comes and goes, the front aborts each command.

@@ -6,7 +6,7 @@ use Rattle.fis_view.specs.Seen.{seen}
 use Rattle.fis_view.specs.declared.view.Fis.{Fis}
 use Rattle.fis_view.specs.declared.view.Fis.TheVariants as view
 use Rattle.fis_view.specs.declared.view.FisFault.{FisFault}
-use Rattle.disk_model.specs.Histories.{Happening, Received, Sent, Plugged}
+use Rattle.disk_model.specs.Histories.{Happening, Received, Sent, Plugged, Loaded}
 
 -- ## To the host
 
@@ -20,6 +20,7 @@ abbrev pub data_out : Happening → List ℕ
 data_out (Sent bytes) = payload_of (seen bytes)
 data_out (Received bytes) = []
 data_out Plugged = []
+data_out (Loaded bytes) = []
 
 -- all that the events bring the host, in order
 unfoldable pub data_sent : List Happening → List ℕ
@@ -58,6 +59,7 @@ abbrev pub arrives : (count : ℕ) → Arrived → Happening → Arrived
 arrives count a (Received bytes) = heard_down count a (seen bytes)
 arrives count a (Sent bytes) = heard_up a (seen bytes)
 arrives count a Plugged = a
+arrives count a (Loaded bytes) = a
 
 unfoldable pub arrived_after : (count : ℕ) → Arrived → List Happening → Arrived
 arrived_after count a [] = a

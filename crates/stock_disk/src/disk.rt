@@ -1,17 +1,17 @@
 //! A disk behind its front.
 
-ghost use Rattle.std.specs.Prelude.{◌≡◌, ◌≤◌, ◌<◌, IfOk, IfSome, IsErrOf, IsTrue, MatchOption, OnErr, OnOk, [], length, ◌↔◌};
+ghost use Rattle.std.specs.Prelude.{◌≡◌, ◌≢◌, ◌*◌, ◌≤◌, ◌<◌, IfErr, IfOk, IfSome, IsErrOf, IsTrue, MatchOption, OnErr, OnOk, [], ◌∷◌, length, ◌↔◌};
 ghost use Rattle.std.specs.Prelude.{None, Some, false, true};
 ghost use Rattle.disk_model.specs.Chunks.{sectors_at};
 ghost use Rattle.disk_model.specs.Disks.{opening as opening_moment};
-ghost use Rattle.disk_model.specs.Histories.{DiskOf};
+ghost use Rattle.disk_model.specs.Histories.{DiskOf, Loaded};
 ghost use Rattle.disk_model.specs.Insides.{HasTurn};
 ghost use Rattle.disk_model.specs.Quiet.{due_in, is_at_rest};
 ghost use Rattle.disk_model.specs.Requests.{IsCounted};
 ghost use Rattle.disk_model.specs.Runs.{is_size};
 ghost use Rattle.disk_model.specs.Sendings.{Activates, Shows};
 ghost use Rattle.stock_disk.specs.Dmas.{as_queued, dma_fault};
-ghost use Rattle.stock_disk.specs.Faces.{MaySendBy, OutOf, Served, StockStandsFor, WentOut, stock_plan};
+ghost use Rattle.stock_disk.specs.Faces.{IsRenewed, MaySendBy, OutOf, Served, StockStandsFor, WentOut, stock_plan};
 ghost use Rattle.stock_disk.specs.Fronts.{opening};
 ghost use Rattle.stock_disk.specs.Losses.{after_if, asked, begins, is_activate, is_setup};
 
@@ -193,6 +193,21 @@ impl StockDisk {
             sectors,
             plan: known,
         })
+    }
+
+    /// It is a new disk with its plan and with these sectors, which are not copied. `BadSize` if they are not as many as it
+    /// has; then it is as it was. That takes no memory.
+    pub fn renew(&mut self, medium: Vec<u8>) -> Result<(), DiskError>
+        ensures ok { OnOk result (IsRenewed self.old medium.items self.new) }
+        ensures loaded { OnOk result (StockStandsFor self.new (Loaded medium.items ∷ [])) }
+        ensures long { OnOk result (length medium.items ≡ 512 * self.old.disk.sectors) }
+        ensures bad_size { IfErr result (λ e.
+            (e ≡ DiskError.BadSize) × (length medium.items ≢ 512 * self.old.disk.sectors)) }
+        ensures err { OnErr result (self.new ≡ self.old) }
+    {
+        self.disk.renew(medium)?;
+        self.front = Front::opening(&self.plan);
+        Ok(())
     }
 
     /// The 512 bytes of a sector on the medium, None behind the end.

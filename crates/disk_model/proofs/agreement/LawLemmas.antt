@@ -1,9 +1,11 @@
 -- For `answers_each_command_once`. The laws of a disk's runs.
-use Rattle.std.proofs.Common.{◌≡◌, ◌==◌, ◌&&◌, eqb, ℕ, ◌*◌, ◌%◌, ◌^◌, ◌<◌, ◌≤◌, Bool, true, false, List, [], ◌∷◌, ◌++◌, Option, Some, None, Ok, Err, Result, drop, refl, ap, sym, subst, ◌∙◌, arith}
+use Rattle.std.proofs.Common.{◌≡◌, ◌==◌, ◌&&◌, eqb, ℕ, ◌+◌, ◌*◌, ◌%◌, ◌^◌, ◌<◌, ◌≤◌, Bool, true, false, List, [], ◌∷◌, ◌++◌, Option, Some, None, Ok, Err, Result, drop, length, refl, ap, sym, subst, ◌∙◌, arith}
 use Rattle.std.specs.Prelude.{if◌then◌else◌, nat_le}
 use Rattle.std.proofs.lemmas.Bool.Decides.{nat_tests}
 use Rattle.std.proofs.lemmas.Bool.{and_parts}
+use Rattle.std.proofs.lemmas.List.{append-nil}
 use Rattle.std.proofs.lemmas.List.FromFn.{length-map-range_with_len}
+use Rattle.std.proofs.Math.Seq.{drop-length}
 use Rattle.std.proofs.Math.Pow.{pow-lt}
 use Rattle.fis_view.proofs.Door.{bits-lt}
 use Rattle.fis_view.specs.Table.{H2d, C, Features, Count, Control, Bits, SActive, field, places, spelled}
@@ -18,13 +20,13 @@ use Rattle.disk_model.specs.declared.request.Request.{Request}
 use Rattle.disk_model.specs.declared.answer.Answer.{Answer}
 use Rattle.disk_model.specs.declared.answer.Answer.TheVariants.{Signature, Accepted, Finished, Refused, Ended, PageFollows, PageData}
 use Rattle.disk_model.specs.declared.answer.Fault.{Fault}
-use Rattle.disk_model.specs.Histories.{Happening, Received, Sent, Plugged}
+use Rattle.disk_model.specs.Histories.{Happening, Received, Sent, Plugged, Loaded}
 use Rattle.disk_model.specs.Requests.{Asks, IsCounted, queued_command, request_of, names_error_log}
 use Rattle.disk_model.specs.Sendings.{Sending, Register, SetsBits, SetsUp, Activates, SetsUpPio, Carries, Shows, answer_sent}
-use Rattle.disk_model.specs.Chunks.{chunks, chunk_setup, fault_of, report, error_of}
-use Rattle.disk_model.specs.Disks.{Moment, Started, Writing, turn, read_turn, write_turn, pick_turn, begun, picked, heard, after, moment_after, opening, opening_byte}
+use Rattle.disk_model.specs.Chunks.{chunks, chunk_setup, fault_of, put, report, error_of}
+use Rattle.disk_model.specs.Disks.{Moment, Started, Writing, turn, read_turn, write_turn, pick_turn, begun, picked, heard, after, moment_after, new_with, opening, opening_byte, opening_medium}
 use Rattle.disk_model.specs.Runs.{IsTurn, MayHappen, Runs, IsDiskRun, moment, most_sectors}
-use Rattle.disk_model.specs.Ledger.{Ledger, Moving, empty, listens, listens_down, ledger_after, ledger, with_writes, Names, AnswersOne, IsSize}
+use Rattle.disk_model.specs.Ledger.{Ledger, Moving, empty, listens, listens_down, ledger_after, ledger, loaded, medium_with, with_writes, Names, AnswersOne, IsSize}
 use Rattle.disk_model.specs.Between.{Agrees, AreTags, Asked, Fresh, IsQueue, IsReading, IsSized, IsWriting, Moves, SetUp}
 use Rattle.disk_model.specs.Between.{Stage, begun_by, ended_tags}
 use Rattle.disk_model.proofs.turns.SendLemmas.{sends_left_next}
@@ -33,6 +35,7 @@ use Rattle.disk_model.proofs.agreement.GeometryLemmas.{some_chunks}
 use Rattle.disk_model.proofs.agreement.AgreeLemmas.{Beside, Stands, beside, gives_up, idle, ledger_is, reading, shown, step_request, under, writing}
 use Rattle.disk_model.proofs.agreement.TransferLemmas.{step_data}
 use Rattle.disk_model.proofs.agreement.StartLemmas.{step_sent, picked_in}
+use Rattle.disk_model.proofs.agreement.StoreLemmas.{with_writes-append}
 
 -- ## What a command asks for
 
@@ -84,6 +87,36 @@ step_heard plan sectors m k (Ok (view.PioSetup f)) sized a = a
 step_heard plan sectors m k (Ok (view.Unknown f)) sized a = a
 step_heard plan sectors m k (Err e) sized a = a
 
+pub put_all : (xs ys : List ℕ) → length xs ≡ length ys → put xs 0 ys ≡ ys
+put_all xs ys long =
+    let whole : 0 + length ys ≡ length xs = omega (arith, long) in
+    ap (λ (n : ℕ). ys ++ drop n xs) whole ∙ ap (λ (zs : List ℕ). ys ++ zs) (drop-length xs) ∙ append-nil ys
+
+step_loaded : (plan : DiskPlan) (sectors : ℕ) (k : Beside) (bytes : List ℕ) → length bytes ≡ 512 * sectors
+    → Stands plan sectors (opening sectors) k
+    → Agrees plan sectors (new_with bytes) (listens (shown (opening sectors) k) (Loaded bytes))
+step_loaded plan sectors k bytes long a = record {
+  outstanding = refl;
+  failed = refl;
+  unanswered = refl;
+  medium = sym (with_writes-append (opening_medium sectors) k.writes (loaded bytes)
+      ∙ put_all (medium_with sectors k.writes) bytes (ap length (sym a.medium) ∙ a.length_is ∙ sym long));
+  length_is = long;
+  queue = tt;
+  tags = tt;
+  reads = a.reads;
+  moving = by_moving k.moving a.moving;
+  failure = a.failure;
+  resetting = refl;
+  in_reset = refl;
+  awaited = refl;
+  pages = a.pages;
+}
+  where
+    by_moving : (v : Option Moving) → Moves plan sectors (opening_medium sectors) [] [] None None v → Moves plan sectors bytes [] [] None None v
+    by_moving None moving = tt
+    by_moving (Some v) moving = absurd moving
+
 step_shown : (plan : DiskPlan) (sectors : ℕ) (m : Moment) (k : Beside) (e : Happening) → IsSized plan
     → Stands plan sectors m k → MayHappen plan sectors m e → Agrees plan sectors (after plan sectors m e) (listens (shown m k) e)
 step_shown plan sectors m k (Received bytes) sized a may = step_heard plan sectors m k (seen bytes) sized a
@@ -91,6 +124,9 @@ step_shown plan sectors m k (Sent bytes) sized a may =
     step_sent plan sectors m k m.owed m.started m.writing k.moving bytes sized a.moving a may
 step_shown plan sectors m k Plugged sized a may =
     gives_up plan sectors m (shown m k) a None None m.resetting (Signature ∷ []) tt refl refl
+step_shown plan sectors m k (Loaded bytes) sized a may =
+    subst (λ (x : Moment). Stands plan sectors x k → Agrees plan sectors (after plan sectors x (Loaded bytes)) (listens (shown x k) (Loaded bytes)))
+    (sym may.0) (step_loaded plan sectors k bytes may.1) a
 
 step : (plan : DiskPlan) (sectors : ℕ) (m : Moment) (l : Ledger) (e : Happening) → IsSized plan
     → Agrees plan sectors m l → MayHappen plan sectors m e → Agrees plan sectors (after plan sectors m e) (listens l e)

@@ -17,7 +17,7 @@ use Rattle.disk_model.specs.declared.answer.Answer.{Answer}
 use Rattle.disk_model.specs.declared.answer.Answer.TheVariants.{Signature, Accepted, Finished, Refused, Ended, PageFollows, PageData}
 use Rattle.disk_model.specs.declared.answer.Fault.{Fault}
 use Rattle.disk_model.specs.declared.answer.Page.{Page}
-use Rattle.disk_model.specs.Histories.{Happening, Received, Sent, Plugged}
+use Rattle.disk_model.specs.Histories.{Happening, Received, Sent, Plugged, Loaded}
 use Rattle.disk_model.specs.Requests.{request_of}
 use Rattle.disk_model.specs.Disks.{Started, Writing, opening, pick_turn, picked, turn}
 use Rattle.disk_model.specs.Runs.{IsDiskRun, IsTurn, moment}
@@ -127,6 +127,7 @@ all_unheard l (Received bytes ∷ between) now none =
     ap (λ (x : Ledger). ledger_after x between) same ∙ all_unheard l between now none.1
 all_unheard l (Sent bytes ∷ between) now none = absurd none
 all_unheard l (Plugged ∷ between) now none = absurd none
+all_unheard l (Loaded bytes ∷ between) now none = absurd none
 
 still : (before between : List Happening) (error : List ℕ) → reports (seen error) ≡ true → AreUnheard between → ledger ((before ++ Sent error ∷ []) ++ between) ≡ ledger (before ++ Sent error ∷ [])
 still before between error is none =

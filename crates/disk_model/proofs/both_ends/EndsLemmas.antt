@@ -13,7 +13,7 @@ use Rattle.disk_model.specs.declared.plan.DiskPlan.{DiskPlan}
 use Rattle.disk_model.specs.declared.request.Command.{Command}
 use Rattle.disk_model.specs.declared.request.Request.{Request}
 use Rattle.disk_model.specs.declared.request.Request.TheVariants.{Reset, Queue, ReadErrorLog, Identify, Flush, Other}
-use Rattle.disk_model.specs.Histories.{Happening, Received, Sent, Plugged}
+use Rattle.disk_model.specs.Histories.{Happening, Received, Sent, Plugged, Loaded}
 use Rattle.disk_model.specs.Requests.{request_of}
 use Rattle.disk_model.specs.Disks.{opening}
 use Rattle.disk_model.specs.Runs.{IsDiskRun}
@@ -307,11 +307,13 @@ unfolding FitsAll ledger_after
 careful_last l [] (Received bytes) careful = (tt, careful.0)
 careful_last l [] (Sent bytes) careful = (tt, tt)
 careful_last l [] Plugged careful = (tt, tt)
+careful_last l [] (Loaded b) careful = absurd careful
 careful_last l (Received b ∷ host) e careful =
     let rest = careful_last (listens l (Received b)) host e careful.1 in
     ((careful.0, rest.0), rest.1)
 careful_last l (Sent b ∷ host) e careful = careful_last (listens l (Sent b)) host e careful
 careful_last l (Plugged ∷ host) e careful = careful_last (listens l Plugged) host e careful
+careful_last l (Loaded b ∷ host) e careful = absurd careful
 
 -- ## Reads
 

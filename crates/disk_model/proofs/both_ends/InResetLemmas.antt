@@ -13,7 +13,7 @@ use Rattle.disk_model.specs.declared.request.Request.{Request}
 use Rattle.disk_model.specs.declared.request.Request.TheVariants.{Reset, Queue, ReadErrorLog, Identify, Flush, Other}
 use Rattle.disk_model.specs.Anew.{IsRequest, OwesOnly}
 use Rattle.disk_model.specs.Disks.{Moment, after, cleared, heard, moment_after, opening, pick_turn, picked, received, turn}
-use Rattle.disk_model.specs.Histories.{Happening, Received, Sent, Plugged, sent_in}
+use Rattle.disk_model.specs.Histories.{Happening, Received, Sent, Plugged, Loaded, sent_in}
 use Rattle.disk_model.specs.InReset.{IsHeldRun, LeavesReset, LeavesSet, NoneEndsReset, TakesNoCommand}
 use Rattle.disk_model.specs.Ledger.{Ledger, Signs, asks, ledger, ledger_after, listens, listens_down}
 use Rattle.disk_model.specs.Requests.{request_of}
@@ -69,6 +69,7 @@ still plan sectors m (Received bytes ∷ later) stays run =
     record { silent = rest.silent; same = ap (λ (x : Moment). moment_after plan sectors x later) here ∙ rest.same }
 still plan sectors m (Sent bytes ∷ later) stays run = absurd (no_turn plan sectors m bytes run.0)
 still plan sectors m (Plugged ∷ later) stays run = absurd stays
+still plan sectors m (Loaded bytes ∷ later) stays run = absurd stays
 
 -- ## From a new disk on
 
@@ -137,6 +138,7 @@ still_told l (Received bytes ∷ later) stays none =
     ap (λ (x : Ledger). ledger_after x later) here ∙ still_told l later stays.1 none
 still_told l (Sent bytes ∷ later) stays none = cc none
 still_told l (Plugged ∷ later) stays none = absurd stays
+still_told l (Loaded bytes ∷ later) stays none = absurd stays
 
 held_told : (plan : DiskPlan) (sectors : ℕ) (before : List Happening) (on : List ℕ) (between : List Happening)
     → IsHeldRun plan sectors before on between

@@ -12,7 +12,7 @@ use Rattle.fis_view.specs.declared.view.FisFault.{FisFault}
 use Rattle.disk_model.specs.declared.request.Command.{Command}
 use Rattle.disk_model.specs.declared.request.Request.{Request}
 use Rattle.disk_model.specs.declared.request.Request.TheVariants.{Reset, Queue, ReadErrorLog, Identify, Flush, Other}
-use Rattle.disk_model.specs.Histories.{Happening, Received, Sent, Plugged}
+use Rattle.disk_model.specs.Histories.{Happening, Received, Sent, Plugged, Loaded}
 use Rattle.disk_model.specs.Requests.{request_of}
 use Rattle.disk_model.specs.Laws.{ActivatesRight, CarriesRight, SetsUpRight}
 use Rattle.disk_model.specs.Ledger.{Ledger, Moving, ReadOut, Written, activates, answers, empty, ends, has_error, is_auto, ledger, ledger_after, listens, listens_down, listens_up, moves, sends_data, sets_up, starts_moving, takes_data, with_auto}
@@ -237,6 +237,7 @@ module _ (ws : List Written) (rs : List ReadOut) (resetting : Bool) where
   goes_later l (Plugged ∷ since) fits =
       let rest : GoesLater (listens l Plugged) since = goes_later (listens l Plugged) since fits in
       record { is = rest.is; fits = rest.fits }
+  goes_later l (Loaded bytes ∷ since) fits = absurd fits
 
   -- ---- what is right
 

@@ -12,9 +12,9 @@ use Rattle.fis_view.specs.declared.view.FisFault.{FisFault}
 use Rattle.disk_model.specs.declared.request.Command.{Command}
 use Rattle.disk_model.specs.declared.request.Request.{Request}
 use Rattle.disk_model.specs.declared.request.Request.TheVariants.{Reset, Queue, ReadErrorLog, Identify, Flush, Other}
-use Rattle.disk_model.specs.Histories.{Happening, Received, Sent, Plugged}
+use Rattle.disk_model.specs.Histories.{Happening, Received, Sent, Plugged, Loaded}
 use Rattle.disk_model.specs.Requests.{request_of}
-use Rattle.disk_model.specs.Ledger.{Accepts, Ledger, Moving, Written, activates, answers, asks, awaits, empty, ends, has_error, is_auto, ledger, ledger_after, listens, listens_down, listens_up, mixes, moves, reads_log, refuses, restarts, sends_data, sets_up, starts_moving, takes_data, with_auto}
+use Rattle.disk_model.specs.Ledger.{Accepts, Ledger, Moving, Written, activates, answers, asks, awaits, empty, ends, has_error, is_auto, ledger, ledger_after, listens, listens_down, listens_up, mixes, moves, reads_log, refuses, restarts, sends_data, sets_up, starts_moving, takes_data, with_auto, loaded}
 use Rattle.disk_model.specs.Anew.{WritesStay}
 use Rattle.disk_model.specs.Ends.{with_down}
 use Rattle.disk_model.specs.Between.{with_bytes}
@@ -135,6 +135,7 @@ one : (l : Ledger) (e : Happening) → GoesOn l (listens l e)
 one l (Received bytes) = down l (seen bytes)
 one l (Sent bytes) = up l (seen bytes)
 one l Plugged = stays l (listens l Plugged) refl
+one l (Loaded bytes) = record { later = loaded bytes ∷ []; same = refl }
 
 all : (l : Ledger) (history : List Happening) → GoesOn l (ledger_after l history)
 unfolding ledger_after

@@ -13,9 +13,9 @@ use Rattle.fis_view.specs.declared.view.FisFault.{FisFault}
 use Rattle.disk_model.specs.declared.request.Command.{Command}
 use Rattle.disk_model.specs.declared.request.Request.{Request}
 use Rattle.disk_model.specs.declared.request.Request.TheVariants.{Reset, Queue, ReadErrorLog, Identify, Flush, Other}
-use Rattle.disk_model.specs.Histories.{Happening, Received, Sent, Plugged}
+use Rattle.disk_model.specs.Histories.{Happening, Received, Sent, Plugged, Loaded}
 use Rattle.disk_model.specs.Requests.{request_of}
-use Rattle.disk_model.specs.Ledger.{Accepts, Ledger, Moving, ReadOut, Written, activates, answers, asks, awaits, empty, ends, has_error, is_auto, ledger, ledger_after, listens, listens_down, listens_up, mixes, moves, reads_log, refuses, restarts, sends_data, sets_up, starts_moving, takes_data, with_auto}
+use Rattle.disk_model.specs.Ledger.{Accepts, Ledger, Moving, ReadOut, Written, activates, answers, asks, awaits, empty, ends, has_error, is_auto, ledger, ledger_after, listens, listens_down, listens_up, mixes, moves, reads_log, refuses, restarts, sends_data, sets_up, starts_moving, takes_data, with_auto, loaded}
 use Rattle.disk_model.specs.Ends.{with_down}
 use Rattle.disk_model.specs.Fronts.{BeforeIsFront, HostIsAhead, IsFront}
 use Rattle.disk_model.specs.Between.{with_bytes}
@@ -174,6 +174,11 @@ one : (l : Ledger) (e : Happening) → AreFronts l → AreFronts (listens l e)
 one l (Received bytes) f = down l (seen bytes) f
 one l (Sent bytes) f = up l (seen bytes) f
 one l Plugged f = record { reads = f.reads; moving = tt }
+one l (Loaded bytes) f = record { reads = all_further l.reads l.writes (loaded bytes) f.reads; moving = moving_further l.moving f.moving }
+  where
+    moving_further : (v : Option Moving) → OfMoving v l.writes → OfMoving v (l.writes ++ loaded bytes ∷ [])
+    moving_further None g = tt
+    moving_further (Some v) g = further v.before l.writes (loaded bytes) g
 
 all_of : (l : Ledger) (history : List Happening) → AreFronts l → AreFronts (ledger_after l history)
 unfolding ledger_after

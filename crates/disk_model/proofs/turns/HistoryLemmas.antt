@@ -1,7 +1,7 @@
 -- For the calls of a disk. What one more event adds to what was sent.
 use Rattle.std.proofs.Common.{◌≡◌, ℕ, List, [], ◌∷◌, ◌++◌, refl, ap, sym, ◌∙◌, ◌+◌, ◌<◌, get_or, drop, length, append_assoc}
 use Rattle.std.proofs.lemmas.List.{append-nil, drop_more}
-use Rattle.disk_model.specs.Histories.{Happening, Received, Sent, Plugged, Script, sent_in, GoesOn, SendsNext}
+use Rattle.disk_model.specs.Histories.{Happening, Received, Sent, Plugged, Loaded, Script, sent_in, GoesOn, SendsNext}
 use Rattle.disk_model.specs.Scripts.{Reading, script_of, ScriptStandsFor, ScriptMaySend}
 
 pub sent_in-append : (h e : List Happening) → sent_in (h ++ e) ≡ sent_in h ++ sent_in e
@@ -9,6 +9,7 @@ sent_in-append [] e = refl
 sent_in-append (Received b ∷ h) e = sent_in-append h e
 sent_in-append (Sent b ∷ h) e = ap (λ (xs : List (List ℕ)). b ∷ xs) (sent_in-append h e)
 sent_in-append (Plugged ∷ h) e = sent_in-append h e
+sent_in-append (Loaded b ∷ h) e = sent_in-append h e
 
 -- an event that sends nothing
 pub script_stays : (s : Reading) (e : Happening) → sent_in (e ∷ []) ≡ [] → GoesOn script_of ScriptStandsFor s e s

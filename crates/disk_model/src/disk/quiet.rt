@@ -1,12 +1,14 @@
 //! What a disk sends next, and how that is sent to nobody: for who stands before the disk and speaks for it.
 
-ghost use Rattle.std.specs.Prelude.{ℕ, ◌≡◌, ◌≢◌, ◌<◌, List, [], None, OnErr, OnOk, Some, true};
+ghost use Rattle.std.specs.Prelude.{ℕ, ◌≡◌, ◌≢◌, ◌<◌, List, [], ◌∷◌, None, OnErr, OnOk, Some, true};
 ghost use Rattle.disk_model.specs.declared.plan.DiskPlan.{DiskPlan};
 ghost use Rattle.disk_model.specs.Chunks.{fault_of};
 ghost use Rattle.disk_model.specs.Disks.{Moment, read_turn};
+ghost use Rattle.disk_model.specs.Histories.{Loaded};
 ghost use Rattle.disk_model.specs.Insides.{sends_of};
 ghost use Rattle.disk_model.specs.Quiet.{after_next, begun_with, due_by, due_in, is_at_rest, kind_of};
 ghost use Rattle.disk_model.specs.Requests.{IsCounted};
+ghost use Rattle.disk_model.specs.Runs.{DiskStandsFor};
 ghost use Rattle.disk_model.specs.Sendings.{answer_sent};
 
 use super::send::{asked, moved_on, zeros};
@@ -231,9 +233,11 @@ impl Disk {
         command_fault(&self.plan, self.sectors, command)
     }
 
-    /// Whether nothing is queued and nothing is to be sent, and the disk takes commands.
+    /// Whether nothing is queued and nothing is to be sent, and the disk takes commands. Then it stands for a new disk
+    /// with its sectors, whatever it did before.
     pub fn is_at_rest(&self) -> bool
-        ensures { result ≡ is_at_rest self.now.now }
+        ensures rests { result ≡ is_at_rest self.now.now }
+        ensures anew { result ≡ true → DiskStandsFor self.now (Loaded self.now.now.medium ∷ []) }
     {
         self.queue.is_empty()
             && self.answers.is_empty()

@@ -20,7 +20,7 @@ fn is_held(fault: Option<Fault>) -> bool
 
 impl Disk {
     /// Drops all that a reset drops.
-    fn clear(&mut self)
+    pub(super) fn clear(&mut self)
         ensures { self.new ≡ with_now self.old (cleared self.old.now) }
     {
         self.queue.clear();

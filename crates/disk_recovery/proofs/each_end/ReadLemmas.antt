@@ -19,7 +19,7 @@ use Rattle.disk_model.specs.declared.request.Request.TheVariants as asked
 use Rattle.disk_model.specs.Chunks.{put}
 use Rattle.disk_model.specs.Anew.{IsCarefulSince, IsLinkedOn}
 use Rattle.disk_model.specs.Ends.{EndsAgree, with_down, with_up}
-use Rattle.disk_model.specs.Histories.{Happening, Plugged, Received, Sent}
+use Rattle.disk_model.specs.Histories.{Happening, Plugged, Loaded, Received, Sent}
 use Rattle.disk_model.specs.Laws.{ActivatesRight, MovesRight, SetsUpNext, SetsUpRight, StartsOne}
 use Rattle.disk_model.specs.Ledger.{Accepts, IsSize, Ledger, Moving, ReadOut, Refuses, activates, answers, asks, awaits, empty, ends, has_error, is_auto}
 use Rattle.disk_model.specs.Ledger.{ledger, ledger_after, listens}
@@ -230,6 +230,7 @@ module _ (plan : DiskPlan) (sectors : ℕ) (size : IsSize plan sectors) where
       subst (λ (l : Ledger). IsAsked l.moving) (sym (told before (Sent bytes)))
       (asked_up (ledger before) (seen bytes) (moves_right plan sectors before bytes size run) a)
   asked_next before Plugged run a = subst (λ (l : Ledger). IsAsked l.moving) (sym (told before Plugged)) (asked_none (ledger before))
+  asked_next before (Loaded bytes) run a = subst (λ (l : Ledger). IsAsked l.moving) (sym (told before (Loaded bytes))) a
 
   asked_more : (before later : List Happening) → IsDiskRun plan sectors (before ++ later) → IsAsked (ledger before).moving
       → IsAsked (ledger (before ++ later)).moving
@@ -336,6 +337,7 @@ module _ (plan : DiskPlan) (sectors : ℕ) (size : IsSize plan sectors) where
       none_more (ledger before) (listens_down (ledger before) (seen bytes)) (keep_down (ledger before) (seen bytes) a).reads
   one_more before (Sent bytes) a = more_up (ledger before) (seen bytes)
   one_more before Plugged a = opens_more (ledger before)
+  one_more before (Loaded bytes) a = none_more (ledger before) (listens (ledger before) (Loaded bytes)) refl
 
   -- reads that ended stay so, whatever the disk does later
   reads_stay : (before later : List Happening) → IsDiskRun plan sectors (before ++ later) → IsAsked (ledger before).moving

@@ -15,7 +15,7 @@ use Rattle.disk_model.specs.declared.request.Request.{Request}
 use Rattle.disk_model.specs.declared.request.Request.TheVariants as asked
 use Rattle.disk_model.specs.Chunks.{put}
 use Rattle.disk_model.specs.Ends.{AreRight, Fits, FitsRequest, IsRight, PageAsked, Rests, with_down, with_up}
-use Rattle.disk_model.specs.Histories.{Happening, Plugged, Received, Sent}
+use Rattle.disk_model.specs.Histories.{Happening, Plugged, Loaded, Received, Sent}
 use Rattle.disk_model.specs.Laws.{ActivatesRight, AnswersFirst, SetsUpRight, ShowsFirst, StartsOne}
 use Rattle.disk_model.specs.Ledger.{Accepts, Finishes, Ledger, Moving, Names, Refuses, Reply, ShowsPage, answered, ends, goes_on, listens, listens_down, listens_up, moves, takes_data}
 use Rattle.disk_model.specs.Requests.{request_of}
@@ -42,6 +42,7 @@ flushes_more (Received bytes ∷ xs) ys =
     ∙ shift (one_if (is_flush (seen bytes))) (flushes_taken xs) (flushes_taken ys)
 flushes_more (Sent bytes ∷ xs) ys = flushes_more xs ys
 flushes_more (Plugged ∷ xs) ys = flushes_more xs ys
+flushes_more (Loaded bytes ∷ xs) ys = flushes_more xs ys
 
 pub among_more : (xs ys : List (List ℕ)) → flushes_among (xs ++ ys) ≡ flushes_among xs + flushes_among ys
 unfolding flushes_among

@@ -14,7 +14,7 @@ use Rattle.disk_model.specs.declared.request.Request.{Request}
 use Rattle.disk_model.specs.declared.request.Request.TheVariants.{Reset, Queue, Flush, Other}
 use Rattle.disk_model.specs.Chunks.{put}
 use Rattle.disk_model.specs.Ends.{Fits, FitsAll, FitsRequest, IsCareful, reports}
-use Rattle.disk_model.specs.Histories.{Happening, Plugged, Received, Sent}
+use Rattle.disk_model.specs.Histories.{Happening, Plugged, Loaded, Received, Sent}
 use Rattle.disk_model.specs.Ledger.{Accepts, Finishes, Ledger, Moving, Refuses, Reply, ShowsPage, Signs, activates, answers, asks, empty, ends, has_error, is_auto, ledger, ledger_after, listens, listens_down, listens_up, mixes, moves, sends_data, sets_up, starts_moving, takes_data, with_auto}
 use Rattle.disk_model.specs.Requests.{request_of}
 use Rattle.hba_laws.specs.History.{History}
@@ -34,6 +34,7 @@ fits_last l [] bytes h = h.0
 fits_last l (Received a ∷ given) bytes h = fits_last (listens l (Received a)) given bytes h.1
 fits_last l (Sent a ∷ given) bytes h = fits_last (listens l (Sent a)) given bytes h
 fits_last l (Plugged ∷ given) bytes h = fits_last (listens l Plugged) given bytes h
+fits_last l (Loaded a ∷ given) bytes h = absurd h
 
 -- ---- what goes down
 

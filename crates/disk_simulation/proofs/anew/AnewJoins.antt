@@ -15,7 +15,7 @@ use Rattle.hba_fbs.specs.Taking.{port_of}
 use Rattle.hba_fbs.specs.Views.{DeviceView, view_of}
 use Rattle.disk_model.specs.Anew.{IsCarefulSince, IsClear, OwesOnly}
 use Rattle.disk_model.specs.Ends.{FitsAll}
-use Rattle.disk_model.specs.Histories.{Happening, Plugged, Received, Sent}
+use Rattle.disk_model.specs.Histories.{Happening, Plugged, Loaded, Received, Sent}
 use Rattle.disk_model.specs.Ledger.{Ledger, ShowsPage, Signs, Wanted, empty, ledger, ledger_after, listens}
 use Rattle.disk_model.specs.Between.{FitsOne}
 use Rattle.disk_model.proofs.Door.{after_more, begins_anew, ledger_push}
@@ -76,7 +76,9 @@ careful_base base = record { since = []; is = sym (append-nil base); fits = tt }
 fits_last : (l : Ledger) (e : Happening) → FitsOne l e → FitsAll l (e ∷ [])
 unfolding FitsAll
 fits_last l (Received bytes) fits = (fits, tt)
-fits_last l other fits = tt
+fits_last l (Sent bytes) fits = tt
+fits_last l Plugged fits = tt
+fits_last l (Loaded bytes) fits = absurd fits
 
 fits_more : (l : Ledger) (given : List Happening) (e : Happening) → FitsAll l given → FitsOne (ledger_after l given) e → FitsAll l (given ++ e ∷ [])
 unfolding FitsAll ledger_after
@@ -84,6 +86,7 @@ fits_more l [] e all one = fits_last l e one
 fits_more l (Received bytes ∷ given) e all one = (all.0, fits_more (listens l (Received bytes)) given e all.1 one)
 fits_more l (Sent bytes ∷ given) e all one = fits_more (listens l (Sent bytes)) given e all one
 fits_more l (Plugged ∷ given) e all one = fits_more (listens l Plugged) given e all one
+fits_more l (Loaded bytes ∷ given) e all one = absurd all
 
 pub careful_more : (base given : List Happening) (e : Happening) → IsCarefulSince base given → FitsOne (ledger given) e
     → IsCarefulSince base (given ++ e ∷ [])

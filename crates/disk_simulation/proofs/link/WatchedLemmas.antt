@@ -7,7 +7,7 @@ use Rattle.disk_model.specs.declared.plan.DiskPlan.{DiskPlan}
 use Rattle.disk_model.specs.Anew.{IsCarefulSince, IsClear, IsLinkedOn}
 use Rattle.disk_model.specs.Anew as link
 use Rattle.disk_model.specs.Ends.{reports}
-use Rattle.disk_model.specs.Histories.{Happening, Plugged, Received, Sent}
+use Rattle.disk_model.specs.Histories.{Happening, Plugged, Loaded, Received, Sent}
 use Rattle.disk_model.specs.Fronts.{IsFront}
 use Rattle.disk_model.specs.Ledger.{IsSize, Ledger, Written, ledger}
 use Rattle.disk_model.specs.Runs.{IsDiskRun}
@@ -36,12 +36,14 @@ gave_received [] bytes gave one = (one, tt)
 gave_received (Received b ∷ since) bytes gave one = (gave.0, gave_received since bytes gave.1 one)
 gave_received (Sent b ∷ since) bytes gave one = gave_received since bytes gave one
 gave_received (Plugged ∷ since) bytes gave one = gave_received since bytes gave one
+gave_received (Loaded b ∷ since) bytes gave one = gave_received since bytes gave one
 
 gave_sent : (since : List Happening) (bytes : List ℕ) → GavePlain since → GavePlain (since ++ Sent bytes ∷ [])
 gave_sent [] bytes gave = tt
 gave_sent (Received b ∷ since) bytes gave = (gave.0, gave_sent since bytes gave.1)
 gave_sent (Sent b ∷ since) bytes gave = gave_sent since bytes gave
 gave_sent (Plugged ∷ since) bytes gave = gave_sent since bytes gave
+gave_sent (Loaded b ∷ since) bytes gave = gave_sent since bytes gave
 
 since_given : (base host : List Happening) (bytes : List ℕ) → IsPlain (seen bytes) → IsPlainSince base host
     → IsPlainSince base (host ++ Received bytes ∷ [])

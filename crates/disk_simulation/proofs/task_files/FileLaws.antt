@@ -19,7 +19,7 @@ use Rattle.disk_model.specs.declared.request.Request.{Request}
 use Rattle.disk_model.specs.declared.request.Request.TheVariants.{Queue, Identify, Flush}
 use Rattle.disk_model.specs.Anew.{IsClear}
 use Rattle.disk_model.specs.Ends.{Fits, FitsAll, IsRight}
-use Rattle.disk_model.specs.Histories.{Happening, Plugged, Received, Sent}
+use Rattle.disk_model.specs.Histories.{Happening, Plugged, Loaded, Received, Sent}
 use Rattle.disk_model.specs.Ledger.{Accepts, Finishes, Ledger, ShowsPage, ledger, ledger_after, listens, listens_down}
 use Rattle.disk_model.specs.Requests.{request_of}
 use Rattle.disk_model.specs.Between.{alone}
@@ -62,6 +62,7 @@ unrefused_all k (Received bytes ∷ since) none gave fits =
 unrefused_all k (Sent bytes ∷ since) none gave fits =
     unrefused_all (listens k (Sent bytes)) since ((leaves_up k (seen bytes)).each IsNoRefusal none) gave fits
 unrefused_all k (Plugged ∷ since) none gave fits = unrefused_all (listens k Plugged) since (tt, tt) gave fits
+unrefused_all k (Loaded bytes ∷ since) none gave fits = absurd fits
 
 pub nothing_is_refused : NothingIsRefused
 nothing_is_refused base given none plain careful =

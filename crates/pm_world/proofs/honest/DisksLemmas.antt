@@ -17,14 +17,12 @@ use Rattle.hba_fbs.specs.Views.{last_command, view_of}
 use Rattle.hba_fbs.proofs.Door as slot_lemmas
 use Rattle.disk_model.specs.declared.plan.DiskPlan.{DiskPlan}
 use Rattle.disk_model.specs.declared.request.Command.{Command}
+use Rattle.disk_model.specs.declared.unit.Unit.TheVariants.{Disk, Scripted}
 use Rattle.disk_model.specs.Chunks.{sectors_at}
-use Rattle.disk_model.specs.Disks.{Moment}
-use Rattle.disk_model.specs.Disks as disks
-use Rattle.disk_model.specs.Histories.{DiskOf, Happening, Plugged, Received, Sent}
+use Rattle.disk_model.specs.Histories.{DiskOf, Happening}
 use Rattle.disk_model.specs.Ledger.{IsSize, ReadOut, Written, ledger, medium_with}
-use Rattle.disk_model.specs.Runs.{IsDiskRun, moment}
-use Rattle.disk_model.specs.Runs as runs
-use Rattle.disk_model.proofs.Door.{before_is_front, moment_after-append, writes_stay}
+use Rattle.disk_model.specs.Runs.{IsDiskRun}
+use Rattle.disk_model.proofs.Door.{before_is_front, writes_stay}
 use Rattle.hba_laws.specs.Agreement.{work_of_issue, work_of_transfer}
 use Rattle.hba_laws.specs.Client.{own}
 use Rattle.hba_laws.specs.Delivering.{completes_now, event_taken}
@@ -44,10 +42,10 @@ use Rattle.disk_simulation.specs.Honest.{IsDoneHonestly, IsOnMedium}
 use Rattle.disk_recovery.specs.Steady.{command_of}
 use Rattle.fis_view.specs.Frames.{marked}
 use Rattle.disk_recovery.proofs.Door.{each_end_is_honest, flushes_are_taken, request_kind, request_pio}
-use Rattle.pm_world.specs.Attached.{Attached, StandsFor, plan_of}
+use Rattle.pm_world.specs.Attached.{Attached, Modelled, Own, StandsFor, plan_of}
 use Rattle.pm_world.proofs.honest.EndsSteps.{HasEnds, running}
 use Rattle.pm_world.proofs.control_port.LineLemmas.{IsNow}
-use Rattle.pm_world.specs.Units.{LivesOn, MaySendAll}
+use Rattle.pm_world.specs.Units.{LivesOn}
 use Rattle.pm_world.specs.Places.{Place, Places}
 use Rattle.pm_world.specs.Rules.{Rule}
 use Rattle.pm_world.specs.declared.step.Step.{Step}
@@ -65,34 +63,21 @@ use Rattle.disk_recovery.specs.Flushes.{Floor, flushes_taken, write_floors}
 
 -- ## The disk's run
 
-pub may_run : (plan : DiskPlan) (sectors : ℕ) (before later : List Happening) → MaySendAll (DiskOf plan sectors) before later
-    → runs.Runs plan sectors (moment plan sectors before) later
-unfolding runs.Runs
-may_run plan sectors before [] all = tt
-may_run plan sectors before (Sent bytes ∷ later) all = (
-  all.0,
-  subst (λ (m : Moment). runs.Runs plan sectors m later) (moment_after-append plan sectors (disks.opening sectors) before (Sent bytes))
-      (may_run plan sectors (before ++ Sent bytes ∷ []) later all.1),
-)
-may_run plan sectors before (Received bytes ∷ later) all = (
-  tt,
-  subst (λ (m : Moment). runs.Runs plan sectors m later) (moment_after-append plan sectors (disks.opening sectors) before (Received bytes))
-      (may_run plan sectors (before ++ Received bytes ∷ []) later all),
-)
-may_run plan sectors before (Plugged ∷ later) all = (
-  tt,
-  subst (λ (m : Moment). runs.Runs plan sectors m later) (moment_after-append plan sectors (disks.opening sectors) before Plugged)
-      (may_run plan sectors (before ++ Plugged ∷ []) later all),
-)
+pub same_plan : (p q : DiskPlan) (k l : ℕ) → DiskOf p k ≡ DiskOf q l → (p ≡ q) × (k ≡ l)
+same_plan p q k l is = (cc is, cc is)
 
-pub lived_run : (unit : Attached) (events : List Happening) (o : Option Place) → StandsFor unit [] → IsSomeAnd o (λ place. LivesOn unit events place.unit)
-    → MaySendAll (plan_of unit) [] events
-lived_run unit events None stands lived = absurd lived
-lived_run unit events (Some place) stands lived = lived.sends [] stands
+run_of_unit : (p : DiskPlan) (k : ℕ) (history : List Happening) (u : Attached) → StandsFor u history → plan_of u ≡ DiskOf p k → IsDiskRun p k history
+run_of_unit p k history (Modelled (Disk x)) stands is =
+    let same = same_plan x.plan p x.sectors k is in
+    subst (λ (l : ℕ). IsDiskRun p l history) same.1 (subst (λ (q : DiskPlan). IsDiskRun q x.sectors history) same.0 stands.run)
+run_of_unit p k history (Modelled (Scripted reading)) stands is = absurd (cc is)
+run_of_unit p k history Own stands is = absurd stands
 
-pub from_opening : (plan : DiskPlan) (sectors : ℕ) (events : List Happening) → runs.Runs plan sectors (moment plan sectors []) events → IsDiskRun plan sectors events
-unfolding disks.moment_after
-from_opening plan sectors events run = run
+pub lived_run : (p : DiskPlan) (k : ℕ) (unit : Attached) (past events : List Happening) (o : Option Place) → StandsFor unit past → plan_of unit ≡ DiskOf p k
+    → IsSomeAnd o (λ place. LivesOn unit events place.unit) → IsDiskRun p k (past ++ events)
+lived_run p k unit past events None stands is lived = absurd lived
+lived_run p k unit past events (Some place) stands is lived =
+    run_of_unit p k (past ++ events) place.unit (lived.stands_for past stands) (lived.plan ∙ is)
 
 -- ## What is issued
 

@@ -12,19 +12,19 @@ use Rattle.hba_fbs.specs.declared.report.TakeReport.{TakeReport}
 use Rattle.hba_fbs.specs.Taking.{port_of}
 use Rattle.disk_model.specs.declared.plan.DiskPlan.{DiskPlan}
 use Rattle.disk_model.specs.declared.unit.Unit.TheVariants.{Disk}
-use Rattle.disk_model.specs.Histories.{Happening, Plugged}
+use Rattle.disk_model.specs.Histories.{DiskOf, Happening, Plugged}
 use Rattle.disk_model.specs.Runs.{IsDiskRun}
 use Rattle.hba_driver.specs.declared.mode.Mode.TheVariants.{Switching}
 use Rattle.hba_driver.specs.HostTurns.{HostTurn}
 use Rattle.disk_simulation.proofs.Door.{run_to}
 use Rattle.pm_world.specs.Attached.{Attached, Modelled, plan_of}
-use Rattle.pm_world.specs.Disks.{Before, DiskRun, EndedSince, FlushedSince, HonestDisks, IsNewDisk, Since, WasSubmitted, disk_history, host_turns}
+use Rattle.pm_world.specs.Disks.{Before, DiskRun, EndedSince, FlushedSince, HasDisk, HonestDisks, Since, WasSubmitted, disk_history, host_turns}
 use Rattle.pm_world.specs.Places.{Places, is_config, new_world}
 use Rattle.pm_world.specs.Rules.{Rule, Run}
 use Rattle.pm_world.specs.Runs.{IsStepOf, over}
 use Rattle.pm_world.specs.HostTouches.{AreTouched}
 use Rattle.pm_world.specs.Turns.{turn_of}
-use Rattle.pm_world.specs.Units.{MaySendAll, happens}
+use Rattle.pm_world.specs.Units.{happens}
 use Rattle.pm_world.specs.PathEnds.{injects}
 use Rattle.pm_world.specs.declared.step.Answer.{Answer}
 use Rattle.pm_world.specs.declared.step.Answer.TheVariants as answer
@@ -34,7 +34,7 @@ use Rattle.pm_world.specs.declared.step.Step.TheVariants as step
 use Rattle.pm_world.proofs.honest.AnewLemmas.{OrderedNow, now_at, order_run, ordered_after, ordered_on}
 use Rattle.pm_world.proofs.turns.Delivery.{sized}
 use Rattle.pm_world.specs.ReadBack.{IsPart}
-use Rattle.pm_world.proofs.honest.DisksLemmas.{ends_honestly, ends_later, flush_of_device, flush_taken, from_opening, lived_run, may_run, of_device}
+use Rattle.pm_world.proofs.honest.DisksLemmas.{ends_honestly, ends_later, flush_of_device, flush_taken, lived_run, of_device}
 use Rattle.pm_world.proofs.honest.DisksLemmas.{part_front}
 use Rattle.pm_world.proofs.honest.EarlyLemmas.{ComesShut, comes_shut}
 use Rattle.pm_world.proofs.honest.EndsRuns.{its_port}
@@ -65,12 +65,15 @@ use Rattle.pm_world.proofs.control_port.LineLemmas.{IsNow}
 
 -- ## The law
 
-module _ (config : Config) (units : List Attached) (n sectors : ℕ) (plan : DiskPlan) (fits : is_config config (length units) ≡ true) (below : n < 15)
-    (disk : IsNewDisk units n plan sectors) (now : Places) (d : DiskRun config units n now) where
+module _ (config : Config) (units : List Attached) (n sectors : ℕ) (plan : DiskPlan) (past : List Happening) (fits : is_config config (length units) ≡ true)
+    (below : n < 15) (disk : HasDisk units n plan sectors past) (now : Places) (d : DiskRun config units n now) where
   -- ## What is told of the two parts of the run
 
+  abbrev first_history : List Happening
+  first_history = over (happens n) (new_world config units) d.first d.told d.out d.made
+
   abbrev before : List Happening
-  before = over (happens n) (new_world config units) d.first d.told d.out d.made
+  before = past ++ first_history
 
   abbrev since : List Happening
   since = over (happens n) d.out (step.Came n ∷ d.steps) (answer.Came n d.conn ∷ d.answers) now d.run
@@ -89,19 +92,15 @@ module _ (config : Config) (units : List Attached) (n sectors : ℕ) (plan : Dis
 
   -- ## The disk's run
 
-  may_send : MaySendAll (plan_of (Modelled (Disk disk.disk))) [] (before ++ since)
-  may_send =
-      lived_run (Modelled (Disk disk.disk)) (before ++ since) (slice_get now.devices n) disk.fresh
-      (units_lived_on d.out (step.Came n ∷ d.steps) (answer.Came n d.conn ∷ d.answers) now d.run Switching config units fits d.first d.told d.made n (Modelled (Disk disk.disk))
-      disk.there)
-
-  own_run : IsDiskRun disk.disk.plan disk.disk.sectors (before ++ since)
-  own_run = from_opening disk.disk.plan disk.disk.sectors (before ++ since) (may_run disk.disk.plan disk.disk.sectors [] (before ++ since) may_send)
+  of_plan : plan_of (Modelled (Disk disk.disk)) ≡ DiskOf plan sectors
+  of_plan = ap (λ (p : DiskPlan). DiskOf p disk.disk.sectors) disk.plan_is ∙ ap (DiskOf plan) disk.sectors_are
 
   whole_run : IsDiskRun plan sectors (before ++ since)
   whole_run =
-      subst (λ (k : ℕ). IsDiskRun plan k (before ++ since)) disk.sectors_are
-      (subst (λ (p : DiskPlan). IsDiskRun p disk.disk.sectors (before ++ since)) disk.plan_is own_run)
+      subst (IsDiskRun plan sectors) (sym (append_assoc past first_history since))
+      (lived_run plan sectors (Modelled (Disk disk.disk)) past (first_history ++ since) (slice_get now.devices n) disk.stands of_plan
+      (units_lived_on d.out (step.Came n ∷ d.steps) (answer.Came n d.conn ∷ d.answers) now d.run Switching config units fits d.first d.told d.made n (Modelled (Disk disk.disk))
+      disk.there))
 
   abbrev all_steps : List Step
   all_steps = d.first ++ step.Came n ∷ d.steps
@@ -167,7 +166,7 @@ module _ (config : Config) (units : List Attached) (n sectors : ℕ) (plan : Dis
   -- it was submitted, after this history, with floors at which the disk and the host go on
   record HasSubmit (slot : ℕ) (e : Entry) : Type 0 where
     submit_before : List Happening
-    submitted : WasSubmitted config units n now d e submit_before
+    submitted : WasSubmitted config units n now d past e submit_before
     part : IsPart submit_before (before ++ since)
     stage : At (floor_for slot (floor_of submit_before)) now since turns
 
@@ -202,23 +201,22 @@ module _ (config : Config) (units : List Attached) (n sectors : ℕ) (plan : Dis
             let its : IsStepOf (step.Submit n i.request) (answer.Submitted i.ticket) (new_world config units) d.out d.first d.told d.made =
             renamed (step.Submit i.dev i.request) (step.Submit n i.request) (answer.Submitted i.ticket) (answer.Submitted i.ticket) (new_world config units)
             d.out d.first d.told d.made (ap (λ (m : ℕ). step.Submit m i.request) dev) refl i.its in
-            let done : List Happening = over (happens n) (new_world config units) i.its.before i.its.told i.its.at i.its.came in
+            let its_part : List Happening = over (happens n) (new_world config units) i.its.before i.its.told i.its.at i.its.came in
+            let done : List Happening = past ++ over (happens n) (new_world config units) i.its.before i.its.told i.its.at i.its.came in
             let more : List Happening = happens n i.its.at (step.Submit i.dev i.request) (answer.Submitted i.ticket) i.its.next
             ++ over (happens n) i.its.next i.its.after i.its.later d.out i.its.went in
-            let first_part : IsPart done (before ++ came) = record {
-              later = more ++ came;
-              is = ap (λ (xs : List Happening). xs ++ came) (i.happened n) ∙ append_assoc done more came;
+            let parts : before ≡ done ++ more = ap (λ (xs : List Happening). past ++ xs) (i.happened n) ∙ sym (append_assoc past its_part more) in
+            let part_of : (back : List Happening) → IsPart done (before ++ back) = λ back. record {
+              later = more ++ back;
+              is = ap (λ (xs : List Happening). xs ++ back) parts ∙ append_assoc done more back;
             } in
             record {
               submit_before = done;
               submitted = Before i.ticket i.request its (subst (λ (m : ℕ). new_entry i.ticket.0 m i.request ≡ rephased Waits e) dev is);
-              part = record {
-                later = more ++ since;
-                is = ap (λ (xs : List Happening). xs ++ since) (i.happened n) ∙ append_assoc done more since;
-              };
+              part = part_of since;
               stage =
                   opens_over (floor_for slot (floor_of done)) d.steps d.answers now d.run.2 d.clean whole_run
-                  (part_floor slot done (before ++ came) first_part);
+                  (part_floor slot done (before ++ came) (part_of came));
             }
 
     -- or since
@@ -359,7 +357,7 @@ module _ (config : Config) (units : List Attached) (n sectors : ℕ) (plan : Dis
 
     -- a FLUSH that is done was taken since it was submitted
     flushed : (slot : ℕ) (e : Entry) → slot < 30 → entry_at now.host.driver.entries slot ≡ Some e → is_queued e.head.work ≡ false
-        → has_bit report.done slot ≡ true → FlushedSince config units n now d e
+        → has_bit report.done slot ≡ true → FlushedSince config units n now d past e
     flushed slot e low is calm done =
         let submit : HasSubmit slot e = has_submit slot low e (flush_dev_of slot e low is calm done) is in
         let h : IsHeard (floor_for slot (floor_of submit.submit_before)) = heard (floor_for slot (floor_of submit.submit_before)) submit.stage in
@@ -380,7 +378,7 @@ module _ (config : Config) (units : List Attached) (n sectors : ℕ) (plan : Dis
         }
 
     ended : (slot : ℕ) (e : Entry) → slot < 30 → entry_at now.host.driver.entries slot ≡ Some e → is_queued e.head.work ≡ true
-        → has_bit report.done slot ≡ true → EndedSince config units n now d sectors slot e new.host.memory
+        → has_bit report.done slot ≡ true → EndedSince config units n now d past sectors slot e new.host.memory
     ended slot e low is queued done =
         let submit : HasSubmit slot e = has_submit slot low e (dev_of slot e low is queued done) is in
         let h : IsHeard (floor_for slot (floor_of submit.submit_before)) = heard (floor_for slot (floor_of submit.submit_before)) submit.stage in
@@ -401,14 +399,14 @@ module _ (config : Config) (units : List Attached) (n sectors : ℕ) (plan : Dis
         }
 
 pub disks_are_honest : HonestDisks
-disks_are_honest config units n sectors plan fits below disk now d s port conn number bytes report new rule here same =
+disks_are_honest config units n sectors plan past fits below disk now d s port conn number bytes report new rule here same =
     record {
-      done = ended config units n sectors plan fits below disk now d s port conn number bytes report new rule here same;
-      flushed = flushed config units n sectors plan fits below disk now d s port conn number bytes report new rule here same;
+      done = ended config units n sectors plan past fits below disk now d s port conn number bytes report new rule here same;
+      flushed = flushed config units n sectors plan past fits below disk now d s port conn number bytes report new rule here same;
     }
 
 -- the history of such a disk is a run of it
-pub disk_runs : (config : Config) (units : List Attached) (n sectors : ℕ) (plan : DiskPlan) → is_config config (length units) ≡ true → n < 15
-    → IsNewDisk units n plan sectors → (now : Places) (d : DiskRun config units n now)
-    → IsDiskRun plan sectors (disk_history config units n now d)
-disk_runs config units n sectors plan fits below disk now d = whole_run config units n sectors plan fits below disk now d
+pub disk_runs : (config : Config) (units : List Attached) (n sectors : ℕ) (plan : DiskPlan) (past : List Happening) → is_config config (length units) ≡ true → n < 15
+    → HasDisk units n plan sectors past → (now : Places) (d : DiskRun config units n now)
+    → IsDiskRun plan sectors (disk_history config units n now d past)
+disk_runs config units n sectors plan past fits below disk now d = whole_run config units n sectors plan past fits below disk now d

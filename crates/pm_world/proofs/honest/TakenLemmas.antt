@@ -8,7 +8,7 @@ use Rattle.fis_view.specs.declared.view.FisFault.{FisFault}
 use Rattle.disk_model.specs.declared.request.Request.{Request}
 use Rattle.disk_model.specs.declared.request.Request.TheVariants as asked
 use Rattle.disk_model.specs.Anew.{IsRequest}
-use Rattle.disk_model.specs.Histories.{Happening, Plugged, Received, Sent}
+use Rattle.disk_model.specs.Histories.{Happening, Plugged, Loaded, Received, Sent}
 use Rattle.disk_model.specs.Requests.{request_of}
 use Rattle.disk_recovery.specs.Flushes.{asks_flush, flushes_taken, is_flush, one_if}
 use Rattle.disk_recovery.proofs.Door.{flushes_more}
@@ -38,6 +38,7 @@ took_among (Received bytes ∷ rest) some = by_test (is_flush (seen bytes)) refl
     by_test false is more later = one_more (Received bytes) rest (later (omega (arith, more)))
 took_among (Sent bytes ∷ rest) some = one_more (Sent bytes) rest (took_among rest some)
 took_among (Plugged ∷ rest) some = one_more Plugged rest (took_among rest some)
+took_among (Loaded bytes ∷ rest) some = one_more (Loaded bytes) rest (took_among rest some)
 
 pub took_since : (part later whole : List Happening) → whole ≡ part ++ later → flushes_taken part < flushes_taken whole → TookFlush later
 took_since part later whole is more =

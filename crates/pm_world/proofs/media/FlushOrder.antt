@@ -1,6 +1,6 @@
 -- For `flushes_follow_writes`. A FLUSH that is submitted in a run behind the poll of a write finds the write on the
 -- medium.
-use Rattle.std.proofs.Common.{◌≡◌, ◌-◌, ◌*◌, ◌+◌, ◌<◌, ℕ, true, List, [], ◌∷◌, ◌++◌, append_assoc, length, refl, ap, subst, ◌∙◌, Option, Some, None}
+use Rattle.std.proofs.Common.{◌≡◌, ◌-◌, ◌*◌, ◌+◌, ◌<◌, ℕ, true, List, [], ◌∷◌, ◌++◌, append_assoc, length, refl, ap, subst, sym, ◌∙◌, Option, Some, None}
 use Rattle.std.specs.Prelude.{IsSomeAnd, slice_get, slice_index}
 use Rattle.host_memory.specs.Memory.{client_start}
 use Rattle.host_memory.specs.Place.{place}
@@ -17,7 +17,7 @@ use Rattle.hba_driver.specs.Orders.{is_queued}
 use Rattle.hba_driver.specs.Served.{IsServed}
 use Rattle.hba_driver.specs.Submits.{new_entry}
 use Rattle.pm_world.specs.Attached.{Attached, Modelled, Own, StandsFor, plan_of}
-use Rattle.pm_world.specs.Disks.{DiskRun, EndedSince, FlushedSince, IsNewDisk, disk_history}
+use Rattle.pm_world.specs.Disks.{DiskRun, EndedSince, FlushedSince, HasDisk, disk_history}
 use Rattle.pm_world.specs.HonestEnds.{StandsAt}
 use Rattle.pm_world.specs.Flushing.{FlushesFollowWrites, HasWrites}
 use Rattle.pm_world.specs.InOrder.{disk_run}
@@ -25,44 +25,53 @@ use Rattle.pm_world.specs.Places.{Place, Places, is_config, new_world}
 use Rattle.pm_world.specs.ReadBack.{IsPart, Shows}
 use Rattle.pm_world.specs.Runs.{over}
 use Rattle.pm_world.specs.Turns.{turn_of}
-use Rattle.pm_world.specs.Units.{LivesOn}
+use Rattle.pm_world.specs.Units.{LivesOn, happens}
 use Rattle.pm_world.specs.declared.step.Answer.TheVariants as answer
 use Rattle.pm_world.specs.declared.step.Config.{Config}
 use Rattle.pm_world.specs.declared.step.Step.TheVariants as step
 use Rattle.pm_world.proofs.turns.Delivery.{sized}
 use Rattle.pm_world.proofs.honest.HonestRuns.{disk_runs}
 use Rattle.pm_world.proofs.media.InOrderLemmas.{history_part}
-use Rattle.pm_world.proofs.media.ReadBackLemmas.{same_plan, writes_stay_there}
+use Rattle.pm_world.proofs.media.ReadBackLemmas.{writes_stay_there}
+use Rattle.pm_world.proofs.honest.DisksLemmas.{same_plan}
 use Rattle.pm_world.proofs.media.SubmittedLemmas.{written_as_submitted}
 use Rattle.pm_world.proofs.serving.TouchedLemmas.{touched_served}
 use Rattle.pm_world.proofs.units.Units.{units_lived_on}
 
 -- ## What a disk shows at the end of its run
 
-module _ (config : Config) (units : List Attached) (n sectors : ℕ) (plan : DiskPlan) (fits : is_config config (length units) ≡ true) (below : n < 15)
-    (disk : IsNewDisk units n plan sectors) (now : Places) (d : DiskRun config units n now) (i : ℕ) where
+module _ (config : Config) (units : List Attached) (n sectors : ℕ) (plan : DiskPlan) (past : List Happening) (fits : is_config config (length units) ≡ true)
+    (below : n < 15) (disk : HasDisk units n plan sectors past) (now : Places) (d : DiskRun config units n now) (i : ℕ) where
   abbrev shown_now : Option ℕ
-  shown_now = slice_get (moment plan sectors (disk_history config units n now d)).medium i
+  shown_now = slice_get (moment plan sectors (disk_history config units n now d past)).medium i
 
-  on_disk : (x : DiskValue) → DiskStandsFor x (disk_history config units n now d) → x.plan ≡ plan → x.sectors ≡ sectors
+  on_disk : (x : DiskValue) → DiskStandsFor x (disk_history config units n now d past) → x.plan ≡ plan → x.sectors ≡ sectors
       → slice_get x.now.medium i ≡ shown_now
   on_disk x stands plan_is sectors_are =
-      let is : x.now ≡ moment plan sectors (disk_history config units n now d) =
-      stands.now ∙ ap (λ (p : DiskPlan). moment p x.sectors (disk_history config units n now d)) plan_is
-      ∙ ap (λ (k : ℕ). moment plan k (disk_history config units n now d)) sectors_are in
+      let is : x.now ≡ moment plan sectors (disk_history config units n now d past) =
+      stands.now ∙ ap (λ (p : DiskPlan). moment p x.sectors (disk_history config units n now d past)) plan_is
+      ∙ ap (λ (k : ℕ). moment plan k (disk_history config units n now d past)) sectors_are in
       ap (λ (t : Moment). slice_get t.medium i) is
 
-  by_unit : (u : Attached) → StandsFor u (disk_history config units n now d) → plan_of u ≡ DiskOf disk.disk.plan disk.disk.sectors → Shows i shown_now u
+  by_unit : (u : Attached) → StandsFor u (disk_history config units n now d past) → plan_of u ≡ DiskOf disk.disk.plan disk.disk.sectors → Shows i shown_now u
   by_unit (Modelled (Disk x)) stands is =
       let same = same_plan x.plan disk.disk.plan x.sectors disk.disk.sectors is in
       on_disk x stands (same.0 ∙ disk.plan_is) (same.1 ∙ disk.sectors_are)
   by_unit (Modelled (Scripted reading)) stands is = absurd (cc is)
   by_unit Own stands is = absurd stands
 
-  by_place : (o : Option Place) → IsSomeAnd o (λ there. LivesOn (Modelled (Disk disk.disk)) (disk_history config units n now d) there.unit)
+  abbrev since : List Happening
+  since = over (happens n) (new_world config units) d.first d.told d.out d.made
+      ++ over (happens n) d.out (step.Came n ∷ d.steps) (answer.Came n d.conn ∷ d.answers) now d.run
+
+  history_is : past ++ since ≡ disk_history config units n now d past
+  history_is = sym (append_assoc past (over (happens n) (new_world config units) d.first d.told d.out d.made)
+      (over (happens n) d.out (step.Came n ∷ d.steps) (answer.Came n d.conn ∷ d.answers) now d.run))
+
+  by_place : (o : Option Place) → IsSomeAnd o (λ there. LivesOn (Modelled (Disk disk.disk)) since there.unit)
       → IsSomeAnd o (λ there. Shows i shown_now there.unit)
   by_place None lived = absurd lived
-  by_place (Some a) lived = by_unit a.unit (lived.stands_for [] disk.fresh) lived.plan
+  by_place (Some a) lived = by_unit a.unit (subst (StandsFor a.unit) history_is (lived.stands_for past disk.stands)) lived.plan
 
   disk_shows : IsSomeAnd (slice_get now.devices n) (λ there. Shows i shown_now there.unit)
   disk_shows =
@@ -79,12 +88,12 @@ longer_part part middle whole later p is = record {
 }
 
 pub flushes_follow_writes : FlushesFollowWrites
-flushes_follow_writes config units fits steps answers now run flushed last flush sectors plan disk d = (taken, has_writes)
+flushes_follow_writes config units fits steps answers now run flushed last flush sectors plan past disk d = (taken, has_writes)
   where
     taken : FlushedSince config units last.reported.dev last.reported.took.at
         (disk_run config units last.reported.dev last.reported.conn last.reported.took.at last.reported.took.before last.reported.took.told
-        last.reported.took.came d) (new_entry flushed.ticket.0 last.reported.dev last.reported.request)
-    taken = last.flushed sectors plan disk (ap is_queued flush)
+        last.reported.took.came d) past (new_entry flushed.ticket.0 last.reported.dev last.reported.request)
+    taken = last.flushed sectors plan past disk (ap is_queued flush)
         (disk_run config units last.reported.dev last.reported.conn last.reported.took.at last.reported.took.before last.reported.took.told
         last.reported.took.came d) refl
 
@@ -96,64 +105,64 @@ flushes_follow_writes config units fits steps answers now run flushed last flush
         last.reported.took.at.host last.touches (sized config (length units) fits) last.touched in
         (served.bounded.entries flushed.slot (rephased Issued (new_entry flushed.ticket.0 last.reported.dev last.reported.request)) last.reported.issued).dev
 
-    has_writes : HasWrites config units steps answers now run flushed last sectors plan
+    has_writes : HasWrites config units steps answers now run flushed last sectors plan past
         (disk_run config units last.reported.dev last.reported.conn last.reported.took.at last.reported.took.before last.reported.took.told
         last.reported.took.came d)
     has_writes written poll first writes queued later same disk_too c j less none =
         subst (λ (o : Option ℕ). IsSomeAnd (slice_get last.reported.took.at.devices last.reported.dev) (λ there.
         Shows (512 * first.reported.request.lba + j) o there.unit)) byte
-        (disk_shows config units last.reported.dev sectors plan fits below disk last.reported.took.at
+        (disk_shows config units last.reported.dev sectors plan past fits below disk last.reported.took.at
         (disk_run config units last.reported.dev last.reported.conn last.reported.took.at last.reported.took.before last.reported.took.told
         last.reported.took.came d) (512 * first.reported.request.lba + j))
       where
         w : EndedSince config units first.reported.dev first.reported.took.at
             (disk_run config units first.reported.dev first.reported.conn first.reported.took.at first.reported.took.before first.reported.took.told
-            first.reported.took.came c) sectors written.slot (new_entry written.ticket.0 first.reported.dev first.reported.request) poll.at.host.memory
-        w = first.honest sectors plan disk_too queued
+            first.reported.took.came c) past sectors written.slot (new_entry written.ticket.0 first.reported.dev first.reported.request) poll.at.host.memory
+        w = first.honest sectors plan past disk_too queued
             (disk_run config units first.reported.dev first.reported.conn first.reported.took.at first.reported.took.before first.reported.took.told
             first.reported.took.came c) refl
 
         part : IsPart
             (disk_history config units first.reported.dev first.reported.took.at
             (disk_run config units first.reported.dev first.reported.conn first.reported.took.at first.reported.took.before first.reported.took.told
-            first.reported.took.came c))
+            first.reported.took.came c) past)
             (disk_history config units last.reported.dev last.reported.took.at
             (disk_run config units last.reported.dev last.reported.conn last.reported.took.at last.reported.took.before last.reported.took.told
-            last.reported.took.came d))
+            last.reported.took.came d) past)
         part =
             longer_part
             (disk_history config units first.reported.dev first.reported.took.at
             (disk_run config units first.reported.dev first.reported.conn first.reported.took.at first.reported.took.before first.reported.took.told
-            first.reported.took.came c)) taken.before
+            first.reported.took.came c) past) taken.before
             (disk_history config units last.reported.dev last.reported.took.at
             (disk_run config units last.reported.dev last.reported.conn last.reported.took.at last.reported.took.before last.reported.took.told
-            last.reported.took.came d)) taken.later
-            (history_part config units fits steps answers now run written flushed poll first last later same c d taken.before taken.submitted) taken.is
+            last.reported.took.came d) past) taken.later
+            (history_part config units fits steps answers now run written flushed poll first last later same c d past taken.before taken.submitted) taken.is
 
         whole : IsDiskRun plan sectors
             (disk_history config units last.reported.dev last.reported.took.at
             (disk_run config units last.reported.dev last.reported.conn last.reported.took.at last.reported.took.before last.reported.took.told
-            last.reported.took.came d))
-        whole = disk_runs config units last.reported.dev sectors plan fits below disk last.reported.took.at
+            last.reported.took.came d) past)
+        whole = disk_runs config units last.reported.dev sectors plan past fits below disk last.reported.took.at
             (disk_run config units last.reported.dev last.reported.conn last.reported.took.at last.reported.took.before last.reported.took.told
             last.reported.took.came d)
 
         as_submitted : StandsAt (w.ends.writes writes).written.bytes first.reported.request.prds.items first.reported.submitted.at.host.memory j
         as_submitted =
-            written_as_submitted config units fits poll.before poll.told poll.at poll.came written first writes sectors plan disk_too queued
+            written_as_submitted config units fits poll.before poll.told poll.at poll.came written first writes sectors plan past disk_too queued
             (disk_run config units first.reported.dev first.reported.conn first.reported.took.at first.reported.took.before first.reported.took.told
             first.reported.took.came c) refl j less
 
         byte : slice_get (moment plan sectors
             (disk_history config units last.reported.dev last.reported.took.at
             (disk_run config units last.reported.dev last.reported.conn last.reported.took.at last.reported.took.before last.reported.took.told
-            last.reported.took.came d))).medium (512 * first.reported.request.lba + j)
+            last.reported.took.came d) past)).medium (512 * first.reported.request.lba + j)
             ≡ Some (slice_index first.reported.submitted.at.host.memory.client (place first.reported.request.prds.items j - client_start))
         byte =
-            writes_stay_there config units first.reported.dev sectors plan disk_too first.reported.took.at
+            writes_stay_there config units first.reported.dev sectors plan past disk_too first.reported.took.at
             (disk_run config units first.reported.dev first.reported.conn first.reported.took.at first.reported.took.before first.reported.took.told
             first.reported.took.came c) written.slot (new_entry written.ticket.0 first.reported.dev first.reported.request) poll.at.host.memory writes w
             (disk_history config units last.reported.dev last.reported.took.at
             (disk_run config units last.reported.dev last.reported.conn last.reported.took.at last.reported.took.before last.reported.took.told
-            last.reported.took.came d)) whole part j less none
+            last.reported.took.came d) past) whole part j less none
             ∙ (w.ends.writes writes).bytes j less ∙ as_submitted.is

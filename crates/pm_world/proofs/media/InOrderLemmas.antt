@@ -278,14 +278,14 @@ as_many old new (s ∷ ss) [] run = absurd run
 
 -- what had happened when a request was submitted, by a run that is the first part of these
 record IsSubmittedAt (config : Config) (units : List Attached) (n : ℕ) (S : List Step) (A : List Answer) (W : List Places) (count : ℕ)
-    (before : List Happening) : Type 0 where
+    (past before : List Happening) : Type 0 where
   at : Places
   ss : List Step
   aa : List Answer
   came : Run (new_world config units) ss aa at
   first : IsFirst (new_world config units) at ss aa came S A W
   long : length ss ≡ count
-  is : before ≡ over (happens n) (new_world config units) ss aa at came
+  is : before ≡ past ++ over (happens n) (new_world config units) ss aa at came
 
 module _ (config : Config) (units : List Attached) (fits : is_config config (length units) ≡ true) (n conn : ℕ) (now : Places) (T : List Step)
     (U : List Answer) (took : Run (new_world config units) T U now) (d : IsLeftSince n conn (new_world config units) now T U took) (S : List Step)
@@ -300,10 +300,10 @@ module _ (config : Config) (units : List Attached) (fits : is_config config (len
       given_once front back sub.told sub.later t ticket U is sub.answers_are same counted
       ∙ sym (as_many (new_world config units) sub.at sub.before sub.told sub.came)
 
-  submitted_at : (e : Entry) (before : List Happening) → e.head.ticket ≡ ticket.0
-      → WasSubmitted config units n now (disk_run config units n conn now T U took d) e before
-      → IsSubmittedAt config units n S A W (length sub.before) before
-  submitted_at e before named (Before t asked i is) = record {
+  submitted_at : (past : List Happening) (e : Entry) (before : List Happening) → e.head.ticket ≡ ticket.0
+      → WasSubmitted config units n now (disk_run config units n conn now T U took d) past e before
+      → IsSubmittedAt config units n S A W (length sub.before) past before
+  submitted_at past e before named (Before t asked i is) = record {
     at = i.at;
     ss = i.before;
     aa = i.told;
@@ -320,7 +320,7 @@ module _ (config : Config) (units : List Attached) (fits : is_config config (len
         (ap (λ (x : Entry). x.head.ticket) is ∙ named);
     is = refl;
   }
-  submitted_at e before named (Since t asked i is) = record {
+  submitted_at past e before named (Since t asked i is) = record {
     at = i.at;
     ss = d.came.before ++ i.before;
     aa = d.came.told ++ i.told;
@@ -334,33 +334,41 @@ module _ (config : Config) (units : List Attached) (fits : is_config config (len
         (d.came.answers_are ∙ ap (λ (l : List Answer). d.came.told ++ l) i.answers_are
         ∙ sym (append_assoc d.came.told i.told (answer.Submitted t ∷ i.later)))
         (ap (λ (x : Entry). x.head.ticket) is ∙ named);
-    is = sym (over_append (happens n) (new_world config units) d.came.at i.at d.came.before d.came.told i.before i.told d.came.came i.came);
+    is = append_assoc past (over (happens n) (new_world config units) d.came.before d.came.told d.came.at d.came.came)
+        (over (happens n) d.came.at i.before i.told i.at i.came)
+        ∙ ap (λ (xs : List Happening). past ++ xs)
+        (sym (over_append (happens n) (new_world config units) d.came.at i.at d.came.before d.came.told i.before i.told d.came.came i.came));
   }
 
 -- ## Which part is the first
 
 -- the history of a disk is told over the steps of its run
 told_over : (config : Config) (units : List Attached) (n conn : ℕ) (now : Places) (T : List Step) (U : List Answer)
-    (took : Run (new_world config units) T U now) (c : IsLeftSince n conn (new_world config units) now T U took)
-    → over (happens n) (new_world config units) (c.came.before ++ step.Came n ∷ c.came.after) (c.came.told ++ answer.Came n conn ∷ c.came.later) now
+    (took : Run (new_world config units) T U now) (c : IsLeftSince n conn (new_world config units) now T U took) (past : List Happening)
+    → past ++ over (happens n) (new_world config units) (c.came.before ++ step.Came n ∷ c.came.after) (c.came.told ++ answer.Came n conn ∷ c.came.later) now
     (parted (step.Came n) (answer.Came n conn) (new_world config units) now T U took c.came)
-    ≡ disk_history config units n now (disk_run config units n conn now T U took c)
-told_over config units n conn now T U took c =
-    over_append (happens n) (new_world config units) c.came.at now c.came.before c.came.told (step.Came n ∷ c.came.after) (answer.Came n conn ∷ c.came.later)
-    c.came.came (c.came.next, c.came.rule, c.came.went)
+    ≡ disk_history config units n now (disk_run config units n conn now T U took c) past
+told_over config units n conn now T U took c past =
+    ap (λ (xs : List Happening). past ++ xs)
+    (over_append (happens n) (new_world config units) c.came.at now c.came.before c.came.told (step.Came n ∷ c.came.after) (answer.Came n conn ∷ c.came.later)
+    c.came.came (c.came.next, c.came.rule, c.came.went))
+    ∙ sym (append_assoc past (over (happens n) (new_world config units) c.came.before c.came.told c.came.at c.came.came)
+    (over (happens n) c.came.at (step.Came n ∷ c.came.after) (answer.Came n conn ∷ c.came.later) now (c.came.next, c.came.rule, c.came.went)))
 
 -- what is told over a run of fewer steps is a part of what had happened
 is_part : (config : Config) (units : List Attached) (n m count : ℕ) (now : Places) (ss : List Step) (aa : List Answer)
-    (r : Run (new_world config units) ss aa now) (S : List Step) (A : List Answer) (W : List Places) (before whole : List Happening)
-    → IsFirst (new_world config units) now ss aa r S A W → IsSubmittedAt config units m S A W count before → length ss ≤ count → m ≡ n
-    → over (happens n) (new_world config units) ss aa now r ≡ whole → IsPart whole before
-is_part config units n m count now ss aa r S A W before whole f at short same is =
+    (r : Run (new_world config units) ss aa now) (S : List Step) (A : List Answer) (W : List Places) (past before whole : List Happening)
+    → IsFirst (new_world config units) now ss aa r S A W → IsSubmittedAt config units m S A W count past before → length ss ≤ count → m ≡ n
+    → past ++ over (happens n) (new_world config units) ss aa now r ≡ whole → IsPart whole before
+is_part config units n m count now ss aa r S A W past before whole f at short same is =
     let rest : IsStart (over (happens n) (new_world config units) ss aa now r) (over (happens n) (new_world config units) at.ss at.aa at.at at.came) =
     starts (happens n) (new_world config units) now ss aa r (new_world config units) at.at at.ss at.aa at.came S A W f at.first
     (subst (λ (k : ℕ). length ss ≤ k) (sym at.long) short) in
     record {
       later = rest.later;
-      is = at.is ∙ ap (λ (k : ℕ). over (happens k) (new_world config units) at.ss at.aa at.at at.came) same ∙ rest.is
+      is = at.is ∙ ap (λ (k : ℕ). past ++ over (happens k) (new_world config units) at.ss at.aa at.at at.came) same
+          ∙ ap (λ (l : List Happening). past ++ l) rest.is
+          ∙ sym (append_assoc past (over (happens n) (new_world config units) ss aa now r) rest.later)
           ∙ ap (λ (l : List Happening). l ++ rest.later) is;
     }
 
@@ -381,19 +389,19 @@ module _ (config : Config) (units : List Attached) (fits : is_config config (len
     (c : IsLeftSince first.reported.dev first.reported.conn (new_world config units) first.reported.took.at first.reported.took.before
     first.reported.took.told first.reported.took.came)
     (d : IsLeftSince second.reported.dev second.reported.conn (new_world config units) second.reported.took.at second.reported.took.before
-    second.reported.took.told second.reported.took.came) where
+    second.reported.took.told second.reported.took.came) (past : List Happening) where
   submitted : (happened : List Happening)
       → WasSubmitted config units second.reported.dev second.reported.took.at
       (disk_run config units second.reported.dev second.reported.conn second.reported.took.at second.reported.took.before second.reported.took.told
-      second.reported.took.came d) (new_entry read.ticket.0 second.reported.dev second.reported.request) happened
+      second.reported.took.came d) past (new_entry read.ticket.0 second.reported.dev second.reported.request) happened
       → IsSubmittedAt config units second.reported.dev steps answers (over world_before (new_world config units) steps answers now run)
-      (length second.reported.submitted.before) happened
+      (length second.reported.submitted.before) past happened
   submitted happened was =
       submitted_at config units fits second.reported.dev second.reported.conn second.reported.took.at second.reported.took.before
       second.reported.took.told second.reported.took.came d steps answers (over world_before (new_world config units) steps answers now run)
       (of_step step.HostTake (answer.Took second.reported.dev second.reported.conn second.reported.number second.reported.bytes second.reported.report)
       (new_world config units) now steps answers run second.reported.took) second.reported.dev second.reported.request
-      read.ticket second.reported.submitted (new_entry read.ticket.0 second.reported.dev second.reported.request) happened refl was
+      read.ticket second.reported.submitted past (new_entry read.ticket.0 second.reported.dev second.reported.request) happened refl was
 
   -- the report of the write in the run up to its poll, and so in the whole
   written_first : IsFirst (new_world config units) first.reported.took.at (c.came.before ++ step.Came first.reported.dev ∷ c.came.after)
@@ -423,71 +431,71 @@ module _ (config : Config) (units : List Attached) (fits : is_config config (len
   pub history_part : (happened : List Happening)
       → WasSubmitted config units second.reported.dev second.reported.took.at
       (disk_run config units second.reported.dev second.reported.conn second.reported.took.at second.reported.took.before second.reported.took.told
-      second.reported.took.came d) (new_entry read.ticket.0 second.reported.dev second.reported.request) happened
+      second.reported.took.came d) past (new_entry read.ticket.0 second.reported.dev second.reported.request) happened
       → IsPart
       (disk_history config units first.reported.dev first.reported.took.at
       (disk_run config units first.reported.dev first.reported.conn first.reported.took.at first.reported.took.before first.reported.took.told
-      first.reported.took.came c)) happened
+      first.reported.took.came c) past) happened
   history_part happened was =
       is_part config units first.reported.dev second.reported.dev (length second.reported.submitted.before) first.reported.took.at
       (c.came.before ++ step.Came first.reported.dev ∷ c.came.after)
       (c.came.told ++ answer.Came first.reported.dev first.reported.conn ∷ c.came.later)
       (parted (step.Came first.reported.dev) (answer.Came first.reported.dev first.reported.conn) (new_world config units) first.reported.took.at
       first.reported.took.before first.reported.took.told first.reported.took.came c.came) steps answers
-      (over world_before (new_world config units) steps answers now run) happened
+      (over world_before (new_world config units) steps answers now run) past happened
       (disk_history config units first.reported.dev first.reported.took.at
       (disk_run config units first.reported.dev first.reported.conn first.reported.took.at first.reported.took.before first.reported.took.told
-      first.reported.took.came c)) written_first (submitted happened was) fewer same
+      first.reported.took.came c) past) written_first (submitted happened was) fewer same
       (told_over config units first.reported.dev first.reported.conn first.reported.took.at first.reported.took.before first.reported.took.told
-      first.reported.took.came c)
+      first.reported.took.came c past)
 
 pub reads_follow_writes : ReadsFollowWrites
-reads_follow_writes config units fits steps answers now run written read poll first second writes reads queued queued_too later same sectors plan disk
+reads_follow_writes config units fits steps answers now run written read poll first second writes reads queued queued_too later same sectors plan past disk
     disk_too c d i j one none =
     brings second.reported.dev same second.reported.took.at
     (disk_run config units second.reported.dev second.reported.conn second.reported.took.at second.reported.took.before second.reported.took.told
     second.reported.took.came d) read.slot (new_entry read.ticket.0 second.reported.dev second.reported.request) now.host.memory reads
-    (second.honest sectors plan disk_too queued_too
+    (second.honest sectors plan past disk_too queued_too
     (disk_run config units second.reported.dev second.reported.conn second.reported.took.at second.reported.took.before second.reported.took.told
     second.reported.took.came d) refl)
-    (history_part config units fits steps answers now run written read poll first second later same c d r.before r.submitted) one none
+    (history_part config units fits steps answers now run written read poll first second later same c d past r.before r.submitted) one none
   where
     r : EndedSince config units second.reported.dev second.reported.took.at
         (disk_run config units second.reported.dev second.reported.conn second.reported.took.at second.reported.took.before second.reported.took.told
-        second.reported.took.came d) sectors read.slot (new_entry read.ticket.0 second.reported.dev second.reported.request) now.host.memory
-    r = second.honest sectors plan disk_too queued_too
+        second.reported.took.came d) past sectors read.slot (new_entry read.ticket.0 second.reported.dev second.reported.request) now.host.memory
+    r = second.honest sectors plan past disk_too queued_too
         (disk_run config units second.reported.dev second.reported.conn second.reported.took.at second.reported.took.before second.reported.took.told
         second.reported.took.came d) refl
 
     -- the law of histories, at the port by another name
     brings : (n : ℕ) → n ≡ first.reported.dev → (at : Places) (f : DiskRun config units n at) (slot : ℕ) (e : Entry) (memory : Memory)
-        (is_read : e.head.work ≡ Read) (ended : EndedSince config units n at f sectors slot e memory)
+        (is_read : e.head.work ≡ Read) (ended : EndedSince config units n at f past sectors slot e memory)
         → IsPart
         (disk_history config units first.reported.dev first.reported.took.at
         (disk_run config units first.reported.dev first.reported.conn first.reported.took.at first.reported.took.before first.reported.took.told
-        first.reported.took.came c)) ended.before
+        first.reported.took.came c) past) ended.before
         → IsOneByte e (new_entry written.ticket.0 first.reported.dev first.reported.request) i j
         → NoneCovers (512 * e.head.lba + i)
-        (drop (suc ((first.honest sectors plan disk queued
+        (drop (suc ((first.honest sectors plan past disk queued
         (disk_run config units first.reported.dev first.reported.conn first.reported.took.at first.reported.took.before first.reported.took.told
         first.reported.took.came c) refl).ends.writes writes).at) (ended.ends.reads is_read).read.before)
         → StandsThere (slice_index memory.client (place e.prds i - client_start)) first.reported.request.prds.items
         first.reported.submitted.at.host.memory j
     brings n is =
         subst (λ (k : ℕ). (at : Places) (f : DiskRun config units k at) (slot : ℕ) (e : Entry) (memory : Memory)
-        (is_read : e.head.work ≡ Read) (ended : EndedSince config units k at f sectors slot e memory)
+        (is_read : e.head.work ≡ Read) (ended : EndedSince config units k at f past sectors slot e memory)
         → IsPart
         (disk_history config units first.reported.dev first.reported.took.at
         (disk_run config units first.reported.dev first.reported.conn first.reported.took.at first.reported.took.before first.reported.took.told
-        first.reported.took.came c)) ended.before
+        first.reported.took.came c) past) ended.before
         → IsOneByte e (new_entry written.ticket.0 first.reported.dev first.reported.request) i j
         → NoneCovers (512 * e.head.lba + i)
-        (drop (suc ((first.honest sectors plan disk queued
+        (drop (suc ((first.honest sectors plan past disk queued
         (disk_run config units first.reported.dev first.reported.conn first.reported.took.at first.reported.took.before first.reported.took.told
         first.reported.took.came c) refl).ends.writes writes).at) (ended.ends.reads is_read).read.before)
         → StandsThere (slice_index memory.client (place e.prds i - client_start)) first.reported.request.prds.items
         first.reported.submitted.at.host.memory j) (sym is)
         (λ at f slot e memory is_read ended within both none_of.
-        reads_bring_submitted config units fits poll.before poll.told poll.at poll.came written first writes sectors plan disk queued
+        reads_bring_submitted config units fits poll.before poll.told poll.at poll.came written first writes sectors plan past disk queued
         (disk_run config units first.reported.dev first.reported.conn first.reported.took.at first.reported.took.before first.reported.took.told
         first.reported.took.came c) refl at f slot e memory is_read ended within i j both none_of)

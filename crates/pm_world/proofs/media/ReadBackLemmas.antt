@@ -14,13 +14,13 @@ use Rattle.disk_model.specs.Ledger.{IsSize, Written, ledger, medium_with}
 use Rattle.disk_model.specs.Runs.{DiskStandsFor, IsDiskRun, moment}
 use Rattle.disk_model.proofs.Door.{agrees, lie_on, shows_the_last}
 use Rattle.pm_world.specs.Attached.{Attached, Modelled, Own, StandsFor, plan_of}
-use Rattle.pm_world.proofs.honest.DisksLemmas.{part_front}
+use Rattle.pm_world.proofs.honest.DisksLemmas.{part_front, same_plan}
 use Rattle.hba_laws.specs.Client.{own}
 use Rattle.hba_laws.specs.History.{filled}
 use Rattle.hba_driver.specs.declared.mode.Mode.TheVariants.{Switching}
 use Rattle.pm_world.specs.Disks.{disk_history}
 use Rattle.pm_world.specs.HonestEnds.{ReadsSectors, StandsAt, WritesSectors}
-use Rattle.pm_world.specs.Places.{Place}
+use Rattle.pm_world.specs.Places.{Place, new_world}
 use Rattle.pm_world.specs.Runs.{over}
 use Rattle.pm_world.specs.Units.{LivesOn, happens}
 use Rattle.pm_world.specs.declared.step.Answer.TheVariants as answer
@@ -85,34 +85,34 @@ in_front front whole k w f is = ap (λ (ws : List Written). slice_get ws k) f.sa
 -- ## The laws
 
 pub reads_bring_writes : ReadsBringWrites
-reads_bring_writes config units n sectors plan fits below disk was now d f s t write read m l writes reads w r part i j one none =
+reads_bring_writes config units n sectors plan past fits below disk was now d f s t write read m l writes reads w r part i j one none =
     x.bytes j one.of_write ∙ sym of_medium ∙ stands.is
   where
-    x : WritesSectors s write w.before (disk_history config units n was d) (filled s (own n w.touches))
+    x : WritesSectors s write w.before (disk_history config units n was d past) (filled s (own n w.touches))
     x = w.ends.writes writes
 
-    y : ReadsSectors sectors t read r.before (disk_history config units n now f) l
+    y : ReadsSectors sectors t read r.before (disk_history config units n now f past) l
     y = r.ends.reads reads
 
-    before : IsFront (ledger (disk_history config units n was d)).writes y.read.before
+    before : IsFront (ledger (disk_history config units n was d past)).writes y.read.before
     before =
-        let first : IsFront (ledger (disk_history config units n was d)).writes (ledger r.before).writes =
-        part_front (disk_history config units n was d) r.before part in
+        let first : IsFront (ledger (disk_history config units n was d past)).writes (ledger r.before).writes =
+        part_front (disk_history config units n was d past) r.before part in
         record {
           later = first.later ++ y.since.later;
           same = y.since.same ∙ ap (λ (ws : List Written). ws ++ y.since.later) first.same
-              ∙ append_assoc (ledger (disk_history config units n was d)).writes first.later y.since.later;
+              ∙ append_assoc (ledger (disk_history config units n was d past)).writes first.later y.since.later;
         }
 
     there : slice_get y.read.before x.at ≡ Some x.written
-    there = in_front (ledger (disk_history config units n was d)).writes y.read.before x.at x.written before x.entered
+    there = in_front (ledger (disk_history config units n was d past)).writes y.read.before x.at x.written before x.entered
 
-    whole : IsDiskRun plan sectors (disk_history config units n now f)
-    whole = disk_runs config units n sectors plan fits below disk now f
+    whole : IsDiskRun plan sectors (disk_history config units n now f past)
+    whole = disk_runs config units n sectors plan past fits below disk now f
 
     lie : LieOn sectors y.read.before
     lie = first_part (Lies (512 * sectors)) y.read.before y.until.later
-        (subst (LieOn sectors) y.until.same (lie_in_run plan sectors (disk_history config units n now f) disk.size whole))
+        (subst (LieOn sectors) y.until.same (lie_in_run plan sectors (disk_history config units n now f past) disk.size whole))
 
     stands : StandsAt (sectors_at (medium_with sectors y.read.before) read.head.lba read.head.sectors) read.prds l i
     stands = y.brought i one.of_read
@@ -124,40 +124,45 @@ reads_bring_writes config units n sectors plan fits below disk was now d f s t w
         (subst (λ (k : ℕ). j < k) (sym x.long) one.of_write) (one.same ∙ ap (λ (k : ℕ). k + j) (sym x.place)) none
 
 pub writes_stay_there : WritesStayThere
-writes_stay_there config units n sectors plan disk was d s write m writes w history run part j below none =
+writes_stay_there config units n sectors plan past disk was d s write m writes w history run part j below none =
     ap (λ (bytes : List ℕ). slice_get bytes (512 * write.head.lba + j)) (agrees plan sectors history disk.size run).medium
     ∙ shown sectors x.at j (512 * write.head.lba + j) (ledger history).writes x.written there (lie_in_run plan sectors history disk.size run)
     (subst (λ (k : ℕ). j < k) (sym x.long) below) (ap (λ (k : ℕ). k + j) (sym x.place)) none
     ∙ sym (x.bytes j below)
   where
-    x : WritesSectors s write w.before (disk_history config units n was d) (filled s (own n w.touches))
+    x : WritesSectors s write w.before (disk_history config units n was d past) (filled s (own n w.touches))
     x = w.ends.writes writes
 
     there : slice_get (ledger history).writes x.at ≡ Some x.written
-    there = in_front (ledger (disk_history config units n was d)).writes (ledger history).writes x.at x.written
-        (part_front (disk_history config units n was d) history part) x.entered
+    there = in_front (ledger (disk_history config units n was d past)).writes (ledger history).writes x.at x.written
+        (part_front (disk_history config units n was d past) history part) x.entered
 
 -- ## In a later world
 
-pub same_plan : (p q : DiskPlan) (k l : ℕ) → DiskOf p k ≡ DiskOf q l → (p ≡ q) × (k ≡ l)
-same_plan p q k l is = (cc is, cc is)
-
 pub disks_have_writes : DisksHaveWrites
-disks_have_writes config units n sectors plan fits disk was d s write m writes w steps answers now run j below none =
+disks_have_writes config units n sectors plan past fits disk was d s write m writes w steps answers now run j below none =
     by_places (slice_get was.devices n) (slice_get now.devices n) lived (units_live_on was steps answers now run n)
   where
+    since : List Happening
+    since = over (happens n) (new_world config units) d.first d.told d.out d.made
+        ++ over (happens n) d.out (step.Came n ∷ d.steps) (answer.Came n d.conn ∷ d.answers) was d.run
+
     before : List Happening
-    before = disk_history config units n was d
+    before = disk_history config units n was d past
+
+    before_is : past ++ since ≡ before
+    before_is = sym (append_assoc past (over (happens n) (new_world config units) d.first d.told d.out d.made)
+        (over (happens n) d.out (step.Came n ∷ d.steps) (answer.Came n d.conn ∷ d.answers) was d.run))
 
     later : List Happening
     later = over (happens n) was steps answers now run
 
-    lived : IsSomeAnd (slice_get was.devices n) (λ place. LivesOn (Modelled (Disk disk.disk)) (disk_history config units n was d) place.unit)
+    lived : IsSomeAnd (slice_get was.devices n) (λ place. LivesOn (Modelled (Disk disk.disk)) since place.unit)
     lived =
         units_lived_on d.out (step.Came n ∷ d.steps) (answer.Came n d.conn ∷ d.answers) was d.run Switching config units fits d.first d.told d.made n (Modelled (Disk disk.disk))
         disk.there
 
-    on_disk : (x : DiskValue) → DiskStandsFor x (disk_history config units n was d ++ over (happens n) was steps answers now run) → x.plan ≡ plan
+    on_disk : (x : DiskValue) → DiskStandsFor x (disk_history config units n was d past ++ over (happens n) was steps answers now run) → x.plan ≡ plan
         → x.sectors ≡ sectors → slice_get x.now.medium (512 * write.head.lba + j) ≡ filled s (own n w.touches) j
     on_disk x stands plan_is sectors_are =
         let first : IsDiskRun plan x.sectors (before ++ later) = subst (λ (p : DiskPlan). IsDiskRun p x.sectors (before ++ later)) plan_is stands.run in
@@ -165,9 +170,9 @@ disks_have_writes config units n sectors plan fits disk was d s write m writes w
         let is : x.now ≡ moment plan sectors (before ++ later) =
         stands.now ∙ ap (λ (p : DiskPlan). moment p x.sectors (before ++ later)) plan_is ∙ ap (λ (k : ℕ). moment plan k (before ++ later)) sectors_are in
         ap (λ (t : Moment). slice_get t.medium (512 * write.head.lba + j)) is
-        ∙ writes_stay_there config units n sectors plan disk was d s write m writes w (before ++ later) whole (record { later = later; is = refl }) j below none
+        ∙ writes_stay_there config units n sectors plan past disk was d s write m writes w (before ++ later) whole (record { later = later; is = refl }) j below none
 
-    by_unit : (u : Attached) → StandsFor u (disk_history config units n was d ++ over (happens n) was steps answers now run)
+    by_unit : (u : Attached) → StandsFor u (disk_history config units n was d past ++ over (happens n) was steps answers now run)
         → plan_of u ≡ DiskOf disk.disk.plan disk.disk.sectors
         → Shows (512 * write.head.lba + j) (filled s (own n w.touches) j) u
     by_unit (Modelled (Disk x)) stands is =
@@ -176,10 +181,10 @@ disks_have_writes config units n sectors plan fits disk was d s write m writes w
     by_unit (Modelled (Scripted reading)) stands is = absurd (cc is)
     by_unit Own stands is = absurd stands
 
-    by_places : (o p : Option Place) → IsSomeAnd o (λ place. LivesOn (Modelled (Disk disk.disk)) (disk_history config units n was d) place.unit)
+    by_places : (o p : Option Place) → IsSomeAnd o (λ place. LivesOn (Modelled (Disk disk.disk)) since place.unit)
         → MatchOption o (p ≡ None) (λ a. IsSomeAnd p (λ b. LivesOn a.unit (over (happens n) was steps answers now run) b.unit))
         → IsSomeAnd p (λ place. Shows (512 * write.head.lba + j) (filled s (own n w.touches) j) place.unit)
     by_places None p lived lives = absurd lived
     by_places (Some a) None lived lives = absurd lives
     by_places (Some a) (Some b) lived lives =
-        by_unit b.unit (lives.stands_for (disk_history config units n was d) (lived.stands_for [] disk.fresh)) (lives.plan ∙ lived.plan)
+        by_unit b.unit (lives.stands_for before (subst (StandsFor a.unit) before_is (lived.stands_for past disk.stands))) (lives.plan ∙ lived.plan)

@@ -344,10 +344,10 @@ sent_as_submitted config units fits steps answers now run ticket slot r writes t
     stood_there config units fits steps answers now run ticket slot r writes turns touches touched i byte less is
 
 pub written_as_submitted : WrittenAsSubmitted
-written_as_submitted config units fits steps answers now run c polled writes sectors plan disk queued d same i less =
+written_as_submitted config units fits steps answers now run c polled writes sectors plan past disk queued d same i less =
     let r : IsReportedIn c.ticket c.slot (new_world config units) now steps answers run = polled.reported in
-    let e : EndedSince config units r.dev r.took.at d sectors c.slot (new_entry c.ticket.0 r.dev r.request) now.host.memory =
-    polled.honest sectors plan disk queued d same in
+    let e : EndedSince config units r.dev r.took.at d past sectors c.slot (new_entry c.ticket.0 r.dev r.request) now.host.memory =
+    polled.honest sectors plan past disk queued d same in
     let w = e.ends.writes writes in
     let long = w.long in
     let has : slice_get w.written.bytes i ≡ Some (slice_index w.written.bytes i) = slice_get-get_or w.written.bytes i 0 (omega (arith, long, less)) in

@@ -56,7 +56,7 @@ use Rattle.pm_world.proofs.turns.Delivery.{sized}
 use Rattle.pm_world.proofs.honest.DisksLemmas.{IsIssued, IsRequestAt, MovesAll, has_command, issued_of_done, read_moves, request_at}
 use Rattle.pm_world.proofs.turns.HostFold.{does-append, run_does}
 use Rattle.pm_world.proofs.upward.PortMarks.{AllHavePortMarks, opening_marks, run_marks}
-use Rattle.pm_world.specs.Disks.{Before, DiskRun, EndedSince, FlushedSince, IsNewDisk, Since, TookHonestly, WasSubmitted, disk_history, host_turns}
+use Rattle.pm_world.specs.Disks.{Before, DiskRun, EndedSince, FlushedSince, HasDisk, Since, TookHonestly, WasSubmitted, disk_history, host_turns}
 use Rattle.pm_world.specs.HonestEnds.{EndsHonestly, ReadsSectors, StandsAt, WritesSectors}
 use Rattle.pm_world.specs.Polled.{HonestPolls, IsFilledAt, IsPolledHonestly, IsReportedIn}
 use Rattle.pm_world.specs.HostTouches.{AreTouched, opens}
@@ -451,41 +451,41 @@ module _ (config : Config) (units : List Attached) (fits : is_config config (len
   -- ## If its device is a disk
 
   -- an entry that is issued was submitted as the entry that waits was
-  as_given : (d : DiskRun config units submitted.dev told.took.at) (before : List Happening)
-      → WasSubmitted config units submitted.dev told.took.at d (rephased Issued (new_entry c.ticket.0 submitted.dev submitted.request)) before
-      → WasSubmitted config units submitted.dev told.took.at d (new_entry c.ticket.0 submitted.dev submitted.request) before
-  as_given d before (Before ticket request i is) = Before ticket request i is
-  as_given d before (Since ticket request i is) = Since ticket request i is
+  as_given : (d : DiskRun config units submitted.dev told.took.at) (past before : List Happening)
+      → WasSubmitted config units submitted.dev told.took.at d past (rephased Issued (new_entry c.ticket.0 submitted.dev submitted.request)) before
+      → WasSubmitted config units submitted.dev told.took.at d past (new_entry c.ticket.0 submitted.dev submitted.request) before
+  as_given d past before (Before ticket request i is) = Before ticket request i is
+  as_given d past before (Since ticket request i is) = Since ticket request i is
 
-  module _ (sectors : ℕ) (plan : DiskPlan) (disk : IsNewDisk units submitted.dev plan sectors) (queued : is_queued submitted.request.work ≡ true) where
+  module _ (sectors : ℕ) (plan : DiskPlan) (past : List Happening) (disk : HasDisk units submitted.dev plan sectors past) (queued : is_queued submitted.request.work ≡ true) where
     ended_honestly : (d : DiskRun config units submitted.dev told.took.at) → told.conn ≡ d.conn
-        → EndedSince config units submitted.dev told.took.at d sectors c.slot (new_entry c.ticket.0 submitted.dev submitted.request) now.host.memory
+        → EndedSince config units submitted.dev told.took.at d past sectors c.slot (new_entry c.ticket.0 submitted.dev submitted.request) now.host.memory
     ended_honestly d same =
-        let first : TookHonestly config units submitted.dev sectors told.took.at d told.report told.took.next =
-        disks_are_honest config units submitted.dev sectors plan fits below disk told.took.at d step.HostTake submitted.dev told.conn told.number told.bytes
+        let first : TookHonestly config units submitted.dev sectors told.took.at d past told.report told.took.next =
+        disks_are_honest config units submitted.dev sectors plan past fits below disk told.took.at d step.HostTake submitted.dev told.conn told.number told.bytes
         told.report told.took.next took.rule (eq-eqb submitted.dev submitted.dev refl) same in
-        let e : EndedSince config units submitted.dev told.took.at d sectors c.slot
+        let e : EndedSince config units submitted.dev told.took.at d past sectors c.slot
         (rephased Issued (new_entry c.ticket.0 submitted.dev submitted.request)) told.took.next.host.memory =
         first.done c.slot (rephased Issued (new_entry c.ticket.0 submitted.dev submitted.request)) low at_report queued told.done in
         record {
           before = e.before;
-          submitted = as_given d e.before e.submitted;
+          submitted = as_given d past e.before e.submitted;
           touches = e.touches;
           touched = e.touched;
           ends = stay_honest (host_turns config units submitted.dev told.took.at d) e.touches e.touched sectors e.before
-              (disk_history config units submitted.dev told.took.at d) e.ends;
+              (disk_history config units submitted.dev told.took.at d past) e.ends;
         }
 
-  module _ (sectors : ℕ) (plan : DiskPlan) (disk : IsNewDisk units submitted.dev plan sectors) (calm : is_queued submitted.request.work ≡ false) where
+  module _ (sectors : ℕ) (plan : DiskPlan) (past : List Happening) (disk : HasDisk units submitted.dev plan sectors past) (calm : is_queued submitted.request.work ≡ false) where
     flushed_honestly : (d : DiskRun config units submitted.dev told.took.at) → told.conn ≡ d.conn
-        → FlushedSince config units submitted.dev told.took.at d (new_entry c.ticket.0 submitted.dev submitted.request)
+        → FlushedSince config units submitted.dev told.took.at d past (new_entry c.ticket.0 submitted.dev submitted.request)
     flushed_honestly d same =
-        let first : TookHonestly config units submitted.dev sectors told.took.at d told.report told.took.next =
-        disks_are_honest config units submitted.dev sectors plan fits below disk told.took.at d step.HostTake submitted.dev told.conn told.number told.bytes
+        let first : TookHonestly config units submitted.dev sectors told.took.at d past told.report told.took.next =
+        disks_are_honest config units submitted.dev sectors plan past fits below disk told.took.at d step.HostTake submitted.dev told.conn told.number told.bytes
         told.report told.took.next took.rule (eq-eqb submitted.dev submitted.dev refl) same in
-        let f : FlushedSince config units submitted.dev told.took.at d (rephased Issued (new_entry c.ticket.0 submitted.dev submitted.request)) =
+        let f : FlushedSince config units submitted.dev told.took.at d past (rephased Issued (new_entry c.ticket.0 submitted.dev submitted.request)) =
         first.flushed c.slot (rephased Issued (new_entry c.ticket.0 submitted.dev submitted.request)) low at_report calm told.done in
-        record { before = f.before; submitted = as_given d f.before f.submitted; later = f.later; is = f.is; taken = f.taken }
+        record { before = f.before; submitted = as_given d past f.before f.submitted; later = f.later; is = f.is; taken = f.taken }
 
   abbrev turns_up : List HostTurn
   turns_up = over turn_of (new_world config units) told.took.before told.took.told told.took.at told.took.came

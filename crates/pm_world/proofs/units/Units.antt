@@ -4,7 +4,7 @@ use Rattle.std.specs.Prelude.{slice_get, slice_set, option_map, IsSomeAnd, Match
 use Rattle.std.proofs.lemmas.Bool.{cases_eq, eq-eqb, ne_eqb}
 use Rattle.std.proofs.lemmas.List.{append-nil}
 use Rattle.fis_view.specs.Frames.{Stamped}
-use Rattle.disk_model.specs.Histories.{Happening, Received, Sent, Plugged, Plan}
+use Rattle.disk_model.specs.Histories.{Happening, Received, Sent, Plugged, Loaded, Plan}
 use Rattle.multiplier.specs.State.{PmState}
 use Rattle.pm_world.specs.Attached.{Attached as Device, plan_of, StandsFor}
 use Rattle.pm_world.specs.Downward.{on_down_link}
@@ -37,6 +37,7 @@ may_send-append plan history (Received bytes ∷ first) second may more =
     may_send-append plan (history ++ Received bytes ∷ []) first second may (subst (λ (h : List Happening). MaySendAll plan h second) (sym (append_assoc history (Received bytes ∷ []) first)) more)
 may_send-append plan history (Plugged ∷ first) second may more =
     may_send-append plan (history ++ Plugged ∷ []) first second may (subst (λ (h : List Happening). MaySendAll plan h second) (sym (append_assoc history (Plugged ∷ []) first)) more)
+may_send-append plan history (Loaded bytes ∷ first) second may more = absurd may
 
 lives-append : (a b c : Device) (first second : List Happening) → LivesOn a first b → LivesOn b second c → LivesOn a (first ++ second) c
 lives-append a b c first second one two = record {
