@@ -1,6 +1,7 @@
 -- For `isolated`. The history of a device is told by its own events.
-use Rattle.std.proofs.Common.{◌≡◌, ◌≢◌, ℕ, zero, suc, ◌<◌, Bool, true, false, ◌&&◌, ◌||◌, List, [], ◌∷◌, ◌++◌, drop, refl, sym, ◌∙◌, ap, subst, Option, Some, None, append_assoc}
+use Rattle.std.proofs.Common.{◌≡◌, ◌≢◌, ℕ, zero, suc, ◌<◌, Bool, true, false, ◌&&◌, ◌||◌, List, [], ◌∷◌, ◌++◌, drop, refl, sym, ◌∙◌, ap, ap₂, subst, lt_trans, lt-suc_self, Option, Some, None, append_assoc}
 use Rattle.std.specs.Prelude.{◌==◌, if◌then◌else◌, map, not, is_some, Result}
+use Rattle.std.specs.List.{AllZip}
 use Rattle.std.proofs.lemmas.Bool.{cond-false, cond-true, eqb-false, eqb-true, not-false, or_parts}
 use Rattle.fis_view.specs.Frames.{Stamped}
 use Rattle.fis_view.specs.Seen.{seen}
@@ -9,6 +10,7 @@ use Rattle.fis_view.specs.declared.view.FisFault.{FisFault}
 use Rattle.hba_fbs.specs.declared.hearing.Fault.{Fault}
 use Rattle.hba_commands.specs.declared.command.Command.{Command}
 use Rattle.host_memory.specs.Memory.{Memory}
+use Rattle.host_memory.specs.declared.table.Prd.{Prd}
 use Rattle.slots.specs.Data.{payload}
 use Rattle.slots.specs.Slots.{Issue, context_of, holds, issue_at, match_some, own_issue, slots_of}
 use Rattle.hba_fbs.specs.declared.hearing.Heard.{Heard}
@@ -21,13 +23,13 @@ use Rattle.hba_fbs.specs.Tables.{is_sound, prds_of}
 use Rattle.hba_fbs.specs.Taking.{admitted, heard, ignores, is_ignored, is_running, passes_over, port_cause, port_of, stops_with}
 use Rattle.hba_fbs.specs.Views.{view_of}
 use Rattle.hba_fbs.specs.Writing.{cleared_by, is_device}
-use Rattle.hba_laws.specs.Alike.{AreFilledAlike, Brought, HistoriesByOwn, OwnFillAlike, brought, brought_over, history_by, tables_in, told_came, told_going, told_issue, told_issued, told_order, told_own, with_memory}
+use Rattle.hba_laws.specs.Alike.{AreFilledAlike, Brought, HistoriesByOwn, IsBroughtAlike, OwnFillAlike, brought, brought_over, history_by, tables_in, told_came, told_going, told_issue, told_issued, told_order, told_own, with_memory}
 use Rattle.hba_laws.specs.Client.{By, Stops, own}
 use Rattle.hba_laws.specs.Delivering.{by_device, event_heard, event_sent, event_taken, history_after, is_control_issue, issued_below, touched, touched_by_clear, touched_by_out, begun_by}
 use Rattle.hba_laws.specs.History as event
 use Rattle.hba_laws.specs.History.{Event, History, filled, issued}
 use Rattle.hba_laws.specs.Hosts.{Does, Flushed, Gave, Host, HostEvent, Rewrote, Runs, Took, Wrote}
-use Rattle.hba_laws.specs.Isolation.{AreOfDevices, Came, Cleared, Emptied, Issued, OwnEvent, Went, is_port_event, lowers_st, next_own, own_events, part_after, part_after_all, skips, stops, stops_port}
+use Rattle.hba_laws.specs.Isolation.{AreOfDevices, Came, Cleared, Emptied, Issued, OwnEvent, Rewritten, Went, is_port_event, lowers_st, next_own, own_events, part_after, part_after_all, skips, stops, stops_port}
 use Rattle.hba_laws.specs.Parts.{DevicePart, part_of}
 use Rattle.hba_laws.specs.Sound.{AreHosts, IsHost}
 use Rattle.hba_laws.specs.Between.{IsOrder, history_below, with_issued}
@@ -246,6 +248,37 @@ told_over n lt old new (event ∷ events) run hosts devices past =
 pub histories_by_own : HistoriesByOwn
 histories_by_own n lt old new events run past = told_over n lt old new events run.run run.hosts run.devices past
 
+-- PRDs that are the same below a slot tell the same of the commands issued below it
+issued_alike : (commands : ℕ → Option Command) (one other : ℕ → List Prd) (m : ℕ)
+    → ((slot : ℕ) → slot < m → one slot ≡ other slot) → told_issued commands one m ≡ told_issued commands other m
+unfolding told_issued
+issued_alike commands one other zero same = refl
+issued_alike commands one other (suc m) same =
+    ap₂ (λ (table : List Prd) (h : History). told_issue m table (commands m) ++ h) (same m (lt-suc_self m))
+    (issued_alike commands one other m (λ slot lt. same slot (lt_trans lt (lt-suc_self m))))
+
+own_alike : (n : ℕ) (p : DevicePart) (own : OwnEvent) (one other : ℕ → List Prd) (bytes : List ℕ)
+    → ((slot : ℕ) → slot < 32 → one slot ≡ other slot) → told_own n p own one bytes ≡ told_own n p own other bytes
+own_alike n p (Came frame) one other bytes same = refl
+own_alike n p (Issued commands) one other bytes same = issued_alike commands one other 32 same
+own_alike n p Went one other bytes same = refl
+own_alike n p Cleared one other bytes same = refl
+own_alike n p Emptied one other bytes same = refl
+own_alike n p (Rewritten row) one other bytes same = refl
+
+by_alike : (n : ℕ) (p : DevicePart) (past : History) (xs ys : List Brought) → AllZip IsBroughtAlike xs ys
+    → history_by n p past xs ≡ history_by n p past ys
+by_alike n p past [] [] alike = refl
+by_alike n p past (x ∷ xs) (y ∷ ys) alike =
+    let same = alike.0 in
+    ap (λ (h : History). history_by n (part_after n p x.event) (h ++ past) xs)
+    (own_alike n p x.event x.tables y.tables x.bytes same.tables
+    ∙ ap₂ (λ (e : OwnEvent) (b : List ℕ). told_own n p e y.tables b) same.event same.bytes)
+    ∙ ap (λ (e : OwnEvent). history_by n (part_after n p e) (told_own n p y.event y.tables y.bytes ++ past) xs) same.event
+    ∙ by_alike n (part_after n p y.event) (told_own n p y.event y.tables y.bytes ++ past) xs ys alike.1
+by_alike n p past [] (y ∷ ys) alike = absurd alike
+by_alike n p past (x ∷ xs) [] alike = absurd alike
+
 filled_alike : (h g : History) → h ≡ g → AreFilledAlike h g
 filled_alike h g same = record {
   histories = same;
@@ -257,4 +290,4 @@ pub own_fill_alike : OwnFillAlike
 own_fill_alike n lt old new events run old2 new2 events2 run2 past parts own =
     filled_alike _ _
     (histories_by_own n lt old new events run past ∙ ap (λ (p : DevicePart). history_by n p past (brought_over n old new events run.run)) parts
-    ∙ ap (history_by n (part_of n old2) past) own ∙ sym (histories_by_own n lt old2 new2 events2 run2 past))
+    ∙ by_alike n (part_of n old2) past _ _ own ∙ sym (histories_by_own n lt old2 new2 events2 run2 past))
