@@ -3,6 +3,7 @@
 -- these.
 use Rattle.std.specs.Prelude.{ℕ, ◌≡◌, ◌<◌, if◌then◌else◌, zero, suc, true, List, [], ◌∷◌, ◌++◌, map, drop}
 use Rattle.std.specs.Prelude.{Option, Some, None, is_some}
+use Rattle.std.specs.List.{AllZip}
 use Rattle.fis_view.specs.Seen.{seen}
 use Rattle.hba_commands.specs.declared.command.Command.{Command}
 use Rattle.host_memory.specs.Memory.{Memory}
@@ -39,6 +40,12 @@ bytes_out event = []
 abbrev pub with_memory : Host → HostEvent → OwnEvent → Brought
 with_memory host event own =
     record { event = own; tables = tables_in host.memory own; bytes = bytes_out event }
+
+-- the same event, with the same bytes, and with the same PRDs at each slot of a port
+pub record IsBroughtAlike (one other : Brought) : Type 0 where
+  pub event : one.event ≡ other.event
+  pub tables : (slot : ℕ) → slot < 32 → one.tables slot ≡ other.tables slot
+  pub bytes : one.bytes ≡ other.bytes
 
 -- the own events of a device in an event
 abbrev pub brought : ℕ → Host → HostEvent → List Brought
@@ -119,6 +126,6 @@ OwnFillAlike =
     → (old new : Host) (events : List HostEvent) (run : RunsByDevices old events new)
     → (old2 new2 : Host) (events2 : List HostEvent) (run2 : RunsByDevices old2 events2 new2) (past : History)
     → part_of n old ≡ part_of n old2
-    → brought_over n old new events run.run ≡ brought_over n old2 new2 events2 run2.run
+    → AllZip IsBroughtAlike (brought_over n old new events run.run) (brought_over n old2 new2 events2 run2.run)
     → AreFilledAlike (history_after n past old new events run.run)
     (history_after n past old2 new2 events2 run2.run)

@@ -4,6 +4,7 @@
 -- caller keeps, into which nothing here looks, and the bytes that it sends.
 use Rattle.std.specs.Prelude.{ℕ, ◌≡◌, ◌+◌, ◌<◌, ◌≤◌, ◌==◌, Bool, true, false, if◌then◌else◌, List, [], ◌∷◌, ◌++◌, drop, length, map}
 use Rattle.std.specs.Prelude.{Option, Some, None, MatchOption}
+use Rattle.std.specs.List.{AllZip}
 use Rattle.fis_view.specs.Frames.{IsFrame}
 use Rattle.fis_view.specs.Seen.{seen}
 use Rattle.host_memory.specs.declared.table.Prd.{Prd}
@@ -133,6 +134,12 @@ pub record Given : Type 0 where
   -- the bytes of the frame that goes to the device
   pub bytes : List ℕ
 
+-- the same event, with the same bytes, and with the same PRDs at each slot of a port
+pub record IsGivenAlike (one other : Given) : Type 0 where
+  pub event : one.event ≡ other.event
+  pub tables : (slot : ℕ) → slot < 32 → one.tables slot ≡ other.tables slot
+  pub bytes : one.bytes ≡ other.bytes
+
 abbrev pub tables_by : CoreEvent → CoreOwn → ℕ → List Prd
 tables_by (core.Wrote register value offer tables) (Own (isolation.Issued commands)) slot = tables slot
 tables_by event own slot = []
@@ -185,7 +192,7 @@ CoreFillAlike =
     → (old new : Port) (events : List CoreEvent) (run : RunsByOnes old events new) → IsPart n old part
     → (old2 new2 : Port) (events2 : List CoreEvent) (run2 : RunsByOnes old2 events2 new2) → IsPart n old2 part
     → (past : History)
-    → given_through n old new events run.run ≡ given_through n old2 new2 events2 run2.run
+    → AllZip IsGivenAlike (given_through n old new events run.run) (given_through n old2 new2 events2 run2.run)
     → AreFilledAlike (history_through n past old new events run.run)
     (history_through n past old2 new2 events2 run2.run)
 

@@ -151,6 +151,28 @@ module _ (old : PmView) (was : IsSound old) (i : ℕ) (q d : PortSeats) (new : P
         (λ n. at_kept (λ s. s.commands.sent) old.ports i q d sent n ∙ was.run.down n
         ∙ ap (to_port n) (sym (last_gone (down ++ (i, frame) ∷ []) down (i, frame) refl)))
 
+-- nothing went over a link of port i
+pub rests : (old : PmView) → IsSound old → (i : ℕ) (q d : PortSeats) → q.frames.taken ≡ (slice_index_or old.ports i d).frames.taken
+    → q.presence.taken ≡ (slice_index_or old.ports i d).presence.taken → q.commands.sent ≡ (slice_index_or old.ports i d).commands.sent
+    → IsSound (with_port_seats old i q old.pm)
+rests old was i q d frames told sent =
+    let count : length (slice_set old.ports i q) ≡ length old.ports = length-set old.ports i q in
+    record {
+      some = subst (λ k. 1 ≤ k) (sym count) was.some;
+      few = subst (λ k. k ≤ 15) (sym count) was.few;
+      count = was.count ∙ sym count;
+      order = λ n. subst InDeviceOrder (sym (at_kept (λ s. s.frames.taken) old.ports i q d frames n)) (was.order n);
+      run = record {
+        calls = was.run.calls;
+        does = subst (λ k. DoesAll none_past (opening k) was.run.calls old.pm) (sym count) was.run.does;
+        frames = λ n. at_kept (λ s. s.frames.taken) old.ports i q d frames n ∙ was.run.frames n;
+        presence = λ n. at_kept (λ s. s.presence.taken) old.ports i q d told n ∙ was.run.presence n;
+        commands = was.run.commands;
+        up = was.run.up;
+        down = λ n. at_kept (λ s. s.commands.sent) old.ports i q d sent n ∙ was.run.down n;
+      };
+    }
+
 -- ---- at the host
 
 -- the worker with another multiplier, and another seat at the host

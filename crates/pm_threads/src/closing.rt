@@ -26,7 +26,6 @@ use pm_thread::PmWorker;
 use pm_world::ConnCount;
 use ruled_links::meet;
 use std::alloc::{AllocError, Global};
-use std::sync::Wait;
 use thiserror::Error;
 use thread_counts::counted;
 
@@ -85,8 +84,7 @@ impl From<AllocError> for CloseError {
 /// what it took of a connection whose removal it has not recorded is what it put up and what it
 /// holds. The memory is what the turns of the host made of it.
 #[tactic(auto, using(crate::proofs::Ends::link_prefix))]
-fn met<'a, D: Device + Drop, R: Wait>(
-    rt: &R,
+fn met<'a, D: Device + Drop>(
     alloc: Global,
     disks: Vec<DiskEnd<'a, D>>,
     pm: PmWorker<'a>,
@@ -118,9 +116,9 @@ fn met<'a, D: Device + Drop, R: Wait>(
     let counts = counted(alloc, disks.as_slice(), &host);
     let (_, ports, sent, told) = pm.into_parts();
     let (taken, said, memory, plan, states) = host.into_parts();
-    let _ = meet(rt, sent, taken);
-    let _ = meet(rt, said, told);
-    let units = meet_all(rt, alloc, disks, ports);
+    let _ = meet(sent, taken);
+    let _ = meet(said, told);
+    let units = meet_all(alloc, disks, ports);
     Ok(PartialSummary {
         counts: counts?,
         plan,
@@ -132,8 +130,7 @@ fn met<'a, D: Device + Drop, R: Wait>(
 
 /// Brings the seats of all links together, even if no memory is found for the summary, and says how each
 /// request ended.
-pub fn close<'a, D: Device + Drop, R: Wait>(
-    rt: &R,
+pub fn close<'a, D: Device + Drop>(
     alloc: Global,
     finished: Finished<'a, D>,
 ) -> Result<Summary<D>, CloseError>
@@ -160,7 +157,7 @@ pub fn close<'a, D: Device + Drop, R: Wait>(
         states,
         memory,
         units,
-    } = met(rt, alloc, disks, pm, host)?;
+    } = met(alloc, disks, pm, host)?;
     let results = outcomes(alloc, states.as_slice())?;
     Ok(Summary {
         counts,
@@ -173,8 +170,7 @@ pub fn close<'a, D: Device + Drop, R: Wait>(
 /// Brings the seats of all links together after a run that has not finished, even if no memory is found
 /// for the summary. What `close` says of the links holds here too. The state of each request comes in place of its
 /// outcome, since some may be open.
-pub fn close_unfinished<'a, D: Device + Drop, R: Wait>(
-    rt: &R,
+pub fn close_unfinished<'a, D: Device + Drop>(
     alloc: Global,
     unfinished: Unfinished<'a, D>,
 ) -> Result<PartialSummary<D>, CloseError>
@@ -197,5 +193,5 @@ pub fn close_unfinished<'a, D: Device + Drop, R: Wait>(
         → IsMadeOf start unfinished.entry.host.worker s.memory) }
 {
     let (disks, pm, host) = unfinished.into_parts();
-    met(rt, alloc, disks, pm, host)
+    met(alloc, disks, pm, host)
 }

@@ -9,10 +9,9 @@ use disk_thread::DiskEnd;
 use pm_thread::PmPort;
 use ruled_links::meet;
 use std::alloc::{AllocError, Global};
-use std::sync::Wait;
 
 /// The three links of a device, and the device, which is given back.
-fn meet_at<'a, D: Device + Drop, R: Wait>(rt: &R, end: DiskEnd<'a, D>, port: PmPort<'a>) -> D
+fn meet_at<'a, D: Device + Drop>(end: DiskEnd<'a, D>, port: PmPort<'a>) -> D
     requires { TiedTo end.station port }
     ensures handed { Handed end.entry.station port.entry }
     ensures unit { result ≡ end.entry.station.unit }
@@ -28,16 +27,15 @@ fn meet_at<'a, D: Device + Drop, R: Wait>(rt: &R, end: DiskEnd<'a, D>, port: PmP
         frames,
         presence,
     } = port;
-    let _ = meet(rt, sent, frames);
-    let _ = meet(rt, commands, taken);
-    let _ = meet(rt, told, presence);
+    let _ = meet(sent, frames);
+    let _ = meet(commands, taken);
+    let _ = meet(told, presence);
     unit
 }
 
 /// The links of all devices, which are given back in order. All meet, even if no memory is found for
 /// the list.
-pub(crate) fn meet_all<'a, D: Device + Drop, R: Wait>(
-    rt: &R,
+pub(crate) fn meet_all<'a, D: Device + Drop>(
     alloc: Global,
     mut disks: Vec<DiskEnd<'a, D>>,
     mut ports: Vec<PmPort<'a>>,
@@ -53,8 +51,8 @@ pub(crate) fn meet_all<'a, D: Device + Drop, R: Wait>(
     let Some(port) = ports.pop() else {
         unreachable!()
     };
-    let unit = meet_at(rt, end, port);
-    let mut units = meet_all(rt, alloc, disks, ports)?;
+    let unit = meet_at(end, port);
+    let mut units = meet_all(alloc, disks, ports)?;
     units.push(unit)?;
     Ok(units)
 }

@@ -5,8 +5,9 @@ use Rattle.std.specs.Prelude.{List, [], ◌∷◌, ◌++◌, length, find, Holds
 use Rattle.std.specs.Prelude.{AllPairs, ◌⊎◌}
 use Rattle.std.specs.List.{list_any, AllWithin}
 use Rattle.std.specs.Option.{option_map, option_or}
+use Rattle.hba_driver.specs.declared.mode.Mode.{Mode}
 use Rattle.pm_world.specs.Attached.{Attached}
-use Rattle.pm_world.specs.Places.{Places, is_config, new_world}
+use Rattle.pm_world.specs.Places.{Places, is_config, new_world_in}
 use Rattle.pm_world.specs.Rules.{Run}
 use Rattle.pm_world.specs.Traffic.{sent, taken}
 use Rattle.pm_world.specs.declared.counts.ConnCount.{ConnCount}
@@ -117,14 +118,15 @@ pub record Tell (rows : List ConnCount) (answers : List Answer) : Type 0 where
       })
       else None)
 
--- these answers are those of a run from a new world
+-- these answers are those of a run from a new world, in one of the modes
 pub record AreOfARun (answers : List Answer) : Type 0 where
+  pub mode : Mode
   pub config : Config
   pub units : List Attached
   pub fits : is_config config (length units) ≡ true
   pub steps : List Step
   pub now : Places
-  pub run : Run (new_world config units) steps answers now
+  pub run : Run (new_world_in mode config units) steps answers now
 
 -- rows that told what the answers of a run say still do with one more answer
 abbrev pub GoesOnTelling : List ConnCount → Answer → List ConnCount → Type 0

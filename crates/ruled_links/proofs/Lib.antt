@@ -1,2 +1,5 @@
 pub mod Moves
+pub mod Out
 pub mod Prefixes
+pub mod Seats
+pub mod Slots

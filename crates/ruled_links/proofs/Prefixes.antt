@@ -1,5 +1,5 @@
 -- Beginnings of lists.
-use Rattle.std.proofs.Common.{◌≡◌, List, [], ◌∷◌, ◌++◌, drop, sym, refl, ap, ◌∙◌, inl, inr, append_assoc, append-nil}
+use Rattle.std.proofs.Common.{◌≡◌, ◌≤◌, List, [], ◌∷◌, ◌++◌, drop, length, sym, refl, ap, ◌∙◌, inl, inr, append_assoc, append-nil, length-append, arith}
 use Rattle.ruled_links.specs.Lists.{IsPrefixOf, Agree}
 
 module _ {T : Type 0} where
@@ -8,6 +8,9 @@ module _ {T : Type 0} where
 
   pub prefix_more : (xs ys more : List T) → IsPrefixOf xs ys → IsPrefixOf xs (ys ++ more)
   prefix_more xs ys more h = (h.0 ++ more, sym (append_assoc xs h.0 more) ∙ ap (λ l. l ++ more) h.1)
+
+  pub prefix_length : (xs ys : List T) → IsPrefixOf xs ys → length xs ≤ length ys
+  prefix_length xs ys h = omega (arith, length-append xs h.0, ap length h.1)
 
   agree_cons : (x : T) (xs ys : List T) → Agree xs ys → Agree (x ∷ xs) (x ∷ ys)
   agree_cons x xs ys h =

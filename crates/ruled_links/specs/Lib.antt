@@ -1,3 +1,4 @@
+pub mod Calls
 pub mod Links
 pub mod Lists
 pub mod Rule

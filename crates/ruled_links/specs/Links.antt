@@ -27,12 +27,15 @@ abbrev pub new_link : ℕ → LinkState
 new_link capacity = record { room = capacity; seated = false }
 
 -- A seat: its link, the room of that link, and what the seat knows to be sent and taken over it. A sending
--- seat knows all that was sent and a prefix of what was taken; a taking seat knows the reverse.
+-- seat knows all that was sent and a prefix of what was taken; a taking seat knows the reverse. For each Full
+-- it knows how many items had been sent, and for each None how many had been taken.
 pub record Seat (T : Type 0) : Type 0 where
   pub link : TableId
   pub room : ℕ
   pub sent : List T
   pub taken : List T
+  pub full_at : List ℕ
+  pub none_at : List ℕ
 
 -- what was sent and not taken, as far as the seat knows
 abbrev pub content : {T : Type 0} → Seat T → List T

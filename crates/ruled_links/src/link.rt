@@ -4,17 +4,14 @@ ghost use Rattle.std.specs.Prelude.{◌≡◌, ◌↔◌, [], true, false, IsTru
 ghost use Rattle.ruled_links.specs.Links.{is_capacity, new_link};
 
 use crate::item::Item;
-use crate::rule::{Ruled, Seats, View};
+use crate::ring::{Pass, Ring};
 use crate::seat::{Rx, Tx};
-use crossbeam_queue::{Pass, RuledArrayQueue};
 use std::alloc::{AllocError, Global};
 use std::marker::Model;
 use thiserror::Error;
 
 /// The largest capacity of a link.
 pub const MAX_CAPACITY: usize = 64;
-
-pub(crate) type Queue<T> = RuledArrayQueue<T, View<T>, Ruled>;
 
 /// Why a link cannot be made.
 #[derive(Clone, Copy, Debug, PartialEq, Eq, Error)]
@@ -41,22 +38,21 @@ impl From<AllocError> for LinkError {
 /// A link of a bounded capacity for items from one thread to another. It gives out its two seats once.
 #[derive(Drop)]
 pub struct Link<T: Item> {
-    queue: Queue<T>,
-    pass: Option<Pass<T, View<T>>>,
+    ring: Ring<T>,
+    pass: Option<Pass<T>>,
 }
 
 impl<T: Item> Model for Link<T> {
     ghost use Rattle.std.specs.Prelude.{◌≡◌, is_none};
     ghost use Rattle.std.specs.Option.{ForSome};
-    ghost use Rattle.crossbeam_queue.specs.Passes.{IsPassOf, ruled_capacity};
-    ghost use Rattle.ruled_links.specs.Rule.{fresh, known};
+    ghost use Rattle.ruled_links.specs.Rule.{IsPassOf, fresh, known, room_of};
     ghost use Rattle.ruled_links.specs.Links.{LinkState};
 
     ghost Value = { LinkState };
 
-    ghost view = { λ l. record { room = ruled_capacity l.queue; seated = is_none l.pass } };
+    ghost view = { λ l. record { room = room_of l.ring; seated = is_none l.pass } };
 
-    ghost invariant = { λ l. ForSome l.pass (λ p. IsPassOf l.queue p × (known p ≡ fresh)) };
+    ghost invariant = { λ l. ForSome l.pass (λ p. IsPassOf l.ring p × (known p ≡ fresh)) };
 }
 
 impl<T: Item> Link<T> {
@@ -69,9 +65,9 @@ impl<T: Item> Link<T> {
         if capacity < 1 || capacity > MAX_CAPACITY {
             return Err(LinkError::BadCapacity);
         }
-        let (queue, pass) = Queue::ruled(alloc, capacity)?;
+        let (ring, pass) = Ring::new(alloc, capacity)?;
         Ok(Link {
-            queue,
+            ring,
             pass: Some(pass),
         })
     }
@@ -80,11 +76,21 @@ impl<T: Item> Link<T> {
     pub fn seats(&mut self) -> Option<(Tx<'_, T>, Rx<'_, T>)>
         ensures once { IsNone result ↔ IsTrue self.old.seated }
         ensures new { IfSome result (λ s. (s.0 ≡ s.1) × (s.0.room ≡ self.old.room)
-            × (s.0.sent ≡ []) × (s.0.taken ≡ [])) }
+            × (s.0.sent ≡ []) × (s.0.taken ≡ []) × (s.0.full_at ≡ []) × (s.0.none_at ≡ [])) }
     {
         let mut pass = self.pass.take()?;
-        let queue = &self.queue;
-        let other = queue.another::<Seats>(&mut pass);
-        Some((Tx { queue, pass }, Rx { queue, pass: other }))
+        let ring = &self.ring;
+        let other = ring.split(&mut pass);
+        let tx = Tx {
+            ring,
+            pass,
+            tail: 0,
+        };
+        let rx = Rx {
+            ring,
+            pass: other,
+            head: 0,
+        };
+        Some((tx, rx))
     }
 }

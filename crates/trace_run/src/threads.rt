@@ -112,18 +112,14 @@ fn summary_over<R: Threads + Wait + Sync>(
     requires { can_run links.old setup ≡ true }
 {
     match run_threads(rt, alloc, links, setup, &Open) {
-        Ok(finished) => closed(rt, alloc, finished),
+        Ok(finished) => closed(alloc, finished),
         Err(failure) => unfinished(why(failure)),
     }
 }
 
 /// What comes of a run that has finished.
-fn closed<R: Threads + Wait + Sync>(
-    rt: &R,
-    alloc: Global,
-    finished: Finished<'_, Unit>,
-) -> Result<Option<Summary<Unit>>, Failure> {
-    match close(rt, alloc, finished) {
+fn closed(alloc: Global, finished: Finished<'_, Unit>) -> Result<Option<Summary<Unit>>, Failure> {
+    match close(alloc, finished) {
         Ok(summary) => Ok(Some(summary)),
         Err(CloseError::OutOfMemory) => Err(Failure::OutOfMemory),
     }

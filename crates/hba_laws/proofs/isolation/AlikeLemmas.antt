@@ -1,6 +1,7 @@
 -- For `isolated`. The history of a device is told by its own events, as that of its core is.
-use Rattle.std.proofs.Common.{◌≡◌, ℕ, ◌<◌, Bool, true, false, List, [], ◌∷◌, ◌++◌, drop, refl, sym, ◌∙◌, ap, subst, Option, Some, None}
+use Rattle.std.proofs.Common.{◌≡◌, ℕ, ◌<◌, Bool, true, false, List, [], ◌∷◌, ◌++◌, drop, refl, sym, ◌∙◌, ap, ap₂, subst, Option, Some, None}
 use Rattle.std.specs.Prelude.{◌==◌, if◌then◌else◌, map, not}
+use Rattle.std.specs.List.{AllZip}
 use Rattle.std.proofs.lemmas.Bool.{not-false, or_parts, true≢false}
 use Rattle.fis_view.specs.Frames.{Stamped}
 use Rattle.fis_view.specs.Seen.{seen}
@@ -23,7 +24,7 @@ use Rattle.hba_fbs.specs.Turning.{outgoing_at, turn_of}
 use Rattle.hba_fbs.specs.Views.{view_of}
 use Rattle.hba_fbs.specs.Writing.{cleared_by, is_device}
 use Rattle.hba_fbs.proofs.Door.{decided_if, outgoing_is}
-use Rattle.hba_laws.specs.Alike.{Brought, HistoriesByOwn, OwnFillAlike, brought, brought_over, bytes_out, history_by, tables_in, told_came, told_own, with_memory}
+use Rattle.hba_laws.specs.Alike.{Brought, HistoriesByOwn, IsBroughtAlike, OwnFillAlike, brought, brought_over, bytes_out, history_by, tables_in, told_came, told_own, with_memory}
 use Rattle.hba_laws.specs.Client.{own}
 use Rattle.hba_laws.specs.CoreHistories.{Given, given_by, history_given, told_arrival, told_given, with_caller}
 use Rattle.hba_laws.specs.Cores as core
@@ -36,7 +37,7 @@ use Rattle.hba_laws.specs.Parts.{DevicePart, part_of}
 use Rattle.hba_laws.specs.Sound.{AreHosts, IsHost}
 use Rattle.hba_laws.proofs.cores.CoreHostLemmas.{is_core}
 use Rattle.hba_laws.proofs.histories.EventLemmas.{happened_if, touched_is}
-use Rattle.hba_laws.proofs.isolation.CoreAlikeLemmas.{filled_alike, told_by}
+use Rattle.hba_laws.proofs.isolation.CoreAlikeLemmas.{filled_alike, own_alike, told_by}
 use Rattle.hba_laws.proofs.isolation.CoreFoldLemmas.{goes_on, stops_same}
 use Rattle.hba_laws.proofs.isolation.IsolationLemmas.{own_step, part_is}
 use Rattle.hba_laws.proofs.soundness.KeptLemmas.{first_host}
@@ -163,8 +164,21 @@ told_over n lt old new (event ∷ events) run hosts devices past =
 pub histories_by_own : HistoriesByOwn
 histories_by_own n lt old new events run past = told_over n lt old new events run.run run.hosts run.devices past
 
+by_alike : (n : ℕ) (p : DevicePart) (past : History) (xs ys : List Brought) → AllZip IsBroughtAlike xs ys
+    → history_by n p past xs ≡ history_by n p past ys
+by_alike n p past [] [] alike = refl
+by_alike n p past (x ∷ xs) (y ∷ ys) alike =
+    let same = alike.0 in
+    ap (λ (h : History). history_by n (part_after n p x.event) (h ++ past) xs)
+    (own_alike n p x.event x.tables y.tables x.bytes same.tables
+    ∙ ap₂ (λ (e : OwnEvent) (b : List ℕ). told_own n p e y.tables b) same.event same.bytes)
+    ∙ ap (λ (e : OwnEvent). history_by n (part_after n p e) (told_own n p y.event y.tables y.bytes ++ past) xs) same.event
+    ∙ by_alike n (part_after n p y.event) (told_own n p y.event y.tables y.bytes ++ past) xs ys alike.1
+by_alike n p past [] (y ∷ ys) alike = absurd alike
+by_alike n p past (x ∷ xs) [] alike = absurd alike
+
 pub own_fill_alike : OwnFillAlike
 own_fill_alike n lt old new events run old2 new2 events2 run2 past parts own =
     filled_alike _ _
     (histories_by_own n lt old new events run past ∙ ap (λ (p : DevicePart). history_by n p past (brought_over n old new events run.run)) parts
-    ∙ ap (history_by n (part_of n old2) past) own ∙ sym (histories_by_own n lt old2 new2 events2 run2 past))
+    ∙ by_alike n (part_of n old2) past _ _ own ∙ sym (histories_by_own n lt old2 new2 events2 run2 past))

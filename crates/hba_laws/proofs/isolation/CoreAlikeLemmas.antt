@@ -1,6 +1,7 @@
 -- For `core_isolated`. The history of a device of the core is told by its own events.
-use Rattle.std.proofs.Common.{◌≡◌, ℕ, ◌<◌, Bool, true, false, ◌&&◌, List, [], ◌∷◌, ◌++◌, drop, refl, sym, ◌∙◌, ap, subst, Option, Some, None}
+use Rattle.std.proofs.Common.{◌≡◌, ℕ, zero, suc, ◌<◌, Bool, true, false, ◌&&◌, List, [], ◌∷◌, ◌++◌, drop, refl, sym, ◌∙◌, ap, ap₂, subst, lt_trans, lt-suc_self, Option, Some, None}
 use Rattle.std.specs.Prelude.{◌==◌, if◌then◌else◌, is_some, map, not}
+use Rattle.std.specs.List.{AllZip}
 use Rattle.std.proofs.lemmas.Bool.{cond-false, cond-true, eqb-true, not-false, or_parts, true≢false}
 use Rattle.fis_view.specs.Seen.{seen}
 use Rattle.fis_view.specs.declared.view.Fis.{Fis}
@@ -23,13 +24,13 @@ use Rattle.hba_fbs.specs.Taking.{admitted, ignores, is_running, port_cause, port
 use Rattle.hba_fbs.specs.Turning.{turn_of}
 use Rattle.hba_fbs.specs.Views.{DeviceView, Port, view_of}
 use Rattle.hba_fbs.specs.Writing.{cleared_by, is_device}
-use Rattle.hba_laws.specs.Alike.{AreFilledAlike, told_going, told_issued, told_order}
-use Rattle.hba_laws.specs.CoreHistories.{CoreFillAlike, CoreHistoriesByOwn, Given, event_by, given_by, given_through, happened, history_given, history_through, told_arrival, told_given, turned_for, with_caller, written_for}
+use Rattle.hba_laws.specs.Alike.{AreFilledAlike, told_going, told_issue, told_issued, told_order, told_own}
+use Rattle.hba_laws.specs.CoreHistories.{CoreFillAlike, CoreHistoriesByOwn, Given, IsGivenAlike, event_by, given_by, given_through, happened, history_given, history_through, told_arrival, told_given, turned_for, with_caller, written_for}
 use Rattle.hba_laws.specs.Cores.{AreCores, AreOfOnes, Arrived, CoreEvent, CoreOwn, Failed, Flushed, Gave, IsCore, IsPart, Own, RunsBy, Took, Wrote, own_by, part_by, part_by_all, stops_by, turned_to, used}
 use Rattle.hba_laws.specs.Delivering.{begun_by, event_heard, event_sent, is_control_issue}
 use Rattle.hba_laws.specs.History as event
 use Rattle.hba_laws.specs.History.{Event, History, filled, issued}
-use Rattle.hba_laws.specs.Isolation.{Cleared, Emptied, Issued, Went, lowers_st, next_own}
+use Rattle.hba_laws.specs.Isolation.{Came, Cleared, Emptied, Issued, OwnEvent, Rewritten, Went, lowers_st, next_own}
 use Rattle.hba_laws.specs.Parts.{DevicePart}
 use Rattle.hba_laws.specs.Between.{IsOrder}
 use Rattle.hba_laws.proofs.isolation.CoreLemmas.{decided_used, feeds_by, first_core, order_by, skipped, step}
@@ -165,7 +166,43 @@ filled_alike h g same = record {
   bytes = λ s i. ap (λ (x : History). filled s x i) same;
 }
 
+-- PRDs that are the same below a slot tell the same of the commands issued below it
+issued_alike : (commands : ℕ → Option Command) (one other : ℕ → List Prd) (m : ℕ)
+    → ((slot : ℕ) → slot < m → one slot ≡ other slot) → told_issued commands one m ≡ told_issued commands other m
+unfolding told_issued
+issued_alike commands one other zero same = refl
+issued_alike commands one other (suc m) same =
+    ap₂ (λ (table : List Prd) (h : History). told_issue m table (commands m) ++ h) (same m (lt-suc_self m))
+    (issued_alike commands one other m (λ slot lt. same slot (lt_trans lt (lt-suc_self m))))
+
+pub own_alike : (n : ℕ) (p : DevicePart) (own : OwnEvent) (one other : ℕ → List Prd) (bytes : List ℕ)
+    → ((slot : ℕ) → slot < 32 → one slot ≡ other slot) → told_own n p own one bytes ≡ told_own n p own other bytes
+own_alike n p (Came frame) one other bytes same = refl
+own_alike n p (Issued commands) one other bytes same = issued_alike commands one other 32 same
+own_alike n p Went one other bytes same = refl
+own_alike n p Cleared one other bytes same = refl
+own_alike n p Emptied one other bytes same = refl
+own_alike n p (Rewritten row) one other bytes same = refl
+
+given_alike : (n : ℕ) (p : DevicePart) (event : CoreOwn) (one other : ℕ → List Prd) (bytes : List ℕ)
+    → ((slot : ℕ) → slot < 32 → one slot ≡ other slot) → told_given n p event one bytes ≡ told_given n p event other bytes
+given_alike n p (Arrived room frame) one other bytes same = refl
+given_alike n p (Own event) one other bytes same = own_alike n p event one other bytes same
+
+by_alike : (n : ℕ) (p : DevicePart) (past : History) (xs ys : List Given) → AllZip IsGivenAlike xs ys
+    → history_given n p past xs ≡ history_given n p past ys
+by_alike n p past [] [] alike = refl
+by_alike n p past (x ∷ xs) (y ∷ ys) alike =
+    let same = alike.0 in
+    ap (λ (h : History). history_given n (part_by n p x.event) (h ++ past) xs)
+    (given_alike n p x.event x.tables y.tables x.bytes same.tables
+    ∙ ap₂ (λ (e : CoreOwn) (b : List ℕ). told_given n p e y.tables b) same.event same.bytes)
+    ∙ ap (λ (e : CoreOwn). history_given n (part_by n p e) (told_given n p y.event y.tables y.bytes ++ past) xs) same.event
+    ∙ by_alike n (part_by n p y.event) (told_given n p y.event y.tables y.bytes ++ past) xs ys alike.1
+by_alike n p past [] (y ∷ ys) alike = absurd alike
+by_alike n p past (x ∷ xs) [] alike = absurd alike
+
 pub core_fill_alike : CoreFillAlike
 core_fill_alike n lt part old new events run is old2 new2 events2 run2 is2 past own =
     filled_alike _ _
-    (core_histories_by_own n lt old new events run part is past ∙ ap (history_given n part past) own ∙ sym (core_histories_by_own n lt old2 new2 events2 run2 part is2 past))
+    (core_histories_by_own n lt old new events run part is past ∙ by_alike n part past _ _ own ∙ sym (core_histories_by_own n lt old2 new2 events2 run2 part is2 past))

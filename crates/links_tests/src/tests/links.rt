@@ -39,7 +39,7 @@ fn a_link_of_two(rt: HostRuntime) -> Result<(), Fail> {
     assert_eq!(rt; rx.take(&rt), Some(7));
     assert_eq!(rt; sent(&rt, &mut tx, 9), None);
     assert_eq!(rt; three(&rt, &mut rx), [Some(5), Some(9), None]);
-    let (mut tx, mut rx) = meet(&rt, tx, rx);
+    let (mut tx, mut rx) = meet(tx, rx);
     assert_eq!(rt; sent(&rt, &mut tx, 4), None);
     assert_eq!(rt; three(&rt, &mut rx), [Some(4), None, None]);
     drop(tx);

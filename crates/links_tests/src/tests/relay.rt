@@ -105,7 +105,7 @@ fn two_threads(rt: HostRuntime) -> Result<(), Fail> {
             in_order: 0,
         };
         let (sender, taker) = side_by_side(&rt, sender, taker);
-        let (_, mut rx) = meet(&rt, sender.seat, taker.seat);
+        let (_, mut rx) = meet(sender.seat, taker.seat);
         assert_eq!(rt;
             (sender.sent, taker.taken, taker.in_order),
             (ITEMS, ITEMS, ITEMS)

@@ -78,7 +78,7 @@ pub fn ran<D: Device + Drop + Send, R: Threads + Wait + Sync, G: Gate + Sync>(
     gate: &G,
 ) -> Result<Summary<D>, RunError> {
     let finished = run_threads(rt, alloc, links, setup, gate)?;
-    close(rt, alloc, finished).map_err(|error| match error {
+    close(alloc, finished).map_err(|error| match error {
         CloseError::OutOfMemory => RunError::OutOfMemory,
     })
 }

@@ -33,13 +33,12 @@ fn left_by(failure: RunFailure<'_, Unit>, error: RunError) -> Result<Unfinished<
 }
 
 /// The summary of what is left of a run that ended by this error.
-fn partial_by<R: Wait>(
-    rt: &R,
+fn partial_by(
     alloc: Global,
     failure: RunFailure<'_, Unit>,
     error: RunError,
 ) -> Result<PartialSummary<Unit>, Fail> {
-    Ok(close_unfinished(rt, alloc, left_by(failure, error)?)?)
+    Ok(close_unfinished(alloc, left_by(failure, error)?)?)
 }
 
 /// The summary of what is left of a run on these links, whose disks are at this door.
@@ -52,7 +51,7 @@ fn partial<R: Threads + Wait + Sync>(
 ) -> Result<PartialSummary<Unit>, Fail> {
     match run_threads(rt, alloc, links, setup, &door) {
         Ok(_) => Err("it finished".into()),
-        Err(failure) => partial_by(rt, alloc, failure, error),
+        Err(failure) => partial_by(alloc, failure, error),
     }
 }
 

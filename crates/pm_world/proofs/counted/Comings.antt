@@ -9,10 +9,10 @@ use Rattle.std.proofs.lemmas.List.{append-nil}
 use Rattle.std.proofs.lemmas.List.Folds.{list_any-append}
 use Rattle.multiplier.specs.Arbiter.{control_port}
 use Rattle.multiplier.specs.State.{PmState}
-use Rattle.hba_driver.specs.declared.mode.Mode.TheVariants.{Switching}
+use Rattle.hba_driver.specs.declared.mode.Mode.{Mode}
 use Rattle.hba_driver.specs.HostTurns.{Host}
 use Rattle.pm_world.specs.Attached.{Attached}
-use Rattle.pm_world.specs.Places.{Places, Place, Queue, IsOrderly, opening, new_world}
+use Rattle.pm_world.specs.Places.{Places, Place, Queue, IsOrderly, opening, new_world_in}
 use Rattle.pm_world.specs.Rules.{Outcome, CameActs, GoneActs, DiskSendActs, InjectActs, CameRule, GoneRule, DiskSendRule, InjectRule, DiskTakeRule, PmPresenceRule, PmFromDeviceRule, PmDownRule, PmUpRule, HostTakeRule, OnDevice, OnDeviceAndMultiplier, Rule, Run}
 use Rattle.pm_world.specs.Traffic.{sent_by, taken_by, sent, taken}
 use Rattle.pm_world.specs.Counting.{capped, row_of, first_row, sent_more, taken_more, noted, says_came, has_come, Tell, AreOfARun}
@@ -293,8 +293,8 @@ unplugged capacity [] n place is = absurd (cc)
 unplugged capacity (u ∷ units) zero place is = ap (λ (p : Place). p.plugged) (sym (same_Some (opening capacity u) place is))
 unplugged capacity (u ∷ units) (suc n) place is = unplugged capacity units n place is
 
-opening_keeps : (config : Config) (units : List Attached) → AllCame [] (new_world config units).devices
-opening_keeps config units = record {
+opening_keeps : (mode : Mode) (config : Config) (units : List Attached) → AllCame [] (new_world_in mode config units).devices
+opening_keeps mode config units = record {
   came = λ m c at. absurd (false≢true (sym (unplugged config.capacity units m at.place at.is) ∙ at.plugged));
   unsent = λ m c none. refl;
 }
@@ -323,13 +323,13 @@ nothing_before (x ∷ front) rest e = absurd (cc)
 -- what has not come has sent nothing, and nothing of it was taken
 module _ (answers : List Answer) (a : Answer) (all : AreOfARun (answers ++ a ∷ [])) where
   abbrev opening_world : Places
-  opening_world = new_world all.config all.units
+  opening_world = new_world_in all.mode all.config all.units
 
   front : Front opening_world answers a
   front = run_front opening_world all.steps answers a all.now all.run
 
   orderly : IsOrderly opening_world
-  orderly = opening_orderly Switching all.config all.units all.fits
+  orderly = opening_orderly all.mode all.config all.units all.fits
 
   -- the control port is not the port of a device
   comes_at_device : (n c : ℕ) → says_came n c a ≡ true → n ≢ control_port
@@ -340,13 +340,13 @@ module _ (answers : List Answer) (a : Answer) (all : AreOfARun (answers ++ a ∷
 
   nothing_sent : (n c : ℕ) → has_come n c answers ≡ false → sent n c answers ≡ []
   nothing_sent n c none =
-      let keeps = run_keeps [] opening_world front.steps answers front.mid (opening_keeps all.config all.units) front.run in
+      let keeps = run_keeps [] opening_world front.steps answers front.mid (opening_keeps all.mode all.config all.units) front.run in
       keeps.unsent n c none
 
   nothing_taken : (n c : ℕ) → has_come n c answers ≡ false → n ≢ control_port → taken n c answers ≡ []
   nothing_taken n c none device =
       let begins = (nothing_lost opening_world front.steps answers front.mid orderly front.run).prefix n c device in
-      nothing_before (taken n c answers) begins.0 (begins.1 ∙ rw (nothing_stands Switching all.config all.units n c, nothing_sent n c none) refl)
+      nothing_before (taken n c answers) begins.0 (begins.1 ∙ rw (nothing_stands all.mode all.config all.units n c, nothing_sent n c none) refl)
 
   nothing_yet : (n c : ℕ) → has_come n c answers ≡ false → says_came n c a ≡ true → (sent n c answers ≡ []) × (taken n c answers ≡ [])
   nothing_yet n c none says = (nothing_sent n c none, nothing_taken n c none (comes_at_device n c says))

@@ -80,3 +80,30 @@ returns-in-Ok-clause-links g c =
     subst (λ (o : PmView). SameLinks o (with_port_seats w c.from.result q c.next_down.new.self)) c.self.view_is
     (same_links w (with_port_seats w c.from.result q c.next_down.new.self) c.from.result q c.index_mut-port.result.now refl
     (stays ∙ ap ends_of seat) refl refl)
+
+pub returns-in-Err-clause-links : goal.returns-in-Err-clause-links
+returns-in-Err-clause-links g c =
+    let w : PmView = record {
+      pm = c.self.inside.pm;
+      ports = c.self.inside.ports.items;
+      host = c.self.inside.host;
+      commands = c.self.inside.commands;
+      hand = c.self.inside.hand;
+    } in
+    let q : PortSeats = record { commands = c.send.new.self; frames = c.port.inside.frames; presence = c.port.inside.presence } in
+    let seat = c.port.view_is ∙ c.index_mut-port.ensures.value in
+    let link : c.send.new.self.link ≡ c.port.inside.commands.link = search rules in
+    let room : c.send.new.self.room ≡ c.port.inside.commands.room = search rules in
+    let stays : ends_of q ≡ ends_of (record {
+      commands = c.port.inside.commands;
+      frames = c.port.inside.frames;
+      presence = c.port.inside.presence;
+    }) =
+    (λ i. record {
+      commands = record { link = link i; room = room i };
+      frames = record { link = c.port.inside.frames.link; room = c.port.inside.frames.room };
+      presence = record { link = c.port.inside.presence.link; room = c.port.inside.presence.room };
+    }) in
+    subst (λ (o : PmView). SameLinks o (with_port_seats w c.from.result q c.put_back_down.new.self)) c.self.view_is
+    (same_links w (with_port_seats w c.from.result q c.put_back_down.new.self) c.from.result q c.index_mut-port.result.now refl
+    (stays ∙ ap ends_of seat) refl refl)
