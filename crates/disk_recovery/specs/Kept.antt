@@ -9,7 +9,7 @@ use Rattle.std.specs.Prelude.{ℕ, ◌≡◌, ◌≢◌, ◌<◌, ◌%◌, ◌==
 use Rattle.std.specs.Prelude.{◌∷◌, slice_index, Bool, Option, Some, None}
 use Rattle.fis_view.specs.Frames.{IsFrame, Stamped, marked}
 use Rattle.fis_view.specs.Seen.{seen}
-use Rattle.host_memory.specs.Memory.{is_memory_size}
+use Rattle.host_memory.specs.Memory.{is_memory_size, zeroed}
 use Rattle.hba_fbs.specs.declared.report.TakeReport.{TakeReport}
 use Rattle.hba_fbs.specs.Taking.{port_of}
 use Rattle.disk_model.specs.Ends.{IsRight}
@@ -58,7 +58,7 @@ abbrev pub OpensHonestly : Type 0
 OpensHonestly =
     (n given len : ℕ) (commands : ℕ → SlotCommand) → n < 15 → is_memory_size len ≡ true
     → ((s : ℕ) → (commands s).command.tag ≡ s)
-    → IsServedHonestly n (opening_host given len) (Plugged ∷ []) commands []
+    → IsServedHonestly n (opening_host given (zeroed len)) (Plugged ∷ []) commands []
 
 -- In the tick that flushes the disk it begins anew: nothing of it is issued, and its plugging is all that has
 -- happened to it.

@@ -16,7 +16,7 @@ pub use Rattle.hba_driver.proofs.ends.FaultLemmas.{errors_are_named}
 pub use Rattle.hba_driver.proofs.events.DrivenLemmas.{not_below, tick_is}
 pub use Rattle.hba_driver.proofs.events.EventLemmas.{sound_beside}
 pub use Rattle.hba_driver.proofs.events.OpenLemmas.{up_of}
-pub use Rattle.hba_driver.proofs.events.SoundLemmas.{hosts_stay_sound, sound_turn}
+pub use Rattle.hba_driver.proofs.events.SoundLemmas.{hosts_stay_sound, sound_turn, zeroed_right}
 pub use Rattle.hba_driver.proofs.events.TurnLemmas.{each_run_tells, sound_shared, turns_are_events}
 pub use Rattle.hba_driver.proofs.issued.IssueLemmas.{told_of}
 pub use Rattle.hba_driver.proofs.issued.IssuingLemmas.{asked_is, bit_other, issued_cases}
@@ -38,6 +38,7 @@ pub use Rattle.hba_driver.proofs.steady.SteadyTurns.{signed_by, steady_fields, s
 pub use Rattle.hba_driver.proofs.steady.AbsentLemmas.{turn_was}
 pub use Rattle.hba_driver.proofs.done.TrueLemmas.{done_is_true}
 pub use Rattle.hba_driver.proofs.done.ReportLemmas.{all_wider, turn_stands}
+pub use Rattle.hba_driver.proofs.done.ReportRuns.{done_was_reported, first_turn, later_turn}
 pub use Rattle.hba_driver.proofs.goes_on.StopLemmas.{either}
 pub use Rattle.hba_driver.proofs.goes_on.PageLemmas.{poll_plan}
 pub use Rattle.hba_driver.proofs.goes_on.GoingLemmas.{goes_on, going_opens, going_turn}

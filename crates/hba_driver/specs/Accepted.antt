@@ -2,7 +2,7 @@
 -- locked or a slot busy, and each command that is issued is in memory as its slot needs it (AHCI 1.3.1,
 -- section 3.3, port registers, 5.5, how commands are issued, and chapter 9).
 use Rattle.std.specs.Prelude.{ℕ, ◌≡◌, true, List, [], ◌∷◌, None}
-use Rattle.host_memory.specs.Memory.{Memory, is_memory_size}
+use Rattle.host_memory.specs.Memory.{IsHostMemory, Memory}
 use Rattle.hba_fbs.specs.Views.{Port}
 use Rattle.hba_fbs.specs.Writing.{write_refusal}
 use Rattle.hba_driver.specs.declared.effect.Effect.{Effect}
@@ -39,6 +39,6 @@ TurnsAccept old new (turn ∷ turns) run = TurnAccepts old turn run.0 run.1 × T
 -- over every list of turns from an opening, in each mode
 abbrev pub WritesAreAccepted : Type 0
 WritesAreAccepted =
-    (mode : Mode) (given len : ℕ) → is_memory_size len ≡ true → (turns : List HostTurn) (h : Host)
-    (run : DoesAll (opening_host_in mode given len) turns h)
-    → TurnsAccept (opening_host_in mode given len) h turns run
+    (mode : Mode) (given : ℕ) (start : Memory) → IsHostMemory start → (turns : List HostTurn) (h : Host)
+    (run : DoesAll (opening_host_in mode given start) turns h)
+    → TurnsAccept (opening_host_in mode given start) h turns run

@@ -1,7 +1,7 @@
 -- Each frame that goes out of a host port has the PM Port of its device (Serial ATA 3.x, 10.5, FIS types, and
 -- 16.3, port multiplier: PM Port; AHCI 1.3.1, 9.3, FIS-based Switching).
 use Rattle.std.specs.Prelude.{ℕ, ◌≡◌, ◌%◌, true, List, [], ◌∷◌, Some, slice_index}
-use Rattle.host_memory.specs.Memory.{is_memory_size}
+use Rattle.host_memory.specs.Memory.{IsHostMemory, Memory}
 use Rattle.hba_driver.specs.declared.mode.Mode.{Mode}
 use Rattle.hba_driver.specs.Events.{opening_host_in}
 use Rattle.hba_driver.specs.HostTurns.{DoesAll, Host, HostTurn, Pushed}
@@ -18,5 +18,5 @@ AreAddressed (turn ∷ turns) = IsAddressed turn × AreAddressed turns
 -- over every list of turns of the host from its opening, in each mode
 abbrev pub FramesAreAddressed : Type 0
 FramesAreAddressed =
-    (mode : Mode) (given len : ℕ) → is_memory_size len ≡ true → (turns : List HostTurn) (h : Host)
-    → DoesAll (opening_host_in mode given len) turns h → AreAddressed turns
+    (mode : Mode) (given : ℕ) (start : Memory) → IsHostMemory start → (turns : List HostTurn) (h : Host)
+    → DoesAll (opening_host_in mode given start) turns h → AreAddressed turns

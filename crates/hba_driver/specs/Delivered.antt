@@ -7,7 +7,7 @@
 -- tells (specs/Delivering.antt).
 use Rattle.std.specs.Prelude.{ℕ, ◌≡◌, ◌≢◌, ◌+◌, ◌-◌, ◌<◌, ◌≤◌, ◌||◌, true, false, List, [], ◌++◌, length}
 use Rattle.std.specs.Prelude.{slice_index, Some}
-use Rattle.host_memory.specs.Memory.{Memory, client_start, is_memory_size}
+use Rattle.host_memory.specs.Memory.{IsHostMemory, Memory, client_start}
 use Rattle.host_memory.specs.Place.{AreInside, LiesInClient, place}
 use Rattle.host_memory.specs.Reading.{share_with}
 use Rattle.slots.specs.Slots.{has_bit, match_some}
@@ -24,16 +24,16 @@ use Rattle.hba_driver.specs.HostTurns.{Does, DoesAll, Host, HostTurn, Took}
 use Rattle.hba_driver.specs.Served.{IssuesAreRequests, RunServes}
 
 -- the host came here from its opening in this mode by these turns
-pub record HasCome (mode : Mode) (given len : ℕ) (turns : List HostTurn) (h : Host) : Type 0 where
-  pub does : DoesAll (opening_host_in mode given len) turns h
-  pub serves : RunServes (opening_host_in mode given len) h turns does []
+pub record HasCome (mode : Mode) (given : ℕ) (start : Memory) (turns : List HostTurn) (h : Host) : Type 0 where
+  pub does : DoesAll (opening_host_in mode given start) turns h
+  pub serves : RunServes (opening_host_in mode given start) h turns does []
 
 -- what was touched since, the latest first
-abbrev pub touches_of : (mode : Mode) (given len : ℕ) (turns : List HostTurn) (h : Host)
-    → HasCome mode given len turns h → Touches
-touches_of mode given len turns h c =
-    touches_after [] (shared_by (opening_host_in mode given len)) (shared_by h)
-    (events_over (opening_host_in mode given len) h turns c.does) c.serves.runs
+abbrev pub touches_of : (mode : Mode) (given : ℕ) (start : Memory) (turns : List HostTurn) (h : Host)
+    → HasCome mode given start turns h → Touches
+touches_of mode given start turns h c =
+    touches_after [] (shared_by (opening_host_in mode given start)) (shared_by h)
+    (events_over (opening_host_in mode given start) h turns c.does) c.serves.runs
 
 -- ---- a frame is taken
 
@@ -87,28 +87,28 @@ pub record IssuesAreApart (h : Host) (touches : Touches) : Type 0 where
 
 -- ---- all of it
 
--- a byte before anything was touched
-abbrev pub zero_at : ℕ → ℕ
-zero_at k = 0
+-- the byte of a memory at an address of its client area
+abbrev pub byte_at : Memory → ℕ → ℕ
+byte_at memory k = slice_index memory.client (k - client_start)
 
 -- Over every list of turns from an opening.
-pub record HostDelivers (mode : Mode) (given len : ℕ) (turns : List HostTurn) (h : Host)
-    (c : HasCome mode given len turns h) : Type 0 where
+pub record HostDelivers (mode : Mode) (given : ℕ) (start : Memory) (turns : List HostTurn) (h : Host)
+    (c : HasCome mode given start turns h) : Type 0 where
   pub took : (frame : List ℕ) (report : TakeReport) (after : Host) → Does h (Took frame report) after
-      → TookDelivers h (touches_of mode given len turns h c) frame report after
+      → TookDelivers h (touches_of mode given start turns h c) frame report after
   -- each issue completes at most once: this holds at every moment of a device's history
-  pub once : (n s : ℕ) (later past : History) → own n (touches_of mode given len turns h c) ≡ later ++ past
+  pub once : (n s : ℕ) (later past : History) → own n (touches_of mode given start turns h c) ≡ later ++ past
       → CompletesAtMostOnce s past
-  -- each client byte is 0, except for what clients put and what Data filled at its place
-  pub client : IsClient zero_at (touches_of mode given len turns h c) (shared_by h)
+  -- each client byte is that of the opening, except for what clients put and what Data filled at its place
+  pub client : IsClient (byte_at start) (touches_of mode given start turns h c) (shared_by h)
   -- the frames that come and go and the bytes that clients put are those of the turns
-  pub tells : TurnsTell (opening_host_in mode given len) h turns c.does
+  pub tells : TurnsTell (opening_host_in mode given start) h turns c.does
 
 -- in each mode
 pub record TurnsDeliver : Type 0 where
-  pub comes : (mode : Mode) (given len : ℕ) → is_memory_size len ≡ true → (turns : List HostTurn) (h : Host)
-      → DoesAll (opening_host_in mode given len) turns h → HasCome mode given len turns h
-  pub delivers : (mode : Mode) (given len : ℕ) → is_memory_size len ≡ true → (turns : List HostTurn) (h : Host)
-      (c : HasCome mode given len turns h) → HostDelivers mode given len turns h c
-  pub apart : (mode : Mode) (given len : ℕ) → is_memory_size len ≡ true → (turns : List HostTurn) (h : Host)
-      (c : HasCome mode given len turns h) → IssuesAreApart h (touches_of mode given len turns h c)
+  pub comes : (mode : Mode) (given : ℕ) (start : Memory) → IsHostMemory start → (turns : List HostTurn) (h : Host)
+      → DoesAll (opening_host_in mode given start) turns h → HasCome mode given start turns h
+  pub delivers : (mode : Mode) (given : ℕ) (start : Memory) → IsHostMemory start → (turns : List HostTurn) (h : Host)
+      (c : HasCome mode given start turns h) → HostDelivers mode given start turns h c
+  pub apart : (mode : Mode) (given : ℕ) (start : Memory) → IsHostMemory start → (turns : List HostTurn) (h : Host)
+      (c : HasCome mode given start turns h) → IssuesAreApart h (touches_of mode given start turns h c)

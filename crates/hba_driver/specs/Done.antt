@@ -6,7 +6,7 @@
 -- (specs/Delivering.antt) says that the device named exactly the slots that a report names as done.
 use Rattle.std.specs.Prelude.{ℕ, ◌≡◌, ◌==◌, ◌&&◌, ◌||◌, Bool, true, false, List, [], ◌∷◌, Some}
 use Rattle.std.specs.List.{list_any}
-use Rattle.host_memory.specs.Memory.{is_memory_size}
+use Rattle.host_memory.specs.Memory.{IsHostMemory, Memory}
 use Rattle.slots.specs.Slots.{has_bit}
 use Rattle.hba_fbs.specs.Taking.{port_of}
 use Rattle.hba_driver.specs.declared.mode.Mode.{Mode}
@@ -50,13 +50,13 @@ pub record WasCompleted (ticket slot : ℕ) (old new : Host) (turns : List HostT
 -- in each mode
 pub record DoneIsTrue : Type 0 where
   -- after a tick: what is there as Done was completed in the turns before the tick
-  pub ends : (mode : Mode) (given len : ℕ) → is_memory_size len ≡ true → (turns : List HostTurn) (h : Host)
-      (run : DoesAll (opening_host_in mode given len) turns h) (acted : Bool) (after : Host)
+  pub ends : (mode : Mode) (given : ℕ) (start : Memory) → IsHostMemory start → (turns : List HostTurn) (h : Host)
+      (run : DoesAll (opening_host_in mode given start) turns h) (acted : Bool) (after : Host)
       → Does h (Ticked acted) after
       → (s : ℕ) (e : Entry) → entry_at after.driver.entries s ≡ Some e → e.head.phase ≡ Ended Done
-      → is_completed e.head.ticket s e.head.dev (opening_host_in mode given len) h turns run ≡ true
+      → is_completed e.head.ticket s e.head.dev (opening_host_in mode given start) h turns run ≡ true
   -- at a poll: what is polled as Done was completed by the device for which it was taken
-  pub polled : (mode : Mode) (given len : ℕ) → is_memory_size len ≡ true → (turns : List HostTurn) (h : Host)
-      (run : DoesAll (opening_host_in mode given len) turns h) (completion : Completion) (after : Host)
+  pub polled : (mode : Mode) (given : ℕ) (start : Memory) → IsHostMemory start → (turns : List HostTurn) (h : Host)
+      (run : DoesAll (opening_host_in mode given start) turns h) (completion : Completion) (after : Host)
       → Does h (Polled completion) after → completion.outcome ≡ Done
-      → WasCompleted completion.ticket.0 completion.slot (opening_host_in mode given len) h turns run
+      → WasCompleted completion.ticket.0 completion.slot (opening_host_in mode given start) h turns run

@@ -5,7 +5,7 @@ use Rattle.std.specs.Prelude.{ℕ, ◌≡◌, ◌<◌, ◌≤◌, true, false, L
 use Rattle.std.specs.Prelude.{Option, Some, None}
 use Rattle.std.specs.List.{flat_map}
 use Rattle.fis_view.specs.Frames.{Stamped}
-use Rattle.host_memory.specs.Memory.{IsHostMemory, Memory, is_memory_size, zeroed}
+use Rattle.host_memory.specs.Memory.{IsHostMemory, Memory}
 use Rattle.slots.specs.Slots.{match_some}
 use Rattle.hba_fbs.specs.declared.register.Register.{Register}
 use Rattle.hba_fbs.specs.declared.registers.Registers.{Registers}
@@ -113,27 +113,27 @@ pub record IsSoundHostIn (mode : Mode) (h : Host) : Type 0 where
   pub registers : AreDriven mode h.driver.plan.opened h.driver.plan.restarted h.port.registers
   pub devices : KnowsNone h.driver.plan
 
--- a new port and a new driver in this mode, with a memory of this many zeros
-abbrev pub opening_host_in : Mode → (given len : ℕ) → Host
-opening_host_in mode given len = record {
+-- a new port and a new driver in this mode, beside this memory
+abbrev pub opening_host_in : Mode → (given : ℕ) (start : Memory) → Host
+opening_host_in mode given start = record {
   port = opening_port;
   driver = new_driver_in mode given;
-  memory = zeroed len;
+  memory = start;
 }
 
 -- the same with FIS-based switching
 abbrev pub IsSoundHost : Host → Type 0
 IsSoundHost h = IsSoundHostIn Switching h
 
-abbrev pub opening_host : (given len : ℕ) → Host
-opening_host given len = opening_host_in Switching given len
+abbrev pub opening_host : (given : ℕ) (start : Memory) → Host
+opening_host given start = opening_host_in Switching given start
 
 -- ---- laws: sound hosts
 
 -- in each mode
 pub record HostsAreSound : Type 0 where
-  pub opens : (mode : Mode) (given len : ℕ) → is_memory_size len ≡ true
-      → IsSoundHostIn mode (opening_host_in mode given len)
+  pub opens : (mode : Mode) (given : ℕ) (start : Memory) → IsHostMemory start
+      → IsSoundHostIn mode (opening_host_in mode given start)
   pub stays : {mode : Mode} (old : Host) (turn : HostTurn) (new : Host) → Does old turn new
       → IsSoundHostIn mode old → IsSoundHostIn mode new
   -- it stays sound over turns, and at each of them a port that runs has the driver's received area

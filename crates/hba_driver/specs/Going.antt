@@ -5,7 +5,7 @@
 use Rattle.std.specs.Prelude.{ℕ, ◌≡◌, ◌<◌, ◌⊎◌, true, false, List, [], ◌∷◌, Some, None, Ok, is_some}
 use Rattle.fis_view.specs.Seen.{seen}
 use Rattle.fis_view.specs.declared.view.Fis.TheVariants as view
-use Rattle.host_memory.specs.Memory.{is_memory_size}
+use Rattle.host_memory.specs.Memory.{IsHostMemory, Memory}
 use Rattle.slots.specs.Slots.{own_issue, slots_of}
 use Rattle.hba_fbs.specs.Sending.{outgoing}
 use Rattle.hba_fbs.specs.Tables.{sound_command}
@@ -78,5 +78,5 @@ pub record GoesOn (h : Host) : Type 0 where
 
 abbrev pub PortsGoOn : Type 0
 PortsGoOn =
-    (given len : ℕ) → is_memory_size len ≡ true → (turns : List HostTurn) (h : Host)
-    → DoesAll (opening_host given len) turns h → AreOfControl turns → GoesOn h
+    (given : ℕ) (start : Memory) → IsHostMemory start → (turns : List HostTurn) (h : Host)
+    → DoesAll (opening_host given start) turns h → AreOfControl turns → GoesOn h

@@ -5,7 +5,7 @@ use Rattle.std.specs.Prelude.{ℕ, ◌≡◌, ◌<◌, ◌==◌, ◌&&◌, ◌||
 use Rattle.std.specs.Prelude.{List, [], ◌∷◌, Option, Some, None}
 use Rattle.std.specs.List.{list_any}
 use Rattle.fis_view.specs.Frames.{Stamped}
-use Rattle.host_memory.specs.Memory.{is_memory_size}
+use Rattle.host_memory.specs.Memory.{IsHostMemory, Memory}
 use Rattle.slots.specs.Slots.{match_some}
 use Rattle.slots.specs.declared.work.Kind.{Kind}
 use Rattle.slots.specs.declared.work.Kind.TheVariants.{QueuedRead, QueuedWrite, DmaIn, DmaOut, PioIn, PioOut}
@@ -75,15 +75,15 @@ is_request bytes = match_some (request_at bytes) false (λ request. is_asked (ki
 -- Over every list of turns of the host from its opening: a device that is ready is known, and so is one of
 -- which a request is issued, and one to which the command of a request goes out.
 pub record DevicesAreKnown : Type 0 where
-  pub ready : (given len : ℕ) → is_memory_size len ≡ true → (turns : List HostTurn) (h : Host)
-      (run : DoesAll (opening_host given len) turns h) (n : ℕ) → n < 15
+  pub ready : (given : ℕ) (start : Memory) → IsHostMemory start → (turns : List HostTurn) (h : Host)
+      (run : DoesAll (opening_host given start) turns h) (n : ℕ) → n < 15
       → device_at h.driver.plan n ≡ Ready
-      → known_over n false (opening_host given len) h turns run ≡ true
-  pub issued : (given len : ℕ) → is_memory_size len ≡ true → (turns : List HostTurn) (h : Host)
-      (run : DoesAll (opening_host given len) turns h) (s : ℕ) (e : Entry)
+      → known_over n false (opening_host given start) h turns run ≡ true
+  pub issued : (given : ℕ) (start : Memory) → IsHostMemory start → (turns : List HostTurn) (h : Host)
+      (run : DoesAll (opening_host given start) turns h) (s : ℕ) (e : Entry)
       → entry_at h.driver.entries s ≡ Some e → is_issued e.head ≡ true
-      → known_over e.head.dev false (opening_host given len) h turns run ≡ true
-  pub pushed : (given len : ℕ) → is_memory_size len ≡ true → (turns : List HostTurn) (h : Host)
-      (run : DoesAll (opening_host given len) turns h) (frame : Stamped) (after : Host)
+      → known_over e.head.dev false (opening_host given start) h turns run ≡ true
+  pub pushed : (given : ℕ) (start : Memory) → IsHostMemory start → (turns : List HostTurn) (h : Host)
+      (run : DoesAll (opening_host given start) turns h) (frame : Stamped) (after : Host)
       → Does h (Pushed (Some frame)) after → frame.stamp.port < 15 → is_request frame.bytes ≡ true
-      → known_over frame.stamp.port false (opening_host given len) h turns run ≡ true
+      → known_over frame.stamp.port false (opening_host given start) h turns run ≡ true

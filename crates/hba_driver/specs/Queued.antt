@@ -7,7 +7,7 @@
 -- requests (specs/Known.antt).
 use Rattle.std.specs.Prelude.{ℕ, ◌≡◌, ◌<◌, true, false, List, Some}
 use Rattle.fis_view.specs.Frames.{Stamped}
-use Rattle.host_memory.specs.Memory.{is_memory_size}
+use Rattle.host_memory.specs.Memory.{IsHostMemory, Memory}
 use Rattle.hba_commands.specs.declared.command.Command.{Command}
 use Rattle.hba_fbs.specs.Sending.{Order, outgoing}
 use Rattle.hba_driver.specs.declared.plan.Device.TheVariants.{Ready}
@@ -50,7 +50,7 @@ pub record RequestsStay : Type 0 where
   pub stays : (n s : ℕ) (old : Host) (turn : HostTurn) (new : Host) → Does old turn new → (e : Entry)
       → IsLiveAt n s new.driver.entries e → IsQueuedBy n s old turn e
   -- the command of a request that goes out is that of one issued in its slot, for its device
-  pub goes : (given len : ℕ) → is_memory_size len ≡ true → (turns : List HostTurn) (h : Host)
-      (run : DoesAll (opening_host given len) turns h) (frame : Stamped) (after : Host)
+  pub goes : (given : ℕ) (start : Memory) → IsHostMemory start → (turns : List HostTurn) (h : Host)
+      (run : DoesAll (opening_host given start) turns h) (frame : Stamped) (after : Host)
       → Does h (Pushed (Some frame)) after → frame.stamp.port < 15 → is_request frame.bytes ≡ true
       → IsSomeCommand h frame

@@ -5,7 +5,7 @@
 -- Cited: the turns of the host (specs/HostTurns.antt), requests (specs/Drivers.antt), and taking a request
 -- (specs/Submits.antt).
 use Rattle.std.specs.Prelude.{ℕ, ◌≡◌, true, List, [], ◌∷◌, ◌++◌, Some}
-use Rattle.host_memory.specs.Memory.{is_memory_size}
+use Rattle.host_memory.specs.Memory.{IsHostMemory, Memory}
 use Rattle.slots.specs.Slots.{has_bit}
 use Rattle.hba_fbs.specs.declared.report.TakeReport.{TakeReport}
 use Rattle.hba_fbs.specs.Taking.{port_of}
@@ -59,7 +59,7 @@ pub record WasReported (ticket slot : ℕ) (old new : Host) (turns : List HostTu
 -- this holds over every list of turns from an opening, in each mode
 abbrev pub DoneWasReported : Type 0
 DoneWasReported =
-    (mode : Mode) (given len : ℕ) → is_memory_size len ≡ true → (turns : List HostTurn) (h : Host)
-    (run : DoesAll (opening_host_in mode given len) turns h) (completion : Completion) (after : Host)
+    (mode : Mode) (given : ℕ) (start : Memory) → IsHostMemory start → (turns : List HostTurn) (h : Host)
+    (run : DoesAll (opening_host_in mode given start) turns h) (completion : Completion) (after : Host)
     → Does h (Polled completion) after → completion.outcome ≡ Done
-    → WasReported completion.ticket.0 completion.slot (opening_host_in mode given len) h turns run
+    → WasReported completion.ticket.0 completion.slot (opening_host_in mode given start) h turns run

@@ -8,7 +8,7 @@ use Rattle.fis_view.specs.Table.{D2h, Status, field}
 use Rattle.fis_view.specs.declared.view.Fis.{Fis}
 use Rattle.fis_view.specs.declared.view.Fis.TheVariants as view
 use Rattle.fis_view.specs.declared.view.FisFault.{FisFault}
-use Rattle.host_memory.specs.Memory.{is_memory_size}
+use Rattle.host_memory.specs.Memory.{IsHostMemory, Memory}
 use Rattle.slots.specs.Slots.{has_bit, own_issue}
 use Rattle.hba_fbs.specs.Status.{is_busy}
 use Rattle.hba_fbs.specs.Taking.{port_of}
@@ -134,6 +134,6 @@ Scans n named stage old (turn ∷ turns) new run =
 -- multiplier to a read of GSCR[32] named the port, and at most once for each answer.
 abbrev pub ScansClear : Type 0
 ScansClear =
-    (given len : ℕ) → is_memory_size len ≡ true → (turns : List HostTurn) (h : Host)
-    (run : DoesAll (opening_host given len) turns h) (n : ℕ) → n < 15
-    → Scans n false Rests (opening_host given len) turns h run
+    (given : ℕ) (start : Memory) → IsHostMemory start → (turns : List HostTurn) (h : Host)
+    (run : DoesAll (opening_host given start) turns h) (n : ℕ) → n < 15
+    → Scans n false Rests (opening_host given start) turns h run

@@ -7,7 +7,7 @@ use Rattle.std.specs.Prelude.{Some}
 use Rattle.fis_view.specs.Built.{IsBuilt, h2d_given}
 use Rattle.fis_view.specs.Table.{H2d, PmPort, field}
 use Rattle.fis_view.specs.declared.build.H2dFields.{H2dFields}
-use Rattle.host_memory.specs.Memory.{Memory, is_memory_size}
+use Rattle.host_memory.specs.Memory.{IsHostMemory, Memory}
 use Rattle.host_memory.specs.Place.{total_of}
 use Rattle.host_memory.specs.Reading.{have_overlap, prds_at, share_with}
 use Rattle.hba_commands.specs.declared.command.Command.{Command}
@@ -175,8 +175,8 @@ pub record RunServes (old new : Host) (turns : List HostTurn) (run : DoesAll old
 -- in each mode
 pub record TurnsServe : Type 0 where
   -- nothing is issued at a new port
-  pub opens : (mode : Mode) (given len : ℕ) → is_memory_size len ≡ true
-      → IsServed (new_driver_in mode given) (shared_by (opening_host_in mode given len)) []
+  pub opens : (mode : Mode) (given : ℕ) (start : Memory) → IsHostMemory start
+      → IsServed (new_driver_in mode given) (shared_by (opening_host_in mode given start)) []
   pub runs : {mode : Mode} (old new : Host) (turns : List HostTurn) (run : DoesAll old turns new)
       → IsSoundHostIn mode old → (past : Touches) → IsServed old.driver (shared_by old) past
       → RunServes old new turns run past

@@ -18,7 +18,7 @@ use Rattle.hba_fbs.specs.Taking.{port_of}
 use Rattle.hba_fbs.specs.Views.{Port, last_command, view_of}
 use Rattle.hba_laws.specs.Client.{Touches, own}
 use Rattle.hba_laws.specs.History.{Transfer, issued}
-use Rattle.host_memory.specs.Memory.{is_memory_size}
+use Rattle.host_memory.specs.Memory.{IsHostMemory, Memory}
 use Rattle.hba_driver.specs.declared.order.Order.TheVariants.{Detect}
 use Rattle.hba_driver.specs.declared.path.Path.{Path}
 use Rattle.hba_driver.specs.declared.path.Recovery.{Recovery}
@@ -313,5 +313,5 @@ EachIsApart = (n : ℕ) → DeviceIsApart n
 -- From the opening of a host on, no bit of PxSACT waits for its command between two turns.
 abbrev pub NoneIsArmed : Type 0
 NoneIsArmed =
-    (given len : ℕ) → is_memory_size len ≡ true → (turns : List HostTurn) (h : Host)
-    → DoesAll (opening_host given len) turns h → h.port.registers.armed ≡ 0
+    (given : ℕ) (start : Memory) → IsHostMemory start → (turns : List HostTurn) (h : Host)
+    → DoesAll (opening_host given start) turns h → h.port.registers.armed ≡ 0

@@ -11,7 +11,7 @@ use Rattle.fis_view.specs.Seen.{seen}
 use Rattle.fis_view.specs.Table.{Bits, D2h, H2d, SActive, Status, field}
 use Rattle.fis_view.specs.declared.view.Fis.TheVariants as view
 use Rattle.fis_view.specs.declared.build.H2dFields.{H2dFields}
-use Rattle.host_memory.specs.Memory.{is_memory_size}
+use Rattle.host_memory.specs.Memory.{IsHostMemory, Memory}
 use Rattle.hba_commands.specs.declared.command.Command.{Command}
 use Rattle.hba_commands.specs.Requests.{request_of, work_of}
 use Rattle.slots.specs.Slots.{Issue, new_issue, own_issue}
@@ -256,6 +256,6 @@ Comes31 stage old (turn ∷ turns) new run =
 -- control port sends what may come.
 abbrev pub OrdersTakeTurns : Type 0
 OrdersTakeTurns =
-    (given len : ℕ) → is_memory_size len ≡ true → (turns : List HostTurn) (h : Host)
-    (run : DoesAll (opening_host given len) turns h)
-    → IsAt31 Rests (opening_host given len) × Comes31 Rests (opening_host given len) turns h run
+    (given : ℕ) (start : Memory) → IsHostMemory start → (turns : List HostTurn) (h : Host)
+    (run : DoesAll (opening_host given start) turns h)
+    → IsAt31 Rests (opening_host given start) × Comes31 Rests (opening_host given start) turns h run

@@ -6,6 +6,7 @@ use Rattle.std.specs.Prelude.{ℕ, ◌≡◌, ◌≢◌, ◌^◌, ◌<◌, ◌�
 use Rattle.std.specs.Prelude.{List, [], ◌∷◌, Option, Some, None, Ok, is_some}
 use Rattle.fis_view.specs.Seen.{seen}
 use Rattle.fis_view.specs.declared.view.Fis.TheVariants as view
+use Rattle.host_memory.specs.Memory.{zeroed}
 use Rattle.hba_fbs.specs.declared.register.Register.{Register}
 use Rattle.hba_fbs.specs.declared.register.Register.TheVariants.{Ci, Cmd, Fbs}
 use Rattle.hba_fbs.specs.Issuing.{aimed, asked}
@@ -175,8 +176,8 @@ pub record TurnsAreSteady (n : ℕ) : Type 0 where
   pub asks : (old : Host) (turn : HostTurn) (new : Host) → Does old turn new → IsSwitching old
       → IsSteadyTurn n old turn → IsSteady n old.driver → IsAskedOf n new.driver.plan
       → IsAskedOf n old.driver.plan ⊎ HasSignature n old
-  -- its row of the received area is empty when the host opens and after its flush, and stays empty
-  pub opens_row : (given len : ℕ) → n < 16 → HasSignature n (opening_host given len) → ⊥
+  -- its row of the received area is empty when the host opens beside zeros and after its flush, and stays empty
+  pub opens_row : (given len : ℕ) → n < 16 → HasSignature n (opening_host given (zeroed len)) → ⊥
   pub flushed_row : (old : Host) (acted : Bool) (new : Host) → n < 16
       → Does old (Ticked acted) new → IsSoundHost old → IsFlushTick n old → HasSignature n new → ⊥
   pub rows : (old : Host) (turn : HostTurn) (new : Host) → n < 16 → Does old turn new

@@ -59,8 +59,8 @@ pub fn errors_are_named()
     ensures { ErrorsAreNamed }
 {}
 
-/// Port, driver and memory together are sound when they open, whatever the first ticket and the size of
-/// memory, and stay sound over every list of turns. The call runs no code.
+/// Port, driver and memory together are sound when they open, whatever the first ticket and the memory, and
+/// stay sound over every list of turns. The call runs no code.
 pub fn hosts_stay_sound()
     ensures { HostsAreSound }
 {}
@@ -84,8 +84,8 @@ pub fn turns_serve()
 
 /// Over every list of turns of the host from its opening: the report of a frame frees exactly the slots that
 /// the frame completes, by what its own device did, and each issue completes at most once. Every byte of a
-/// read that is reported as done is filled and is at its place in client memory. Each client byte is 0,
-/// except for what clients put and what Data filled there. A slot is issued to one device at a time, for a
+/// read that is reported as done is filled and is at its place in client memory. Each client byte is that of
+/// the opening, except for what clients put and what Data filled there. A slot is issued to one device at a time, for a
 /// request of the driver's or a command of its own, with PRDs in the client area. Issued reads share no byte,
 /// and clients put none there. The call runs no code.
 pub fn turns_deliver()

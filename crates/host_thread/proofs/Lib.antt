@@ -1,4 +1,5 @@
 pub mod Counting
+pub mod Dones
 pub mod Ends
 pub mod Polling
 pub mod Requests

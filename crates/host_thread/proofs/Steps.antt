@@ -6,11 +6,12 @@ use Rattle.std.specs.Option.{option_to_list}
 use Rattle.std.proofs.lemmas.Grind.{flat_map-append}
 use Rattle.std.proofs.lemmas.List.{get_or-replicate, length-replicate, map-append}
 use Rattle.fis_view.specs.Frames.{Stamped}
-use Rattle.host_memory.specs.Memory.{Memory}
+use Rattle.host_memory.specs.Memory.{IsHostMemory, Memory}
 use Rattle.hba_fbs.specs.declared.report.TakeReport.{TakeReport}
 use Rattle.hba_driver.specs.declared.request.Completion.{Completion}
 use Rattle.hba_driver.specs.declared.request.SubmitError.{SubmitError}
 use Rattle.hba_driver.specs.declared.request.Ticket.{Ticket}
+use Rattle.hba_driver.specs.Events.{put_by}
 use Rattle.hba_driver.specs.HostTurns.{DoesAll, Host, HostTurn, Took, Pushed, Ticked, Submitted, Polled, Polls, Pushes, Submits, Ticks, Tooks, given_in, polled_in}
 use Rattle.hba_driver.specs.Submits.{submit_refusal}
 use Rattle.host_thread.specs.declared.plan.Ended.TheVariants as ended
@@ -32,14 +33,16 @@ does_append a b c (turn ∷ first) second does more = (does.0, does.1, does_appe
 -- ---- a run goes on
 
 -- with these turns more, by which the lists grew by what they took and gave
-pub goes_more : (old new : HostView) (more : List HostTurn) → DoesAll old.host more new.host
+pub goes_more : (old new : HostView) (more : List HostTurn) → DoesAll old.host more new.host → flat_map put_by more ≡ []
     → map (λ f. f.bytes) new.frames.taken ≡ map (λ f. f.bytes) old.frames.taken ++ flat_map took_by more
     → new.commands.sent ++ option_to_list new.hand ≡ (old.commands.sent ++ option_to_list old.hand) ++ flat_map pushed_by more
     → new.plan ≡ old.plan
     → ((start : Memory) (turns : List HostTurn) → DoesAll (starting start) turns old.host → AreTrue start turns old.plan old.states
     → AreTrue start (turns ++ more) old.plan new.states)
     → GoesOn old new
-goes_more old new more does taken pushed plan requests start r = record {
+goes_more old new more does none taken pushed plan requests start r = record {
+  right = r.right;
+  puts = flat_map-append put_by r.turns more ∙ ap (λ l. l ++ flat_map put_by more) r.puts ∙ none;
   turns = r.turns ++ more;
   does = does_append (starting start) old.host new.host r.turns more r.does does;
   taken = taken ∙ ap (λ l. l ++ flat_map took_by more) r.taken ∙ sym (flat_map-append took_by r.turns more);
@@ -69,23 +72,23 @@ module _ (old : HostView) where
       → new.frames.taken ≡ old.frames.taken ++ frame ∷ []
       → new.commands ≡ old.commands → new.hand ≡ old.hand → new.plan ≡ old.plan → new.states ≡ old.states → GoesOn old new
   takes new frame report does taken commands hand plan states =
-      goes_more old new (Took frame.bytes report ∷ []) (new.host, does, refl)
+      goes_more old new (Took frame.bytes report ∷ []) (new.host, does, refl) refl
       (ap (map (λ f. f.bytes)) taken ∙ map-append (λ (f : Stamped). f.bytes) old.frames.taken (frame ∷ []))
       (ap (λ s. s.sent ++ option_to_list new.hand) commands ∙ ap (λ h. old.commands.sent ++ option_to_list h) hand ∙ sent_same) plan
       (λ start turns all h. subst (λ (s : List State). AreTrue start (turns ++ Took frame.bytes report ∷ []) old.plan s) (sym states)
       (keeps (Took frame.bytes report ∷ []) refl refl start turns all h))
 
   pub ticks : (acted : _) (host : Host) → Ticks old.host acted host → GoesOn old (with_host host)
-  ticks acted host does = goes_more old (with_host host) (Ticked acted ∷ []) (host, does, refl) bytes_same sent_same refl
+  ticks acted host does = goes_more old (with_host host) (Ticked acted ∷ []) (host, does, refl) refl bytes_same sent_same refl
       (keeps (Ticked acted ∷ []) refl refl)
 
   pub asks_none : (host : Host) → Pushes old.host None host → GoesOn old (with_host host)
-  asks_none host does = goes_more old (with_host host) (Pushed None ∷ []) (host, does, refl) bytes_same sent_same refl (keeps (Pushed None ∷ []) refl refl)
+  asks_none host does = goes_more old (with_host host) (Pushed None ∷ []) (host, does, refl) refl bytes_same sent_same refl (keeps (Pushed None ∷ []) refl refl)
 
   pub asks_some : (new : HostView) (frame : Stamped) → Pushes old.host (Some frame) new.host → old.hand ≡ None → new.hand ≡ Some frame
       → new.frames ≡ old.frames → new.commands ≡ old.commands → new.plan ≡ old.plan → new.states ≡ old.states → GoesOn old new
   asks_some new frame does empty hand frames commands plan states =
-      goes_more old new (Pushed (Some frame) ∷ []) (new.host, does, refl)
+      goes_more old new (Pushed (Some frame) ∷ []) (new.host, does, refl) refl
       (ap (λ s. map (λ f. f.bytes) s.taken) frames ∙ bytes_same)
       (ap (λ s. s.sent ++ option_to_list new.hand) commands ∙ ap (λ h. old.commands.sent ++ option_to_list h) hand
       ∙ ap (λ l. l ++ frame ∷ []) (sym (append-nil old.commands.sent))
@@ -98,6 +101,8 @@ module _ (old : HostView) where
       → new.commands.sent ++ option_to_list new.hand ≡ old.commands.sent ++ option_to_list old.hand
       → new.plan ≡ old.plan → new.states ≡ old.states → GoesOn old new
   still new host frames sent plan states start r = record {
+    right = r.right;
+    puts = r.puts;
     turns = r.turns;
     does = subst (λ (h : Host). DoesAll (starting start) r.turns h) (sym host) r.does;
     taken = ap (λ s. map (λ f. f.bytes) s.taken) frames ∙ r.taken;
@@ -116,7 +121,7 @@ module _ (old : HostView) where
       let less : i < length old.states = omega (arith, there, all) in
       let p : Planned = slice_index_or old.plan i q in
       let turn : HostTurn = Submitted p.dev p.request ticket.0 in
-      goes_more old (with_states host (slice_set old.states i (state.Submitted ticket))) (turn ∷ []) (host, does, refl) bytes_same sent_same refl
+      goes_more old (with_states host (slice_set old.states i (state.Submitted ticket))) (turn ∷ []) (host, does, refl) refl bytes_same sent_same refl
       (λ start turns made h.
       let taken : WasTaken (IsNext start old.plan old.states i p.wait) (turns ++ turn ∷ []) p ticket.0 =
       record { before = turns; rest = []; are = refl; so = next_due start old.plan old.states i p.wait turns due h } in
@@ -136,7 +141,7 @@ module _ (old : HostView) where
       let all = due.all in
       let less : i < length old.states = omega (arith, there, all) in
       let p : Planned = slice_index_or old.plan i q in
-      goes_more old (with_states host (slice_set old.states i (state.Ended (ended.Refused refusal)))) [] same bytes_same sent_same refl
+      goes_more old (with_states host (slice_set old.states i (state.Ended (ended.Refused refusal)))) [] same refl bytes_same sent_same refl
       (λ start turns made h.
       let was : WasRefused (IsNext start old.plan old.states i p.wait) start (turns ++ []) p refusal = record {
         before = turns;
@@ -157,7 +162,7 @@ module _ (old : HostView) where
       → ((j : ℕ) (s : State) → j < length old.states → slice_index_or old.states j s ≡ state.Submitted completion.ticket → ⊥)
       → GoesOn old (with_host host)
   polls_other host completion does none =
-      goes_more old (with_host host) (Polled completion ∷ []) (host, does, refl) bytes_same sent_same refl
+      goes_more old (with_host host) (Polled completion ∷ []) (host, does, refl) refl bytes_same sent_same refl
       (λ start turns made h. polled_beside start old.plan old.states completion none turns h)
 
   -- one that was taken, at place i
@@ -167,7 +172,7 @@ module _ (old : HostView) where
       → GoesOn old (with_states host (slice_set old.states i (state.Ended (ended.Polled completion.outcome))))
   polls host completion i there does is all =
       let now : State = state.Ended (ended.Polled completion.outcome) in
-      goes_more old (with_states host (slice_set old.states i now)) (Polled completion ∷ []) (host, does, refl) bytes_same sent_same refl
+      goes_more old (with_states host (slice_set old.states i now)) (Polled completion ∷ []) (host, does, refl) refl bytes_same sent_same refl
       (λ start turns made h. polled_in_place start old.plan old.states i there completion is all turns old.host made h)
 
 -- ---- a new worker
@@ -189,9 +194,11 @@ each_waits start plan count = record {
         let long = length-replicate count state.Waits in
         get_or-replicate count i state.Waits s (omega (arith, lt, long))
 
-pub begins : (start : Memory) (w : HostView) (count : ℕ) → w.host ≡ starting start → w.frames.taken ≡ [] → w.commands.sent ≡ [] → w.hand ≡ None
+pub begins : (start : Memory) → IsHostMemory start → (w : HostView) (count : ℕ) → w.host ≡ starting start → w.frames.taken ≡ [] → w.commands.sent ≡ [] → w.hand ≡ None
     → w.states ≡ replicate count state.Waits → IsRun start w
-begins start w count host taken sent hand states = record {
+begins start right w count host taken sent hand states = record {
+  right = right;
+  puts = refl;
   turns = [];
   does = host;
   taken = ap (map (λ f. f.bytes)) taken;

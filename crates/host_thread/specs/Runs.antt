@@ -7,8 +7,7 @@ use Rattle.std.specs.List.{Contains, flat_map, list_any}
 use Rattle.std.specs.Option.{option_to_list}
 use Rattle.atomic_table.specs.Seated.{TableId}
 use Rattle.fis_view.specs.Frames.{Stamped}
-use Rattle.host_memory.specs.Memory.{Memory}
-use Rattle.hba_fbs.specs.Views.{opening_port}
+use Rattle.host_memory.specs.Memory.{IsHostMemory, Memory}
 use Rattle.ruled_links.specs.Links.{Seat}
 use Rattle.multiplier.specs.Orders.{InStampedOrder}
 use Rattle.hba_driver.specs.declared.request.Completion.{Completion}
@@ -16,7 +15,7 @@ use Rattle.hba_driver.specs.declared.request.Outcome.{Outcome}
 use Rattle.hba_driver.specs.declared.request.SubmitError.{SubmitError}
 use Rattle.hba_driver.specs.declared.request.SubmitError.TheVariants as refusal
 use Rattle.hba_driver.specs.declared.request.Ticket.{Ticket}
-use Rattle.hba_driver.specs.Drivers.{new_driver}
+use Rattle.hba_driver.specs.Events.{opening_host, put_by}
 use Rattle.hba_driver.specs.HostTurns.{DoesAll, Host, HostTurn, Took, Pushed, Submitted, Polled, given_in}
 use Rattle.hba_driver.specs.HostTurns.{polled_in}
 use Rattle.hba_driver.specs.Submits.{submit_refusal}
@@ -65,7 +64,7 @@ pub record Same (old new : HostView) : Type 0 where
 
 -- a new port and a new driver, beside this memory
 abbrev pub starting : Memory → Host
-starting memory = record { port = opening_port; driver = new_driver 0; memory = memory }
+starting memory = opening_host 0 memory
 
 -- the FIS that a turn takes
 abbrev pub took_by : HostTurn → List (List ℕ)
@@ -223,12 +222,15 @@ pub record AreTrue (start : Memory) (turns : List HostTurn) (plan : List Planned
 
 -- ---- the run
 
--- There is one list of turns, from a new host beside this memory to this one. The FISes that the
--- turns take are those that were taken, in their order. Those that they give are those that were
--- sent, and then the one in the hand. What is said of the requests of the plan is true.
+-- There is one list of turns, from a new host beside this memory to this one. No turn puts client
+-- bytes. The FISes that the turns take are those that were taken, in their order. Those that they give
+-- are those that were sent, and then the one in the hand. What is said of the requests of the plan is
+-- true.
 pub record IsRun (start : Memory) (w : HostView) : Type 0 where
+  pub right : IsHostMemory start
   pub turns : List HostTurn
   pub does : DoesAll (starting start) turns w.host
+  pub puts : flat_map put_by turns ≡ []
   pub taken : map (λ f. f.bytes) w.frames.taken ≡ flat_map took_by turns
   pub pushed : w.commands.sent ++ option_to_list w.hand ≡ flat_map pushed_by turns
   pub requests : AreTrue start turns w.plan w.states

@@ -16,6 +16,7 @@ gate_shut error.OutOfMemory h w is = absurd cc
 gate_shut error.TurnsSpent h w is = absurd cc
 gate_shut error.GateShut h w is = w.shut
 gate_shut error.BadSetup h w is = absurd w
+gate_shut error.Unexplained h w is = absurd cc
 
 pub shut_by_gate : {D : Type 0} (r : Result (Ends D) (RunFailure D)) (h : Halt D) → IfErr r (λ f. IsWhy f.error h) → error_of r ≡ Some error.GateShut
     → list_any (λ d. is_shut d.fault) h.disks ≡ true
@@ -28,6 +29,7 @@ begun error.OutOfMemory h w is = absurd cc
 begun error.TurnsSpent h w is = absurd cc
 begun error.GateShut h w is = absurd cc
 begun error.BadSetup h w is = w
+begun error.Unexplained h w is = absurd cc
 
 pub has_begun : {D : Type 0} (r : Result (Ends D) (RunFailure D)) (h : Halt D) → IfErr r (λ f. IsWhy f.error h) → error_of r ≡ Some error.BadSetup → ⊥
 has_begun (Ok x) h w is = absurd cc

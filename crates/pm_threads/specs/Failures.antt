@@ -18,6 +18,7 @@ IsToldOf None error.OutOfMemory = ⊤
 IsToldOf None error.BadSetup = ⊤
 IsToldOf None error.GateShut = ⊥
 IsToldOf None error.TurnsSpent = ⊥
+IsToldOf None error.Unexplained = ⊥
 
 abbrev pub IsTold : {D : Type 0} → RunFailure D → Type 0
 IsTold failure = IsToldOf failure.left failure.error

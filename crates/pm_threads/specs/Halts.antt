@@ -1,5 +1,5 @@
 -- What is left of a run that has not finished, and why it has not.
-use Rattle.std.specs.Prelude.{◌≡◌, ℕ, ◌||◌, ◌⊎◌, Bool, true, false, All, Option, Some, None, List, map}
+use Rattle.std.specs.Prelude.{◌≡◌, ℕ, ◌||◌, Bool, true, false, All, Option, Some, None, List, map}
 use Rattle.std.specs.List.{AllZip, list_any}
 use Rattle.disk_model.specs.Histories.{Happening, Plan}
 use Rattle.disk_thread.specs.Runs.{StationState}
@@ -67,13 +67,13 @@ pub record IsOpen {D : Type 0} (h : Halt D) : Type 0 where
 abbrev pub is_spent : {D : Type 0} → Halt D → Bool
 is_spent h = is_any_spent h.disks h.pm.spent h.host.spent
 
--- Why the run has not finished. Lack of memory is told too if a request is open and no worker says why.
+-- Why the run has not finished.
 abbrev pub IsWhy : {D : Type 0} → RunError → Halt D → Type 0
-IsWhy error.OutOfMemory h =
-    (is_any_short h.disks h.pm.fault h.host.fault ≡ true) ⊎ (IsOpen h × (is_spent h ≡ false))
+IsWhy error.OutOfMemory h = is_any_short h.disks h.pm.fault h.host.fault ≡ true
 IsWhy error.GateShut h = IsShut h
 IsWhy error.TurnsSpent h = IsOpen h × (is_spent h ≡ true)
 IsWhy error.BadSetup h = ⊥
+IsWhy error.Unexplained h = IsOpen h × (is_spent h ≡ false)
 
 -- ---- of what
 

@@ -1,10 +1,14 @@
 -- What is told of a run once it is over.
-use Rattle.std.specs.Prelude.{◌≡◌, List, map, Option, Some, None, Result, Ok, Err}
+use Rattle.std.specs.Prelude.{◌≡◌, List, [], map, Option, Some, None, Result, Ok, Err}
 use Rattle.std.specs.List.{flat_map}
+use Rattle.hba_driver.specs.declared.mode.Mode.TheVariants.{Switching}
 use Rattle.hba_driver.specs.declared.request.Outcome.{Outcome}
 use Rattle.hba_driver.specs.declared.request.SubmitError.{SubmitError}
 use Rattle.host_memory.specs.Memory.{Memory}
+use Rattle.hba_driver.specs.Delivered.{HasCome, HostDelivers}
+use Rattle.hba_driver.specs.Events.{put_by}
 use Rattle.hba_driver.specs.HostTurns.{DoesAll, Host, HostTurn}
+use Rattle.host_thread.specs.Dones.{AreDone}
 use Rattle.host_thread.specs.Runs.{HostView, starting, took_by}
 use Rattle.host_thread.specs.declared.plan.Ended.TheVariants as ended
 use Rattle.host_thread.specs.declared.plan.State.{State}
@@ -12,14 +16,19 @@ use Rattle.host_thread.specs.declared.plan.State.TheVariants as state
 
 -- ---- memory
 
--- This memory is what turns of the host made of the one that it began with. The turns that take a FIS
--- took what was taken off its link.
+-- This memory is what turns of the host made of the one that it began with. The turns that take a FIS took what was
+-- taken off its link. Each byte of the client area is that of the memory at the beginning, except for what Data filled
+-- there at its place: no turn puts. Each request of the plan that ended as Done was completed by its own device.
 pub record IsMadeOf (start : Memory) (w : HostView) (memory : Memory) : Type 0 where
   pub turns : List HostTurn
   pub host : Host
   pub does : DoesAll (starting start) turns host
+  pub puts : flat_map put_by turns ≡ []
   pub taken : map (λ f. f.bytes) w.frames.taken ≡ flat_map took_by turns
   pub memory_is : memory ≡ host.memory
+  pub come : HasCome Switching 0 start turns host
+  pub delivers : HostDelivers Switching 0 start turns host come
+  pub done : AreDone start turns host does w.plan w.states
 
 -- ---- results
 

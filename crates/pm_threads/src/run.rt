@@ -38,6 +38,9 @@ pub enum RunError {
     /// The setup is not one that a run on these links can have, or their seats were given before.
     #[error("bad setup")]
     BadSetup = 4,
+    /// A request has not ended, and no worker says why.
+    #[error("unexplained")]
+    Unexplained = 5,
 }
 
 /// Why a run has not finished, and what is left of it.
@@ -162,7 +165,7 @@ fn cause<D: Device + Drop>(
         if is_any_spent(disks, pm.spent, host.spent) {
             return Some(RunError::TurnsSpent);
         }
-        return Some(RunError::OutOfMemory);
+        return Some(RunError::Unexplained);
     }
     None
 }

@@ -7,6 +7,7 @@
 -- the words of `hba_laws` on what is issued, filled and completed (specs/History.antt), on client bytes
 -- (specs/Client.antt) and on reports (specs/Delivering.antt).
 use Rattle.std.specs.Prelude.{ℕ, List, [], ◌∷◌, ◌++◌}
+use Rattle.host_memory.specs.Memory.{zeroed}
 use Rattle.hba_driver.specs.declared.mode.Mode.{Mode}
 use Rattle.hba_driver.specs.Delivered.{HasCome, HostDelivers, TookDelivers, touches_of}
 use Rattle.hba_driver.specs.HostTurns.{Host, HostTurn}
@@ -30,9 +31,9 @@ Tells host past a after = Prim.Unit {0}
 -- that is what it delivers at a host that came here over these turns
 pub record AnswerDelivers (mode : Mode) (memory : ℕ) (turns : List HostTurn) (host : Host) (a : Answer)
     (after : Host) : Type 0 where
-  pub come : HasCome mode 0 memory turns host
-  pub tells : (c : HasCome mode 0 memory turns host)
-      → Tells host (touches_of mode 0 memory turns host c) a after
+  pub come : HasCome mode 0 (zeroed memory) turns host
+  pub tells : (c : HasCome mode 0 (zeroed memory) turns host)
+      → Tells host (touches_of mode 0 (zeroed memory) turns host c) a after
 
 -- ---- a run
 
@@ -48,8 +49,8 @@ EachDelivers old (s ∷ steps) (a ∷ answers) new run =
 
 -- a host came here over these turns, and this one does all that a host delivers
 pub record HasDelivered (mode : Mode) (memory : ℕ) (turns : List HostTurn) (host : Host) : Type 0 where
-  pub come : HasCome mode 0 memory turns host
-  pub delivers : (c : HasCome mode 0 memory turns host) → HostDelivers mode 0 memory turns host c
+  pub come : HasCome mode 0 (zeroed memory) turns host
+  pub delivers : (c : HasCome mode 0 (zeroed memory) turns host) → HostDelivers mode 0 (zeroed memory) turns host c
 
 -- What these steps deliver.
 pub record Delivers (old : Places) (steps : List Step) (answers : List Answer) (new : Places)

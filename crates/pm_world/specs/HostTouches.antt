@@ -3,6 +3,7 @@
 -- What a turn's events are, and that they serve, is cited from `hba_driver` (specs/Events.antt,
 -- Served.antt).
 use Rattle.std.specs.Prelude.{ℕ, List, [], ◌∷◌, ◌++◌}
+use Rattle.host_memory.specs.Memory.{zeroed}
 use Rattle.hba_laws.specs.Client.{Touches}
 use Rattle.hba_laws.specs.Delivering.{touches_after}
 use Rattle.hba_driver.specs.Events.{events_over, opening_host, shared_by}
@@ -11,7 +12,7 @@ use Rattle.hba_driver.specs.Served.{RunServes}
 
 -- the host beside a memory of this many bytes came here over these turns, with these touches
 pub data AreTouched (len : ℕ) : List HostTurn → Host → Touches → Type 0 where
-  opens : AreTouched len [] (opening_host 0 len) []
+  opens : AreTouched len [] (opening_host 0 (zeroed len)) []
   goes : (turns : List HostTurn) (turn : HostTurn) (old new : Host) (touches : Touches)
       (run : DoesAll old (turn ∷ []) new) (serves : RunServes old new (turn ∷ []) run touches)
       → AreTouched len turns old touches

@@ -7,6 +7,7 @@
 -- (specs/Runs.antt); HasCome and IssuesAreApart of `hba_driver` (specs/Delivered.antt), with what is
 -- issued (specs/Served.antt).
 use Rattle.std.specs.Prelude.{ℕ, List, [], ◌∷◌}
+use Rattle.host_memory.specs.Memory.{zeroed}
 use Rattle.hba_driver.specs.declared.mode.Mode.{Mode}
 use Rattle.hba_driver.specs.Delivered.{HasCome, IssuesAreApart, touches_of}
 use Rattle.hba_driver.specs.HostTurns.{Host, HostTurn}
@@ -19,9 +20,9 @@ use Rattle.pm_world.specs.declared.step.Answer.{Answer}
 
 -- a host came here over these turns, and what is issued there is apart
 pub record IsApart (mode : Mode) (memory : ℕ) (turns : List HostTurn) (host : Host) : Type 0 where
-  pub come : HasCome mode 0 memory turns host
-  pub apart : (c : HasCome mode 0 memory turns host)
-      → IssuesAreApart host (touches_of mode 0 memory turns host c)
+  pub come : HasCome mode 0 (zeroed memory) turns host
+  pub apart : (c : HasCome mode 0 (zeroed memory) turns host)
+      → IssuesAreApart host (touches_of mode 0 (zeroed memory) turns host c)
 
 -- that holds in a world, whichever run from a new one leads to it
 abbrev pub IsKeptApart : Places → Type 0

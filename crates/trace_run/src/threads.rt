@@ -26,7 +26,7 @@ use trace_text::{Failure, Printer};
 pub enum Ending {
     /// All requests have ended.
     Done,
-    /// The turns of a worker were spent, and a request had not ended.
+    /// The workers ended before a request had: the turns of one were spent, or none says why.
     TurnsSpent,
 }
 
@@ -139,7 +139,7 @@ fn unfinished(error: RunError) -> Result<Option<Summary<Unit>>, Failure>
 {
     match error {
         RunError::OutOfMemory => Err(Failure::OutOfMemory),
-        RunError::TurnsSpent => Ok(None),
+        RunError::TurnsSpent | RunError::Unexplained => Ok(None),
         RunError::GateShut | RunError::BadSetup => unreachable!(),
     }
 }

@@ -2,6 +2,7 @@
 -- flushes it.
 use Rattle.std.proofs.Common.{◌≡◌, ℕ, ◌+◌, ◌<◌, true, false, List, [], ◌∷◌, length, refl, sym, ◌∙◌, ap, subst, inl, inr, arith, Option, Some, None}
 use Rattle.std.specs.Option.{option_map}
+use Rattle.host_memory.specs.Memory.{zeroed}
 use Rattle.slots.specs.Slots.{Issue, own_issue}
 use Rattle.hba_fbs.specs.Views.{view_of}
 use Rattle.disk_model.specs.declared.request.Command.{Command}
@@ -30,7 +31,7 @@ use Rattle.hba_driver.specs.Between.{DriverKeeps, From, PollFacts, Signs}
 use Rattle.hba_driver.proofs.Door.{back_of, flush_row, flush_steady, free_other, freed}
 use Rattle.hba_driver.proofs.Door.{hosts_stay_sound, in_slots, issued_unended, keeps_tick, opens_row, opens_steady}
 use Rattle.hba_driver.proofs.Door.{poll_facts, rows_stay, set_cases, sound_turn, tick_beside}
-use Rattle.hba_driver.proofs.Door.{turn_steady, turns_serve}
+use Rattle.hba_driver.proofs.Door.{turn_steady, turns_serve, zeroed_right}
 use Rattle.disk_recovery.specs.Kept.{CalmTurnsKeep, FlushOpens, IsCalmTurn, IsServedHonestly, OpensHonestly, ServesOn}
 use Rattle.disk_recovery.specs.Steady.{AreNamed, IsAskedSigned, IsRowSigned, command_of}
 use Rattle.disk_recovery.specs.Between.{AreAway, CalmEnds, IsNewOrOld}
@@ -255,7 +256,7 @@ begins n h commands touches below sound served steady unasked unsigned tags = re
 pub opens_honestly : OpensHonestly
 opens_honestly n given len commands below size tags =
     let steady = opens_steady n given in
-    begins n (opening_host given len) commands [] below (hosts_stay_sound.opens Switching given len size) (turns_serve.opens Switching given len size) steady.0 steady.1 (opens_row n given len (omega (arith, below))) tags
+    begins n (opening_host given (zeroed len)) commands [] below (hosts_stay_sound.opens Switching given (zeroed len) (zeroed_right len size)) (turns_serve.opens Switching given (zeroed len) (zeroed_right len size)) steady.0 steady.1 (opens_row n given len (omega (arith, below))) tags
 
 pub flush_opens : FlushOpens
 flush_opens n old a new run touches below flush sound served =

@@ -5,7 +5,7 @@ use Rattle.std.proofs.lemmas.Bool.{cases_Bool, cases_eq, cases_lt, false≢true,
 use Rattle.std.proofs.lemmas.Bool.Decides.{nat_tests}
 use Rattle.std.proofs.lemmas.List.{get_or-replicate, get_or_past, length-replicate}
 use Rattle.fis_view.specs.declared.build.H2dFields.{H2dFields}
-use Rattle.host_memory.specs.Memory.{IsHostMemory, Memory, is_memory_size}
+use Rattle.host_memory.specs.Memory.{IsHostMemory, Memory}
 use Rattle.host_memory.specs.Place.{total_of}
 use Rattle.hba_commands.specs.Commands.{is_proper}
 use Rattle.hba_commands.specs.Requests.{request_of, work_of}
@@ -561,11 +561,11 @@ none_here s e h = elim (cases_lt s 30) [
     none_some : {Q : Type 0} → None ≡ Some e → Q
     none_some h = cc
 
-pub way_opens : {mode : Mode} (given len : ℕ) → is_memory_size len ≡ true → IsOnWayIn mode (opening_host_in mode given len)
-way_opens {mode} given len right = record {
-  sound = hosts_stay_sound.opens mode given len right;
+pub way_opens : {mode : Mode} (given : ℕ) (start : Memory) → IsHostMemory start → IsOnWayIn mode (opening_host_in mode given start)
+way_opens {mode} given start right = record {
+  sound = hosts_stay_sound.opens mode given start right;
   past = [];
-  served = turns_serve.opens mode given len right;
+  served = turns_serve.opens mode given start right;
   unarmed = refl;
   fit = λ s e here. none_here s e here;
 }
@@ -579,4 +579,4 @@ turns_accept [] old new run w = tt
 turns_accept (t ∷ turns) old new run w = (turn_accepts old t run.0 run.1 w, turns_accept turns run.0 new run.2 (way_turn old t run.0 run.1 w))
 
 pub writes_are_accepted : WritesAreAccepted
-writes_are_accepted mode given len right turns h run = turns_accept turns (opening_host_in mode given len) h run (way_opens given len right)
+writes_are_accepted mode given start right turns h run = turns_accept turns (opening_host_in mode given start) h run (way_opens given start right)

@@ -309,4 +309,4 @@ none_issued n s c h = elim (cases_lt s 32) [
     none_some h = cc
 
 pub frames_are_addressed : FramesAreAddressed
-frames_are_addressed mode given len right turns h run = over_addressed turns (opening_host_in mode given len) h run (hosts_stay_sound.opens mode given len right) (λ n s c low busy last. none_issued n s c last)
+frames_are_addressed mode given start right turns h run = over_addressed turns (opening_host_in mode given start) h run (hosts_stay_sound.opens mode given start right) (λ n s c low busy last. none_issued n s c last)

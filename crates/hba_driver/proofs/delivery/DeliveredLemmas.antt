@@ -1,8 +1,7 @@
 -- For `turns_deliver`. A host delivers, over any turns since its opening.
-use Rattle.std.proofs.Common.{rules, ◌≡◌, ℕ, ◌+◌, ◌-◌, ◌<◌, ◌≤◌, List, [], ◌∷◌, ◌++◌, refl, sym, subst, length, arith}
+use Rattle.std.proofs.Common.{rules, ◌≡◌, ℕ, ◌+◌, ◌-◌, ◌<◌, ◌≤◌, List, [], ◌∷◌, ◌++◌, refl, sym, subst, length, ap, arith}
 use Rattle.std.specs.Prelude.{true, slice_index}
-use Rattle.std.proofs.lemmas.List.{get_or-replicate, length-replicate}
-use Rattle.host_memory.specs.Memory.{client_start, is_memory_size, zeros}
+use Rattle.host_memory.specs.Memory.{IsHostMemory, Memory, client_start}
 use Rattle.host_memory.specs.Place.{LiesInClient, place}
 use Rattle.host_memory.proofs.Door.{place_inside}
 use Rattle.slots.specs.Slots.{has_bit}
@@ -17,7 +16,7 @@ use Rattle.hba_laws.specs.Sound as sound
 use Rattle.hba_laws.proofs.Door.{client_is_touched, completes_once, data_is_within, done_is_completed}
 use Rattle.hba_laws.proofs.Door.{done_reads_stand, histories_are_parts, spared_tables_read}
 use Rattle.hba_driver.specs.declared.mode.Mode.{Mode}
-use Rattle.hba_driver.specs.Delivered.{HasCome, HostDelivers, IsAtItsPlace, IssuesAreApart, TookDelivers, TurnsDeliver, touches_of, zero_at}
+use Rattle.hba_driver.specs.Delivered.{HasCome, HostDelivers, IsAtItsPlace, IssuesAreApart, TookDelivers, TurnsDeliver, byte_at, touches_of}
 use Rattle.hba_driver.specs.Drivers.{new_driver_in}
 use Rattle.hba_driver.specs.Events.{IsSoundHostIn, events_over, opening_host_in, shared_by}
 use Rattle.hba_driver.specs.HostTurns.{Does, DoesAll, Host, HostTurn, Took}
@@ -30,13 +29,8 @@ use Rattle.hba_driver.proofs.issued.ServedLemmas.{turns_serve}
 use Rattle.hba_driver.proofs.events.SoundLemmas.{hosts_stay_sound}
 use Rattle.hba_driver.proofs.events.TurnLemmas.{each_run_tells}
 
-zeros_long : (n : ℕ) → length (zeros n) ≡ n
-unfolding zeros
-zeros_long n = length-replicate {A = ℕ} n 0
-
-zeros_at : (n k : ℕ) → k < n → slice_index (zeros n) k ≡ 0
-unfolding zeros
-zeros_at n k below = get_or-replicate n k 0 0 below
+past_start : (k : ℕ) → client_start + k - client_start ≡ k
+past_start k = omega arith
 
 -- an address in the client area, and the number of its byte
 behind : (p : ℕ) → 1048576 ≤ p → p ≡ 1048576 + (p - 1048576)
@@ -45,25 +39,25 @@ behind p least = omega (arith, least)
 within_len : (p len : ℕ) → 1048576 ≤ p → p + 1 ≤ 1048576 + len → p - 1048576 < len
 within_len p len least most = omega (arith, least, most)
 
-module _ (mode : Mode) (given len : ℕ) (right : is_memory_size len ≡ true) (turns : List HostTurn) (h : Host) where
+module _ (mode : Mode) (given : ℕ) (start : Memory) (right : IsHostMemory start) (turns : List HostTurn) (h : Host) where
   abbrev pub opened : Host
-  opened = opening_host_in mode given len
+  opened = opening_host_in mode given start
 
   sound_first : IsSoundHostIn mode opened
-  sound_first = hosts_stay_sound.opens mode given len right
+  sound_first = hosts_stay_sound.opens mode given start right
 
   served_first : IsServed (new_driver_in mode given) (shared_by opened) []
-  served_first = turns_serve.opens mode given len right
+  served_first = turns_serve.opens mode given start right
 
-  pub comes : DoesAll opened turns h → HasCome mode given len turns h
+  pub comes : DoesAll opened turns h → HasCome mode given start turns h
   comes does = record { does = does; serves = turns_serve.runs opened h turns does sound_first [] served_first }
 
-  module _ (c : HasCome mode given len turns h) where
+  module _ (c : HasCome mode given start turns h) where
     abbrev pub events : List HostEvent
     events = events_over opened h turns c.does
 
     abbrev pub past : Touches
-    past = touches_of mode given len turns h c
+    past = touches_of mode given start turns h c
 
     no_tables : HaveTables (shared_by opened) []
     no_tables n below s t command is last = absurd (cc)
@@ -71,14 +65,11 @@ module _ (mode : Mode) (given len : ℕ) (right : is_memory_size len ≡ true) (
     read : AreReadAsIssued [] (shared_by opened) (shared_by h) events c.serves.runs × HaveTables (shared_by h) past
     read = spared_tables_read (shared_by opened) (shared_by h) events c.serves.runs c.serves.sound [] served_first.told no_tables c.serves.spared
 
-    first : IsClient zero_at [] (shared_by opened)
-    first k below =
-        let n : ℕ = len - client_start in
-        let inside : k < n = subst (λ (m : ℕ). k < m) (zeros_long n) below in
-        zeros_at n k inside
+    first : IsClient (byte_at start) [] (shared_by opened)
+    first k below = ap (λ (j : ℕ). slice_index start.client j) (sym (past_start k))
 
-    touched_bytes : IsClient zero_at past (shared_by h)
-    touched_bytes = client_is_touched (shared_by opened) (shared_by h) events c.serves.runs c.serves.sound zero_at [] served_first.told read.0 first
+    touched_bytes : IsClient (byte_at start) past (shared_by h)
+    touched_bytes = client_is_touched (shared_by opened) (shared_by h) events c.serves.runs c.serves.sound (byte_at start) [] served_first.told read.0 first
 
     within : AreWithin past
     within = data_is_within (shared_by opened) (shared_by h) events c.serves.runs c.serves.sound [] served_first.told tt
@@ -151,10 +142,10 @@ module _ (mode : Mode) (given len : ℕ) (right : is_memory_size len ≡ true) (
 
             stands : IsDelivered (port_of frame) s i (touched (shared_by h) (event.Took frame report) ++ past) after.memory.client (place t.table i - client_start)
             stands =
-                done_reads_stand (shared_by h) (shared_by after) frame report is_host does.framed takes zero_at past c.serves.last.told within touched_bytes
+                done_reads_stand (shared_by h) (shared_by after) frame report is_host does.framed takes (byte_at start) past c.serves.last.told within touched_bytes
                 next_read.0.0 (next.kept kept) s i (place t.table i - client_start) t below bit reads in_it (behind (place t.table i) lies.0) room
 
-    pub delivers : HostDelivers mode given len turns h c
+    pub delivers : HostDelivers mode given start turns h c
     delivers = record {
       took = took;
       once = λ n s later before is. completes_once s before;

@@ -2,7 +2,7 @@
 use Rattle.std.proofs.Common.{◌≡◌, ℕ, ◌⊎◌, true, List, [], ◌∷◌, refl, sym, ◌∙◌, ap, subst, inl, inr, Some}
 use Rattle.std.specs.Prelude.{◌==◌}
 use Rattle.std.proofs.lemmas.Bool.{and_parts, eqb-true, false≢true}
-use Rattle.host_memory.specs.Memory.{is_memory_size}
+use Rattle.host_memory.specs.Memory.{IsHostMemory, Memory}
 use Rattle.slots.specs.Slots.{has_bit}
 use Rattle.hba_fbs.specs.declared.report.TakeReport.{TakeReport}
 use Rattle.hba_fbs.specs.Taking.{port_of}
@@ -26,7 +26,7 @@ use Rattle.hba_driver.proofs.done.ReportLemmas.{all_wider, turn_stands}
 
 -- ---- turns of a run
 
-first_turn : (t : HostTurn) (turns : List HostTurn) (old new : Host) (run : DoesAll old (t ∷ turns) new) → IsTurnOf t old new (t ∷ turns) run
+pub first_turn : (t : HostTurn) (turns : List HostTurn) (old new : Host) (run : DoesAll old (t ∷ turns) new) → IsTurnOf t old new (t ∷ turns) run
 first_turn t turns old new run = record {
   before = [];
   after = turns;
@@ -39,7 +39,7 @@ first_turn t turns old new run = record {
   hosts = refl;
 }
 
-later_turn : (u t : HostTurn) (turns : List HostTurn) (old new : Host) (run : DoesAll old (t ∷ turns) new) → IsTurnOf u run.0 new turns run.2 → IsTurnOf u old new (t ∷ turns) run
+pub later_turn : (u t : HostTurn) (turns : List HostTurn) (old new : Host) (run : DoesAll old (t ∷ turns) new) → IsTurnOf u run.0 new turns run.2 → IsTurnOf u old new (t ∷ turns) run
 later_turn u t turns old new run i = record {
   before = t ∷ i.before;
   after = i.after;
@@ -148,10 +148,10 @@ submitted_over (t ∷ turns) old new run s f here = elim (submitted_over turns r
 
 -- ---- the law
 
-module _ (mode : Mode) (given len : ℕ) (right : is_memory_size len ≡ true) (turns : List HostTurn) (h : Host) (run : DoesAll (opening_host_in mode given len) turns h) (c : Completion) (after : Host)
+module _ (mode : Mode) (given : ℕ) (start : Memory) (right : IsHostMemory start) (turns : List HostTurn) (h : Host) (run : DoesAll (opening_host_in mode given start) turns h) (c : Completion) (after : Host)
     (does : Does h (Polled c) after) (done : c.outcome ≡ Done) where
   abbrev opened : Host
-  opened = opening_host_in mode given len
+  opened = opening_host_in mode given start
 
   facts : PollFacts h.driver c
   facts = poll_facts h.driver c does.polled
@@ -173,7 +173,7 @@ module _ (mode : Mode) (given len : ℕ) (right : is_memory_size len ≡ true) (
 
   reported : ReportedIn opened h turns run c.slot (rephased Waits facts.entry)
   reported = by_case (subst (λ (p : Phase). Stands (λ (s : ℕ) (x : Entry). ⊥ ⊎ ReportedIn opened h turns run s x) h.port c.slot (rephased Waits facts.entry) p) ended
-      (stand_over turns (λ (s : ℕ) (x : Entry). ⊥) opened h run (way_opens given len right) opening_stands c.slot facts.entry here))
+      (stand_over turns (λ (s : ℕ) (x : Entry). ⊥) opened h run (way_opens given start right) opening_stands c.slot facts.entry here))
     where
       by_case : ⊥ ⊎ ReportedIn opened h turns run c.slot (rephased Waits facts.entry) → ReportedIn opened h turns run c.slot (rephased Waits facts.entry)
       by_case (inl none) = absurd none
@@ -205,4 +205,4 @@ module _ (mode : Mode) (given len : ℕ) (right : is_memory_size len ≡ true) (
       }
 
 pub done_was_reported : DoneWasReported
-done_was_reported mode given len right turns h run c after does done = was_reported mode given len right turns h run c after does done
+done_was_reported mode given start right turns h run c after does done = was_reported mode given start right turns h run c after does done

@@ -6,7 +6,7 @@ use Rattle.std.specs.Option.{option_map}
 use Rattle.std.proofs.lemmas.Bool.{cases_Bool, false≢true, true≢false}
 use Rattle.std.proofs.lemmas.Bool.Decides.{nat_tests}
 use Rattle.std.proofs.lemmas.List.{get_or-set_same}
-use Rattle.host_memory.specs.Memory.{is_memory_size}
+use Rattle.host_memory.specs.Memory.{IsHostMemory, Memory}
 use Rattle.hba_commands.specs.Requests.{request_of, work_of}
 use Rattle.slots.specs.Slots.{has_bit, is_control, is_pio, issue_at, new_issue}
 use Rattle.hba_fbs.specs.Views.{Port}
@@ -470,15 +470,15 @@ comes_over (t ∷ turns) old new run s f here = elim (comes_over turns run.0 new
 
 -- ---- the law
 
-module _ (mode : Mode) (given len : ℕ) (right : is_memory_size len ≡ true) (turns : List HostTurn) (h : Host) (run : DoesAll (opening_host_in mode given len) turns h) where
+module _ (mode : Mode) (given : ℕ) (start : Memory) (right : IsHostMemory start) (turns : List HostTurn) (h : Host) (run : DoesAll (opening_host_in mode given start) turns h) where
   abbrev opened : Host
-  opened = opening_host_in mode given len
+  opened = opening_host_in mode given start
 
   now : IsOnWayIn mode h
-  now = way_over turns opened h run (way_opens given len right)
+  now = way_over turns opened h run (way_opens given start right)
 
   far_now : (ticket slot dev : ℕ) → slot < 32 → dev < 16 → Far ticket slot dev h (stage_over ticket slot dev Idle opened h turns run)
-  far_now ticket slot dev below dev_below = far_over ticket slot dev below dev_below turns Idle opened h run (way_opens given len right) (λ e here of_ticket of_dev. accept.none_here slot e here)
+  far_now ticket slot dev below dev_below = far_over ticket slot dev below dev_below turns Idle opened h run (way_opens given start right) (λ e here of_ticket of_dev. accept.none_here slot e here)
 
   low_slot : (s : ℕ) (e : Entry) → entry_at h.driver.entries s ≡ Some e → s < 32
   low_slot s e here = wider s 30 32 (in_slots h.driver.entries s e now.served.bounded.slots here) (omega arith)
@@ -519,6 +519,6 @@ module _ (mode : Mode) (given len : ℕ) (right : is_memory_size len ≡ true) (
 
 pub done_is_true : DoneIsTrue
 done_is_true = record {
-  ends = λ mode given len right turns h run a after does s e here is. ends mode given len right turns h run a after does s e here is;
-  polled = λ mode given len right turns h run c after does done. polled mode given len right turns h run c after does done;
+  ends = λ mode given start right turns h run a after does s e here is. ends mode given start right turns h run a after does s e here is;
+  polled = λ mode given start right turns h run c after does done. polled mode given start right turns h run c after does done;
 }

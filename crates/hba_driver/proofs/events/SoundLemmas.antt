@@ -7,7 +7,7 @@ use Rattle.std.proofs.lemmas.Bool.{cases_Bool, cases_lt, false≢true}
 use Rattle.std.proofs.lemmas.List.{get_or-replicate, get_or_past, length-drop, length-replicate}
 use Rattle.fis_view.specs.Seen.{seen}
 use Rattle.fis_view.specs.declared.view.Fis.{Fis}
-use Rattle.host_memory.specs.Memory.{IsHostMemory, Memory}
+use Rattle.host_memory.specs.Memory.{IsHostMemory, Memory, is_memory_size, zeroed}
 use Rattle.slots.specs.Slots.{match_some}
 use Rattle.hba_fbs.specs.declared.registers.Registers.{Registers}
 use Rattle.hba_fbs.specs.declared.report.TakeReport.{TakeReport}
@@ -231,11 +231,18 @@ absent dev = elim (cases_lt dev 15) [
   | inr least ↦ get_or_past (replicate 15 Absent) dev Absent (rw (length-replicate 15 Absent) least)
 ]
 
-opens : (mode : Mode) (given len : ℕ) → Rattle.host_memory.specs.Memory.is_memory_size len ≡ true → IsSoundHostIn mode (opening_host_in mode given len)
-opens mode given len h = record {
+-- a memory of zeros is a memory
+pub zeroed_right : (len : ℕ) → is_memory_size len ≡ true → IsHostMemory (zeroed len)
+zeroed_right len right = (opens_sound len right).memory
+
+least_size : is_memory_size 0x200000 ≡ true
+least_size = refl
+
+opens : (mode : Mode) (given : ℕ) (start : Memory) → IsHostMemory start → IsSoundHostIn mode (opening_host_in mode given start)
+opens mode given start right = record {
   drives = refl;
-  ruled = record { rules = (opens_sound len h).port; table = (opens_sound len h).slots; faults = (opens_sound len h).errors };
-  memory = (opens_sound len h).memory;
+  ruled = record { rules = (opens_sound 0x200000 least_size).port; table = (opens_sound 0x200000 least_size).slots; faults = (opens_sound 0x200000 least_size).errors };
+  memory = right;
   requests = no_requests given;
   registers = record {
     commands = refl;

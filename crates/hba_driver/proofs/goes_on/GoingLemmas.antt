@@ -9,7 +9,7 @@ use Rattle.fis_view.specs.Frames.{Stamped}
 use Rattle.fis_view.specs.Seen.{seen as seen_in}
 use Rattle.fis_view.specs.declared.view.Fis.{Fis}
 use Rattle.fis_view.specs.declared.view.Fis.TheVariants as view
-use Rattle.host_memory.specs.Memory.{Memory, is_memory_size}
+use Rattle.host_memory.specs.Memory.{IsHostMemory, Memory}
 use Rattle.port_errors.specs.Errors.{Errors, after_clear, cleared_device, without as without_device}
 use Rattle.port_errors.specs.declared.cause.DeviceCause.{DeviceCause}
 use Rattle.port_errors.specs.declared.cause.DeviceCause.TheVariants as cause
@@ -266,11 +266,11 @@ going_turn old t new h g of =
       up = up_turn old t new h g;
     }
 
-pub going_opens : (given len : ℕ) → is_memory_size len ≡ true → IsGoing (opening_host given len)
-going_opens given len right =
-    let first : IsOnWay (opening_host given len) = way_opens given len right in
+pub going_opens : (given : ℕ) (start : Memory) → IsHostMemory start → IsGoing (opening_host given start)
+going_opens given start right =
+    let first : IsOnWay (opening_host given start) = way_opens given start right in
     record {
-      way = record { sound = first.sound; past = []; served = turns_serve.opens Switching given len right; unarmed = first.unarmed; fit = first.fit };
+      way = record { sound = first.sound; past = []; served = turns_serve.opens Switching given start right; unarmed = first.unarmed; fit = first.fit };
       tables = λ n below s t command is last. absurd (cc);
       page = λ path here out reads. absurd (cc);
       calm = record { faultless = refl; quiet = refl };
@@ -291,4 +291,4 @@ pub goes_on : (h : Host) → IsGoing h → GoesOn h
 goes_on h g = record { faultless = g.calm.faultless; next = stops_none h g; ticks = leaves h g.way.sound g.calm g.up }
 
 pub ports_go_on : PortsGoOn
-ports_go_on given len right turns h run of = goes_on h (going_over turns (opening_host given len) h run (going_opens given len right) of)
+ports_go_on given start right turns h run of = goes_on h (going_over turns (opening_host given start) h run (going_opens given start right) of)

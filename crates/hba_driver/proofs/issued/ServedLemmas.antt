@@ -6,7 +6,7 @@ use Rattle.std.proofs.lemmas.Bool.{cases_Bool, cases_eq, cases_lt, false≢true,
 use Rattle.std.proofs.lemmas.Bool.Decides.{nat_tests}
 use Rattle.std.proofs.lemmas.List.{get_or-replicate, get_or-set_other, get_or_past, length-replicate, length-set}
 use Rattle.fis_view.specs.Seen.{seen as seen_in}
-use Rattle.host_memory.specs.Memory.{Memory, is_memory_size}
+use Rattle.host_memory.specs.Memory.{IsHostMemory, Memory}
 use Rattle.host_memory.specs.Reading.{AgreeFrom, share_byte, shares_with}
 use Rattle.host_memory.specs.declared.table.Prd.{Prd}
 use Rattle.hba_commands.specs.declared.command.Command.{Command}
@@ -463,9 +463,9 @@ none_of_two : (mode : Mode) → AreOfOne mode []
 none_of_two Switching = tt
 none_of_two CommandBased = λ n m s r t u here there. cc
 
-opens : (mode : Mode) (given len : ℕ) → is_memory_size len ≡ true → IsServed (new_driver_in mode given) (shared_by (opening_host_in mode given len)) []
-opens mode given len h = record {
-  told = λ n below. opens_untold n (shared_by (opening_host_in mode given len)).memory;
+opens : (mode : Mode) (given : ℕ) (start : Memory) → IsHostMemory start → IsServed (new_driver_in mode given) (shared_by (opening_host_in mode given start)) []
+opens mode given start h = record {
+  told = λ n below. opens_untold n (shared_by (opening_host_in mode given start)).memory;
   bounded = record { devices = length-replicate {A = Device} 15 Absent; path = tt; slots = length-replicate {A = Option Entry} 30 None; entries = λ s e here. none_here s e here };
   commands = λ s e here. none_here s e here;
   issues = λ n s t here. none_issued (new_driver_in mode given) n s t here;

@@ -5,7 +5,7 @@ use Rattle.std.proofs.Common.{◌≡◌, ℕ, ◌<◌, Bool, true, false, refl, 
 use Rattle.std.specs.Prelude.{◌%◌, slice_index}
 use Rattle.std.proofs.lemmas.Bool.{true_from_ne_false}
 use Rattle.fis_view.specs.Frames.{Stamped}
-use Rattle.host_memory.specs.Memory.{is_memory_size}
+use Rattle.host_memory.specs.Memory.{IsHostMemory, Memory}
 use Rattle.hba_driver.specs.Events.{opening_host}
 use Rattle.hba_driver.specs.HostTurns.{Does, Host, HostTurn, Pushed}
 use Rattle.hba_driver.specs.Known.{is_request, known_after}
@@ -15,12 +15,12 @@ use Rattle.hba_driver.proofs.addresses.AddressLemmas.{none_issued, turn_addresse
 use Rattle.hba_driver.proofs.known.KnownRuns.{known_turn, opening_unknown}
 use Rattle.hba_driver.proofs.known.PushedLemmas.{opening_plain, plain_turn, request_known}
 
-pub asking_opens : (n given len : ℕ) → is_memory_size len ≡ true → IsAsking n false (opening_host given len)
-asking_opens n given len size = record {
-  way = way_opens given len size;
-  plain = opening_plain given len;
+pub asking_opens : (n given : ℕ) (start : Memory) → IsHostMemory start → IsAsking n false (opening_host given start)
+asking_opens n given start size = record {
+  way = way_opens given start size;
+  plain = opening_plain given start;
   their = λ k s c low busy last. none_issued k s c last;
-  unknown = λ none. opening_unknown given len n;
+  unknown = λ none. opening_unknown given start n;
 }
 
 pub asking_turn : (n : ℕ) → n < 15 → (known : Bool) (old : Host) (t : HostTurn) (new : Host) → Does old t new → IsAsking n known old → IsAsking n (known_after n known old t) new

@@ -4,7 +4,7 @@ use Rattle.std.proofs.Common.{◌≡◌, ◌≢◌, ℕ, zero, suc, ◌+◌, ◌
 use Rattle.std.specs.Prelude.{if◌then◌else◌, ◌==◌, not, nat_lt}
 use Rattle.std.specs.List.{list_any}
 use Rattle.std.proofs.lemmas.Bool.{eq-eqb, eqb-true, false_from_ne_true, false≢true, lt-ltb, ne_eqb, or_parts, true_from_ne_false, true≢false}
-use Rattle.host_memory.specs.Memory.{is_memory_size}
+use Rattle.host_memory.specs.Memory.{IsHostMemory, Memory}
 use Rattle.slots.specs.Slots.{Issue, has_bit, issue_at, match_some}
 use Rattle.hba_fbs.specs.Views.{Port}
 use Rattle.hba_laws.proofs.Door.{own_in}
@@ -345,30 +345,30 @@ absent_at zero n = refl
 absent_at (suc count) zero = refl
 absent_at (suc count) (suc n) = absent_at count n
 
-pub opening_unknown : (given len n : ℕ) → HostUnknown n (opening_host given len)
-opening_unknown given len n = record {
+pub opening_unknown : (given : ℕ) (start : Memory) (n : ℕ) → HostUnknown n (opening_host given start)
+opening_unknown given start n = record {
   driver = record { plan = record { device = absent_at 15 n; path = refl }; entries = λ s e here issued. none_here s e here };
   awaits = λ p here dev named asked. absurd (cc);
 }
 
-unknown_at : (given len : ℕ) → is_memory_size len ≡ true → (turns : List HostTurn) (h : Host) (run : DoesAll (opening_host given len) turns h) (n : ℕ) → n < 15 → known_over n false (opening_host given len) h turns run ≡ false → HostUnknown n h
-unknown_at given len size turns h run n below e = known_run n below false (opening_host given len) h turns run (way_opens given len size) (λ none. opening_unknown given len n) e
+unknown_at : (given : ℕ) (start : Memory) → IsHostMemory start → (turns : List HostTurn) (h : Host) (run : DoesAll (opening_host given start) turns h) (n : ℕ) → n < 15 → known_over n false (opening_host given start) h turns run ≡ false → HostUnknown n h
+unknown_at given start size turns h run n below e = known_run n below false (opening_host given start) h turns run (way_opens given start size) (λ none. opening_unknown given start n) e
 
 pub devices_are_known : DevicesAreKnown
 devices_are_known = record {
-  ready = λ given len size turns h run n below is. true_from_ne_false (known_over n false (opening_host given len) h turns run) (λ e.
-      false≢true (sym (unknown_at given len size turns h run n below e).driver.plan.device ∙ ap is_trusted is));
-  issued = λ given len size turns h run s e here issued.
-      let way : IsOnWay h = way_run (opening_host given len) h turns run (way_opens given len size) in
+  ready = λ given start size turns h run n below is. true_from_ne_false (known_over n false (opening_host given start) h turns run) (λ e.
+      false≢true (sym (unknown_at given start size turns h run n below e).driver.plan.device ∙ ap is_trusted is));
+  issued = λ given start size turns h run s e here issued.
+      let way : IsOnWay h = way_run (opening_host given start) h turns run (way_opens given start size) in
       let below : e.head.dev < 15 = (way.served.bounded.entries s e here).dev in
-      true_from_ne_false (known_over e.head.dev false (opening_host given len) h turns run) (λ x.
-      (unknown_at given len size turns h run e.head.dev below x).driver.entries s e here issued refl);
-  pushed = λ given len size turns h run frame after does below asks.
-      let start : IsOnWay (opening_host given len) = way_opens given len size in
-      let way : IsOnWay h = way_run (opening_host given len) h turns run start in
-      request_known h after frame way (plain_at given len turns h run start) below asks (λ k. known_over k false (opening_host given len) h turns run ≡ true)
+      true_from_ne_false (known_over e.head.dev false (opening_host given start) h turns run) (λ x.
+      (unknown_at given start size turns h run e.head.dev below x).driver.entries s e here issued refl);
+  pushed = λ given start size turns h run frame after does below asks.
+      let first : IsOnWay (opening_host given start) = way_opens given start size in
+      let way : IsOnWay h = way_run (opening_host given start) h turns run first in
+      request_known h after frame way (plain_at given start turns h run first) below asks (λ k. known_over k false (opening_host given start) h turns run ≡ true)
       (λ s e here issued.
       let low : e.head.dev < 15 = (way.served.bounded.entries s e here).dev in
-      true_from_ne_false (known_over e.head.dev false (opening_host given len) h turns run) (λ x.
-      (unknown_at given len size turns h run e.head.dev low x).driver.entries s e here issued refl)) does;
+      true_from_ne_false (known_over e.head.dev false (opening_host given start) h turns run) (λ x.
+      (unknown_at given start size turns h run e.head.dev low x).driver.entries s e here issued refl)) does;
 }

@@ -187,8 +187,8 @@ none_at zero s = refl
 none_at (suc count) zero = refl
 none_at (suc count) (suc s) = none_at count s
 
-pub opening_plain : (given len : ℕ) → IsPlain (opening_host given len).port
-opening_plain given len c is = let wrong : None ≡ Some c = sym (none_at 32 30) ∙ is in absurd (cc)
+pub opening_plain : (given : ℕ) (start : Memory) → IsPlain (opening_host given start).port
+opening_plain given start c is = let wrong : None ≡ Some c = sym (none_at 32 30) ∙ is in absurd (cc)
 
 -- ---- what goes out
 
@@ -256,5 +256,5 @@ module _ (h new : Host) (frame : Stamped) (w : IsOnWay h) (plain : IsPlain h.por
       let c = request_of_slot does in
       subst P (sym c.of.port) (known c.slot c.entry c.of.stands c.of.issued)
 
-pub plain_at : (given len : ℕ) (turns : List HostTurn) (h : Host) → DoesAll (opening_host given len) turns h → IsOnWay (opening_host given len) → IsPlain h.port
-plain_at given len turns h run w = plain_run (opening_host given len) h turns run w (opening_plain given len)
+pub plain_at : (given : ℕ) (start : Memory) (turns : List HostTurn) (h : Host) → DoesAll (opening_host given start) turns h → IsOnWay (opening_host given start) → IsPlain h.port
+plain_at given start turns h run w = plain_run (opening_host given start) h turns run w (opening_plain given start)

@@ -87,7 +87,7 @@ way_run old new turns run w = by_turns turns old run w
 pub requests_stay : RequestsStay
 requests_stay = record {
   stays = queued_by;
-  goes = λ given len size turns h run frame after does below asks.
-      let start : IsOnWay (opening_host given len) = way_opens given len size in
-      request_of_slot h after frame (way_run (opening_host given len) h turns run start) (plain_at given len turns h run start) below asks does;
+  goes = λ given start size turns h run frame after does below asks.
+      let first : IsOnWay (opening_host given start) = way_opens given start size in
+      request_of_slot h after frame (way_run (opening_host given start) h turns run first) (plain_at given start turns h run first) below asks does;
 }

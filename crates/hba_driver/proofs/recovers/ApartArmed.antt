@@ -11,4 +11,4 @@ unarmed_over [] old new run w = ap (λ (h : Host). h.port.registers.armed) run �
 unarmed_over (t ∷ turns) old new run w = unarmed_over turns run.0 new run.2 (way_turn old t run.0 run.1 w)
 
 pub none_is_armed : NoneIsArmed
-none_is_armed given len right turns h run = unarmed_over turns (opening_host given len) h run (way_opens given len right)
+none_is_armed given start right turns h run = unarmed_over turns (opening_host given start) h run (way_opens given start right)

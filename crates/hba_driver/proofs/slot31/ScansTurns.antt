@@ -394,8 +394,8 @@ scans_on n below stage next old (Put place bytes) new does g m at after is f =
     (kept_scans n stage old (Put place bytes) new (beside_same n stage old (Put place bytes) new g m at does.port plan (row_same old (Put place bytes) new does g m tt)) tt, subst IsFound (sym plan) f)
 
 -- as the host opens nothing is found
-pub found_opens : (n given len : ℕ) → (found n (opening_host given len) ≡ false) × IsFound (opening_host given len).driver.plan
-found_opens n given len = (refl, tt)
+pub found_opens : (n given : ℕ) (start : Memory) → (found n (opening_host given start) ≡ false) × IsFound (opening_host given start).driver.plan
+found_opens n given start = (refl, tt)
 
 -- ---- over turns
 
@@ -460,6 +460,6 @@ scans_over (t ∷ turns) old new run g stage at f n below named known = λ may.
     )
 
 pub scans_clear : ScansClear
-scans_clear given len right turns h run n below =
-    let opens = found_opens n given len in
-    scans_over turns (opening_host given len) h run (going_opens given len right) Rests (opens31 given len) opens.1 n below false (λ some. absurd (false≢true (sym opens.0 ∙ some)))
+scans_clear given start right turns h run n below =
+    let opens = found_opens n given start in
+    scans_over turns (opening_host given start) h run (going_opens given start right) Rests (opens31 given start) opens.1 n below false (λ some. absurd (false≢true (sym opens.0 ∙ some)))

@@ -228,8 +228,8 @@ turn31 old g (Polled c) new n does stage at may =
     record { next = stage; at = same_port31 stage old new does.port (ap (λ (d : Driver). d.plan) does.driver ∙ poll_plan old.driver) at; is = refl; stands = tt }
 turn31 old g (Put place bytes) new n does stage at may = record { next = stage; at = same_port31 stage old new does.port (ap (λ (d : Driver). d.plan) does.driver) at; is = refl; stands = tt }
 
-pub opens31 : (given len : ℕ) → IsAt31 Rests (opening_host given len)
-opens31 given len = record { fault = refl; context = refl; resetting = refl; is = (refl, refl); low = tt; closed = λ less. refl }
+pub opens31 : (given : ℕ) (start : Memory) → IsAt31 Rests (opening_host given start)
+opens31 given start = record { fault = refl; context = refl; resetting = refl; is = (refl, refl); low = tt; closed = λ less. refl }
 
 comes31 : (turns : List HostTurn) (old new : Host) (run : DoesAll old turns new) → IsGoing old → (stage : Stage31) → IsAt31 stage old → Comes31 stage old turns new run
 comes31 [] old new run g stage at = tt
@@ -239,4 +239,4 @@ comes31 (t ∷ turns) old new run g stage at = λ may.
     (next, comes31 turns run.0 new run.2 n next.next next.at)
 
 pub orders_take_turns : OrdersTakeTurns
-orders_take_turns given len right turns h run = (opens31 given len, comes31 turns (opening_host given len) h run (going_opens given len right) Rests (opens31 given len))
+orders_take_turns given start right turns h run = (opens31 given start, comes31 turns (opening_host given start) h run (going_opens given start right) Rests (opens31 given start))

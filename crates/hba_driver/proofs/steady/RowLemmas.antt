@@ -11,7 +11,7 @@ use Rattle.fis_view.specs.declared.view.Fis.{Fis}
 use Rattle.fis_view.specs.declared.view.Fis.TheVariants as view
 use Rattle.fis_view.specs.declared.view.FisFault.{FisFault}
 use Rattle.fis_view.specs.declared.view.FisFault.TheVariants.{WrongLength}
-use Rattle.host_memory.specs.Memory.{Memory, client_start, zeros}
+use Rattle.host_memory.specs.Memory.{Memory, client_start, zeroed, zeros}
 use Rattle.host_memory.specs.Reading.{AgreeFrom}
 use Rattle.host_memory.proofs.Door.{agree_beside}
 use Rattle.rx_area.specs.Area as rx
@@ -278,7 +278,7 @@ unfolding zeros
 zeros_at len k below = get_or-replicate len k 0 0 below
 
 -- when the host opens
-pub opens_row : (n given len : ℕ) → n < 16 → HasSignature n (opening_host given len) → ⊥
+pub opens_row : (n given len : ℕ) → n < 16 → HasSignature n (opening_host given (zeroed len)) → ⊥
 opens_row n given len low signs = false≢true (sym (zero_row n (zeros client_start) (zeros_at client_start (place n) (omega (arith, low)))) ∙ signs)
 
 at_place : (old bytes : List ℕ) (at k : ℕ) → at + length bytes ≤ length old → k < length bytes → get_or (take at old ++ bytes ++ drop (at + length bytes) old) (at + k) 0 ≡ get_or bytes k 0

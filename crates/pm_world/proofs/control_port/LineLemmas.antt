@@ -5,6 +5,7 @@ use Rattle.std.proofs.lemmas.Bool.{cases_Bool, cases_eq, eq-eqb, eqb-true, eqb-f
 use Rattle.fis_view.specs.Frames.{Stamped}
 use Rattle.fis_view.specs.Seen.{seen}
 use Rattle.fis_view.specs.declared.view.Fis.TheVariants as view
+use Rattle.host_memory.specs.Memory.{zeroed}
 use Rattle.hba_fbs.specs.declared.report.TakeReport.{TakeReport}
 use Rattle.hba_fbs.specs.Taking.{port_of}
 use Rattle.pm_ports.specs.Port.{came_refusal, gone_refusal}
@@ -23,7 +24,7 @@ use Rattle.hba_driver.specs.declared.request.Request.{Request as Asked}
 use Rattle.hba_driver.specs.Slot31.{Asks, Follows31, IsAt31, IsNext31, IsNotice31, MayBe31, MayCome31, Pushes31, Resets, Rests, Signs, Stage31, TakesOn, TicksOn, Turns31, Waits, is_quiet, orders_clear}
 use Rattle.hba_driver.specs.Between.{AreOfTheir, IsGoing}
 use Rattle.hba_driver.proofs.Door.{begins_srst, control_in31, ends_srst, going_opens, going_turn}
-use Rattle.hba_driver.proofs.Door.{none_issued, opens31, turn31, turn_addressed, turn_their}
+use Rattle.hba_driver.proofs.Door.{none_issued, opens31, turn31, turn_addressed, turn_their, zeroed_right}
 use Rattle.pm_world.specs.Attached.{Attached}
 use Rattle.pm_world.specs.Places.{IsOrderly, Place, Places, Queue, is_config, new_world, with_host}
 use Rattle.pm_world.specs.Rules.{CameRule, DiskSendRule, DiskTakeRule, GoneRule, HostPushRule, HostTakeRule, InjectRule, OnDevice, OnDeviceAndMultiplier, Outcome, PmDownRule, PmFromDeviceRule, PmFromHostRule, PmPresenceRule, PmUpRule, PollRule, PutRule, Rule, Run, SubmitRule, TickRule, recorded}
@@ -481,12 +482,12 @@ run_now old (s ∷ steps) [] new now run = absurd run
 
 pub opening_now : (units : List Attached) (config : Config) → is_config config (length units) ≡ true → IsNow (new_world config units)
 opening_now units config right = record {
-  going = going_opens 0 config.memory (sized config (length units) right);
+  going = going_opens 0 (zeroed config.memory) (zeroed_right config.memory (sized config (length units) right));
   their = λ n s c low busy last. none_issued n s c last;
   risen = opening_marks config units;
   orderly = opening_orderly Switching config units right;
   stage = Rests;
-  is = record { at = opens31 0 config.memory; line = (tt, refl, tt); notices = tt };
+  is = record { at = opens31 0 (zeroed config.memory); line = (tt, refl, tt); notices = tt };
 }
 
 -- an order to clear a port is issued when nothing is on its way

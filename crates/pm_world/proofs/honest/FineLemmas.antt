@@ -3,10 +3,11 @@
 use Rattle.std.proofs.Common.{◌≡◌, ℕ, ◌<◌, true, false, List, [], ◌∷◌, ◌++◌, length, refl, sym, ◌∙◌}
 use Rattle.std.proofs.Common.{Ok}
 use Rattle.std.proofs.lemmas.Bool.{eq-eqb, true≢false}
+use Rattle.host_memory.specs.Memory.{zeroed}
 use Rattle.hba_driver.specs.declared.mode.Mode.TheVariants.{Switching}
 use Rattle.hba_driver.specs.Events.{IsSoundHost}
 use Rattle.disk_recovery.specs.Between.{IsUnfaulted}
-use Rattle.hba_driver.proofs.Door.{calm_or_flush, hosts_stay_sound}
+use Rattle.hba_driver.proofs.Door.{calm_or_flush, hosts_stay_sound, zeroed_right}
 use Rattle.pm_world.specs.Attached.{Attached}
 use Rattle.pm_world.proofs.serving.FirstLemmas.{OpensWell, is_taken_of}
 use Rattle.pm_world.specs.Places.{Places, is_config, new_world}
@@ -47,4 +48,4 @@ module _ (config : Config) (units : List Attached) (fits : is_config config (len
   pub sound_at : (before : List Step) (told : List Answer) (old : Places) → Run (new_world config units) before told old → IsSoundHost old.host
   sound_at before told old made =
       hosts_stay_sound.last (new_world config units).host (over turn_of (new_world config units) before told old made) old.host
-      (run_does (new_world config units) before told old made) (hosts_stay_sound.opens Switching 0 config.memory (sized config (length units) fits))
+      (run_does (new_world config units) before told old made) (hosts_stay_sound.opens Switching 0 (zeroed config.memory) (zeroed_right config.memory (sized config (length units) fits)))

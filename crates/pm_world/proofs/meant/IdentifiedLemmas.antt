@@ -6,6 +6,7 @@ use Rattle.std.specs.Prelude.{if◌then◌else◌, ◌%◌, slice_index}
 use Rattle.std.specs.List.{list_any}
 use Rattle.std.proofs.lemmas.Bool.{and_parts, eqb-true, false≢true}
 use Rattle.fis_view.specs.Frames.{Stamped}
+use Rattle.host_memory.specs.Memory.{zeroed}
 use Rattle.hba_fbs.specs.declared.report.TakeReport.{TakeReport}
 use Rattle.hba_driver.specs.declared.mode.Mode.TheVariants.{Switching}
 use Rattle.hba_driver.specs.declared.request.Request.{Request}
@@ -15,7 +16,7 @@ use Rattle.hba_driver.specs.Known.{is_identity, is_request}
 use Rattle.hba_driver.specs.Laws.{flushes}
 use Rattle.hba_driver.specs.Ticks.{effects}
 use Rattle.hba_driver.specs.Between.{IsAsking}
-use Rattle.hba_driver.proofs.Door.{asking_known, asking_opens, asking_turn}
+use Rattle.hba_driver.proofs.Door.{asking_known, asking_opens, asking_turn, zeroed_right}
 use Rattle.multiplier.specs.State.{pm_port}
 use Rattle.pm_world.specs.Attached.{Attached}
 use Rattle.pm_world.specs.Downward.{pushed_by}
@@ -201,4 +202,4 @@ run_identified n below known old (s ∷ steps) (a ∷ answers) new run orderly r
 pub all_identified : (config : Config) (units : List Attached) → is_config config (length units) ≡ true → (steps : List Step) (answers : List Answer) (new : Places) (run : Run (new_world config units) steps answers new) (n : ℕ) → n < 15
     → AllIdentified n false (new_world config units) steps answers new run
 all_identified config units right steps answers new run n below =
-    run_identified n below false (new_world config units) steps answers new run (opening_orderly Switching config units right) (opening_marks config units) (asking_opens n 0 config.memory (sized config (length units) right))
+    run_identified n below false (new_world config units) steps answers new run (opening_orderly Switching config units right) (opening_marks config units) (asking_opens n 0 (zeroed config.memory) (zeroed_right config.memory (sized config (length units) right)))

@@ -5,6 +5,7 @@ use Rattle.std.proofs.Common.{Option, Some, None, Ok, refl, sym, ap, subst, ◌�
 use Rattle.std.specs.Prelude.{option_to_list, slice_get}
 use Rattle.std.proofs.lemmas.Bool.{and_parts, cases_Bool, eqb-true, false≢true, not-false}
 use Rattle.fis_view.specs.Frames.{Stamped}
+use Rattle.host_memory.specs.Memory.{zeroed}
 use Rattle.hba_fbs.specs.declared.report.TakeReport.{TakeReport}
 use Rattle.hba_driver.specs.declared.mode.Mode.TheVariants.{Switching}
 use Rattle.hba_driver.specs.declared.request.Request.{Request}
@@ -18,7 +19,7 @@ use Rattle.hba_driver.specs.Submits.{new_entry}
 use Rattle.hba_driver.specs.Tended.{IsLiveAt}
 use Rattle.hba_driver.specs.Between.{IsAsking}
 use Rattle.hba_driver.proofs.Door as accept
-use Rattle.hba_driver.proofs.Door.{asking_opens}
+use Rattle.hba_driver.proofs.Door.{asking_opens, zeroed_right}
 use Rattle.multiplier.specs.State.{falling, port_at}
 use Rattle.pm_world.specs.Attached.{Attached}
 use Rattle.pm_world.specs.Cleared.{PassesNone, is_up_from}
@@ -238,7 +239,7 @@ module _ (config : Config) (units : List Attached) (right : is_config config (le
   reached : Known n (OrSubmitted n None NoRequest (new_world config units) steps answers now run) (OrSent n None NoRequest NoFrame (new_world config units) steps answers now run) now
   reached =
       run_means n below false false None NoRequest NoFrame (new_world config units) steps answers now run (opening_holds config units right n) opening_means
-      (asking_opens n 0 config.memory (sized config (length units) right)) (opening_marks config units) (orders_in_order config units right steps answers now run n below)
+      (asking_opens n 0 (zeroed config.memory) (zeroed_right config.memory (sized config (length units) right))) (opening_marks config units) (orders_in_order config units right steps answers now run n below)
       (all_identified config units right steps answers now run n below) (λ coming. absurd (none_coming config units right n coming))
 
   -- what was sent and submitted in the run

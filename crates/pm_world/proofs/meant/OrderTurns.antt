@@ -7,6 +7,7 @@ use Rattle.std.specs.List.{list_any}
 use Rattle.std.proofs.lemmas.Bool.{and_from, and_parts, cases_Bool, cases_eq, eq-eqb, eqb-true, leb-true, ne_eqb, false≢true, true≢false, false_from_ne_true, true_from_ne_false}
 use Rattle.std.proofs.lemmas.Nat.Bits.{and_pow}
 use Rattle.fis_view.specs.Frames.{Stamped}
+use Rattle.host_memory.specs.Memory.{zeroed}
 use Rattle.hba_fbs.specs.Taking.{port_of}
 use Rattle.hba_fbs.specs.declared.report.TakeReport.{TakeReport}
 use Rattle.hba_driver.specs.declared.mode.Mode.TheVariants.{Switching}
@@ -18,7 +19,7 @@ use Rattle.hba_driver.specs.Slot31.{Asks, Fails, Follows31, IsAt31, IsNext31, Ma
 use Rattle.hba_driver.specs.Slot31 as slot31
 use Rattle.hba_driver.specs.Between.{AreOfTheir, IsGoing}
 use Rattle.hba_driver.proofs.Door.{found_opens, going_opens, none_issued, opens31, poll_plan}
-use Rattle.hba_driver.proofs.Door.{scans_on, turn_addressed}
+use Rattle.hba_driver.proofs.Door.{scans_on, turn_addressed, zeroed_right}
 use Rattle.pm_control.specs.Requests.{request_in}
 use Rattle.pm_registers.specs.Bits.{shares}
 use Rattle.pm_registers.specs.Port.{bit_x}
@@ -589,7 +590,7 @@ module _ (n : ℕ) (below : n < 15) where
 
 pub opening_knows : (config : Config) (units : List Attached) → is_config config (length units) ≡ true → (n : ℕ) → Knows n false (new_world config units)
 opening_knows config units right n = record {
-  going = going_opens 0 config.memory (sized config (length units) right);
+  going = going_opens 0 (zeroed config.memory) (zeroed_right config.memory (sized config (length units) right));
   their = λ d s c low busy last. none_issued d s c last;
   risen = opening_marks config units;
   orderly = opening_orderly Switching config units right;
@@ -597,12 +598,12 @@ opening_knows config units right n = record {
   fit = opening_fit config.ports most;
   writes = tt;
   stage = Rests;
-  is = record { at = opens31 0 config.memory; line = (tt, refl, tt); notices = tt };
-  plan = (found_opens n 0 config.memory).1;
+  is = record { at = opens31 0 (zeroed config.memory); line = (tt, refl, tt); notices = tt };
+  plan = (found_opens n 0 (zeroed config.memory)).1;
   out = λ u. absurd (false≢true u);
   due = λ w o. cc;
   scanning = λ w o. absurd (cc);
-  shut = λ is. absurd (true≢false (sym is ∙ (found_opens n 0 config.memory).0));
+  shut = λ is. absurd (true≢false (sym is ∙ (found_opens n 0 (zeroed config.memory)).0));
 }
   where
     -- a world has at most 15 ports

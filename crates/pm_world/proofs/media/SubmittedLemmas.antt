@@ -5,7 +5,7 @@ use Rattle.std.specs.Prelude.{◌⊎◌, nat_lt, slice_get, slice_index}
 use Rattle.std.proofs.lemmas.Bool.{false≢true, or_parts, true≢false}
 use Rattle.std.proofs.lemmas.Bool.Decides.{nat_tests}
 use Rattle.std.proofs.lemmas.Option.{slice_get-get_or}
-use Rattle.host_memory.specs.Memory.{client_start, is_memory_size}
+use Rattle.host_memory.specs.Memory.{client_start, is_memory_size, zeroed}
 use Rattle.host_memory.specs.Place.{LiesInClient, place, total_of}
 use Rattle.host_memory.specs.declared.table.Prd.{Prd}
 use Rattle.host_memory.proofs.Door.{place_inside}
@@ -24,7 +24,7 @@ use Rattle.hba_driver.specs.declared.request.Ticket.{Ticket}
 use Rattle.hba_driver.specs.declared.request.Work.{Work}
 use Rattle.hba_driver.specs.declared.request.Work.TheVariants.{Write}
 use Rattle.hba_driver.specs.declared.slot.Phase.TheVariants.{Waits, Issued}
-use Rattle.hba_driver.specs.Delivered.{TookDelivers, zero_at}
+use Rattle.hba_driver.specs.Delivered.{TookDelivers}
 use Rattle.hba_driver.specs.Drivers.{Driver, Entry, entry_at, is_read, rephased}
 use Rattle.hba_driver.specs.Events.{IsSoundHost, events_over, opening_host, shared_by}
 use Rattle.hba_driver.specs.HostTurns.{Does, DoesAll, Host, HostTurn, Submitted, Took, Tooks}
@@ -33,7 +33,7 @@ use Rattle.hba_driver.specs.Served.{IsIssueOf, IsOrdered, IsRequest, IsServed, I
 use Rattle.hba_driver.specs.Submits.{end_of, new_entry}
 use Rattle.hba_driver.specs.Between.{Fresh, HaveGoodPrds}
 use Rattle.hba_driver.proofs.Door.{as_long, comes_from, each_run_keeps, good_since}
-use Rattle.hba_driver.proofs.Door.{hosts_stay_sound, in_slots, is_taken, issue_inside, turns_hold_writes}
+use Rattle.hba_driver.proofs.Door.{hosts_stay_sound, in_slots, is_taken, issue_inside, turns_hold_writes, zeroed_right}
 use Rattle.pm_world.specs.Attached.{Attached}
 use Rattle.pm_world.specs.Places.{Places, is_config, new_world}
 use Rattle.pm_world.specs.Rules.{Run}
@@ -53,7 +53,7 @@ use Rattle.pm_world.proofs.turns.Delivery.{sized}
 use Rattle.pm_world.proofs.turns.HostFold.{does-append, run_does}
 use Rattle.pm_world.proofs.reported.ReportedLemmas.{StoodIn, open_before}
 use Rattle.pm_world.proofs.serving.TookLemmas.{host_takes}
-use Rattle.pm_world.proofs.serving.TouchedLemmas.{AreKept, GoesTouched, touched_delivers, touched_does, touched_kept, touched_over, touched_served, touched_sound}
+use Rattle.pm_world.proofs.serving.TouchedLemmas.{AreKept, GoesTouched, touched_delivers, touched_does, touched_kept, touched_over, touched_served, touched_sound, zero_at}
 
 -- ## What went out was gathered, and its places are held
 
@@ -217,8 +217,8 @@ module _ (config : Config) (units : List Attached) (fits : is_config config (len
   first = over turn_of (new_world config units) s.before s.told s.at s.came ++ Submitted r.dev r.request ticket.0 ∷ []
 
   came_first : GoesTouched config.memory ([] ++ first) next
-  came_first = touched_over config.memory right [] first (opening_host 0 config.memory) next [] opens
-      (does-append (opening_host 0 config.memory) s.at.host next (over turn_of (new_world config units) s.before s.told s.at s.came)
+  came_first = touched_over config.memory right [] first (opening_host 0 (zeroed config.memory)) next [] opens
+      (does-append (opening_host 0 (zeroed config.memory)) s.at.host next (over turn_of (new_world config units) s.before s.told s.at s.came)
       (Submitted r.dev r.request ticket.0 ∷ []) (run_does (new_world config units) s.before s.told s.at s.came) (next, s.rule.0, refl))
 
   sound_next : IsSoundHost next
@@ -309,8 +309,8 @@ module _ (config : Config) (units : List Attached) (fits : is_config config (len
         omega (arith, total, same, whole, less)
 
     good : HaveGoodPrds (end_of at.memory) at.driver
-    good = good_since turns (opening_host 0 config.memory) at (touched_does config.memory turns at touches touched)
-        (hosts_stay_sound.opens Switching 0 config.memory right) refl
+    good = good_since turns (opening_host 0 (zeroed config.memory)) at (touched_does config.memory turns at touches touched)
+        (hosts_stay_sound.opens Switching 0 (zeroed config.memory) (zeroed_right config.memory right)) refl
 
     inside : LiesInClient (length at.memory.client) (place r.request.prds.items i) 1
     inside = subst (λ (l : List Prd). LiesInClient (length at.memory.client) (place l i) 1) table

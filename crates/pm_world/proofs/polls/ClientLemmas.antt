@@ -20,7 +20,6 @@ use Rattle.hba_laws.specs.History.{Event, Transfer, issued}
 use Rattle.hba_laws.proofs.Door.{filling_is, if_there}
 use Rattle.slots.specs.Slots.{match_some}
 use Rattle.slots.specs.Work.{is_read as is_reading}
-use Rattle.hba_driver.specs.Delivered.{zero_at}
 use Rattle.hba_driver.specs.Drivers.{Entry, entry_at, is_read, waits_in}
 use Rattle.hba_driver.specs.Effects.{buffer_prd, prds_with}
 use Rattle.hba_driver.specs.Events.{IsSoundHost, events_over, shared_by}
@@ -33,7 +32,7 @@ use Rattle.hba_driver.proofs.Door.{as_long, begun_later, in_slots, lives_turn, n
 use Rattle.hba_driver.proofs.Door.{turns_serve}
 use Rattle.pm_world.specs.HostTouches.{AreTouched, goes}
 use Rattle.pm_world.proofs.polls.CalmLemmas.{IsFreed, turn_freed}
-use Rattle.pm_world.proofs.serving.TouchedLemmas.{AreKept, touched_kept, touched_served, touched_sound}
+use Rattle.pm_world.proofs.serving.TouchedLemmas.{AreKept, touched_kept, touched_served, touched_sound, zero_at}
 
 -- ## Places of other tables
 

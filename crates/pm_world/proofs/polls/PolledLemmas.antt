@@ -5,7 +5,7 @@ use Rattle.std.specs.Prelude.{◌⊎◌, if◌then◌else◌, nat_lt, slice_inde
 use Rattle.std.specs.List.{list_any}
 use Rattle.std.proofs.lemmas.Bool.{cases_Bool, eq-eqb, false≢true, or_parts, true≢false}
 use Rattle.std.proofs.lemmas.Bool.Decides.{nat_tests}
-use Rattle.host_memory.specs.Memory.{client_start, is_memory_size}
+use Rattle.host_memory.specs.Memory.{client_start, is_memory_size, zeroed}
 use Rattle.host_memory.specs.Place.{LiesInClient, place, total_of}
 use Rattle.slots.specs.Slots.{match_some}
 use Rattle.hba_fbs.specs.Taking.{port_of}
@@ -41,7 +41,7 @@ use Rattle.hba_driver.specs.Submits.{new_entry}
 use Rattle.hba_driver.specs.Between.{AllStand, IsOnWay, PollFacts, Stands}
 use Rattle.hba_driver.proofs.Door as accept
 use Rattle.hba_driver.proofs.Door.{as_long, each_run_keeps, in_slots, is_taken, poll_facts}
-use Rattle.hba_driver.proofs.Door.{way_opens}
+use Rattle.hba_driver.proofs.Door.{way_opens, zeroed_right}
 use Rattle.pm_world.specs.Attached.{Attached}
 use Rattle.pm_world.specs.Places.{Places, is_config, new_world}
 use Rattle.pm_world.specs.Rules.{Rule, Run}
@@ -203,7 +203,7 @@ module _ (config : Config) (units : List Attached) (fits : is_config config (len
   ended = facts.ended ∙ ap Ended done
 
   way_first : IsOnWay (new_world config units).host
-  way_first = way_opens 0 config.memory right
+  way_first = way_opens 0 (zeroed config.memory) (zeroed_right config.memory right)
 
   way : IsOnWay now.host
   way = way_over (over turn_of (new_world config units) steps answers now run) (new_world config units).host now.host

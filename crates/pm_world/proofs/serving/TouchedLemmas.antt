@@ -3,7 +3,7 @@
 use Rattle.std.proofs.Common.{rules, ◌≡◌, ℕ, ◌+◌, ◌-◌, ◌<◌, ◌≤◌, List, [], ◌∷◌, ◌++◌, append_assoc, refl, sym, subst, length, arith}
 use Rattle.std.specs.Prelude.{true, slice_index}
 use Rattle.std.proofs.lemmas.List.{append-nil, get_or-replicate, length-replicate}
-use Rattle.host_memory.specs.Memory.{client_start, is_memory_size, zeros}
+use Rattle.host_memory.specs.Memory.{client_start, is_memory_size, zeroed, zeros}
 use Rattle.host_memory.specs.Place.{LiesInClient, place}
 use Rattle.host_memory.proofs.Door.{place_inside}
 use Rattle.slots.specs.Slots.{has_bit}
@@ -18,35 +18,39 @@ use Rattle.hba_laws.specs.Sound as sound
 use Rattle.hba_laws.proofs.Door.{client_is_touched, data_is_within, done_is_completed, done_reads_stand}
 use Rattle.hba_laws.proofs.Door.{spared_tables_read}
 use Rattle.hba_driver.specs.declared.mode.Mode.TheVariants.{Switching}
-use Rattle.hba_driver.specs.Delivered.{IsAtItsPlace, TookDelivers, zero_at}
+use Rattle.hba_driver.specs.Delivered.{IsAtItsPlace, TookDelivers}
 use Rattle.hba_driver.specs.Events.{IsSoundHost, events_over, opening_host, shared_by}
 use Rattle.hba_driver.specs.HostTurns.{Does, DoesAll, Host, HostTurn, Took}
 use Rattle.hba_driver.specs.Served.{IsIssueOf, IsServed, RunServes}
 use Rattle.hba_driver.specs.Submits.{end_of}
 use Rattle.hba_driver.specs.Between.{HaveGoodPrds}
-use Rattle.hba_driver.proofs.Door.{as_long, good_since, hosts_stay_sound, issue_inside, turns_serve}
+use Rattle.hba_driver.proofs.Door.{as_long, good_since, hosts_stay_sound, issue_inside, turns_serve, zeroed_right}
 use Rattle.pm_world.proofs.turns.HostFold.{does-append}
 use Rattle.pm_world.specs.HostTouches.{AreTouched, goes, opens}
 
 -- ## The host
 
-pub touched_does : (len : ℕ) (turns : List HostTurn) (h : Host) (touches : Touches) → AreTouched len turns h touches → DoesAll (opening_host 0 len) turns h
+pub touched_does : (len : ℕ) (turns : List HostTurn) (h : Host) (touches : Touches) → AreTouched len turns h touches → DoesAll (opening_host 0 (zeroed len)) turns h
 touched_does len turns h touches opens = refl
 touched_does len turns h touches (goes before turn old new past run serves came) =
-    does-append (opening_host 0 len) old new before (turn ∷ []) (touched_does len before old past came) run
+    does-append (opening_host 0 (zeroed len)) old new before (turn ∷ []) (touched_does len before old past came) run
 
 pub touched_sound : (len : ℕ) (turns : List HostTurn) (h : Host) (touches : Touches) → is_memory_size len ≡ true → AreTouched len turns h touches
     → IsSoundHost h
-touched_sound len turns h touches right opens = hosts_stay_sound.opens Switching 0 len right
+touched_sound len turns h touches right opens = hosts_stay_sound.opens Switching 0 (zeroed len) (zeroed_right len right)
 touched_sound len turns h touches right (goes before turn old new past run serves came) =
     hosts_stay_sound.last old (turn ∷ []) new run (touched_sound len before old past right came)
 
 pub touched_served : (len : ℕ) (turns : List HostTurn) (h : Host) (touches : Touches) → is_memory_size len ≡ true → AreTouched len turns h touches
     → IsServed h.driver (shared_by h) touches
-touched_served len turns h touches right opens = turns_serve.opens Switching 0 len right
+touched_served len turns h touches right opens = turns_serve.opens Switching 0 (zeroed len) (zeroed_right len right)
 touched_served len turns h touches right (goes before turn old new past run serves came) = serves.last
 
 -- ## What its memory has
+
+-- a byte before anything was touched
+abbrev pub zero_at : ℕ → ℕ
+zero_at k = 0
 
 pub record AreKept (h : Host) (touches : Touches) : Type 0 where
   pub tables : HaveTables (shared_by h) touches
@@ -66,14 +70,14 @@ unfolding zeros
 zeros_at n k below = get_or-replicate n k 0 0 below
 
 -- the client area of a memory that opens is zero
-zero_client : (len : ℕ) → IsClient zero_at [] (shared_by (opening_host 0 len))
+zero_client : (len : ℕ) → IsClient zero_at [] (shared_by (opening_host 0 (zeroed len)))
 zero_client len k below =
     let inside : k < len - client_start = subst (λ (m : ℕ). k < m) (zeros_long (len - client_start)) below in
     zeros_at (len - client_start) k inside
 
 pub touched_kept : (len : ℕ) (turns : List HostTurn) (h : Host) (touches : Touches) → is_memory_size len ≡ true → AreTouched len turns h touches → AreKept h touches
 touched_kept len turns h touches right opens =
-    record { tables = no_tables (shared_by (opening_host 0 len)); client = zero_client len; within = tt; kept = tt }
+    record { tables = no_tables (shared_by (opening_host 0 (zeroed len))); client = zero_client len; within = tt; kept = tt }
 touched_kept len turns h touches right (goes before turn old new past run serves came) =
     let k : AreKept old past = touched_kept len before old past right came in
     let served : IsServed old.driver (shared_by old) past = touched_served len before old past right came in
@@ -110,7 +114,7 @@ module _ (len : ℕ) (turns : List HostTurn) (h : Host) (past : Touches) (right 
   is_host = record { port = now_sound.ruled.rules; slots = now_sound.ruled.table; errors = now_sound.ruled.faults; memory = now_sound.memory }
 
   good : HaveGoodPrds (end_of h.memory) h.driver
-  good = good_since turns (opening_host 0 len) h (touched_does len turns h past came) (hosts_stay_sound.opens Switching 0 len right) refl
+  good = good_since turns (opening_host 0 (zeroed len)) h (touched_does len turns h past came) (hosts_stay_sound.opens Switching 0 (zeroed len) (zeroed_right len right)) refl
 
   one : DoesAll h (Took frame report ∷ []) after
   one = (after, does, refl)

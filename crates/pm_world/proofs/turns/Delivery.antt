@@ -1,11 +1,11 @@
 -- For the fields `delivers` and `apart` of `laws`. Every run delivers, and what is issued stays apart.
 use Rattle.std.proofs.Common.{rules, ◌≡◌, ℕ, List, [], ◌∷◌, ◌++◌, true, sym, subst, length}
 use Rattle.std.specs.Prelude.{Ok}
-use Rattle.host_memory.specs.Memory.{is_memory_size}
+use Rattle.host_memory.specs.Memory.{is_memory_size, zeroed}
 use Rattle.hba_driver.specs.declared.mode.Mode.{Mode}
 use Rattle.hba_driver.specs.Delivered.{HasCome, touches_of}
 use Rattle.hba_driver.specs.HostTurns.{Does, DoesAll, Host, HostTurn, Took}
-use Rattle.hba_driver.proofs.Door.{turns_deliver}
+use Rattle.hba_driver.proofs.Door.{turns_deliver, zeroed_right}
 use Rattle.pm_world.specs.IssuedApart.{AreKeptApart, IsApart, IsKeptApart, KeepsApart}
 use Rattle.pm_world.specs.Delivery.{Delivers, EachDelivers, HasDelivered, Tells}
 use Rattle.pm_world.specs.Places.{Places, is_config, new_world_in, opening_host_in}
@@ -24,22 +24,22 @@ sized config units right = search rules
 
 -- ---- a host
 
-came : (mode : Mode) (memory : ℕ) → is_memory_size memory ≡ true → (turns : List HostTurn) (host : Host) → DoesAll (opening_host_in mode memory) turns host → HasCome mode 0 memory turns host
-came mode memory right turns host does = turns_deliver.comes mode 0 memory right turns host does
+came : (mode : Mode) (memory : ℕ) → is_memory_size memory ≡ true → (turns : List HostTurn) (host : Host) → DoesAll (opening_host_in mode memory) turns host → HasCome mode 0 (zeroed memory) turns host
+came mode memory right turns host does = turns_deliver.comes mode 0 (zeroed memory) (zeroed_right memory right) turns host does
 
 has_delivered : (mode : Mode) (memory : ℕ) → is_memory_size memory ≡ true → (turns : List HostTurn) (host : Host) → DoesAll (opening_host_in mode memory) turns host → HasDelivered mode memory turns host
-has_delivered mode memory right turns host does = record { come = came mode memory right turns host does; delivers = turns_deliver.delivers mode 0 memory right turns host }
+has_delivered mode memory right turns host does = record { come = came mode memory right turns host does; delivers = turns_deliver.delivers mode 0 (zeroed memory) (zeroed_right memory right) turns host }
 
 is_apart : (mode : Mode) (memory : ℕ) → is_memory_size memory ≡ true → (turns : List HostTurn) (host : Host) → DoesAll (opening_host_in mode memory) turns host → IsApart mode memory turns host
-is_apart mode memory right turns host does = record { come = came mode memory right turns host does; apart = turns_deliver.apart mode 0 memory right turns host }
+is_apart mode memory right turns host does = record { come = came mode memory right turns host does; apart = turns_deliver.apart mode 0 (zeroed memory) (zeroed_right memory right) turns host }
 
 -- ---- one answer
 
-module _ (mode : Mode) (memory : ℕ) (right : is_memory_size memory ≡ true) (turns : List HostTurn) (old : Places) (c : HasCome mode 0 memory turns old.host) where
-  tells : (s : Step) (a : Answer) (new : Places) → Rule old s (Ok a) new → Tells old.host (touches_of mode 0 memory turns old.host c) a new.host
+module _ (mode : Mode) (memory : ℕ) (right : is_memory_size memory ≡ true) (turns : List HostTurn) (old : Places) (c : HasCome mode 0 (zeroed memory) turns old.host) where
+  tells : (s : Step) (a : Answer) (new : Places) → Rule old s (Ok a) new → Tells old.host (touches_of mode 0 (zeroed memory) turns old.host c) a new.host
   tells s (answer.Took port conn number bytes report) new rule =
       let does : DoesAll old.host (Took bytes report ∷ []) new.host = rule_does old s (answer.Took port conn number bytes report) new rule in
-      (turns_deliver.delivers mode 0 memory right turns old.host c).took bytes report new.host (subst (λ (m : Host). Does old.host (Took bytes report) m) (sym does.2) does.1)
+      (turns_deliver.delivers mode 0 (zeroed memory) (zeroed_right memory right) turns old.host c).took bytes report new.host (subst (λ (m : Host). Does old.host (Took bytes report) m) (sym does.2) does.1)
   tells s _ new rule = tt
 
 -- ---- a run

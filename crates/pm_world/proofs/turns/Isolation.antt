@@ -1,11 +1,12 @@
 -- For the field `isolates` of `laws`. Over every run each device is isolated.
 use Rattle.std.proofs.Common.{List, length}
+use Rattle.host_memory.specs.Memory.{zeroed}
 use Rattle.hba_laws.specs.Isolation.{AreOfDevices}
 use Rattle.hba_laws.proofs.Door.{fold_of_own, histories_by_own}
 use Rattle.hba_driver.specs.declared.mode.Mode.{Mode}
 use Rattle.hba_driver.specs.Events.{AreEvents, IsSoundHostIn, events_over, shared_by}
 use Rattle.hba_driver.specs.HostTurns.{DoesAll, Host, HostTurn}
-use Rattle.hba_driver.proofs.Door.{each_run_tells, hosts_stay_sound, turns_are_events}
+use Rattle.hba_driver.proofs.Door.{each_run_tells, hosts_stay_sound, turns_are_events, zeroed_right}
 use Rattle.pm_world.specs.Isolation.{AreFoldsOfOwn, AreHistoriesOfOwn, AreIsolated, Isolates}
 use Rattle.pm_world.specs.Places.{Places, new_world_in, opening_host_in}
 use Rattle.pm_world.specs.Rules.{Run}
@@ -33,5 +34,5 @@ isolates old steps answers new run = record {
   isolated = λ mode config units fits before told made does.
       are_isolated old.host (over turn_of old steps answers new run) new.host does mode
       (hosts_stay_sound.last (opening_host_in mode config.memory) (over turn_of (new_world_in mode config units) before told old made) old.host (run_does (new_world_in mode config units) before told old made)
-      (hosts_stay_sound.opens mode 0 config.memory (sized config (length units) fits)));
+      (hosts_stay_sound.opens mode 0 (zeroed config.memory) (zeroed_right config.memory (sized config (length units) fits))));
 }

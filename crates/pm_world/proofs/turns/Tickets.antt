@@ -5,13 +5,13 @@ use Rattle.std.specs.Prelude.{Ok}
 use Rattle.std.specs.List.{flat_map, range_with_len}
 use Rattle.std.proofs.lemmas.Grind.{flat_map-append}
 use Rattle.fis_view.specs.Frames.{Stamped}
-use Rattle.host_memory.specs.Memory.{is_memory_size}
+use Rattle.host_memory.specs.Memory.{is_memory_size, zeroed}
 use Rattle.hba_driver.specs.declared.mode.Mode.{Mode}
 use Rattle.hba_driver.specs.declared.request.Ticket.{Ticket}
 use Rattle.hba_driver.specs.HostTurns.{DoesAll, Host, HostTurn, Took, Pushed, Ticked, Submitted, Polled, Put, given_in, polled_in}
 use Rattle.hba_driver.specs.HostTurns.{polled_by as turn_polls}
 use Rattle.hba_driver.specs.Laws.{AreOnce, TurnsKeep}
-use Rattle.hba_driver.proofs.Door.{each_run_keeps, hosts_stay_sound}
+use Rattle.hba_driver.proofs.Door.{each_run_keeps, hosts_stay_sound, zeroed_right}
 use Rattle.pm_world.specs.Places.{Places, new_world_in, opening_host_in}
 use Rattle.pm_world.specs.Rules.{CameRule, GoneRule, DiskSendRule, InjectRule, DiskTakeRule, PmPresenceRule, PmFromDeviceRule, PmDownRule, Rule, Run}
 use Rattle.pm_world.specs.Runs.{over}
@@ -146,7 +146,7 @@ module _ (first old : Places) (before : List Step) (told : List Answer) (made : 
       ∙ ap (λ (l : List ℕ). flat_map polled_by told ++ l) (run_polls old steps answers new run) ∙ sym (flat_map-append polled_by told answers)
 
 keeps : (mode : Mode) (memory : ℕ) → is_memory_size memory ≡ true → (turns : List HostTurn) (host : Host) (does : DoesAll (opening_host_in mode memory) turns host) → TurnsKeep (opening_host_in mode memory) turns host does
-keeps mode memory right turns host does = each_run_keeps (opening_host_in mode memory) turns host does (hosts_stay_sound.opens mode 0 memory right).requests
+keeps mode memory right turns host does = each_run_keeps (opening_host_in mode memory) turns host does (hosts_stay_sound.opens mode 0 (zeroed memory) (zeroed_right memory right)).requests
 
 pub keeps_tickets : (old : Places) (steps : List Step) (answers : List Answer) (new : Places) (run : Run old steps answers new) → KeepsTickets old steps answers new run
 keeps_tickets old steps answers new run = record {

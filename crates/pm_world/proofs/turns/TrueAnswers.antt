@@ -1,10 +1,10 @@
 -- For the field `truth` of `laws`. What the driver says over a run is true, and the port takes every write of it.
 use Rattle.std.proofs.Common.{◌≡◌, ℕ, List, [], ◌∷◌, ◌++◌, true, sym, subst, length}
 use Rattle.std.specs.Prelude.{Ok}
-use Rattle.host_memory.specs.Memory.{is_memory_size}
+use Rattle.host_memory.specs.Memory.{is_memory_size, zeroed}
 use Rattle.hba_driver.specs.declared.mode.Mode.{Mode}
 use Rattle.hba_driver.specs.HostTurns.{Does, DoesAll, Host, HostTurn, Polled}
-use Rattle.hba_driver.proofs.Door.{done_is_true, writes_are_accepted}
+use Rattle.hba_driver.proofs.Door.{done_is_true, writes_are_accepted, zeroed_right}
 use Rattle.pm_world.specs.TrueAnswers.{EachIsTrue, IsTrue, TellsTruth}
 use Rattle.pm_world.specs.Places.{Places, new_world_in, opening_host_in}
 use Rattle.pm_world.specs.Rules.{Rule, Run}
@@ -20,7 +20,7 @@ module _ (mode : Mode) (memory : ℕ) (right : is_memory_size memory ≡ true) (
   is_true : (s : Step) (a : Answer) (new : Places) → Rule old s (Ok a) new → IsTrue mode memory turns old.host does a
   is_true s (answer.Polled completion) new rule =
       let polls : DoesAll old.host (Polled completion ∷ []) new.host = rule_does old s (answer.Polled completion) new rule in
-      λ done. done_is_true.polled mode 0 memory right turns old.host does completion new.host (subst (λ (m : Host). Does old.host (Polled completion) m) (sym polls.2) polls.1) done
+      λ done. done_is_true.polled mode 0 (zeroed memory) (zeroed_right memory right) turns old.host does completion new.host (subst (λ (m : Host). Does old.host (Polled completion) m) (sym polls.2) polls.1) done
   is_true s _ new rule = tt
 
 each_is_true : (old : Places) (steps : List Step) (answers : List Answer) (new : Places) (run : Run old steps answers new) → EachIsTrue old steps answers new run
@@ -36,5 +36,5 @@ pub tells_truth : (old : Places) (steps : List Step) (answers : List Answer) (ne
 tells_truth old steps answers new run = record {
   done = each_is_true old steps answers new run;
   accepted = λ mode config units fits before told made does.
-      writes_are_accepted mode 0 config.memory (sized config (length units) fits) (over turn_of (new_world_in mode config units) before told old made ++ over turn_of old steps answers new run) new.host does;
+      writes_are_accepted mode 0 (zeroed config.memory) (zeroed_right config.memory (sized config (length units) fits)) (over turn_of (new_world_in mode config units) before told old made ++ over turn_of old steps answers new run) new.host does;
 }

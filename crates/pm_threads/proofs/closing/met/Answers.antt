@@ -3,6 +3,10 @@ use Rattle.std.specs.Prelude.{map}
 use Rattle.disk_thread.specs.declared.worker.DiskEnd.{DiskEnd}
 use Rattle.std.specs.List.{AllZip}
 use Rattle.ruled_links.specs.Lists.{IsPrefixOf}
+use Rattle.hba_driver.specs.declared.mode.Mode.TheVariants.{Switching}
+use Rattle.hba_driver.specs.Delivered.{HasCome}
+use Rattle.hba_driver.proofs.Door.{turns_deliver}
+use Rattle.host_thread.proofs.Dones.{run_done}
 use Rattle.pm_thread.specs.Passing.{Passes}
 use Rattle.pm_threads.specs.Seats.{Handed}
 use Rattle.thread_counts.specs.Rows.{AreCounted}
@@ -42,4 +46,15 @@ returns-clause-fewer g c =
 
 pub returns-clause-made : goal.returns-clause-made
 returns-clause-made g c start run =
-    record { turns = run.turns; host = c.args.host.host; does = run.does; taken = run.taken; memory_is = search rules }
+    let come : HasCome Switching 0 start run.turns c.args.host.host = turns_deliver.comes Switching 0 start run.right run.turns c.args.host.host run.does in
+    record {
+      turns = run.turns;
+      host = c.args.host.host;
+      does = run.does;
+      puts = run.puts;
+      taken = run.taken;
+      memory_is = search rules;
+      come = come;
+      delivers = turns_deliver.delivers Switching 0 start run.right run.turns c.args.host.host come;
+      done = run_done start c.args.host run;
+    }

@@ -1,4 +1,4 @@
-use Rattle.std.proofs.Common.{rules, ◌≡◌, ◌∙◌, List, Option, None, true, false, sym, inr}
+use Rattle.std.proofs.Common.{rules, ◌≡◌, ◌∙◌, List, Option, None, true, false, sym}
 use Rattle.std.specs.Prelude.{All}
 use Rattle.std.specs.List.{list_any}
 use Rattle.disk_thread.specs.declared.worker.DiskEnd.{DiskEnd}
@@ -37,8 +37,7 @@ returns-then-is_open-clause-why g c =
     let not_short : c.is_any_short.result ≡ false = search rules in
     let not_shut : c.any_shut.result ≡ false = search rules in
     let is : c.is_open.result ≡ true = search rules in
-    let not_spent : c.is_any_spent.result ≡ false = search rules in
-    inr (
+    let not_spent : c.is_any_spent.result ≡ false = search rules in (
       open_ends c.args.disks.now c.args.pm.now c.args.host.now (sym c.is_any_short.ensures ∙ not_short)
           (sym c.any_shut.ensures ∙ not_shut) (sym c.is_open.ensures ∙ is),
       sym c.is_any_spent.ensures ∙ not_spent,

@@ -1,6 +1,7 @@
 use Rattle.std.proofs.Common.{rules, ◌≡◌, [], length, replicate, refl, sym, ap, ◌∙◌, subst}
 use Rattle.std.proofs.lemmas.List.{length-replicate}
 use Rattle.multiplier.specs.Orders.{InStampedOrder}
+use Rattle.host_memory.specs.Memory.{IsHostMemory}
 use Rattle.link_items.specs.Beginnings.{stamped_starts}
 use Rattle.host_thread.specs.declared.plan.State.TheVariants.{Waits}
 use Rattle.host_thread.specs.Runs.{AreGiven, count_submitted, starting}
@@ -28,4 +29,5 @@ pub returns-clause-run : goal.returns-clause-run
 returns-clause-run c =
     let states : c.in_ok-states.states.items ≡ replicate (length c.args.plan.items) Waits = search rules in
     let host : c.new.result ≡ starting c.args.memory = search rules in
-    begins c.args.memory _ (length c.args.plan.items) host c.requires.up c.requires.down refl states
+    let right : IsHostMemory c.args.memory = search rules in
+    begins c.args.memory right _ (length c.args.plan.items) host c.requires.up c.requires.down refl states
