@@ -113,10 +113,45 @@ fn each_kind_ends(rt: HostRuntime) {
     let alloc = rt.alloc();
     let all = 2049 * 512;
     assert!(rt; moved(&rt, alloc, READ) == all);
-    assert!(rt; moved(&rt, alloc, Command { write: true, lasting: true, ..READ }) == all);
-    assert!(rt; moved(&rt, alloc, Command { place: 32, protocol: Protocol::Dma, ..READ }) == all);
-    assert!(rt; moved(&rt, alloc, Command { place: 32, protocol: Protocol::Verify, ..READ }) == 0);
-    let pio = Command { place: 32, protocol: Protocol::Pio, block: 512, ..READ };
+    assert!(rt;
+        moved(
+            &rt,
+            alloc,
+            Command {
+                write: true,
+                lasting: true,
+                ..READ
+            }
+        ) == all
+    );
+    assert!(rt;
+        moved(
+            &rt,
+            alloc,
+            Command {
+                place: 32,
+                protocol: Protocol::Dma,
+                ..READ
+            }
+        ) == all
+    );
+    assert!(rt;
+        moved(
+            &rt,
+            alloc,
+            Command {
+                place: 32,
+                protocol: Protocol::Verify,
+                ..READ
+            }
+        ) == 0
+    );
+    let pio = Command {
+        place: 32,
+        protocol: Protocol::Pio,
+        block: 512,
+        ..READ
+    };
     assert!(rt; moved(&rt, alloc, pio) == all);
     assert!(rt; moved(&rt, alloc, Command { write: true, ..pio }) == all);
 }
