@@ -22,6 +22,7 @@ const READ: Command = Command {
 };
 
 /// What is next for the command of a place.
+#[derive(Clone, Copy)]
 struct Next {
     turn: Turn,
     /// The bytes of its next Data FIS, in whichever direction.
@@ -30,7 +31,7 @@ struct Next {
     part: usize,
 }
 
-fn next(requests: &Requests, place: u8) -> Option<Next>
+fn next_of(requests: &Requests, place: u8) -> Option<Next>
     requires { place < 33 }
 {
     let command = requests.get(place)?;
@@ -55,7 +56,7 @@ fn zeros(alloc: Global, len: usize) -> Result<Vec<u8>, AllocError> {
 fn go(rt: &impl Abort, alloc: Global, requests: &mut Requests, place: u8) -> usize
     requires { place < 33 }
 {
-    let Some(next) = next(requests, place) else {
+    let Some(next) = next_of(requests, place) else {
         panic!(rt; "no command");
     };
     if !requests.may_go(place) {
