@@ -1,3 +1,4 @@
+use Rattle.std.proofs.Common.{sym}
 use Rattle.pm_threads.proofs.Ends.{same_arrive}
 use Rattle.pm_threads.proofs.closing.close.Goals as goal
 
@@ -12,3 +13,6 @@ returns-in_err-results-clause-arrives g c =
 pub returns-clause-arrives : goal.returns-clause-arrives
 returns-clause-arrives g c =
     same_arrive _ _ _ _ c.into_parts-disks.ensures.disks c.into_parts-disks.ensures.host c.met.ensures.arrives
+
+pub returns-clause-made : goal.returns-clause-made
+returns-clause-made g c = rw (sym c.into_parts-disks.ensures.host) c.in_ok-counts.ensures.made

@@ -22,11 +22,8 @@ meet_all-requires g t c κs within = (
   search rules,
   (
     search rules,
-    (
-      search rules,
-      (map_pop (λ (e : DiskEnd g.row.D.Denot). e.station) TiedTo c.pop.new.self.items c.pop-2.new.self.items
-          c.in-Some.end c.in-Some-pop.port (rw (c.in-Some.ensures.items, c.in-Some-pop.ensures.items) at c.requires)).0,
-    ),
+    (map_pop (λ (e : DiskEnd g.row.D.Denot). e.station) TiedTo c.pop.new.self.items c.pop-2.new.self.items
+        c.in-Some.end c.in-Some-pop.port (rw (c.in-Some.ensures.items, c.in-Some-pop.ensures.items) at c.requires)).0,
   ),
 )
 
