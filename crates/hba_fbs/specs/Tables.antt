@@ -1,17 +1,18 @@
--- The PRD tables of issued commands (AHCI 1.3.1, 4.2.3.3). They are read anew for each Data FIS, and say
--- where its bytes are written.
-use Rattle.std.specs.Prelude.{ℕ, ◌≡◌, ◌+◌, ◌==◌, ◌&&◌, Bool, false, List, length, Option, Some, None, is_none}
+-- The PRD tables of issued commands (AHCI 1.3.1, 4.2.3.3), as they are when a Data FIS comes or goes: they say where its bytes
+-- lie.
+use Rattle.std.specs.Prelude.{ℕ, ◌≡◌, ◌+◌, ◌==◌, ◌&&◌, Bool, false, true, List, length, Option, Some, None, is_none}
 use Rattle.std.specs.Prelude.{is_some, if◌then◌else◌, MatchOption}
 use Rattle.host_memory.specs.Memory.{Memory}
 use Rattle.host_memory.specs.Place.{Scatters, Table, total_of}
 use Rattle.host_memory.specs.Reading.{prds_at, read_fault}
 use Rattle.host_memory.specs.declared.table.Prd.{Prd}
 use Rattle.hba_commands.specs.declared.command.Command.{Command}
-use Rattle.slots.specs.Slots.{DeviceSlots, match_some, own_issue}
+use Rattle.slots.specs.Slots.{DeviceSlots, context_of, issue_at, match_some, own_issue}
 use Rattle.slots.specs.Data.{receiving_slot}
 use Rattle.slots.specs.declared.table.Context.{Context}
 use Rattle.hba_fbs.specs.declared.report.Wrote.{Wrote}
-use Rattle.hba_fbs.specs.Views.{last_command}
+use Rattle.hba_fbs.specs.declared.tables.Receiving.{Receiving}
+use Rattle.hba_fbs.specs.Views.{Port, last_command}
 
 -- the PRDs of a command as they are now, from byte 80h of its table on
 abbrev pub prds_of : Memory → Command → List Prd
@@ -46,6 +47,16 @@ sound_command memory commands own slot =
 abbrev pub is_sound : Memory → List (Option Command) → DeviceSlots → Bool
 is_sound memory commands own =
     is_some (match_some (receiving_slot own.context) None (sound_command memory commands own))
+
+-- This is the PRD table of the command of the slot for which a device sends Data: it can be read, and has the slot's
+-- bytes.
+pub record IsReceiving (memory : Memory) (port : Port) (dev : ℕ) (found : Receiving) : Type 0 where
+  pub slot : receiving_slot (context_of port.slots dev) ≡ Some found.slot
+  pub command : MatchOption (last_command port.commands found.slot) ⊥ (λ command.
+      prds_at memory.structure found.at found.count ≡ prds_of memory command)
+  pub sized : MatchOption (issue_at port.slots found.slot) ⊥ (λ issue.
+      total_of (prds_at memory.structure found.at found.count) ≡ issue.work.len)
+  pub readable : is_none (read_fault memory.structure (length memory.client) found.at found.count) ≡ true
 
 -- a payload is written to the places of its slot's bytes, or nothing is written
 abbrev pub Delivers : Memory → List (Option Command) → List ℕ → Option Wrote → List ℕ → Type 0

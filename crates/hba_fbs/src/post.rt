@@ -1,7 +1,7 @@
 //! Posting of FISes, and what a posted FIS sets in the port's registers.
 
 ghost use Rattle.std.specs.Prelude.{◌≡◌, ◌<◌, ◌≤◌, ◌+◌, bit_or, length};
-ghost use Rattle.rx_area.specs.Area.{LeavesOthers, after_post, posted_at, row_after, row_of};
+ghost use Rattle.rx_area.specs.Area.{posted_at};
 ghost use Rattle.hba_fbs.specs.Bits.{bit as bit_of};
 ghost use Rattle.hba_fbs.specs.Posting.{Posts, is_ata_signature as is_ata_signature_of, is_signature as is_signature_of, posted as posted_of, signature_of, signs as signs_of};
 ghost use Rattle.hba_fbs.specs.Registers.{AreOwn};
@@ -12,29 +12,7 @@ use crate::status::is_quiet;
 use fis_view::{Fis, FisFault, RegD2H};
 use host_memory::HostMemory;
 use port_errors::Interrupts;
-use rx_area::{Posted, RxArea};
-
-fn post_into(area: &mut [u8], dev: u8, fis: &Fis<'_>) -> Posted
-    requires area { length area.old ≡ 0x1000 }
-    requires dev { dev < 16 }
-    ensures posted { result ≡ posted_at fis.now }
-    ensures after { area.new ≡ after_post area.old dev fis.now }
-    ensures own { row_of area.new dev ≡ row_after (row_of area.old dev) fis.now }
-    ensures others { LeavesOthers dev area.old area.new }
-{
-    let mut area = RxArea::over(area);
-    area.post(dev, fis)
-}
-
-fn post_at(structure: &mut [u8], fb: u32, dev: u8, fis: &Fis<'_>) -> Posted
-    requires area { fb + 0x1000 ≤ length structure.old }
-    requires dev { dev < 16 }
-    ensures posted { result ≡ posted_at fis.now }
-    ensures posts { Posts fb dev fis.now structure.old structure.new }
-{
-    let fb = fb as usize;
-    post_into(&mut structure[fb..fb + 4096], dev, fis)
-}
+use rx_area::{Posted, posting_of};
 
 /// Posts a FIS of a device to the received area at `fb`.
 pub(crate) fn post(memory: &mut HostMemory, fb: u32, dev: u8, fis: &Fis<'_>) -> Posted
@@ -44,7 +22,10 @@ pub(crate) fn post(memory: &mut HostMemory, fb: u32, dev: u8, fis: &Fis<'_>) -> 
     ensures posts { Posts fb dev fis.now memory.old.structure memory.new.structure }
     ensures client { memory.new.client ≡ memory.old.client }
 {
-    post_at(memory.structure_mut(), fb, dev, fis)
+    memory.keeps_rules();
+    let posting = posting_of(dev, fis);
+    memory.put_structure(fb + posting.at, posting.bytes);
+    posting.posted
 }
 
 /// The place of a FIS in its row of the received area.

@@ -33,7 +33,7 @@ use crate::register::Register;
 use crate::registers::Registers;
 use crate::report::TakeReport;
 use crate::room::Room;
-use crate::tables::{receiving_table, sound_table};
+use crate::tables::{keep_due, receiving_table, sound_table};
 use crate::take::admit;
 use crate::turn::Turn;
 use fis_view::{Fis, Frame, Stamp};
@@ -305,14 +305,13 @@ impl HostPort {
         let Some(payload) = payload_of_fis(fis) else {
             return self.core.hear_good(dev, Room::Whole, fis);
         };
-        let (structure, client) = memory.split();
-        let found = receiving_table(&self.core, structure, client, dev);
-        let Some((_, table)) = found else {
+        let found = receiving_table(&self.core, memory, dev);
+        let Some(found) = found else {
             return self.core.hear_good(dev, Room::NoTable, fis);
         };
         let report = self.core.hear_good(dev, Room::Whole, fis);
         if let Some(wrote) = report.wrote {
-            table.scatter(client, wrote.offset, payload);
+            memory.scatter(found.at, found.count, wrote.offset, payload);
         }
         report
     }
@@ -350,6 +349,7 @@ impl HostPort {
         let (fb, row) = (self.area(), self.core.row(dev));
         let report = self.hear_over(dev, fis, memory);
         let _ = post_in(memory, fb, row, fis);
+        keep_due(&self.core, memory, fis);
         report
     }
 
@@ -416,13 +416,12 @@ impl HostPort {
             offset,
             len,
         };
-        let (structure, client) = (memory.structure(), memory.client());
-        let found = sound_table(&self.core, structure, client, dev, slot);
+        let found = sound_table(&self.core, memory, dev, slot);
         let Some(table) = found else {
             self.core.fail();
             return Ok(None);
         };
-        let bytes = gather(alloc, dev, &table, client, offset, len)?;
+        let bytes = gather(alloc, dev, &table, memory.client(), offset, len)?;
         let frame = Frame::from_vec(bytes, stamp(dev, self.core.number()));
         self.core.went(data);
         Ok(Some(frame))

@@ -1,4 +1,5 @@
 pub mod Ends
+pub mod Kept
 pub mod Lent
 pub mod Memory
 pub mod Parts

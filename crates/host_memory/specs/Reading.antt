@@ -6,6 +6,8 @@ use Rattle.std.specs.List.{list_any}
 use Rattle.std.specs.Option.{option_or}
 use Rattle.byteorder.specs.Endian.{little_number}
 use Rattle.host_memory.specs.declared.table.Prd.{Prd}
+use Rattle.host_memory.specs.declared.table.Ends.{Ends}
+use Rattle.host_memory.specs.declared.table.Ends.TheVariants.{Own, Kept}
 use Rattle.host_memory.specs.declared.table.PrdError.{PrdError}
 use Rattle.host_memory.specs.declared.table.PrdError.TheVariants.{OutsideStructure, BadEntry, OutsideClient}
 use Rattle.host_memory.specs.declared.table.PrdError.TheVariants.{Overlap}
@@ -82,6 +84,11 @@ read_fault structure client_len at count =
     (if nat_lt (length structure) (at + 16 * count) || nat_lt 248 count then Some OutsideStructure else
     option_or (first_fault structure client_len at count) (if have_overlap (prds_at structure at count)
     then Some Overlap else None))
+
+-- where the entries of a table end, whoever keeps it
+abbrev pub ends_in : Ends → List ℕ
+ends_in (Own ends) = ends.items
+ends_in (Kept ends) = ends.now
 
 -- what every table keeps: it lies in the structure area, its entries lie in the client area and do not
 -- overlap, and where they end

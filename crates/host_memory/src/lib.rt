@@ -1,6 +1,7 @@
 //! The memory of the host, and the PRD tables in it that describe the buffers of transfers.
 #![tactic(auto)]
 
+mod kept;
 mod laws;
 mod memory;
 mod parts;

@@ -1,11 +1,12 @@
 //! The two areas of the host's memory.
 
-ghost use Rattle.std.specs.Prelude.{◌≡◌, ◌-◌, ◌↔◌, false, length, IfOk, IsOk, OnOk, OnErr};
+ghost use Rattle.std.specs.Prelude.{◌≡◌, ◌+◌, ◌-◌, ◌≤◌, ◌↔◌, false, length, IfOk, IsOk, OnOk, OnErr};
 ghost use Rattle.std.specs.Result.{IsErrOf};
 ghost use Rattle.std.specs.Borrow.{sem};
 ghost use Rattle.host_memory.specs.Memory.{IsHostMemory, client_start, is_memory_size, zeros as zeros_of, zeroed, overwritten};
 ghost use Rattle.host_memory.specs.Place.{LiesInClient};
 
+use crate::kept::Tables;
 use crate::{CLIENT_START, MAX_MEMORY, MIN_MEMORY};
 use std::alloc::{AllocError, Global};
 use std::marker::Model;
@@ -41,21 +42,24 @@ pub struct Outside;
 /// The memory that the driver and the host port share. The structure area comes first; it holds the command
 /// list, the command tables and the received FIS area. The client area follows; it holds the data of
 /// transfers.
+///
+/// A PRD table that was read is kept, and not read again until its bytes may be written.
 #[derive(Drop)]
 pub struct HostMemory {
-    structure: Vec<u8>,
-    client: Vec<u8>,
+    pub(crate) structure: Vec<u8>,
+    pub(crate) client: Vec<u8>,
+    pub(crate) tables: Tables,
 }
 
 impl Model for HostMemory {
-    ghost use Rattle.host_memory.specs.Memory.{Memory, IsHostMemory};
+    ghost use Rattle.host_memory.specs.Kept.{IsKeeping};
+    ghost use Rattle.host_memory.specs.Memory.{Memory};
 
     ghost Value = { Memory };
 
     ghost view = { λ m. record { structure = m.structure.items; client = m.client.items } };
 
-    ghost invariant = { λ m.
-        IsHostMemory (record { structure = m.structure.items; client = m.client.items }) };
+    ghost invariant = { λ m. IsKeeping m.structure.items m.client.items m.tables };
 }
 
 // This many bytes, each of them 0.
@@ -64,6 +68,14 @@ fn zeros(alloc: Global, count: usize) -> Result<Vec<u8>, AllocError>
     ensures { IfOk result (λ bytes. bytes.items ≡ zeros_of count) }
 {
     vec![in alloc; 0; count]
+}
+
+// Writes the bytes over those of the area, from `at` on.
+fn overwrite(area: &mut Vec<u8>, at: usize, bytes: &[u8])
+    requires { at + length bytes.now ≤ length area.old.items }
+    ensures { area.new.items ≡ overwritten area.old.items at bytes.now }
+{
+    area[at..at + bytes.len()].copy_from_slice(bytes);
 }
 
 impl HostMemory {
@@ -79,7 +91,19 @@ impl HostMemory {
         }
         let structure = zeros(alloc, CLIENT_START as usize)?;
         let client = zeros(alloc, (len - CLIENT_START) as usize)?;
-        Ok(HostMemory { structure, client })
+        let tables = Tables::new(alloc)?;
+        Ok(HostMemory {
+            structure,
+            client,
+            tables,
+        })
+    }
+
+    /// A law for callers; it runs no code. Each memory keeps the sizes of its areas.
+    pub fn keeps_rules(&self)
+        ensures { IsHostMemory self.now }
+    {
+        let _opened = &self.tables;
     }
 
     /// The structure area: the bytes from address 0 on.
@@ -90,13 +114,26 @@ impl HostMemory {
         self.structure.as_slice()
     }
 
-    /// The structure area, for writing.
+    /// The structure area, for writing. No table is kept behind it.
     pub fn structure_mut(&mut self) -> &mut [u8]
         ensures* lends { sem 𝓛 (LendsStructure self.entry result) }
         ensures structure { result.now ≡ self.old.structure }
         ensures sized { IsHostMemory self.old }
     {
+        self.tables.clear();
         self.structure.as_mut_slice()
+    }
+
+    /// Writes the bytes to the structure area, from the address `at` on. Where tables that are kept may have one of
+    /// them, none is kept behind it.
+    pub fn put_structure(&mut self, at: u32, bytes: &[u8])
+        requires inside { at + length bytes.now ≤ client_start }
+        ensures structure { self.new.structure ≡ overwritten self.old.structure at bytes.now }
+        ensures client { self.new.client ≡ self.old.client }
+    {
+        let start = at as usize;
+        self.tables.spare(start, start + bytes.len());
+        overwrite(&mut self.structure, start, bytes);
     }
 
     /// The client area: the bytes from address 100000h on.

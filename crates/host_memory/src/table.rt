@@ -6,7 +6,7 @@ ghost use Rattle.host_memory.specs.Ends.{begin_in, ends_from, IsSpot};
 ghost use Rattle.host_memory.specs.Place.{AreApart, AreInside, HasOwnPlaces, HaveOverlap, Scatters, ShareAPlace, place, total_of};
 ghost use Rattle.host_memory.specs.Memory.{client_start, overwritten};
 ghost use Rattle.host_memory.specs.Parts.{AreParts, IsRun, left_at};
-ghost use Rattle.host_memory.specs.Reading.{dword_at, prd_at, prds_at, entry_fault, first_fault as first_fault_of, share_byte as share_byte_of, shares_with as shares_with_of, share_with as share_with_of, have_overlap as have_overlap_of, lie_in_order as lie_in_order_of, read_fault};
+ghost use Rattle.host_memory.specs.Reading.{dword_at, prd_at, prds_at, entry_fault, first_fault as first_fault_of, share_byte as share_byte_of, shares_with as shares_with_of, share_with as share_with_of, have_overlap as have_overlap_of, lie_in_order as lie_in_order_of, read_fault, ends_in};
 
 use crate::parts::Parts;
 use crate::{CLIENT_START, MAX_PRDS};
@@ -47,12 +47,31 @@ pub enum PrdError {
 /// borrows that area. Of the entries it keeps only where each ends.
 #[derive(Drop)]
 pub struct PrdTable<'m> {
-    structure: &'m [u8],
-    client_len: u32,
-    at: usize,
-    count: usize,
-    // Where the bytes of each entry end in the transfer: the running sums of the byte counts.
-    ends: ArrayVec<u32, 248>,
+    pub(crate) structure: &'m [u8],
+    pub(crate) client_len: u32,
+    pub(crate) at: usize,
+    pub(crate) count: usize,
+    pub(crate) ends: Ends<'m>,
+}
+
+/// Where the bytes of each entry end in the transfer: the running sums of the byte counts.
+#[derive(Drop)]
+pub(crate) enum Ends<'m> {
+    /// Of a table that was just read.
+    Own(ArrayVec<u32, 248>),
+    /// Of one that its memory keeps.
+    Kept(&'m [u32]),
+}
+
+impl Ends<'_> {
+    fn as_slice(&self) -> &[u32]
+        ensures value { result.now ≡ ends_in self.now }
+    {
+        match self {
+            Ends::Own(ends) => ends.as_slice(),
+            Ends::Kept(ends) => ends,
+        }
+    }
 }
 
 impl<'m> Model for PrdTable<'m> {
@@ -60,7 +79,7 @@ impl<'m> Model for PrdTable<'m> {
 
     ghost Value = { Table };
 
-    ghost use Rattle.host_memory.specs.Reading.{IsPrdTable, prds_at};
+    ghost use Rattle.host_memory.specs.Reading.{IsPrdTable, ends_in, prds_at};
 
     ghost view = { λ t. record {
       prds = prds_at t.structure.now t.at t.count;
@@ -68,7 +87,7 @@ impl<'m> Model for PrdTable<'m> {
     } };
 
     ghost invariant = { λ t.
-        IsPrdTable t.structure.now t.client_len t.at t.count t.ends.items };
+        IsPrdTable t.structure.now t.client_len t.at t.count (ends_in t.ends) };
 }
 
 fn dword(structure: &[u8], at: usize) -> u32
@@ -198,9 +217,32 @@ fn share_with(structure: &[u8], at: usize, count: usize, other: &PrdTable<'_>) -
     false
 }
 
-// Where each of the entries at this index ends in the transfer.
+/// Why the table of `count` entries at this address cannot be read.
+pub(crate) fn refusal(
+    structure: &[u8],
+    client_len: u32,
+    at: u32,
+    count: u16,
+) -> Option<PrdError>
+    ensures { result ≡ read_fault structure.now client_len at count }
+{
+    let at = at as usize;
+    let count = count as usize;
+    if at + 16 * count > structure.len() || count > MAX_PRDS as usize {
+        return Some(PrdError::OutsideStructure);
+    }
+    if let Some(fault) = first_fault(structure, client_len, at, count) {
+        return Some(fault);
+    }
+    if have_overlap(structure, at, count) {
+        return Some(PrdError::Overlap);
+    }
+    None
+}
+
+/// Where each of the entries at this index ends in the transfer.
 #[tactic(auto, using(crate::proofs::PrdLemmas::prds_next))]
-fn ends_of(structure: &[u8], at: usize, count: usize) -> ArrayVec<u32, 248>
+pub(crate) fn ends_of(structure: &[u8], at: usize, count: usize) -> ArrayVec<u32, 248>
     requires table { at + 16 * count ≤ length structure.now }
     requires few { count ≤ MAX_PRDS }
     ensures { result.items ≡ ends_from 0 (prds_at structure.now at count) }
@@ -215,8 +257,8 @@ fn ends_of(structure: &[u8], at: usize, count: usize) -> ArrayVec<u32, 248>
     ends
 }
 
-// Where an entry begins: at the end of the one before it.
-fn begin_of(ends: &[u32], entry: usize) -> u32
+/// Where an entry begins: at the end of the one before it.
+pub(crate) fn begin_of(ends: &[u32], entry: usize) -> u32
     requires { entry ≤ length ends.now }
     ensures { result ≡ begin_in ends.now entry }
 {
@@ -285,23 +327,17 @@ impl<'m> PrdTable<'m> {
         ensures inside { IfOk result (λ table. AreInside client_len table.prds) }
         ensures apart { IfOk result (λ table. AreApart table.prds) }
     {
-        let at = at as usize;
-        let count = count as usize;
-        if at + 16 * count > structure.len() || count > MAX_PRDS as usize {
-            return Err(PrdError::OutsideStructure);
-        }
-        if let Some(fault) = first_fault(structure, client_len, at, count) {
+        if let Some(fault) = refusal(structure, client_len, at, count) {
             return Err(fault);
         }
-        if have_overlap(structure, at, count) {
-            return Err(PrdError::Overlap);
-        }
+        let at = at as usize;
+        let count = count as usize;
         Ok(PrdTable {
             structure,
             client_len,
             at,
             count,
-            ends: ends_of(structure, at, count),
+            ends: Ends::Own(ends_of(structure, at, count)),
         })
     }
 

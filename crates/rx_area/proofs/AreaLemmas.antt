@@ -1,11 +1,12 @@
 -- What a write into one row leaves of the others, and what that row is then.
-use Rattle.std.proofs.Common.{◌≡◌, ℕ, ◌+◌, ◌-◌, ◌*◌, ◌≤◌, List, ◌++◌, length, take, drop, sym, ap, ◌∙◌, arith, inl, inr}
+use Rattle.std.proofs.Common.{◌≡◌, ℕ, ◌+◌, ◌-◌, ◌*◌, ◌<◌, ◌≤◌, List, ◌++◌, length, take, drop, refl, sym, ap, subst, ◌∙◌, arith, inl, inr}
 use Rattle.std.proofs.Math.Seq.{take-append-add}
 use Rattle.std.proofs.lemmas.List.{append_assoc, length-append, length-drop, length-take, drop-append-le, drop-drop, drop-take, take-take}
 use Rattle.std.proofs.lemmas.Slice.{take-put_mid_below, drop-put_mid}
 use Rattle.std.proofs.lemmas.Bool.{cases_lt}
 use borrow.Rule.Slice.PartMut.{put_mid}
-use Rattle.rx_area.specs.Area.{LeavesOthers, overwritten, row_of}
+use Rattle.fis_view.specs.declared.view.Fis.{Fis}
+use Rattle.rx_area.specs.Area.{LeavesOthers, after_post, offset_of, overwritten, posted_at, posted_bytes, row_after, row_of, start_of}
 
 -- a row that ends before the write begins
 row_below : (start count other : ℕ) (old part : List ℕ) → 256 * other + 256 ≤ start → start ≤ length old → row_of (put_mid start count old part) other ≡ row_of old other
@@ -55,3 +56,18 @@ pub row_then : (dev start k at : ℕ) (old part bytes : List ℕ) → start ≡ 
 row_then dev start k at old part bytes begin long is fits inside =
     ap (λ (x : List ℕ). row_of (put_mid start k old x) dev) is ∙ ap (λ (x : List ℕ). row_of x dev) (put_is start k old bytes long)
     ∙ ap (λ (s : ℕ). row_of (overwritten old s bytes) dev) begin ∙ row_written dev at old bytes fits (omega arith)
+
+-- a FIS that fits its place is posted to the row of its device
+module _ (dev : ℕ) (fis : Fis) (area : List ℕ) (low : dev < 16) (long : length area ≡ 4096) (fits : offset_of (posted_at fis) + length (posted_bytes fis) ≤ 256) where
+  posts : put_mid (start_of dev (posted_at fis)) (length (posted_bytes fis)) area (posted_bytes fis) ≡ after_post area dev fis
+  posts = put_is (start_of dev (posted_at fis)) (length (posted_bytes fis)) area (posted_bytes fis) refl
+
+  pub posted_own : row_of (after_post area dev fis) dev ≡ row_after (row_of area dev) fis
+  posted_own =
+      ap (λ (xs : List ℕ). row_of xs dev) (sym posts)
+      ∙ row_then dev (start_of dev (posted_at fis)) (length (posted_bytes fis)) (offset_of (posted_at fis)) area (posted_bytes fis) (posted_bytes fis) refl refl refl fits (omega (arith, long, low, fits))
+
+  pub posted_others : LeavesOthers dev area (after_post area dev fis)
+  posted_others =
+      subst (λ (xs : List ℕ). LeavesOthers dev area xs) posts
+      (rows_stay dev (start_of dev (posted_at fis)) (length (posted_bytes fis)) area (posted_bytes fis) (omega arith) (omega (arith, fits)) (omega (arith, long, low, fits)) refl)

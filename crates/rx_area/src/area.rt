@@ -1,6 +1,6 @@
 //! The area, its rows and their places.
 
-ghost use Rattle.std.specs.Prelude.{◌≡◌, ◌+◌, ◌≤◌, ◌<◌, length};
+ghost use Rattle.std.specs.Prelude.{◌≡◌, ◌+◌, ◌≤◌, ◌<◌, List, ℕ, length};
 ghost use Rattle.rx_area.specs.Area.{LeavesOthers, after_post, offset_of, place_of, posted_at, posted_bytes, row_after, row_of, size_of, start_of};
 
 use fis_view::Fis;
@@ -73,6 +73,37 @@ fn place_for<'f>(fis: &Fis<'f>) -> (Posted, &'f [u8])
         Fis::SetBits(fis) => (Posted::Bits, fis.bytes()),
         Fis::Unknown(fis) if fis.bytes().len() <= 64 => (Posted::Unknown, fis.bytes()),
         _ => (Posted::Nothing, &[]),
+    }
+}
+
+/// A FIS as it is posted: for whoever keeps the area in a memory of its own, and writes it there.
+#[derive(Clone, Copy, Debug)]
+pub struct Posting<'f> {
+    /// Its place.
+    pub posted: Posted,
+    /// Where the bytes go, counted from the start of the area.
+    pub at: u32,
+    /// The bytes. They lie in the row of the device that sent the FIS; those of a FIS that has no place are none.
+    pub bytes: &'f [u8],
+}
+
+/// What [`RxArea::post`] copies of a FIS of this device.
+pub fn posting_of<'f>(dev: u8, fis: &Fis<'f>) -> Posting<'f>
+    requires { dev < 16 }
+    ensures posted { result.posted ≡ posted_at fis.now }
+    ensures at { result.at ≡ start_of dev (posted_at fis.now) }
+    ensures bytes { result.bytes.now ≡ posted_bytes fis.now }
+    ensures fits { start_of dev (posted_at fis.now) + length (posted_bytes fis.now) ≤ 4096 }
+    ensures own { (area : List ℕ) → length area ≡ 4096
+        → row_of (after_post area dev fis.now) dev ≡ row_after (row_of area dev) fis.now }
+    ensures others { (area : List ℕ) → length area ≡ 4096
+        → LeavesOthers dev area (after_post area dev fis.now) }
+{
+    let (posted, bytes) = place_for(fis);
+    Posting {
+        posted,
+        at: posted.start(dev) as u32,
+        bytes,
     }
 }
 

@@ -7,7 +7,7 @@
 
 mod area;
 
-pub use area::{Posted, RxArea};
+pub use area::{Posted, Posting, RxArea, posting_of};
 
 /// The size of a received FIS area in bytes: 16 rows of 256 bytes (AHCI 1.3.1, 4.2.1 and 9.3, FIS-based
 /// switching).

@@ -12,16 +12,16 @@ pub returns-in_err-bytes-clause-refused : goal.returns-in_err-bytes-clause-refus
 returns-in_err-bytes-clause-refused c =
     let there : is_some c.sound_table-found.result ≡ true = ap is_some c.in-Some.is in
     let sent : is_sent (outgoing_at c.args.self.now c.args.memory.now (Feeds c.args.dev c.args.slot c.args.offset c.args.len)) ≡ true =
-    data_sent c.args.self.now c.args.dev c.args.slot c.args.offset c.args.len c.args.memory.now c.structure-structure.result.now c.client-client.result.now true c.structure-structure.ensures.structure c.client-client.ensures.client
+    data_sent c.args.self.now c.args.dev c.args.slot c.args.offset c.args.len c.args.memory.now c.args.memory.now.structure c.args.memory.now.client true refl refl
     (rw (← c.self.view_is) (sym c.sound_table-found.ensures.sound ∙ there)) in
     on_err c.from_residual.result (refl, sent)
 
 pub returns-clause-gives : goal.returns-clause-gives
 returns-clause-gives c =
-    let with_bytes : Stamp → Stamped = λ stamp. record { bytes = data_fis c.args.dev (gathered c.in-Some.table.prds c.args.offset c.args.len c.client-client.result.now); stamp = stamp } in
-    data_given c.args.self.now c.args.dev c.args.slot c.args.offset c.args.len c.args.memory.now c.structure-structure.result.now c.client-client.result.now c.in-Some.table
-    c.from_vec-frame.result c.went.new.self c.structure-structure.ensures.structure c.client-client.ensures.client
-    (rw (← c.self.view_is) c.in-Some.ensures.table)
+    let with_bytes : Stamp → Stamped = λ stamp. record { bytes = data_fis c.args.dev (gathered c.in-Some.table.prds c.args.offset c.args.len c.client.result.now); stamp = stamp } in
+    data_given c.args.self.now c.args.dev c.args.slot c.args.offset c.args.len c.args.memory.now c.args.memory.now.structure c.client.result.now c.in-Some.table
+    c.from_vec-frame.result c.went.new.self refl c.client.ensures.client
+    (rw c.client.ensures.client (rw (← c.self.view_is) c.in-Some.ensures.table))
     (record {
       frame_is =
           rw (← c.self.view_is)

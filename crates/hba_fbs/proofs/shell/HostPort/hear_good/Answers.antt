@@ -35,7 +35,7 @@ returns-clause-errors c =
 pub returns-clause-client : goal.returns-clause-client
 returns-clause-client c =
     let v : DeviceView = view_of c.args.dev c.args.self.now in
-    rw c.post_in.ensures.client
+    rw c.keep_due.ensures (rw c.post_in.ensures.client
     (subst (λ (o : Option Wrote). Delivers c.args.memory.now c.args.self.now.commands (drop 4 (frame_of c.args.fis.now)) o c.hear_over-report.new.memory.client)
     (reported_wrote _ _ _ _ c.hear_over-report.ensures.decides.reports ∙ ap (λ (h : Heard). wrote_by h.happening) (decided_if c.args.dev v (is_sound c.args.memory.now c.args.self.now.commands v.slots) (Some c.args.fis.now)))
-    c.hear_over-report.ensures.client)
+    c.hear_over-report.ensures.client))

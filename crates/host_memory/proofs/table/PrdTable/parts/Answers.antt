@@ -1,9 +1,19 @@
-use Rattle.std.proofs.Common.{◌≡◌, ◌+◌, ◌≤◌, length, ◌∙◌}
+use Rattle.std.proofs.Common.{arith, ◌≡◌, ◌+◌, ◌≤◌, length, ◌∙◌}
 use Rattle.host_memory.specs.Place.{AreInside, total_of}
 use Rattle.host_memory.specs.Reading.{prds_at}
 use Rattle.host_memory.proofs.PartsLemmas.{parts_are}
-use Rattle.host_memory.proofs.SpotLemmas.{lies_at, hold_from, parts_lie}
+use Rattle.host_memory.proofs.SpotLemmas.{length-ends, lies_at, hold_from, parts_lie}
 use Rattle.host_memory.proofs.table.PrdTable.parts.Goals as goal
+
+pub overflow_mul-spot : goal.overflow_mul-spot
+overflow_mul-spot c =
+    let long = length-ends _ _ _ _ (c.as_slice.ensures.value ∙ c.self.invariant.sums) in
+    record { fits = omega (arith, long, c.self.invariant.few, c.spot_of-spot.ensures.there) }
+
+pub overflow_add-self-inside : goal.overflow_add-self-inside
+overflow_add-self-inside c =
+    let long = length-ends _ _ _ _ (c.as_slice.ensures.value ∙ c.self.invariant.sums) in
+    record { fits = omega (arith, long, c.self.invariant.few, c.self.invariant.lies, c.spot_of-spot.ensures.there) }
 
 pub overflow_sub-self-inside : goal.overflow_sub-self-inside
 overflow_sub-self-inside c =

@@ -1,8 +1,18 @@
 use Rattle.std.proofs.Common.{◌+◌, ◌-◌, ◌<◌, arith, refl, ◌∙◌}
 use Rattle.host_memory.specs.Place.{total_of}
 use Rattle.host_memory.specs.Reading.{prds_at}
-use Rattle.host_memory.proofs.SpotLemmas.{lies_at, in_entry, is_run, past_all}
+use Rattle.host_memory.proofs.SpotLemmas.{length-ends, lies_at, in_entry, is_run, past_all}
 use Rattle.host_memory.proofs.table.PrdTable.run_from.Goals as goal
+
+pub overflow_mul-spot : goal.overflow_mul-spot
+overflow_mul-spot c =
+    let long = length-ends _ _ _ _ (c.as_slice.ensures.value ∙ c.self.invariant.sums) in
+    record { fits = omega (arith, long, c.self.invariant.few, c.spot_of-spot.ensures.there) }
+
+pub overflow_add-self-inside : goal.overflow_add-self-inside
+overflow_add-self-inside c =
+    let long = length-ends _ _ _ _ (c.as_slice.ensures.value ∙ c.self.invariant.sums) in
+    record { fits = omega (arith, long, c.self.invariant.few, c.self.invariant.lies, c.spot_of-spot.ensures.there) }
 
 pub returns-then-spot-self-clause-none : goal.returns-then-spot-self-clause-none
 returns-then-spot-self-clause-none c =
