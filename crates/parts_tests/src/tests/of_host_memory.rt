@@ -34,6 +34,12 @@ enum Step {
     /// The rest of an entry of a table of three, from this byte of the transfer on, is filled with AAh: where it begins, and
     /// how many bytes it has.
     Fills(u32, Option<(usize, usize)>),
+    /// The length of the transfer of the table of so many entries, None where it cannot be read.
+    Totals(u16, Option<u32>),
+    /// Bytes are put at an address of the structure area.
+    Writes(u32, &'static [u8]),
+    /// These bytes are delivered by the table of so many entries, from a byte of the transfer on.
+    Scatters(u16, u32, &'static [u8]),
 }
 
 /// A memory of 2 MiB. Clauses see it as a number, and its functions have no contract, so a test is proved with little
@@ -173,6 +179,32 @@ impl Rig {
         }
     }
 
+    fn table_says(&self, count: u16, total: Option<u32>) -> bool {
+        match self.memory.table(0x2000, count) {
+            Some(table) => total == Some(table.total()),
+            None => total.is_none(),
+        }
+    }
+
+    fn writes(&mut self, address: u32, bytes: &[u8]) -> bool {
+        let fits = bytes.len() <= 0x1000 && address <= 0xF_0000;
+        if fits {
+            self.memory.put_structure(address, bytes);
+        }
+        fits
+    }
+
+    fn scatters(&mut self, count: u16, offset: u32, bytes: &[u8]) -> bool {
+        let Some(table) = self.memory.table(0x2000, count) else {
+            return false;
+        };
+        let fits = u64::from(offset) + bytes.len() as u64 <= u64::from(table.total());
+        if fits {
+            self.memory.scatter(0x2000, count, offset, bytes);
+        }
+        fits
+    }
+
     /// Whether a step is as it says.
     fn passes(&mut self, step: Step) -> Result<bool, Fail> {
         match step {
@@ -192,6 +224,11 @@ impl Rig {
             Step::Lists(number, entry) => self.lists(number, entry),
             Step::Delivers => deliver(&mut self.memory, &counting()) == Ok(512),
             Step::Fills(offset, wanted) => self.fills(offset, wanted),
+            Step::Totals(count, total) => {
+                self.memory.total(0x2000, count) == total && self.table_says(count, total)
+            }
+            Step::Writes(address, bytes) => self.writes(address, bytes),
+            Step::Scatters(count, offset, bytes) => self.scatters(count, offset, bytes),
             _ => false,
         }
     }
@@ -239,6 +276,28 @@ fn refuses_sizes(rt: HostRuntime) {
     for len in [0, 1_048_576, 2_097_150, 2_097_153, 16_777_217, 16_777_218] {
         assert!(rt; is_bad_size(rt.alloc(), len), "{len}");
     }
+}
+
+static KEPT: [Step; 13] = [
+    Step::Lists(0, (0x10_0000, 0, 255)),
+    Step::Lists(1, (0x10_0100, 0, 255)),
+    Step::Totals(2, Some(512)),
+    Step::Totals(1, Some(256)),
+    Step::Scatters(2, 255, &[7, 8]),
+    Step::Shows(0x10_00FF, Some(7)),
+    Step::Shows(0x10_0100, Some(8)),
+    Step::Writes(0x1FF0, &[9; 16]),
+    Step::Totals(2, Some(512)),
+    Step::Writes(0x200C, &[0xFF, 1]),
+    Step::Totals(1, Some(512)),
+    Step::Totals(2, None),
+    Step::Totals(0, Some(0)),
+];
+
+/// A table that is kept is read again once its bytes changed.
+#[test]
+fn kept_tables_follow_their_bytes(rt: HostRuntime) -> Result<(), Fail> {
+    play(&rt, rt.alloc(), &KEPT)
 }
 
 static PUTS: [Step; 14] = [

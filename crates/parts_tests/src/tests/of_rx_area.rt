@@ -4,7 +4,7 @@ ghost use Rattle.std.specs.Prelude.{◌≡◌, ◌<◌, length};
 ghost use Rattle.rx_area.specs.Area.{after_post};
 
 use fis_view::Fis;
-use rx_area::{Posted, RX_AREA, RxArea};
+use rx_area::{Posted, RX_AREA, RxArea, posting_of};
 
 /// The borrowed bytes end as the area leaves them.
 fn post_into(bytes: &mut [u8], dev: u8, fis: &Fis<'_>) -> Posted
@@ -52,6 +52,23 @@ fn a_fis_has_its_place(rt: HostRuntime) {
     let mut memory = [0; RX_AREA];
     assert!(rt; posts(&mut memory, 3, &BITS, Posted::Bits));
     assert!(rt; &memory[0x358..0x360] == BITS.as_slice() && count_set(&memory) == 5);
+}
+
+/// Where the bytes of a FIS are copied to, if it is one.
+fn copied_to(dev: u8, bytes: &[u8]) -> Option<u32> {
+    if dev > 15 || bytes.len() < 4 || 8196 < bytes.len() || bytes.len() % 4 != 0 {
+        return None;
+    }
+    match Fis::of(bytes) {
+        Ok(fis) => Some(posting_of(dev, &fis).at),
+        Err(_) => None,
+    }
+}
+
+#[test]
+fn a_posting_says_where(rt: HostRuntime) {
+    assert_eq!(rt; copied_to(3, &BITS), Some(0x358));
+    assert_eq!(rt; copied_to(15, &D2H), Some(0xF40));
 }
 
 static ALL: [(&[u8], Posted); 5] = [
