@@ -84,7 +84,11 @@ pub(crate) struct Receiving {
 }
 
 /// The slot for which a device sends Data, with its PRD table, if it can be used. The memory keeps the table.
-pub(crate) fn receiving_table(core: &PortCore, memory: &mut HostMemory, dev: u8) -> Option<Receiving>
+pub(crate) fn receiving_table(
+    core: &PortCore,
+    memory: &mut HostMemory,
+    dev: u8,
+) -> Option<Receiving>
     requires dev { dev < 16 }
     ensures same { memory.new ≡ memory.old }
     ensures sound { is_some result ≡ is_sound memory.old core.now.commands
@@ -106,7 +110,10 @@ pub(crate) fn receiving_table(core: &PortCore, memory: &mut HostMemory, dev: u8)
 pub(crate) fn keep_due(core: &PortCore, memory: &mut HostMemory, fis: &Fis<'_>)
     ensures { memory.new ≡ memory.old }
 {
-    if !matches!(fis, Fis::DmaActivate(_) | Fis::DmaSetup(_) | Fis::PioSetup(_)) {
+    if !matches!(
+        fis,
+        Fis::DmaActivate(_) | Fis::DmaSetup(_) | Fis::PioSetup(_)
+    ) {
         return;
     }
     if let Some(due) = core.due()

@@ -1,19 +1,17 @@
 -- Tables that a memory keeps, as it reads more of them and as bytes are written.
-use Rattle.std.proofs.Common.{◌≡◌, ℕ, ◌+◌, ◌*◌, ◌<◌, ◌≤◌, Bool, true, false, ◌⊎◌, List, [], ◌++◌, ◌∷◌, length, min, max, Option, Some, None, refl, sym, ap, ◌∙◌, arith, inl, inr}
+use Rattle.std.proofs.Common.{◌≡◌, ℕ, ◌+◌, ◌*◌, ◌≤◌, Bool, true, false, ◌⊎◌, List, [], ◌++◌, ◌∷◌, length, Some, None, refl, sym, ap, ◌∙◌, arith, inl, inr}
 use Rattle.std.specs.Prelude.{is_none, if◌then◌else◌}
 use Rattle.std.specs.List.{All}
 use Rattle.std.proofs.lemmas.List.Elements.{All-push, All-weaker}
 use Rattle.host_memory.specs.declared.table.PrdError.{PrdError}
 use Rattle.host_memory.specs.declared.kept.Kept.{Kept}
-use Rattle.host_memory.specs.declared.kept.Tables.{Tables}
-use Rattle.host_memory.specs.Kept.{AreKept, IsKept, readable_total}
+use Rattle.host_memory.specs.Kept.{IsKept, readable_total}
 use Rattle.host_memory.specs.Ends.{begin_in, ends_from}
 use Rattle.host_memory.specs.Memory.{overwritten}
-use Rattle.host_memory.specs.Place.{total_of}
 use Rattle.host_memory.specs.Reading.{IsPrdTable, LieApart, prds_at, read_fault}
 use Rattle.host_memory.proofs.AgreeLemmas.{stays_the_same}
 use Rattle.host_memory.proofs.SoundLemmas.{sound_table}
-use Rattle.host_memory.proofs.SpotLemmas.{length-ends, total_is}
+use Rattle.host_memory.proofs.SpotLemmas.{total_is}
 
 -- a kept table is a table, as long as it is
 pub kept_table : (s : List ℕ) (len from to : ℕ) (kept : Kept) → IsKept s len from to kept → IsPrdTable s len kept.at kept.count kept.ends.items
@@ -38,7 +36,7 @@ kept_stays : (s : List ℕ) (len from to start : ℕ) (bytes : List ℕ) (kept :
     → IsKept s len from to kept → IsKept (overwritten s start bytes) len from to kept
 kept_stays s len from to start bytes kept fits apart is =
     let lies : LieApart kept.at (16 * kept.count) start (length bytes) =
-    (elim apart [ | inl below ↦ inr (omega (arith, below, is.low)) | inr behind ↦ inl (omega (arith, behind, is.high)) ]) in
+    (elim apart [ inl below ↦ inr (omega (arith, below, is.low)) | inr behind ↦ inl (omega (arith, behind, is.high)) ]) in
     let same = stays_the_same len kept.at kept.count start bytes s fits lies in
     record { sound = sym same.refusal ∙ is.sound; sums = is.sums ∙ ap (ends_from 0) same.entries; low = is.low; high = is.high }
 

@@ -1,5 +1,5 @@
 -- What the refusal of a table tells of it.
-use Rattle.std.proofs.Common.{◌≡◌, ℕ, ◌+◌, ◌*◌, ◌≤◌, Bool, true, false, ◌||◌, List, length, Option, Some, None, refl, sym, ap, ◌∙◌, arith, inl, inr}
+use Rattle.std.proofs.Common.{◌≡◌, ℕ, ◌+◌, ◌*◌, ◌≤◌, Bool, true, false, ◌||◌, List, length, Option, Some, None, refl, sym, ◌∙◌, inl, inr}
 use Rattle.std.specs.Prelude.{nat_lt, if◌then◌else◌}
 use Rattle.std.specs.Option.{option_or}
 use Rattle.std.proofs.lemmas.Bool.{cases_Bool, or_left, or_right, ltb-false, false≢true}
@@ -7,7 +7,7 @@ use Rattle.host_memory.specs.declared.table.PrdError.{PrdError}
 use Rattle.host_memory.specs.declared.table.PrdError.TheVariants.{OutsideStructure, Overlap}
 use Rattle.host_memory.specs.Place.{HaveOverlap}
 use Rattle.host_memory.specs.Ends.{ends_from}
-use Rattle.host_memory.specs.Reading.{IsPrdTable, prds_at, first_fault, have_overlap, read_fault}
+use Rattle.host_memory.specs.Reading.{IsPrdTable, prds_at, read_fault}
 use Rattle.host_memory.proofs.OverlapLemmas.{HaveOverlap-from, apart_from_overlap}
 use Rattle.host_memory.proofs.PrdLemmas.{inside_from_faults, no_overlap_fault}
 
@@ -39,9 +39,9 @@ within_of long need count h =
     elim (cases_Bool (nat_lt long need)) [
       | inl past ↦ absurd (false≢true (sym h ∙ or_left _ _ past))
       | inr inside ↦ elim (cases_Bool (nat_lt 248 count)) [
-          | inl many ↦ absurd (false≢true (sym h ∙ or_right _ _ many))
-          | inr few ↦ (ltb-false long need inside, ltb-false 248 count few)
-        ]
+        | inl many ↦ absurd (false≢true (sym h ∙ or_right _ _ many))
+        | inr few ↦ (ltb-false long need inside, ltb-false 248 count few)
+      ]
     ]
 
 -- a table with no refusal keeps the rules of one

@@ -1,5 +1,5 @@
 -- The tables that a memory keeps as it read them.
-use Rattle.std.specs.Prelude.{◌≡◌, ℕ, ◌+◌, ◌*◌, ◌<◌, ◌≤◌, List, length, Option, Some, None, is_none, if◌then◌else◌}
+use Rattle.std.specs.Prelude.{◌≡◌, ℕ, ◌+◌, ◌*◌, ◌≤◌, List, length, Option, Some, None, is_none, if◌then◌else◌}
 use Rattle.std.specs.List.{All}
 use Rattle.host_memory.specs.declared.kept.Kept.{Kept}
 use Rattle.host_memory.specs.declared.kept.Tables.{Tables}

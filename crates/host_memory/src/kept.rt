@@ -185,7 +185,13 @@ impl HostMemory {
         }) }
     {
         let client_len = self.client_len();
-        view(self.structure.as_slice(), client_len, &self.tables, at, count)
+        view(
+            self.structure.as_slice(),
+            client_len,
+            &self.tables,
+            at,
+            count,
+        )
     }
 
     /// Writes `bytes` to the places of the bytes of a transfer, from `offset` on: that of the table of `count` entries at
@@ -200,7 +206,13 @@ impl HostMemory {
             self.old.client self.new.client }
     {
         let client_len = self.client_len();
-        let table = view(self.structure.as_slice(), client_len, &self.tables, at, count);
+        let table = view(
+            self.structure.as_slice(),
+            client_len,
+            &self.tables,
+            at,
+            count,
+        );
         if let Some(table) = table {
             table.scatter(self.client.as_mut_slice(), offset, bytes);
         }

@@ -218,12 +218,7 @@ fn share_with(structure: &[u8], at: usize, count: usize, other: &PrdTable<'_>) -
 }
 
 /// Why the table of `count` entries at this address cannot be read.
-pub(crate) fn refusal(
-    structure: &[u8],
-    client_len: u32,
-    at: u32,
-    count: u16,
-) -> Option<PrdError>
+pub(crate) fn refusal(structure: &[u8], client_len: u32, at: u32, count: u16) -> Option<PrdError>
     ensures { result ≡ read_fault structure.now client_len at count }
 {
     let at = at as usize;

@@ -1,4 +1,4 @@
-use Rattle.std.proofs.Common.{◌≡◌, ◌+◌, ◌≤◌, ℕ, List, arith, ap, length, ◌∙◌}
+use Rattle.std.proofs.Common.{◌+◌, ℕ, List, arith, ap, ◌∙◌}
 use Rattle.host_memory.specs.Memory.{overwritten}
 use Rattle.rx_area.specs.Area.{posted_at, start_of}
 use Rattle.hba_fbs.proofs.PostLemmas.{posts_in}

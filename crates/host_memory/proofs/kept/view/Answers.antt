@@ -1,7 +1,5 @@
-use Rattle.std.proofs.Common.{◌≡◌, sym, ap, ◌∙◌, true}
+use Rattle.std.proofs.Common.{sym, ap}
 use Rattle.std.specs.Prelude.{is_none}
-use Rattle.host_memory.specs.Reading.{IsPrdTable, read_fault}
-use Rattle.host_memory.specs.declared.kept.Kept.{Kept}
 use Rattle.host_memory.specs.Kept.{IsKept}
 use Rattle.host_memory.proofs.KeptLemmas.{kept_table}
 use Rattle.host_memory.proofs.kept.view.Goals as goal

@@ -1,6 +1,6 @@
-use Rattle.std.proofs.Common.{◌≡◌, ◌+◌, ◌≤◌, List, ℕ, length, arith, ap, refl, sym, ◌∙◌}
+use Rattle.std.proofs.Common.{◌+◌, ◌≤◌, length, arith, refl, ◌∙◌}
 use Rattle.host_memory.specs.Memory.{overwritten}
-use Rattle.host_memory.specs.Kept.{AreKept, IsKeeping}
+use Rattle.host_memory.specs.Kept.{AreKept}
 use Rattle.host_memory.proofs.AgreeLemmas.{length-overwritten}
 use Rattle.host_memory.proofs.memory.HostMemory.put_structure.Goals as goal
 
@@ -14,7 +14,9 @@ invariant_of-self c =
     rw c.overwrite.ensures (record {
       areas = record {
         structure_len = length-overwritten s c.args.at bytes fits ∙ areas.structure_len;
-        client_least = areas.client_least; client_most = areas.client_most; client_even = areas.client_even;
+        client_least = areas.client_least;
+        client_most = areas.client_most;
+        client_even = areas.client_even;
       };
       kept = kept;
     })
