@@ -12,3 +12,4 @@ mod CoreLemmas
 mod OfferLemmas
 mod SendLemmas
 pub mod Door
+mod ReasonLemmas

@@ -15,5 +15,10 @@ pub mod Offering
 pub mod Sending
 pub mod Turning
 pub mod Due
+pub mod Choosing
+pub mod Placing
+pub mod Stopping
+pub mod Greeting
+pub mod Reasons
 pub mod Resets
 pub mod Between

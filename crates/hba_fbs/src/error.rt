@@ -34,3 +34,17 @@ pub enum WriteError {
     #[error("a header names another device than the active one")]
     OtherDevice = 8,
 }
+
+/// Why none of the slots is issued that a caller names. Nothing changes then.
+#[derive(Clone, Copy, Debug, PartialEq, Eq, Error)]
+pub enum IssueError {
+    /// PxCMD.ST is 0.
+    #[error("the port is stopped")]
+    Stopped,
+    /// A command is already issued in one of the slots.
+    #[error("slot is in use")]
+    SlotBusy,
+    /// No command is offered for one of the slots.
+    #[error("no command is offered")]
+    NoCommand,
+}

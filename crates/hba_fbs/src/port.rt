@@ -106,8 +106,8 @@ impl PortCore {
         let _ = self.errors.fbs_bits();
     }
 
-    // The device whose task file PxTFD shows.
-    fn shown_device(&self) -> u8
+    /// The device whose task file PxTFD shows: with FIS-based switching the one in PxFBS.DEV, and else the active one.
+    pub fn shown_device(&self) -> u8
         ensures is { result ≡ shown_device_of self.now }
         ensures low { result < 16 }
     {

@@ -48,7 +48,8 @@ fn signature(fis: &RegD2H<'_>) -> u32
     (fis.lba() % 0x100_0000) as u32 * 256 + u32::from(fis.count() % 256)
 }
 
-fn is_signature(fis: &RegD2H<'_>) -> bool
+/// Whether this is a signature.
+pub(crate) fn is_signature(fis: &RegD2H<'_>) -> bool
     ensures { result ≡ is_signature_of fis.now }
 {
     fis.error() == 1 && is_quiet(fis.status()) && fis.count() % 256 == 1 && fis.lba() % 256 == 1

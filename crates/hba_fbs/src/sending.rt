@@ -37,15 +37,16 @@ fn is_ready(state: DeviceState) -> bool
     !(state.resetting || is_busy(state.status) || wants_data(state.status))
 }
 
-fn low_half(mask: u32) -> u16
+/// A mask of devices in the type of masks of devices.
+pub(crate) fn low_half(mask: u32) -> u16
     requires { mask < 0x10000 }
     ensures { result ≡ mask }
 {
     mask as u16
 }
 
-// The devices that can take a command, as a mask.
-fn ready_devices(states: &[DeviceState; 16]) -> u16
+/// The devices that can take a command, as a mask.
+pub(crate) fn ready_devices(states: &[DeviceState; 16]) -> u16
     ensures { result ≡ mask_below (λ dev. is_ready_state (state_at states.now dev)) 16 }
 {
     let mut mask: u32 = 0;
@@ -57,8 +58,8 @@ fn ready_devices(states: &[DeviceState; 16]) -> u16
     low_half(mask)
 }
 
-// The faulty devices, as a mask.
-fn faulty_devices(errors: &PortErrors) -> u16
+/// The faulty devices, as a mask.
+pub(crate) fn faulty_devices(errors: &PortErrors) -> u16
     ensures { result ≡ mask_below (λ dev. is_some (cause_of errors.now dev)) 16 }
 {
     let mut mask: u32 = 0;
@@ -70,7 +71,8 @@ fn faulty_devices(errors: &PortErrors) -> u16
     low_half(mask)
 }
 
-fn is_due(slots: &SlotTable, errors: &PortErrors, dev: u8) -> bool
+/// Whether data is due to a device.
+pub(crate) fn is_due(slots: &SlotTable, errors: &PortErrors, dev: u8) -> bool
     requires { dev < 16 }
     ensures { result ≡ is_due_of slots.now errors.now dev }
 {

@@ -130,8 +130,8 @@ impl PortCore {
             || self.states[dev as usize].resetting && !signs(fis)
     }
 
-    // Whether it is a FIS of a transfer, and nothing is issued for its device, without FIS-based switching.
-    fn passes_over(&self, dev: u8, fis: &Result<Fis<'_>, FisFault>) -> bool
+    /// Whether it is a FIS of a transfer, and nothing is issued for its device, without FIS-based switching.
+    pub(crate) fn passes_over(&self, dev: u8, fis: &Result<Fis<'_>, FisFault>) -> bool
         requires { dev < 16 }
         ensures { result
             ≡ passes_over_of self.now.registers.switching dev (view_of dev self.now) fis.now }

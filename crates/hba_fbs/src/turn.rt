@@ -39,8 +39,8 @@ pub enum Turn {
 }
 
 impl PortCore {
-    // The data that is due to a device.
-    fn feeding(&self, dev: u8) -> Turn
+    /// The data that is due to a device.
+    pub(crate) fn feeding(&self, dev: u8) -> Turn
         requires dev { dev < 16 }
         requires due { IsSome (payload_of (context_of self.now.slots dev)) }
         ensures value { result
@@ -59,8 +59,8 @@ impl PortCore {
         }
     }
 
-    // The command of a slot.
-    fn ordering(&self, slot: u8) -> Turn
+    /// The command of a slot.
+    pub(crate) fn ordering(&self, slot: u8) -> Turn
         requires slot { slot < 32 }
         requires may { MayBeSent self.now.slots slot }
         ensures value { result ≡ orders_of self.now slot }

@@ -7,5 +7,7 @@ pub mod CarryLemmas
 pub mod DataLemmas
 pub mod HearLemmas
 pub mod IssueLemmas
+pub mod ResetLemmas
+pub mod ChoiceLemmas
 pub mod CoreEventLemmas
 pub mod EventLemmas

@@ -9,3 +9,4 @@ pub mod CoreAlikeLemmas
 pub mod IsolationLemmas
 pub mod GoingLemmas
 pub mod AlikeLemmas
+pub mod ChoosingLemmas

@@ -1,14 +1,15 @@
 -- How long the cause of a fault stands at a host port that holds no memory: AHCI 1.3.1, section 9.3 (FIS-based
 -- Switching: errors of one device and of the port).
-use Rattle.std.specs.Prelude.{ℕ, ◌≡◌, ◌<◌, ◌==◌, ◌||◌, Bool, false, List, [], ◌∷◌, Some}
+use Rattle.std.specs.Prelude.{ℕ, ◌≡◌, ◌<◌, ◌==◌, ◌||◌, Bool, false, true, List, [], ◌∷◌, Some}
 use Rattle.port_errors.specs.declared.cause.DeviceCause.{DeviceCause}
 use Rattle.port_errors.specs.declared.cause.Stop.{Stop}
 use Rattle.hba_fbs.specs.declared.register.Register.{Register}
 use Rattle.hba_fbs.specs.declared.register.Register.TheVariants.{Fbs}
+use Rattle.hba_fbs.specs.Registers.{falls}
 use Rattle.hba_fbs.specs.Taking.{port_of}
 use Rattle.hba_fbs.specs.Views.{Port, view_of}
 use Rattle.hba_fbs.specs.Writing.{cleared_by, is_device}
-use Rattle.hba_laws.specs.Cores.{CoreEvent, Flushed, RunsBy, Took, Wrote}
+use Rattle.hba_laws.specs.Cores.{Commanded, CoreEvent, Flushed, Hung, Relinked, Restarted, RunsBy, Took, Wrote}
 use Rattle.hba_laws.specs.Isolation.{lowers_st}
 
 -- PxFBS.DEC clears this device
@@ -16,16 +17,23 @@ abbrev pub clears_one : ℕ → Port → Register → ℕ → Bool
 clears_one n port Fbs value = is_device n (cleared_by port.errors value)
 clears_one n port register value = false
 
--- PxCMD.ST falls
+-- PxCMD.ST falls, or the link or the controller is reset
 abbrev pub clears_all : Port → CoreEvent → Bool
 clears_all port (Wrote register value offer tables) = lowers_st register port.registers value
+clears_all port (Commanded value) = falls port.registers value
+clears_all port Relinked = true
+clears_all port Restarted = true
 clears_all port event = false
 
--- the device is cleared or flushed, or the whole port is cleared
+-- the device is cleared, flushed, gone or reset, or the whole port is cleared
 abbrev pub clears_by : ℕ → Port → CoreEvent → Bool
 clears_by n port (Wrote register value offer tables) =
     clears_one n port register value || lowers_st register port.registers value
 clears_by n port (Flushed dev) = dev == n
+clears_by n port (Commanded value) = falls port.registers value
+clears_by n port (Hung dev line) = dev == n
+clears_by n port Relinked = true
+clears_by n port Restarted = true
 clears_by n port event = false
 
 -- a FIS of the device is received
@@ -47,7 +55,7 @@ CoreDeviceCausesStay =
     → NoneBy (clears_by n) old new events run
     → (view_of n old).fault ≡ Some cause → (view_of n new).fault ≡ Some cause
 
--- What stopped the port stands until ST falls.
+-- What stopped the port stands until ST falls, or a reset.
 abbrev pub CorePortCausesStay : Type 0
 CorePortCausesStay =
     (first : Stop) → (old new : Port) (events : List CoreEvent) (run : RunsBy old events new)

@@ -2,13 +2,13 @@
 -- the core's events, which slots a report names, and which bytes of which slots Data fills (AHCI 1.3.1, 5.3 and 9.3;
 -- Serial ATA 3.x, 10.5). The histories are those of a host with a memory. Of memory they have the PRD tables that the
 -- caller keeps, into which nothing here looks, and the bytes that it sends.
-use Rattle.std.specs.Prelude.{ℕ, ◌≡◌, ◌+◌, ◌<◌, ◌≤◌, ◌==◌, Bool, true, false, if◌then◌else◌, List, [], ◌∷◌, ◌++◌, drop, length, map}
+use Rattle.std.specs.Prelude.{ℕ, ◌≡◌, ◌+◌, ◌<◌, ◌≤◌, ◌==◌, ◌||◌, Bool, true, false, if◌then◌else◌, is_some, List, [], ◌∷◌, ◌++◌, drop, length, map}
 use Rattle.std.specs.Prelude.{Option, Some, None, MatchOption}
 use Rattle.std.specs.List.{AllZip}
 use Rattle.fis_view.specs.Frames.{IsFrame}
 use Rattle.fis_view.specs.Seen.{seen}
 use Rattle.host_memory.specs.declared.table.Prd.{Prd}
-use Rattle.slots.specs.Slots.{has_bit, issue_at, match_some}
+use Rattle.slots.specs.Slots.{has_bit, issue_at, match_some, own_issue}
 use Rattle.hba_fbs.specs.declared.register.Register.{Register}
 use Rattle.hba_fbs.specs.declared.register.Register.TheVariants.{Cmd, Ci, Fbs}
 use Rattle.hba_fbs.specs.declared.report.TakeReport.{TakeReport}
@@ -16,6 +16,7 @@ use Rattle.hba_fbs.specs.declared.report.Wrote.{Wrote}
 use Rattle.hba_fbs.specs.declared.room.Room.{Room}
 use Rattle.hba_fbs.specs.declared.turn.Turn.{Turn}
 use Rattle.hba_fbs.specs.declared.turn.Turn.TheVariants.{Feeds, Orders, Rests}
+use Rattle.hba_fbs.specs.Choosing.{MayChoose}
 use Rattle.hba_fbs.specs.Deciding.{decided}
 use Rattle.hba_fbs.specs.Offering.{Offer, aimed_by, asked_by}
 use Rattle.hba_fbs.specs.Registers.{falls}
@@ -24,11 +25,12 @@ use Rattle.hba_fbs.specs.Turning.{turn_of}
 use Rattle.hba_fbs.specs.Views.{Port, opening_port, view_of}
 use Rattle.hba_fbs.specs.Writing.{cleared_by, is_device}
 use Rattle.hba_laws.specs.Agreement.{IsTold}
-use Rattle.hba_laws.specs.Alike.{AreFilledAlike, told_issued, told_own}
+use Rattle.hba_laws.specs.Alike.{AreFilledAlike, told_issued, told_order, told_own}
 use Rattle.hba_laws.specs.Client.{IsWithin}
 use Rattle.hba_laws.specs.Cores as core
-use Rattle.hba_laws.specs.Cores.{AreCores, Arrived, CoreEvent, CoreOwn, Failed, Flushed, Gave, Hearkens, IsPart, Own}
-use Rattle.hba_laws.specs.Cores.{RunsBy, RunsByOnes, Took, own_by, part_by, used}
+use Rattle.hba_laws.specs.Cores.{AreCores, Arrived, Chose, Commanded, CoreEvent, CoreOwn, Failed, Fed, Flushed, Gave}
+use Rattle.hba_laws.specs.Cores.{Gone, Greeted, Hearkens, Hung, IsPart, Overridden, Overrode, Own, Placed, Relinked}
+use Rattle.hba_laws.specs.Cores.{Restarted, RunsBy, RunsByOnes, Sent, Took, own_by, part_by, used}
 use Rattle.hba_laws.specs.Delivering.{begun_by, event_heard, event_sent}
 use Rattle.hba_laws.specs.History as event
 use Rattle.hba_laws.specs.History.{Event, History, completes, is_set_up, issued, next_number}
@@ -68,6 +70,15 @@ happened n port (core.Wrote register value offer tables) = written_for n port re
 happened n port (Flushed dev) = if dev == n then event.Emptied ∷ [] else []
 happened n port (Gave bytes) = turned_for n port (turn_of port) bytes
 happened n port Failed = []
+happened n port (Placed dev slots offer tables) =
+    if dev == n then told_issued (asked_by offer slots) tables 32 else []
+happened n port (Chose turn bytes) = turned_for n port turn bytes
+happened n port (Greeted frame report) = []
+happened n port (Commanded value) = if falls port.registers value then event.Emptied ∷ [] else []
+happened n port (Overrode dev) = []
+happened n port (Hung dev line) = if dev == n then event.Emptied ∷ [] else []
+happened n port Relinked = event.Emptied ∷ []
+happened n port Restarted = event.Emptied ∷ []
 
 -- the history of a device after these events
 abbrev pub history_through : ℕ → History → (old new : Port) → (events : List CoreEvent) → RunsBy old events new
@@ -79,6 +90,7 @@ history_through n past old new (event ∷ events) run =
 -- what is received is a frame
 abbrev pub IsFramedBy : CoreEvent → Type 0
 IsFramedBy (Took frame room report) = IsFrame frame
+IsFramedBy (Greeted frame report) = IsFrame frame
 IsFramedBy event = Unit {0}
 
 abbrev pub AreFramedBy : List CoreEvent → Type 0
@@ -142,10 +154,12 @@ pub record IsGivenAlike (one other : Given) : Type 0 where
 
 abbrev pub tables_by : CoreEvent → CoreOwn → ℕ → List Prd
 tables_by (core.Wrote register value offer tables) (Own (isolation.Issued commands)) slot = tables slot
+tables_by (Placed dev slots offer tables) (Own (isolation.Issued commands)) slot = tables slot
 tables_by event own slot = []
 
 abbrev pub bytes_by : CoreEvent → List ℕ
 bytes_by (Gave bytes) = bytes
+bytes_by (Chose turn bytes) = bytes
 bytes_by event = []
 
 abbrev pub with_caller : CoreEvent → CoreOwn → Given
@@ -168,6 +182,10 @@ abbrev pub told_given : ℕ → DevicePart → CoreOwn → (ℕ → List Prd) �
 told_given n part (Arrived room frame) tables bytes =
     match_some (told_arrival n part room frame) [] (λ e. e ∷ [])
 told_given n part (Own event) tables bytes = told_own n part event tables bytes
+told_given n part Fed tables bytes = event.Carried (drop 4 bytes) ∷ []
+told_given n part (Sent slot) tables bytes = begun_by slot (own_issue part.view.slots slot) ++ told_order part slot ∷ []
+told_given n part Overridden tables bytes = []
+told_given n part (Gone line) tables bytes = event.Emptied ∷ []
 
 -- The history of a device after a list of its own events, the first event first. It sees no register and no other
 -- device, and of memory only what was brought.
@@ -245,3 +263,35 @@ CoreSendsFilled =
     (old port : Port) (events : List CoreEvent) (run : RunsBy old events port) → AreSoundBy old port events run
     → (dev slot offset len : ℕ) (past : History) → turn_of port ≡ Feeds dev slot offset len
     → IsTold (view_of dev old) past → FillsFrom slot offset len (history_through dev past old port events run)
+
+-- So it is of bytes that the caller chose.
+abbrev pub CoreChoicesFilled : Type 0
+CoreChoicesFilled =
+    (old port : Port) (events : List CoreEvent) (run : RunsBy old events port) → AreSoundBy old port events run
+    → (dev slot offset len : ℕ) (past : History) → MayChoose port (Feeds dev slot offset len)
+    → IsTold (view_of dev old) past → FillsFrom slot offset len (history_through dev past old port events run)
+
+-- ---- what frees a slot
+
+-- the event frees what is issued in slot s: it completes it, or is the Control there, which goes, or the device is emptied
+abbrev pub frees : ℕ → Event → History → Bool
+frees s (event.Issued slot t) past = false
+frees s (event.SentControl slot) past = slot == s
+frees s event.Emptied past = true
+frees s e past = match_some (issued s past) false (λ t. completes s e past t.work)
+
+-- one of these events does, the latest first, after this history
+abbrev pub is_freed_in : ℕ → History → History → Bool
+is_freed_in s [] past = false
+is_freed_in s (e ∷ h) past = frees s e (h ++ past) || is_freed_in s h past
+
+-- After every list of events, what was issued in a slot of a device is issued still, or something is, or an event of that
+-- device freed it. So no bit of PxCI and none of a queued command in PxSACT falls for another reason, but that PxCI shows a
+-- queued command no longer once its device answered it.
+abbrev pub CoreFreedByOwn : Type 0
+CoreFreedByOwn =
+    (n : ℕ) → n < 16 → (old new : Port) (events : List CoreEvent) (run : RunsBy old events new)
+    → AreSoundBy old new events run → (past : History) → IsTold (view_of n old) past
+    → (s : ℕ) → is_some (own_issue (view_of n old).slots s) ≡ true
+    → is_some (own_issue (view_of n new).slots s) ≡ false
+    → is_freed_in s (history_through n [] old new events run) past ≡ true

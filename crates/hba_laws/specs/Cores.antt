@@ -2,22 +2,32 @@
 -- memory's part is, at a FIS, the room of the PRD table; at a write of PxCI, the devices and the commands that the command
 -- list has in the slots (AHCI 1.3.1, chapters 5 and 9).
 use Rattle.std.specs.Prelude.{ℕ, ◌≡◌, ◌+◌, ◌<◌, ◌==◌, ◌&&◌, ◌||◌, Bool, true, false, not, if◌then◌else◌, List, []}
-use Rattle.std.specs.Prelude.{◌∷◌, ◌++◌, length, Option, Some, None, is_some}
+use Rattle.std.specs.Prelude.{◌∷◌, ◌++◌, length, Option, Some, None, is_none, is_some}
 use Rattle.fis_view.specs.Seen.{seen}
 use Rattle.fis_view.specs.declared.view.Fis.{Fis}
 use Rattle.host_memory.specs.declared.table.Prd.{Prd}
+use Rattle.slots.specs.Data.{payload}
+use Rattle.slots.specs.Slots.{Issue, issue_at}
 use Rattle.slots.specs.Table.{IsTable}
 use Rattle.hba_fbs.specs.declared.register.Register.{Register}
-use Rattle.hba_fbs.specs.declared.register.Register.TheVariants.{Ci, Fbs}
+use Rattle.hba_fbs.specs.declared.greeting.Line.{Line}
+use Rattle.hba_fbs.specs.declared.greeting.Listens.TheVariants.{Greets}
+use Rattle.hba_fbs.specs.declared.register.Register.TheVariants.{Cmd, Ci, Fbs}
 use Rattle.hba_fbs.specs.declared.report.TakeReport.{TakeReport}
 use Rattle.hba_fbs.specs.declared.room.Room.{Room}
 use Rattle.hba_fbs.specs.declared.room.Room.TheVariants.{NoTable, Whole}
 use Rattle.hba_fbs.specs.declared.turn.Turn.{Turn}
 use Rattle.hba_fbs.specs.declared.turn.Turn.TheVariants.{Feeds, Orders, Rests}
+use Rattle.hba_fbs.specs.Choosing.{Chooses, MayChoose, may_feed, may_order}
 use Rattle.hba_fbs.specs.Deciding.{Decides, Passes, decided, decided_view, room_if}
+use Rattle.hba_fbs.specs.Greeting.{Hangs, Greets as GreetsBy, greeted_in, line_view, listens_with}
 use Rattle.hba_fbs.specs.Issuing.{asked}
 use Rattle.hba_fbs.specs.Offering.{AcceptsBy, Offer, aimed_by, asked_by, offer_of, refusal_by}
-use Rattle.hba_fbs.specs.Sending.{Outgoing, Unreadable, outgoing, stopped_by_bus}
+use Rattle.hba_fbs.specs.Placing.{Places, issue_error}
+use Rattle.hba_fbs.specs.Registers.{falls, own_refusal_by}
+use Rattle.hba_fbs.specs.Resets.{link_reset, whole_reset}
+use Rattle.hba_fbs.specs.Sending.{Outgoing, Unreadable, outgoing, stopped_by_bus, view_fed}
+use Rattle.hba_fbs.specs.Stopping.{Overrides, SetsCmd, overridden_view}
 use Rattle.hba_fbs.specs.Tables.{is_sound}
 use Rattle.hba_fbs.specs.Taking.{admitted, ignores, is_running, port_of, stops_with}
 use Rattle.hba_fbs.specs.Turning.{Turns, turn_of}
@@ -26,7 +36,7 @@ use Rattle.hba_fbs.specs.Writing.{cleared_by, is_device}
 use Rattle.hba_laws.specs.Alike.{bytes_out, tables_in}
 use Rattle.hba_laws.specs.Hosts as host
 use Rattle.hba_laws.specs.Hosts.{Does, Host, HostEvent}
-use Rattle.hba_laws.specs.Isolation.{OwnEvent, Cleared, Emptied, Issued, RunsByDevices, Went, lowers_st}
+use Rattle.hba_laws.specs.Isolation.{OwnEvent, Cleared, Emptied, Issued, RunsByDevices, Went, after_order, lowers_st, may_leave}
 use Rattle.hba_laws.specs.Isolation.{own_over, part_after, part_after_all, row_with, skips}
 use Rattle.hba_laws.specs.Parts.{DevicePart, commands_of, part_of, with_view}
 
@@ -51,6 +61,22 @@ pub data CoreEvent : Type 0 where
   Gave : (bytes : List ℕ) → CoreEvent
   -- the table of the data that is due cannot be used
   Failed : CoreEvent
+  -- commands are issued for a device in these slots, and not refused, with the PRD tables that their caller keeps
+  Placed : (dev slots : ℕ) → Offer → (tables : ℕ → List Prd) → CoreEvent
+  -- what its caller chose goes in a frame of these bytes
+  Chose : (turn : Turn) → (bytes : List ℕ) → CoreEvent
+  -- a frame is received while ST is 0 and FRE is 1, with this report
+  Greeted : (frame : List ℕ) → (report : TakeReport) → CoreEvent
+  -- a value is written to PxCMD, and not refused; BSY and DRQ stay
+  Commanded : (value : ℕ) → CoreEvent
+  -- BSY and DRQ of a device are cleared by CLO
+  Overrode : (dev : ℕ) → CoreEvent
+  -- there is no device at a PM Port, or one that was reset and owes its signature
+  Hung : (dev : ℕ) → Line → CoreEvent
+  -- a COMRESET
+  Relinked : CoreEvent
+  -- a reset of the whole controller
+  Restarted : CoreEvent
 
 -- a Data FIS is its header and as many bytes as the turn says
 abbrev pub HasBytes : Turn → List ℕ → Type 0
@@ -64,6 +90,16 @@ DoesBy old (Wrote register value offer tables) new =
 DoesBy old (Flushed dev) new = Flushes old dev new
 DoesBy old (Gave bytes) new = Turns (turn_of old) old new × HasBytes (turn_of old) bytes
 DoesBy old Failed new = new ≡ stopped_by_bus old
+DoesBy old (Placed dev slots offer tables) new =
+    (dev < 16) × (issue_error old offer slots ≡ None) × Places old offer dev slots new
+DoesBy old (Chose turn bytes) new = MayChoose old turn × Chooses turn old new × HasBytes turn bytes
+DoesBy old (Greeted frame report) new = (listens_with old.registers ≡ Greets)
+    × GreetsBy old (port_of frame) (greeted_in (view_of (port_of frame) old).state (seen frame)) report new
+DoesBy old (Commanded value) new = (own_refusal_by Cmd old.registers value ≡ None) × SetsCmd old value new
+DoesBy old (Overrode dev) new = Overrides old dev new
+DoesBy old (Hung dev line) new = Hangs old dev line new
+DoesBy old Relinked new = new ≡ link_reset old
+DoesBy old Restarted new = new ≡ whole_reset old
 
 abbrev pub RunsBy : Port → List CoreEvent → Port → Type 0
 RunsBy old [] new = new ≡ old
@@ -88,6 +124,14 @@ stops_by port (Wrote register value offer tables) = lowers_st register port.regi
 stops_by port (Flushed dev) = false
 stops_by port (Gave bytes) = false
 stops_by port Failed = true
+stops_by port (Placed dev slots offer tables) = false
+stops_by port (Chose turn bytes) = false
+stops_by port (Greeted frame report) = true
+stops_by port (Commanded value) = falls port.registers value
+stops_by port (Overrode dev) = false
+stops_by port (Hung dev line) = false
+stops_by port Relinked = true
+stops_by port Restarted = true
 
 abbrev pub is_of_port : Port → CoreEvent → Bool
 is_of_port port event = not (is_running port) || stops_by port event
@@ -98,6 +142,14 @@ pub data CoreOwn : Type 0 where
   Arrived : (room : Room) → (frame : List ℕ) → CoreOwn
   -- something else, as beside a memory
   Own : OwnEvent → CoreOwn
+  -- the data that is due goes to it
+  Fed : CoreOwn
+  -- the command of this slot goes to it
+  Sent : (slot : ℕ) → CoreOwn
+  -- its BSY and DRQ are cleared by CLO
+  Overridden : CoreOwn
+  -- it is not there, or was reset and owes its signature
+  Gone : Line → CoreOwn
 
 abbrev pub told_to : ℕ → Port → Register → ℕ → Offer → List CoreOwn
 told_to n port Ci value offer =
@@ -111,12 +163,26 @@ turned_to n Rests = []
 turned_to n (Feeds dev slot offset len) = if dev == n then Own Went ∷ [] else []
 turned_to n (Orders dev slot command) = if dev == n then Own Went ∷ [] else []
 
+-- the data of a device that was chosen, or the command of a slot
+abbrev pub chosen_to : ℕ → Turn → List CoreOwn
+chosen_to n Rests = []
+chosen_to n (Feeds dev slot offset len) = if dev == n then Fed ∷ [] else []
+chosen_to n (Orders dev slot command) = if dev == n then Sent slot ∷ [] else []
+
 abbrev pub own_by : ℕ → Port → CoreEvent → List CoreOwn
 own_by n port (Took frame room report) = if port_of frame == n then Arrived room frame ∷ [] else []
 own_by n port (Wrote register value offer tables) = told_to n port register value offer
 own_by n port (Flushed dev) = if dev == n then Own Emptied ∷ [] else []
 own_by n port (Gave bytes) = turned_to n (turn_of port)
 own_by n port Failed = []
+own_by n port (Placed dev slots offer tables) = if dev == n then Own (Issued (asked_by offer slots)) ∷ [] else []
+own_by n port (Chose turn bytes) = chosen_to n turn
+own_by n port (Greeted frame report) = []
+own_by n port (Commanded value) = []
+own_by n port (Overrode dev) = if dev == n then Overridden ∷ [] else []
+own_by n port (Hung dev line) = if dev == n then Gone line ∷ [] else []
+own_by n port Relinked = []
+own_by n port Restarted = []
 
 -- ---- what they leave
 
@@ -134,6 +200,10 @@ abbrev pub part_by : ℕ → DevicePart → CoreOwn → DevicePart
 part_by n part (Arrived room frame) = if skips n part (seen frame) then part
     else after_hearing n part (used room) (admitted n (seen frame))
 part_by n part (Own event) = part_after n part event
+part_by n part Fed = with_view part (view_fed part.view)
+part_by n part (Sent slot) = after_order part slot
+part_by n part Overridden = with_view part (overridden_view part.view)
+part_by n part (Gone line) = with_view part (line_view line)
 
 abbrev pub part_by_all : ℕ → DevicePart → List CoreOwn → DevicePart
 part_by_all n part [] = part
@@ -172,6 +242,16 @@ IsFoldByOwn =
     → (old new : Port) (events : List CoreEvent) (run : RunsByOnes old events new) (part : DevicePart)
     → IsPart n old part
     → IsPart n new (part_by_all n part (own_through n old new events run.run))
+
+-- With FIS-based switching, what may go to a device follows from its own view: no other device keeps it back.
+pub record GoesByView (n : ℕ) (port : Port) : Type 0 where
+  pub data : may_feed port n ≡ (is_some (payload (view_of n port).slots.context) && is_none (view_of n port).fault)
+  pub commands : (slot : ℕ) (issue : Issue) → issue_at port.slots slot ≡ Some issue → issue.dev ≡ n
+      → may_order port slot ≡ may_leave (view_of n port) issue
+
+abbrev pub CoreGoesByView : Type 0
+CoreGoesByView =
+    (n : ℕ) → n < 16 → (port : Port) → is_running port ≡ true → port.registers.switching ≡ true → GoesByView n port
 
 -- ---- a host with a memory is such a port, and its memory gives the answers
 

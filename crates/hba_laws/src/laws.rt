@@ -5,8 +5,8 @@ ghost use Rattle.hba_laws.specs.Alike.{HistoriesByOwn, OwnFillAlike};
 ghost use Rattle.hba_laws.specs.Causes.{DeviceCausesStay, OthersFaultNone, PortCausesStay};
 ghost use Rattle.hba_laws.specs.Client.{CompletesInPlace, StandsInPlace};
 ghost use Rattle.hba_laws.specs.CoreCauses.{CoreDeviceCausesStay, CoreOthersFaultNone, CorePortCausesStay};
-ghost use Rattle.hba_laws.specs.CoreHistories.{CoreDataIsWithin, CoreDoneIsCompleted, CoreFillAlike, CoreHistoriesByOwn, CoreOpensUntold, CoreReportsFilled, CoreSendsFilled, CoreViewsAreTold};
-ghost use Rattle.hba_laws.specs.Cores.{HostsAreCores, HostsFoldByCore, IsFoldByOwn};
+ghost use Rattle.hba_laws.specs.CoreHistories.{CoreChoicesFilled, CoreDataIsWithin, CoreDoneIsCompleted, CoreFillAlike, CoreFreedByOwn, CoreHistoriesByOwn, CoreOpensUntold, CoreReportsFilled, CoreSendsFilled, CoreViewsAreTold};
+ghost use Rattle.hba_laws.specs.Cores.{CoreGoesByView, HostsAreCores, HostsFoldByCore, IsFoldByOwn};
 ghost use Rattle.hba_laws.specs.Delivering.{ClientIsTouched, DataIsWithin, DoneIsCompleted, DoneReadsStand, HistoriesAreParts, OpensUntold, SparedTablesRead, ViewsAreTold};
 ghost use Rattle.hba_laws.specs.History.{CompletesOnce};
 ghost use Rattle.hba_laws.specs.Isolation.{AreAlike, GoesByOwn, IsFoldOfOwn};
@@ -98,6 +98,7 @@ pub fn isolated()
 /// with. Each event of a host is one of its core, with the answers that its memory gives.
 pub fn core_isolated()
     ensures fold { IsFoldByOwn }
+    ensures goes { CoreGoesByView }
     ensures told { CoreHistoriesByOwn }
     ensures filled { CoreFillAlike }
     ensures hosts { HostsAreCores }
@@ -117,6 +118,8 @@ pub fn core_delivers()
     ensures within { CoreDataIsWithin }
     ensures reports { CoreReportsFilled }
     ensures sends { CoreSendsFilled }
+    ensures chosen { CoreChoicesFilled }
+    ensures freed { CoreFreedByOwn }
 {}
 
 /// A law for callers; it runs no code. How long the cause of a fault stands at a port that holds no memory: as

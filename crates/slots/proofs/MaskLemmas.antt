@@ -143,6 +143,9 @@ mask_bits test (suc n) h =
       | inr fails ↦ rw (← mask_same test n (mask_below test n) refl fails) (bits_same test (mask_below test n) n fails before)
     ])
 
+pub has_bit_below : (test : ℕ → Bool) (n s : ℕ) → n ≤ 32 → s < n → has_bit (mask_below test n) s ≡ test s
+has_bit_below test n s most h = (mask_bits test n most).below s h
+
 pub has_bit_mask : (test : ℕ → Bool) (s : ℕ) → s < 32 → has_bit (mask_below test 32) s ≡ test s
 has_bit_mask test s h = (mask_bits test 32 (omega arith)).below s h
 

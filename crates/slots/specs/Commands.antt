@@ -160,3 +160,13 @@ own_slots own = mask_of (λ slot. holds is_any (own_issue own slot))
 -- the command was not sent, or the device has not answered it
 abbrev pub is_unanswered : Issue → Bool
 is_unanswered issue = not issue.answered
+
+-- ---- one device at a time
+
+-- the command was sent, to a device other than this one
+abbrev pub is_sent_beside : ℕ → Issue → Bool
+is_sent_beside dev issue = issue.sent && not (issue.dev == dev)
+
+-- such a command is in some slot, so it is not done
+abbrev pub any_sent_beside : Slots → ℕ → Bool
+any_sent_beside t dev = is_some (lowest (λ slot. holds (is_sent_beside dev) (issue_at t slot)))

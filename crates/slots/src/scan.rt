@@ -1,8 +1,8 @@
 //! Loops over all slots.
 
-ghost use Rattle.std.specs.Prelude.{◌≡◌, ◌<◌, true, None, IfSome, slice_index_or};
-ghost use Rattle.slots.specs.Commands.{has_outstanding as has_outstanding_in, is_any, is_done as is_done_in, is_short as is_short_in, is_unanswered, own_slots};
-ghost use Rattle.slots.specs.Slots.{IsSlotWhere, has_bit as has_bit_of, holds, is_queued_issue, is_sent_pio, is_waiting, issues_unless, mask_of, own_issue, own_of, sent_pio, waiting};
+ghost use Rattle.std.specs.Prelude.{◌≡◌, ◌<◌, true, None, IfSome, is_some, slice_index_or};
+ghost use Rattle.slots.specs.Commands.{has_outstanding as has_outstanding_in, is_any, is_done as is_done_in, is_sent_beside as is_sent_beside_issue, is_short as is_short_in, is_unanswered, own_slots};
+ghost use Rattle.slots.specs.Slots.{IsSlotWhere, has_bit as has_bit_of, holds, is_queued_issue, is_sent_pio, is_waiting, issues_unless, lowest, mask_of, own_issue, own_of, sent_pio, waiting};
 
 use crate::slot::Slot;
 
@@ -46,6 +46,19 @@ pub(crate) fn has_outstanding(slots: &[Slot; 32], dev: u8) -> bool
 {
     for slot in 0..32_u8 {
         if slots[slot as usize].is_outstanding(dev) {
+            return true;
+        }
+    }
+    false
+}
+
+/// Whether a command of a device other than this one was sent and is not done.
+pub(crate) fn any_sent_beside(slots: &[Slot; 32], dev: u8) -> bool
+    ensures { result
+        ≡ is_some (lowest (λ slot. holds (is_sent_beside_issue dev) (slice_index_or slots.now slot None))) }
+{
+    for slot in 0..32_u8 {
+        if slots[slot as usize].is_sent_beside(dev) {
             return true;
         }
     }

@@ -4,7 +4,7 @@ ghost use Rattle.std.specs.Prelude.{◌≡◌, ◌+◌, ◌/◌, ◌%◌, ◌≤
 ghost use Rattle.std.specs.Option.{ForSome, option_map};
 ghost use Rattle.slots.specs.Bytes.{stretches_of, with_bytes};
 ghost use Rattle.slots.specs.Work.{IsWork};
-ghost use Rattle.slots.specs.Commands.{IsSlotAnswer, answer_for as answer_for_issue, answered_issue, is_unanswered as is_unanswered_issue, sent_issue};
+ghost use Rattle.slots.specs.Commands.{IsSlotAnswer, answer_for as answer_for_issue, answered_issue, is_sent_beside as is_sent_beside_issue, is_unanswered as is_unanswered_issue, sent_issue};
 ghost use Rattle.slots.specs.Data.{moved_over};
 ghost use Rattle.slots.specs.Issued.{issued_of, with_flags};
 ghost use Rattle.slots.specs.Setup.{came as came_in, is_outstanding as is_outstanding_issue, long_fault as long_fault_of, out_fault as out_fault_of, pio_fault as pio_fault_of, setup_fault as setup_fault_of, transfer_fault as transfer_fault_of};
@@ -141,6 +141,16 @@ impl Slot {
     {
         match self.issued_by(dev) {
             Some(issued) => issued.sent && !issued.answered,
+            None => false,
+        }
+    }
+
+    /// Whether a command of a device other than this one was sent and is not done.
+    pub(crate) fn is_sent_beside(&self, dev: u8) -> bool
+        ensures { result ≡ holds (is_sent_beside_issue dev) self.now }
+    {
+        match self.issued {
+            Some(issued) => issued.sent && issued.dev != dev,
             None => false,
         }
     }

@@ -3,7 +3,7 @@
 ghost use Rattle.std.specs.Prelude.{◌≡◌, ℕ, [], ◌&&◌, ◌+◌, ◌%◌, ◌<◌, ◌≤◌, ◌↔◌, Some, None, IsSome, IsErr, IfNone, IfSome, OnOk, OnErr, MatchOption, false, true, is_ok, is_none};
 ghost use Rattle.std.specs.Option.{option_map};
 ghost use Rattle.std.specs.Result.{result_err};
-ghost use Rattle.slots.specs.Commands.{IsSlotAnswer, MayBeSent, StaysWithout, after_answer, after_complete, after_issue, after_pio_done, after_sent, answer_of, completed, is_any, is_slot, is_unanswered, may_begin as may_begin_of, may_go as may_go_of, next_slot, own_slots, slots_where, table_after_issue, whole_pio, with_answered, with_sent};
+ghost use Rattle.slots.specs.Commands.{IsSlotAnswer, MayBeSent, StaysWithout, after_answer, after_complete, after_issue, after_pio_done, after_sent, answer_of, any_sent_beside as any_sent_beside_of, completed, is_any, is_slot, is_unanswered, may_begin as may_begin_of, may_go as may_go_of, next_slot, own_slots, slots_where, table_after_issue, whole_pio, with_answered, with_sent};
 ghost use Rattle.slots.specs.Data.{IsWriteOf, activated as activated_context, after_activate, after_arrive, after_payload, arrive_answer, gone_over, may_activate, payload, payload_len as payload_len_of, receiving_slot};
 ghost use Rattle.slots.specs.Issued.{with_flags};
 ghost use Rattle.slots.specs.Setup.{after_setup, after_setup_out, after_setup_pio, begun, dma_context, new_context, out_setup, pio_fault, pio_issue, setup_fault, with_own_context};
@@ -13,8 +13,8 @@ ghost use Rattle.slots.specs.Work.{IsWork};
 
 use crate::answer::{Answered, ArriveError, Busy, Completed, SetupError, Stray};
 use crate::scan::{
-    device_slots, done_slots, free_slots, has_bit, has_outstanding, issued_slots, pio_slot,
-    queued_slots, short_slots, unanswered_slots, waiting_slot,
+    any_sent_beside, device_slots, done_slots, free_slots, has_bit, has_outstanding, issued_slots,
+    pio_slot, queued_slots, short_slots, unanswered_slots, waiting_slot,
 };
 use crate::slot::{Issued, Slot};
 use crate::work::Work;
@@ -595,6 +595,30 @@ impl SlotTable {
             }
         }
         None
+    }
+
+    /// Whether the command of a slot may go out. [`next_command`](SlotTable::next_command) answers the lowest for which it may.
+    pub fn may_send(&self, slot: u8, ready: u16, faulty: u16) -> bool
+        requires { slot < 32 }
+        ensures { result ≡ holds (may_go_of ready faulty self.now) (issue_at self.now slot) }
+    {
+        self.is_next(slot, ready, faulty)
+    }
+
+    /// Whether a command of a device other than this one was sent and is not done.
+    pub fn is_sent_beside(&self, dev: u8) -> bool
+        ensures { result ≡ any_sent_beside_of self.now dev }
+    {
+        any_sent_beside(&self.slots, dev)
+    }
+
+    /// The slot of a device whose command was sent and is not answered.
+    pub fn waiting(&self, dev: u8) -> Option<u8>
+        requires { dev < 16 }
+        ensures value { result ≡ waiting (slots_of dev self.now) }
+        ensures below { IfSome result (λ slot. slot < 32) }
+    {
+        waiting_slot(&self.slots, dev)
     }
 }
 

@@ -47,6 +47,7 @@ use Rattle.hba_laws.proofs.cores.CoreHostLemmas.{hosts_are_cores, is_core}
 use Rattle.hba_laws.proofs.histories.CoreEventLemmas.{core_views_are_told, says_of}
 use Rattle.hba_laws.proofs.histories.EventLemmas.{event_by_is, views_are_told}
 use Rattle.hba_laws.proofs.histories.HearLemmas.{decided_cases, decided_follows, with_event}
+use Rattle.hba_laws.proofs.histories.ResetLemmas.{opens_told}
 use Rattle.hba_laws.proofs.histories.StepLemmas.{Says}
 use Rattle.hba_laws.proofs.histories.ViewLemmas.{at_other, at_same, held, is_own, own_below, own_freed, own_set}
 
@@ -399,37 +400,8 @@ done_is_completed old host new events run sound frame report past framed told do
 
 -- ---- a port that opens
 
-no_issue : (m k : ℕ) (o : Option Issue) → o ≡ None → get_or (replicate m o) k None ≡ None
-no_issue m k o e = elim (cases_lt k m) [
-  | inl below ↦ get_or-replicate m k o None below ∙ e
-  | inr past ↦ get_or_past (replicate m o) k None (let long = length-replicate m o in omega (arith, long, past))
-]
-
-no_context : (m k : ℕ) (o : Option Context) → o ≡ None → get_or (replicate m o) k None ≡ None
-no_context m k o e = elim (cases_lt k m) [
-  | inl below ↦ get_or-replicate m k o None below ∙ e
-  | inr past ↦ get_or_past (replicate m o) k None (let long = length-replicate m o in omega (arith, long, past))
-]
-
-no_own : (n m k : ℕ) (o : Option Issue) → o ≡ None → get_or (map (owned_by n) (replicate m o)) k None ≡ None
-no_own n m k o e = elim (cases_lt k m) [
-  | inl below ↦
-      let long = length-replicate m o in
-      get_or-map (owned_by n) (replicate m o) k None None (omega (arith, long, below)) ∙ ap (owned_by n) (no_issue m k o e)
-  | inr past ↦
-      let long = length-replicate m o in
-      let same = length-map (replicate m o) (owned_by n) in
-      get_or_past (map (owned_by n) (replicate m o)) k None (omega (arith, long, same, past))
-]
-
 pub core_opens_untold : CoreOpensUntold
-core_opens_untold n = record {
-  issued = λ s. sym (ap (option_map work_of_issue) (no_own n 32 s None refl));
-  agrees = record {
-    issues_agree = λ s i e. let bad : None ≡ Some i = sym (no_own n 32 s None refl) ∙ e in cc;
-    context_agrees = λ c e. let bad : None ≡ Some c = sym (no_context 16 n None refl) ∙ e in cc;
-  };
-}
+core_opens_untold n = opens_told n
 
 pub opens_untold : OpensUntold
 opens_untold n memory = core_opens_untold n

@@ -16,16 +16,19 @@ use Rattle.hba_fbs.specs.declared.room.Room.{Room}
 use Rattle.hba_fbs.specs.declared.turn.Turn.{Turn}
 use Rattle.hba_fbs.specs.declared.turn.Turn.TheVariants.{Feeds, Orders, Rests}
 use Rattle.hba_fbs.specs.Bits.{dec}
+use Rattle.hba_fbs.specs.Choosing.{Chooses}
+use Rattle.hba_fbs.specs.Greeting.{Greets}
 use Rattle.hba_fbs.specs.Offering.{Offer, aimed_by, view_by, view_issued_by}
 use Rattle.hba_fbs.specs.Registers.{falls}
 use Rattle.hba_fbs.specs.Sending.{Outgoing, Unreadable, outgoing}
+use Rattle.hba_fbs.specs.Stopping.{fallen_view, view_commanded}
 use Rattle.hba_fbs.specs.Taking.{ignores, port_of}
 use Rattle.hba_fbs.specs.Turning.{Turns, turn_of}
 use Rattle.hba_fbs.specs.Views.{DeviceView, Port, stopped_view, view_of}
 use Rattle.hba_fbs.specs.Writing.{cleared_by, errors_after, is_device}
 use Rattle.hba_laws.specs.Causes.{DeviceCausesStay, OthersFaultNone, PortCausesStay, clears, clears_port, comes_from}
 use Rattle.hba_laws.specs.CoreCauses.{CoreDeviceCausesStay, CoreOthersFaultNone, CorePortCausesStay, clears_all, clears_by, clears_one, is_from}
-use Rattle.hba_laws.specs.Cores.{CoreEvent, DoesBy, Failed, Flushed, Gave, Hearkens, StepsBy, Took, Wrote, core_event, gave_event}
+use Rattle.hba_laws.specs.Cores.{Chose, Commanded, CoreEvent, DoesBy, Failed, Flushed, Gave, Greeted, Hearkens, Hung, Overrode, Placed, Relinked, Restarted, StepsBy, Took, Wrote, core_event, gave_event}
 use Rattle.hba_laws.specs.Hosts as host
 use Rattle.hba_laws.specs.Hosts.{Does, Host, HostEvent}
 use Rattle.hba_laws.specs.Isolation.{lowers_st}
@@ -95,6 +98,16 @@ turned_fault n Rests old new does = same_fault n old new does
 turned_fault n (Feeds dev slot offset len) old new does = sent_fault n dev old new _ does.own refl does.others
 turned_fault n (Orders dev slot command) old new does = sent_fault n dev old new _ does.own refl does.others
 
+chosen_fault_of : (n : ℕ) (t : Turn) (old new : Port) → Chooses t old new → fault_of n new ≡ fault_of n old
+chosen_fault_of n Rests old new does = same_fault n old new does
+chosen_fault_of n (Feeds dev slot offset len) old new does = sent_fault n dev old new _ does.own refl does.others
+chosen_fault_of n (Orders dev slot command) old new does = sent_fault n dev old new _ does.own refl does.others
+
+-- a port that is stopped takes a FIS
+greeted_fault : (n dev : ℕ) (o : Option (List ℕ)) (report : TakeReport) (old new : Port) → Greets old dev o report new → fault_of n new ≡ fault_of n old
+greeted_fault n dev None report old new does = same_fault n old new does.port
+greeted_fault n dev (Some f) report old new does = sent_fault n dev old new _ does.own refl does.others
+
 -- ---- events
 
 event_fault : (n : ℕ) → n < 16 → (old new : Port) (event : CoreEvent) → DoesBy old event new → is_from n event ≡ false → clears_by n old event ≡ false → fault_of n new ≡ fault_of n old
@@ -106,6 +119,15 @@ event_fault n lt old new (Flushed dev) does from none =
     fault_in (view_of n new) (view_of n old) (does.others n (λ e. eqb-false dev n none (sym e)))
 event_fault n lt old new (Gave bytes) does from none = turned_fault n (turn_of old) old new does.0
 event_fault n lt old new Failed does from none = ap (λ (p : Port). fault_of n p) does
+event_fault n lt old new (Placed dev slots offer tables) does from none = sent_fault n dev old new _ does.2.own refl does.2.others
+event_fault n lt old new (Chose turn bytes) does from none = chosen_fault_of n turn old new does.1
+event_fault n lt old new (Greeted frame report) does from none = greeted_fault n (port_of frame) _ report old new does.1
+event_fault n lt old new (Commanded value) does from none =
+    fault_in (view_of n new) (view_commanded old value n) (does.1.views n lt) ∙ unless_chosen (falls old.registers value) (fallen_view (view_of n old)) (view_of n old) none
+event_fault n lt old new (Overrode dev) does from none = sent_fault n dev old new _ does.own refl does.others
+event_fault n lt old new (Hung dev line) does from none = fault_in (view_of n new) (view_of n old) (does.others n (λ e. eqb-false dev n none (sym e)))
+event_fault n lt old new Relinked does from none = absurd (true≢false none)
+event_fault n lt old new Restarted does from none = absurd (true≢false none)
 
 event_keeps : (n : ℕ) → n < 16 → (cause : DeviceCause) (old new : Port) (event : CoreEvent) → DoesBy old event new → clears_by n old event ≡ false → fault_of n old ≡ Some cause
     → fault_of n new ≡ Some cause
@@ -171,6 +193,15 @@ turned_port Rests cause old new does is = ap (λ (p : Port). stopped_by p) does 
 turned_port (Feeds dev slot offset len) cause old new does is = port_in new.errors old.errors does.errors ∙ is
 turned_port (Orders dev slot command) cause old new does is = port_in new.errors old.errors does.errors ∙ is
 
+chosen_port : (t : Turn) (cause : Stop) (old new : Port) → Chooses t old new → stopped_by old ≡ Some cause → stopped_by new ≡ Some cause
+chosen_port Rests cause old new does is = ap (λ (p : Port). stopped_by p) does ∙ is
+chosen_port (Feeds dev slot offset len) cause old new does is = port_in new.errors old.errors does.errors ∙ is
+chosen_port (Orders dev slot command) cause old new does is = port_in new.errors old.errors does.errors ∙ is
+
+greeted_port : (dev : ℕ) (o : Option (List ℕ)) (report : TakeReport) (cause : Stop) (old new : Port) → Greets old dev o report new → stopped_by old ≡ Some cause → stopped_by new ≡ Some cause
+greeted_port dev None report cause old new does is = ap (λ (p : Port). stopped_by p) does.port ∙ is
+greeted_port dev (Some f) report cause old new does is = port_in new.errors old.errors does.errors ∙ is
+
 event_stops : (cause : Stop) (old new : Port) (event : CoreEvent) → DoesBy old event new → clears_all old event ≡ false → stopped_by old ≡ Some cause → stopped_by new ≡ Some cause
 event_stops cause old new (Took frame room report) does none is =
     ap (λ (p : Port). stopped_by p) (does.ignored (stopped_ignored _ old.registers.started _ _ old.errors.port cause is)).port ∙ is
@@ -179,6 +210,14 @@ event_stops cause old new (Wrote register value offer tables) does none is =
 event_stops cause old new (Flushed dev) does none is = port_in new.errors (without old.errors dev) does.errors ∙ is
 event_stops cause old new (Gave bytes) does none is = turned_port (turn_of old) cause old new does.0 is
 event_stops cause old new Failed does none is = ap (λ (p : Port). stopped_by p) does ∙ ap (λ (o : Option Stop). Some (unwrap_or o (stop.Port Bus))) is
+event_stops cause old new (Placed dev slots offer tables) does none is = port_in new.errors old.errors does.2.errors ∙ is
+event_stops cause old new (Chose turn bytes) does none is = chosen_port turn cause old new does.1 is
+event_stops cause old new (Greeted frame report) does none is = greeted_port (port_of frame) _ report cause old new does.1 is
+event_stops cause old new (Commanded value) does none is = port_in new.errors (errors_after Cmd old value) does.1.errors ∙ written_port Cmd old value none ∙ is
+event_stops cause old new (Overrode dev) does none is = port_in new.errors old.errors does.errors ∙ is
+event_stops cause old new (Hung dev line) does none is = port_in new.errors (without old.errors dev) does.errors ∙ is
+event_stops cause old new Relinked does none is = absurd (true≢false none)
+event_stops cause old new Restarted does none is = absurd (true≢false none)
 
 pub core_port_causes_stay : CorePortCausesStay
 core_port_causes_stay cause old new [] run none is = ap (λ (p : Port). stopped_by p) run ∙ is

@@ -1,13 +1,13 @@
 -- For `core_delivers`. A device's view says its history after each event of the core, and so after a list of them.
 use Rattle.std.proofs.Common.{◌≡◌, ◌≢◌, ℕ, ◌+◌, ◌%◌, ◌<◌, ◌≤◌, Bool, true, false, cond, eqb, List, [], ◌∷◌, ◌++◌, drop, length, length-drop, refl, sym, ap, subst, ◌∙◌, inl, inr, Option, Some, None, arith, min}
-use Rattle.std.specs.Prelude.{is_some, is_none, ◌&&◌, ◌||◌, ◌==◌, not, nat_le, if◌then◌else◌}
+use Rattle.std.specs.Prelude.{MatchOption, is_some, is_none, ◌&&◌, ◌||◌, ◌==◌, not, nat_le, if◌then◌else◌}
 use Rattle.std.specs.Option.{option_map}
-use Rattle.std.proofs.lemmas.Bool.{cases_Bool, eqb-true, eqb-false, false≢true, true≢false, and_parts, leb-true}
+use Rattle.std.proofs.lemmas.Bool.{cases_Bool, cases_eq, eqb-true, eqb-false, false≢true, true≢false, and_parts, leb-true}
 use Rattle.fis_view.specs.Frames.{IsFrame}
 use Rattle.fis_view.specs.Seen.{seen}
 use Rattle.host_memory.specs.declared.table.Prd.{Prd}
 use Rattle.hba_commands.specs.declared.command.Command.{Command}
-use Rattle.slots.specs.Commands.{after_sent, may_begin, may_go}
+use Rattle.slots.specs.Commands.{MayBeSent, after_sent, may_begin, may_go}
 use Rattle.slots.specs.Data.{after_payload, gone_over, payload, payload_len}
 use Rattle.slots.specs.Slots.{DeviceSlots, Issue, Slots, context_of, has_bit, holds, is_control, is_pio, issue_at, match_some, own_issue, owned_by, slots_of, waiting}
 use Rattle.slots.specs.Work.{is_dma, is_read}
@@ -21,24 +21,34 @@ use Rattle.hba_fbs.specs.declared.report.TakeReport.{TakeReport}
 use Rattle.hba_fbs.specs.declared.room.Room.{Room}
 use Rattle.hba_fbs.specs.declared.turn.Turn.{Turn}
 use Rattle.hba_fbs.specs.declared.turn.Turn.TheVariants.{Feeds, Orders, Rests}
+use Rattle.hba_fbs.specs.declared.greeting.Line.{Line}
+use Rattle.hba_fbs.specs.declared.state.DeviceState.{DeviceState}
+use Rattle.hba_fbs.specs.declared.status.Block.{Block}
+use Rattle.hba_fbs.specs.Choosing.{Chooses, MayChoose}
 use Rattle.hba_fbs.specs.Deciding.{decided, decided_view}
+use Rattle.hba_fbs.specs.Greeting.{Greets, Hangs, greeted_in, greeted_state, line_view}
+use Rattle.hba_fbs.specs.Issuing.{view_with}
+use Rattle.hba_fbs.specs.Placing.{Places, issue_error}
+use Rattle.hba_fbs.specs.Stopping.{SetsCmd, fallen_view, overridden_state}
 use Rattle.hba_fbs.specs.Offering.{AcceptsBy, Offer, aimed_by, asked_by, refusal_by, view_by, view_issued_by}
 use Rattle.hba_fbs.specs.Registers.{falls}
 use Rattle.hba_fbs.specs.Sending.{block_sent, faulty_devices, next_receiver, next_to_send, ready_devices, stopped_by_bus, view_fed, view_sent}
 use Rattle.hba_fbs.specs.Taking.{admitted, ignores, is_running, port_of}
 use Rattle.hba_fbs.specs.Turning.{Goes, Turns, feeds, orders, turn_of}
-use Rattle.hba_fbs.specs.Views.{DeviceView, Port, flushed_view, last_command, stopped_view, view_of}
+use Rattle.hba_fbs.specs.Views.{DeviceView, LeavesOtherViews, Port, flushed_view, last_command, stopped_view, view_of}
 use Rattle.hba_fbs.specs.Writing.{cleared_by, is_device}
 use Rattle.hba_laws.specs.Agreement.{IsTold, end_of, is_pio_issue}
 use Rattle.hba_laws.specs.Alike.{told_issued}
 use Rattle.hba_laws.specs.CoreHistories.{CoreViewsAreTold, IsFramedBy, event_by, happened, turned_for, written_for}
-use Rattle.hba_laws.specs.Cores.{CoreEvent, DoesBy, Failed, Flushed, Gave, HasBytes, Hearkens, IsCore, Took, Wrote}
+use Rattle.hba_laws.specs.Cores.{Chose, Commanded, CoreEvent, DoesBy, Failed, Flushed, Gave, Greeted, HasBytes, Hearkens, Hung, IsCore, Overrode, Placed, Relinked, Restarted, Took, Wrote}
 use Rattle.hba_laws.specs.Delivering.{begun_by, event_heard, event_sent, is_control_issue}
 use Rattle.hba_laws.specs.History.{Carried, Emptied, Event, History, Sent, SentControl, SetUp}
 use Rattle.hba_laws.specs.Between.{HasContext, IsOwn}
+use Rattle.hba_laws.proofs.histories.ChoiceLemmas.{as_goes, placed_free}
 use Rattle.hba_laws.proofs.histories.DataLemmas.{ends_block, says_carried}
 use Rattle.hba_laws.proofs.histories.HearLemmas.{decided_follows, with_event}
 use Rattle.hba_laws.proofs.histories.IssueLemmas.{offered_free, says_issued}
+use Rattle.hba_laws.proofs.histories.ResetLemmas.{reset_told}
 use Rattle.hba_laws.proofs.histories.StepLemmas.{Says, control_no_dma, ends_after, says_control, says_emptied, says_sent}
 use Rattle.hba_laws.proofs.histories.ViewLemmas.{held, holds_at, is_own, own_here}
 
@@ -139,6 +149,45 @@ turn_goes port = by_running (is_running port)
     by_running : (b : Bool) → GoesBy port (if not b then Rests else match_some (next_receiver port) (match_some (next_to_send port) Rests (orders port)) (λ dev. match_some (payload (context_of port.slots dev)) Rests (feeds dev)))
     by_running false = tt
     by_running true = by_receiver (next_receiver port)
+
+-- ---- what goes out as its caller chose
+
+got_slot : Option (ℕ × ℕ × ℕ) → ℕ
+got_slot None = 0
+got_slot (Some next) = next.0
+
+got_offset : Option (ℕ × ℕ × ℕ) → ℕ
+got_offset None = 0
+got_offset (Some next) = next.1
+
+got_len : Option (ℕ × ℕ × ℕ) → ℕ
+got_len None = 0
+got_len (Some next) = next.2
+
+fed_goes : (port : Port) (dev slot offset len : ℕ) → payload (context_of port.slots dev) ≡ Some (slot, offset, len) → IsFeeding port dev slot offset len
+fed_goes port dev slot offset len due = by_context (context_of port.slots dev) refl due
+  where
+    by_active : (c : Context) → context_of port.slots dev ≡ Some c → (b : Bool) → c.activated ≡ b → (cond b (Some (c.slot, c.next, payload_len c)) None) ≡ Some (slot, offset, len) → IsFeeding port dev slot offset len
+    by_active c now false active e = cc
+    by_active c now true active e = record { context = c; now = now; active = active; slot_is = sym (ap got_slot e); offset_is = sym (ap got_offset e); len_is = sym (ap got_len e) }
+
+    by_context : (o : Option Context) → context_of port.slots dev ≡ o → payload o ≡ Some (slot, offset, len) → IsFeeding port dev slot offset len
+    by_context None now e = cc
+    by_context (Some c) now e = by_active c now c.activated refl e
+
+ordered_goes : (port : Port) (dev slot : ℕ) → slot < 32 → MayBeSent port.slots slot → MatchOption (issue_at port.slots slot) ⊥ (λ issue. issue.dev ≡ dev) → IsOrdering port dev slot
+ordered_goes port dev slot below may owner = by_issue (issue_at port.slots slot) refl may owner
+  where
+    by_issue : (o : Option Issue) → issue_at port.slots slot ≡ o
+        → MatchOption o ⊥ (λ issue. (issue.sent ≡ false) × (is_control issue.work.kind ≡ false → waiting (slots_of issue.dev port.slots) ≡ None))
+        → MatchOption o ⊥ (λ issue. issue.dev ≡ dev) → IsOrdering port dev slot
+    by_issue None at m o = absurd m
+    by_issue (Some i) at m o = record { next = record { issue = i; at = at; below = below; unsent = m.0; waits = m.1 }; of_dev = sym o }
+
+pub chosen_goes : (port : Port) (t : Turn) → MayChoose port t → GoesBy port t
+chosen_goes port Rests may = tt
+chosen_goes port (Feeds dev slot offset len) may = fed_goes port dev slot offset len may.1.due
+chosen_goes port (Orders dev slot command) may = ordered_goes port dev slot may.1.slot_below may.1.may may.1.owner
 
 -- ---- one event
 
@@ -339,6 +388,62 @@ module _ (n : ℕ) (old : Port) (core : IsCore old) (past : History) (told : IsT
       goes dev (view_sent (view_of dev old) slot command) (begun_by slot (issue_at old.slots slot) ++ event_sent old.slots slot ∷ []) new does
       (λ same. subst (λ (d : ℕ). IsTold (view_sent (view_of d old) slot command) ((begun_by slot (issue_at old.slots slot) ++ event_sent old.slots slot ∷ []) ++ past)) same (order_own dev slot command out same))
 
+  chose : (t : Turn) → GoesBy old t → (bytes : List ℕ) (new : Port) → Chooses t old new → HasBytes t bytes → IsTold (view_of n new) (turned_for n old t bytes ++ past)
+  chose Rests out bytes new does sized = gave Rests out bytes new does sized
+  chose (Feeds dev slot offset len) out bytes new does sized =
+      gave (Feeds dev slot offset len) out bytes (record new { active = old.active }) (as_goes old new dev (view_fed (view_of dev old)) old.active does) sized
+  chose (Orders dev slot command) out bytes new does sized =
+      gave (Orders dev slot command) out bytes (record new { active = old.active }) (as_goes old new dev (view_sent (view_of dev old) slot command) dev does) sized
+
+  -- commands are issued by the caller
+  placed_own : (m value : ℕ) (offer : Offer) (tables : ℕ → List Prd) → m ≡ 32 → issue_error old offer value ≡ None
+      → IsTold (view_with n (asked_by offer value) v) (told_issued (asked_by offer value) tables m ++ past)
+  placed_own m value offer tables m_is accepted =
+      told_of (view_with n (asked_by offer value) v) (told_issued (asked_by offer value) tables m ++ past)
+      (says_issued n tables (asked_by offer value) v.slots ends past says free m (omega (arith, m_is)) (owns.long ∙ sym m_is))
+    where
+      free : (s : ℕ) → s < 32 → is_some (asked_by offer value s) ≡ true → own_issue v.slots s ≡ None
+      free s lt some =
+          let long = core.slots.slots in
+          own_at n old.slots s (omega (arith, lt, long)) ∙ ap (owned_by n) (placed_free old offer value s accepted lt some)
+
+  placed : (dev value : ℕ) (offer : Offer) (tables : ℕ → List Prd) (new : Port) → issue_error old offer value ≡ None → Places old offer dev value new
+      → IsTold (view_of n new) ((if dev == n then told_issued (asked_by offer value) tables 32 else []) ++ past)
+  placed dev value offer tables new accepted does =
+      if_then (dev == n) (told_issued (asked_by offer value) tables 32) past (IsTold (view_of n new))
+      (λ same.
+      let here : Places old offer n value new = subst (λ (d : ℕ). Places old offer d value new) (eqb-true dev n same) does in
+      subst (λ (w : DeviceView). IsTold w (told_issued (asked_by offer value) tables 32 ++ past)) (sym here.own) (placed_own 32 value offer tables refl accepted))
+      (λ differs. stays new (does.others n (λ e. eqb-false dev n differs (sym e))))
+
+  -- the task file of a device alone changes, or that of another
+  filed : (dev : ℕ) (state : DeviceState → DeviceState) (new : Port) → ((s : DeviceState) → (state s).block ≡ s.block)
+      → view_of dev new ≡ record (view_of dev old) { state = state (view_of dev old).state } → LeavesOtherViews dev old new → IsTold (view_of n new) past
+  filed dev state new kept own others = elim (cases_eq n dev) [
+    | inl same ↦
+        let here : view_of n new ≡ record v { state = state v.state } = subst (λ (d : ℕ). view_of d new ≡ record (view_of d old) { state = state (view_of d old).state }) (sym same) own in
+        subst (λ (w : DeviceView). IsTold w past) (sym here)
+        (told_of (record v { state = state v.state }) past (subst (λ (b : Option Block). Says v.slots (option_map end_of b) past) (sym (kept v.state)) says))
+    | inr ne ↦ stays new (others n ne)
+  ]
+
+  greeted : (frame : List ℕ) (o : Option (List ℕ)) (report : TakeReport) (new : Port) → Greets old (port_of frame) o report new → IsTold (view_of n new) past
+  greeted frame None report new does = subst (λ (p : Port). IsTold (view_of n p) past) (sym does.port) told
+  greeted frame (Some f) report new does = filed (port_of frame) (λ s. greeted_state s f) new (λ s. refl) does.own does.others
+
+  hung : (dev : ℕ) (line : Line) (new : Port) → Hangs old dev line new → IsTold (view_of n new) ((if dev == n then Emptied ∷ [] else []) ++ past)
+  hung dev line new does =
+      if_then (dev == n) (Emptied ∷ []) past (IsTold (view_of n new))
+      (λ same.
+      subst (λ (w : DeviceView). IsTold w (Emptied ∷ past)) (sym (ap (λ (d : ℕ). view_of d new) (sym (eqb-true dev n same)) ∙ does.own))
+      (told_of (line_view line) (Emptied ∷ past) (says_emptied None past)))
+      (λ differs. stays new (does.others n (λ e. eqb-false dev n differs (sym e))))
+
+  commanded : (value : ℕ) (new : Port) → n < 16 → SetsCmd old value new → IsTold (view_of n new) ((if falls old.registers value then Emptied ∷ [] else []) ++ past)
+  commanded value new lt does =
+      subst (λ (w : DeviceView). IsTold w ((if falls old.registers value then Emptied ∷ [] else []) ++ past)) (sym (does.views n lt))
+      (chosen (falls old.registers value) (fallen_view v) (Emptied ∷ []) (λ b. told_of (fallen_view v) (Emptied ∷ past) (says_emptied None past)))
+
   pub step_by : (event : CoreEvent) (new : Port) → n < 16 → IsFramedBy event → DoesBy old event new → IsTold (view_of n new) (happened n old event ++ past)
   step_by (Took frame room report) new lt framed does = took frame room report new framed does
   step_by (Wrote register value offer tables) new lt framed does = wrote register value offer tables new lt does.0 does.1
@@ -350,6 +455,14 @@ module _ (n : ℕ) (old : Port) (core : IsCore old) (past : History) (told : IsT
       (λ differs. stays new (does.others n (λ e. eqb-false dev n differs (sym e))))
   step_by (Gave bytes) new lt framed does = gave (turn_of old) (turn_goes old) bytes new does.0 does.1
   step_by Failed new lt framed does = subst (λ (p : Port). IsTold (view_of n p) past) (sym does) (told_of (view_of n (stopped_by_bus old)) past says)
+  step_by (Placed dev slots offer tables) new lt framed does = placed dev slots offer tables new does.1 does.2
+  step_by (Chose turn bytes) new lt framed does = chose turn (chosen_goes old turn does.0) bytes new does.1 does.2
+  step_by (Greeted frame report) new lt framed does = greeted frame (greeted_in (view_of (port_of frame) old).state (seen frame)) report new does.1
+  step_by (Commanded value) new lt framed does = commanded value new lt does.1
+  step_by (Overrode dev) new lt framed does = filed dev overridden_state new (λ s. refl) does.own does.others
+  step_by (Hung dev line) new lt framed does = hung dev line new does
+  step_by Relinked new lt framed does = subst (λ (p : Port). IsTold (view_of n p) (Emptied ∷ past)) (sym does) (reset_told n past)
+  step_by Restarted new lt framed does = subst (λ (p : Port). IsTold (view_of n p) (Emptied ∷ past)) (sym does) (reset_told n past)
 
 -- ---- lists of events
 

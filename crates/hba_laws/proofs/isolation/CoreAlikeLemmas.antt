@@ -17,22 +17,24 @@ use Rattle.hba_fbs.specs.declared.report.TakeReport.{TakeReport}
 use Rattle.hba_fbs.specs.declared.room.Room.{Room}
 use Rattle.hba_fbs.specs.declared.turn.Turn.{Turn}
 use Rattle.hba_fbs.specs.declared.turn.Turn.TheVariants.{Feeds, Orders, Rests}
+use Rattle.hba_fbs.specs.Choosing.{MayChoose}
 use Rattle.hba_fbs.specs.Deciding.{decided}
 use Rattle.hba_fbs.specs.Offering.{Offer, aimed_by, asked_by}
 use Rattle.hba_fbs.specs.Sending.{next_receiver, next_to_send}
 use Rattle.hba_fbs.specs.Taking.{admitted, ignores, is_running, port_cause, port_of, stops_with}
-use Rattle.hba_fbs.specs.Turning.{turn_of}
+use Rattle.hba_fbs.specs.Turning.{IsOrdered, turn_of}
 use Rattle.hba_fbs.specs.Views.{DeviceView, Port, view_of}
 use Rattle.hba_fbs.specs.Writing.{cleared_by, is_device}
 use Rattle.hba_laws.specs.Alike.{AreFilledAlike, told_going, told_issue, told_issued, told_order, told_own}
 use Rattle.hba_laws.specs.CoreHistories.{CoreFillAlike, CoreHistoriesByOwn, Given, IsGivenAlike, event_by, given_by, given_through, happened, history_given, history_through, told_arrival, told_given, turned_for, with_caller, written_for}
-use Rattle.hba_laws.specs.Cores.{AreCores, AreOfOnes, Arrived, CoreEvent, CoreOwn, Failed, Flushed, Gave, IsCore, IsPart, Own, RunsBy, Took, Wrote, own_by, part_by, part_by_all, stops_by, turned_to, used}
+use Rattle.hba_laws.specs.Cores.{AreCores, AreOfOnes, Arrived, Chose, Commanded, CoreEvent, CoreOwn, DoesBy, Failed, Fed, Flushed, Gave, Gone, Greeted, Hung, IsCore, IsPart, Overridden, Overrode, Own, Placed, Relinked, Restarted, RunsBy, Sent, Took, Wrote, chosen_to, own_by, part_by, part_by_all, stops_by, turned_to, used}
 use Rattle.hba_laws.specs.Delivering.{begun_by, event_heard, event_sent, is_control_issue}
 use Rattle.hba_laws.specs.History as event
 use Rattle.hba_laws.specs.History.{Event, History, filled, issued}
 use Rattle.hba_laws.specs.Isolation.{Came, Cleared, Emptied, Issued, OwnEvent, Rewritten, Went, lowers_st, next_own}
 use Rattle.hba_laws.specs.Parts.{DevicePart}
 use Rattle.hba_laws.specs.Between.{IsOrder}
+use Rattle.hba_laws.proofs.histories.ChoiceLemmas.{chosen_own}
 use Rattle.hba_laws.proofs.isolation.CoreLemmas.{decided_used, feeds_by, first_core, order_by, skipped, step}
 use Rattle.hba_laws.proofs.isolation.OutgoingLemmas.{order_is_own, order_no_payload, order_stands}
 
@@ -117,15 +119,47 @@ gave n old p (Orders dev slot command) bytes past lt before is next =
     (subst (λ (m : ℕ). IsOrder old m slot command (next_receiver old) (next_to_send old)) (eqb-true dev n same)
     (order_by old (not (is_running old)) (next_receiver old) (next_to_send old) dev slot command next)))
 
+-- ---- what the caller chose
+
+sent : (n : ℕ) (old : Port) (p : DevicePart) (slot : ℕ) (command : Command) → IsOrdered old n slot command → IsPart n old p
+    → begun_by slot (own_issue p.view.slots slot) ++ told_order p slot ∷ [] ≡ begun_by slot (issue_at old.slots slot) ++ event_sent old.slots slot ∷ []
+sent n old p slot command order is =
+    ap (λ (o : Option Issue). begun_by slot o ++ (if holds is_control_issue o then event.SentControl slot else event.Sent slot) ∷ [])
+    (ap (λ (x : DeviceView). own_issue x.slots slot) is.view ∙ chosen_own old n slot command order)
+
+chose : (n : ℕ) (old : Port) (p : DevicePart) (t : Turn) (bytes : List ℕ) (past : History) → MayChoose old t → IsPart n old p
+    → history_given n p past (map (with_caller (Chose t bytes)) (chosen_to n t)) ≡ turned_for n old t bytes ++ past
+chose n old p Rests bytes past may is = refl
+chose n old p (Feeds dev slot offset len) bytes past may is =
+    told_if n p past (with_caller (Chose (Feeds dev slot offset len) bytes)) (dev == n) Fed (event.Carried (drop 4 bytes) ∷ []) (λ same. refl)
+chose n old p (Orders dev slot command) bytes past may is =
+    told_if n p past (with_caller (Chose (Orders dev slot command) bytes)) (dev == n) (Sent slot) (begun_by slot (issue_at old.slots slot) ++ event_sent old.slots slot ∷ [])
+    (λ same. sent n old p slot command (subst (λ (m : ℕ). IsOrdered old m slot command) (eqb-true dev n same) may.1) is)
+
+-- an own event that tells nothing, or none
+told_nothing : (n : ℕ) (p : DevicePart) (past : History) (f : CoreOwn → Given) (b : Bool) (e : CoreOwn) → told_given n p (f e).event (f e).tables (f e).bytes ≡ []
+    → history_given n p past (map f (if b then e ∷ [] else [])) ≡ past
+told_nothing n p past f true e none = ap (λ (x : History). x ++ past) none
+told_nothing n p past f false e none = refl
+
 -- ---- one event
 
-pub told_by : (n : ℕ) (old : Port) (event : CoreEvent) (p : DevicePart) (past : History) → n < 16 → IsCore old → is_running old ≡ true → stops_by old event ≡ false → IsPart n old p
+pub told_by : (n : ℕ) (old new : Port) (event : CoreEvent) (p : DevicePart) (past : History) → n < 16 → IsCore old → is_running old ≡ true → DoesBy old event new → stops_by old event ≡ false → IsPart n old p
     → history_given n p past (given_by n old event) ≡ happened n old event ++ past
-told_by n old (Took frame room report) p past lt before runs none is = took n old p frame room report past runs is none
-told_by n old (Wrote register value offer tables) p past lt before runs none is = wrote n old p register value offer tables past none
-told_by n old (Flushed dev) p past lt before runs none is = told_if n p past (with_caller (Flushed dev)) (dev == n) (Own Emptied) (event.Emptied ∷ []) (λ same. refl)
-told_by n old (Gave bytes) p past lt before runs none is = gave n old p (turn_of old) bytes past lt before is refl
-told_by n old Failed p past lt before runs none is = absurd (true≢false none)
+told_by n old new (Took frame room report) p past lt before runs does none is = took n old p frame room report past runs is none
+told_by n old new (Wrote register value offer tables) p past lt before runs does none is = wrote n old p register value offer tables past none
+told_by n old new (Flushed dev) p past lt before runs does none is = told_if n p past (with_caller (Flushed dev)) (dev == n) (Own Emptied) (event.Emptied ∷ []) (λ same. refl)
+told_by n old new (Gave bytes) p past lt before runs does none is = gave n old p (turn_of old) bytes past lt before is refl
+told_by n old new Failed p past lt before runs does none is = absurd (true≢false none)
+told_by n old new (Placed dev slots offer tables) p past lt before runs does none is =
+    told_if n p past (with_caller (Placed dev slots offer tables)) (dev == n) (Own (Issued (asked_by offer slots))) (told_issued (asked_by offer slots) tables 32) (λ same. refl)
+told_by n old new (Chose turn bytes) p past lt before runs does none is = chose n old p turn bytes past does.0 is
+told_by n old new (Greeted frame report) p past lt before runs does none is = absurd (true≢false none)
+told_by n old new (Commanded value) p past lt before runs does none is = sym (ap (λ (b : Bool). (if b then event.Emptied ∷ [] else []) ++ past) none)
+told_by n old new (Overrode dev) p past lt before runs does none is = told_nothing n p past (with_caller (Overrode dev)) (dev == n) Overridden refl
+told_by n old new (Hung dev line) p past lt before runs does none is = told_if n p past (with_caller (Hung dev line)) (dev == n) (Gone line) (event.Emptied ∷ []) (λ same. refl)
+told_by n old new Relinked p past lt before runs does none is = absurd (true≢false none)
+told_by n old new Restarted p past lt before runs does none is = absurd (true≢false none)
 
 -- ---- lists of events
 
@@ -152,7 +186,7 @@ told_through n lt old new (event ∷ events) run cores ones p is past =
     let q : DevicePart = part_by_all n p (own_by n old event) in
     let after : IsPart n run.0 (part_by_all n p (own_by n old event)) = step n old run.0 event p lt cores.0 (first_core run.0 new events run.2 cores.1) runs run.1 parts.1 is in
     told_through n lt run.0 new events run.2 cores.1 ones.1 q after (happened n old event ++ past)
-    ∙ ap (λ (h : History). history_given n q h rest) (sym (told_by n old event p past lt cores.0 runs parts.1 is))
+    ∙ ap (λ (h : History). history_given n q h rest) (sym (told_by n old run.0 event p past lt cores.0 runs run.1 parts.1 is))
     ∙ ap (λ (es : List CoreOwn). history_given n (part_by_all n p es) (history_given n p past now) rest) (sym (events_back event (own_by n old event)))
     ∙ sym (by_append n p past now rest)
 
@@ -188,6 +222,7 @@ given_alike : (n : ℕ) (p : DevicePart) (event : CoreOwn) (one other : ℕ → 
     → ((slot : ℕ) → slot < 32 → one slot ≡ other slot) → told_given n p event one bytes ≡ told_given n p event other bytes
 given_alike n p (Arrived room frame) one other bytes same = refl
 given_alike n p (Own event) one other bytes same = own_alike n p event one other bytes same
+given_alike n p event one other bytes same = refl
 
 by_alike : (n : ℕ) (p : DevicePart) (past : History) (xs ys : List Given) → AllZip IsGivenAlike xs ys
     → history_given n p past xs ≡ history_given n p past ys

@@ -19,21 +19,27 @@ use Rattle.hba_fbs.specs.declared.room.Room.{Room}
 use Rattle.hba_fbs.specs.declared.room.Room.TheVariants.{Bytes, NoTable, Whole}
 use Rattle.hba_fbs.specs.declared.turn.Turn.{Turn}
 use Rattle.hba_fbs.specs.declared.turn.Turn.TheVariants.{Feeds, Orders, Rests}
+use Rattle.hba_fbs.specs.declared.greeting.Line.{Line}
+use Rattle.hba_fbs.specs.Choosing.{Chooses, GoesTo, MayChoose}
 use Rattle.hba_fbs.specs.Deciding.{Decides, decided, decided_view, heard_within}
+use Rattle.hba_fbs.specs.Greeting.{Hangs, line_view}
 use Rattle.hba_fbs.specs.Issuing.{any_slot, is_busy, issued_slots, view_with}
 use Rattle.hba_fbs.specs.Offering.{AcceptsBy, Offer, aimed_by, asked_by, commands_by, refusal_by, slots_refusal_by, view_by}
+use Rattle.hba_fbs.specs.Placing.{Places, issue_error}
 use Rattle.hba_fbs.specs.Registers.{falls, own_refusal_by, written}
 use Rattle.hba_fbs.specs.Sending.{next_receiver, next_to_send, view_fed, view_sent}
 use Rattle.hba_fbs.specs.Taking.{admitted, ignores, is_ignored, is_running, passes_over, port_cause, port_of, stops_with, view_after_hearing}
-use Rattle.hba_fbs.specs.Turning.{Goes, Turns, feeds, orders, turn_of}
+use Rattle.hba_fbs.specs.Stopping.{Overrides, SetsCmd, fallen_view, overridden_view}
+use Rattle.hba_fbs.specs.Turning.{Goes, IsOrdered, Turns, feeds, orders, turn_of}
 use Rattle.hba_fbs.specs.Views.{DeviceView, Flushes, Port, flushed_view, last_command, stopped_view, view_of}
 use Rattle.hba_fbs.specs.Writing.{cleared_by, is_device}
 use Rattle.hba_laws.specs.Between.{IsOrder, KeepsOwn}
-use Rattle.hba_laws.specs.Cores.{AreCores, AreOfOnes, Arrived, CoreEvent, CoreOwn, DoesBy, Failed, Flushed, Gave, IsCore, IsFoldByOwn, IsPart, Own, RunsBy, Took, Wrote, after_hearing, own_by, own_through, part_by, part_by_all, stops_by, told_to, turned_to, used}
+use Rattle.hba_laws.specs.Cores.{AreCores, AreOfOnes, Arrived, Chose, Commanded, CoreEvent, CoreOwn, DoesBy, Failed, Fed, Flushed, Gave, Gone, Greeted, Hung, IsCore, IsFoldByOwn, IsPart, Overridden, Overrode, Own, Placed, Relinked, Restarted, RunsBy, Sent, Took, Wrote, after_hearing, chosen_to, own_by, own_through, part_by, part_by_all, stops_by, told_to, turned_to, used}
 use Rattle.hba_laws.specs.Isolation.{Cleared, Emptied, Issued, Went, after_going, after_order, lowers_st, next_own, part_after, row_with, skips}
 use Rattle.hba_laws.specs.Parts.{DevicePart, commands_of, with_view}
 use Rattle.hba_laws.proofs.soundness.KeptLemmas.{taken_mode}
 use Rattle.hba_laws.proofs.soundness.WriteLemmas.{commands_chosen, commands_other_by, first_none, free_by, mode_own, none_busy_by}
+use Rattle.hba_laws.proofs.histories.ChoiceLemmas.{chosen_filled, none_busy}
 use Rattle.hba_laws.proofs.isolation.HeardLemmas.{heard_alike}
 use Rattle.hba_laws.proofs.isolation.OutgoingLemmas.{order_filled, order_is_own, order_no_payload}
 use Rattle.hba_laws.proofs.isolation.PartLemmas.{commands_kept, commands_same}
@@ -345,6 +351,99 @@ gave n old new p (Orders dev slot command) lt before next turns is =
     (subst (λ (m : ℕ). Goes old m (view_sent (view_of m old) slot command) new) at turns))
     (λ differs. goes_other n old new p dev (view_sent (view_of dev old) slot command) (λ e. eqb-false dev n differs (sym e)) is turns)
 
+-- ---- commands are issued by the caller
+
+placed_own : (n : ℕ) (old new : Port) (p : DevicePart) (value : ℕ) (offer : Offer) → IsCore new → IsPart n old p → Places old offer n value new → IsPart n new (part_after n p (Issued (asked_by offer value)))
+placed_own n old new p value offer next is does =
+    let a : ℕ → Option Command = asked_by offer value in
+    let v : DeviceView = view_of n old in
+    record {
+      view = ap (λ (x : DeviceView). view_with n a x) is.view ∙ sym does.own;
+      commands = ap (λ (x : DeviceView). commands_of (issued_slots n a x.slots) (λ slot. option_or (a slot) (p.commands slot))) is.view
+          ∙ ap (λ (f : ℕ → Option Command). commands_of (issued_slots n a v.slots) (λ slot. option_or (a slot) (f slot))) is.commands
+          ∙ sym (commands_chosen n a v.slots new.slots old.commands new.commands next.port.commands (ap (λ (x : DeviceView). x.slots) does.own) does.commands);
+      row = is.row ∙ sym (ap (λ (r : Registers). r.switching) does.registers);
+    }
+
+placed_other : (n : ℕ) (old new : Port) (p : DevicePart) (dev value : ℕ) (offer : Offer) → n ≢ dev → IsCore old → IsCore new → issue_error old offer value ≡ None → IsPart n old p → Places old offer dev value new → IsPart n new p
+placed_other n old new p dev value offer ne before next accepted is does =
+    let same : view_of n new ≡ view_of n old = does.others n ne in
+    record {
+      view = is.view ∙ sym same;
+      commands = is.commands
+          ∙ sym (commands_other_by n old.slots old.commands (asked_by offer value) new.slots new.commands (none_busy_by old.slots value offer.commands (none_busy old offer value accepted)) before.slots next.port.commands (ap (λ (x : DeviceView). x.slots) same) does.commands);
+      row = is.row ∙ sym (ap (λ (r : Registers). r.switching) does.registers);
+    }
+
+placed : (n : ℕ) (old new : Port) (p : DevicePart) (dev value : ℕ) (offer : Offer) → IsCore old → IsCore new → issue_error old offer value ≡ None → IsPart n old p → Places old offer dev value new
+    → IsPart n new (part_by_all n p (if dev == n then Own (Issued (asked_by offer value)) ∷ [] else []))
+placed n old new p dev value offer before next accepted is does =
+    one_if n new p (dev == n) (Own (Issued (asked_by offer value)))
+    (λ same. placed_own n old new p value offer next is (subst (λ (m : ℕ). Places old offer m value new) (eqb-true dev n same) does))
+    (λ differs. placed_other n old new p dev value offer (λ e. eqb-false dev n differs (sym e)) before next accepted is does)
+
+-- ---- what goes as the caller chose
+
+chosen_other : (n : ℕ) (old new : Port) (p : DevicePart) (dev active : ℕ) (w : DeviceView) → n ≢ dev → IsPart n old p → GoesTo old dev w active new → IsPart n new p
+chosen_other n old new p dev active w ne is goes = stands n old new p is (goes.others n ne) goes.commands (ap (λ (r : Registers). r.switching) goes.registers)
+
+fed_chosen : (n : ℕ) (old new : Port) (p : DevicePart) (active : ℕ) → IsPart n old p → GoesTo old n (view_fed (view_of n old)) active new → IsPart n new (with_view p (view_fed p.view))
+fed_chosen n old new p active is goes =
+    let v : DeviceView = view_of n old in
+    shown n old new p (with_view p (view_fed p.view)) (view_fed v) is goes.own (keeps_fed v.slots) goes.commands (ap (λ (r : Registers). r.switching) goes.registers) (ap view_fed is.view)
+    (ap (λ (x : DeviceView). commands_of (view_fed x).slots p.commands) is.view) refl
+
+sent_chosen : (n : ℕ) (old new : Port) (p : DevicePart) (slot active : ℕ) (command : Command) → IsOrdered old n slot command → IsPart n old p → GoesTo old n (view_sent (view_of n old) slot command) active new
+    → IsPart n new (after_order p slot)
+sent_chosen n old new p slot active command ordered is goes =
+    let v : DeviceView = view_of n old in
+    let there : p.commands slot ≡ Some command =
+    ap (λ (f : ℕ → Option Command). f slot) is.commands ∙ cond-true (is_some (own_issue v.slots slot)) (last_command old.commands slot) None (chosen_filled old n slot command ordered) ∙ ordered.is in
+    let sent : DevicePart = with_view p (view_sent p.view slot command) in
+    subst (IsPart n new) (sym (match_is (p.commands slot) command p (λ c. with_view p (view_sent p.view slot c)) there))
+    (shown n old new p sent (view_sent v slot command) is goes.own (keeps_sent v.slots slot) goes.commands (ap (λ (r : Registers). r.switching) goes.registers)
+    (ap (λ (x : DeviceView). view_sent x slot command) is.view) (ap (λ (x : DeviceView). commands_of (view_sent x slot command).slots p.commands) is.view) refl)
+
+chose : (n : ℕ) (old new : Port) (p : DevicePart) (t : Turn) → MayChoose old t → Chooses t old new → IsPart n old p → IsPart n new (part_by_all n p (chosen_to n t))
+chose n old new p Rests may does is = same_port n old new p is does
+chose n old new p (Feeds dev slot offset len) may does is =
+    one_if n new p (dev == n) Fed
+    (λ same. fed_chosen n old new p old.active is (subst (λ (m : ℕ). GoesTo old m (view_fed (view_of m old)) old.active new) (eqb-true dev n same) does))
+    (λ differs. chosen_other n old new p dev old.active (view_fed (view_of dev old)) (λ e. eqb-false dev n differs (sym e)) is does)
+chose n old new p (Orders dev slot command) may does is =
+    one_if n new p (dev == n) (Sent slot)
+    (λ same.
+    let at : dev ≡ n = eqb-true dev n same in
+    sent_chosen n old new p slot dev command (subst (λ (m : ℕ). IsOrdered old m slot command) at may.1) is
+    (subst (λ (m : ℕ). GoesTo old m (view_sent (view_of m old) slot command) dev new) at does))
+    (λ differs. chosen_other n old new p dev dev (view_sent (view_of dev old) slot command) (λ e. eqb-false dev n differs (sym e)) is does)
+
+-- ---- the task file of a device, and what hangs at its port
+
+overrode : (n : ℕ) (old new : Port) (p : DevicePart) (dev : ℕ) → IsPart n old p → Overrides old dev new → IsPart n new (part_by_all n p (if dev == n then Overridden ∷ [] else []))
+overrode n old new p dev is does =
+    let mode : new.registers.switching ≡ old.registers.switching = ap (λ (r : Registers). r.switching) does.registers in
+    let v : DeviceView = view_of n old in
+    one_if n new p (dev == n) Overridden
+    (λ same.
+    shown n old new p (with_view p (overridden_view p.view)) (overridden_view v) is (subst (λ (m : ℕ). view_of m new ≡ overridden_view (view_of m old)) (eqb-true dev n same) does.own) (λ slot h. h) does.commands mode
+    (ap overridden_view is.view) (ap (λ (x : DeviceView). commands_of x.slots p.commands) is.view) refl)
+    (λ differs. stands n old new p is (does.others n (λ e. eqb-false dev n differs (sym e))) does.commands mode)
+
+hung : (n : ℕ) (old new : Port) (p : DevicePart) (dev : ℕ) (line : Line) → IsPart n old p → Hangs old dev line new → IsPart n new (part_by_all n p (if dev == n then Gone line ∷ [] else []))
+hung n old new p dev line is does =
+    let mode : new.registers.switching ≡ old.registers.switching = ap (λ (r : Registers). r.switching) does.registers in
+    one_if n new p (dev == n) (Gone line)
+    (λ same.
+    shown n old new p (with_view p (line_view line)) (line_view line) is (subst (λ (m : ℕ). view_of m new ≡ line_view line) (eqb-true dev n same) does.own) (keeps_none (view_of n old).slots) does.commands mode refl refl refl)
+    (λ differs. stands n old new p is (does.others n (λ e. eqb-false dev n differs (sym e))) does.commands mode)
+
+commanded : (n : ℕ) (old new : Port) (p : DevicePart) (value : ℕ) → n < 16 → old.registers.started ≡ true → own_refusal_by Cmd old.registers value ≡ None → SetsCmd old value new → falls old.registers value ≡ false
+    → IsPart n old p → IsPart n new p
+commanded n old new p value lt started accepted does none is =
+    stands n old new p is (does.views n lt ∙ cond-false (falls old.registers value) (fallen_view (view_of n old)) (view_of n old) none) does.commands
+    (ap (λ (r : Registers). r.switching) does.registers ∙ written_mode Cmd old.registers value started accepted)
+
 -- ---- one event, and a list of them
 
 pub step : (n : ℕ) (old new : Port) (event : CoreEvent) (p : DevicePart) → n < 16 → IsCore old → IsCore new → is_running old ≡ true → DoesBy old event new → stops_by old event ≡ false → IsPart n old p
@@ -355,6 +454,15 @@ step n old new (Wrote register value offer tables) p lt before next runs does no
 step n old new (Flushed dev) p lt before next runs does none is = emptied n old new p dev is does
 step n old new (Gave bytes) p lt before next runs does none is = gave n old new p (turn_of old) lt before refl does.0 is
 step n old new Failed p lt before next runs does none is = absurd (true≢false none)
+step n old new (Placed dev slots offer tables) p lt before next runs does none is = placed n old new p dev slots offer before next does.1 is does.2
+step n old new (Chose turn bytes) p lt before next runs does none is = chose n old new p turn does.0 does.1 is
+step n old new (Greeted frame report) p lt before next runs does none is = absurd (true≢false none)
+step n old new (Commanded value) p lt before next runs does none is =
+    commanded n old new p value lt (and_parts old.registers.started (is_none old.errors.port) runs).0 does.0 does.1 none is
+step n old new (Overrode dev) p lt before next runs does none is = overrode n old new p dev is does
+step n old new (Hung dev line) p lt before next runs does none is = hung n old new p dev line is does
+step n old new Relinked p lt before next runs does none is = absurd (true≢false none)
+step n old new Restarted p lt before next runs does none is = absurd (true≢false none)
 
 by_append : (n : ℕ) (p : DevicePart) (xs ys : List CoreOwn) → part_by_all n p (xs ++ ys) ≡ part_by_all n (part_by_all n p xs) ys
 by_append n p [] ys = refl

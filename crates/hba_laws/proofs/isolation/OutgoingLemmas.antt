@@ -2,7 +2,6 @@
 use Rattle.std.proofs.Common.{◌≡◌, ◌≢◌, ℕ, zero, suc, ◌+◌, ◌*◌, ◌%◌, ◌^◌, ◌<◌, ◌≤◌, Bool, true, false, ◌&&◌, ◌||◌, not, nat_eq, bit_or, length, refl, sym, ◌∙◌, ap, subst, arith, inl, inr, Option, Some, None, w32, eq-eqb}
 use Rattle.std.specs.Prelude.{if◌then◌else◌, is_none, is_some}
 use Rattle.std.proofs.lemmas.Bool.{cases_Bool, cases_eq, false_from_ne_true, true≢false, false≢true}
-use Rattle.std.proofs.lemmas.Nat.Bits.{bit_at_set_same, bit_at_set_other, bit_at-zero}
 use Rattle.hba_commands.specs.declared.command.Command.{Command}
 use Rattle.host_memory.specs.Memory.{Memory}
 use Rattle.port_errors.specs.Errors.{cause_of}
@@ -10,8 +9,8 @@ use Rattle.port_errors.specs.declared.cause.DeviceCause.{DeviceCause}
 use Rattle.slots.specs.Commands.{may_begin, may_go}
 use Rattle.slots.specs.Data.{payload}
 use Rattle.slots.specs.Slots.{Issue, context_of, has_bit, holds, is_control, issue_at, mask_below, match_some, own_issue, slots_of, waiting}
-use Rattle.slots.specs.Between.{MaskBelow, Owns}
-use Rattle.slots.proofs.Door.{lowest_before, lowest_found, lowest_is, mask_none, mask_same, mask_set}
+use Rattle.slots.specs.Between.{Owns}
+use Rattle.slots.proofs.Door.{has_bit_below, lowest_before, lowest_found, lowest_is}
 use Rattle.slots.proofs.Door.{none_below, own_at, owned_same, owns_where}
 use Rattle.hba_fbs.specs.Sending.{Data, Nothing, Order, data_due, data_with, faulty_devices, is_ready, next_receiver, next_to_send, order_due, outgoing, ready_devices, is_due}
 use Rattle.hba_fbs.specs.Tables.{is_readable, sound_command}
@@ -22,38 +21,8 @@ use Rattle.hba_laws.specs.Between.{IsData, IsOrder}
 
 -- ---- sets of devices, as numbers
 
-bits_none : (test : ℕ → Bool) → MaskBelow test 0 0
-bits_none test = record { below = λ s h. absurd (omega arith); above = λ s h. ap (λ (b : ℕ). nat_eq b 1) (bit_at-zero s) }
-
-bits_same : (test : ℕ → Bool) (mask i : ℕ) → test i ≡ false → MaskBelow test mask i → MaskBelow test mask (i + 1)
-bits_same test mask i h m = record {
-  below = λ s lt. elim (cases_eq s i) [ inl e ↦ m.above s (omega arith) ∙ sym (ap test e ∙ h) | inr ne ↦ m.below s (omega arith) ];
-  above = λ s le. m.above s (omega arith);
-}
-
-bits_more : (test : ℕ → Bool) (mask i : ℕ) → i < 32 → test i ≡ true → MaskBelow test mask i → MaskBelow test (bit_or mask (1 * 2 ^ i % 2 ^ 32)) (i + 1)
-bits_more test mask i within h m =
-    let other : (s : ℕ) → s ≢ i → has_bit (bit_or mask (1 * 2 ^ i % 2 ^ 32)) s ≡ has_bit mask s = λ s ne. ap (λ (b : ℕ). nat_eq b 1) (bit_at_set_other w32 mask i within s ne) in
-    record {
-      below = λ s lt. elim (cases_eq s i) [
-        | inl e ↦ ap (has_bit (bit_or mask (1 * 2 ^ i % 2 ^ 32))) e ∙ eq-eqb _ _ (bit_at_set_same w32 mask i within) ∙ sym (ap test e ∙ h)
-        | inr ne ↦ other s ne ∙ m.below s (omega arith)
-      ];
-      above = λ s le. let ne : s ≢ i = λ e. omega arith in other s ne ∙ m.above s (omega arith);
-    }
-
-mask_bits : (test : ℕ → Bool) (n : ℕ) → n ≤ 32 → MaskBelow test (mask_below test n) n
-mask_bits test zero h = rw (mask_none test) (bits_none test)
-mask_bits test (suc n) h =
-    let more : suc n ≡ n + 1 = omega arith in
-    let before : MaskBelow test (mask_below test n) n = mask_bits test n (omega arith) in
-    rw more (elim (cases_Bool (test n)) [
-      | inl passes ↦ rw (← mask_set test n (mask_below test n) (omega arith) refl passes) (bits_more test (mask_below test n) n (omega arith) passes before)
-      | inr fails ↦ rw (← mask_same test n (mask_below test n) refl fails) (bits_same test (mask_below test n) n fails before)
-    ])
-
 has_device : (test : ℕ → Bool) (dev : ℕ) → dev < 16 → has_bit (mask_below test 16) dev ≡ test dev
-has_device test dev h = (mask_bits test 16 (omega arith)).below dev h
+has_device test dev h = has_bit_below test 16 dev (omega arith) h
 
 -- ---- data
 
@@ -170,7 +139,7 @@ order_is port memory dev slot command h = order_by port memory (not (is_running 
 -- ---- the lowest slot of the port is the lowest of its device
 
 -- whether a command of a device may go is said by its view
-alike : (port : Port) (n : ℕ) (issue : Issue) → n < 16 → issue.dev ≡ n
+pub alike : (port : Port) (n : ℕ) (issue : Issue) → n < 16 → issue.dev ≡ n
     → may_go (ready_devices port) (faulty_devices port) port.slots issue ≡ may_leave (view_of n port) issue
 alike port n issue lt is =
     let may : ℕ → Bool → Bool → Bool = λ d ready faulty. not issue.sent && not faulty && (is_control issue.work.kind || ready && is_none (waiting (slots_of d port.slots)) && may_begin (slots_of d port.slots) issue) in

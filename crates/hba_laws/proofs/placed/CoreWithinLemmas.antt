@@ -34,15 +34,15 @@ use Rattle.hba_fbs.specs.Writing.{cleared_by, is_device}
 use Rattle.hba_laws.specs.Agreement.{IsTold, end_of, is_for}
 use Rattle.hba_laws.specs.Alike.{told_issue, told_issued}
 use Rattle.hba_laws.specs.Client.{IsWithin}
-use Rattle.hba_laws.specs.CoreHistories.{CoreDataIsWithin, CoreReportsFilled, CoreSendsFilled, FillsFrom, ReportsFilled, WereWithin, event_by, happened, history_through, turned_for, written_for}
+use Rattle.hba_laws.specs.CoreHistories.{CoreChoicesFilled, CoreDataIsWithin, CoreReportsFilled, CoreSendsFilled, FillsFrom, ReportsFilled, WereWithin, event_by, happened, history_through, turned_for, written_for}
 use Rattle.hba_laws.specs.Cores as core
-use Rattle.hba_laws.specs.Cores.{CoreEvent, Failed, Flushed, Gave, Hearkens, IsCore, RunsBy, Took}
+use Rattle.hba_laws.specs.Cores.{Chose, Commanded, CoreEvent, Failed, Flushed, Gave, Greeted, Hearkens, Hung, IsCore, Overrode, Placed, Relinked, Restarted, RunsBy, Took}
 use Rattle.hba_laws.specs.Delivering.{begun_by, event_heard, event_of, event_sent, is_control_issue}
 use Rattle.hba_laws.specs.History.{Carried, Emptied, History, Sent, SentControl, SetUp, issued}
 use Rattle.hba_laws.specs.Between.{HasContext, IsOwn}
 use Rattle.hba_laws.proofs.completed.DoneLemmas.{below_16, last_core}
 use Rattle.hba_laws.proofs.histories.CarryLemmas.{next_is}
-use Rattle.hba_laws.proofs.histories.CoreEventLemmas.{GoesBy, IsFeeding, core_views_are_told, says_of, step_by, turn_goes}
+use Rattle.hba_laws.proofs.histories.CoreEventLemmas.{GoesBy, IsFeeding, chosen_goes, core_views_are_told, says_of, step_by, turn_goes}
 use Rattle.hba_laws.proofs.histories.HearLemmas.{decided_cases}
 use Rattle.hba_laws.proofs.histories.StepLemmas.{Says}
 use Rattle.hba_laws.proofs.histories.ViewLemmas.{is_own}
@@ -196,6 +196,15 @@ module _ (n : ℕ) (old : Port) (is_core : IsCore old) (past : History) (told : 
   event_within (Flushed dev) new does w = within_if (dev == n) (Emptied ∷ []) past w (λ b. w)
   event_within (Gave bytes) new does w = turn_within (turn_of old) bytes (turn_goes old) does.1 w
   event_within Failed new does w = w
+  event_within (Placed dev slots offer tables) new does w =
+      within_if (dev == n) (told_issued (asked_by offer slots) tables 32) past w (λ b. within_issued (asked_by offer slots) tables 32 past w)
+  event_within (Chose turn bytes) new does w = turn_within turn bytes (chosen_goes old turn does.0) does.2 w
+  event_within (Greeted frame report) new does w = w
+  event_within (Commanded value) new does w = within_if (falls old.registers value) (Emptied ∷ []) past w (λ b. w)
+  event_within (Overrode dev) new does w = w
+  event_within (Hung dev line) new does w = within_if (dev == n) (Emptied ∷ []) past w (λ b. w)
+  event_within Relinked new does w = w
+  event_within Restarted new does w = w
 
 -- ---- lists of events
 
@@ -237,3 +246,9 @@ core_sends_filled old port events run runs dev slot offset len past is told =
     let last : IsCore port = last_core old port events run runs.cores in
     let fed : IsFeeding port dev slot offset len = subst (GoesBy port) is (turn_goes port) in
     fed_fills dev port last (history_through dev past old port events run) (core_views_are_told dev (below port last dev fed.context fed.now) old port events run runs past told) slot offset len fed
+
+pub core_choices_filled : CoreChoicesFilled
+core_choices_filled old port events run runs dev slot offset len past may told =
+    let last : IsCore port = last_core old port events run runs.cores in
+    let fed : IsFeeding port dev slot offset len = chosen_goes port (Feeds dev slot offset len) may in
+    fed_fills dev port last (history_through dev past old port events run) (core_views_are_told dev may.1.dev_below old port events run runs past told) slot offset len fed

@@ -1,7 +1,8 @@
 use Rattle.hba_laws.proofs.histories.CoreEventLemmas.{core_views_are_told}
 use Rattle.hba_laws.proofs.completed.DoneLemmas.{core_done_is_completed, core_opens_untold}
 use Rattle.hba_laws.proofs.completed.OnceLemmas.{completes_once}
-use Rattle.hba_laws.proofs.placed.CoreWithinLemmas.{core_data_is_within, core_reports_filled, core_sends_filled}
+use Rattle.hba_laws.proofs.completed.FreedLemmas.{core_freed_by_own}
+use Rattle.hba_laws.proofs.placed.CoreWithinLemmas.{core_choices_filled, core_data_is_within, core_reports_filled, core_sends_filled}
 use Rattle.hba_laws.proofs.laws.core_delivers.Goals as goal
 
 pub returns-clause-agrees : goal.returns-clause-agrees
@@ -24,3 +25,9 @@ returns-clause-reports c = core_reports_filled
 
 pub returns-clause-sends : goal.returns-clause-sends
 returns-clause-sends c = core_sends_filled
+
+pub returns-clause-chosen : goal.returns-clause-chosen
+returns-clause-chosen c = core_choices_filled
+
+pub returns-clause-freed : goal.returns-clause-freed
+returns-clause-freed c = core_freed_by_own

@@ -1,3 +1,4 @@
+use Rattle.hba_laws.proofs.isolation.ChoosingLemmas.{core_goes_by_view}
 use Rattle.hba_laws.proofs.isolation.CoreLemmas.{fold_by_own}
 use Rattle.hba_laws.proofs.isolation.CoreAlikeLemmas.{core_fill_alike, core_histories_by_own}
 use Rattle.hba_laws.proofs.cores.CoreHostLemmas.{hosts_are_cores}
@@ -18,3 +19,6 @@ returns-clause-hosts c = hosts_are_cores
 
 pub returns-clause-derived : goal.returns-clause-derived
 returns-clause-derived c = hosts_fold_by_core
+
+pub returns-clause-goes : goal.returns-clause-goes
+returns-clause-goes c = core_goes_by_view
