@@ -18,8 +18,8 @@ waits_for_none b false beside is = cc
 
 pub core_goes_by_view : CoreGoesByView
 core_goes_by_view n lt port runs switches = record {
-  data = ap (λ (b : Bool). b && is_due port.slots port.errors n) runs;
-  commands = λ slot issue at own.
+  feeds = ap (λ (b : Bool). b && is_due port.slots port.errors n) runs;
+  orders = λ slot issue at own.
       ap (λ (b : Bool). b && holds (is_free port) (issue_at port.slots slot)) runs
       ∙ ap (holds (is_free port)) at
       ∙ waits_for_none (may_go (ready_devices port) (faulty_devices port) port.slots issue) port.registers.switching (any_sent_beside port.slots issue.dev) switches
