@@ -1,0 +1,2 @@
+-- Runs.
+use Rattle.std.specs.Prelude.{ℕ}
