@@ -1,5 +1,5 @@
 -- What every line keeps, call by call.
-use Rattle.std.proofs.Common.{◌≡◌, ◌≢◌, ℕ, zero, suc, ◌^◌, ◌+◌, ◌-◌, ◌<◌, ◌≤◌, true, false, List, length, get_or, set, Some, None, refl, sym, ap, ◌∙◌, arith, inl, inr, ◌⊎◌}
+use Rattle.std.proofs.Common.{◌≡◌, ◌≢◌, ℕ, zero, suc, ◌^◌, ◌+◌, ◌-◌, ◌<◌, ◌≤◌, true, false, List, ◌++◌, length, get_or, set, Some, None, refl, sym, ap, ◌∙◌, arith, inl, inr, ◌⊎◌}
 use Rattle.std.specs.Prelude.{Option, Bool, Result, Ok, Err, IfSome, IfNone, OnOk, OnErr, is_none, not, ◌||◌, ◌&&◌, ◌==◌, nat_lt, if◌then◌else◌, replicate, map}
 use Rattle.std.specs.Option.{option_map}
 use Rattle.std.specs.declared.alloc.AllocError.{AllocError}
@@ -10,8 +10,10 @@ use Rattle.std.proofs.lemmas.List.{get_or-set_same, get_or-set_other, length-set
 use Rattle.std.proofs.lemmas.List.FromFn.{length-range_with_len, get_or-range_with_len, length-map-range_with_len, get_or-map-range_with_len}
 use Rattle.block_command.specs.declared.command.Command.{Command}
 use Rattle.block_command.specs.declared.command.Stage.{Stage}
-use Rattle.block_command.specs.declared.command.Stage.TheVariants.{Waiting, Ended}
-use Rattle.block_command.specs.Moments.{Moment, opening, is_ended, turn_of}
+use Rattle.block_command.specs.declared.command.Stage.TheVariants.{Waiting, Load, Loading, SetUpRead, Sending, SetUpWrite, Activate, Receiving, Store, Storing, Flush, End, Fail, Ended}
+use Rattle.block_command.specs.declared.command.Protocol.{Protocol}
+use Rattle.block_command.specs.declared.command.Protocol.TheVariants.{Queued, Dma, Pio, Verify}
+use Rattle.block_command.specs.Moments.{Moment, opening, chunk, data_stage, is_ended, is_queued, is_verify, part_count, part_len, read_end, read_on, started, turn_of, with_sectors}
 use Rattle.block_command.specs.Laws.{Input, Goes, Loads, Comes, Stores, Flushes, Fails, after}
 use Rattle.block_command.proofs.Door.{same_command, at as moment}
 use Rattle.block_disk.specs.Table.{Table, at, has_wire, freed, with_command, with_input, with_taken, is_under_way, may_go_at, wants_wire, wire_with}
@@ -98,6 +100,73 @@ was_under_way c done bytes sent Ended Flushes e = e
 was_under_way c done bytes sent Ended Fails e = e
 was_under_way c done bytes sent stage i e = refl
 
+-- it waits for its start only if it did, and then it is as it was
+abbrev Started : Stage → Type 0
+Started stage = starts (turn_of stage) ≡ false
+
+started_if : (b : Bool) (x y : Stage) → Started x → Started y → Started (if b then x else y)
+started_if true x y e f = e
+started_if false x y e f = f
+
+started_either : (b : Bool) (x y : Moment) → Started x.stage → Started y.stage → Started (if b then x else y).stage
+started_either true x y e f = e
+started_either false x y e f = f
+
+data_started : (p : Protocol) → Started (data_stage p)
+data_started Queued = refl
+data_started Dma = refl
+data_started Pio = refl
+data_started Verify = refl
+
+end_started : (p : Protocol) → Started (read_end p)
+end_started Queued = refl
+end_started Dma = refl
+end_started Pio = refl
+end_started Verify = refl
+
+started_of : (c : Command) → Started (started c)
+started_of c = started_if c.write _ _ (started_if (is_queued c.protocol) SetUpWrite Activate refl refl) refl
+
+read_started : (m : Moment) (done : ℕ) → Started (read_on m done).stage
+read_started m done = started_if (nat_lt done m.command.count) Load (read_end m.command.protocol) refl (end_started m.command.protocol)
+
+sectors_started : (m : Moment) (bytes : List ℕ) → Started (with_sectors m bytes).stage
+sectors_started m bytes = started_either (is_verify m.command.protocol) _ _ (read_started m _)
+    (started_if _ SetUpRead (data_stage m.command.protocol) refl (data_started m.command.protocol))
+
+loads_started : (m : Moment) (bytes : List ℕ) (b : Bool) → Started m.stage → Started (if b then with_sectors m bytes else m).stage
+loads_started m bytes true e = sectors_started m bytes
+loads_started m bytes false e = e
+
+came_started : (m : Moment) (bytes : List ℕ) (b d : Bool)
+    → Started (if b then record m { stage = Fail } else record m { bytes = bytes; stage = if d then Activate else Store }).stage
+came_started m bytes true d = refl
+came_started m bytes false true = refl
+came_started m bytes false false = refl
+
+absurd_start : (stage : Stage) (P : Type 0) → Started stage → starts (turn_of stage) ≡ true → P
+absurd_start stage P e f = absurd (cc)
+
+waited_before : (c : Command) (done : ℕ) (bytes : List ℕ) (sent : ℕ) (stage : Stage) (i : Input)
+    → starts (turn_of (after (moment c done bytes sent stage) i).stage) ≡ true
+    → (starts (turn_of stage) ≡ true) × ((after (moment c done bytes sent stage) i).done ≡ done)
+waited_before c done bytes sent Waiting Goes e = absurd_start _ _ (started_of c) e
+waited_before c done bytes sent Waiting (Loads given) e = (e, refl)
+waited_before c done bytes sent Waiting (Comes part) e = (e, refl)
+waited_before c done bytes sent Waiting Stores e = (e, refl)
+waited_before c done bytes sent Waiting Flushes e = (e, refl)
+waited_before c done bytes sent Waiting Fails e = (e, refl)
+waited_before c done bytes sent Sending Goes e = absurd_start _ _ (started_either _ _ _ (data_started c.protocol)
+    (read_started (moment c done bytes sent Sending) (done + part_count c done))) e
+waited_before c done bytes sent Loading (Loads given) e = absurd_start _ _
+    (loads_started (moment c done bytes sent Loading) given (length given == part_len c done) refl) e
+waited_before c done bytes sent Receiving (Comes part) e = absurd_start _ _
+    (came_started (moment c done bytes sent Receiving) (bytes ++ part) (nat_lt (chunk c (part_len c done - length bytes)) (length part))
+    (nat_lt (length (bytes ++ part)) (part_len c done))) e
+waited_before c done bytes sent Storing Stores e = absurd_start _ _ (started_if _ Activate _ refl (started_if c.lasting Flush End refl refl)) e
+waited_before c done bytes sent stage Goes e = absurd (cc)
+waited_before c done bytes sent stage i e = absurd (cc)
+
 and_less : (a b a' b' : Bool) → (a' ≡ true → a ≡ true) → b' ≡ b → (a && b) ≡ false → (a' && b') ≡ false
 and_less a b false b' up same e = refl
 and_less true b true b' up same e = same ∙ e
@@ -159,10 +228,20 @@ at_case l p x t m line low here below is run = elim (cases_eq t p) [
   | inr apart ↦ line.clear t m below (sym (get_or-set_other l.queue.table.places p t x None apart) ∙ is) run
 ]
 
+fresh_case : (l : Line) (p : ℕ) (x : Option Moment) (t : ℕ) (m : Moment) → IsLine l → p < 33
+    → ((m : Moment) → x ≡ Some m → starts (turn_of m.stage) ≡ true → m.done ≡ 0)
+    → t < 33 → get_or (set l.queue.table.places p x) t None ≡ Some m → starts (turn_of m.stage) ≡ true → m.done ≡ 0
+fresh_case l p x t m line low new below is start = elim (cases_eq t p) [
+  | inl same ↦ new m (sym (get_or-set_same l.queue.table.places p x None (omega (arith, low, line.places)))
+      ∙ sym (ap (λ n. get_or (set l.queue.table.places p x) n None) same) ∙ is) start
+  | inr apart ↦ line.fresh t m below (sym (get_or-set_other l.queue.table.places p t x None apart) ∙ is) start
+]
+
 set_line : (l : Line) (p : ℕ) (x : Option Moment) (out : List ℕ) (next : ℕ) → IsLine l → p < 33 → IsLess (command_at l p) x
     → ((m : Moment) → x ≡ Some m → runs m.stage ≡ true → IsClear l p m.command)
+    → ((m : Moment) → x ≡ Some m → starts (turn_of m.stage) ≡ true → m.done ≡ 0)
     → IsLine (with_at l p x out next)
-set_line l p x out next line low less here = record {
+set_line l p x out next line low less here new = record {
   places = length-set l.queue.table.places p x ∙ line.places;
   ranks = line.ranks;
   orphans = line.orphans;
@@ -170,6 +249,7 @@ set_line l p x out next line low less here = record {
   own = line.own;
   clear = λ t m below is run. clear_at l p x out next t m.command line low less (at_case l p x t m line low here below is run);
   wired = wired_set l.queue.table p x line.places line.wired low;
+  fresh = λ t m below is start. fresh_case l p x t m line low new below is start;
 }
 
 -- ## Inputs
@@ -188,11 +268,20 @@ still_clear l p (Some k) i m line low is may e run =
     let command : m.command ≡ k.command = sym (ap (λ n. n.command) same) ∙ same_command k.command k.done k.bytes k.sent k.stage i in
     rw command (line.clear p k low is ran)
 
+still_fresh : (l : Line) (p : ℕ) (x : Option Moment) (i : Input) (m : Moment) → IsLine l → p < 33 → command_at l p ≡ x
+    → option_map (λ m. after m i) x ≡ Some m → starts (turn_of m.stage) ≡ true → m.done ≡ 0
+still_fresh l p None i m line low is e start = absurd (cc)
+still_fresh l p (Some k) i m line low is e start =
+    let same : after k i ≡ m = same_Some _ _ e in
+    let was = waited_before k.command k.done k.bytes k.sent k.stage i (ap (λ n. starts (turn_of n.stage)) same ∙ start) in
+    sym (ap (λ n. n.done) same) ∙ was.1 ∙ line.fresh p k low is was.0
+
 pub input_line : (l : Line) (p : ℕ) (i : Input) (out : List ℕ) (next : ℕ) → IsLine l → p < 33
     → (i ≡ Goes → starts_at (command_at l p) ≡ false)
     → IsLine (with_queue l (record { table = with_input l.queue.table p i; out = out; next = next }))
 input_line l p i out next line low may = set_line l p _ out next line low (less_in_way (command_at l p) i)
     (λ m e run. still_clear l p (command_at l p) i m line low refl may e run)
+    (λ m e start. still_fresh l p (command_at l p) i m line low refl e start)
 
 -- a FIS and a request are no start
 fis_starts : (m : Moment) (stage : Stage) → m.stage ≡ stage → is_fis (turn_of stage) ≡ true → starts (turn_of stage) ≡ false
@@ -272,6 +361,7 @@ pub start_line : (l : Line) (p : ℕ) (out : List ℕ) (next : ℕ) → IsLine l
     → IsLine (with_queue l (record { table = with_input l.queue.table p Goes; out = out; next = next }))
 start_line l p out next line low may = set_line l p _ out next line low (less_in_way (command_at l p) Goes)
     (λ m e run. starts_clear l p (command_at l p) m may e)
+    (λ m e start. still_fresh l p (command_at l p) Goes m line low refl e start)
 
 -- ## Dropped stores
 
@@ -297,6 +387,7 @@ dropped_line l p line low = record {
     ];
   });
   wired = line.wired;
+  fresh = line.fresh;
 }
 
 forgets_case : (l : Line) (p : ℕ) (b : Bool) → IsLine l → p < 33
@@ -304,9 +395,17 @@ forgets_case : (l : Line) (p : ℕ) (b : Bool) → IsLine l → p < 33
 forgets_case l p true line low = dropped_line l p line low
 forgets_case l p false line low = line
 
+pub forgets_line : (l : Line) (p number : ℕ) → IsLine l → p < 33
+    → IsLine (record l { orphans = orphans_answered l.orphans p number })
+forgets_line l p number line low = forgets_case l p _ line low
+
 -- ## A reset, and nothing yet
 
-long_replicate : (X : Type 0) (n : ℕ) (a : X) → length (replicate n a) ≡ n
+pub long_left : (l : Line) (n : ℕ) → length (left_below l n) ≡ n
+unfolding left_below
+long_left l n = length-map-range_with_len (left_at l) 0 n
+
+pub long_replicate : (X : Type 0) (n : ℕ) (a : X) → length (replicate n a) ≡ n
 long_replicate X n a = length-replicate n a
 
 none_at : (n t : ℕ) (m : Moment) → t < n → get_or (replicate n None) t None ≡ Some m → ⊥
@@ -329,6 +428,7 @@ reset_line l orphans line long = record {
   own = line.own;
   clear = λ t m below is run. absurd (none_at 33 t m below is);
   wired = λ p e. absurd (cc);
+  fresh = λ t m below is start. absurd (none_at 33 t m below is);
 }
 
 first_rank : (n p : ℕ) → p < n → get_or (first_ranks n) p 0 ≡ p
@@ -348,6 +448,7 @@ new_line = record {
   own = λ p q low low' e. sym (first_rank 33 p low) ∙ e ∙ first_rank 33 q low';
   clear = λ t m below is run. absurd (none_at 33 t m below is);
   wired = λ p e. absurd (cc);
+  fresh = λ t m below is start. absurd (none_at 33 t m below is);
 }
 
 -- ## A command is taken
@@ -370,17 +471,17 @@ up_before last r s true false e f less = let g = ltb-true _ _ e in let h = ltb-f
 up_before last r s false true e f less = let g = ltb-false _ _ e in let h = ltb-true _ _ f in omega (arith, g, h, less)
 up_before last r s false false e f less = less
 
-rank_other : (ranks : List ℕ) (p t : ℕ) → length ranks ≡ 33 → t < 33 → t ≢ p
+pub rank_other : (ranks : List ℕ) (p t : ℕ) → length ranks ≡ 33 → t < 33 → t ≢ p
     → get_or (moved_back ranks p) t 0 ≡ moved_up (get_or ranks p 0) (get_or ranks t 0)
 rank_other ranks p t long low apart = get_or-set_other (map (moved_up (get_or ranks p 0)) ranks) p t 32 0 apart
     ∙ get_or-map (moved_up (get_or ranks p 0)) ranks t 0 0 (omega (arith, low, long))
 
-rank_same : (ranks : List ℕ) (p : ℕ) → length ranks ≡ 33 → p < 33 → get_or (moved_back ranks p) p 0 ≡ 32
+pub rank_same : (ranks : List ℕ) (p : ℕ) → length ranks ≡ 33 → p < 33 → get_or (moved_back ranks p) p 0 ≡ 32
 rank_same ranks p long low =
     let l = length-map ranks (moved_up (get_or ranks p 0)) in
     get_or-set_same (map (moved_up (get_or ranks p 0)) ranks) p 32 0 (omega (arith, l, low, long))
 
-rank_below : (l : Line) (p t : ℕ) → IsLine l → p < 33 → t < 33 → t ≢ p → get_or (moved_back l.ranks p) t 0 < 32
+pub rank_below : (l : Line) (p t : ℕ) → IsLine l → p < 33 → t < 33 → t ≢ p → get_or (moved_back l.ranks p) t 0 < 32
 rank_below l p t line low low' apart = rw (rank_other l.ranks p t line.ranks low' apart)
     (up_below _ _ _ refl (line.below p low) (line.below t low') (λ e. apart (line.own t p low' low e)))
 
@@ -414,7 +515,7 @@ own_taken l p s t line low low' low'' e = elim (cases_eq s p) [
 ]
 
 -- whose command was before another's still is, and nobody is behind the new one
-before_taken : (l : Line) (p q t : ℕ) → IsLine l → p < 33 → q < 33 → t < 33 → t ≢ p
+pub before_taken : (l : Line) (p q t : ℕ) → IsLine l → p < 33 → q < 33 → t < 33 → t ≢ p
     → is_before (moved_back l.ranks p) q t ≡ true → (q ≢ p) × (is_before l.ranks q t ≡ true)
 before_taken l p q t line low low' low'' apart e =
     let less = ltb-true _ _ e in
@@ -464,6 +565,8 @@ new_command_line l c out next line low = record {
   own = λ s t low' low'' e. own_taken l c.place s t line low low' low'' e;
   clear = λ t m low' is run. clear_taken l c out next t m line low low' is run;
   wired = wired_set l.queue.table c.place (Some (opening c)) line.places line.wired low;
+  fresh = λ t m low' is start. fresh_case l c.place (Some (opening c)) t m line low
+      (λ n e f. sym (ap (λ n. n.done) (same_Some (opening c) n e))) low' is start;
 }
 
 pub take_line : (l : Line) (c : Command) (b : Bool) → IsLine l → c.place < 33 → b ≡ false

@@ -1,1 +1,4 @@
 pub mod Kept
+pub mod Deeds
+pub mod Apart
+pub mod Moves

@@ -186,3 +186,5 @@ pub record IsLine (l : Line) : Type 0 where
   -- what runs has passed nobody
   pub clear : (p : ℕ) (m : Moment) → p < 33 → command_at l p ≡ Some m → runs m.stage ≡ true → IsClear l p m.command
   pub wired : IsWired l.queue.table
+  -- what has not started has moved nothing
+  pub fresh : (p : ℕ) (m : Moment) → p < 33 → command_at l p ≡ Some m → starts (turn_of m.stage) ≡ true → m.done ≡ 0

@@ -4,4 +4,8 @@
 mod laws;
 mod queue;
 
+pub use laws::{
+    data_are_named, ends_are_earned, numbers_are_fresh, requests_are_apart, something_moves,
+    taken_is_last,
+};
 pub use queue::{CommandQueue, Orphan};
