@@ -1,24 +1,24 @@
 -- No request is asked while another that shares a sector is out, unless both are loads: each request that is out is one of a
 -- command that waits for it, or a dropped store.
-use Rattle.std.proofs.Common.{◌≡◌, ◌≢◌, ℕ, ◌+◌, ◌-◌, ◌*◌, ◌<◌, ◌≤◌, true, false, List, [], ◌∷◌, length, get_or, set, Some, None, refl, sym, ap, ◌∙◌, arith, inl, inr, ◌⊎◌, subst}
-use Rattle.std.specs.Prelude.{Option, Bool, not, ◌||◌, ◌&&◌, ◌==◌, nat_lt, cond, if◌then◌else◌}
+use Rattle.std.proofs.Common.{◌≡◌, ◌≢◌, ℕ, ◌+◌, ◌-◌, ◌<◌, ◌≤◌, true, false, List, [], ◌∷◌, length, get_or, set, Some, None, refl, sym, ap, ◌∙◌, arith, inl, inr, ◌⊎◌, subst}
+use Rattle.std.specs.Prelude.{Option, Bool, not, ◌&&◌, nat_lt, cond, if◌then◌else◌}
 use Rattle.std.specs.Option.{option_map}
 use Rattle.std.specs.List.{filter}
-use Rattle.std.proofs.lemmas.Bool.{cases_eq, cases_lt, lt-ltb, eqb-true, eq-eqb, ltb-true, ltb-false}
+use Rattle.std.proofs.lemmas.Bool.{cases_eq, cases_lt, lt-ltb, eqb-true, eq-eqb, ltb-false}
 use Rattle.std.proofs.lemmas.Option.{same_Some, none-some}
 use Rattle.std.proofs.lemmas.List.{get_or-set_same, get_or-set_other, length-set}
 use Rattle.std.proofs.lemmas.List.FromFn.{get_or-map-range_with_len}
 use Rattle.block_command.specs.declared.command.Command.{Command}
 use Rattle.block_command.specs.declared.command.Stage.{Stage}
 use Rattle.block_command.specs.declared.command.Stage.TheVariants.{Load, Loading, Store, Storing, Flush, Flushing}
-use Rattle.block_command.specs.Moments.{Moment, gone, is_ended, is_storing, opening, part_count, part_len, turn_of}
-use Rattle.block_command.specs.Laws.{Input, Goes, Loads, Comes, Stores, Flushes, Fails, Happening, AskedLoad, AskedStore, Ledger, after, shown}
+use Rattle.block_command.specs.Moments.{Moment, gone, is_ended, is_storing, opening, part_count, turn_of}
+use Rattle.block_command.specs.Laws.{Input, Goes, Comes, Happening, Ledger, after, shown}
 use Rattle.block_command.proofs.Door.{Agrees, same_command, at as moment}
-use Rattle.block_disk.specs.Table.{Table, at, is_under_way, with_command, with_input}
-use Rattle.block_disk.specs.Laws.{At, Page, Reset, Shown, Took, Refused, shown_at}
-use Rattle.block_disk.specs.Requests.{Books, Queue, after_act, number_at, with_table, Seen, OnLink, Asked, Answered, asks_at, entered_by, is_answer, is_out, is_request, no_books, none_queued, number_of, seen, told, with_asked}
-use Rattle.block_disk.proofs.Door.{Agree, Kept, Matches}
-use Rattle.block_queue.specs.Line.{Line, IsLine, IsClear, bars, command_at, conflict, is_before, is_in_way, is_of, left_at, left_below, left_of, line_answered, line_reset, moved_back, none_in_line, orphan, orphan_of, orphans_answered, rank, runs, share, with_queue}
+use Rattle.block_disk.specs.Table.{Table, is_under_way, with_command, with_input}
+use Rattle.block_disk.specs.Laws.{Page, Took, Refused, shown_at}
+use Rattle.block_disk.specs.Requests.{Books, Queue, after_act, number_at, with_table, OnLink, Asked, asks_at, entered_by, is_answer, is_out, is_request, no_books, number_of, seen, with_asked}
+use Rattle.block_disk.proofs.Door.{Agree, Matches}
+use Rattle.block_queue.specs.Line.{Line, IsLine, bars, command_at, conflict, is_in_way, is_of, left_at, left_below, left_of, line_answered, line_reset, moved_back, none_in_line, orphan, orphan_of, rank, runs, share, with_queue}
 use Rattle.block_queue.specs.declared.queue.Orphan.{Orphan}
 use Rattle.block_queue.specs.Deeds.{Deed, Takes, Starts, Sends, Asks, Hears, Answers, Resets, IsDeed, AreDeeds, act_of, after_deed, seen_of}
 use Rattle.block_queue.specs.Deeds.{Out, Has, is_store, AreApart, Each, is_other, is_stored, out_after, IsApart, AllAreApart, RequestsAreApart, waits_for_caller}
@@ -238,8 +238,11 @@ here_set places p x r m long low here same = elim (cases_eq r.place p) [
 set_backed : (l : Line) (p : ℕ) (x : Option Moment) (wire : Option ℕ) (next : ℕ) (ranks : List ℕ) → IsLine l → p < 33
     → ((m : Moment) → command_at l p ≡ Some m → waits_for_caller m.stage ≡ true → x ≡ Some m)
     → (r : Out) → Backed l r
-    → Backed (record { queue = record { table = record { places = set l.queue.table.places p x; wire = wire }; out = l.queue.out; next = next };
-      ranks = ranks; orphans = l.orphans }) r
+    → Backed (record {
+      queue = record { table = record { places = set l.queue.table.places p x; wire = wire }; out = l.queue.out; next = next };
+      ranks = ranks;
+      orphans = l.orphans;
+    }) r
 set_backed l p x wire next ranks line low same r (inl a) = inl (record {
   moment = a.moment;
   low = a.low;
@@ -260,8 +263,15 @@ set_backed l p x wire next ranks line low same r (inr d) = inr (record {
 
 -- a FIS, in either direction, or a start
 quiet_backed : (l : Line) (p : ℕ) (i : Input) (wire : Option ℕ) → IsLine l → p < 33 → is_answer i ≡ false → (r : Out) → Backed l r
-    → Backed (record { queue = record { table = record { places = set l.queue.table.places p (option_map (λ m. after m i) (command_at l p)); wire = wire };
-      out = l.queue.out; next = l.queue.next }; ranks = l.ranks; orphans = l.orphans }) r
+    → Backed (record {
+      queue = record {
+        table = record { places = set l.queue.table.places p (option_map (λ m. after m i) (command_at l p)); wire = wire };
+        out = l.queue.out;
+        next = l.queue.next;
+      };
+      ranks = l.ranks;
+      orphans = l.orphans;
+    }) r
 quiet_backed l p i wire line low quiet r back = set_backed l p _ wire l.queue.next l.ranks line low
     (λ m here waits. still_there (command_at l p) i m quiet waits here) r back
 
@@ -279,14 +289,14 @@ asked_still : (l : Line) (p : ℕ) (m : Moment) (r : Out) → IsLine l → p < 3
 asked_still l p m r line low here asks (inl a) = elim (cases_eq r.place p) [
   | inl same ↦ absurd (waits_silent m.stage (ap (λ n. waits_for_caller n.stage) (same_Some m a.moment (sym here ∙ sym (ap (command_at l) same) ∙ a.here)) ∙ a.waits) asks)
   | inr apart ↦ inl (record {
-      moment = a.moment;
-      low = a.low;
-      here = get_or-set_other l.queue.table.places p r.place _ None apart ∙ a.here;
-      number = get_or-set_other l.queue.out p r.place _ 0 apart ∙ a.number;
-      some = a.some;
-      waits = a.waits;
-      lies = a.lies;
-      kind = a.kind;
+    moment = a.moment;
+    low = a.low;
+    here = get_or-set_other l.queue.table.places p r.place _ None apart ∙ a.here;
+    number = get_or-set_other l.queue.out p r.place _ 0 apart ∙ a.number;
+    some = a.some;
+    waits = a.waits;
+    lies = a.lies;
+    kind = a.kind;
   })
 ]
 asked_still l p m r line low here asks (inr d) = inr (record { store = d.store; low = d.low; here = d.here; number = d.number; lies = d.lies })
@@ -297,16 +307,16 @@ asked_new : (l : Line) (p : ℕ) (m : Moment) (h : Happening) → IsLine l → p
 asked_new l p m h line low long some here within =
     let command : (gone m m.stage).command ≡ m.command = same_command m.command m.done m.bytes m.sent m.stage Goes in
     inl (record {
-  moment = gone m m.stage;
-  low = low;
-  here = get_or-set_same l.queue.table.places p (option_map (λ m. after m Goes) (command_at l p)) None (omega (arith, low, line.places))
-      ∙ ap (option_map (λ m. after m Goes)) here;
-  number = get_or-set_same l.queue.out p l.queue.next 0 (omega (arith, low, long));
-  some = some;
-  waits = within.waits;
-  lies = rw command within.lies;
-  kind = rw command within.kind;
-})
+      moment = gone m m.stage;
+      low = low;
+      here = get_or-set_same l.queue.table.places p (option_map (λ m. after m Goes) (command_at l p)) None (omega (arith, low, line.places))
+          ∙ ap (option_map (λ m. after m Goes)) here;
+      number = get_or-set_same l.queue.out p l.queue.next 0 (omega (arith, low, long));
+      some = some;
+      waits = within.waits;
+      lies = rw command within.lies;
+      kind = rw command within.kind;
+    })
 
 -- an answer
 other_number : (p number : ℕ) (r : Out) → is_other p number r ≡ true → r.place ≡ p → r.number ≢ number
@@ -315,23 +325,34 @@ other_number p number r other same = λ e. (let f = eq-eqb r.place p same in let
 
 asked_answered : (l : Line) (p number : ℕ) (i : Input) (orphans : List (Option Orphan)) (b : Bool) (r : Out) → is_out l.queue.out p number ≡ b
     → is_other p number r ≡ true → IsAsked l r
-    → IsAsked (record { queue = if b then record { table = with_command l.queue.table p (option_map (λ m. after m i) (command_at l p)); out = set l.queue.out p 0; next = l.queue.next }
-      else l.queue; ranks = l.ranks; orphans = orphans }) r
+    → IsAsked (record {
+      queue = if b then record { table = with_command l.queue.table p (option_map (λ m. after m i) (command_at l p)); out = set l.queue.out p 0; next = l.queue.next }
+          else l.queue;
+      ranks = l.ranks;
+      orphans = orphans;
+    }) r
 asked_answered l p number i orphans false r is other a = record {
-  moment = a.moment; low = a.low; here = a.here; number = a.number; some = a.some; waits = a.waits; lies = a.lies; kind = a.kind;
+  moment = a.moment;
+  low = a.low;
+  here = a.here;
+  number = a.number;
+  some = a.some;
+  waits = a.waits;
+  lies = a.lies;
+  kind = a.kind;
 }
 asked_answered l p number i orphans true r is other a = elim (cases_eq r.place p) [
   | inl same ↦ absurd (let n = eqb-true (get_or l.queue.out p 0) number (of_and _ _ is).1 in
       other_number p number r other same (sym a.number ∙ ap (λ k. get_or l.queue.out k 0) same ∙ n))
   | inr apart ↦ record {
-      moment = a.moment;
-      low = a.low;
-      here = get_or-set_other l.queue.table.places p r.place _ None apart ∙ a.here;
-      number = get_or-set_other l.queue.out p r.place 0 0 apart ∙ a.number;
-      some = a.some;
-      waits = a.waits;
-      lies = a.lies;
-      kind = a.kind;
+    moment = a.moment;
+    low = a.low;
+    here = get_or-set_other l.queue.table.places p r.place _ None apart ∙ a.here;
+    number = get_or-set_other l.queue.out p r.place 0 0 apart ∙ a.number;
+    some = a.some;
+    waits = a.waits;
+    lies = a.lies;
+    kind = a.kind;
   }
 ]
 
@@ -344,11 +365,11 @@ dropped_answered l p number q true r is other d = elim (cases_eq r.place p) [
       let n = eqb-true d.store.number number (subst (λ o. is_of number o ≡ true) there is) in
       other_number p number r other same (sym d.number ∙ n))
   | inr apart ↦ record {
-      store = d.store;
-      low = d.low;
-      here = get_or-set_other l.orphans p r.place None None apart ∙ d.here;
-      number = d.number;
-      lies = d.lies;
+    store = d.store;
+    low = d.low;
+    here = get_or-set_other l.orphans p r.place None None apart ∙ d.here;
+    number = d.number;
+    lies = d.lies;
   }
 ]
 
@@ -473,13 +494,13 @@ asks_some : (l : Line) (p : ℕ) (b : Books) (out : List Out) (m : Moment) → K
     → command_at l p ≡ Some m → AsksNext l p out (Some m)
 asks_some l p b out m k low asks here =
     let within = page_within m (command_at l p) (get_or b.pages p None) (k.agree.kept.each p) here asks in (
-  each_map (Backed l) (λ r. AreApart (shown m (turn_of m.stage)) r.what) out
-      (apart_backed l p m _ k.line low here asks within.lies (λ e. (within.kind e).0)) k.backed,
-  (
-    asked_new l p m _ k.line low k.long k.some here within,
-    each_map (Backed l) _ out (λ r back. asked_still l p m r k.line low here asks back) k.backed,
-  ),
-)
+      each_map (Backed l) (λ r. AreApart (shown m (turn_of m.stage)) r.what) out
+          (apart_backed l p m _ k.line low here asks within.lies (λ e. (within.kind e).0)) k.backed,
+      (
+        asked_new l p m _ k.line low k.long k.some here within,
+        each_map (Backed l) _ out (λ r back. asked_still l p m r k.line low here asks back) k.backed,
+      ),
+    )
 
 asks_next : (l : Line) (p : ℕ) (b : Books) (out : List Out) (x : Option Moment) → Keeps l b out → p < 33 → asks_at x ≡ true
     → command_at l p ≡ x → AsksNext l p out x
@@ -500,14 +521,16 @@ runs_apart : (deeds : List Deed) (l : Line) (b : Books) (out : List Out) → Kee
 unfolding seen_of
 runs_apart [] l b out k are = tt
 runs_apart (d ∷ later) l b out k are =
-    let now = step l d b out k are.0 in
-    (now.0, runs_apart later (after_deed l d) (entered_by b (seen l.queue (act_of d))) (out_after out (seen l.queue (act_of d))) (record {
-  line = line_after l d k.line are.0;
-  agree = agree_after l d b k.agree are.0;
-  long = rw (same_queue l d) (long_act l d k.long);
-  some = rw (same_queue l d) (next_act l d k.some);
-  backed = now.1;
-}) are.1)
+    let now = step l d b out k are.0 in (
+      now.0,
+      runs_apart later (after_deed l d) (entered_by b (seen l.queue (act_of d))) (out_after out (seen l.queue (act_of d))) (record {
+        line = line_after l d k.line are.0;
+        agree = agree_after l d b k.agree are.0;
+        long = rw (same_queue l d) (long_act l d k.long);
+        some = rw (same_queue l d) (next_act l d k.some);
+        backed = now.1;
+      }) are.1,
+    )
 
 pub requests_are_apart : RequestsAreApart
 requests_are_apart deeds are = runs_apart deeds none_in_line no_books [] (record {

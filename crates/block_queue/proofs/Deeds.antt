@@ -1,21 +1,20 @@
 -- A run of a line is one of its requests, so what these keep it keeps.
-use Rattle.std.proofs.Common.{◌≡◌, ℕ, ◌<◌, true, false, List, [], ◌∷◌, map, Some, None, refl, sym, ap, ◌∙◌, arith, subst}
-use Rattle.std.specs.Prelude.{Option, Bool, nat_lt, not, ◌||◌, is_none, if◌then◌else◌}
+use Rattle.std.proofs.Common.{◌≡◌, ℕ, ◌<◌, true, false, List, [], ◌∷◌, map, Some, None, refl, ap, ◌∙◌, subst}
+use Rattle.std.specs.Prelude.{Option, Bool, not, ◌||◌, is_none, if◌then◌else◌}
 use Rattle.block_command.specs.declared.command.Command.{Command}
 use Rattle.block_command.specs.declared.command.Stage.{Stage}
 use Rattle.block_command.specs.declared.command.Stage.TheVariants.{Waiting, Load, Store, Flush}
-use Rattle.block_command.specs.declared.command.Turn.{Turn}
 use Rattle.block_command.specs.Moments.{Moment, opening, turn_of}
 use Rattle.block_command.specs.Laws.{Input, Goes, Loads, Comes, Stores, Flushes, Fails, shown}
-use Rattle.block_disk.specs.Table.{Table, at, is_under_way, may_go_at, none_under_way, wants_wire, with_command, with_input}
+use Rattle.block_disk.specs.Table.{Table, at, is_under_way, may_go_at, wants_wire, with_command, with_input}
 use Rattle.block_disk.specs.Laws as laws
 use Rattle.block_disk.specs.Laws.{shown_at, wire_after, IsWired}
-use Rattle.block_disk.specs.Requests.{Queue, AreActs, AreSeenRightly, Books, IsAct, after_act, asks_at, entered_by, is_answer, is_out, is_request, no_books, none_queued, numbers_given, seen, seen_by, with_answer, with_table}
+use Rattle.block_disk.specs.Requests.{Queue, AreSeenRightly, Books, IsAct, after_act, asks_at, entered_by, is_answer, is_request, no_books, none_queued, seen, seen_by, with_answer, with_table}
 use Rattle.block_disk.proofs.Door.{Agree, Held, kept_none, none_held, numbers_are_fresh as fresh, one, stays_held}
-use Rattle.block_queue.specs.Line.{Line, IsLine, command_at, line_taken, moved_back, may_send, may_start, may_start_at, none_in_line, sends_at, starts, with_queue}
+use Rattle.block_queue.specs.Line.{Line, IsLine, command_at, moved_back, may_start_at, none_in_line, starts, with_queue}
 use Rattle.block_queue.specs.Deeds.{Deed, Takes, Starts, Sends, Asks, Hears, Answers, Resets, IsDeed, AreDeeds, act_of, after_deed, seen_of}
 use Rattle.block_queue.specs.Deeds.{EndsAreEarned, NumbersAreFresh, IsHeard, AreHeard, IsNamed, AreNamed, DataAreNamed, named_after}
-use Rattle.block_queue.proofs.Kept.{answers_line, asked_line, forgets_line, given_line, is_given, long_left, new_line, of_and, reset_line, sent_line, start_line, take_line}
+use Rattle.block_queue.proofs.Kept.{answers_line, asked_line, forgets_line, given_line, is_given, long_left, of_and, reset_line, sent_line, start_line, take_line}
 
 -- ## The requests of a line
 
@@ -168,8 +167,11 @@ names : (l : Line) (d : Deed) (w : Option ℕ) → Held l.queue.table w → IsDe
 names l (Takes c) w held is heard = stays_held l.queue.table w (laws.Takes c) held is
 names l (Starts p) w held is heard = stays_held l.queue.table w (laws.Does p Goes) held (is.0, start_may l p (command_at l p) is.1)
 names l (Sends p) w held is heard = stays_held l.queue.table w (laws.Does p Goes) held (is.0, (of_and _ _ is.1).1)
-names l (Asks p) w held is heard = (tt, subst (λ x. Held (with_input l.queue.table p Goes) x) (asks_names w p (command_at l p) is.1)
-    (stays_held l.queue.table w (laws.Does p Goes) held (is.0, asks_may l.queue.table (command_at l p) is.1)).1)
+names l (Asks p) w held is heard = (
+  tt,
+  subst (λ x. Held (with_input l.queue.table p Goes) x) (asks_names w p (command_at l p) is.1)
+      (stays_held l.queue.table w (laws.Does p Goes) held (is.0, asks_may l.queue.table (command_at l p) is.1)).1,
+)
 names l (Hears p part) w held is heard = stays_held l.queue.table w (laws.Does p (Comes part)) held (is, heard)
 names l (Answers p number i) w held is heard = (tt, answers_held l.queue p i _ w _ held is.0 is.1)
 names l Resets w held is heard = (tt, none_held 33 w refl)
@@ -178,9 +180,11 @@ named : (deeds : List Deed) (l : Line) (w : Option ℕ) → Held l.queue.table w
 unfolding seen_of
 named [] l w held are heard = tt
 named (d ∷ later) l w held are heard =
-    let now = names l d w held are.0 heard.0 in
-    (now.0, named later (after_deed l d) (named_after w (seen l.queue (act_of d)))
-    (rw (same_queue l d) now.1) are.1 heard.1)
+    let now = names l d w held are.0 heard.0 in (
+      now.0,
+      named later (after_deed l d) (named_after w (seen l.queue (act_of d)))
+          (rw (same_queue l d) now.1) are.1 heard.1,
+    )
 
 pub data_are_named : DataAreNamed
 data_are_named deeds are heard = named deeds none_in_line None (none_held 33 None refl) are heard

@@ -1,10 +1,9 @@
 -- What every line keeps, call by call.
-use Rattle.std.proofs.Common.{◌≡◌, ◌≢◌, ℕ, zero, suc, ◌^◌, ◌+◌, ◌-◌, ◌<◌, ◌≤◌, true, false, List, ◌++◌, length, get_or, set, Some, None, refl, sym, ap, ◌∙◌, arith, inl, inr, ◌⊎◌}
+use Rattle.std.proofs.Common.{◌≡◌, ◌≢◌, ℕ, zero, suc, ◌^◌, ◌+◌, ◌-◌, ◌<◌, ◌≤◌, true, false, List, ◌++◌, length, get_or, set, Some, None, refl, sym, ap, ◌∙◌, arith, inl, inr}
 use Rattle.std.specs.Prelude.{Option, Bool, Result, Ok, Err, IfSome, IfNone, OnOk, OnErr, is_none, not, ◌||◌, ◌&&◌, ◌==◌, nat_lt, if◌then◌else◌, replicate, map}
 use Rattle.std.specs.Option.{option_map}
 use Rattle.std.specs.declared.alloc.AllocError.{AllocError}
-use Rattle.std.specs.List.{range_with_len}
-use Rattle.std.proofs.lemmas.Bool.{cases_eq, cases_lt, lt-ltb, eq-eqb, ltb-true, ltb-false}
+use Rattle.std.proofs.lemmas.Bool.{cases_eq, lt-ltb, eq-eqb, ltb-true, ltb-false}
 use Rattle.std.proofs.lemmas.Option.{same_Some, none-some}
 use Rattle.std.proofs.lemmas.List.{get_or-set_same, get_or-set_other, length-set, length-replicate, get_or-replicate, get_or-map, length-map, ext_get_or}
 use Rattle.std.proofs.lemmas.List.FromFn.{length-range_with_len, get_or-range_with_len, length-map-range_with_len, get_or-map-range_with_len}
@@ -16,10 +15,10 @@ use Rattle.block_command.specs.declared.command.Protocol.TheVariants.{Queued, Dm
 use Rattle.block_command.specs.Moments.{Moment, opening, chunk, data_stage, is_ended, is_queued, is_verify, part_count, part_len, read_end, read_on, started, turn_of, with_sectors}
 use Rattle.block_command.specs.Laws.{Input, Goes, Loads, Comes, Stores, Flushes, Fails, after}
 use Rattle.block_command.proofs.Door.{same_command, at as moment}
-use Rattle.block_disk.specs.Table.{Table, at, has_wire, freed, with_command, with_input, with_taken, is_under_way, may_go_at, wants_wire, wire_with}
-use Rattle.block_disk.specs.Requests.{Queue, number_at, with_table, with_answer, with_asked, queue_reset, asks_at, none_queued}
-use Rattle.block_queue.specs.Line.{Line, IsLine, IsClear, IsWired, any_below, first_ranks, none_in_line, rank, orphan, command_at, conflict, is_in_way, bars, is_before}
-use Rattle.block_queue.specs.Line.{waits_for, starts, may_start_at, is_fis, sends_at, with_queue, moved_up, moved_back, line_taken, orphans_answered, left_below, left_of, left_at, line_reset, runs}
+use Rattle.block_disk.specs.Table.{Table, at, has_wire, freed, with_command, with_input}
+use Rattle.block_disk.specs.Requests.{Queue, number_at, with_table, with_answer, with_asked, queue_reset, asks_at}
+use Rattle.block_queue.specs.Line.{Line, IsLine, IsClear, IsWired, any_below, first_ranks, none_in_line, orphan, command_at, conflict, is_in_way, bars, is_before}
+use Rattle.block_queue.specs.Line.{waits_for, starts, may_start_at, is_fis, sends_at, with_queue, moved_up, moved_back, orphans_answered, left_below, left_of, left_at, line_reset, runs}
 use Rattle.block_queue.specs.declared.queue.Orphan.{Orphan}
 
 -- ## Tests of all places
@@ -345,10 +344,10 @@ start_clear l p m e =
     let all = of_and _ _ (of_and _ _ e).1 in
     let none = of_not _ all.1 in
     record {
-  first = λ q low. (clear_before (is_before l.ranks q p) (is_in_way m.command (command_at l q)) (bars m.command (orphan l q)) (any_at (waits_for l m.command p) 33 q none low)).0;
-  spared = λ q low. (clear_before (is_before l.ranks q p) (is_in_way m.command (command_at l q)) (bars m.command (orphan l q)) (any_at (waits_for l m.command p) 33 q none low)).1;
-  vacant = no_orphan _ all.0;
-}
+      first = λ q low. (clear_before (is_before l.ranks q p) (is_in_way m.command (command_at l q)) (bars m.command (orphan l q)) (any_at (waits_for l m.command p) 33 q none low)).0;
+      spared = λ q low. (clear_before (is_before l.ranks q p) (is_in_way m.command (command_at l q)) (bars m.command (orphan l q)) (any_at (waits_for l m.command p) 33 q none low)).1;
+      vacant = no_orphan _ all.0;
+    }
 
 starts_clear : (l : Line) (p : ℕ) (x : Option Moment) (m : Moment) → may_start_at l p x ≡ true
     → option_map (λ m. after m Goes) x ≡ Some m → IsClear l p m.command
@@ -521,9 +520,11 @@ before_taken l p q t line low low' low'' apart e =
     let less = ltb-true _ _ e in
     let small = rank_below l p t line low low'' apart in
     let first : q ≢ p = λ same. (let f = ap (λ n. get_or (moved_back l.ranks p) n 0) same in
-    let g = rank_same l.ranks p line.ranks low in omega (arith, less, small, f, g)) in
-    (first, lt-ltb _ _ (up_before (get_or l.ranks p 0) _ _ _ _ refl refl
-    (rw (← rank_other l.ranks p q line.ranks low' first) (rw (← rank_other l.ranks p t line.ranks low'' apart) less))))
+    let g = rank_same l.ranks p line.ranks low in omega (arith, less, small, f, g)) in (
+      first,
+      lt-ltb _ _ (up_before (get_or l.ranks p 0) _ _ _ _ refl refl
+          (rw (← rank_other l.ranks p q line.ranks low' first) (rw (← rank_other l.ranks p t line.ranks low'' apart) less))),
+    )
 
 runs_not : (c : Command) (m : Moment) → Some (opening c) ≡ Some m → runs m.stage ≡ true → ⊥
 runs_not c m e run = let f : runs (opening c).stage ≡ runs m.stage = ap (λ n. runs n.stage) (same_Some _ _ e) in cc
@@ -540,11 +541,11 @@ clear_new : (l : Line) (c : Command) (out : List ℕ) (next t : ℕ) (m : Moment
 clear_new l c out next t m line low low' apart is run =
     let was = line.clear t m low' is run in
     record {
-  first = λ q low'' e. (let before = before_taken l c.place q t line low low'' low' apart e in
-      rw (get_or-set_other l.queue.table.places c.place q (Some (opening c)) None before.0) (was.first q low'' before.1));
-  spared = was.spared;
-  vacant = was.vacant;
-}
+      first = λ q low'' e. (let before = before_taken l c.place q t line low low'' low' apart e in
+          rw (get_or-set_other l.queue.table.places c.place q (Some (opening c)) None before.0) (was.first q low'' before.1));
+      spared = was.spared;
+      vacant = was.vacant;
+    }
 
 clear_taken : (l : Line) (c : Command) (out : List ℕ) (next t : ℕ) (m : Moment) → IsLine l → c.place < 33 → t < 33
     → get_or (set l.queue.table.places c.place (Some (opening c))) t None ≡ Some m → runs m.stage ≡ true
@@ -570,8 +571,11 @@ new_command_line l c out next line low = record {
 }
 
 pub take_line : (l : Line) (c : Command) (b : Bool) → IsLine l → c.place < 33 → b ≡ false
-    → IsLine (record { queue = with_table l.queue (if b then l.queue.table else with_command l.queue.table c.place (Some (opening c)));
-      ranks = moved_back l.ranks c.place; orphans = l.orphans })
+    → IsLine (record {
+      queue = with_table l.queue (if b then l.queue.table else with_command l.queue.table c.place (Some (opening c)));
+      ranks = moved_back l.ranks c.place;
+      orphans = l.orphans;
+    })
 take_line l c true line low e = absurd (cc)
 take_line l c false line low e = new_command_line l c l.queue.out l.queue.next line low
 

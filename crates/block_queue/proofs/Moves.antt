@@ -1,21 +1,20 @@
 -- Commands never wait for each other in a circle, since they wait only for those that were taken before them.
-use Rattle.std.proofs.Common.{◌≡◌, ◌≢◌, ℕ, zero, suc, ◌+◌, ◌-◌, ◌<◌, ◌≤◌, true, false, List, length, get_or, Some, None, refl, sym, ap, ◌∙◌, arith, inl, inr, ◌⊎◌, subst}
+use Rattle.std.proofs.Common.{◌≡◌, ◌≢◌, ℕ, zero, suc, ◌-◌, ◌<◌, true, false, get_or, Some, None, refl, sym, ap, arith, inl, inr, ◌⊎◌, subst}
 use Rattle.std.specs.Prelude.{Option, Bool, is_none, not, ◌||◌, ◌&&◌, nat_lt, if◌then◌else◌}
-use Rattle.std.proofs.lemmas.Bool.{cases_eq, cases_lt, lt-ltb, ltb-true, ltb-false}
-use Rattle.std.proofs.lemmas.Option.{same_Some, none-some}
+use Rattle.std.proofs.lemmas.Bool.{lt-ltb, ltb-true, ltb-false}
 use Rattle.block_command.specs.declared.command.Command.{Command}
 use Rattle.block_command.specs.declared.command.Stage.{Stage}
-use Rattle.block_command.specs.declared.command.Stage.TheVariants.{Waiting, Load, Loading, SetUpRead, Announce, Sending}
-use Rattle.block_command.specs.declared.command.Stage.TheVariants.{SetUpWrite, Activate, Receiving}
-use Rattle.block_command.specs.declared.command.Stage.TheVariants.{Store, Storing, Flush, Flushing, End, Fail}
+use Rattle.block_command.specs.declared.command.Stage.TheVariants.{Waiting, Load, Loading, Announce, Sending}
+use Rattle.block_command.specs.declared.command.Stage.TheVariants.{Activate, Receiving}
+use Rattle.block_command.specs.declared.command.Stage.TheVariants.{Store, Storing, Flush, Flushing}
 use Rattle.block_command.specs.declared.command.Stage.TheVariants.{Ended}
-use Rattle.block_command.specs.Moments.{Moment, is_ended, is_queued, is_set_up, opening, turn_of}
-use Rattle.block_disk.specs.Table.{Table, at, has_wire, is_under_way, may_go, wants_wire, with_command}
-use Rattle.block_disk.specs.Requests.{asks, is_request, with_table}
-use Rattle.block_queue.specs.Line.{Line, IsLine, any_below, bars, command_at, is_before, is_fis, is_in_way, line_taken, may_send, may_start, moved_back, moved_up, orphan, rank, starts, waits_for}
+use Rattle.block_command.specs.Moments.{Moment, is_ended, is_queued, is_set_up, turn_of}
+use Rattle.block_disk.specs.Table.{has_wire, is_under_way, wants_wire}
+use Rattle.block_disk.specs.Requests.{is_request}
+use Rattle.block_queue.specs.Line.{Line, IsLine, any_below, bars, command_at, is_before, is_fis, is_in_way, moved_back, orphan, rank, starts, waits_for}
 use Rattle.block_queue.specs.declared.queue.Orphan.{Orphan}
 use Rattle.block_queue.specs.Deeds.{MovesAt, MayStart, MaySend, MayAsk, CallerOwes, HostOwes, StoreOwed, Moves, SomethingMoves, IsLast, TakenIsLast, waits_for_caller, waits_for_host}
-use Rattle.block_queue.proofs.Kept.{any_at, before_taken, of_and, of_or, rank_below, rank_other, rank_same}
+use Rattle.block_queue.proofs.Kept.{any_at, before_taken, of_and, rank_below, rank_other, rank_same}
 
 -- ## Some number that passes
 

@@ -1,13 +1,13 @@
 -- Runs of a line, and the laws over them. A run shows what one of its requests by number shows (`block_disk`).
-use Rattle.std.specs.Prelude.{ℕ, ◌≡◌, ◌+◌, ◌*◌, ◌<◌, ◌≤◌, ◌==◌, ◌&&◌, nat_lt, Bool, true, false, not, List, [], ◌∷◌, map, length, Option, Some, None, is_none, ◌⊎◌}
+use Rattle.std.specs.Prelude.{ℕ, ◌≡◌, ◌+◌, ◌*◌, ◌<◌, ◌≤◌, ◌==◌, ◌&&◌, nat_lt, Bool, true, false, not, List, [], ◌∷◌, map, length, Option, Some, None, is_none}
 use Rattle.std.specs.List.{filter}
 use Rattle.block_command.specs.declared.command.Command.{Command}
 use Rattle.block_command.specs.declared.command.Stage.{Stage}
 use Rattle.block_command.specs.declared.command.Stage.TheVariants as stage
 use Rattle.block_command.specs.Moments.{IsCommand, Moment, is_queued}
-use Rattle.block_command.specs.Laws.{Input, Goes, Comes, Happening, AskedLoad, AskedStore}
-use Rattle.block_disk.specs.Table.{at, is_under_way, with_input}
-use Rattle.block_disk.specs.Laws.{Shown, At, Reset, IsWired, wire_after}
+use Rattle.block_command.specs.Laws.{Input, Comes, Happening, AskedLoad, AskedStore}
+use Rattle.block_disk.specs.Table.{is_under_way, with_input}
+use Rattle.block_disk.specs.Laws.{At, Reset, IsWired, wire_after}
 use Rattle.block_disk.specs.Requests.{Act, AreSeenRightly, Rises, Seen, OnLink, Asked, Answered, asks, is_answer, no_books, none_queued}
 use Rattle.block_disk.specs.Requests.{numbers_given, seen, seen_by, with_asked, with_table}
 use Rattle.block_disk.specs.Requests as requests

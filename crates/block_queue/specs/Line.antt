@@ -2,7 +2,6 @@
 -- that a reset dropped while it was out.
 use Rattle.std.specs.Prelude.{ℕ, zero, suc, ◌≡◌, ◌<◌, ◌+◌, ◌-◌, ◌==◌, nat_lt, Bool, true, false, not, ◌&&◌, ◌||◌, if◌then◌else◌}
 use Rattle.std.specs.Prelude.{List, length, map, replicate, slice_index_or, slice_set, Option, Some, None, is_none}
-use Rattle.std.specs.Option.{is_some}
 use Rattle.std.specs.List.{range_with_len}
 use Rattle.block_command.specs.declared.command.Command.{Command}
 use Rattle.block_command.specs.declared.command.Stage.{Stage}

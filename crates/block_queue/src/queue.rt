@@ -356,7 +356,11 @@ impl CommandQueue {
         ensures { self.new ≡ line_reset self.old }
     {
         for place in 0..33_u8 {
-            self.orphans[place as usize] = left_of(&self.requests, place, self.orphans[place as usize]);
+            self.orphans[place as usize] = left_of(
+                &self.requests,
+                place,
+                self.orphans[place as usize],
+            );
         }
         self.requests.reset();
     }

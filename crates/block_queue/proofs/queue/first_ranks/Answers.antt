@@ -1,4 +1,4 @@
-use Rattle.std.proofs.Common.{ℕ, ◌<◌, arith}
+use Rattle.std.proofs.Common.{arith}
 use Rattle.block_queue.proofs.Kept.{ranks_all}
 use Rattle.block_queue.proofs.queue.first_ranks.Goals as goal
 

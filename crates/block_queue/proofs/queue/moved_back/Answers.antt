@@ -1,4 +1,4 @@
-use Rattle.std.proofs.Common.{ℕ, ◌<◌, arith, get_or, set, sym, ap, ◌∙◌}
+use Rattle.std.proofs.Common.{arith, get_or, set, ap}
 use Rattle.block_queue.proofs.Kept.{moved_all}
 use Rattle.block_queue.proofs.queue.moved_back.Goals as goal
 

@@ -1,4 +1,4 @@
-use Rattle.std.proofs.Common.{ℕ, ◌<◌, below_more, arith, sym, ◌∙◌}
+use Rattle.std.proofs.Common.{below_more, arith, sym, ◌∙◌}
 use Rattle.block_queue.specs.Line.{waits_for}
 use Rattle.block_queue.proofs.Kept.{any_found, any_none}
 use Rattle.block_queue.proofs.queue.CommandQueue.must_wait.Goals as goal

@@ -1,4 +1,4 @@
-use Rattle.std.proofs.Common.{◌≡◌, ℕ, ◌<◌, None, arith, length-set, subst, ap, ◌∙◌}
+use Rattle.std.proofs.Common.{◌≡◌, arith, length-set, subst, ap, ◌∙◌}
 use Rattle.block_disk.specs.Requests.{queue_reset}
 use Rattle.block_queue.specs.Line.{IsLine, left_at}
 use Rattle.block_queue.proofs.Kept.{left_all, left_more, left_same, others_more, reset_is, reset_kept}
@@ -12,12 +12,12 @@ loop-place-preserved c =
     let xs = c.loop-place.self-inside.orphans in
     let is : c.left_of.result ≡ left_at l p = c.left_of.ensures ∙ left_same l _ _ p i.queue (i.others p (omega arith)) in
     record {
-  queue = i.queue;
-  ranks = i.ranks;
-  long = length-set xs p c.left_of.result ∙ i.long;
-  left = left_more l xs p c.left_of.result i.long c.loop-place-test.true is i.left;
-  others = others_more l xs p c.left_of.result i.others;
-}
+      queue = i.queue;
+      ranks = i.ranks;
+      long = length-set xs p c.left_of.result ∙ i.long;
+      left = left_more l xs p c.left_of.result i.long c.loop-place-test.true is i.left;
+      others = others_more l xs p c.left_of.result i.others;
+    }
 
 pub invariant_of-self : goal.invariant_of-self
 invariant_of-self c =
