@@ -65,6 +65,12 @@ abbrev pub is_ended : Stage → Bool
 is_ended Ended = true
 is_ended _ = false
 
+-- whether it started and has not ended
+abbrev pub runs : Stage → Bool
+runs Waiting = false
+runs Ended = false
+runs _ = true
+
 -- whether the caller is to store a part
 abbrev pub is_storing : Stage → Bool
 is_storing Storing = true

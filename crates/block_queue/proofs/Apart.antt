@@ -11,14 +11,14 @@ use Rattle.std.proofs.lemmas.List.FromFn.{get_or-map-range_with_len}
 use Rattle.block_command.specs.declared.command.Command.{Command}
 use Rattle.block_command.specs.declared.command.Stage.{Stage}
 use Rattle.block_command.specs.declared.command.Stage.TheVariants.{Load, Loading, Store, Storing, Flush, Flushing}
-use Rattle.block_command.specs.Moments.{Moment, gone, is_ended, is_storing, opening, part_count, turn_of}
+use Rattle.block_command.specs.Moments.{Moment, runs, gone, is_ended, is_storing, opening, part_count, turn_of}
 use Rattle.block_command.specs.Laws.{Input, Goes, Comes, Happening, Ledger, after, shown}
 use Rattle.block_command.proofs.Door.{Agrees, same_command, at as moment}
 use Rattle.block_disk.specs.Table.{Table, is_under_way, with_command, with_input}
 use Rattle.block_disk.specs.Laws.{Page, Took, Refused, shown_at}
 use Rattle.block_disk.specs.Requests.{Books, Queue, after_act, number_at, with_table, OnLink, Asked, asks_at, entered_by, is_answer, is_out, is_request, no_books, number_of, seen, with_asked}
 use Rattle.block_disk.proofs.Door.{Agree, Matches}
-use Rattle.block_queue.specs.Line.{Line, IsLine, bars, command_at, conflict, is_in_way, is_of, left_at, left_below, left_of, line_answered, line_reset, moved_back, none_in_line, orphan, orphan_of, rank, runs, share, with_queue}
+use Rattle.block_queue.specs.Line.{Line, IsLine, bars, command_at, conflict, is_in_way, is_of, left_at, left_below, left_of, line_answered, line_reset, moved_back, none_in_line, orphan, orphan_of, rank, share, with_queue}
 use Rattle.block_queue.specs.declared.queue.Orphan.{Orphan}
 use Rattle.block_queue.specs.Deeds.{Deed, Takes, Starts, Sends, Asks, Hears, Answers, Resets, IsDeed, AreDeeds, act_of, after_deed, seen_of}
 use Rattle.block_queue.specs.Deeds.{Out, Has, is_store, AreApart, Each, is_other, is_stored, out_after, IsApart, AllAreApart, RequestsAreApart, waits_for_caller}

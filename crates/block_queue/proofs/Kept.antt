@@ -12,13 +12,13 @@ use Rattle.block_command.specs.declared.command.Stage.{Stage}
 use Rattle.block_command.specs.declared.command.Stage.TheVariants.{Waiting, Load, Loading, SetUpRead, Sending, SetUpWrite, Activate, Receiving, Store, Storing, Flush, End, Fail, Ended}
 use Rattle.block_command.specs.declared.command.Protocol.{Protocol}
 use Rattle.block_command.specs.declared.command.Protocol.TheVariants.{Queued, Dma, Pio, Verify}
-use Rattle.block_command.specs.Moments.{Moment, opening, chunk, data_stage, is_ended, is_queued, is_verify, part_count, part_len, read_end, read_on, started, turn_of, with_sectors}
+use Rattle.block_command.specs.Moments.{Moment, runs, opening, chunk, data_stage, is_ended, is_queued, is_verify, part_count, part_len, read_end, read_on, started, turn_of, with_sectors}
 use Rattle.block_command.specs.Laws.{Input, Goes, Loads, Comes, Stores, Flushes, Fails, after}
 use Rattle.block_command.proofs.Door.{same_command, at as moment}
 use Rattle.block_disk.specs.Table.{Table, at, has_wire, freed, with_command, with_input}
 use Rattle.block_disk.specs.Requests.{Queue, number_at, with_table, with_answer, with_asked, queue_reset, asks_at}
 use Rattle.block_queue.specs.Line.{Line, IsLine, IsClear, IsWired, any_below, first_ranks, none_in_line, orphan, command_at, conflict, is_in_way, bars, is_before}
-use Rattle.block_queue.specs.Line.{waits_for, starts, may_start_at, is_fis, sends_at, with_queue, moved_up, moved_back, orphans_answered, left_below, left_of, left_at, line_reset, runs}
+use Rattle.block_queue.specs.Line.{waits_for, starts, may_start_at, is_fis, sends_at, with_queue, moved_up, moved_back, orphans_answered, left_below, left_of, left_at, line_reset}
 use Rattle.block_queue.specs.declared.queue.Orphan.{Orphan}
 
 -- ## Tests of all places
@@ -631,3 +631,8 @@ reset_is l q ranks orphans e f g = rw (e, f, g) refl
 pub reset_kept : (l : Line) (q : Queue) (ranks : List ℕ) (orphans : List (Option Orphan)) → IsLine l → q ≡ queue_reset l.queue → ranks ≡ l.ranks
     → length orphans ≡ 33 → IsLine (record { queue = q; ranks = ranks; orphans = orphans })
 reset_kept l q ranks orphans line e f long = rw (e, f) (reset_line l orphans line long)
+
+-- the link is of a place
+pub wire_below : (l : Line) (w : Option ℕ) → IsLine l → w ≡ l.queue.table.wire → IfSome w (λ place. place < 33)
+wire_below l None line e = tt
+wire_below l (Some p) line e = (line.wired p (sym e)).0

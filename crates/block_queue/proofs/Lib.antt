@@ -2,3 +2,4 @@ pub mod Kept
 pub mod Deeds
 pub mod Apart
 pub mod Moves
+pub mod Oldest

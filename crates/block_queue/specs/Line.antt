@@ -3,12 +3,11 @@
 use Rattle.std.specs.Prelude.{ℕ, zero, suc, ◌≡◌, ◌<◌, ◌+◌, ◌-◌, ◌==◌, nat_lt, Bool, true, false, not, ◌&&◌, ◌||◌, if◌then◌else◌}
 use Rattle.std.specs.Prelude.{List, length, map, replicate, slice_index_or, slice_set, Option, Some, None, is_none}
 use Rattle.std.specs.List.{range_with_len}
+use Rattle.std.specs.Int.{bit_at}
 use Rattle.block_command.specs.declared.command.Command.{Command}
-use Rattle.block_command.specs.declared.command.Stage.{Stage}
-use Rattle.block_command.specs.declared.command.Stage.TheVariants.{Waiting, Ended}
 use Rattle.block_command.specs.declared.command.Turn.{Turn}
 use Rattle.block_command.specs.declared.command.Turn.TheVariants as turn
-use Rattle.block_command.specs.Moments.{Moment, is_ended, is_storing, turn_of}
+use Rattle.block_command.specs.Moments.{Moment, is_ended, is_storing, runs, turn_of}
 use Rattle.block_command.specs.Laws.{Input, Goes}
 use Rattle.block_disk.specs.Table.{Table, at, has_wire, is_under_way, may_go, with_input, with_taken}
 use Rattle.block_disk.specs.Requests.{Queue, none_queued, number_at, queue_reset, with_answer, with_table}
@@ -101,6 +100,25 @@ sends_at (Some m) = is_fis (turn_of m.stage)
 abbrev pub may_send : Line → ℕ → Bool
 may_send l place = sends_at (command_at l place) && may_go l.queue.table place
 
+-- ## Who goes first
+
+-- the place is in a set of places
+abbrev pub has_bit : ℕ → ℕ → Bool
+has_bit set place = bit_at set place == 1
+
+-- of the places below n that pass the test, this one's command was taken first
+pub record IsOldestBelow (n : ℕ) (ranks : List ℕ) (test : ℕ → Bool) (p : ℕ) : Type 0 where
+  pub below : p < n
+  pub passes : test p ≡ true
+  pub first : (q : ℕ) → q < n → test q ≡ true → is_before ranks q p ≡ false
+
+abbrev pub IsOldest : List ℕ → (ℕ → Bool) → ℕ → Type 0
+IsOldest ranks test p = IsOldestBelow 33 ranks test p
+
+-- no place passes the test
+abbrev pub PassesNowhere : (ℕ → Bool) → Type 0
+PassesNowhere test = (q : ℕ) → q < 33 → test q ≡ false
+
 -- ## What each call leaves
 
 abbrev pub with_queue : Line → Queue → Line
@@ -159,11 +177,6 @@ abbrev pub line_reset : Line → Line
 line_reset l = record l { queue = queue_reset l.queue; orphans = left_below l 33 }
 
 -- ## What every line keeps
-
-abbrev pub runs : Stage → Bool
-runs Waiting = false
-runs Ended = false
-runs _ = true
 
 -- this command may run at a place: none that was taken before it is in its way, and no dropped store is
 pub record IsClear (l : Line) (p : ℕ) (c : Command) : Type 0 where

@@ -5,7 +5,7 @@ ghost use Rattle.block_command.specs.Moments.{IsCommand, Moment};
 ghost use Rattle.block_command.specs.Laws.{Comes, Fails, Flushes, Goes, Loads, Stores};
 ghost use Rattle.block_disk.specs.Table.{at, is_under_way, with_input};
 ghost use Rattle.block_disk.specs.Requests.{asks, number_at, with_asked, with_table};
-ghost use Rattle.block_queue.specs.Line.{Line, any_below, bars, command_at, first_ranks, is_fis, is_in_way, left_of, line_answered, line_gone, line_reset, line_taken, may_send, may_start, moved_back, none_in_line, orphan, orphans_answered, share, starts, waits_for, with_queue};
+ghost use Rattle.block_queue.specs.Line.{IsOldest, Line, PassesNowhere, any_below, bars, command_at, first_ranks, has_bit, is_fis, is_in_way, left_of, line_answered, line_gone, line_reset, line_taken, may_send, may_start, moved_back, none_in_line, orphan, orphans_answered, share, starts, waits_for, with_queue};
 
 use block_command::{BlockCommand, Command, Turn};
 use block_disk::Requests;
@@ -104,6 +104,14 @@ fn first_ranks() -> [u8; 33]
     ranks
 }
 
+/// Whether a set has this place.
+fn has_bit(set: u64, place: u8) -> bool
+    requires { place < 64 }
+    ensures { result ≡ has_bit set place }
+{
+    set >> place & 1 == 1
+}
+
 /// Whether this is a FIS.
 fn is_fis(turn: Turn) -> bool
     ensures { result ≡ is_fis turn }
@@ -195,7 +203,8 @@ impl CommandQueue {
 
     /// The queued command whose Data are on the link.
     pub fn wire(&self) -> Option<u8>
-        ensures { result ≡ self.now.queue.table.wire }
+        ensures value { result ≡ self.now.queue.table.wire }
+        ensures below { IfSome result (λ place. place < 33) }
     {
         self.requests.wire()
     }
@@ -240,6 +249,24 @@ impl CommandQueue {
                 && self.orphans[place as usize].is_none()
                 && !self.must_wait(command.command(), place),
         }
+    }
+
+    /// Of the places in a set, the one whose command was taken first. Bit n of the set is place n.
+    pub fn oldest(&self, set: u64) -> Option<u8>
+        ensures some { IfSome result (IsOldest self.now.ranks (has_bit set)) }
+        ensures none { IfNone result (PassesNowhere (has_bit set)) }
+    {
+        let mut oldest = None;
+        for place in 0..33_u8 {
+            let first = match oldest {
+                None => true,
+                Some(other) => self.ranks[place as usize] < self.ranks[other as usize],
+            };
+            if first && has_bit(set, place) {
+                oldest = Some(place);
+            }
+        }
+        oldest
     }
 
     /// A command starts, which takes the memory of a write.
