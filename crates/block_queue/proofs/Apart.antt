@@ -379,7 +379,7 @@ answered_backed l p number i r other (inl a) = inl (asked_answered l p number i 
 answered_backed l p number i r other (inr d) = inr (dropped_answered l p number _ _ r refl other d)
 
 -- a reset
-left_read : (l : Line) (n p : ℕ) → p < n → get_or (left_below l n) p None ≡ left_at l p
+pub left_read : (l : Line) (n p : ℕ) → p < n → get_or (left_below l n) p None ≡ left_at l p
 unfolding left_below
 left_read l n p low = get_or-map-range_with_len (left_at l) 0 n p p None low (omega arith)
 
@@ -406,7 +406,7 @@ left_keeps None n o none = refl
 left_keeps (Some m) None o none = refl
 left_keeps (Some m) (Some n) o none = keeps_case m n o _ refl (none m refl)
 
-storing_runs : (stage : Stage) → is_storing stage ≡ true → runs stage ≡ true
+pub storing_runs : (stage : Stage) → is_storing stage ≡ true → runs stage ≡ true
 storing_runs Storing e = refl
 storing_runs stage e = absurd (cc)
 

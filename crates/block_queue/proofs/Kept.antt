@@ -71,7 +71,7 @@ any_at test (suc n) q e low = elim (cases_eq q n) [
 -- ## One command
 
 -- it runs only if it ran before, but for its start
-runs_before : (c : Command) (done : ℕ) (bytes : List ℕ) (sent : ℕ) (stage : Stage) (i : Input)
+pub runs_before : (c : Command) (done : ℕ) (bytes : List ℕ) (sent : ℕ) (stage : Stage) (i : Input)
     → (i ≡ Goes → starts (turn_of stage) ≡ false)
     → runs (after (moment c done bytes sent stage) i).stage ≡ true → runs stage ≡ true
 runs_before c done bytes sent Waiting Goes may e = let f = may refl in absurd (cc)

@@ -1,5 +1,6 @@
-pub mod Kept
-pub mod Deeds
-pub mod Apart
-pub mod Moves
-pub mod Oldest
+mod Kept
+mod Deeds
+mod Apart
+mod Moves
+mod Oldest
+pub mod Door

@@ -1,8 +1,7 @@
 -- What goes next at a disk, and how many bytes its commands may hold.
-use Rattle.std.specs.Prelude.{ℕ, zero, suc, ◌≡◌, ◌≢◌, ◌+◌, ◌*◌, ◌<◌, ◌≤◌, nat_le, nat_lt, Bool, true, false, ◌&&◌, ◌⊎◌, Option, Some, None, if◌then◌else◌}
-use Rattle.block_command.specs.declared.command.Command.{Command}
-use Rattle.block_command.specs.Moments.{Moment, part_len}
-use Rattle.block_queue.specs.Line.{Line, IsOldest, PassesNowhere, command_at, may_start, none_in_line, orphan, runs}
+use Rattle.std.specs.Prelude.{ℕ, zero, suc, ◌≡◌, ◌+◌, ◌*◌, ◌<◌, ◌≤◌, nat_le, nat_lt, Bool, true, false, ◌⊎◌, Option, Some, None, if◌then◌else◌}
+use Rattle.block_command.specs.Moments.{Moment, runs}
+use Rattle.block_queue.specs.Line.{Line, IsOldest, PassesNowhere, command_at, may_start, none_in_line, orphan}
 use Rattle.block_queue.specs.declared.queue.Orphan.{Orphan}
 use Rattle.block_scheduler.specs.declared.scheduler.NextFis.{NextFis}
 use Rattle.block_scheduler.specs.declared.scheduler.NextFis.TheVariants.{Ends, Alone}
@@ -84,6 +83,6 @@ IsNextFis l None (Some (Ends tags)) = IsTagsOf tags (ends_at l) × (0 < tags)
 
 -- ## What every schedule keeps
 
-pub record IsKept (l : Line) (limit : ℕ) (sets : Sets) : Type 0 where
-  pub sets : AreSets l sets
+pub record IsKept (l : Line) (limit : ℕ) (s : Sets) : Type 0 where
+  pub sets : AreSets l s
   pub held : held l ≤ limit

@@ -122,7 +122,8 @@ impl Scheduler {
 
     /// The bytes that commands and dropped stores hold.
     pub fn held(&self) -> u64
-        ensures { result ≡ held self.now.line }
+        ensures value { result ≡ held self.now.line }
+        ensures most { result ≤ 69206016 }
     {
         let mut held = 0;
         for place in 0..33_u8 {
@@ -159,8 +160,7 @@ impl Scheduler {
     {
         let mut ready = 0;
         for place in 0..33_u8 {
-            let may = has_bit(self.sets.waiting, place) && self.queue.may_start(place);
-            ready = with_place(ready, place, may);
+            ready = with_place(ready, place, self.queue.may_start(place));
         }
         ready
     }

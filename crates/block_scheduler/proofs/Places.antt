@@ -1,14 +1,13 @@
 -- Sets of places.
-use Rattle.std.proofs.Common.{◌≡◌, ◌≢◌, ℕ, ◌+◌, ◌*◌, ◌%◌, ◌^◌, ◌<◌, ◌≤◌, true, false, List, Some, None, refl, sym, ap, ◌∙◌, arith, inl, inr, get_or, set, w32, w64, bit_or, bit_and}
-use Rattle.std.specs.Prelude.{Option, Bool, nat_eq, nat_lt, not, ◌&&◌, ◌==◌}
-use Rattle.std.specs.Int.{bit_at, bit_not}
+use Rattle.std.proofs.Common.{◌≡◌, ◌≢◌, ℕ, ◌+◌, ◌*◌, ◌%◌, ◌^◌, ◌<◌, true, false, List, refl, sym, ap, ◌∙◌, arith, inl, inr, w32, w64, bit_or, bit_and}
+use Rattle.std.specs.Prelude.{Bool, nat_eq}
+use Rattle.std.specs.Int.{bit_not}
 use Rattle.std.proofs.lemmas.Bool.{cases_eq, eq-eqb}
 use Rattle.std.proofs.lemmas.Nat.Bits.{bit_at_set_same, bit_at_set_other, bit_at_clear_same, bit_at_clear_other, bit_at-zero}
-use Rattle.block_command.specs.declared.command.Turn.{Turn}
 use Rattle.block_disk.specs.Requests.{is_request}
-use Rattle.block_queue.specs.Line.{Line, command_at, has_bit, starts}
+use Rattle.block_queue.specs.Line.{IsOldest, Line, PassesNowhere, command_at, has_bit, starts}
 use Rattle.block_scheduler.specs.declared.sets.Sets.{Sets}
-use Rattle.block_scheduler.specs.Sets.{AreSets, IsNoted, IsSetOf, IsTagsOf, IsWith, IsWithTag, asks_at, ends_at, is_end, sends_alone, sends_at, turn_at, waits_at}
+use Rattle.block_scheduler.specs.Sets.{AreSets, IsNoted, IsSetOf, IsTagsOf, IsWith, IsWithTag, is_end, sends_alone, turn_at}
 
 abbrev pub bit : ℕ → Bool
 bit n = nat_eq n 1
@@ -76,3 +75,24 @@ noted_sets old new s t p are noted same = record {
   sending = set_with _ _ p _ _ _ noted.sending are.sending refl (λ q low apart. ap (λ x. sends_alone q (turn_at x)) (same q low apart));
   ending = tags_with _ _ p _ _ _ noted.ending are.ending refl (λ q low apart. ap (λ x. is_end (turn_at x)) (same q low apart));
 }
+
+-- ## A set that is made place by place
+
+pub place_more : (test : ℕ → Bool) (old new p : ℕ) (is : Bool) → p < 33 → IsWith old new p is → is ≡ test p
+    → ((q : ℕ) → q < p → has_bit old q ≡ test q) → (q : ℕ) → q < p + 1 → has_bit new q ≡ test q
+place_more test old new p is low with' here before q below = elim (cases_eq q p) [
+  | inl same ↦ ap (has_bit new) same ∙ with'.here ∙ here ∙ sym (ap test same)
+  | inr apart ↦ with'.others q (omega (arith, below, low)) apart ∙ before q (omega (arith, below, apart))
+]
+
+-- ## Tests that agree
+
+pub oldest_as : (ranks : List ℕ) (f g : ℕ → Bool) (p : ℕ) → ((q : ℕ) → q < 33 → f q ≡ g q) → IsOldest ranks f p → IsOldest ranks g p
+oldest_as ranks f g p same oldest = record {
+  below = oldest.below;
+  passes = sym (same p oldest.below) ∙ oldest.passes;
+  first = λ q low e. oldest.first q low (same q low ∙ e);
+}
+
+pub nowhere_as : (f g : ℕ → Bool) → ((q : ℕ) → q < 33 → f q ≡ g q) → PassesNowhere f → PassesNowhere g
+nowhere_as f g same none = λ q low. sym (same q low) ∙ none q low
