@@ -65,6 +65,17 @@ abbrev pub is_ended : Stage → Bool
 is_ended Ended = true
 is_ended _ = false
 
+-- whether it started and has not ended
+abbrev pub runs : Stage → Bool
+runs Waiting = false
+runs Ended = false
+runs _ = true
+
+-- whether the caller is to store a part
+abbrev pub is_storing : Stage → Bool
+is_storing Storing = true
+is_storing _ = false
+
 -- whether its DMA Setup went and not all of its Data: a read that has sent a part, a write that has more to come
 abbrev pub is_set_up : Moment → Stage → Bool
 is_set_up m Announce = true

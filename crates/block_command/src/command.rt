@@ -1,7 +1,7 @@
 //! A command and its stages.
 
 ghost use Rattle.std.specs.Prelude.{◌≡◌, ◌+◌, ◌-◌, ◌*◌, ◌<◌, ◌≤◌, ◌^◌, [], length, IfOk, OnOk, OnErr, take, drop};
-ghost use Rattle.block_command.specs.Moments.{IsCommand, IsMoment, Moment, after_came, after_failed, after_flushed, after_loaded, after_stored, chunk, data_stage, first_data_stage, gone, holds, is_ended, is_queued, is_verify, opening, part_count, part_len, part_lba, part_of, read_end, read_on, sent_to, started, turn_of};
+ghost use Rattle.block_command.specs.Moments.{IsCommand, IsMoment, Moment, after_came, after_failed, after_flushed, after_loaded, after_stored, chunk, data_stage, first_data_stage, gone, holds, is_ended, is_queued, is_storing, is_verify, opening, part_count, part_len, part_lba, part_of, read_end, read_on, runs, sent_to, started, turn_of};
 
 use std::alloc::{AllocError, Global};
 use std::marker::Model;
@@ -213,7 +213,8 @@ impl BlockCommand {
 
     /// The command.
     pub fn command(&self) -> Command
-        ensures { result ≡ self.now.command }
+        ensures value { result ≡ self.now.command }
+        ensures is { IsCommand result }
     {
         self.command
     }
@@ -243,6 +244,20 @@ impl BlockCommand {
         ensures { result ≡ is_ended self.now.stage }
     {
         matches!(self.stage, Stage::Ended)
+    }
+
+    /// Whether it started and has not ended.
+    pub fn is_running(&self) -> bool
+        ensures { result ≡ runs self.now.stage }
+    {
+        !matches!(self.stage, Stage::Waiting | Stage::Ended)
+    }
+
+    /// Whether it asked to store a part, and was not answered.
+    pub fn is_storing(&self) -> bool
+        ensures { result ≡ is_storing self.now.stage }
+    {
+        matches!(self.stage, Stage::Storing)
     }
 
     /// Whether the Data on the link are its own: it is queued, its DMA Setup FIS went, and not all of its Data.

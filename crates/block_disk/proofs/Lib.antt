@@ -1,3 +1,4 @@
 mod Ends
 mod Wire
 mod Numbers
+pub mod Door

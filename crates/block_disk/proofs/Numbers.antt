@@ -14,11 +14,11 @@ use Rattle.block_disk.proofs.Ends.{Kept, Matches, kept_none, next}
 use Rattle.std.specs.Option.{option_map}
 use Rattle.block_command.specs.declared.command.Command.{Command}
 
-record Agree (q : Queue) (b : Books) : Type 0 where
+pub record Agree (q : Queue) (b : Books) : Type 0 where
   pub kept : Kept q.table.places b.pages
   pub out : b.out ≡ q.out
 
-abbrev Next : Queue → Act → Books → Type 0
+abbrev pub Next : Queue → Act → Books → Type 0
 Next q a b = IsSeenRightly b (seen q a) × Agree (after_act q a) (entered_by b (seen q a))
 
 takes_none : (out was : List ℕ) (b : Bool) (c : Command) → out ≡ was → out_after out (if b then Refused c else Took c) ≡ was
@@ -72,7 +72,7 @@ answers_case q b place i true true same agree low is =
     let none : at q.table place ≡ None → at_page b.pages place ≡ None = no_page _ _ (agree.kept.each place) in
     record { kept = rw (sym (entered_as b.pages place (at q.table place) i none is)) n.1; out = ap (λ out. set out place 0) agree.out }
 
-one : (q : Queue) (a : Act) (b : Books) → Agree q b → IsAct a → Next q a b
+pub one : (q : Queue) (a : Act) (b : Books) → Agree q b → IsAct a → Next q a b
 one q (Takes c) b agree is =
     let n = next q.table b.pages (laws.Takes c) agree.kept is in (n.0, record { kept = n.1; out = takes_none b.out q.out _ c agree.out })
 one q (Sends place) b agree is = does q b place Goes agree is

@@ -112,11 +112,11 @@ is_setting_up c done bytes sent stage i place w e = absurd (cc)
 
 -- ## The table
 
-abbrev IsOwn : ℕ → Option Moment → Type 0
+abbrev pub IsOwn : ℕ → Option Moment → Type 0
 IsOwn place None = Unit {0}
 IsOwn place (Some m) = is_queued m.command.protocol ≡ nat_lt place 32
 
-record Held (d : Table) (w : Option ℕ) : Type 0 where
+pub record Held (d : Table) (w : Option ℕ) : Type 0 where
   pub commands : length d.places ≡ 33
   pub own : (t : ℕ) → IsOwn t (get_or d.places t None)
   pub is : (t : ℕ) → has_wire (get_or d.places t None) ≡ true → d.wire ≡ Some t
@@ -199,7 +199,7 @@ no_holder None b e f = refl
 no_holder (Some t) true e f = absurd (cc)
 no_holder (Some t) false e f = absurd (cc)
 
-abbrev Next : Table → Option ℕ → Shown → Type 0
+abbrev pub Next : Table → Option ℕ → Shown → Type 0
 Next d w s = IsWired w s × Held d (wire_after w s)
 
 and_true : (a b : Bool) → a ≡ true → b ≡ true → (a && b) ≡ true
@@ -277,7 +277,7 @@ takes : (d : Table) (w : Option ℕ) (c : Command) (b : Bool) → Held d w → c
 takes d w c true held low own = (tt, held)
 takes d w c false held low own = (tt, placed d w c.place _ held low own (λ h. absurd (opening_waits c h)))
 
-none_held : (n : ℕ) (w : Option ℕ) → n ≡ 33 → Held (record { places = replicate n None; wire = None }) w
+pub none_held : (n : ℕ) (w : Option ℕ) → n ≡ 33 → Held (record { places = replicate n None; wire = None }) w
 none_held n w is = record {
   commands = length-replicate n None ∙ is;
   own = λ t. rw (each_is (Option Moment) n t None) tt;
@@ -285,7 +285,7 @@ none_held n w is = record {
   named = λ t e. absurd (cc);
 }
 
-next : (d : Table) (w : Option ℕ) (e : Event) → Held d w → IsAllowed d e → Next (after d e) w (shown d e)
+pub next : (d : Table) (w : Option ℕ) (e : Event) → Held d w → IsAllowed d e → Next (after d e) w (shown d e)
 next d w (Takes c) held may = takes d w c _ held may.0 may.2
 next d w (Does place Goes) held may =
     does d place _ w Goes _ (λ m e. case_at _ Goes m e) refl held may.0 (held.own place) (λ e. may.1) (λ part e. absurd (cc))

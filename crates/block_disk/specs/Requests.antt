@@ -36,6 +36,13 @@ asks q place = asks_at (at q.table place)
 abbrev pub is_out : List ℕ → ℕ → ℕ → Bool
 is_out out place number = nat_lt 0 number && (slice_index_or out place 0 == number)
 
+abbrev pub number_of : ℕ → Option ℕ
+number_of number = if nat_lt 0 number then Some number else None
+
+-- the number of the request that is out at a place
+abbrev pub number_at : List ℕ → ℕ → Option ℕ
+number_at out place = number_of (slice_index_or out place 0)
+
 abbrev pub with_table : Queue → Table → Queue
 with_table q t = record q { table = t }
 

@@ -4,7 +4,7 @@ ghost use Rattle.std.specs.Prelude.{◌≡◌, ◌+◌, ◌<◌, ◌≤◌, ◌^
 ghost use Rattle.block_command.specs.Moments.{IsCommand, Moment};
 ghost use Rattle.block_command.specs.Laws.{Comes, Fails, Flushes, Goes, Loads, Stores};
 ghost use Rattle.block_disk.specs.Table.{at, is_under_way, may_go, with_input, with_taken};
-ghost use Rattle.block_disk.specs.Requests.{Queue, asks, is_out, is_request, none_queued, queue_reset, with_answer, with_asked, with_table};
+ghost use Rattle.block_disk.specs.Requests.{Queue, asks, is_out, is_request, none_queued, number_at, queue_reset, with_answer, with_asked, with_table};
 
 use crate::commands::Commands;
 use block_command::{BlockCommand, Command, Turn};
@@ -144,6 +144,15 @@ impl Requests {
         ensures err { OnErr result (self.new ≡ self.old) }
     {
         self.commands.came(place, part)
+    }
+
+    /// The number of the request that is out at this place.
+    pub fn number(&self, place: u8) -> Option<u64>
+        requires { place < 33 }
+        ensures { result ≡ number_at self.now.out place }
+    {
+        let number = self.out[place as usize];
+        if 0 < number { Some(number) } else { None }
     }
 
     /// Whether the request of this number is out at this place.

@@ -1,0 +1,6 @@
+mod Kept
+mod Deeds
+mod Apart
+mod Moves
+mod Oldest
+pub mod Door

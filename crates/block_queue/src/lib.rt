@@ -1,0 +1,11 @@
+//! The commands of a block disk, of which those that share a sector are kept apart.
+#![tactic(auto)]
+
+mod laws;
+mod queue;
+
+pub use laws::{
+    data_are_named, ends_are_earned, numbers_are_fresh, requests_are_apart, something_moves,
+    taken_is_last,
+};
+pub use queue::{CommandQueue, Orphan};

@@ -1,0 +1,394 @@
+//! The queue of the commands under way.
+
+ghost use Rattle.std.specs.Prelude.{◌≡◌, ◌<◌, ◌≤◌, ◌^◌, true, IfOk, IfSome, IfNone, List, None, OnErr, OnOk, Option, Some, length};
+ghost use Rattle.block_command.specs.Moments.{IsCommand, Moment};
+ghost use Rattle.block_command.specs.Laws.{Comes, Fails, Flushes, Goes, Loads, Stores};
+ghost use Rattle.block_disk.specs.Table.{at, is_under_way, with_input};
+ghost use Rattle.block_disk.specs.Requests.{asks, number_at, with_asked, with_table};
+ghost use Rattle.block_queue.specs.Line.{IsOldest, Line, PassesNowhere, any_below, bars, command_at, first_ranks, has_bit, is_fis, is_in_way, left_of, line_answered, line_gone, line_reset, line_taken, may_send, may_start, moved_back, none_in_line, orphan, orphans_answered, share, starts, waits_for, with_queue};
+
+use block_command::{BlockCommand, Command, Turn};
+use block_disk::Requests;
+use std::alloc::{AllocError, Global};
+use std::marker::Model;
+
+/// A store that a reset dropped while it was out: the caller may still do it, until it is answered.
+#[derive(Clone, Copy, Debug, PartialEq, Eq)]
+pub struct Orphan {
+    /// The first sector of its command.
+    pub lba: u64,
+    /// The sectors of its command.
+    pub count: u32,
+    /// The number of the store.
+    pub number: u64,
+}
+
+/// The commands under way. A command starts once no command that was taken before it, and no dropped store, shares a
+/// sector with it where one of the two writes. So of requests that are out no two do.
+#[derive(Drop)]
+pub struct CommandQueue {
+    requests: Requests,
+    ranks: [u8; 33],
+    orphans: [Option<Orphan>; 33],
+}
+
+impl Model for CommandQueue {
+    ghost use Rattle.block_queue.specs.Line.{IsLine, Line};
+
+    ghost Value = { Line };
+
+    ghost view = { λ c. record { queue = c.requests; ranks = c.ranks; orphans = c.orphans } };
+
+    ghost invariant = { λ c. IsLine (record { queue = c.requests; ranks = c.ranks; orphans = c.orphans }) };
+}
+
+/// Whether so many sectors from one on, and so many from another on, have one in common.
+fn share(lba: u64, count: u32, other: u64, many: u32) -> bool
+    requires { 0 < count }
+    ensures { result ≡ share lba count other many }
+{
+    if lba < other {
+        other - lba < count as u64
+    } else {
+        lba - other < many as u64
+    }
+}
+
+/// Whether a command is under way that is in the way of this one.
+fn is_in_way(command: Command, other: &BlockCommand) -> bool
+    requires { 0 < command.count }
+    ensures { result ≡ is_in_way command (Some other.now) }
+{
+    if other.is_ended() {
+        return false;
+    }
+    let other = other.command();
+    (command.write || other.write) && share(command.lba, command.count, other.lba, other.count)
+}
+
+/// Whether a dropped store has a sector of this command.
+fn bars(command: Command, orphan: Option<Orphan>) -> bool
+    requires { 0 < command.count }
+    ensures { result ≡ bars command orphan }
+{
+    match orphan {
+        None => false,
+        Some(orphan) => share(command.lba, command.count, orphan.lba, orphan.count),
+    }
+}
+
+/// The ranks after a command was taken at this place.
+fn moved_back(ranks: [u8; 33], place: u8) -> [u8; 33]
+    requires { place < 33 }
+    ensures { result ≡ moved_back ranks place }
+{
+    let last = ranks[place as usize];
+    let mut moved = ranks;
+    for other in 0..33usize {
+        if last < ranks[other] {
+            moved[other] = ranks[other] - 1;
+        }
+    }
+    moved[place as usize] = 32;
+    moved
+}
+
+/// The ranks of places at which nothing was taken.
+fn first_ranks() -> [u8; 33]
+    ensures { result ≡ first_ranks 33 }
+{
+    let mut ranks = [0; 33];
+    for place in 0..33_u8 {
+        ranks[place as usize] = place;
+    }
+    ranks
+}
+
+/// Whether a set has this place.
+fn has_bit(set: u64, place: u8) -> bool
+    requires { place < 64 }
+    ensures { result ≡ has_bit set place }
+{
+    set >> place & 1 == 1
+}
+
+/// Whether this is a FIS.
+fn is_fis(turn: Turn) -> bool
+    ensures { result ≡ is_fis turn }
+{
+    matches!(
+        turn,
+        Turn::SetUp | Turn::Announce | Turn::Data | Turn::Activate | Turn::End | Turn::Fail
+    )
+}
+
+/// Whether this is the start.
+fn is_start(turn: Turn) -> bool
+    ensures { result ≡ starts turn }
+{
+    matches!(turn, Turn::Start)
+}
+
+/// What a reset leaves of a place.
+fn left_of(requests: &Requests, place: u8, was: Option<Orphan>) -> Option<Orphan>
+    requires { place < 33 }
+    ensures { result ≡ left_of (at requests.now.table place) (number_at requests.now.out place) was }
+{
+    let Some(command) = requests.get(place) else {
+        return was;
+    };
+    let Some(number) = requests.number(place) else {
+        return was;
+    };
+    if !command.is_storing() {
+        return was;
+    }
+    let command = command.command();
+    Some(Orphan {
+        lba: command.lba,
+        count: command.count,
+        number,
+    })
+}
+
+impl CommandQueue {
+    /// No command is under way.
+    pub fn new(alloc: Global) -> Result<CommandQueue, AllocError>
+        ensures { IfOk result (λ l. l ≡ none_in_line) }
+    {
+        Ok(CommandQueue {
+            requests: Requests::new(alloc)?,
+            ranks: first_ranks(),
+            orphans: [None; 33],
+        })
+    }
+
+    /// A command is taken, unless its place is under way.
+    pub fn take(&mut self, alloc: Global, command: Command)
+        requires place { command.place < 33 }
+        requires is { IsCommand command }
+        ensures { self.new ≡ line_taken self.old command }
+    {
+        if self.requests.is_taken(command.place) {
+            return;
+        }
+        self.requests.take(alloc, command);
+        self.ranks = moved_back(self.ranks, command.place);
+    }
+
+    /// Whether the place is under way.
+    pub fn is_taken(&self, place: u8) -> bool
+        requires { place < 33 }
+        ensures { result ≡ is_under_way (command_at self.now place) }
+    {
+        self.requests.is_taken(place)
+    }
+
+    /// The command of a place.
+    pub fn get(&self, place: u8) -> Option<&BlockCommand>
+        requires { place < 33 }
+        ensures some { IfSome result (λ command. command_at self.now place ≡ Some command.now) }
+        ensures none { IfNone result (command_at self.now place ≡ None) }
+    {
+        self.requests.get(place)
+    }
+
+    /// The store of a place that a reset dropped, and that is not answered.
+    pub fn orphan(&self, place: u8) -> Option<Orphan>
+        requires { place < 33 }
+        ensures { result ≡ orphan self.now place }
+    {
+        self.orphans[place as usize]
+    }
+
+    /// The queued command whose Data are on the link.
+    pub fn wire(&self) -> Option<u8>
+        ensures value { result ≡ self.now.queue.table.wire }
+        ensures below { IfSome result (λ place. place < 33) }
+    {
+        self.requests.wire()
+    }
+
+    /// Whether this command waits for what stands at another place.
+    fn waits_for(&self, command: Command, place: u8, other: u8) -> bool
+        requires place { place < 33 }
+        requires other { other < 33 }
+        requires some { 0 < command.count }
+        ensures { result ≡ waits_for self.now command place other }
+    {
+        let first = self.ranks[other as usize] < self.ranks[place as usize];
+        let stands = match self.requests.get(other) {
+            None => false,
+            Some(other) => first && is_in_way(command, other),
+        };
+        stands || bars(command, self.orphans[other as usize])
+    }
+
+    /// Whether this command waits for what stands at any place.
+    fn must_wait(&self, command: Command, place: u8) -> bool
+        requires place { place < 33 }
+        requires some { 0 < command.count }
+        ensures { result ≡ any_below (waits_for self.now command place) 33 }
+    {
+        for other in 0..33_u8 {
+            if self.waits_for(command, place, other) {
+                return true;
+            }
+        }
+        false
+    }
+
+    /// Whether the command of a place may start: it waits for its start, and for nothing else.
+    pub fn may_start(&self, place: u8) -> bool
+        requires { place < 33 }
+        ensures { result ≡ may_start self.now place }
+    {
+        match self.requests.get(place) {
+            None => false,
+            Some(command) => is_start(command.turn())
+                && self.orphans[place as usize].is_none()
+                && !self.must_wait(command.command(), place),
+        }
+    }
+
+    /// Of the places in a set, the one whose command was taken first. Bit n of the set is place n.
+    pub fn oldest(&self, set: u64) -> Option<u8>
+        ensures some { IfSome result (IsOldest self.now.ranks (has_bit set)) }
+        ensures none { IfNone result (PassesNowhere (has_bit set)) }
+    {
+        let mut oldest = None;
+        for place in 0..33_u8 {
+            let first = match oldest {
+                None => true,
+                Some(other) => self.ranks[place as usize] < self.ranks[other as usize],
+            };
+            if first && has_bit(set, place) {
+                oldest = Some(place);
+            }
+        }
+        oldest
+    }
+
+    /// A command starts, which takes the memory of a write.
+    pub fn start(&mut self, place: u8) -> Result<(), AllocError>
+        requires place { place < 33 }
+        requires may { may_start self.old place ≡ true }
+        ensures ok { OnOk result (self.new ≡ line_gone self.old place) }
+        ensures err { OnErr result (self.new ≡ self.old) }
+    {
+        self.requests.start(place)
+    }
+
+    /// Whether the FIS that is next for a command may be sent: while a command has the wire, no other sends.
+    pub fn may_send(&self, place: u8) -> bool
+        requires { place < 33 }
+        ensures { result ≡ may_send self.now place }
+    {
+        match self.requests.get(place) {
+            None => false,
+            Some(command) => is_fis(command.turn()) && self.requests.may_go(place),
+        }
+    }
+
+    /// The FIS that was next for a command was sent.
+    pub fn send(&mut self, place: u8)
+        requires place { place < 33 }
+        requires may { may_send self.old place ≡ true }
+        ensures { self.new ≡ line_gone self.old place }
+    {
+        self.requests.send(place);
+    }
+
+    /// Whether what is next for a command is a request to the caller. It may be asked at once.
+    pub fn asks(&self, place: u8) -> bool
+        requires { place < 33 }
+        ensures { result ≡ asks self.now.queue place }
+    {
+        self.requests.asks(place)
+    }
+
+    /// The request that was next for a command is asked, and has this number. None where the numbers are used up:
+    /// 2 ^ 63 requests were asked.
+    pub fn ask(&mut self, place: u8) -> Option<u64>
+        requires place { place < 33 }
+        requires may { asks self.old.queue place ≡ true }
+        ensures some { IfSome result (λ number. number ≡ self.old.queue.next) }
+        ensures asked { IfSome result (λ number. self.new ≡ with_queue self.old (with_asked self.old.queue place)) }
+        ensures none { IfNone result ((2 ^ 63 ≤ self.old.queue.next) × (self.new ≡ self.old)) }
+    {
+        self.requests.ask(place)
+    }
+
+    /// Data came for a command.
+    pub fn came(&mut self, place: u8, part: &[u8]) -> Result<(), AllocError>
+        requires { place < 33 }
+        ensures ok { OnOk result (self.new
+            ≡ with_queue self.old (with_table self.old.queue (with_input self.old.queue.table place (Comes part.now)))) }
+        ensures err { OnErr result (self.new ≡ self.old) }
+    {
+        self.requests.came(place, part)
+    }
+
+    /// The caller answers the request of this number: a store that waits for that is no orphan any more.
+    fn forget(&mut self, place: u8, number: u64)
+        requires { place < 33 }
+        ensures { self.new ≡ record { queue = self.old.queue; ranks = self.old.ranks; orphans = orphans_answered self.old.orphans place number } }
+    {
+        if let Some(orphan) = self.orphans[place as usize]
+            && orphan.number == number
+        {
+            self.orphans[place as usize] = None;
+        }
+    }
+
+    /// The caller gives the sectors that the request of this number asked for.
+    pub fn loaded(&mut self, place: u8, number: u64, bytes: Vec<u8>)
+        requires { place < 33 }
+        ensures { self.new ≡ line_answered self.old place number (Loads bytes.items) }
+    {
+        self.requests.loaded(place, number, bytes);
+        self.forget(place, number);
+    }
+
+    /// The caller stored the bytes of the request of this number.
+    pub fn stored(&mut self, place: u8, number: u64)
+        requires { place < 33 }
+        ensures { self.new ≡ line_answered self.old place number Stores }
+    {
+        self.requests.stored(place, number);
+        self.forget(place, number);
+    }
+
+    /// The caller flushed its medium for the request of this number.
+    pub fn flushed(&mut self, place: u8, number: u64)
+        requires { place < 33 }
+        ensures { self.new ≡ line_answered self.old place number Flushes }
+    {
+        self.requests.flushed(place, number);
+        self.forget(place, number);
+    }
+
+    /// The caller could not do what the request of this number asked for.
+    pub fn failed(&mut self, place: u8, number: u64)
+        requires { place < 33 }
+        ensures { self.new ≡ line_answered self.old place number Fails }
+    {
+        self.requests.failed(place, number);
+        self.forget(place, number);
+    }
+
+    /// All that is under way is gone: a software reset, a plug, or an error of queued commands. A store that was out
+    /// may still be done, so it stays as an orphan.
+    pub fn reset(&mut self)
+        ensures { self.new ≡ line_reset self.old }
+    {
+        for place in 0..33_u8 {
+            self.orphans[place as usize] = left_of(
+                &self.requests,
+                place,
+                self.orphans[place as usize],
+            );
+        }
+        self.requests.reset();
+    }
+}

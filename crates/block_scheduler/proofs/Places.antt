@@ -1,0 +1,98 @@
+-- Sets of places.
+use Rattle.std.proofs.Common.{◌≡◌, ◌≢◌, ℕ, ◌+◌, ◌*◌, ◌%◌, ◌^◌, ◌<◌, true, false, List, refl, sym, ap, ◌∙◌, arith, inl, inr, w32, w64, bit_or, bit_and}
+use Rattle.std.specs.Prelude.{Bool, nat_eq}
+use Rattle.std.specs.Int.{bit_not}
+use Rattle.std.proofs.lemmas.Bool.{cases_eq, eq-eqb}
+use Rattle.std.proofs.lemmas.Nat.Bits.{bit_at_set_same, bit_at_set_other, bit_at_clear_same, bit_at_clear_other, bit_at-zero}
+use Rattle.block_disk.specs.Requests.{is_request}
+use Rattle.block_queue.specs.Line.{IsOldest, Line, PassesNowhere, command_at, has_bit, starts}
+use Rattle.block_scheduler.specs.declared.sets.Sets.{Sets}
+use Rattle.block_scheduler.specs.Sets.{AreSets, IsNoted, IsSetOf, IsTagsOf, IsWith, IsWithTag, is_end, sends_alone, turn_at}
+
+abbrev pub bit : ℕ → Bool
+bit n = nat_eq n 1
+
+-- ## One place
+
+pub set_place : (s p : ℕ) → p < 33 → IsWith s (bit_or s (1 * 2 ^ p % 2 ^ 64)) p true
+set_place s p low = record {
+  here = eq-eqb _ _ (bit_at_set_same w64 s p (omega (arith, low)));
+  others = λ q low' apart. ap bit (bit_at_set_other w64 s p (omega (arith, low)) q apart);
+}
+
+pub clear_place : (s p : ℕ) → p < 33 → IsWith s (bit_and s (bit_not w64 (1 * 2 ^ p % 2 ^ 64))) p false
+clear_place s p low = record {
+  here = ap bit (bit_at_clear_same w64 s p (omega (arith, low)));
+  others = λ q low' apart. ap bit (bit_at_clear_other w64 s p (omega (arith, low)) q (omega (arith, low')) apart);
+}
+
+pub set_tag : (s p : ℕ) → p < 32 → IsWithTag s (bit_or s (1 * 2 ^ p % 2 ^ 32)) p true
+set_tag s p low = record {
+  here = λ low. eq-eqb _ _ (bit_at_set_same w32 s p (omega (arith, low)));
+  others = λ q low' apart. ap bit (bit_at_set_other w32 s p (omega (arith, low)) q apart);
+}
+
+pub clear_tag : (s p : ℕ) → p < 32 → IsWithTag s (bit_and s (bit_not w32 (1 * 2 ^ p % 2 ^ 32))) p false
+clear_tag s p low = record {
+  here = λ low. ap bit (bit_at_clear_same w32 s p (omega (arith, low)));
+  others = λ q low' apart. ap bit (bit_at_clear_other w32 s p (omega (arith, low)) q (omega (arith, low')) apart);
+}
+
+pub same_tags : (s p : ℕ) (is : Bool) → p ≡ 32 → IsWithTag s s p is
+same_tags s p is e = record { here = λ low. absurd (omega (arith, low, e)); others = λ q low apart. refl }
+
+pub empty : (test : ℕ → Bool) → ((q : ℕ) → q < 33 → test q ≡ false) → IsSetOf 0 test
+empty test none = λ q low. ap bit (bit_at-zero q) ∙ sym (none q low)
+
+pub empty_tags : (test : ℕ → Bool) → ((q : ℕ) → q < 32 → test q ≡ false) → IsTagsOf 0 test
+empty_tags test none = λ q low. ap bit (bit_at-zero q) ∙ sym (none q low)
+
+-- ## All sets
+
+-- what is next at the other places is as it was
+abbrev pub SameOthers : Line → Line → ℕ → Type 0
+SameOthers old new p = (q : ℕ) → q < 33 → q ≢ p → command_at new q ≡ command_at old q
+
+set_with : (old new p : ℕ) (is : Bool) (was now : ℕ → Bool) → IsWith old new p is → IsSetOf old was → now p ≡ is
+    → ((q : ℕ) → q < 33 → q ≢ p → now q ≡ was q) → IsSetOf new now
+set_with old new p is was now with' of here others = λ q low. elim (cases_eq q p) [
+  | inl same ↦ ap (has_bit new) same ∙ with'.here ∙ sym here ∙ sym (ap now same)
+  | inr apart ↦ with'.others q low apart ∙ of q low ∙ sym (others q low apart)
+]
+
+tags_with : (old new p : ℕ) (is : Bool) (was now : ℕ → Bool) → IsWithTag old new p is → IsTagsOf old was → now p ≡ is
+    → ((q : ℕ) → q < 33 → q ≢ p → now q ≡ was q) → IsTagsOf new now
+tags_with old new p is was now with' of here others = λ q low. elim (cases_eq q p) [
+  | inl same ↦ ap (has_bit new) same ∙ with'.here (omega (arith, low, same)) ∙ sym here ∙ sym (ap now same)
+  | inr apart ↦ with'.others q low apart ∙ of q low ∙ sym (others q (omega (arith, low)) apart)
+]
+
+pub noted_sets : (old new : Line) (s t : Sets) (p : ℕ) → AreSets old s → IsNoted s t p (turn_at (command_at new p)) → SameOthers old new p
+    → AreSets new t
+noted_sets old new s t p are noted same = record {
+  waiting = set_with _ _ p _ _ _ noted.waiting are.waiting refl (λ q low apart. ap (λ x. starts (turn_at x)) (same q low apart));
+  asking = set_with _ _ p _ _ _ noted.asking are.asking refl (λ q low apart. ap (λ x. is_request (turn_at x)) (same q low apart));
+  sending = set_with _ _ p _ _ _ noted.sending are.sending refl (λ q low apart. ap (λ x. sends_alone q (turn_at x)) (same q low apart));
+  ending = tags_with _ _ p _ _ _ noted.ending are.ending refl (λ q low apart. ap (λ x. is_end (turn_at x)) (same q low apart));
+}
+
+-- ## A set that is made place by place
+
+pub place_more : (test : ℕ → Bool) (old new p : ℕ) (is : Bool) → p < 33 → IsWith old new p is → is ≡ test p
+    → ((q : ℕ) → q < p → has_bit old q ≡ test q) → (q : ℕ) → q < p + 1 → has_bit new q ≡ test q
+place_more test old new p is low with' here before q below = elim (cases_eq q p) [
+  | inl same ↦ ap (has_bit new) same ∙ with'.here ∙ here ∙ sym (ap test same)
+  | inr apart ↦ with'.others q (omega (arith, below, low)) apart ∙ before q (omega (arith, below, apart))
+]
+
+-- ## Tests that agree
+
+pub oldest_as : (ranks : List ℕ) (f g : ℕ → Bool) (p : ℕ) → ((q : ℕ) → q < 33 → f q ≡ g q) → IsOldest ranks f p → IsOldest ranks g p
+oldest_as ranks f g p same oldest = record {
+  below = oldest.below;
+  passes = sym (same p oldest.below) ∙ oldest.passes;
+  first = λ q low e. oldest.first q low (same q low ∙ e);
+}
+
+pub nowhere_as : (f g : ℕ → Bool) → ((q : ℕ) → q < 33 → f q ≡ g q) → PassesNowhere f → PassesNowhere g
+nowhere_as f g same none = λ q low. sym (same q low) ∙ none q low

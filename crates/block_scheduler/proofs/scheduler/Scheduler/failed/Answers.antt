@@ -1,0 +1,9 @@
+use Rattle.std.proofs.Common.{refl}
+use Rattle.block_command.specs.Laws.{Fails}
+use Rattle.block_scheduler.proofs.Held.{answered_kept}
+use Rattle.block_scheduler.proofs.scheduler.Scheduler.failed.Goals as goal
+
+pub invariant_of-self : goal.invariant_of-self
+invariant_of-self c =
+    answered_kept c.self.inside.queue c.failed.new.self c.self.inside.limit c.self.inside.sets c.noted-self-inside.result c.args.place c.args.number Fails c.turn_of-turn.result c.self.invariant refl
+    c.failed.ensures c.turn_of-turn.ensures c.noted-self-inside.ensures

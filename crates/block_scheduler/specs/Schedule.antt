@@ -1,0 +1,88 @@
+-- What goes next at a disk, and how many bytes its commands may hold.
+use Rattle.std.specs.Prelude.{ℕ, zero, suc, ◌≡◌, ◌+◌, ◌*◌, ◌<◌, ◌≤◌, nat_le, nat_lt, Bool, true, false, ◌⊎◌, Option, Some, None, if◌then◌else◌}
+use Rattle.block_command.specs.Moments.{Moment, runs}
+use Rattle.block_queue.specs.Line.{Line, IsOldest, PassesNowhere, command_at, may_start, none_in_line, orphan}
+use Rattle.block_queue.specs.declared.queue.Orphan.{Orphan}
+use Rattle.block_scheduler.specs.declared.scheduler.NextFis.{NextFis}
+use Rattle.block_scheduler.specs.declared.scheduler.NextFis.TheVariants.{Ends, Alone}
+use Rattle.block_scheduler.specs.declared.sets.Sets.{Sets}
+use Rattle.block_scheduler.specs.Sets.{AreSets, IsTagsOf, ends_at, sends_at}
+
+pub record Schedule : Type 0 where
+  pub line : Line
+  -- the most bytes that commands and dropped stores may hold
+  pub limit : ℕ
+
+abbrev pub with_line : Schedule → Line → Schedule
+with_line s l = record s { line = l }
+
+abbrev pub none_scheduled : ℕ → Schedule
+none_scheduled limit = record { line = none_in_line; limit = limit }
+
+-- ## Bytes
+
+-- the most sectors that are held of so many: those of a part
+abbrev pub held_of : ℕ → ℕ
+held_of count = (if nat_lt count 2048 then count else 2048) * 512
+
+-- a command holds the bytes of a part from its start to its end
+abbrev pub held_by : Option Moment → ℕ
+held_by None = 0
+held_by (Some m) = if runs m.stage then held_of m.command.count else 0
+
+-- and a dropped store until it is answered
+abbrev pub held_for : Option Orphan → ℕ
+held_for None = 0
+held_for (Some o) = held_of o.count
+
+abbrev pub held_at : Line → ℕ → ℕ
+held_at l place = held_by (command_at l place) + held_for (orphan l place)
+
+-- at the places below n
+unfoldable pub held_below : Line → ℕ → ℕ
+held_below l zero = 0
+held_below l (suc n) = held_at l n + held_below l n
+
+abbrev pub held : Line → ℕ
+held l = held_below l 33
+
+abbrev pub fits_at : Schedule → Option Moment → Bool
+fits_at s None = false
+fits_at s (Some m) = nat_le (held s.line + held_of m.command.count) s.limit
+
+-- whether there is room for the command of a place
+abbrev pub fits : Schedule → ℕ → Bool
+fits s place = fits_at s (command_at s.line place)
+
+-- ## What goes next
+
+-- the oldest that may start does not fit
+pub record IsTooLarge (s : Schedule) : Type 0 where
+  pub place : ℕ
+  pub oldest : IsOldest s.line.ranks (may_start s.line) place
+  pub large : fits s place ≡ false
+
+-- the command that starts next is the oldest that may; where it does not fit, all others wait for it
+abbrev pub IsNextStart : Schedule → Option ℕ → Type 0
+IsNextStart s (Some p) = IsOldest s.line.ranks (may_start s.line) p × (fits s p ≡ true)
+IsNextStart s None = PassesNowhere (may_start s.line) ⊎ IsTooLarge s
+
+-- no queued command is to say that it ended well
+abbrev pub EndsNowhere : Line → Type 0
+EndsNowhere l = (q : ℕ) → q < 32 → ends_at l q ≡ false
+
+-- The FIS that goes next. While a command has the link nothing else is sent. Else the ends of queued commands go, all in one FIS,
+-- and else the FIS of the command that was taken first.
+abbrev pub IsNextFis : Line → Option ℕ → Option NextFis → Type 0
+IsNextFis l (Some h) None = sends_at l h ≡ false
+IsNextFis l (Some h) (Some (Alone p)) = (p ≡ h) × (sends_at l h ≡ true)
+IsNextFis l (Some h) (Some (Ends tags)) = ⊥
+IsNextFis l None None = EndsNowhere l × PassesNowhere (sends_at l)
+IsNextFis l None (Some (Alone p)) = EndsNowhere l × IsOldest l.ranks (sends_at l) p
+IsNextFis l None (Some (Ends tags)) = IsTagsOf tags (ends_at l) × (0 < tags)
+
+-- ## What every schedule keeps
+
+pub record IsKept (l : Line) (limit : ℕ) (s : Sets) : Type 0 where
+  pub sets : AreSets l s
+  pub held : held l ≤ limit

@@ -1,0 +1,304 @@
+//! What goes next.
+
+ghost use Rattle.std.specs.Prelude.{◌≡◌, ◌<◌, ◌≤◌, ◌^◌, true, false, IfOk, IfSome, IfNone, None, OnErr, OnOk, Option, Some};
+ghost use Rattle.block_command.specs.Moments.{IsCommand, Moment};
+ghost use Rattle.block_command.specs.Laws.{Comes, Fails, Flushes, Loads, Stores};
+ghost use Rattle.block_disk.specs.Table.{is_under_way, with_input};
+ghost use Rattle.block_disk.specs.Requests.{asks, with_asked, with_table};
+ghost use Rattle.block_queue.specs.Line.{IsOldest, PassesNowhere, command_at, has_bit, line_answered, line_gone, line_reset, line_taken, may_send, may_start, orphan, with_queue};
+ghost use Rattle.block_scheduler.specs.Sets.{IsSetOf, IsWith, asks_at, turn_at};
+ghost use Rattle.block_scheduler.specs.Schedule.{IsNextFis, IsNextStart, Schedule, fits, held, held_at, held_for, held_of, none_scheduled, with_line};
+
+use crate::sets::{Sets, with_place};
+use block_command::{BlockCommand, Command, Turn};
+use block_queue::{CommandQueue, Orphan};
+use std::alloc::{AllocError, Global};
+use std::marker::Model;
+
+/// The FIS that goes next.
+#[derive(Clone, Copy, Debug, PartialEq, Eq)]
+pub enum NextFis {
+    /// One Set Device Bits FIS that says that the commands of these tags ended well.
+    Ends(u32),
+    /// The FIS of the command of this place.
+    Alone(u8),
+}
+
+/// The commands of a block disk, of which the oldest goes first. Those that have started hold the bytes of a part each,
+/// and so do stores that a reset dropped; all together hold no more than a limit.
+#[derive(Drop)]
+pub struct Scheduler {
+    queue: CommandQueue,
+    limit: u32,
+    sets: Sets,
+}
+
+impl Model for Scheduler {
+    ghost use Rattle.block_scheduler.specs.Schedule.{IsKept, Schedule};
+
+    ghost Value = { Schedule };
+
+    ghost view = { λ s. record { line = s.queue; limit = s.limit } };
+
+    ghost invariant = { λ s. IsKept s.queue s.limit s.sets };
+}
+
+/// What is next for the command of a place.
+fn turn_of(queue: &CommandQueue, place: u8) -> Turn
+    requires { place < 33 }
+    ensures { result ≡ turn_at (command_at queue.now place) }
+{
+    match queue.get(place) {
+        None => Turn::Nothing,
+        Some(command) => command.turn(),
+    }
+}
+
+/// Whether a set has this place.
+fn has_bit(set: u64, place: u8) -> bool
+    requires { place < 64 }
+    ensures { result ≡ has_bit set place }
+{
+    set >> place & 1 == 1
+}
+
+/// The bytes that are held of so many sectors: those of a part.
+fn held_of(count: u32) -> u64
+    ensures value { result ≡ held_of count }
+    ensures most { result ≤ 1048576 }
+{
+    if count < 2048 {
+        count as u64 * 512
+    } else {
+        1_048_576
+    }
+}
+
+/// The bytes that the command of a place and its dropped store hold.
+fn held_at(queue: &CommandQueue, place: u8) -> u64
+    requires { place < 33 }
+    ensures value { result ≡ held_at queue.now place }
+    ensures most { result ≤ 2097152 }
+{
+    let dropped = match queue.orphan(place) {
+        None => 0,
+        Some(orphan) => held_of(orphan.count),
+    };
+    let own = match queue.get(place) {
+        None => 0,
+        Some(command) => if command.is_running() { held_of(command.command().count) } else { 0 },
+    };
+    own + dropped
+}
+
+impl Scheduler {
+    /// No command is under way. The limit is in bytes.
+    pub fn new(alloc: Global, limit: u32) -> Result<Scheduler, AllocError>
+        ensures { IfOk result (λ s. s ≡ none_scheduled limit) }
+    {
+        Ok(Scheduler {
+            queue: CommandQueue::new(alloc)?,
+            limit,
+            sets: Sets::new(),
+        })
+    }
+
+    /// The command of a place.
+    pub fn get(&self, place: u8) -> Option<&BlockCommand>
+        requires { place < 33 }
+        ensures some { IfSome result (λ command. command_at self.now.line place ≡ Some command.now) }
+        ensures none { IfNone result (command_at self.now.line place ≡ None) }
+    {
+        self.queue.get(place)
+    }
+
+    /// Whether the place is under way.
+    pub fn is_taken(&self, place: u8) -> bool
+        requires { place < 33 }
+        ensures { result ≡ is_under_way (command_at self.now.line place) }
+    {
+        self.queue.is_taken(place)
+    }
+
+    /// The bytes that commands and dropped stores hold.
+    pub fn held(&self) -> u64
+        ensures value { result ≡ held self.now.line }
+        ensures most { result ≤ 69206016 }
+    {
+        let mut held = 0;
+        for place in 0..33_u8 {
+            held += held_at(&self.queue, place);
+        }
+        held
+    }
+
+    /// Whether there is room for the command of a place.
+    pub fn fits(&self, place: u8) -> bool
+        requires { place < 33 }
+        ensures { result ≡ fits self.now place }
+    {
+        match self.queue.get(place) {
+            None => false,
+            Some(command) => self.held() + held_of(command.command().count) <= self.limit as u64,
+        }
+    }
+
+    /// A command is taken, unless its place is under way.
+    pub fn take(&mut self, alloc: Global, command: Command)
+        requires place { command.place < 33 }
+        requires is { IsCommand command }
+        ensures { self.new ≡ with_line self.old (line_taken self.old.line command) }
+    {
+        self.queue.take(alloc, command);
+        let turn = turn_of(&self.queue, command.place);
+        self.sets = self.sets.noted(command.place, turn);
+    }
+
+    /// The places whose commands may start.
+    fn ready(&self) -> u64
+        ensures { IsSetOf result (may_start self.now.line) }
+    {
+        let mut ready = 0;
+        for place in 0..33_u8 {
+            ready = with_place(ready, place, self.queue.may_start(place));
+        }
+        ready
+    }
+
+    /// The command that starts next: of those that may, the one that was taken first, if there is room for it. All
+    /// others wait until there is.
+    pub fn next_start(&self) -> Option<u8>
+        ensures { IsNextStart self.now result }
+    {
+        if self.sets.waiting == 0 {
+            return None;
+        }
+        let place = self.queue.oldest(self.ready())?;
+        if self.fits(place) { Some(place) } else { None }
+    }
+
+    /// A command starts, which takes the memory of a write.
+    pub fn start(&mut self, place: u8) -> Result<(), AllocError>
+        requires place { place < 33 }
+        requires may { may_start self.old.line place ≡ true }
+        requires fits { fits self.old place ≡ true }
+        ensures ok { OnOk result (self.new ≡ with_line self.old (line_gone self.old.line place)) }
+        ensures err { OnErr result (self.new ≡ self.old) }
+    {
+        self.queue.start(place)?;
+        let turn = turn_of(&self.queue, place);
+        self.sets = self.sets.noted(place, turn);
+        Ok(())
+    }
+
+    /// The command whose request is asked next: the one that was taken first.
+    pub fn next_request(&self) -> Option<u8>
+        ensures some { IfSome result (IsOldest self.now.line.ranks (asks_at self.now.line)) }
+        ensures none { IfNone result (PassesNowhere (asks_at self.now.line)) }
+    {
+        self.queue.oldest(self.sets.asking)
+    }
+
+    /// The request that was next for a command is asked, and has this number. None where the numbers are used up:
+    /// 2 ^ 63 requests were asked.
+    pub fn ask(&mut self, place: u8) -> Option<u64>
+        requires place { place < 33 }
+        requires may { asks self.old.line.queue place ≡ true }
+        ensures some { IfSome result (λ number. number ≡ self.old.line.queue.next) }
+        ensures asked { IfSome result (λ number. self.new
+            ≡ with_line self.old (with_queue self.old.line (with_asked self.old.line.queue place))) }
+        ensures none { IfNone result ((2 ^ 63 ≤ self.old.line.queue.next) × (self.new ≡ self.old)) }
+    {
+        let number = self.queue.ask(place)?;
+        let turn = turn_of(&self.queue, place);
+        self.sets = self.sets.noted(place, turn);
+        Some(number)
+    }
+
+    /// The FIS that goes next. While a command has the link only its own is sent.
+    pub fn next_fis(&self) -> Option<NextFis>
+        ensures { IsNextFis self.now.line self.now.line.queue.table.wire result }
+    {
+        if let Some(holder) = self.queue.wire() {
+            let sends = has_bit(self.sets.sending, holder);
+            return if sends { Some(NextFis::Alone(holder)) } else { None };
+        }
+        if self.sets.ending > 0 {
+            return Some(NextFis::Ends(self.sets.ending));
+        }
+        let place = self.queue.oldest(self.sets.sending)?;
+        Some(NextFis::Alone(place))
+    }
+
+    /// The FIS that was next for a command was sent.
+    pub fn send(&mut self, place: u8)
+        requires place { place < 33 }
+        requires may { may_send self.old.line place ≡ true }
+        ensures { self.new ≡ with_line self.old (line_gone self.old.line place) }
+    {
+        self.queue.send(place);
+        let turn = turn_of(&self.queue, place);
+        self.sets = self.sets.noted(place, turn);
+    }
+
+    /// Data came for a command.
+    pub fn came(&mut self, place: u8, part: &[u8]) -> Result<(), AllocError>
+        requires { place < 33 }
+        ensures ok { OnOk result (self.new ≡ with_line self.old (with_queue self.old.line
+            (with_table self.old.line.queue (with_input self.old.line.queue.table place (Comes part.now))))) }
+        ensures err { OnErr result (self.new ≡ self.old) }
+    {
+        self.queue.came(place, part)?;
+        let turn = turn_of(&self.queue, place);
+        self.sets = self.sets.noted(place, turn);
+        Ok(())
+    }
+
+    /// The caller gives the sectors that the request of this number asked for.
+    pub fn loaded(&mut self, place: u8, number: u64, bytes: Vec<u8>)
+        requires { place < 33 }
+        ensures { self.new ≡ with_line self.old (line_answered self.old.line place number (Loads bytes.items)) }
+    {
+        self.queue.loaded(place, number, bytes);
+        let turn = turn_of(&self.queue, place);
+        self.sets = self.sets.noted(place, turn);
+    }
+
+    /// The caller stored the bytes of the request of this number.
+    pub fn stored(&mut self, place: u8, number: u64)
+        requires { place < 33 }
+        ensures { self.new ≡ with_line self.old (line_answered self.old.line place number Stores) }
+    {
+        self.queue.stored(place, number);
+        let turn = turn_of(&self.queue, place);
+        self.sets = self.sets.noted(place, turn);
+    }
+
+    /// The caller flushed its medium for the request of this number.
+    pub fn flushed(&mut self, place: u8, number: u64)
+        requires { place < 33 }
+        ensures { self.new ≡ with_line self.old (line_answered self.old.line place number Flushes) }
+    {
+        self.queue.flushed(place, number);
+        let turn = turn_of(&self.queue, place);
+        self.sets = self.sets.noted(place, turn);
+    }
+
+    /// The caller could not do what the request of this number asked for.
+    pub fn failed(&mut self, place: u8, number: u64)
+        requires { place < 33 }
+        ensures { self.new ≡ with_line self.old (line_answered self.old.line place number Fails) }
+    {
+        self.queue.failed(place, number);
+        let turn = turn_of(&self.queue, place);
+        self.sets = self.sets.noted(place, turn);
+    }
+
+    /// All that is under way is gone: a software reset, a plug, or an error of queued commands.
+    pub fn reset(&mut self)
+        ensures { self.new ≡ with_line self.old (line_reset self.old.line) }
+    {
+        self.queue.reset();
+        self.sets = Sets::new();
+    }
+}
