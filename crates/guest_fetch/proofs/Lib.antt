@@ -1,0 +1,4 @@
+pub mod EntryLemmas
+pub mod SpanLemmas
+pub mod MoveLemmas
+pub mod StepLemmas
