@@ -2,3 +2,4 @@ pub mod EntryLemmas
 pub mod SpanLemmas
 pub mod MoveLemmas
 pub mod StepLemmas
+pub mod WorkLemmas

@@ -63,6 +63,20 @@ impl Table {
         let _ = &self.spans;
     }
 
+    // How many entries were kept.
+    pub(crate) fn count(&self) -> u16
+        ensures { result ≡ length self.now.entries }
+    {
+        self.spans.as_slice().len() as u16
+    }
+
+    // How many bytes of the command have no entry yet.
+    pub(crate) fn left(&self) -> u32
+        ensures { result ≡ left_of self.now }
+    {
+        self.len - self.reach()
+    }
+
     /// How many bytes of the command have a place: all of them, or fewer where the table is shorter than the command.
     pub fn reach(&self) -> u32
         ensures { result ≡ reach_of self.now }

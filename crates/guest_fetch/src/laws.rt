@@ -1,0 +1,16 @@
+//! Laws of commands and their bytes.
+
+ghost use Rattle.guest_fetch.specs.Places.{DataAreOneTransfer, GoesOnlyToItsTable};
+
+/// A law of [`Table::moves`](crate::Table::moves); it runs no code. Each byte of a payload goes to the address of a byte of
+/// the command that the table names: from the payload's offset on, no further than the payload is long, and never past the
+/// command's own bytes.
+pub fn bytes_go_only_to_their_table()
+    ensures { GoesOnlyToItsTable }
+{}
+
+/// A law of [`Table::moves`](crate::Table::moves); it runs no code. The moves of a payload, and of the one that goes on
+/// where it ended, are together those of both payloads as one: no byte is left out between them, and none has two places.
+pub fn data_are_one_transfer()
+    ensures { DataAreOneTransfer }
+{}
