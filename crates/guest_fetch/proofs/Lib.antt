@@ -3,3 +3,6 @@ pub mod SpanLemmas
 pub mod MoveLemmas
 pub mod StepLemmas
 pub mod WorkLemmas
+pub mod ByteLemmas
+pub mod PartLemmas
+pub mod RunLemmas

@@ -6,3 +6,4 @@ pub mod Headers
 pub mod Heads
 pub mod Fetch
 pub mod Fetching
+pub mod Reading

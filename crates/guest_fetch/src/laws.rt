@@ -1,6 +1,7 @@
 //! Laws of commands and their bytes.
 
 ghost use Rattle.guest_fetch.specs.Places.{DataAreOneTransfer, GoesOnlyToItsTable};
+ghost use Rattle.guest_fetch.specs.Reading.{CommandIsOfItsParts};
 
 /// A law of [`Table::moves`](crate::Table::moves); it runs no code. Each byte of a payload goes to the address of a byte of
 /// the command that the table names: from the payload's offset on, no further than the payload is long, and never past the
@@ -13,4 +14,11 @@ pub fn bytes_go_only_to_their_table()
 /// where it ended, are together those of both payloads as one: no byte is left out between them, and none has two places.
 pub fn data_are_one_transfer()
     ensures { DataAreOneTransfer }
+{}
+
+/// A law of [`Fetch`](crate::Fetch); it runs no code. Whatever was supplied at each place: after header, FIS and at most as
+/// many parts as there are entries, a command is whole, or refused, as all that lies there has it. In which parts it came
+/// makes no difference.
+pub fn commands_are_of_their_parts()
+    ensures { CommandIsOfItsParts }
 {}

@@ -22,7 +22,7 @@ pub use entry::{Entry, EntryFault, FaultyEntry};
 pub use fetch::{Fetch, Supplied};
 pub use head::Head;
 pub use header::Header;
-pub use laws::{bytes_go_only_to_their_table, data_are_one_transfer};
+pub use laws::{bytes_go_only_to_their_table, commands_are_of_their_parts, data_are_one_transfer};
 pub use moves::{Move, Moves};
 pub use refusal::{Part, Refusal};
 pub use table::Table;
