@@ -6,3 +6,4 @@ pub mod WorkLemmas
 pub mod ByteLemmas
 pub mod PartLemmas
 pub mod RunLemmas
+pub mod SupplyLemmas

@@ -7,3 +7,4 @@ pub mod Heads
 pub mod Fetch
 pub mod Fetching
 pub mod Reading
+pub mod Runs

@@ -1,8 +1,7 @@
 //! A command that was read.
 
-ghost use Rattle.std.specs.Prelude.{◌≡◌, ◌+◌, ◌≤◌, ◌<◌, ◌^◌, min};
-ghost use Rattle.byteorder.specs.Endian.{little_bytes};
-ghost use Rattle.guest_fetch.specs.Places.{reach_of, room_at};
+ghost use Rattle.std.specs.Prelude.{◌≡◌, ◌+◌, ◌≤◌, ◌^◌};
+ghost use Rattle.guest_fetch.specs.Runs.{counted};
 
 use crate::head::Head;
 use crate::table::Table;
@@ -37,7 +36,7 @@ impl Command {
         requires { self.old.at + 8 ≤ 2 ^ 64 }
         ensures is { result ≡ record { at = self.old.at + 4; value = self.new.moved } }
         ensures moved { self.new ≡ record self.old {
-          moved = min (reach_of self.old.table) (self.old.moved + room_at self.old.table offset len);
+          moved = counted self.old.table self.old.moved offset len;
         } }
     {
         let reach = self.table.reach();

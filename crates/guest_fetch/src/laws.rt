@@ -2,6 +2,7 @@
 
 ghost use Rattle.guest_fetch.specs.Places.{DataAreOneTransfer, GoesOnlyToItsTable};
 ghost use Rattle.guest_fetch.specs.Reading.{CommandIsOfItsParts};
+ghost use Rattle.guest_fetch.specs.Runs.{CommandIsWhatWasSupplied, CountIsOfBytes};
 
 /// A law of [`Table::moves`](crate::Table::moves); it runs no code. Each byte of a payload goes to the address of a byte of
 /// the command that the table names: from the payload's offset on, no further than the payload is long, and never past the
@@ -21,4 +22,16 @@ pub fn data_are_one_transfer()
 /// makes no difference.
 pub fn commands_are_of_their_parts()
     ensures { CommandIsOfItsParts }
+{}
+
+/// A law of [`Fetch`](crate::Fetch); it runs no code. Once all of a command has come, it is what was supplied, part by part,
+/// and nothing else is in it.
+pub fn commands_are_what_was_supplied()
+    ensures { CommandIsWhatWasSupplied }
+{}
+
+/// A law of [`Command::count`](crate::Command::count); it runs no code. After Data one after another from the command's
+/// first byte on, PRDBC is the number of their bytes, but for those that have no place.
+pub fn counts_are_of_bytes()
+    ensures { CountIsOfBytes }
 {}

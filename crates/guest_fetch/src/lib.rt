@@ -22,7 +22,10 @@ pub use entry::{Entry, EntryFault, FaultyEntry};
 pub use fetch::{Fetch, Supplied};
 pub use head::Head;
 pub use header::Header;
-pub use laws::{bytes_go_only_to_their_table, commands_are_of_their_parts, data_are_one_transfer};
+pub use laws::{
+    bytes_go_only_to_their_table, commands_are_of_their_parts, commands_are_what_was_supplied,
+    counts_are_of_bytes, data_are_one_transfer,
+};
 pub use moves::{Move, Moves};
 pub use refusal::{Part, Refusal};
 pub use table::Table;
