@@ -16,7 +16,7 @@ use Rattle.guest_fetch.specs.declared.refusal.Refusal.{Refusal}
 use Rattle.guest_fetch.specs.declared.refusal.Refusal.TheVariants as refusal
 use Rattle.guest_fetch.specs.declared.want.Want.{Want}
 use Rattle.guest_fetch.specs.Entries.{entries_at, first_fault}
-use Rattle.guest_fetch.specs.Headers.{IsHeader, entries_place, header_in, header_refusal}
+use Rattle.guest_fetch.specs.Headers.{IsTaken, entries_place, header_in, header_refusal}
 use Rattle.guest_fetch.specs.Heads.{fis_refusal, head_of}
 use Rattle.guest_fetch.specs.Fetch.{Fetching}
 use Rattle.guest_fetch.specs.Places.{Places}
@@ -108,11 +108,6 @@ abbrev pub refused_for : Part → Refusal
 refused_for missing = refusal.NoMemory missing
 
 -- ---- what holds for every value
-
--- the header is one that is taken
-pub record IsTaken (header : Header) : Type 0 where
-  pub is : IsHeader header
-  pub taken : header_refusal header ≡ None
 
 pub record WantsEntries (head : Head) (table : Places) : Type 0 where
   pub header : IsTaken head.header

@@ -164,14 +164,14 @@ static ROWS: [Row; 6] = [
 ];
 
 fn is_as_it_says(command: &Command, row: Row) -> bool {
-    let head = &command.head;
+    let head = command.head();
     head.header.pm_port == row.pm_port
         && head.header.write == row.write
         && head.header.entries as usize == row.table.len()
         && head.cfis == row.fis
         && head.work.len == row.bytes
-        && command.table.reach() == row.reach
-        && are_moves(&command.table, 0, row.bytes as usize, row.places)
+        && command.table().reach() == row.reach
+        && are_moves(command.table(), 0, row.bytes as usize, row.places)
 }
 
 fn is_read(alloc: Global, row: Row) -> Result<bool, AllocError> {

@@ -91,8 +91,8 @@ fn a_table_of_65535_entries_is_kept(rt: HostRuntime) -> Result<(), AllocError> {
     let command = command(rt.alloc(), 65_535, Shape::Words)?;
     assert!(rt; command.is_some());
     if let Some(command) = command {
-        assert_eq!(rt; command.table.reach(), 131_070);
-        assert!(rt; lie_there(&command.table, &OF_WORDS));
+        assert_eq!(rt; command.table().reach(), 131_070);
+        assert!(rt; lie_there(command.table(), &OF_WORDS));
     }
     Ok(())
 }
@@ -121,9 +121,9 @@ fn a_command_of_65536_sectors_is_kept(rt: HostRuntime) -> Result<(), AllocError>
     let command = command(rt.alloc(), 8, Shape::Blocks)?;
     assert!(rt; command.is_some());
     if let Some(mut command) = command {
-        assert_eq!(rt; command.table.reach(), 33_554_432);
-        assert!(rt; lie_there(&command.table, &OF_BLOCKS));
-        assert!(rt; are_told(&command.table));
+        assert_eq!(rt; command.table().reach(), 33_554_432);
+        assert!(rt; lie_there(command.table(), &OF_BLOCKS));
+        assert!(rt; are_told(command.table()));
         assert!(rt; is_counted(&mut command));
     }
     Ok(())
@@ -149,7 +149,7 @@ fn are_told(table: &Table) -> bool {
 }
 
 fn is_counted(command: &mut Command) -> bool {
-    let place = command.at;
+    let place = command.at();
     if place != 0x400 {
         return false;
     }
