@@ -68,6 +68,7 @@ class Trace:
     """All that a program wrote: steps and printed lines, in order."""
 
     lines: tuple[Step | str, ...]
+    is_of_link: bool = False  # it has the host's link alone, as `guest --trace` tells
 
     @property
     def steps(self) -> list[Step]:
@@ -174,14 +175,15 @@ def link_step(number: int, line: str) -> Optional[Step]:
 def read_text(lines: Iterable[str], name: str = "the input") -> Trace:
     """A trace of `run --trace` or `guest --trace`. All other lines count as printed."""
     found: list[Step | str] = []
-    number = 0
+    number, is_of_link = 0, False
     for line in (line.rstrip("\n") for line in lines):
-        step = text_step(line) or link_step(number + 1, line)
-        number += step is not None
+        on_link = link_step(number + 1, line)
+        step = on_link or text_step(line)
+        number, is_of_link = number + (step is not None), is_of_link or on_link is not None
         found.append(step or line)
     if not number:
         raise NotATrace(f"{name} has no step of a trace")
-    return Trace(tuple(found))
+    return Trace(tuple(found), is_of_link)
 
 
 def with_bytes(trace: Trace) -> Trace:
@@ -192,8 +194,8 @@ def with_bytes(trace: Trace) -> Trace:
         if len(words) == 5 and words[0] in ("sent", "took"):
             port, conn, fis = map(int, words[1:4])
             found.setdefault(("up", port, conn, fis), bytes.fromhex(words[4]))
-    return Trace(tuple(line if isinstance(line, str) or line.raw else replace(line, raw=found.get(line.fis_key))
-                       for line in trace.lines))
+    lines = (line if isinstance(line, str) or line.raw else replace(line, raw=found.get(line.fis_key)) for line in trace.lines)
+    return replace(trace, lines=tuple(lines))
 
 
 def read_trace(path: Optional[Path]) -> Trace:

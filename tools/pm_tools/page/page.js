@@ -205,7 +205,7 @@ function search(isMoved) {
   }
   if (!finds.length) chosen.find = -1;
   const number = finds.length ? ((chosen.find % finds.length) + finds.length) % finds.length : -1;
-  page.finds.textContent = !chosen.words ? "" : !finds.length ? "no find" : isMoved ? `${number + 1} of ${finds.length}` : `${finds.length} finds`;
+  page.finds.textContent = !chosen.words ? "" : !finds.length ? "no find" : `${isMoved ? number + 1 : finds.length}${isMoved ? ` of ${finds.length}` : " found"}`;
   if (isMoved && finds.length) choose(finds[number].number, true);
 }
 
