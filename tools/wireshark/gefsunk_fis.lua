@@ -122,11 +122,12 @@ local function command(tree, tvb, port)
   return said
 end
 
-local function answer(tree, tvb)
+local function answer(tree, tvb, port)
   tree:add(f.i, tvb(1, 1))
   local said = add_status(tree, tvb)
   add_place(tree, tvb)
-  return said
+  if port ~= CONTROL_PORT then return said end
+  return said .. string.format(" value %06x%02x", tvb(4, 3):le_uint(), tvb(12, 1):uint())
 end
 
 local function setup(tree, tvb)
