@@ -1,3 +1,4 @@
+# shellcheck shell=bash disable=SC2154
 # How ./pm_trace builds its programs. To be sourced; the paths that it uses are those of ./pm_trace.
 
 # Whether this program is there, and no source is newer.
@@ -20,16 +21,16 @@ libraries() {
 
 # Says on a terminal how far the build with this process and this stamp is.
 say_progress() {
-    local names done name last
+    local names count name last
     names=$(libraries)
     while kill -0 "$1" 2>/dev/null; do
-        done=0
+        count=0
         for name in $names; do
-            [ "$top/crates/$name/out/rlib/$name.rlib" -nt "$2" ] && done=$((done + 1))
+            [ "$top/crates/$name/out/rlib/$name.rlib" -nt "$2" ] && count=$((count + 1))
         done
         last=$(grep -a '^so far:' "$proved_log" 2>/dev/null | tail -n 1)
         printf '\r\033[Kpm_trace: proving it first: %s of %s libraries; %s' \
-            "$done" "$(wc -w <<<"$names")" "${last:-the first one}" | cut -c1-110 >&2
+            "$count" "$(wc -w <<<"$names")" "${last:-the first one}" | cut -c1-110 >&2
         sleep 2
     done
     printf '\r\033[K' >&2
@@ -65,7 +66,7 @@ build_unproved() {
     opener=$!
     trap 'kill $try $opener; rm -rf "$work"; exit 130' INT TERM
     while [ ! -e "$work/is_waiting" ] && kill -0 $try 2>/dev/null; do sleep 0.2; done
-    made=$(find "$work" -type f -name program -perm -u+x -print -quit 2>/dev/null)
+    made=$(find "$work" -type f -perm -u+x -print -quit 2>/dev/null)
     if [ -e "$work/is_waiting" ] && [ -n "$made" ]; then
         # A source that was changed while it was built is newer than the program.
         cp "$made" "$work/pm_trace" && touch -r "$work/pipe" "$work/pm_trace" && status=0

@@ -1,3 +1,4 @@
+# shellcheck shell=bash disable=SC2154
 # The words of ./pm_trace: what is wrong with them, and the help. To be sourced; `top` is the top of the repository.
 
 # Whether a word names a tool of tools/pm_tools.

@@ -32,8 +32,8 @@ def verdict(program: Program, lines: Sequence[str]) -> Optional[Violated]:
         Checker(list(flat(lines))).check(read_json(ended.printed.splitlines()))
     except Violated as found:
         return found
-    except NotATrace as error:
-        return Violated("output", str(error))
+    except (NotATrace, ValueError, IndexError) as error:
+        return Violated("output", f"it cannot be read: {error}")
     return None
 
 

@@ -108,9 +108,13 @@ class Maker:
                 self.lines.append(f"step {self.random.choice(STEPS)}")
 
     def plug(self) -> None:
-        port = self.port()
-        self.lines.append(f"{'gone' if port in self.present else 'came'} {port}")
+        """A device goes, or one comes again and is brought up."""
+        gone = sorted(set(range(self.ports)) - self.present)
+        port = self.random.choice(gone) if gone else self.port()
+        self.lines.append(f"{'came' if gone else 'gone'} {port}")
         self.present ^= {port}
+        if gone and self.chance(0.8):
+            self.lines += ["repeat 40", *round_steps(self.ports), "end"]
 
     def poll(self) -> None:
         self.lines.append("poll")
