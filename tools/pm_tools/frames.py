@@ -4,6 +4,7 @@ from __future__ import annotations
 import struct
 from typing import Optional
 
+from pm_tools.names import plain_words
 from pm_tools.trace import CONTROL_PORT, Step
 
 COMMANDS = {"read-queued": 0x60, "write-queued": 0x61, "read-dma": 0x25, "write-dma": 0x35, "read-log": 0x2F,
@@ -63,7 +64,7 @@ def setup_fis(words: list[str], port: int) -> bytes:
 
 def made(frame: str, port: int, slots: tuple[int, ...]) -> bytes:
     """A FIS of these words, with this PM Port."""
-    words = frame.split()
+    words = plain_words(frame)
     if words[0] == "h2d":
         return register_fis(words, port, slots)
     if words[0] == "d2h":

@@ -227,8 +227,8 @@ class Checker:
         assert request is not None
         demand(request.port == step.port, "delivers.reported",
                f"step {step.number} of port {step.port} completes a command of port {request.port}")
-        frame = (step.frame or "").split()
-        is_named = frame[0] == "bits" and int(frame[6], 16) >> slot & 1 == 1
+        named = re.match(r"bits .*\bsactive ([0-9a-f]{8})", step.frame or "")
+        is_named = named is not None and int(named[1], 16) >> slot & 1 == 1
         demand(is_named or request.work == "flush", "delivers.reported", f"step {step.number} does not name slot {slot}")
         demand(request.work != "read" or len(request.filled) == request.length, "delivers.placed",
                f"step {step.number} completes a read of which bytes are missing")

@@ -95,7 +95,7 @@ def lines_to_play(lines: Sequence[str], moved: Iterator[list[Step]]) -> Iterator
     for line in lines:
         guest.note(line)
         if line.split()[0] == "settle":
-            steps = next(moved, [])
+            steps: list[Step] = next(moved, [])
             ports = sorted({step.port for step in steps if step.way == "up" and step.port is not None})
             rows = [Shown(f"show {guest.row(port):x} {ROW}", port) for port in ports if guest.read(guest.row(port), ROW)]
             for _ in range(3 * len(steps) + 12 if steps else 0):

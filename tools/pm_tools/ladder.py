@@ -163,7 +163,7 @@ class Builder:
         self.window = window
         self.steps = [step for step in steps if window.concerns(step)]
         shown = [step for step in self.steps if window.has(step)]
-        ports = sorted({step.port for step in shown if step.port is not None and step.port < CONTROL_PORT})
+        ports = sorted({step.port for step in shown if step.port is not None and "disk" in (step.source, step.target)})
         self.ladder = Ladder(["driver", "host", "pm", *(f"disk {port}" for port in ports)], [], steps=shown)
         self.sent: dict[tuple[object, ...], tuple[Step, float]] = {}
         self.bars = Bars(self.ladder)
@@ -187,7 +187,10 @@ class Builder:
         return self.ladder
 
     def add(self, step: Step, place: float) -> None:
-        if step.act == "sends":
+        if step.is_whole:
+            if self.window.has(step):
+                self.arrow(step, place, place + 0.5, (step.number,), is_cut=False)
+        elif step.act == "sends":
             self.sent[self.link_of(step)] = (step, place)
         elif step.act == "takes":
             self.add_taken(step, place)

@@ -12,7 +12,7 @@ def opening(sector: int) -> bytes:
 
 @dataclass
 class Write:
-    """A write that was submitted. Where it did not end as done, or its disk was not left alone, it may end at any time, or never."""
+    """A write that was submitted. Where it is not done, or its disk was not left alone, it may end at any time, or never."""
 
     ticket: int
     first: int

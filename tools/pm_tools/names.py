@@ -1,6 +1,8 @@
 """Steps and FISes in few words, and the fields of a FIS, all from the words of the trace."""
 from __future__ import annotations
 
+import re
+
 from pm_tools.trace import Step
 
 STATUS_BITS = {0x80: "BSY", 0x40: "DRDY", 0x20: "DF", 0x08: "DRQ", 0x01: "ERR"}
@@ -10,9 +12,14 @@ FIELDS = ("status", "error", "value", "sactive", "tag", "offset", "count", "lba"
 FLAGS = ("signature", "reset", "notify", "auto")
 
 
+def plain_words(frame: str) -> list[str]:
+    """The words of a FIS, without the bits that a trace spells behind Status and Error."""
+    return [word for word in frame.split() if not re.fullmatch(r"[A-Z]{2,}", word)]
+
+
 def short_name(frame: str) -> str:
     """A FIS on its arrow: short enough for the room between two lanes."""
-    words = frame.split()
+    words = plain_words(frame)
     if words[0] == "h2d":
         queued = words[1].endswith("queued")
         return " ".join(words[1:6:2] if queued else (word for word in words[1:] if word != "value"))[:32]
@@ -56,7 +63,7 @@ def meaning_of(name: str, value: str) -> str:
 
 def fields_of(frame: str) -> list[tuple[str, str, str]]:
     """The fields of a FIS: name, value and what that spells."""
-    words = frame.split()
+    words = plain_words(frame)
     found = [("FIS", words[0], "")]
     at = 1
     while at < len(words):

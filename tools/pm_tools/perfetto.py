@@ -68,7 +68,9 @@ class Hops:
 
     def note(self, step: Step) -> None:
         key = (step.source, step.target, *step.fis_key)
-        if step.act == "sends":
+        if step.is_whole:
+            self.add(step, step.number, step.number + 1, step.text)
+        elif step.act == "sends":
             self.sent[key] = step
         elif step.act == "takes":
             sender = self.sent.pop(key, None)

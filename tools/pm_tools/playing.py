@@ -1,8 +1,8 @@
 """Plays scenarios in such a way that the bytes of their FISes become known.
 
-Under `run`, each `settle` becomes the steps of its rounds, since `step disksend` and `step hosttake` print bytes. Under `guest`
-each `settle` becomes rounds, after each of which the received FISes in the guest's memory are shown; the commands are read where the
-guest put them.
+Under `run`, each `settle` becomes the steps of its rounds, since `step disksend` and `step hosttake` print bytes. Under
+`guest` each `settle` becomes rounds, after each of which the received FISes in the guest's memory are shown; the commands
+are read where the guest put them.
 """
 from __future__ import annotations
 

@@ -138,7 +138,7 @@ def svg_of(ladder: Ladder, title: str, page: int) -> str:
         draw_mark(picture, mark)
     draw_heads(picture)
     longest = max((len(row.note) for row in ladder.rows), default=0)
-    width, height = picture.right + 20 + int(6.6 * longest), picture.y(ladder.bottom) + 2 * ROW
+    width, height = picture.right + 20 + int(6.6 * longest), int(picture.y(ladder.bottom)) + 2 * ROW
     return "\n".join([
         f'<svg xmlns="http://www.w3.org/2000/svg" width="{width}" height="{height}" viewBox="0 0 {width} {height}">',
         f"<title>{html.escape(title)}</title>", f"<style>{STYLE}</style>",

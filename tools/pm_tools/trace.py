@@ -39,6 +39,7 @@ class Step:
     submitted: bool = False
     ended: Optional[str] = None
     raw: Optional[bytes] = None  # the bytes of the FIS, where they are known
+    is_whole: bool = False  # it puts a FIS on a link and takes it off, as the steps of `guest --trace` do
 
     @property
     def is_issue(self) -> bool:
@@ -110,7 +111,9 @@ def read_json(lines: Iterable[str], name: str = "the input") -> Trace:
             raise NotATrace(f"{name}: line {number} is no line of `pm_trace run --json`") from error
     if not found:
         raise NotATrace(f"{name} is empty, so it is no trace")
-    return Trace(tuple(found))
+    if any(isinstance(line, Step) and line.act != "sends" for line in found):
+        return Trace(tuple(found))
+    return Trace(tuple(line if isinstance(line, str) else replace(line, is_whole=True) for line in found), is_of_link=True)
 
 
 LINK_WORDS = re.compile(r"(up|down) (?:port (\d+)|control port): (.*)")
@@ -169,7 +172,7 @@ def link_step(number: int, line: str) -> Optional[Step]:
     source, target = ("host", "pm") if way == "down" else ("pm", "host")
     return Step(number=number, act="sends", source=source, target=target, text=f"#{number} {line}", way=way,
                 port=int(found[2]) if found[2] else CONTROL_PORT, fis=number, frame=frame_of(found[3]),
-                ignored="; taken by nobody" in line)
+                ignored="; taken by nobody" in line, is_whole=True)
 
 
 def read_text(lines: Iterable[str], name: str = "the input") -> Trace:

@@ -63,6 +63,15 @@ class Words(unittest.TestCase):
         self.assertEqual((call("chart", "--from", 100000, ONE_READ).out, call("chart", TOP / "no-such-file").status), ("", 4))
         self.assertEqual(call("chart", "--port", "16", ONE_READ).status, 2)
 
+    def test_a_guest_is_drawn_by_its_link(self) -> None:
+        said = call("chart", "--page", 1000, TOP / "cases/guest/linux-two-disks.out").out
+        lanes = [text.text for text in ElementTree.fromstring(said).iter("{http://www.w3.org/2000/svg}text") if text.get("class") == "l"]
+        self.assertEqual(lanes, ["driver", "host", "pm"])
+        self.assertIn(">d2h 50 error 01 signature<", said)
+
+    def test_bits_that_a_trace_spells_are_no_fields(self) -> None:
+        self.assertEqual(fields_of("d2h status 41 DRDY ERR error 40 UNC"), fields_of("d2h status 41 error 40"))
+
     def test_fields_are_spelled(self) -> None:
         self.assertEqual(fields_of("bits status 41 error 40 sactive 00000005"),
                          [("FIS", "bits", ""), ("status", "41", "DRDY ERR"), ("error", "40", "UNC"),
@@ -72,24 +81,44 @@ class Words(unittest.TestCase):
 class Page(unittest.TestCase):
     def test_the_page_stands_alone_and_has_all_steps(self) -> None:
         page = call("chart", "--html", "--title", "a < b", DATA / "bad-sector.json").out
-        data = json.loads(re.search(r'<script id="data" type="application/json">(.*?)</script>', page, re.S)[1])
+        [found] = re.findall(r'<script id="data" type="application/json">(.*?)</script>', page, re.S)
+        data = json.loads(found)
         self.assertEqual(len(data["steps"]), len(read_json((DATA / "bad-sector.json").read_text().splitlines()).steps))
         self.assertIn("<title>a &lt; b</title>", page)
         self.assertNotRegex(page.replace("http://www.w3.org/2000/svg", ""), r"https?://|src=|@[A-Z]+@")
 
     @unittest.skipUnless(CHROMIUM, "needs chromium")
-    def test_a_browser_filters_searches_and_shows(self) -> None:
-        with tempfile.TemporaryDirectory() as folder:
-            page = Path(folder) / "page.html"
-            page.write_text(call("chart", "--html", DATA / "bad-sector.json").out)
-            shown = self.dom(page, "port=2&ticket=3&step=164&search=read-queued")
+    def test_a_browser_opens_it_as_it_is_asked(self) -> None:
+        shown = self.dom("port=2&ticket=3&step=164&search=read-queued")
         self.assertRegex(shown, r"<td[^>]*>41  DRDY ERR</td>")
-        self.assertRegex(shown, r"<td class=\"bad\">task-file</td>")
+        self.assertRegex(shown, r'<td class="bad">task-file</td>')
         self.assertIn(">disk 2</text>", shown)
         self.assertNotIn(">disk 0</text>", shown)
         self.assertRegex(shown, r'id="finds">\d+ found<')
 
-    def dom(self, page: Path, asked: str) -> str:
-        run = subprocess.run([str(CHROMIUM), "--headless", "--no-sandbox", "--disable-gpu", "--virtual-time-budget=2000",
-                              "--dump-dom", f"{page.as_uri()}#{asked}"], capture_output=True, timeout=60)
+    @unittest.skipUnless(CHROMIUM, "needs chromium")
+    def test_a_browser_answers_to_clicks(self) -> None:
+        shown = self.dom("", """
+            const change = (element, value) => { element.value = value; element.dispatchEvent(new Event("change")); };
+            change(page.port, "0");
+            page.search.value = "setup tag";
+            page.search.dispatchEvent(new Event("input"));
+            page.next.click();
+            page.larger.click();
+            document.title = [page.finds, page.plain, page.panel.querySelector("h2")].map((one) => one.textContent).join(", ");
+            change(page.port, "");
+            [...document.querySelectorAll(".step line")].find((line) => line.parentNode.dataset.step === "164")
+                .dispatchEvent(new MouseEvent("click", { bubbles: true }));""")
+        self.assertRegex(shown, r"<title>1 of \d+, 125 %, Step \d+</title>")
+        self.assertRegex(shown, r"<h2>Step 164</h2>")
+        self.assertRegex(shown, r"<td[^>]*>40  UNC</td>")
+
+    def dom(self, asked: str, script: str = "") -> str:
+        """What the page is once a browser has drawn it, and run this script."""
+        with tempfile.TemporaryDirectory() as folder:
+            page = Path(folder) / "page.html"
+            text = call("chart", "--html", DATA / "bad-sector.json").out
+            page.write_text(text.replace("</body>", f"<script>{script}</script></body>"))
+            run = subprocess.run([str(CHROMIUM), "--headless", "--no-sandbox", "--disable-gpu", "--virtual-time-budget=2000",
+                                  "--dump-dom", f"{page.as_uri()}#{asked}"], capture_output=True, timeout=60)
         return run.stdout.decode()

@@ -23,7 +23,8 @@ class Diff(unittest.TestCase):
     def test_a_trace_is_like_itself_in_json_and_text(self) -> None:
         text = "\n".join(line for line in ONE_READ.read_text().splitlines() if line.startswith("#")) + "\n"
         said = call("diff", ONE_READ, self.write("text", text))
-        self.assertEqual((said.status, said.out), (0, "driver: 9 steps alike\nport 0: 42 steps alike\ncontrol port: 45 steps alike\n"))
+        self.assertEqual(said.status, 0)
+        self.assertEqual(said.out, "driver: 9 steps alike\nport 0: 42 steps alike\ncontrol port: 45 steps alike\n")
 
     def test_numbers_do_not_count(self) -> None:
         shifted = ONE_READ.read_text().replace("slot 0 ticket 1", "slot 3 ticket 7").replace("tag 0", "tag 3")

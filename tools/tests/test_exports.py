@@ -62,7 +62,8 @@ class Bytes(unittest.TestCase):
                 ("d2h status 50 error 01 value 96690101", 15, (), "340f500101699600000000000100000000000000"),
                 ("d2h status 50 error 01 signature", 2, (), "3402500101000000000000000100000000000000"),
                 ("bits status 41 error 40 sactive 00000004 notify", 1, (), "a181414004000000"),
-                ("setup tag 3 to host offset 512 count 1024 auto", 0, (), "41a0000003000000000000000000000000020000" "0004000000000000"),
+                ("setup tag 3 to host offset 512 count 1024 auto", 0, (),
+                 "41a00000030000000000000000000000000200000004000000000000"),
                 ("activate", 4, (), "39040000"),
                 ("data bytes 4", 4, (), "4604000000000000"),
                 ("pio status 58 bytes 512", 0, (), "5f20580000000000000000000000000000020000")):
@@ -75,6 +76,23 @@ class Bytes(unittest.TestCase):
 
     def test_blocks_are_played_out(self) -> None:
         self.assertEqual(list(flat(["# one", "repeat 2", "poll", "end", "expect x", "came 0"])), ["poll", "poll", "came 0"])
+
+
+def dissected() -> str:
+    """The fields that tshark finds in the packets of the data."""
+    words = [word for field in FIELDS for word in ("-e", field)]
+    with tempfile.TemporaryDirectory() as folder:
+        path = Path(folder) / "honest.pcapng"
+        with path.open("wb") as out:
+            write_packets(with_bytes(read_json((DATA / "honest.json").read_text().splitlines())), False, out)
+        run = subprocess.run([str(TSHARK), "-X", f"lua_script:{DISSECTOR}", "-r", str(path), "-T", "fields", *words],
+                             capture_output=True, timeout=60)
+    return run.stdout.decode()
+
+
+def make_golden() -> None:
+    """Writes what tshark finds to the data: tests/data/make calls it."""
+    (DATA / "honest.tshark").write_text(dissected())
 
 
 class Packets(unittest.TestCase):
@@ -91,17 +109,7 @@ class Packets(unittest.TestCase):
 
     @unittest.skipUnless(TSHARK, "needs tshark")
     def test_tshark_shows_the_fields(self) -> None:
-        with tempfile.TemporaryDirectory() as folder:
-            path = Path(folder) / "honest.pcapng"
-            with path.open("wb") as out:
-                write_packets(with_bytes(read_json((DATA / "honest.json").read_text().splitlines())), False, out)
-            self.assertEqual(self.shown(path), (DATA / "honest.tshark").read_text())
-
-    def shown(self, path: Path) -> str:
-        words = [word for field in FIELDS for word in ("-e", field)]
-        run = subprocess.run([str(TSHARK), "-X", f"lua_script:{DISSECTOR}", "-r", str(path), "-T", "fields", *words],
-                             capture_output=True, timeout=60)
-        return run.stdout.decode()
+        self.assertEqual(dissected(), (DATA / "honest.tshark").read_text())
 
     def test_what_is_no_trace_is_refused(self) -> None:
         self.assertEqual((call("pcapng", TOP / "VERSION").status, call("pcapng", "no-such").status), (1, 4))
@@ -119,7 +127,8 @@ class Played(unittest.TestCase):
         trace = played(self.program, (TOP / "examples/one-read.scenario").read_text())
         ups = [step for step in trace.steps if step.act == "takes" and step.target == "host"]
         self.assertTrue(ups and all(step.raw for step in ups))
-        self.assertEqual(next(step.raw for step in reversed(ups) if step.frame == "data bytes 512")[4:8].hex(), "08090a0b")
+        [*_, data] = [step.raw for step in ups if step.frame == "data bytes 512" and step.raw]
+        self.assertEqual(data[4:8].hex(), "08090a0b")
 
     def test_all_but_data_of_a_guest_has_bytes(self) -> None:
         trace = played(self.program, (TOP / "cases/guest/four-queued-reads.scenario").read_text())
@@ -128,6 +137,7 @@ class Played(unittest.TestCase):
         self.assertLessEqual(without, {"data", "activate"})
 
     def test_the_scenario_of_the_data_prints_it_still(self) -> None:
+        """Where the trace has changed on purpose, tests/data/make makes the data anew."""
         for name in ("honest", "bad-sector"):
             text = (DATA / f"{name}.scenario" if name == "honest" else TOP / f"examples/{name}.scenario").read_text()
             self.assertEqual(self.program.play(["run", "--json"], text).printed, (DATA / f"{name}.json").read_text())

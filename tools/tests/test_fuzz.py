@@ -42,6 +42,11 @@ def step(lines: Lines, words: str, which: int = 0) -> int:
     return [i for i, line in enumerate(lines) if words in line.get("text", "")][which]
 
 
+def data_taken(lines: Lines) -> int:
+    """Where the host takes the Data of the read."""
+    return step(lines, "host takes from port 0 conn 1 fis 9")
+
+
 class Edits(unittest.TestCase):
     def edited(self, edit: Callable[[Lines], None]) -> Optional[str]:
         lines = [dict(line) for line in OUTPUT]
@@ -92,12 +97,10 @@ class Edits(unittest.TestCase):
         self.assertEqual(self.edited(edit), "delivers.once")
 
     def test_bytes_of_a_read_are_missing(self) -> None:
-        self.assertEqual(self.replace(lambda lines: step(lines, "host takes from port 0 conn 1 fis 9"), "; bytes 0 to 512 of slot 0 ticket 2",
-                                      ""), "delivers.placed")
+        self.assertEqual(self.replace(data_taken, "; bytes 0 to 512 of slot 0 ticket 2", ""), "delivers.placed")
 
     def test_more_bytes_are_filled_than_came(self) -> None:
-        self.assertEqual(self.replace(lambda lines: step(lines, "host takes from port 0 conn 1 fis 9"), "bytes 0 to 512 of", "bytes 0 to 500 of"),
-                         "delivers.placed")
+        self.assertEqual(self.replace(data_taken, "bytes 0 to 512 of", "bytes 0 to 500 of"), "delivers.placed")
 
     def test_a_byte_stands_where_none_was_put(self) -> None:
         self.assertEqual(self.replace(lambda lines: printed(lines, "101000 "), "0000", "0001"), "delivers.client")
@@ -112,16 +115,16 @@ class Edits(unittest.TestCase):
         self.assertEqual(self.replace(lambda lines: printed(lines, "ticket 3"), "removed", "done"), "truth.done")
 
     def test_a_read_brings_what_was_there_before_the_write(self) -> None:
-        old, new = "46000000" + OUTPUT[printed(OUTPUT, "sent 0 1 9")]["printed"].split()[4][8:], "46000000" + opening(8).hex()
+        written, at_first = OUTPUT[printed(OUTPUT, "sent 0 1 9")]["printed"].split()[4][8:], opening(8).hex()
 
         def edit(lines: Lines) -> None:
             for line in lines:
-                if "printed" in line:
-                    line["printed"] = line["printed"].replace(old[8:], new[8:]) if line["printed"][:2] in ("se", "to") else line["printed"]
-            for line in lines:
-                if line.get("printed", "").startswith("101000 "):
-                    at, data = line["printed"].split()
-                    line["printed"] = f"{at} {data[:1024]}{new[8:520]}{data[1536:2048]}{new[520:]}{data[2560:]}"
+                said = line.get("printed", "")
+                if said.startswith(("sent", "took")):
+                    line["printed"] = said.replace(written, at_first)
+                elif said.startswith("101000 "):
+                    at, data = said.split()
+                    line["printed"] = f"{at} {data[:1024]}{at_first[:512]}{data[1536:2048]}{at_first[512:]}{data[2560:]}"
         self.assertEqual(self.edited(edit), "polled_is_honest")
 
     def test_the_output_ends_early(self) -> None:

@@ -26,7 +26,8 @@ class Reading(unittest.TestCase):
         self.assertEqual({(step.source, step.target) for step in trace.steps}, {("host", "pm"), ("pm", "host")})
 
     def test_what_is_no_trace_is_refused(self) -> None:
-        for lines in ([], ["hello"], ['{"x":1}'], ["[1]"], [*JSON, "hello"], ['{"step":1}']):
+        texts: tuple[list[str], ...] = ([], ["hello"], ['{"x":1}'], ["[1]"], [*JSON, "hello"], ['{"step":1}'])
+        for lines in texts:
             with self.assertRaises(NotATrace):
                 read_json(lines)
         with self.assertRaises(NotATrace):

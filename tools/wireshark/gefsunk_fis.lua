@@ -1,5 +1,5 @@
--- Serial ATA FISes for Wireshark and tshark, as `./pm_trace pcapng` writes them (docs/TOOLS.md): 16 bytes of this project, and then
--- the FIS. The fields are those of Serial ATA 3.x, 10.5.
+-- Serial ATA FISes for Wireshark and tshark, as `./pm_trace pcapng` writes them (docs/TOOLS.md): 16 bytes of this project,
+-- and then the FIS. The fields are those of Serial ATA 3.x, 10.5.
 --
 --     tshark -X lua_script:tools/wireshark/gefsunk_fis.lua -r boot.pcapng
 --
@@ -70,7 +70,8 @@ local f = {
   payload = ProtoField.bytes("fis.payload", "Payload"),
 }
 for _, field in pairs(f) do table.insert(fis.fields, field) end
-local wrong_length = ProtoExpert.new("fis.wrong_length", "The length is not that of this type", expert.group.MALFORMED, expert.severity.ERROR)
+local wrong_length = ProtoExpert.new("fis.wrong_length", "The length is not that of this type", expert.group.MALFORMED,
+  expert.severity.ERROR)
 fis.experts = { wrong_length }
 
 local function lba_of(tvb)
@@ -117,7 +118,8 @@ local function command(tree, tvb, port)
   if QUEUED[code] then
     local tag = bit.rshift(tvb(12, 1):uint(), 3)
     tree:add(f.tag, tvb(12, 1), tag)
-    said = string.format("%s tag %d lba %s sectors %d", said, tag, tostring(lba_of(tvb)), tvb(3, 1):uint() + tvb(11, 1):uint() * 256)
+    local sectors = tvb(3, 1):uint() + tvb(11, 1):uint() * 256
+    said = string.format("%s tag %d lba %s sectors %d", said, tag, tostring(lba_of(tvb)), sectors)
   end
   return said
 end

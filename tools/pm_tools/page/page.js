@@ -4,6 +4,7 @@
 const data = JSON.parse(document.getElementById("data").textContent);
 const steps = new Map(data.steps.map((step) => [step.number, step]));
 const SIZE = { row: 18, heads: 24, head: 14, lane: 96, slot: 13, slots: 64, gap: 190 };
+const CONTROL_PORT = 15;
 const NS = "http://www.w3.org/2000/svg";
 const page = Object.fromEntries([...document.querySelectorAll("[id]")].map((element) => [element.id, element]));
 const chosen = { port: "", ticket: "", faults: false, words: "", step: null, find: -1, zoom: 1 };
@@ -91,10 +92,12 @@ function drawArrow(arrow) {
   const shapes = [shape("line", line)];
   if (arrow.is_dropped) {
     for (const way of [1, -1]) {
-      shapes.push(shape("line", { x1: x2 - 4, y1: y2 - 4 * way, x2: x2 + 4, y2: y2 + 4 * way, stroke: data.colours.red, "stroke-width": 2 }));
+      const ends = { x1: x2 - 4, y1: y2 - 4 * way, x2: x2 + 4, y2: y2 + 4 * way };
+      shapes.push(shape("line", { ...ends, stroke: data.colours.red, "stroke-width": 2 }));
     }
   } else if (!arrow.is_cut) {
-    shapes.push(shape("polygon", { points: `${x2},${y2} ${x2 - 7 * side},${y2 - 3.5} ${x2 - 7 * side},${y2 + 3.5}`, fill: stroke }));
+    const points = `${x2},${y2} ${x2 - 7 * side},${y2 - 3.5} ${x2 - 7 * side},${y2 + 3.5}`;
+    shapes.push(shape("polygon", { points, fill: stroke }));
   }
   if (arrow.label) shapes.push(labelOf(arrow, x1, x2, y1, y2, side));
   return stepGroup(arrow.steps[arrow.steps.length - 1], shapes);
@@ -205,7 +208,8 @@ function search(isMoved) {
   }
   if (!finds.length) chosen.find = -1;
   const number = finds.length ? ((chosen.find % finds.length) + finds.length) % finds.length : -1;
-  page.finds.textContent = !chosen.words ? "" : !finds.length ? "no find" : `${isMoved ? number + 1 : finds.length}${isMoved ? ` of ${finds.length}` : " found"}`;
+  const said = isMoved ? `${number + 1} of ${finds.length}` : `${finds.length} found`;
+  page.finds.textContent = !chosen.words ? "" : finds.length ? said : "none found";
   if (isMoved && finds.length) choose(finds[number].number, true);
 }
 
@@ -228,14 +232,14 @@ function table(title, rows) {
 // The other steps of the same FIS, on its way.
 function wayOf(step) {
   if (!step.frame || step.fis === undefined) return [];
-  return data.steps.filter((other) => other.way === step.way && other.port === step.port && other.fis === step.fis && other.conn === step.conn);
+  return data.steps.filter((other) => ["way", "port", "conn", "fis"].every((key) => other[key] === step[key]));
 }
 
 function rowsOf(step) {
-  const place = step.port === 15 ? "control port" : step.port;
-  const rows = [["act", step.act], ["from", laneOf(step.source, step.port)], ["to", laneOf(step.target, step.port)], ["port", place],
-    ["connection", step.conn], ["FIS number", step.fis], ["slots", step.slots?.join(", ")], ["tickets", ticketsOf(step).join(", ")],
-    ["done slots", step.done?.join(", ")], ["ended", step.ended]];
+  const place = step.port === CONTROL_PORT ? "control port" : step.port;
+  const rows = [["act", step.act], ["from", laneOf(step.source, step.port)], ["to", laneOf(step.target, step.port)],
+    ["port", place], ["connection", step.conn], ["FIS number", step.fis], ["slots", step.slots?.join(", ")],
+    ["tickets", ticketsOf(step).join(", ")], ["done slots", step.done?.join(", ")], ["ended", step.ended]];
   const bad = [["fault", step.fault], ["dropped", step.dropped], ["ignored", step.ignored]];
   const isThere = ([, value]) => value !== undefined && value !== null && value !== "";
   return [...rows.filter(isThere).map(([name, value]) => row(name, value)),
@@ -249,7 +253,8 @@ function show(step) {
   [line.className, line.textContent] = ["line", step.text];
   const parts = [head, line, table("The step", rowsOf(step))];
   if (step.fields.length) {
-    parts.push(table("Fields of the FIS", step.fields.map(([name, value, meaning]) => row(name, meaning ? `${value}  ${meaning}` : value))));
+    const fields = step.fields.map(([name, value, meaning]) => row(name, meaning ? `${value}  ${meaning}` : value));
+    parts.push(table("Fields of the FIS", fields));
   }
   if (step.raw) parts.push(table("Its bytes", [row("", step.raw)]));
   const way = wayOf(step);
@@ -258,7 +263,8 @@ function show(step) {
 }
 
 function wayTable(way) {
-  const made = table("The way of this FIS", way.map((step) => row(`#${step.number}`, `${step.act}: ${laneOf(step.source, step.port)} to ${laneOf(step.target, step.port)}`)));
+  const hop = (step) => `${step.act}: ${laneOf(step.source, step.port)} to ${laneOf(step.target, step.port)}`;
+  const made = table("The way of this FIS", way.map((step) => row(`#${step.number}`, hop(step))));
   [...made.rows].forEach((line, place) => {
     const link = document.createElement("a");
     link.textContent = line.cells[0].textContent;
@@ -334,7 +340,8 @@ function open() {
 }
 
 page.title.textContent = document.title;
-offer(page.port, data.steps.filter((step) => step.port !== undefined).map((step) => step.port), (port) => (port === 15 ? "control port" : port));
+const ports = data.steps.map((step) => step.port).filter((port) => port !== undefined);
+offer(page.port, ports, (port) => (port === CONTROL_PORT ? "control port" : port));
 offer(page.ticket, data.steps.flatMap(ticketsOf), (ticket) => ticket);
 listen();
 open();
