@@ -189,7 +189,7 @@ class Builder:
     def add(self, step: Step, place: float) -> None:
         if step.is_whole:
             if self.window.has(step):
-                self.arrow(step, place, place + 0.5, (step.number,), is_cut=False)
+                self.arrow(step, place, place + 0.25, (step.number,), is_cut=False)
         elif step.act == "sends":
             self.sent[self.link_of(step)] = (step, place)
         elif step.act == "takes":

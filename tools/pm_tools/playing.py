@@ -6,15 +6,13 @@ are read where the guest put them.
 """
 from __future__ import annotations
 
-import json
 import re
-from dataclasses import replace
 from typing import Iterator, Sequence
 
 from pm_tools.guest_bytes import play_guest
 from pm_tools.program import Program
 from pm_tools.shrink import words_of
-from pm_tools.trace import NotATrace, Step, Trace, read_json, with_bytes
+from pm_tools.trace import Step, Trace, read_json, with_bytes
 
 MOST_LINES = 400_000
 

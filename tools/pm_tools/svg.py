@@ -5,7 +5,6 @@ import html
 from typing import Optional
 
 from pm_tools.ladder import TOP, Arrow, Bar, Ladder, Mark
-from pm_tools.trace import Step
 
 ROW, HEAD, LANE, SLOT, SLOTS, GAP = 18, 40, 96, 13, 64, 190
 COLOURS = ("#1f77b4", "#d2691e", "#2a8c2a", "#8456b0", "#8c564b", "#c2408f", "#5a6b00", "#0f8f9f",
@@ -69,10 +68,11 @@ def draw_arrow(picture: Picture, arrow: Arrow) -> None:
         points = f"{x2},{y2} {x2 - 7 * side},{y2 - 3.5} {x2 - 7 * side},{y2 + 3.5}"
         shapes.append(f'<polygon points="{points}" fill="{stroke}"/>')
     if arrow.label:
-        anchor = "start" if side > 0 else "end"
-        # The label of an arrow from the edge stands where it arrives: there its row is in the window.
-        at = (x1 + 5 * side, y1 - 3, anchor) if arrow.begin > TOP else (x2 - 12 * side, y2 - 3, "end" if side > 0 else "start")
-        shapes.append(picture.text(at[0], at[1], arrow.label, stroke, f'text-anchor="{at[2]}" class="h"'))
+        # The name of an arrow from the edge stands where it arrives: there its row is in the window.
+        is_begin_seen = arrow.begin > TOP
+        x, y = (x1 + 5 * side, y1 - 3) if is_begin_seen else (x2 - 12 * side, y2 - 3)
+        anchor = "start" if (side > 0) == is_begin_seen else "end"
+        shapes.append(picture.text(x, y, arrow.label, stroke, f'text-anchor="{anchor}" class="h"'))
     picture.add(arrow.steps[-1], *shapes)
 
 
