@@ -146,6 +146,6 @@ def main(words: Optional[Sequence[str]] = None) -> int:
     except (OSError, UnicodeDecodeError) as error:
         print(f"pm_trace perfetto: cannot be read: {error}", file=sys.stderr)
         return UNREADABLE
-    json.dump({"traceEvents": events_of(steps), "displayTimeUnit": "ns"}, sys.stdout)
-    print()
+    events = ",\n".join(json.dumps(event) for event in events_of(steps))
+    print(f'{{"displayTimeUnit": "ns", "traceEvents": [\n{events}\n]}}')
     return 0
