@@ -10,6 +10,8 @@ FIRST, SECTORS = 0x101000, 16  # the places of all requests
 STEPS_OF_PORT = ("pmpresence", "disktake", "disksend", "pmfromdevice", "pmdown")
 STEPS = ("pmfromhost", "pmup", "hosttake", "tick", "hostpush")
 SIGNATURE = "3440500101000000000000000100000000000000"
+# What a device answers to IDENTIFY DEVICE that has queued commands (ACS-3, 7.12.7, words 75 and 76): a PIO Setup, and Data.
+IDENTIFY = ("5f60580000000000000000000000005000020000", "46000000" + "00" * 150 + "1f00" "0001" + "00" * 358)
 
 
 def little(value: int, count: int) -> str:
@@ -28,12 +30,14 @@ class Maker:
         self.random = random.Random(self.seed)
         self.ports = self.random.choice((1, 2, 2, 3, 3, 4))
         self.present = set(range(self.ports))
+        self.scripts = [port for port in range(self.ports) if self.chance(0.15)]
         self.asked = 0
 
     def make(self) -> list[str]:
         self.open()
         acts = (self.read, self.write, self.flush, self.rounds, self.step, self.plug, self.lie, self.poll, self.put)
-        weights = (20, 12, 2, 24, 12, 3, 7, 12, 4)
+        # Some scenarios have no removal or no lie, and some have many.
+        weights = (20, 12, 2, 24, 12, self.random.choice((0, 3, 6)), self.random.choice((0, 0, 7, 20)), 12, 4)
         for act in self.random.choices(acts, weights, k=self.steps):
             act()
         self.close()
@@ -48,10 +52,13 @@ class Maker:
         self.lines += [self.device(port) for port in range(self.ports)]
         self.lines += [f"came {port}" for port in range(self.ports)]
         self.lines.append("settle 4000")
+        for port in self.scripts:
+            for fis in IDENTIFY:
+                self.lines += [f"inject {port} {fis}", "settle 4000"]
 
     def device(self, port: int) -> str:
         """A disk, or a script that begins as a disk does."""
-        if self.chance(0.1):
+        if port in self.scripts:
             return f"script {port} {SIGNATURE}"
         words = [f"disk {port} sectors {self.random.choice((8, 16, 24))}"]
         if self.chance(0.4):
@@ -122,7 +129,8 @@ class Maker:
             self.lines.append(f"show {FIRST:x} {512 * SECTORS}")
 
     def lie(self) -> None:
-        self.lines.append(f"inject {self.port()} {self.fis()}")
+        port = self.random.choice(self.scripts) if self.scripts and self.chance(0.7) else self.port()
+        self.lines.append(f"inject {port} {self.fis()}")
 
     def fis(self) -> str:
         """A FIS that a device may send, and that means something."""
