@@ -23,37 +23,51 @@ from pm_tools.trace import NotATrace, read_json
 FAILED = 1
 
 
-def verdict(program: Program, lines: Sequence[str]) -> Optional[Violated]:
-    """The sentence that the scenario violates, if it does."""
+def checked(program: Program, lines: Sequence[str]) -> Checker:
+    """What is known of a scenario once it is played and checked. Raises Violated where a sentence does not hold."""
     ended = program.play(["run", "--json"], "".join(line + "\n" for line in lines))
     if ended.status != 0:
-        return Violated("status", f"it ends with {ended.status}: {ended.errors.strip()[:200]}")
+        raise Violated("status", f"it ends with {ended.status}: {ended.errors.strip()[:200]}")
+    checker = Checker(list(flat(lines)))
     try:
-        Checker(list(flat(lines))).check(read_json(ended.printed.splitlines()))
+        checker.check(read_json(ended.printed.splitlines()))
+    except (NotATrace, ValueError, IndexError) as error:
+        raise Violated("output", f"it cannot be read: {error}") from error
+    return checker
+
+
+def verdict(program: Program, lines: Sequence[str]) -> Optional[Violated]:
+    """The sentence that the scenario violates, if it does."""
+    try:
+        checked(program, lines)
     except Violated as found:
         return found
-    except (NotATrace, ValueError, IndexError) as error:
-        return Violated("output", f"it cannot be read: {error}")
     return None
+
+
+def least(program: Program, lines: list[str], clause: str) -> list[str]:
+    """The smallest scenario that was found which violates the same sentence."""
+    def holds(less: list[str]) -> bool:
+        other = verdict(program, less)
+        return other is not None and other.clause == clause
+    return shrunk(lines, holds)
 
 
 def told(program: Program, seed: int, steps: int, is_shrunk: bool) -> bool:
     """Plays one seed, and says what came of it. It gives whether all sentences hold."""
     lines = Maker(seed, steps).make()
-    found = verdict(program, lines)
-    if found is None:
-        requests = sum(line.split()[0] in ("read", "write", "flush") for line in lines)
-        lies = sum(line.startswith("inject") for line in lines)
-        print(f"seed {seed}: {requests} requests, {lies} lies, all sentences hold", flush=True)
-        return True
-    print(f"seed {seed}: {found}", flush=True)
-    if is_shrunk:
-        clause = found.clause
-        lines = shrunk(lines, lambda less: (other := verdict(program, less)) is not None and other.clause == clause)
-        found = verdict(program, lines) or found
-    print(f"# pm_trace run --trace\n# seed {seed} steps {steps}. {found}")
-    print("\n".join(lines), flush=True)
-    return False
+    try:
+        requests = checked(program, lines).requests.values()
+    except Violated as found:
+        print(f"seed {seed}: {found}", flush=True)
+        lines = least(program, lines, found.clause) if is_shrunk else lines
+        print(f"# pm_trace run --trace\n# seed {seed} steps {steps}. {verdict(program, lines) or found}")
+        print("\n".join(lines), flush=True)
+        return False
+    done = sum(request.completed is not None for request in requests)
+    lies = sum(line.startswith("inject") for line in lines)
+    print(f"seed {seed}: {len(requests)} requests, {done} done, {lies} lies, all sentences hold", flush=True)
+    return True
 
 
 def parser() -> argparse.ArgumentParser:
