@@ -1,4 +1,4 @@
-"""Draws what `pm_trace run --json` tells as a ladder, in SVG or as a page of HTML:
+"""Draws what `pm_trace run --json`, `run --trace` or `guest --trace` tells as a ladder, in SVG or as a page of HTML:
 
     ./pm_trace run --json examples/one-read.scenario | ./pm_chart > one-read.svg
     ./pm_trace run --json examples/one-read.scenario | ./pm_chart --html > one-read.html

@@ -117,19 +117,13 @@ def read_json(lines: Iterable[str], name: str = "the input") -> Trace:
 
 
 LINK_WORDS = re.compile(r"(up|down) (?:port (\d+)|control port): (.*)")
-STEP_WORDS = re.compile(
-    r"#(?P<number>\d+) (?P<way>up|down)? ?(?P<who>.*?)(?: conn (?P<conn>\d+))?(?: fis (?P<fis>\d+))?(?:: (?P<said>.*))?$")
+STEP_WORDS = re.compile(r"#(?P<number>\d+) (?P<way>up|down) (?P<who>.*?)(?: conn (?P<conn>\d+))? fis (?P<fis>\d+): (?P<said>.*)")
+CHANGE_WORDS = re.compile(r"#(?P<number>\d+) (?P<who>disk|pm records at port) (?P<port>\d+), conn (?P<conn>\d+) (?P<what>came|went)")
+DRIVER_WORDS = re.compile(r"#(?P<number>\d+) driver(?P<place>, control port|, port (?P<port>\d+))?(?P<said>.*)")
 HOPS = {"disk -> pm": ("sends", "disk", "pm"), "pm takes at": ("takes", "disk", "pm"),
-        "pm -> host": ("sends", "pm", "host"), "host takes": ("takes", "pm", "host"),
-        "host -> pm": ("sends", "host", "pm"), "pm takes": ("takes", "host", "pm"),
-        "pm -> disk": ("sends", "pm", "disk"), "disk takes": ("takes", "pm", "disk")}
-
-
-def hop_of(way: str, who: str) -> tuple[str, str, str]:
-    """Act, source and target of a FIS, of the words of a line."""
-    plain = re.sub(r"port \d+|control port|\d+|,", " ", who.replace(" from ", " "))
-    plain = " ".join(plain.split())
-    return HOPS.get(plain, ("sends", "host" if way == "down" else "pm", "pm" if way == "down" else "host"))
+        "pm -> host": ("sends", "pm", "host"), "host takes from": ("takes", "pm", "host"),
+        "host takes from pm": ("takes", "pm", "host"), "host -> pm": ("sends", "host", "pm"),
+        "pm takes": ("takes", "host", "pm"), "pm -> disk": ("sends", "pm", "disk"), "disk takes": ("takes", "pm", "disk")}
 
 
 def port_of(who: str) -> Optional[int]:
@@ -139,28 +133,59 @@ def port_of(who: str) -> Optional[int]:
     return int(named[1]) if named else None
 
 
-def frame_of(said: Optional[str]) -> Optional[str]:
+def frame_of(said: str) -> str:
     """The FIS of the words after the colon, without slots and what came of it."""
-    if said is None:
-        return None
     return re.split(r", slot |; ", said, maxsplit=1)[0]
+
+
+def slots_in(text: str) -> tuple[int, ...]:
+    return tuple(int(slot) for slot in re.findall(r"\bslot (\d+)", text))
+
+
+def fis_step(line: str) -> Optional[Step]:
+    """A line of `run --trace` that has a FIS."""
+    found = STEP_WORDS.fullmatch(line)
+    if not found:
+        return None
+    plain = " ".join(re.sub(r"port \d+|control port|\d+|,", " ", found["who"]).split())
+    if plain not in HOPS:
+        return None
+    act, source, target = HOPS[plain]
+    fault, dropped = re.search(r"; fault ([\w-]+)", line), re.search(r"; dropped: (.*)", line)
+    done = re.search(r"; done ([^;]*)", line)
+    return Step(number=int(found["number"]), act=act, source=source, target=target, text=line, way=found["way"],
+                port=port_of(found["who"]), conn=int(found["conn"]) if found["conn"] else None, fis=int(found["fis"]),
+                frame=frame_of(found["said"]), slots=slots_in(found["said"].split(";")[0]),
+                done=slots_in(done[1]) if done else (), fault=fault[1] if fault else None,
+                dropped=dropped[1] if dropped else None, ignored="; taken by nobody" in line)
+
+
+def change_step(line: str) -> Optional[Step]:
+    """A line of `run --trace` of a device that came or went."""
+    found = CHANGE_WORDS.match(line)
+    if not found:
+        return None
+    is_gone, dropped = found["what"] == "went", re.search(r"; dropped: (.*)", line)
+    act = "records" if found["who"] != "disk" else "gone" if is_gone else "came"
+    return Step(number=int(found["number"]), act=act, source="disk", target="pm", text=line, port=int(found["port"]),
+                conn=int(found["conn"]), gone=is_gone, dropped=dropped[1] if dropped else None)
+
+
+def driver_step(line: str) -> Optional[Step]:
+    """A line of `run --trace` of what the driver did."""
+    found = DRIVER_WORDS.fullmatch(line)
+    if not found:
+        return None
+    said = found["said"]
+    ended, issued = re.search(r" tells ([\w -]+)", said), re.match(r": (h2d .*?), slot ", said)
+    return Step(number=int(found["number"]), act="drives", source="driver", target="host", text=line,
+                port=port_of(found["place"] or ""), frame=issued[1] if issued else None, slots=slots_in(said),
+                submitted=" takes a request: " in said, ended=ended[1] if ended else None)
 
 
 def text_step(line: str) -> Optional[Step]:
     """A line of `run --trace`."""
-    found = STEP_WORDS.match(line)
-    if not found:
-        return None
-    number, way, who = int(found["number"]), found["way"], found["who"]
-    if not way:
-        act = "drives" if who.startswith("driver") else "records" if who.startswith("pm records") else "came"
-        return Step(number=number, act=act, source="driver", target="host", text=line, port=port_of(line))
-    act, source, target = hop_of(way, who)
-    fault, dropped = re.search(r"; fault ([\w-]+)", line), re.search(r"; dropped: (.*)", line)
-    return Step(number=number, act=act, source=source, target=target, text=line, way=way, port=port_of(who),
-                conn=int(found["conn"]) if found["conn"] else None, fis=int(found["fis"]) if found["fis"] else None,
-                frame=frame_of(found["said"]), fault=fault[1] if fault else None,
-                dropped=dropped[1] if dropped else None, ignored="; taken by nobody" in line)
+    return fis_step(line) or change_step(line) or driver_step(line)
 
 
 def link_step(number: int, line: str) -> Optional[Step]:

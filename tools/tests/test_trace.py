@@ -1,5 +1,6 @@
 """Reading traces."""
 import unittest
+from dataclasses import replace
 
 from pm_tools.trace import NotATrace, read_json, read_text, with_bytes
 from support import DATA, TOP
@@ -15,10 +16,11 @@ class Reading(unittest.TestCase):
         self.assertEqual([step.ended for step in trace.steps if step.ended], ["done"])
 
     def test_text_has_the_same_steps(self) -> None:
-        for one, other in zip(read_json(JSON).steps, read_text(step.text for step in read_json(JSON).steps).steps):
-            for key in ("number", "port", "way", "fis", "conn", "frame", "fault", "dropped"):
-                if one.act in ("sends", "takes"):
-                    self.assertEqual(getattr(one, key), getattr(other, key), one.text)
+        for lines in (JSON, *((DATA / f"{name}.json").read_text().splitlines() for name in ("honest", "bad-sector"))):
+            for step in read_json(lines).steps:
+                # The text has the tickets beside their slots, and the JSON has them by themselves.
+                [other] = read_text([step.text]).steps
+                self.assertEqual(replace(other, tickets=step.tickets), step)
 
     def test_guest_lines_are_of_the_link(self) -> None:
         trace = read_text((TOP / "cases/guest/linux-two-disks.out").read_text().splitlines())
