@@ -26,6 +26,8 @@ FAILED = 1
 def checked(program: Program, lines: Sequence[str]) -> Checker:
     """What is known of a scenario once it is played and checked. Raises Violated where a sentence does not hold."""
     ended = program.play(["run", "--json"], "".join(line + "\n" for line in lines))
+    if ended.status is None:
+        raise Violated("status", f"it does not end within {program.seconds} s")
     if ended.status != 0:
         raise Violated("status", f"it ends with {ended.status}: {ended.errors.strip()[:200]}")
     checker = Checker(list(flat(lines)))

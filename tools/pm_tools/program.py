@@ -24,7 +24,7 @@ class Program:
     """A program that is called as pm_trace is."""
 
     path: Path
-    seconds: float = 60
+    seconds: float = 300
 
     @staticmethod
     def found() -> "Program":
