@@ -98,7 +98,7 @@ def line_of(text: str) -> Step | str:
     fields = json.loads(text)
     if "step" in fields:
         return step_of(fields)
-    return str(fields["printed"] if "printed" in fields else fields["error"])
+    return str(next(fields[key] for key in ("printed", "error", "text") if key in fields))
 
 
 def read_json(lines: Iterable[str], name: str = "the input") -> Trace:
@@ -107,7 +107,7 @@ def read_json(lines: Iterable[str], name: str = "the input") -> Trace:
     for number, line in enumerate(lines, 1):
         try:
             found.append(line_of(line))
-        except (ValueError, KeyError, TypeError) as error:
+        except (ValueError, KeyError, TypeError, StopIteration) as error:
             raise NotATrace(f"{name}: line {number} is no line of `pm_trace run --json`") from error
     if not found:
         raise NotATrace(f"{name} is empty, so it is no trace")
