@@ -1,0 +1,58 @@
+"""Draws what `pm_trace run --json`, `run --trace` or `guest --trace` tells as a ladder, in SVG or as a page of HTML:
+
+    ./pm_trace run --json examples/one-read.scenario | ./pm_chart > one-read.svg
+    ./pm_trace run --json examples/one-read.scenario | ./pm_chart --html > one-read.html
+
+A lane for the driver, the host port, the multiplier and each disk; time goes down. An arrow is a FIS on a link, from
+the step that sent it to the step that took it, with its decoded name; its colour is that of its device, grey the
+control port's. One that comes from before the window or goes on after it reaches to the edge, dashed where it was not
+taken. On the left is a bar for each request, in the column of its slot: light from its submit to its poll, dark while
+it is issued. On the right stands what came of a step. Red are faults, removals and dropped frames. A step's whole line
+shows where the mouse stays on it.
+
+The page of HTML needs nothing else. It zooms, shows only one port or one ticket, finds steps by their words, and shows
+the fields of the FIS that is clicked.
+"""
+from __future__ import annotations
+
+import argparse
+import sys
+from pathlib import Path
+from typing import Optional, Sequence
+
+from pm_tools.ladder import Window, ladder_of
+from pm_tools.page import page_of
+from pm_tools.svg import svg_of
+from pm_tools.trace import NotATrace, read_trace
+
+REFUSED, UNREADABLE = 1, 4
+
+
+def parser() -> argparse.ArgumentParser:
+    words = argparse.ArgumentParser(prog="pm_chart", description=__doc__, formatter_class=argparse.RawDescriptionHelpFormatter)
+    words.add_argument("--html", action="store_true", help="a page of HTML in place of a picture")
+    words.add_argument("--from", dest="first", type=int, default=0, metavar="N", help="only steps from number N on")
+    words.add_argument("--to", dest="last", type=int, metavar="N", help="only steps up to number N")
+    words.add_argument("--port", type=int, choices=range(16), metavar="N", help="only the device at port N and the control port")
+    words.add_argument("--page", type=int, default=50, metavar="ROWS",
+                       help="name the lanes anew after each ROWS rows of a picture (50)")
+    words.add_argument("--title", default="pm_trace", help="the title")
+    words.add_argument("trace", nargs="?", type=Path, metavar="TRACE", help="the trace; without it, standard input")
+    return words
+
+
+def main(words: Optional[Sequence[str]] = None) -> int:
+    given = parser().parse_args(words)
+    try:
+        trace = read_trace(given.trace)
+        ladder = ladder_of(trace.steps, Window(given.first, given.last, given.port))
+        if not ladder.steps:
+            raise NotATrace("no step of the trace is to be drawn")
+    except NotATrace as error:
+        print(f"pm_chart: {error}", file=sys.stderr)
+        return REFUSED
+    except (OSError, UnicodeDecodeError) as error:
+        print(f"pm_chart: cannot be read: {error}", file=sys.stderr)
+        return UNREADABLE
+    sys.stdout.write(page_of(ladder, given.title) if given.html else svg_of(ladder, given.title, max(1, given.page)))
+    return 0
