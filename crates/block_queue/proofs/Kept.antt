@@ -636,3 +636,7 @@ reset_kept l q ranks orphans line e f long = rw (e, f) (reset_line l orphans lin
 pub wire_below : (l : Line) (w : Option ℕ) → IsLine l → w ≡ l.queue.table.wire → IfSome w (λ place. place < 33)
 wire_below l None line e = tt
 wire_below l (Some p) line e = (line.wired p (sym e)).0
+
+pub wire_holds : (l : Line) (w : Option ℕ) → IsLine l → w ≡ l.queue.table.wire → IfSome w (λ place. has_wire (command_at l place) ≡ true)
+wire_holds l None line e = tt
+wire_holds l (Some p) line e = (line.wired p (sym e)).1

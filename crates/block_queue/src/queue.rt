@@ -3,7 +3,7 @@
 ghost use Rattle.std.specs.Prelude.{◌≡◌, ◌<◌, ◌≤◌, ◌^◌, true, IfOk, IfSome, IfNone, List, None, OnErr, OnOk, Option, Some, length};
 ghost use Rattle.block_command.specs.Moments.{IsCommand, Moment};
 ghost use Rattle.block_command.specs.Laws.{Comes, Fails, Flushes, Goes, Loads, Stores};
-ghost use Rattle.block_disk.specs.Table.{at, is_under_way, with_input};
+ghost use Rattle.block_disk.specs.Table.{at, has_wire, is_under_way, with_input};
 ghost use Rattle.block_disk.specs.Requests.{asks, number_at, with_asked, with_table};
 ghost use Rattle.block_queue.specs.Line.{IsOldest, Line, PassesNowhere, any_below, bars, command_at, first_ranks, has_bit, is_fis, is_in_way, left_of, line_answered, line_gone, line_reset, line_taken, may_send, may_start, moved_back, none_in_line, orphan, orphans_answered, share, starts, waits_for, with_queue};
 
@@ -205,6 +205,7 @@ impl CommandQueue {
     pub fn wire(&self) -> Option<u8>
         ensures value { result ≡ self.now.queue.table.wire }
         ensures below { IfSome result (λ place. place < 33) }
+        ensures holds { IfSome result (λ place. has_wire (command_at self.now place) ≡ true) }
     {
         self.requests.wire()
     }

@@ -1,5 +1,5 @@
 -- What every schedule keeps: its sets, and its bound in bytes.
-use Rattle.std.proofs.Common.{◌≡◌, ◌≢◌, ℕ, zero, suc, ◌+◌, ◌<◌, ◌≤◌, true, false, List, Some, None, refl, ap, ◌∙◌, arith, inl, inr, ◌⊎◌, get_or, set, length, subst}
+use Rattle.std.proofs.Common.{◌≡◌, ◌≢◌, ℕ, zero, suc, ◌+◌, ◌<◌, ◌≤◌, true, false, sym, List, Some, None, refl, ap, ◌∙◌, arith, inl, inr, ◌⊎◌, get_or, set, length, subst}
 use Rattle.std.specs.Prelude.{Option, Bool, if◌then◌else◌}
 use Rattle.std.specs.Option.{option_map}
 use Rattle.std.proofs.lemmas.Bool.{cases_eq, cases_lt, leb-true}
@@ -20,8 +20,8 @@ use Rattle.block_queue.specs.Line as queue
 use Rattle.block_queue.specs.declared.queue.Orphan.{Orphan}
 use Rattle.block_queue.proofs.Door.{left_read, of_and, runs_before, storing_runs}
 use Rattle.block_scheduler.specs.declared.sets.Sets.{Sets}
-use Rattle.block_scheduler.specs.Sets.{AreSets, IsNoted, is_end, no_sets, sends_alone, turn_at}
-use Rattle.block_scheduler.specs.Schedule.{IsKept, fits_at, held, held_at, held_below, held_by, held_for, held_of}
+use Rattle.block_scheduler.specs.Sets.{AreSets, IsNoted, asks_at, is_end, no_sets, sends_alone, turn_at}
+use Rattle.block_scheduler.specs.Schedule.{IsKept, Schedule, with_line, end_sent, ends_sent, fits_at, held, held_at, held_below, held_by, held_for, held_of}
 use Rattle.block_scheduler.proofs.Places.{SameOthers, empty, empty_tags, noted_sets}
 
 -- ## Sums
@@ -183,9 +183,9 @@ forget_kept l limit t orphans kept less =
     let all = held_less l (record l { orphans = orphans }) 33 (λ q low. (let here = less q low in omega (arith, here))) in
     let was = kept.held in
     record {
-  sets = record { waiting = kept.sets.waiting; asking = kept.sets.asking; sending = kept.sets.sending; ending = kept.sets.ending };
-  held = omega (arith, all, was);
-}
+      sets = record { waiting = kept.sets.waiting; asking = kept.sets.asking; sending = kept.sets.sending; ending = kept.sets.ending };
+      held = omega (arith, all, was);
+    }
 
 none_left : (orphans : List (Option Orphan)) (p : ℕ) → get_or (set orphans p None) p None ≡ None
 none_left orphans p = elim (cases_lt p (length orphans)) [
@@ -228,28 +228,28 @@ taken_kept l new limit s t c turn kept e f noted = rw e
     (take_case l limit s t c _ kept (noted_at new (line_taken l c) s t c.place turn e f noted))
 
 -- a start
-start_case : (l : Line) (limit : ℕ) (s t : Sets) (p : ℕ) (x : Option Moment) → command_at l p ≡ x → IsKept l limit s → p < 33
-    → fits_at (record { line = l; limit = limit }) x ≡ true
+start_case : (l : Line) (limit : ℕ) (fault : Option ℕ) (s t : Sets) (p : ℕ) (x : Option Moment) → command_at l p ≡ x → IsKept l limit s → p < 33
+    → fits_at (record { line = l; limit = limit; fault = fault }) x ≡ true
     → IsNoted s t p (turn_at (get_or (set l.queue.table.places p (option_map (λ m. after m Goes) x)) p None))
     → (wire : Option ℕ) → IsKept (changed l p (option_map (λ m. after m Goes) x) wire l.queue.out l.queue.next l.ranks) limit t
-start_case l limit s t p None here kept low fits noted wire = absurd (cc)
-start_case l limit s t p (Some m) here kept low fits noted wire =
+start_case l limit fault s t p None here kept low fits noted wire = absurd (cc)
+start_case l limit fault s t p (Some m) here kept low fits noted wire =
     start_kept l limit s t p (Some (after m Goes)) (held_of m.command.count) wire l.queue.out l.queue.next kept low noted
     (let most = held_most (runs (after m Goes).stage) (held_of (after m Goes).command.count) in
     let same = ap (λ c. held_of c.count) (same_command m.command m.done m.bytes m.sent m.stage Goes) in omega (arith, most, same))
     (leb-true _ _ fits)
 
-pub started_kept : (l new : Line) (limit : ℕ) (s t : Sets) (p : ℕ) (turn : Turn) → IsKept l limit s → p < 33
-    → fits_at (record { line = l; limit = limit }) (command_at l p) ≡ true
+pub started_kept : (l new : Line) (limit : ℕ) (fault : Option ℕ) (s t : Sets) (p : ℕ) (turn : Turn) → IsKept l limit s → p < 33
+    → fits_at (record { line = l; limit = limit; fault = fault }) (command_at l p) ≡ true
     → new ≡ line_gone l p → turn ≡ turn_at (command_at new p) → IsNoted s t p turn → IsKept new limit t
-started_kept l new limit s t p turn kept low fits e f noted = rw e
-    (start_case l limit s t p (command_at l p) refl kept low fits (noted_at new (line_gone l p) s t p turn e f noted) _)
+started_kept l new limit fault s t p turn kept low fits e f noted = rw e
+    (start_case l limit fault s t p (command_at l p) refl kept low fits (noted_at new (line_gone l p) s t p turn e f noted) _)
 
 -- nothing is under way
 none_sets : (l : Line) → ((q : ℕ) → q < 33 → command_at l q ≡ None) → AreSets l no_sets
 none_sets l none = record {
   waiting = empty _ (λ q low. ap (λ x. starts (turn_at x)) (none q low));
-  asking = empty _ (λ q low. ap (λ x. is_request (turn_at x)) (none q low));
+  asking = empty (asks_at l) (λ q low. ap (λ x. requests.asks_at x) (none q low));
   sending = empty _ (λ q low. ap (λ x. sends_alone q (turn_at x)) (none q low));
   ending = empty_tags _ (λ q low. ap (λ x. is_end (turn_at x)) (none q (omega (arith, low))));
 }
@@ -276,12 +276,26 @@ reset_kept l new limit s kept e =
     let all = held_less l (line_reset l) 33 (reset_at l) in
     let was = kept.held in
     rw e (record {
-  sets = none_sets (line_reset l) (λ q low. each_is (Option Moment) 33 q None);
-  held = omega (arith, all, was);
-})
+      sets = none_sets (line_reset l) (λ q low. each_is (Option Moment) 33 q None);
+      held = omega (arith, all, was);
+    })
 
 pub new_kept : (limit : ℕ) → IsKept none_in_line limit no_sets
 new_kept limit =
     let zero = held_zero none_in_line 33 (λ q low. (let none = ap held_by (each_is (Option Moment) 33 q None) in
     let left = ap held_for (each_is (Option Orphan) 33 q None) in omega (arith, none, left))) in
     record { sets = none_sets none_in_line (λ q low. each_is (Option Moment) 33 q None); held = omega (arith, zero) }
+
+-- ## Ends that go together
+
+ends_next : (l : Line) (n : ℕ) → ends_sent l (n + 1) ≡ end_sent (ends_sent l n) n
+unfolding ends_sent
+ends_next l n = let more : n + 1 ≡ suc n = omega arith in ap (ends_sent l) more
+
+pub ends_none : (l : Line) → l ≡ ends_sent l 0
+unfolding ends_sent
+ends_none l = refl
+
+pub ends_more : (s now : Schedule) (n : ℕ) → s ≡ with_line now (ends_sent now.line n)
+    → with_line s (end_sent s.line n) ≡ with_line now (ends_sent now.line (n + 1))
+ends_more s now n e = rw e (ap (with_line now) (sym (ends_next now.line n)))

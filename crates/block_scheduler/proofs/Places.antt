@@ -1,13 +1,19 @@
 -- Sets of places.
-use Rattle.std.proofs.Common.{◌≡◌, ◌≢◌, ℕ, ◌+◌, ◌*◌, ◌%◌, ◌^◌, ◌<◌, true, false, List, refl, sym, ap, ◌∙◌, arith, inl, inr, w32, w64, bit_or, bit_and}
-use Rattle.std.specs.Prelude.{Bool, nat_eq}
+use Rattle.std.proofs.Common.{◌≡◌, ◌≢◌, ℕ, ◌+◌, ◌*◌, ◌%◌, ◌^◌, ◌<◌, true, false, List, Some, None, refl, sym, ap, ◌∙◌, arith, inl, inr, ◌⊎◌, w32, w64, bit_or, bit_and}
+use Rattle.std.specs.Prelude.{Option, Bool, is_none, nat_eq, not, ◌&&◌, ◌||◌}
 use Rattle.std.specs.Int.{bit_not}
 use Rattle.std.proofs.lemmas.Bool.{cases_eq, eq-eqb}
 use Rattle.std.proofs.lemmas.Nat.Bits.{bit_at_set_same, bit_at_set_other, bit_at_clear_same, bit_at_clear_other, bit_at-zero}
+use Rattle.block_command.specs.declared.command.Stage.{Stage}
+use Rattle.block_command.specs.declared.command.Stage.TheVariants.{SetUpRead, SetUpWrite, End, Fail}
+use Rattle.block_command.specs.Moments.{Moment, is_set_up, turn_of}
+use Rattle.block_disk.specs.Table.{has_wire, wants_wire}
 use Rattle.block_disk.specs.Requests.{is_request}
-use Rattle.block_queue.specs.Line.{IsOldest, Line, PassesNowhere, command_at, has_bit, starts}
+use Rattle.block_disk.specs.Requests as requests
+use Rattle.block_queue.proofs.Door.{of_and}
+use Rattle.block_queue.specs.Line.{IsOldest, Line, PassesNowhere, command_at, has_bit, may_send, starts}
 use Rattle.block_scheduler.specs.declared.sets.Sets.{Sets}
-use Rattle.block_scheduler.specs.Sets.{AreSets, IsNoted, IsSetOf, IsTagsOf, IsWith, IsWithTag, is_end, sends_alone, turn_at}
+use Rattle.block_scheduler.specs.Sets.{AreSets, IsNoted, IsSetOf, IsTagsOf, IsWith, IsWithTag, asks_at, is_end, sends_alone, sends_at, turn_at}
 
 abbrev pub bit : ℕ → Bool
 bit n = nat_eq n 1
@@ -67,11 +73,49 @@ tags_with old new p is was now with' of here others = λ q low. elim (cases_eq q
   | inr apart ↦ with'.others q low apart ∙ of q low ∙ sym (others q (omega (arith, low)) apart)
 ]
 
+pub asks_turn : (x : Option Moment) → requests.asks_at x ≡ is_request (turn_at x)
+asks_turn None = refl
+asks_turn (Some m) = refl
+
+-- a FIS that is next may go where the link is free, or the command's own
+may_free : (wants : Bool) (w : Option ℕ) → (wants ≡ false) ⊎ (w ≡ None) → (not wants || is_none w) ≡ true
+may_free true w (inl e) = absurd (cc)
+may_free false w (inl e) = refl
+may_free true w (inr e) = ap is_none e
+may_free false w (inr e) = refl
+
+both : (x y : Bool) → x ≡ true → y ≡ true → (x && y) ≡ true
+both true y e f = f
+both false y e f = absurd (cc)
+
+may_at : (l : Line) (p : ℕ) (x : Option Moment) → command_at l p ≡ x → sends_alone p (turn_at x) ≡ true
+    → (wants_wire (turn_at x) ≡ false) ⊎ (l.queue.table.wire ≡ None) → may_send l p ≡ true
+may_at l p None here e free = absurd (cc)
+may_at l p (Some m) here e free = rw here (both _ _ (of_and _ _ e).0 (may_free _ _ free))
+
+pub free_may : (l : Line) (p : ℕ) → l.queue.table.wire ≡ None → sends_at l p ≡ true → may_send l p ≡ true
+free_may l p free e = may_at l p (command_at l p) refl e (inr free)
+
+holder_wants : (m : Moment) (stage : Stage) → m.stage ≡ stage → is_set_up m stage ≡ true → wants_wire (turn_of stage) ≡ false
+holder_wants m SetUpRead is e = absurd (cc)
+holder_wants m SetUpWrite is e = absurd (cc)
+holder_wants m End is e = absurd (cc)
+holder_wants m Fail is e = absurd (cc)
+holder_wants m stage is e = refl
+
+holds_wants : (x : Option Moment) → has_wire x ≡ true → wants_wire (turn_at x) ≡ false
+holds_wants None e = absurd (cc)
+holds_wants (Some m) e = holder_wants m m.stage refl (of_and _ _ e).1
+
+pub holder_may : (l : Line) (p : ℕ) → has_wire (command_at l p) ≡ true → sends_at l p ≡ true → may_send l p ≡ true
+holder_may l p has e = may_at l p (command_at l p) refl e (inl (holds_wants _ has))
+
 pub noted_sets : (old new : Line) (s t : Sets) (p : ℕ) → AreSets old s → IsNoted s t p (turn_at (command_at new p)) → SameOthers old new p
     → AreSets new t
 noted_sets old new s t p are noted same = record {
   waiting = set_with _ _ p _ _ _ noted.waiting are.waiting refl (λ q low apart. ap (λ x. starts (turn_at x)) (same q low apart));
-  asking = set_with _ _ p _ _ _ noted.asking are.asking refl (λ q low apart. ap (λ x. is_request (turn_at x)) (same q low apart));
+  asking = set_with _ _ p _ _ (asks_at new) noted.asking are.asking (asks_turn (command_at new p))
+      (λ q low apart. ap (λ x. requests.asks_at x) (same q low apart));
   sending = set_with _ _ p _ _ _ noted.sending are.sending refl (λ q low apart. ap (λ x. sends_alone q (turn_at x)) (same q low apart));
   ending = tags_with _ _ p _ _ _ noted.ending are.ending refl (λ q low apart. ap (λ x. is_end (turn_at x)) (same q low apart));
 }

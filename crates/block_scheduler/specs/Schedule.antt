@@ -1,23 +1,25 @@
 -- What goes next at a disk, and how many bytes its commands may hold.
-use Rattle.std.specs.Prelude.{ℕ, zero, suc, ◌≡◌, ◌+◌, ◌*◌, ◌<◌, ◌≤◌, nat_le, nat_lt, Bool, true, false, ◌⊎◌, Option, Some, None, if◌then◌else◌}
+use Rattle.std.specs.Prelude.{ℕ, zero, suc, ◌≡◌, ◌+◌, ◌*◌, ◌<◌, ◌≤◌, nat_le, nat_lt, Bool, true, false, ◌&&◌, ◌⊎◌, Option, Some, None, if◌then◌else◌}
 use Rattle.block_command.specs.Moments.{Moment, runs}
-use Rattle.block_queue.specs.Line.{Line, IsOldest, PassesNowhere, command_at, may_start, none_in_line, orphan}
+use Rattle.block_queue.specs.Line.{Line, IsOldest, PassesNowhere, command_at, line_gone, line_reset, may_send, may_start, none_in_line, orphan}
 use Rattle.block_queue.specs.declared.queue.Orphan.{Orphan}
 use Rattle.block_scheduler.specs.declared.scheduler.NextFis.{NextFis}
 use Rattle.block_scheduler.specs.declared.scheduler.NextFis.TheVariants.{Ends, Alone}
 use Rattle.block_scheduler.specs.declared.sets.Sets.{Sets}
-use Rattle.block_scheduler.specs.Sets.{AreSets, IsTagsOf, ends_at, sends_at}
+use Rattle.block_scheduler.specs.Sets.{AreSets, IsTagsOf, ends_at, is_fail, sends_at, turn_at}
 
 pub record Schedule : Type 0 where
   pub line : Line
   -- the most bytes that commands and dropped stores may hold
   pub limit : ℕ
+  -- the tag of a queued command that failed: all of them ended with it, and the host has not read the error
+  pub fault : Option ℕ
 
 abbrev pub with_line : Schedule → Line → Schedule
 with_line s l = record s { line = l }
 
 abbrev pub none_scheduled : ℕ → Schedule
-none_scheduled limit = record { line = none_in_line; limit = limit }
+none_scheduled limit = record { line = none_in_line; limit = limit; fault = None }
 
 -- ## Bytes
 
@@ -80,6 +82,30 @@ IsNextFis l (Some h) (Some (Ends tags)) = ⊥
 IsNextFis l None None = EndsNowhere l × PassesNowhere (sends_at l)
 IsNextFis l None (Some (Alone p)) = EndsNowhere l × IsOldest l.ranks (sends_at l) p
 IsNextFis l None (Some (Ends tags)) = IsTagsOf tags (ends_at l) × (0 < tags)
+
+-- an error of this place ends all queued commands
+abbrev pub ends_all : Line → ℕ → Bool
+ends_all l place = nat_lt place 32 && is_fail (turn_at (command_at l place))
+
+-- the FIS of a command was sent
+abbrev pub line_sent : Schedule → ℕ → Schedule
+line_sent s place = if ends_all s.line place
+    then record s { line = line_reset (line_gone s.line place); fault = Some place }
+    else with_line s (line_gone s.line place)
+
+-- what goes next may be sent
+abbrev pub MayGo : Line → NextFis → Type 0
+MayGo l (Alone p) = (p < 33) × (may_send l p ≡ true)
+MayGo l (Ends tags) = l.queue.table.wire ≡ None
+
+-- the end of a queued command goes, if it is next and may be sent
+abbrev pub end_sent : Line → ℕ → Line
+end_sent l tag = if ends_at l tag && may_send l tag then line_gone l tag else l
+
+-- those of the tags below n
+unfoldable pub ends_sent : Line → ℕ → Line
+ends_sent l zero = l
+ends_sent l (suc n) = end_sent (ends_sent l n) n
 
 -- ## What every schedule keeps
 

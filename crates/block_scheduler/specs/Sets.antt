@@ -3,7 +3,7 @@ use Rattle.std.specs.Prelude.{ℕ, ◌≡◌, ◌≢◌, ◌<◌, nat_lt, Bool, 
 use Rattle.block_command.specs.declared.command.Turn.{Turn}
 use Rattle.block_command.specs.declared.command.Turn.TheVariants as turn
 use Rattle.block_command.specs.Moments.{Moment, turn_of}
-use Rattle.block_disk.specs.Requests.{is_request}
+use Rattle.block_disk.specs.Requests.{asks, is_request}
 use Rattle.block_queue.specs.Line.{Line, command_at, has_bit, is_fis, starts}
 use Rattle.block_scheduler.specs.declared.sets.Sets.{Sets}
 
@@ -13,6 +13,10 @@ no_sets = record { waiting = 0; asking = 0; sending = 0; ending = 0 }
 abbrev pub is_end : Turn → Bool
 is_end turn.End = true
 is_end _ = false
+
+abbrev pub is_fail : Turn → Bool
+is_fail turn.Fail = true
+is_fail _ = false
 
 abbrev pub turn_at : Option Moment → Turn
 turn_at None = turn.Nothing
@@ -53,7 +57,7 @@ abbrev pub waits_at : Line → ℕ → Bool
 waits_at l place = starts (turn_at (command_at l place))
 
 abbrev pub asks_at : Line → ℕ → Bool
-asks_at l place = is_request (turn_at (command_at l place))
+asks_at l place = asks l.queue place
 
 abbrev pub sends_at : Line → ℕ → Bool
 sends_at l place = sends_alone place (turn_at (command_at l place))

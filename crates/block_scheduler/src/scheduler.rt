@@ -1,15 +1,15 @@
 //! What goes next.
 
-ghost use Rattle.std.specs.Prelude.{◌≡◌, ◌<◌, ◌≤◌, ◌^◌, true, false, IfOk, IfSome, IfNone, None, OnErr, OnOk, Option, Some};
+ghost use Rattle.std.specs.Prelude.{◌≡◌, ◌&&◌, ◌<◌, ◌≤◌, ◌^◌, true, false, IfOk, IfSome, IfNone, None, OnErr, OnOk, Option, Some};
 ghost use Rattle.block_command.specs.Moments.{IsCommand, Moment};
 ghost use Rattle.block_command.specs.Laws.{Comes, Fails, Flushes, Loads, Stores};
 ghost use Rattle.block_disk.specs.Table.{is_under_way, with_input};
 ghost use Rattle.block_disk.specs.Requests.{asks, with_asked, with_table};
 ghost use Rattle.block_queue.specs.Line.{IsOldest, PassesNowhere, command_at, has_bit, line_answered, line_gone, line_reset, line_taken, may_send, may_start, orphan, with_queue};
-ghost use Rattle.block_scheduler.specs.Sets.{IsSetOf, IsWith, asks_at, turn_at};
-ghost use Rattle.block_scheduler.specs.Schedule.{IsNextFis, IsNextStart, Schedule, fits, held, held_at, held_for, held_of, none_scheduled, with_line};
+ghost use Rattle.block_scheduler.specs.Sets.{IsSetOf, asks_at, ends_at, turn_at};
+ghost use Rattle.block_scheduler.specs.Schedule.{IsNextFis, IsNextStart, MayGo, Schedule, end_sent, ends_sent, fits, held, held_at, line_sent, held_for, held_of, none_scheduled, with_line};
 
-use crate::sets::{Sets, with_place};
+use crate::sets::{Sets, is_end, is_fail, with_place};
 use block_command::{BlockCommand, Command, Turn};
 use block_queue::{CommandQueue, Orphan};
 use std::alloc::{AllocError, Global};
@@ -30,6 +30,7 @@ pub enum NextFis {
 pub struct Scheduler {
     queue: CommandQueue,
     limit: u32,
+    fault: Option<u8>,
     sets: Sets,
 }
 
@@ -38,7 +39,7 @@ impl Model for Scheduler {
 
     ghost Value = { Schedule };
 
-    ghost view = { λ s. record { line = s.queue; limit = s.limit } };
+    ghost view = { λ s. record { line = s.queue; limit = s.limit; fault = s.fault } };
 
     ghost invariant = { λ s. IsKept s.queue s.limit s.sets };
 }
@@ -86,19 +87,24 @@ fn held_at(queue: &CommandQueue, place: u8) -> u64
     };
     let own = match queue.get(place) {
         None => 0,
-        Some(command) => if command.is_running() { held_of(command.command().count) } else { 0 },
+        Some(command) => if command.is_running() {
+            held_of(command.command().count)
+        } else {
+            0
+        },
     };
     own + dropped
 }
 
 impl Scheduler {
-    /// No command is under way. The limit is in bytes.
+    /// No command is under way. The limit is in bytes; below 1 MiB, a command of a whole part never starts.
     pub fn new(alloc: Global, limit: u32) -> Result<Scheduler, AllocError>
         ensures { IfOk result (λ s. s ≡ none_scheduled limit) }
     {
         Ok(Scheduler {
             queue: CommandQueue::new(alloc)?,
             limit,
+            fault: None,
             sets: Sets::new(),
         })
     }
@@ -124,6 +130,7 @@ impl Scheduler {
     pub fn held(&self) -> u64
         ensures value { result ≡ held self.now.line }
         ensures most { result ≤ 69206016 }
+        ensures bound { result ≤ self.now.limit }
     {
         let mut held = 0;
         for place in 0..33_u8 {
@@ -143,8 +150,9 @@ impl Scheduler {
         }
     }
 
-    /// A command is taken, unless its place is under way.
+    /// A command is taken, unless its place is under way. While the host has not read an error none is.
     pub fn take(&mut self, alloc: Global, command: Command)
+        requires fault { self.old.fault ≡ None }
         requires place { command.place < 33 }
         requires is { IsCommand command }
         ensures { self.new ≡ with_line self.old (line_taken self.old.line command) }
@@ -217,11 +225,16 @@ impl Scheduler {
 
     /// The FIS that goes next. While a command has the link only its own is sent.
     pub fn next_fis(&self) -> Option<NextFis>
-        ensures { IsNextFis self.now.line self.now.line.queue.table.wire result }
+        ensures next { IsNextFis self.now.line self.now.line.queue.table.wire result }
+        ensures may { IfSome result (MayGo self.now.line) }
     {
         if let Some(holder) = self.queue.wire() {
             let sends = has_bit(self.sets.sending, holder);
-            return if sends { Some(NextFis::Alone(holder)) } else { None };
+            return if sends {
+                Some(NextFis::Alone(holder))
+            } else {
+                None
+            };
         }
         if self.sets.ending > 0 {
             return Some(NextFis::Ends(self.sets.ending));
@@ -230,8 +243,47 @@ impl Scheduler {
         Some(NextFis::Alone(place))
     }
 
-    /// The FIS that was next for a command was sent.
+    /// The tag of the queued command that failed, until the host has read the error. All queued commands ended with it.
+    pub fn fault(&self) -> Option<u8>
+        ensures { result ≡ self.now.fault }
+    {
+        self.fault
+    }
+
+    /// The host has read the error.
+    pub fn forgive(&mut self)
+        ensures { self.new ≡ record { line = self.old.line; limit = self.old.limit; fault = None } }
+    {
+        self.fault = None;
+    }
+
+    /// The FIS that was next for a command was sent. The error of a queued command ends all of them.
     pub fn send(&mut self, place: u8)
+        requires place { place < 33 }
+        requires may { may_send self.old.line place ≡ true }
+        ensures { self.new ≡ line_sent self.old place }
+    {
+        if place < 32 && is_fail(turn_of(&self.queue, place)) {
+            self.send_error(place);
+        } else {
+            self.send_one(place);
+        }
+    }
+
+    /// The error of a queued command was sent.
+    fn send_error(&mut self, tag: u8)
+        requires tag { tag < 33 }
+        requires may { may_send self.old.line tag ≡ true }
+        ensures { self.new ≡ record { line = line_reset (line_gone self.old.line tag); limit = self.old.limit; fault = Some tag } }
+    {
+        self.send_one(tag);
+        self.queue.reset();
+        self.sets = Sets::new();
+        self.fault = Some(tag);
+    }
+
+    /// A FIS was sent.
+    fn send_one(&mut self, place: u8)
         requires place { place < 33 }
         requires may { may_send self.old.line place ≡ true }
         ensures { self.new ≡ with_line self.old (line_gone self.old.line place) }
@@ -239,6 +291,26 @@ impl Scheduler {
         self.queue.send(place);
         let turn = turn_of(&self.queue, place);
         self.sets = self.sets.noted(place, turn);
+    }
+
+    /// The end of a queued command is sent, if it is next and may be.
+    fn send_end(&mut self, tag: u8)
+        requires { tag < 32 }
+        ensures { self.new ≡ with_line self.old (end_sent self.old.line tag) }
+    {
+        let ends = is_end(turn_of(&self.queue, tag));
+        if ends && self.queue.may_send(tag) {
+            self.send_one(tag);
+        }
+    }
+
+    /// The Set Device Bits FIS was sent that says for all tags whose end was next that they ended well.
+    pub fn send_ends(&mut self)
+        ensures { self.new ≡ with_line self.old (ends_sent self.old.line 32) }
+    {
+        for tag in 0..32_u8 {
+            self.send_end(tag);
+        }
     }
 
     /// Data came for a command.
@@ -294,11 +366,12 @@ impl Scheduler {
         self.sets = self.sets.noted(place, turn);
     }
 
-    /// All that is under way is gone: a software reset, a plug, or an error of queued commands.
+    /// All that is under way is gone: a software reset or a plug.
     pub fn reset(&mut self)
-        ensures { self.new ≡ with_line self.old (line_reset self.old.line) }
+        ensures { self.new ≡ record { line = line_reset self.old.line; limit = self.old.limit; fault = None } }
     {
         self.queue.reset();
         self.sets = Sets::new();
+        self.fault = None;
     }
 }

@@ -3,7 +3,7 @@
 ghost use Rattle.std.specs.Prelude.{◌≡◌, ◌<◌};
 ghost use Rattle.block_queue.specs.Line.{is_fis, starts};
 ghost use Rattle.block_disk.specs.Requests.{is_request};
-ghost use Rattle.block_scheduler.specs.Sets.{IsNoted, IsWith, IsWithTag, is_end, no_sets};
+ghost use Rattle.block_scheduler.specs.Sets.{IsNoted, IsWith, IsWithTag, is_end, is_fail, no_sets};
 
 use block_command::Turn;
 
@@ -48,10 +48,17 @@ fn with_tag(tags: u32, place: u8, is: bool) -> u32
 }
 
 /// Whether this says that a command ended well.
-fn is_end(turn: Turn) -> bool
+pub(crate) fn is_end(turn: Turn) -> bool
     ensures { result ≡ is_end turn }
 {
     matches!(turn, Turn::End)
+}
+
+/// Whether this says that a command failed.
+pub(crate) fn is_fail(turn: Turn) -> bool
+    ensures { result ≡ is_fail turn }
+{
+    matches!(turn, Turn::Fail)
 }
 
 /// Whether this is a start.

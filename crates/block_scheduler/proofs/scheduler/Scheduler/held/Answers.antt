@@ -1,4 +1,4 @@
-use Rattle.std.proofs.Common.{◌≡◌, arith, ap, ◌∙◌}
+use Rattle.std.proofs.Common.{◌≤◌, subst, ◌≡◌, arith, ap, ◌∙◌}
 use Rattle.block_scheduler.specs.Schedule.{held_below}
 use Rattle.block_scheduler.proofs.Held.{held_next, held_none}
 use Rattle.block_scheduler.proofs.scheduler.Scheduler.held.Goals as goal
@@ -20,3 +20,9 @@ pub returns-clause-value : goal.returns-clause-value
 returns-clause-value c =
     let last : c.loop-place.place ≡ 33 = (let end = c.loop-place-test.false in let most = c.loop-place.auto.place-end in omega (arith, end, most)) in
     c.loop-place.invariant.sum ∙ ap (held_below c.self.inside.queue) last ∙ ap (λ s. held_below s.line 33) c.self.view_is
+
+pub returns-clause-bound : goal.returns-clause-bound
+returns-clause-bound c =
+    let value = returns-clause-value c in
+    let kept = subst (λ s. held_below s.line 33 ≤ s.limit) c.self.view_is c.self.invariant.held in
+    omega (arith, value, kept)

@@ -1,7 +1,7 @@
 use Rattle.std.proofs.Common.{ap, ◌∙◌}
 use Rattle.block_queue.specs.Line.{may_send}
 use Rattle.block_scheduler.proofs.Held.{sent_kept}
-use Rattle.block_scheduler.proofs.scheduler.Scheduler.send.Goals as goal
+use Rattle.block_scheduler.proofs.scheduler.Scheduler.send_one.Goals as goal
 
 pub invariant_of-self : goal.invariant_of-self
 invariant_of-self c =
