@@ -81,15 +81,16 @@ supplied_at at (AtEntries head table) raw =
 abbrev pub supplied : Fetching → List ℕ → Supplied
 supplied f raw = supplied_at f.at f.step raw
 
--- entries are to be kept, so memory may be wanted
-abbrev pub Keeps : Step → Type 0
-Keeps AtHeader = ⊥
-Keeps (AtFis header) = ⊥
-Keeps (AtEntries head table) = Unit {0}
+-- entries are to be kept, of which none is forbidden, so memory is wanted
+abbrev pub Keeps : Step → List ℕ → Type 0
+Keeps AtHeader raw = ⊥
+Keeps (AtFis header) raw = ⊥
+Keeps (AtEntries head table) raw =
+    first_fault (length table.entries) (left_of table) (entries_at raw 0 (asked head table)) ≡ None
 
 -- What a supply answers. Where memory for entries is refused, nothing came, and the same is wanted again.
 abbrev pub SuppliesAt : ℕ → Step → List ℕ → Supplied → Type 0
-SuppliesAt at step raw (OutOfMemory g) = (g ≡ record { at = at; step = step }) × Keeps step
+SuppliesAt at step raw (OutOfMemory g) = (g ≡ record { at = at; step = step }) × Keeps step raw
 SuppliesAt at step raw (More g) = supplied_at at step raw ≡ More g
 SuppliesAt at step raw (Whole command) = supplied_at at step raw ≡ Whole command
 SuppliesAt at step raw (Refused r) = supplied_at at step raw ≡ Refused r

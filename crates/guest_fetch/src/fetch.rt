@@ -16,7 +16,7 @@ use crate::want::Want;
 use std::alloc::Global;
 use std::marker::Model;
 
-/// How much of a command has come.
+/// How much of a command has come, as contracts see it.
 #[derive(Debug, Drop)]
 pub enum Step {
     /// Nothing: its header is wanted.

@@ -1,6 +1,8 @@
 //! A guest of the tests.
 
-ghost use Rattle.std.specs.Prelude.{◌≡◌, IfSome, length};
+ghost use Rattle.std.specs.Prelude.{◌≡◌, ◌<◌, IfSome, length};
+ghost use Rattle.guest_fetch.specs.Headers.{header_place};
+ghost use Rattle.guest_fetch.specs.declared.fetch.Step.TheVariants.{AtHeader};
 
 use guest_fetch::{Fetch, Supplied, Table, Want};
 use std::alloc::{AllocError, Global};
@@ -58,6 +60,14 @@ pub(crate) fn are_moves(table: &Table, offset: u32, len: usize, places: &[Place]
     moves.next().is_none()
 }
 
+// The command in a slot: nothing of it has come.
+fn opened(slot: u8) -> Fetch
+    requires { slot < 32 }
+    ensures { result ≡ record { at = header_place 1024 slot; step = AtHeader } }
+{
+    Fetch::new(LIST, slot)
+}
+
 // The bytes that are wanted, if all of them are memory.
 fn part(memory: &[u8], want: Want) -> Option<&[u8]>
     ensures { IfSome result (λ bytes. length bytes.now ≡ want.len) }
@@ -104,7 +114,7 @@ impl Rig {
     /// Reads the command of a slot, as far as the memory is there. Where an allocation is refused, the part is supplied again.
     /// More says that it does not end.
     pub(crate) fn fetch(&self, slot: u8) -> Supplied {
-        let mut fetch = Fetch::new(LIST, slot % 32);
+        let mut fetch = opened(slot % 32);
         for _ in 0..70_000 {
             let Some(bytes) = part(self.memory.as_slice(), fetch.want()) else {
                 return Supplied::Refused(fetch.no_memory());
