@@ -1,4 +1,4 @@
-"""The tools of ./pm_trace, by their names."""
+"""The tools of ./pm_trace, by their names. With --check before the name, only the words of the tool are judged."""
 from __future__ import annotations
 
 import importlib
@@ -8,11 +8,17 @@ TOOLS = ("diff", "shrink", "fuzz", "perfetto", "pcapng")
 
 
 def main() -> int:
-    name = sys.argv[1] if len(sys.argv) > 1 else ""
+    words = sys.argv[1:]
+    is_checked = words[:1] == ["--check"]
+    name, *rest = words[is_checked:] or [""]
     if name not in TOOLS:
         print(f"wanted one of {', '.join(TOOLS)}", file=sys.stderr)
         return 2
-    status: int = importlib.import_module(f"pm_tools.{name}").main(sys.argv[2:])
+    tool = importlib.import_module(f"pm_tools.{name}")
+    if is_checked:
+        tool.parser().parse_args(rest)
+        return 0
+    status: int = tool.main(rest)
     return status
 
 

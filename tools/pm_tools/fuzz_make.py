@@ -82,18 +82,21 @@ class Maker:
         cut = 2 * self.random.randrange(1, length // 2)
         return f"{at:x}:{cut} {at + cut:x}:{length - cut}"
 
-    def request(self, work: str) -> None:
+    def request(self, work: str, port: int) -> None:
         sectors = self.random.choice((1, 1, 1, 2, 3))
-        self.lines.append(f"{work} {self.port()} {self.random.randrange(12)} {sectors} {self.places(sectors)}")
+        self.lines.append(f"{work} {port} {self.random.randrange(12)} {sectors} {self.places(sectors)}")
         self.asked += 1
 
+    def read_of(self, port: int) -> None:
+        self.request("read", port)
+
     def read(self) -> None:
-        self.request("read")
+        self.read_of(self.port())
 
     def write(self) -> None:
         if self.chance(0.7):
             self.put()
-        self.request("write")
+        self.request("write", self.port())
 
     def flush(self) -> None:
         self.lines.append(f"flush {self.port()}")
@@ -117,11 +120,29 @@ class Maker:
     def plug(self) -> None:
         """A device goes, or one comes again and is brought up."""
         gone = sorted(set(range(self.ports)) - self.present)
-        port = self.random.choice(gone) if gone else self.port()
-        self.lines.append(f"{'came' if gone else 'gone'} {port}")
-        self.present ^= {port}
-        if gone and self.chance(0.8):
+        if gone:
+            self.come(self.random.choice(gone))
+        else:
+            self.go(self.port())
+
+    def come(self, port: int) -> None:
+        self.lines.append(f"came {port}")
+        self.present.add(port)
+        if self.chance(0.8):
             self.lines += ["repeat 40", *round_steps(self.ports), "end"]
+
+    def go(self, port: int) -> None:
+        """Often there is something on its way, and the multiplier hears of the removal before it takes that."""
+        if self.chance(0.6):
+            self.read_of(port)
+            self.lines += [f"repeat {self.random.randint(2, 7)}", *round_steps(self.ports), "end"]
+            self.lines += [f"step disksend {port}"] * 2
+        self.lines.append(f"gone {port}")
+        self.present.discard(port)
+        if self.chance(0.6):
+            self.lines += [f"step pmpresence {port}", *[f"step pmfromdevice {port}", "step pmup", "step hosttake"] * 3]
+        if self.chance(0.5):
+            self.come(port)
 
     def poll(self) -> None:
         self.lines.append("poll")

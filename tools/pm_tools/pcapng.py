@@ -101,15 +101,14 @@ def parser() -> argparse.ArgumentParser:
     words = argparse.ArgumentParser(prog="pm_trace pcapng", description=__doc__,
                                     formatter_class=argparse.RawDescriptionHelpFormatter)
     words.add_argument("--links", choices=("host", "all"), default="host", help="which links (host)")
-    words.add_argument("--play", type=Path, metavar="SCENARIO", help="play this scenario, in place of a trace")
-    words.add_argument("trace", nargs="?", type=Path, metavar="TRACE", help="the trace; without it, standard input")
+    input_words = words.add_mutually_exclusive_group()
+    input_words.add_argument("--play", type=Path, metavar="SCENARIO", help="play this scenario, in place of a trace")
+    input_words.add_argument("trace", nargs="?", type=Path, metavar="TRACE", help="the trace; without it, standard input")
     return words
 
 
 def main(words: Optional[Sequence[str]] = None) -> int:
     given = parser().parse_args(words)
-    if given.play and given.trace:
-        parser().error("--play and TRACE are one too many")
     try:
         trace = played(Program.found(), given.play.read_text(encoding="utf-8")) if given.play else read_trace(given.trace)
         write_packets(trace, given.links == "all", sys.stdout.buffer)

@@ -1,4 +1,4 @@
-"""Turns a trace into the trace event format of Chrome and Perfetto: open the output in ui.perfetto.dev or chrome://tracing.
+"""Turns a trace into the trace event format of Chrome, for ui.perfetto.dev:
 
     ./pm_trace run --json examples/fifteen-disks.scenario | ./pm_trace perfetto > fifteen.json
 
@@ -130,7 +130,7 @@ def parser() -> argparse.ArgumentParser:
     words = argparse.ArgumentParser(prog="pm_trace perfetto", description=__doc__,
                                     formatter_class=argparse.RawDescriptionHelpFormatter)
     words.add_argument("trace", nargs="?", type=Path, metavar="TRACE",
-                       help="a trace of `run --json`; without it, standard input")
+                       help="the trace; without it, standard input")
     return words
 
 

@@ -120,5 +120,5 @@ class Page(unittest.TestCase):
             text = call("chart", "--html", DATA / "bad-sector.json").out
             page.write_text(text.replace("</body>", f"<script>{script}</script></body>"))
             run = subprocess.run([str(CHROMIUM), "--headless", "--no-sandbox", "--disable-gpu", "--virtual-time-budget=2000",
-                                  "--dump-dom", f"{page.as_uri()}#{asked}"], capture_output=True, timeout=60)
+                                  "--dump-dom", f"{page.as_uri()}#{asked}"], capture_output=True, timeout=300)
         return run.stdout.decode()

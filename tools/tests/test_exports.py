@@ -86,7 +86,7 @@ def dissected() -> str:
         with path.open("wb") as out:
             write_packets(with_bytes(read_json((DATA / "honest.json").read_text().splitlines())), False, out)
         run = subprocess.run([str(TSHARK), "-X", f"lua_script:{DISSECTOR}", "-r", str(path), "-T", "fields", *words],
-                             capture_output=True, timeout=60)
+                             capture_output=True, timeout=300)
     return run.stdout.decode()
 
 
