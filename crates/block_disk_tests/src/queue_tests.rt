@@ -1,6 +1,7 @@
 //! What no clause says of a queue: that many commands which share sectors all end, whatever the order of the answers.
 
-ghost use Rattle.std.specs.Prelude.{◌<◌};
+ghost use Rattle.std.specs.Prelude.{◌≡◌, ◌<◌};
+ghost use Rattle.block_command.specs.Moments.{IsCommand};
 
 use block_command::{Command, Protocol, Turn};
 use block_queue::{
@@ -39,7 +40,11 @@ fn zeros(alloc: Global, len: usize) -> Result<Vec<u8>, AllocError> {
 }
 
 /// Some command for a place: all share a few sectors.
-fn some_command(place: u8, seed: u64) -> Command {
+fn some_command(place: u8, seed: u64) -> Command
+    requires { place < 33 }
+    ensures place { result.place ≡ place }
+    ensures is { IsCommand result }
+{
     let bits = seed >> 33;
     let protocol = if place < 32 {
         Protocol::Queued
@@ -52,8 +57,8 @@ fn some_command(place: u8, seed: u64) -> Command {
     };
     Command {
         place,
-        lba: bits >> 16 & 127,
-        count: (bits >> 8 & 31) as u32 + 1,
+        lba: bits / 65536 % 128,
+        count: (bits / 256 % 32) as u32 + 1,
         write: bits >> 13 & 1 == 1 && !matches!(protocol, Protocol::Verify),
         lasting: bits >> 14 & 1 == 1,
         protocol,
@@ -190,11 +195,11 @@ fn ended(rt: &impl Abort, alloc: Global, rounds: u32, reset: u32) -> [u32; 33] {
 #[test]
 fn none_starves(rt: HostRuntime) {
     let alloc = rt.alloc();
-    for count in ended(&rt, alloc, 2000, 0) {
-        assert!(rt; count >= 10);
+    for count in ended(&rt, alloc, 1000, 0) {
+        assert!(rt; count >= 5);
     }
-    for count in ended(&rt, alloc, 2000, 100) {
-        assert!(rt; count >= 10);
+    for count in ended(&rt, alloc, 1000, 100) {
+        assert!(rt; count >= 5);
     }
 }
 

@@ -150,6 +150,9 @@ abbrev pub orphans_answered : List (Option Orphan) → ℕ → ℕ → List (Opt
 orphans_answered orphans place number =
     if is_of number (slice_index_or orphans place None) then slice_set orphans place None else orphans
 
+abbrev pub line_forgets : Line → (place number : ℕ) → Line
+line_forgets l place number = record l { orphans = orphans_answered l.orphans place number }
+
 -- a command answers, or a dropped store
 abbrev pub line_answered : Line → (place number : ℕ) → Input → Line
 line_answered l place number i = record l {

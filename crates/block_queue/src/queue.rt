@@ -5,7 +5,7 @@ ghost use Rattle.block_command.specs.Moments.{IsCommand, Moment};
 ghost use Rattle.block_command.specs.Laws.{Comes, Fails, Flushes, Goes, Loads, Stores};
 ghost use Rattle.block_disk.specs.Table.{at, has_wire, is_under_way, with_input};
 ghost use Rattle.block_disk.specs.Requests.{asks, number_at, with_asked, with_table};
-ghost use Rattle.block_queue.specs.Line.{IsOldest, Line, PassesNowhere, any_below, bars, command_at, first_ranks, has_bit, is_fis, is_in_way, left_of, line_answered, line_gone, line_reset, line_taken, may_send, may_start, moved_back, none_in_line, orphan, orphans_answered, share, starts, waits_for, with_queue};
+ghost use Rattle.block_queue.specs.Line.{IsOldest, Line, PassesNowhere, any_below, bars, command_at, first_ranks, has_bit, is_fis, is_in_way, left_of, line_answered, line_forgets, line_gone, line_reset, line_taken, may_send, may_start, moved_back, none_in_line, orphan, share, starts, waits_for, with_queue};
 
 use block_command::{BlockCommand, Command, Turn};
 use block_disk::Requests;
@@ -333,7 +333,7 @@ impl CommandQueue {
     /// The caller answers the request of this number: a store that waits for that is no orphan any more.
     fn forget(&mut self, place: u8, number: u64)
         requires { place < 33 }
-        ensures { self.new ≡ record { queue = self.old.queue; ranks = self.old.ranks; orphans = orphans_answered self.old.orphans place number } }
+        ensures { self.new ≡ line_forgets self.old place number }
     {
         if let Some(orphan) = self.orphans[place as usize]
             && orphan.number == number

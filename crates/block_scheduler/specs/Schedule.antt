@@ -1,7 +1,9 @@
 -- What goes next at a disk, and how many bytes its commands may hold.
-use Rattle.std.specs.Prelude.{ℕ, zero, suc, ◌≡◌, ◌+◌, ◌*◌, ◌<◌, ◌≤◌, nat_le, nat_lt, Bool, true, false, ◌&&◌, ◌⊎◌, Option, Some, None, if◌then◌else◌}
+use Rattle.std.specs.Prelude.{ℕ, zero, suc, ◌≡◌, ◌+◌, ◌*◌, ◌<◌, ◌≤◌, nat_le, nat_lt, Bool, true, false, not, ◌&&◌, ◌||◌, ◌⊎◌, Option, Some, None, if◌then◌else◌}
 use Rattle.block_command.specs.Moments.{Moment, runs}
-use Rattle.block_queue.specs.Line.{Line, IsOldest, PassesNowhere, command_at, line_gone, line_reset, may_send, may_start, none_in_line, orphan}
+use Rattle.std.specs.Option.{is_some}
+use Rattle.block_disk.specs.Table.{is_under_way}
+use Rattle.block_queue.specs.Line.{Line, any_below, IsOldest, PassesNowhere, command_at, line_gone, line_reset, may_send, may_start, none_in_line, orphan}
 use Rattle.block_queue.specs.declared.queue.Orphan.{Orphan}
 use Rattle.block_scheduler.specs.declared.scheduler.NextFis.{NextFis}
 use Rattle.block_scheduler.specs.declared.scheduler.NextFis.TheVariants.{Ends, Alone}
@@ -55,6 +57,15 @@ fits_at s (Some m) = nat_le (held s.line + held_of m.command.count) s.limit
 -- whether there is room for the command of a place
 abbrev pub fits : Schedule → ℕ → Bool
 fits s place = fits_at s (command_at s.line place)
+
+-- ## Whether anything is under way
+
+-- the place is under way, or the caller may still do a store of it
+abbrev pub is_busy : Line → ℕ → Bool
+is_busy l place = is_under_way (command_at l place) || is_some (orphan l place)
+
+abbrev pub is_quiet : Line → Bool
+is_quiet l = not (any_below (is_busy l) 33)
 
 -- ## What goes next
 

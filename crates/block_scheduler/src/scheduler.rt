@@ -7,7 +7,7 @@ ghost use Rattle.block_disk.specs.Table.{is_under_way, with_input};
 ghost use Rattle.block_disk.specs.Requests.{asks, with_asked, with_table};
 ghost use Rattle.block_queue.specs.Line.{IsOldest, PassesNowhere, command_at, has_bit, line_answered, line_gone, line_reset, line_taken, may_send, may_start, orphan, with_queue};
 ghost use Rattle.block_scheduler.specs.Sets.{IsSetOf, asks_at, ends_at, turn_at};
-ghost use Rattle.block_scheduler.specs.Schedule.{IsNextFis, IsNextStart, MayGo, Schedule, end_sent, ends_sent, fits, held, held_at, line_sent, held_for, held_of, none_scheduled, with_line};
+ghost use Rattle.block_scheduler.specs.Schedule.{IsNextFis, IsNextStart, MayGo, Schedule, end_sent, ends_sent, fits, held, held_at, is_busy, is_quiet, line_sent, held_for, held_of, none_scheduled, with_line};
 
 use crate::sets::{Sets, is_end, is_fail, with_place};
 use block_command::{BlockCommand, Command, Turn};
@@ -124,6 +124,26 @@ impl Scheduler {
         ensures { result ≡ is_under_way (command_at self.now.line place) }
     {
         self.queue.is_taken(place)
+    }
+
+    /// Whether the place is under way, or the caller may still do a store of it.
+    fn is_busy(&self, place: u8) -> bool
+        requires { place < 33 }
+        ensures { result ≡ is_busy self.now.line place }
+    {
+        self.queue.is_taken(place) || self.queue.orphan(place).is_some()
+    }
+
+    /// Whether no command is under way, and the caller does no dropped store any more.
+    pub fn is_quiet(&self) -> bool
+        ensures { result ≡ is_quiet self.now.line }
+    {
+        for place in 0..33_u8 {
+            if self.is_busy(place) {
+                return false;
+            }
+        }
+        true
     }
 
     /// The bytes that commands and dropped stores hold.
