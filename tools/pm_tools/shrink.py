@@ -26,19 +26,46 @@ Lines = list[str]
 Test = Callable[[Lines], bool]
 
 
-def drop_pieces(lines: Lines, holds: Test) -> Lines:
-    """Leaves out pieces of half the size, then of a quarter, and so on, down to single lines."""
-    size = max(1, len(lines) // 2)
+def units_of(lines: Lines) -> list[Lines]:
+    """The lines, each block of `repeat` with its `end` as one unit."""
+    units: list[Lines] = []
+    is_in_block = False
+    for line in lines:
+        if is_in_block:
+            units[-1].append(line)
+        else:
+            units.append([line])
+        word = line.split()[0]
+        is_in_block = word == "repeat" or is_in_block and word != "end"
+    return units
+
+
+def drop_tail(lines: Lines, holds: Test) -> Lines:
+    """Leaves out the end, as far as halving finds it."""
+    units = units_of(lines)
+    least, most = 0, len(units)
+    while most - least > 1:
+        middle = (least + most) // 2
+        if holds(sum(units[:middle], [])):
+            most = middle
+        else:
+            least = middle
+    return sum(units[:most], [])
+
+
+def drop_pieces(units: list[Lines], holds: Test) -> Lines:
+    """Leaves out pieces of half the size, then of a quarter, and so on, down to single units."""
+    size = max(1, len(units) // 2)
     while True:
         at = 0
-        while at < len(lines):
-            less = lines[:at] + lines[at + size:]
-            if less and holds(less):
-                lines = less
+        while at < len(units):
+            less = units[:at] + units[at + size:]
+            if less and holds(sum(less, [])):
+                units = less
             else:
                 at += size
         if size == 1:
-            return lines
+            return sum(units, [])
         size = max(1, size // 2)
 
 
@@ -82,8 +109,11 @@ def lower_number(lines: Lines, at: int, place: int, holds: Test) -> None:
 def shrunk(lines: Lines, holds: Test) -> Lines:
     """The least lines that were found for which this still holds. Leaving one out may make room to leave out others, so it begins
     anew until nothing changes."""
+    lines = drop_tail(lines, holds)
     while True:
-        less = lower_numbers(drop_blocks(drop_pieces(lines, holds), holds), holds)
+        less = drop_pieces(units_of(lines), holds)
+        less = drop_pieces([[line] for line in drop_blocks(less, holds)], holds)
+        less = lower_numbers(less, holds)
         if less == lines:
             return less
         lines = less
