@@ -16,7 +16,7 @@ use Rattle.guest_fetch.specs.declared.refusal.Refusal.{Refusal}
 use Rattle.guest_fetch.specs.declared.refusal.Refusal.TheVariants as refusal
 use Rattle.guest_fetch.specs.declared.want.Want.{Want}
 use Rattle.guest_fetch.specs.Entries.{entries_at, first_fault}
-use Rattle.guest_fetch.specs.Headers.{IsHeader, entries_place, header_in, header_refusal}
+use Rattle.guest_fetch.specs.Headers.{IsTaken, entries_place, header_in, header_refusal}
 use Rattle.guest_fetch.specs.Heads.{fis_refusal, head_of}
 use Rattle.guest_fetch.specs.Fetch.{Fetching}
 use Rattle.guest_fetch.specs.Places.{Places}
@@ -81,15 +81,16 @@ supplied_at at (AtEntries head table) raw =
 abbrev pub supplied : Fetching → List ℕ → Supplied
 supplied f raw = supplied_at f.at f.step raw
 
--- entries are to be kept, so memory may be wanted
-abbrev pub Keeps : Step → Type 0
-Keeps AtHeader = ⊥
-Keeps (AtFis header) = ⊥
-Keeps (AtEntries head table) = Unit {0}
+-- entries are to be kept, of which none is forbidden, so memory is wanted
+abbrev pub Keeps : Step → List ℕ → Type 0
+Keeps AtHeader raw = ⊥
+Keeps (AtFis header) raw = ⊥
+Keeps (AtEntries head table) raw =
+    first_fault (length table.entries) (left_of table) (entries_at raw 0 (asked head table)) ≡ None
 
 -- What a supply answers. Where memory for entries is refused, nothing came, and the same is wanted again.
 abbrev pub SuppliesAt : ℕ → Step → List ℕ → Supplied → Type 0
-SuppliesAt at step raw (OutOfMemory g) = (g ≡ record { at = at; step = step }) × Keeps step
+SuppliesAt at step raw (OutOfMemory g) = (g ≡ record { at = at; step = step }) × Keeps step raw
 SuppliesAt at step raw (More g) = supplied_at at step raw ≡ More g
 SuppliesAt at step raw (Whole command) = supplied_at at step raw ≡ Whole command
 SuppliesAt at step raw (Refused r) = supplied_at at step raw ≡ Refused r
@@ -108,11 +109,6 @@ abbrev pub refused_for : Part → Refusal
 refused_for missing = refusal.NoMemory missing
 
 -- ---- what holds for every value
-
--- the header is one that is taken
-pub record IsTaken (header : Header) : Type 0 where
-  pub is : IsHeader header
-  pub taken : header_refusal header ≡ None
 
 pub record WantsEntries (head : Head) (table : Places) : Type 0 where
   pub header : IsTaken head.header

@@ -1,5 +1,5 @@
 -- The header of a command slot: AHCI 1.3.1, section 4.2.2, Command List Structure.
-use Rattle.std.specs.Prelude.{ℕ, ◌+◌, ◌*◌, ◌/◌, ◌^◌, ◌<◌, ◌≤◌, ◌==◌, ◌||◌, nat_lt, if◌then◌else◌, List, Option, Some, None}
+use Rattle.std.specs.Prelude.{◌≡◌, ℕ, ◌+◌, ◌*◌, ◌/◌, ◌^◌, ◌<◌, ◌≤◌, ◌==◌, ◌||◌, nat_lt, if◌then◌else◌, List, Option, Some, None}
 use Rattle.guest_fetch.specs.declared.header.Header.{Header}
 use Rattle.guest_fetch.specs.declared.refusal.Refusal.{Refusal}
 use Rattle.guest_fetch.specs.declared.refusal.Refusal.TheVariants as refusal
@@ -46,3 +46,8 @@ pub record IsHeader (header : Header) : Type 0 where
   pub entries : header.entries < 65536
   pub port : header.pm_port < 16
   pub dwords : header.dwords < 32
+
+-- a header that was read, and is taken
+pub record IsTaken (header : Header) : Type 0 where
+  pub is : IsHeader header
+  pub taken : header_refusal header ≡ None

@@ -4,6 +4,7 @@ pub mod Spans
 pub mod Moves
 pub mod Headers
 pub mod Heads
+pub mod Commands
 pub mod Fetch
 pub mod Fetching
 pub mod Reading

@@ -1,6 +1,6 @@
 -- What a command is, by all that lies there: AHCI 1.3.1, sections 4.2.2 and 4.2.3. It is one answer, whatever the parts are
 -- in which it was supplied.
-use Rattle.std.specs.Prelude.{◌≡◌, ℕ, ◌+◌, ◌*◌, ◌<◌, ◌≤◌, List, [], ◌∷◌, zero, suc, Option, Some, None}
+use Rattle.std.specs.Prelude.{◌≡◌, ℕ, ◌+◌, ◌*◌, ◌≤◌, List, [], ◌∷◌, zero, suc, Option, Some, None}
 use Rattle.guest_fetch.specs.declared.entry.Entry.{Entry}
 use Rattle.guest_fetch.specs.declared.entry.FaultyEntry.{FaultyEntry}
 use Rattle.guest_fetch.specs.declared.fetch.Step.{Step}

@@ -1,5 +1,5 @@
 -- One supply after another, and one Data FIS after another.
-use Rattle.std.specs.Prelude.{◌≡◌, ℕ, ◌+◌, ◌*◌, ◌/◌, ◌<◌, ◌≤◌, min, List, [], ◌∷◌, ◌++◌, length, None}
+use Rattle.std.specs.Prelude.{◌≡◌, ℕ, ◌+◌, ◌/◌, min, List, [], ◌∷◌, ◌++◌, length}
 use Rattle.guest_fetch.specs.declared.command.Command.{Command}
 use Rattle.guest_fetch.specs.declared.entry.Entry.{Entry}
 use Rattle.guest_fetch.specs.declared.fetch.Step.TheVariants.{AtHeader}

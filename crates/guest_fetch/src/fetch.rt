@@ -1,8 +1,8 @@
 //! A command that is being read.
 
 ghost use Rattle.std.specs.Prelude.{◌≡◌, ◌+◌, ◌*◌, ◌<◌, ◌≤◌, ◌^◌, length, true};
-ghost use Rattle.guest_fetch.specs.Fetching.{Supplies, IsTaken, WantsEntries, asked as asked_of, framed as framed_of, going as going_of, headed as headed_of, most_at_once, part_at, refused_for, want_of, wants_more as wants_more_of, SuppliesAt};
-ghost use Rattle.guest_fetch.specs.Headers.{IsHeader, header_place, header_refusal};
+ghost use Rattle.guest_fetch.specs.Fetching.{Supplies, WantsEntries, asked as asked_of, framed as framed_of, going as going_of, headed as headed_of, most_at_once, part_at, refused_for, want_of, wants_more as wants_more_of, SuppliesAt};
+ghost use Rattle.guest_fetch.specs.Headers.{IsHeader, IsTaken, header_place, header_refusal};
 ghost use Rattle.guest_fetch.specs.Heads.{fis_refusal, head_of};
 ghost use Rattle.guest_fetch.specs.declared.fetch.Step.TheVariants.{AtHeader, AtEntries};
 
@@ -16,7 +16,7 @@ use crate::want::Want;
 use std::alloc::Global;
 use std::marker::Model;
 
-/// How much of a command has come.
+/// How much of a command has come, as contracts see it.
 #[derive(Debug, Drop)]
 pub enum Step {
     /// Nothing: its header is wanted.
@@ -93,12 +93,7 @@ fn going(at: u64, head: Head, table: Table) -> Supplied
             step: Step::AtEntries(head, table),
         });
     }
-    Supplied::Whole(Command {
-        at,
-        head,
-        table,
-        moved: 0,
-    })
+    Supplied::Whole(Command::new(at, head, table))
 }
 
 // The header has come.

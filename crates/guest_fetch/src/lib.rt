@@ -19,7 +19,7 @@ mod want;
 
 pub use command::{ByteCount, Command};
 pub use entry::{Entry, EntryFault, FaultyEntry};
-pub use fetch::{Fetch, Supplied};
+pub use fetch::{Fetch, Step, Supplied};
 pub use head::Head;
 pub use header::Header;
 pub use laws::{
