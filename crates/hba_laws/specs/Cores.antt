@@ -245,8 +245,8 @@ IsFoldByOwn =
 
 -- With FIS-based switching, what may go to a device follows from its own view: no other device keeps it back.
 pub record GoesByView (n : ℕ) (port : Port) : Type 0 where
-  pub data : may_feed port n ≡ (is_some (payload (view_of n port).slots.context) && is_none (view_of n port).fault)
-  pub commands : (slot : ℕ) (issue : Issue) → issue_at port.slots slot ≡ Some issue → issue.dev ≡ n
+  pub feeds : may_feed port n ≡ (is_some (payload (view_of n port).slots.context) && is_none (view_of n port).fault)
+  pub orders : (slot : ℕ) (issue : Issue) → issue_at port.slots slot ≡ Some issue → issue.dev ≡ n
       → may_order port slot ≡ may_leave (view_of n port) issue
 
 abbrev pub CoreGoesByView : Type 0

@@ -152,22 +152,22 @@ turn_goes port = by_running (is_running port)
 
 -- ---- what goes out as its caller chose
 
-got_slot : Option (ℕ × ℕ × ℕ) → ℕ
+abbrev got_slot : Option (ℕ × ℕ × ℕ) → ℕ
 got_slot None = 0
 got_slot (Some next) = next.0
 
-got_offset : Option (ℕ × ℕ × ℕ) → ℕ
+abbrev got_offset : Option (ℕ × ℕ × ℕ) → ℕ
 got_offset None = 0
 got_offset (Some next) = next.1
 
-got_len : Option (ℕ × ℕ × ℕ) → ℕ
+abbrev got_len : Option (ℕ × ℕ × ℕ) → ℕ
 got_len None = 0
 got_len (Some next) = next.2
 
 fed_goes : (port : Port) (dev slot offset len : ℕ) → payload (context_of port.slots dev) ≡ Some (slot, offset, len) → IsFeeding port dev slot offset len
 fed_goes port dev slot offset len due = by_context (context_of port.slots dev) refl due
   where
-    by_active : (c : Context) → context_of port.slots dev ≡ Some c → (b : Bool) → c.activated ≡ b → (cond b (Some (c.slot, c.next, payload_len c)) None) ≡ Some (slot, offset, len) → IsFeeding port dev slot offset len
+    by_active : (c : Context) → context_of port.slots dev ≡ Some c → (b : Bool) → c.activated ≡ b → cond {A = Option (ℕ × ℕ × ℕ)} b (Some (c.slot, c.next, payload_len c)) None ≡ Some (slot, offset, len) → IsFeeding port dev slot offset len
     by_active c now false active e = cc
     by_active c now true active e = record { context = c; now = now; active = active; slot_is = sym (ap got_slot e); offset_is = sym (ap got_offset e); len_is = sym (ap got_len e) }
 

@@ -28,14 +28,14 @@ use Rattle.hba_laws.specs.Alike.{Brought, HistoriesByOwn, IsBroughtAlike, OwnFil
 use Rattle.hba_laws.specs.Client.{own}
 use Rattle.hba_laws.specs.CoreHistories.{Given, given_by, history_given, told_arrival, told_given, with_caller}
 use Rattle.hba_laws.specs.Cores as core
-use Rattle.hba_laws.specs.Cores.{Arrived, CoreEvent, CoreOwn, IsPart, Own, core_event, stops_by, turned_to, used}
+use Rattle.hba_laws.specs.Cores.{Arrived, CoreEvent, CoreOwn, IsPart, Own, StepsBy, core_event, stops_by, turned_to, used}
 use Rattle.hba_laws.specs.Delivering.{event_heard, history_after, touched}
 use Rattle.hba_laws.specs.History.{Event, History}
 use Rattle.hba_laws.specs.Hosts.{Does, Flushed, Gave, Host, HostEvent, Rewrote, Runs, Took, Wrote}
 use Rattle.hba_laws.specs.Isolation.{AreOfDevices, Came, Cleared, Emptied, Issued, OwnEvent, Rewritten, Went, fails_by_bus, is_port_event, own_events, part_after, part_after_all, skips, stops}
 use Rattle.hba_laws.specs.Parts.{DevicePart, part_of}
 use Rattle.hba_laws.specs.Sound.{AreHosts, IsHost}
-use Rattle.hba_laws.proofs.cores.CoreHostLemmas.{is_core}
+use Rattle.hba_laws.proofs.cores.CoreHostLemmas.{hosts_are_cores, is_core}
 use Rattle.hba_laws.proofs.histories.EventLemmas.{happened_if, touched_is}
 use Rattle.hba_laws.proofs.isolation.CoreAlikeLemmas.{filled_alike, own_alike, told_by}
 use Rattle.hba_laws.proofs.isolation.CoreFoldLemmas.{goes_on, stops_same}
@@ -56,7 +56,7 @@ by_core : (n : ℕ) (old new : Host) (event : HostEvent) (e : CoreEvent) (past :
     → history_by n (part_of n old) past (brought n old event) ≡ history_given n (part_of n old) past (given_by n old.port e)
     → history_by n (part_of n old) past (brought n old event) ≡ own n (touched old event) ++ past
 by_core n old new event e past lt is runs does none at same =
-    same ∙ told_by n old.port e (part_of n old) past lt (is_core old is) runs none (part_is n old)
+    same ∙ told_by n old.port new.port e (part_of n old) past lt (is_core old is) runs (subst (λ (o : Option CoreEvent). StepsBy old.port o new.port) at (hosts_are_cores old new event does)) none (part_is n old)
     ∙ ap (λ (h : History). h ++ past) (sym (touched_is n old new event does ∙ ap (happened_if n old.port) at))
 
 came_same : (n : ℕ) (p : DevicePart) (sound : Bool) (frame : List ℕ) → told_came n p frame ≡ told_arrival n p (room_if sound) frame
