@@ -1,0 +1,4 @@
+pub mod OpeningLemmas
+pub mod HeadLemmas
+pub mod MaskLemmas
+pub mod FairLemmas

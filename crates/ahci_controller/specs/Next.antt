@@ -1,0 +1,171 @@
+-- What is next to do: AHCI 1.3.1, 5.3 (a port goes over its slots in a circle) and 9.3 (and over devices), 4.2.1 and 4.2.2 (what
+-- is written to the guest for a FIS, before its slot's bit falls).
+use Rattle.std.specs.Prelude.{◌≡◌, ℕ, ◌+◌, ◌-◌, ◌^◌, ◌==◌, ◌&&◌, ◌||◌, min, nat_lt, Bool, true, false, not, if◌then◌else◌}
+use Rattle.std.specs.Prelude.{bit_or, Option, Some, None, MatchOption, slice_get, slice_set, slice_index_or}
+use Rattle.std.specs.Option.{option_map}
+use Rattle.slots.specs.Data.{payload}
+use Rattle.slots.specs.Slots.{context_of, has_bit, match_some}
+use Rattle.ahci_registers.specs.Link.{action_of}
+use Rattle.guest_fetch.specs.Moves.{moves_at}
+use Rattle.guest_fetch.specs.Places.{room_at}
+use Rattle.guest_fetch.specs.Commands.{Fetched}
+use Rattle.guest_fetch.specs.declared.moves.Move.{Move}
+use Rattle.hba_fbs.specs.Bits.{without}
+use Rattle.hba_fbs.specs.Choosing.{Chooses, due_devices, due_slots}
+use Rattle.hba_fbs.specs.Turning.{feeds, orders}
+use Rattle.hba_fbs.specs.declared.turn.Turn as turn_type
+use Rattle.hba_fbs.specs.declared.turn.Turn.TheVariants as turn
+use Rattle.ahci_controller.specs.Circle.{device_after, slot_after}
+use Rattle.ahci_controller.specs.Fetching.{asked, next_number, want_at}
+use Rattle.ahci_controller.specs.Outbox.{no_writes}
+use Rattle.ahci_controller.specs.Own.{is_failed}
+use Rattle.ahci_controller.specs.States.{ControllerState, kept}
+use Rattle.ahci_controller.specs.Taking.{is_up}
+use Rattle.ahci_controller.specs.declared.fetching.Ask.{Ask}
+use Rattle.ahci_controller.specs.declared.next.Next.{Next}
+use Rattle.ahci_controller.specs.declared.next.Next.TheVariants as next
+use Rattle.ahci_controller.specs.declared.next.Step.{Step}
+use Rattle.ahci_controller.specs.declared.wants.Carried.{Carried}
+use Rattle.ahci_controller.specs.declared.wants.Wants.{Wants}
+use Rattle.ahci_controller.specs.declared.wants.Writes.{Writes}
+
+-- ---- writes to the guest
+
+-- the first of the runs in which bytes of a command lie, by the table that was supplied
+abbrev pub first_run : Carried → Fetched → Option Move
+first_run w command = slice_get (moves_at command.table.entries w.offset (room_at command.table w.offset w.len)) 0
+
+abbrev pub run_of : ControllerState → Carried → Option Move
+run_of c w = if nat_lt w.slot 32 then match_some (kept c w.slot) None (first_run w) else None
+
+-- what is left of them after a run
+abbrev pub left : Carried → Move → Option Carried
+left w m = let done = min m.len w.len in
+    if done == w.len then None else Some (record {
+      slot = w.slot;
+      offset = min (w.offset + done) 4294967295;
+      from = min (w.from + done) 4294967295;
+      len = w.len - done;
+    })
+
+abbrev pub step_with : Carried → Move → Step
+step_with w m = record { write = record m { from = w.from }; left = left w m }
+
+abbrev pub step_of : ControllerState → Carried → Option Step
+step_of c w = option_map (step_with w) (run_of c w)
+
+abbrev pub payload_step : ControllerState → Option Step
+payload_step c = match_some c.writes.payload None (step_of c)
+
+-- the FIS, and then PRDBC
+abbrev pub rest : Writes → Option Next
+rest w = match_some w.posted (option_map next.Counted w.counted) (λ m. Some (next.Posted m))
+
+abbrev pub after_rest : Writes → Writes
+after_rest w = match_some w.posted no_writes (λ m. record w { payload = None; posted = None })
+
+-- bytes of the payload first, as far as they have places
+abbrev pub next_write : ControllerState → Option Next
+next_write c = match_some (payload_step c) (rest c.writes) (λ s. Some (next.Payload s.write))
+
+abbrev pub writes_next : ControllerState → Writes
+writes_next c = match_some (payload_step c) (after_rest c.writes) (λ s. record c.writes { payload = s.left })
+
+-- ---- wants
+
+-- the link is down, or a command that cannot be served stopped the port
+abbrev pub is_halted : ControllerState → Bool
+is_halted c = not (is_up (action_of c.link.control)) || is_failed c.own
+
+-- the next of the slots that are being read, and for which nothing is wanted
+abbrev pub next_read : ControllerState → Option ℕ
+next_read c = slot_after (without c.wants.pending c.wants.out) c.circle.read
+
+abbrev pub reading : ControllerState → ℕ → ControllerState
+reading c slot = record c { circle = record c.circle { read = slot } }
+
+abbrev pub wanted : ControllerState → ℕ → Ask
+wanted c slot = record { slot = slot; number = next_number c.wants; want = want_at c slot }
+
+abbrev pub Reads : ControllerState → ℕ → Next → ControllerState → Type 0
+Reads old slot result new =
+    (result ≡ next.Read (wanted old slot)) × (new ≡ record (reading old slot) { wants = asked old.wants slot })
+
+-- ---- frames
+
+-- with one more want, for Data to a device
+abbrev pub fed : Wants → ℕ → Wants
+fed w dev = record w {
+  feeding = bit_or w.feeding (2 ^ dev);
+  count = next_number w;
+  devices = slice_set w.devices dev (next_number w);
+}
+
+-- bytes are wanted for the device under this number
+abbrev pub is_fed : Wants → (dev number : ℕ) → Bool
+is_fed w dev number = nat_lt dev 16 && has_bit w.feeding dev && (slice_index_or w.devices dev 0 == number)
+
+abbrev pub turn_to : ControllerState → ℕ → turn_type.Turn
+turn_to c dev = match_some (payload (context_of c.core.slots dev)) turn.Rests (feeds dev)
+
+abbrev pub feed_next : ℕ → ℕ → turn_type.Turn → Next
+feed_next dev number turn.Rests = next.Nothing
+feed_next dev number (turn.Feeds to slot offset len) = next.Feed dev number slot offset len
+feed_next dev number (turn.Orders to slot command) = next.Nothing
+
+-- its bytes are wanted
+pub record FeedsTo (old : ControllerState) (dev : ℕ) (result : Next) (new : ControllerState) : Type 0 where
+  pub is : result ≡ feed_next dev (next_number old.wants) (turn_to old dev)
+  pub rest : new ≡ record old {
+    wants = fed old.wants dev;
+    circle = record old.circle { device = dev; fed = true };
+  }
+
+abbrev pub order_next : ℕ → turn_type.Turn → Next
+order_next slot turn.Rests = next.Nothing
+order_next slot (turn.Feeds to of offset len) = next.Nothing
+order_next slot (turn.Orders to of command) = next.Order to slot command.cfis
+
+-- it goes, and CCS is its slot
+pub record OrdersSlot (old : ControllerState) (slot : ℕ) (result : Next) (new : ControllerState) : Type 0 where
+  pub is : result ≡ order_next slot (orders old.core slot)
+  pub core : Chooses (orders old.core slot) old.core new.core
+  pub rest : new ≡ record old {
+    core = new.core;
+    circle = record old.circle { slot = slot; fed = false };
+    own = record old.own { current = slot };
+  }
+
+abbrev pub next_device : ControllerState → Option ℕ
+next_device c = device_after (without (due_devices c.core) c.wants.feeding) c.circle.device
+
+abbrev pub next_slot : ControllerState → Option ℕ
+next_slot c = slot_after (due_slots c.core) c.circle.slot
+
+abbrev pub RestsNow : ControllerState → Next → ControllerState → Type 0
+RestsNow old result new = (new ≡ old) × (result ≡ next.Nothing)
+
+-- data and commands take turns, where both may go
+abbrev pub FramesFor : Option ℕ → Option ℕ → (fed : Bool) → ControllerState → Next → ControllerState → Type 0
+FramesFor None None fed old result new = RestsNow old result new
+FramesFor None (Some slot) fed old result new = OrdersSlot old slot result new
+FramesFor (Some dev) None fed old result new = FeedsTo old dev result new
+FramesFor (Some dev) (Some slot) false old result new = FeedsTo old dev result new
+FramesFor (Some dev) (Some slot) true old result new = OrdersSlot old slot result new
+
+abbrev pub Frames : ControllerState → Next → ControllerState → Type 0
+Frames old result new = FramesFor (next_device old) (next_slot old) old.circle.fed old result new
+
+-- ---- the call
+
+abbrev pub TurnsIf : (halted : Bool) → ControllerState → Next → ControllerState → Type 0
+TurnsIf true old result new = RestsNow old result new
+TurnsIf false old result new = MatchOption (next_read old) (Frames old result new) (λ slot. Reads old slot result new)
+
+abbrev pub written : ControllerState → ControllerState
+written c = record c { writes = writes_next c }
+
+abbrev pub Turns : ControllerState → Next → ControllerState → Type 0
+Turns old result new = MatchOption (next_write old)
+    (TurnsIf (is_halted (written old)) (written old) result new)
+    (λ write. (result ≡ write) × (new ≡ written old))

@@ -1,0 +1,191 @@
+-- A FIS of a device is taken: AHCI 1.3.1, sections 3.3.7 (FRE), 3.3.12 (PxSERR), 4.2.1 (Received FIS Structure), 4.2.2 (PRDBC),
+-- 5.3.13 and 6.1; of the rows of the received area section 9.3.
+use Rattle.std.specs.Prelude.{◌≡◌, ℕ, ◌+◌, ◌-◌, ◌^◌, ◌&&◌, ◌||◌, nat_lt, Bool, true, false, not, if◌then◌else◌}
+use Rattle.std.specs.Prelude.{List, length, Option, Some, None, slice_set, is_some, bit_or, unwrap_or}
+use Rattle.std.specs.Option.{option_map}
+use Rattle.fis_view.specs.Seen.{seen}
+use Rattle.guest_fetch.specs.Places.{reach_of}
+use Rattle.guest_fetch.specs.Runs.{counted}
+use Rattle.guest_fetch.specs.declared.command.ByteCount.{ByteCount}
+use Rattle.guest_fetch.specs.Commands.{Fetched}
+use Rattle.guest_fetch.specs.declared.moves.Move.{Move}
+use Rattle.slots.specs.Data.{receiving_slot}
+use Rattle.slots.specs.Slots.{context_of, match_some, slots_of}
+use Rattle.rx_area.specs.Area.{start_of}
+use Rattle.rx_area.specs.declared.area.Posted.{Posted}
+use Rattle.rx_area.specs.declared.area.Posted.TheVariants as place
+use Rattle.port_errors.specs.declared.cause.DeviceCause.{DeviceCause}
+use Rattle.port_errors.specs.declared.cause.DeviceCause.TheVariants.{TaskFile, Overflow}
+use Rattle.ahci_registers.specs.Lines.{is_due}
+use Rattle.ahci_registers.specs.Lines.LineEvent.{Caused}
+use Rattle.ahci_registers.specs.Link.{action_of}
+use Rattle.ahci_registers.specs.declared.link.LinkAction.{LinkAction}
+use Rattle.ahci_registers.specs.declared.link.LinkAction.TheVariants.{NoAction, Comreset, Disable}
+use Rattle.hba_fbs.specs.Bits.{without}
+use Rattle.hba_fbs.specs.Deciding.{Decides, Passes}
+use Rattle.hba_fbs.specs.Greeting.{Greets, greeted_in}
+use Rattle.hba_fbs.specs.Reading.{value_of}
+use Rattle.hba_fbs.specs.Reasons.{concerned}
+use Rattle.hba_fbs.specs.Taking.{admitted, ignores, port_of}
+use Rattle.hba_fbs.specs.Views.{Port, view_of}
+use Rattle.hba_fbs.specs.declared.register.Register.TheVariants as on_port
+use Rattle.hba_fbs.specs.declared.report.TakeReport.{TakeReport}
+use Rattle.hba_fbs.specs.declared.report.Wrote.{Wrote}
+use Rattle.hba_fbs.specs.declared.room.Room.{Room}
+use Rattle.hba_fbs.specs.declared.room.Room.TheVariants.{Bytes, Whole}
+use Rattle.ahci_controller.specs.Causes.{causes_since}
+use Rattle.ahci_controller.specs.Latch.{latched}
+use Rattle.ahci_controller.specs.Own.{area_of, is_failed}
+use Rattle.ahci_controller.specs.States.{ControllerState, kept}
+use Rattle.ahci_controller.specs.declared.own.OwnRegisters.{OwnRegisters}
+use Rattle.ahci_controller.specs.declared.taking.Counting.{Counting}
+use Rattle.ahci_controller.specs.declared.taking.Hindrance.{Hindrance}
+use Rattle.ahci_controller.specs.declared.taking.Hindrance.TheVariants as why
+use Rattle.ahci_controller.specs.declared.taking.Took.{Took}
+use Rattle.ahci_controller.specs.declared.wants.Carried.{Carried}
+use Rattle.ahci_controller.specs.declared.wants.Writes.{Writes}
+
+-- ---- why none is taken
+
+abbrev pub is_up : LinkAction → Bool
+is_up NoAction = true
+is_up Comreset = false
+is_up Disable = false
+
+abbrev pub is_any : Writes → Bool
+is_any w = is_some w.payload || is_some w.posted || is_some w.counted
+
+-- the first of these that applies
+abbrev pub hindrance : ControllerState → Option Hindrance
+hindrance c =
+    if not (is_up (action_of c.link.control)) then Some why.LinkDown
+    else if is_failed c.own then Some why.Failed
+    else if not (c.own.receives && c.core.registers.receives) then Some why.NotReceiving
+    else if is_any c.writes then Some why.Writing
+    else None
+
+-- ---- what is to be written to the guest
+
+-- The row of the received area for a device that has one: its own with FIS-based switching (9.3), and row 0 without (9.2).
+abbrev pub row_in : (switching : Bool) → ℕ → ℕ
+row_in switching dev = if switching then dev else 0
+
+-- the FIS itself, whole, from its place in its row of the received area on
+abbrev pub move_to : (area start len : ℕ) → Option Move
+move_to area start len =
+    if nat_lt (18446744073709551615 - start - len) area then None
+    else Some (record { at = area + start; from = 0; len = len; interrupt = false })
+
+abbrev pub posting_at : (area row : ℕ) → Posted → ℕ → Option Move
+posting_at area row place.Setup len = move_to area (start_of row place.Setup) len
+posting_at area row place.Pio len = move_to area (start_of row place.Pio) len
+posting_at area row place.D2h len = move_to area (start_of row place.D2h) len
+posting_at area row place.Bits len = move_to area (start_of row place.Bits) len
+posting_at area row place.Unknown len = move_to area (start_of row place.Unknown) len
+posting_at area row place.Nothing len = None
+
+-- the bytes of Data, which begin at byte 4 of the frame
+abbrev pub carried : Wrote → Carried
+carried w = record { slot = w.slot; offset = w.offset; from = 4; len = w.len }
+
+abbrev pub carried_by : Option Wrote → Option Carried
+carried_by wrote = option_map carried wrote
+
+-- ---- PRDBC: how many bytes of a command were moved
+
+abbrev pub moved_with : Fetched → Wrote → ℕ
+moved_with c w = counted c.table c.moved w.offset w.len
+
+abbrev pub moved_on : Wrote → Fetched → Fetched
+moved_on w c = record c { moved = moved_with c w }
+
+-- DW1 of its header
+abbrev pub count_of : Wrote → Fetched → ByteCount
+count_of w c = record { at = c.at + 4; value = moved_with c w }
+
+abbrev pub counting : Option Fetched → Wrote → Counting
+counting None w = record { command = None; count = None }
+counting (Some c) w = record { command = Some (moved_on w c); count = Some (count_of w c) }
+
+abbrev pub count_after : ControllerState → Option Wrote → Option ByteCount
+count_after c None = None
+count_after c (Some w) = if nat_lt w.slot 32 then (counting (kept c w.slot) w).count else None
+
+abbrev pub commands_after : ControllerState → Option Wrote → List (Option Fetched)
+commands_after c None = c.commands
+commands_after c (Some w) = if nat_lt w.slot 32
+    then slice_set (slice_set c.commands w.slot None) w.slot (counting (kept c w.slot) w).command else c.commands
+
+abbrev pub writes_of : ControllerState → (switching : Bool) → List ℕ → TakeReport → Option ByteCount → Writes
+writes_of c switching frame report count = record {
+  payload = carried_by report.wrote;
+  posted = posting_at (area_of c.own) (row_in switching (port_of frame)) report.posted (length frame);
+  counted = count;
+}
+
+-- ---- what it tells
+
+-- PxSERR.ERR: a protocol error (P, bit 10) of a device, but for one that its task file or an overflow tells, and an internal
+-- error (E, bit 11) where the port stops
+abbrev pub error_of : DeviceCause → ℕ
+error_of TaskFile = 0
+error_of Overflow = 0
+error_of cause = 0x400
+
+abbrev pub error_bits : TakeReport → ℕ
+error_bits report = if is_some report.stopped then 0x800 else match_some report.fault 0 error_of
+
+-- PxCMD.CCS is the slot that a fault is about
+abbrev pub blamed : OwnRegisters → TakeReport → Option ℕ → OwnRegisters
+blamed own report slot = record own {
+  errors = bit_or own.errors (error_bits report);
+  current = (if is_some report.fault || is_some report.stopped then unwrap_or slot own.current else own.current);
+}
+
+-- what a report says of a device
+abbrev pub blamed_state : ControllerState → ℕ → TakeReport → ControllerState
+blamed_state c dev report = record c {
+  wants = record c.wants { feeding = without c.wants.feeding (2 ^ dev) };
+  own = blamed c.own report (concerned (slots_of dev c.core.slots));
+}
+
+-- A report is settled: the bits that the core set become causes, what is to be written to the guest is at hand, and what was
+-- wanted for Data to the device is wanted anew, if it still is.
+abbrev pub settled : ControllerState → (was : ℕ) → (switching : Bool) → List ℕ → TakeReport → ControllerState
+settled c was switching frame report = record c {
+  latch = latched c.latch (Caused (causes_since was c.core));
+  own = blamed c.own report (concerned (slots_of (port_of frame) c.core.slots));
+  wants = record c.wants { feeding = without c.wants.feeding (2 ^ port_of frame) };
+  commands = commands_after c report.wrote;
+  writes = writes_of c switching frame report (count_after c report.wrote);
+}
+
+-- ---- the call
+
+-- how many bytes the table has places for of the command for which a device sends Data
+abbrev pub room_for : ControllerState → ℕ → Room
+room_for c dev = match_some (receiving_slot (context_of c.core.slots dev)) Whole
+    (λ slot. match_some (kept c slot) (Bytes 0) (λ command. Bytes (reach_of command.table)))
+
+-- the core takes the frame
+pub record CoreTakes (old : ControllerState) (frame : List ℕ) (report : TakeReport) (new : Port) : Type 0 where
+  pub ignored : ignores (port_of frame) old.core frame ≡ true → Passes (port_of frame) old.core report new
+  pub heard : ignores (port_of frame) old.core frame ≡ false
+      → Decides old.core (port_of frame) (room_for old (port_of frame)) (admitted (port_of frame) (seen frame)) report new
+
+-- or greets it, while ST is 0
+abbrev pub CoreHearsIf : (started : Bool) → ControllerState → List ℕ → TakeReport → Port → Type 0
+CoreHearsIf true old frame report new = CoreTakes old frame report new
+CoreHearsIf false old frame report new = Greets old.core (port_of frame)
+    (greeted_in (view_of (port_of frame) old.core).state (seen frame)) report new
+
+abbrev pub CoreHears : ControllerState → List ℕ → TakeReport → Port → Type 0
+CoreHears old frame report new = CoreHearsIf old.core.registers.started old frame report new
+
+-- The core hears the frame, and its report is settled.
+pub record Hears (old : ControllerState) (frame : List ℕ) (result : Took) (new : ControllerState) : Type 0 where
+  pub core : CoreHears old frame result.report new.core
+  pub told : result.message
+      ≡ is_due old.latch.lines (Caused (causes_since (value_of on_port.Is old.core) new.core))
+  pub rest : new ≡ settled (record old { core = new.core }) (value_of on_port.Is old.core) old.core.registers.switching
+      frame result.report

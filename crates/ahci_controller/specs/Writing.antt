@@ -1,0 +1,229 @@
+-- What a write of a register leaves: AHCI 1.3.1, sections 3.1 and 3.3. No write is an error.
+use Rattle.std.specs.Prelude.{◌≡◌, ℕ, ◌+◌, ◌-◌, ◌*◌, ◌/◌, ◌%◌, ◌==◌, ◌&&◌, Bool, true, false, not, if◌then◌else◌, bit_and, bit_or}
+use Rattle.std.specs.Prelude.{Option, Some, None, MatchOption}
+use Rattle.slots.specs.Slots.{has_bit, mask_of}
+use Rattle.ahci_registers.specs.Bits as line_bits
+use Rattle.ahci_registers.specs.Lines.{is_due}
+use Rattle.ahci_registers.specs.Lines.LineEvent.{Caused, WrotePortStatus, WrotePortMask, WroteStatus, WroteGlobal, WroteError}
+use Rattle.ahci_registers.specs.Link.{action_of, causes_of, effect_of, written}
+use Rattle.ahci_registers.specs.declared.link.Effect.{Effect}
+use Rattle.ahci_registers.specs.declared.link.Effect.TheVariants.{Nothing, LinkReset, LinkUp}
+use Rattle.ahci_registers.specs.declared.link.LinkAction.{LinkAction}
+use Rattle.ahci_registers.specs.declared.link.LinkAction.TheVariants.{NoAction, Comreset, Disable}
+use Rattle.ahci_registers.specs.declared.register.Register.{Register}
+use Rattle.ahci_registers.specs.declared.register.Register.TheVariants.{Ghc, Is, PxClb}
+use Rattle.ahci_registers.specs.declared.register.Register.TheVariants.{PxClbu, PxFb, PxFbu, PxIs, PxIe}
+use Rattle.ahci_registers.specs.declared.register.Register.TheVariants.{PxCmd, PxSctl}
+use Rattle.ahci_registers.specs.declared.register.Register.TheVariants.{PxSerr, PxSact, PxCi, PxSntf, PxFbs}
+use Rattle.hba_fbs.specs.Bits.{bit, en, without}
+use Rattle.hba_fbs.specs.Greeting.{Hangs}
+use Rattle.hba_fbs.specs.Issuing.{is_busy}
+use Rattle.hba_fbs.specs.Offering.{AcceptsBy, refusal_by}
+use Rattle.hba_fbs.specs.Reading.{shown_device}
+use Rattle.hba_fbs.specs.Registers.{own_refusal_by}
+use Rattle.hba_fbs.specs.Resets.{link_reset, whole_reset}
+use Rattle.hba_fbs.specs.Stopping.{Overrides, SetsCmd}
+use Rattle.hba_fbs.specs.Views.{Port}
+use Rattle.hba_fbs.specs.declared.error.WriteError.{WriteError}
+use Rattle.hba_fbs.specs.declared.error.WriteError.TheVariants as refusal
+use Rattle.hba_fbs.specs.declared.greeting.Line.{Line}
+use Rattle.hba_fbs.specs.declared.greeting.Line.TheVariants as on_line
+use Rattle.hba_fbs.specs.declared.register.Register as port_register
+use Rattle.hba_fbs.specs.declared.register.Register.TheVariants as on_port
+use Rattle.ahci_controller.specs.Causes.{next_causes}
+use Rattle.ahci_controller.specs.Latch.{latched}
+use Rattle.ahci_controller.specs.Offers.{offer_in, offers_nothing}
+use Rattle.ahci_controller.specs.Own as own_words
+use Rattle.ahci_controller.specs.Own.{commanded, engine_of, falls, reset_own}
+use Rattle.ahci_controller.specs.States.{ControllerState}
+use Rattle.ahci_controller.specs.Wants.{dropped}
+use Rattle.ahci_controller.specs.declared.latch.Latch.{Latch}
+use Rattle.ahci_controller.specs.declared.own.OwnRegisters.{OwnRegisters}
+use Rattle.ahci_controller.specs.declared.writing.Written.{Written}
+
+-- nothing is asked for beside the registers, but that a message may be due
+abbrev pub quietly : Bool → Option WriteError → Written
+quietly message ignored = record { effect = Nothing; message = message; ignored = ignored }
+
+-- ---- registers of the core
+
+abbrev pub told_refusal : ControllerState → port_register.Register → ℕ → Option WriteError
+told_refusal c register value = refusal_by register c.core (offer_in offers_nothing) value
+
+-- A write to a register of the core, with these interrupts and own registers after it; all else stays. Where the core refuses
+-- it, that stays too.
+pub record Tells (old : ControllerState) (register : port_register.Register) (value : ℕ) (latch_after : Latch)
+    (own_after : OwnRegisters) (ignored : Option WriteError) (new : ControllerState) : Type 0 where
+  pub ignored_is : ignored ≡ told_refusal old register value
+  pub core : MatchOption (told_refusal old register value)
+      (AcceptsBy old.core (offer_in offers_nothing) register value new.core) (λ e. new.core ≡ old.core)
+  pub rest : new ≡ record old { core = new.core; latch = latch_after; own = own_after }
+
+-- ---- resets
+
+-- A reset of the controller ends all but the addresses, and the link comes up anew. No signature has come since.
+pub record ResetsAll (old : ControllerState) (value : ℕ) (new : ControllerState) : Type 0 where
+  pub core : Hangs (whole_reset old.core) 15 on_line.Reset new.core
+  pub rest : new ≡ record (dropped old) {
+    core = new.core;
+    latch = latched old.latch (WroteGlobal value);
+    link = record { control = 0 };
+    own = reset_own old.own;
+  }
+
+abbrev pub WritesGlobal : (resets : Bool) → ControllerState → ℕ → ControllerState → Type 0
+WritesGlobal true old value new = ResetsAll old value new
+WritesGlobal false old value new = new ≡ record old { latch = latched old.latch (WroteGlobal value) }
+
+abbrev pub global_written : ControllerState → ℕ → Written
+global_written c value = record {
+  effect = (if line_bits.has_bit value 0 then LinkReset else Nothing);
+  message = is_due c.latch.lines (WroteGlobal value);
+  ignored = None;
+}
+
+-- What hangs at the port: nothing while the interface is disabled, and else a device that owes its signature.
+abbrev pub line_of : LinkAction → Line
+line_of NoAction = on_line.Reset
+line_of Comreset = on_line.Reset
+line_of Disable = on_line.Empty
+
+pub record ResetsLink (old new : ControllerState) : Type 0 where
+  pub core : Hangs (link_reset old.core) 15 (line_of (action_of old.link.control)) new.core
+  pub rest : new ≡ record (dropped old) { core = new.core }
+
+abbrev pub ResetsBy : Effect → ControllerState → ControllerState → Type 0
+ResetsBy Nothing old new = new ≡ old
+ResetsBy LinkReset old new = ResetsLink old new
+ResetsBy LinkUp old new = new ≡ old
+
+-- PxSCTL: the link, which moves only while ST is 0
+abbrev pub control_after : ControllerState → ℕ → ℕ
+control_after c value = written c.link.control value c.own.starts
+
+abbrev pub link_effect : ControllerState → ℕ → Effect
+link_effect c value = effect_of (action_of c.link.control) (action_of (control_after c value))
+
+abbrev pub link_causes : ControllerState → ℕ → ℕ
+link_causes c value = causes_of (action_of c.link.control) (action_of (control_after c value))
+
+abbrev pub link_moved : ControllerState → ℕ → ControllerState
+link_moved c value = record c {
+  latch = latched c.latch (Caused (link_causes c value));
+  link = record { control = control_after c value };
+}
+
+-- ---- PxCMD
+
+-- CLO is bit 3; it acts while ST is 0
+abbrev pub clears_busy : ControllerState → ℕ → Bool
+clears_busy c value = has_bit value 3 && not c.core.registers.started
+
+abbrev pub ClearsIf : Bool → Port → Port → Type 0
+ClearsIf true old new = Overrides old (shown_device old) new
+ClearsIf false old new = new ≡ old
+
+pub record ClearsBusy (old : ControllerState) (value : ℕ) (new : ControllerState) : Type 0 where
+  pub core : ClearsIf (clears_busy old value) old.core new.core
+  pub rest : new ≡ record old { core = new.core }
+
+abbrev pub engine : ControllerState → ℕ → ℕ
+engine c value = engine_of (commanded c.own value) c.core.registers
+
+-- ST, FRE and PMA. As ST falls nothing is wanted of the guest any more.
+pub record StartsPort (old : ControllerState) (value : ℕ) (ignored : Option WriteError) (new : ControllerState)
+    : Type 0 where
+  pub ignored_is : ignored ≡ own_refusal_by on_port.Cmd old.core.registers (engine old value)
+  pub core : MatchOption (own_refusal_by on_port.Cmd old.core.registers (engine old value))
+      (SetsCmd old.core (engine old value) new.core) (λ e. new.core ≡ old.core)
+  pub rest : new ≡ record (if falls old.core.registers new.core.registers then dropped old else old) {
+    core = new.core;
+    own = own_words.latched (commanded old.own value) old.own old.core.registers new.core.registers;
+  }
+
+-- CLO first
+pub record Commands (old : ControllerState) (value : ℕ) (ignored : Option WriteError) (new : ControllerState)
+    : Type 0 where
+  pub middle : ControllerState
+  pub clears : ClearsBusy old value middle
+  pub starts : StartsPort middle value ignored new
+
+-- ---- values for the core
+
+-- a slot in which something is issued is armed no more
+abbrev pub armed_by : Port → ℕ → ℕ
+armed_by port value = without value (mask_of (is_busy port.slots))
+
+-- EN stays as it is while ST is 1; DEV and DEC act
+abbrev pub switched_by : ControllerState → ℕ → ℕ
+switched_by c value =
+    if c.own.starts then value / 2 * 2 + bit en c.core.registers.switching else value
+
+-- ---- PxCI
+
+-- the slots that are to be read: none in which something is issued, none that is being read, and none of a bad command
+abbrev pub fresh_slots : ControllerState → ℕ → ℕ
+fresh_slots c value = without (without (without value (mask_of (is_busy c.core.slots))) c.wants.pending) c.own.bad
+
+abbrev pub stopped_if : (started : Bool) → ℕ → Option WriteError
+stopped_if started value = if not started && not (value == 0) then Some refusal.Stopped else None
+
+-- while the port is stopped, none is
+abbrev pub asked_state : ControllerState → ℕ → ControllerState
+asked_state c value = if c.core.registers.started
+    then record c { wants = record c.wants { pending = bit_or c.wants.pending (fresh_slots c value) } } else c
+
+-- ---- the write
+
+abbrev pub Rebases : ControllerState → OwnRegisters → Written → ControllerState → Type 0
+Rebases old own result new = (new ≡ record old { own = own }) × (result ≡ quietly false None)
+
+abbrev pub own_list : OwnRegisters → (lower upper : ℕ) → OwnRegisters
+own_list own lower upper = record own { list = record { lower = lower; upper = upper } }
+
+abbrev pub own_area : OwnRegisters → (lower upper : ℕ) → OwnRegisters
+own_area own lower upper = record own { area = record { lower = lower; upper = upper } }
+
+-- with this answer, and this message
+abbrev pub Quiet : Written → Bool → Type 0
+Quiet result message = result ≡ quietly message result.ignored
+
+-- what a write of a register leaves and asks for
+abbrev pub Leaves : Register → ControllerState → ℕ → Written → ControllerState → Type 0
+Leaves Ghc old value result new =
+    WritesGlobal (line_bits.has_bit value 0) old value new × (result ≡ global_written old value)
+Leaves Is old value result new =
+    (new ≡ record old { latch = latched old.latch (WroteStatus value) })
+    × (result ≡ quietly (is_due old.latch.lines (WroteStatus value)) None)
+Leaves PxClb old value result new = Rebases old (own_list old.own (value / 1024 * 1024) old.own.list.upper) result new
+Leaves PxClbu old value result new = Rebases old (own_list old.own old.own.list.lower value) result new
+Leaves PxFb old value result new = Rebases old (own_area old.own (value / 256 * 256) old.own.area.upper) result new
+Leaves PxFbu old value result new = Rebases old (own_area old.own old.own.area.lower value) result new
+Leaves PxIs old value result new =
+    Tells old on_port.Is value (latched old.latch (WrotePortStatus value)) old.own result.ignored new
+    × Quiet result false
+Leaves PxIe old value result new =
+    (new ≡ record old { latch = latched old.latch (WrotePortMask value) })
+    × (result ≡ quietly (is_due old.latch.lines (WrotePortMask value)) None)
+Leaves PxCmd old value result new = Commands old value result.ignored new × Quiet result false
+Leaves PxSctl old value result new = ResetsBy (link_effect old value) (link_moved old value) new
+    × (result ≡ record {
+      effect = link_effect old value;
+      message = is_due old.latch.lines (Caused (link_causes old value));
+      ignored = None;
+    })
+Leaves PxSerr old value result new =
+    Tells old on_port.Serr value (latched old.latch (WroteError value))
+    (record old.own { errors = bit_and old.own.errors (0xFFFF - value % 0x10000) }) result.ignored new
+    × Quiet result false
+Leaves PxSact old value result new =
+    Tells old on_port.Sact (armed_by old.core value) old.latch old.own result.ignored new × Quiet result false
+Leaves PxCi old value result new =
+    (new ≡ asked_state old value) × (result ≡ quietly false (stopped_if old.core.registers.started value))
+Leaves PxSntf old value result new =
+    Tells old on_port.Sntf value old.latch old.own result.ignored new × Quiet result false
+Leaves PxFbs old value result new =
+    Tells (record old { wants = record old.wants { feeding = 0 } }) on_port.Fbs (switched_by old value)
+    (latched old.latch (Caused (next_causes value new.core))) old.own result.ignored new
+    × Quiet result (is_due old.latch.lines (Caused (next_causes value new.core)))
+Leaves register old value result new = (new ≡ old) × (result ≡ quietly false None)

@@ -1,0 +1,336 @@
+//! FISes of devices are taken.
+
+ghost use Rattle.std.specs.Prelude.{◌≡◌, ◌<◌, ◌^◌, None, true, slice_index_or, slice_set, OnErr, IfOk};
+ghost use Rattle.std.specs.Result.{result_err};
+ghost use Rattle.hba_fbs.specs.Bits.{without as without_of};
+ghost use Rattle.ahci_registers.specs.Lines.{LineEvent, is_due};
+ghost use Rattle.ahci_controller.specs.Causes.{causes_since};
+ghost use Rattle.ahci_controller.specs.Latch.{latched};
+ghost use Rattle.ahci_controller.specs.Taking.{CoreHears, Hears, blamed as blamed_by, blamed_state, carried_by, commands_after, count_after, counting as counting_of, error_bits, hindrance as hindrance_of, is_any as is_any_of, is_up as is_up_of, move_to as move_to_of, posting_at, room_for, row_in, settled, writes_of};
+
+use crate::bits::without;
+use crate::causes::{interrupts, new_bits, status};
+use crate::controller::Controller;
+use crate::own::OwnRegisters;
+use crate::wants::{Carried, Wants, Writes};
+use ahci_registers::LinkAction;
+use fis_view::Frame;
+use guest_fetch::{ByteCount, Command, Move};
+use hba_fbs::{Room, TakeReport, Wrote};
+use port_errors::DeviceCause;
+use rx_area::Posted;
+
+/// Why a FIS is not taken. Nothing changes.
+#[derive(Clone, Copy, Debug, PartialEq, Eq)]
+pub enum Hindrance {
+    /// The link is down: the FIS is lost.
+    LinkDown,
+    /// A command that cannot be served stopped the port until ST falls: the FIS is dropped.
+    Failed,
+    /// PxCMD.FRE is 0: the FIS waits.
+    NotReceiving,
+    /// What is to be written to the guest for the FIS before is not written yet: the FIS waits.
+    Writing,
+}
+
+/// What taking a FIS did.
+#[derive(Clone, Copy, Debug, PartialEq, Eq)]
+pub struct Took {
+    /// What the core says.
+    pub report: TakeReport,
+    /// A message is due, where messages stand for the line.
+    pub message: bool,
+}
+
+fn is_up(action: LinkAction) -> bool
+    ensures { result ≡ is_up_of action }
+{
+    action == LinkAction::NoAction
+}
+
+// A FIS of so many bytes goes there, from a place of the received area on.
+fn move_to(area: u64, start: u64, len: usize) -> Option<Move>
+    requires start { start < 8192 }
+    requires len { len < 16384 }
+    ensures { result ≡ move_to_of area start len }
+{
+    if area > u64::MAX - start - len as u64 {
+        return None;
+    }
+    Some(Move {
+        at: area + start,
+        from: 0,
+        len,
+        interrupt: false,
+    })
+}
+
+// The row of a device that has one: its own with FIS-based switching, and row 0 without.
+fn row(switching: bool, dev: u8) -> u8
+    requires { dev < 16 }
+    ensures value { result ≡ row_in switching dev }
+    ensures low { result < 16 }
+{
+    if switching { dev } else { 0 }
+}
+
+// It goes to its place in a row.
+fn posting(area: u64, row: u8, posted: Posted, len: usize) -> Option<Move>
+    requires row { row < 16 }
+    requires len { len < 16384 }
+    ensures { result ≡ posting_at area row posted len }
+{
+    let row = 256 * u64::from(row);
+    match posted {
+        Posted::Setup => move_to(area, row, len),
+        Posted::Pio => move_to(area, row + 0x20, len),
+        Posted::D2h => move_to(area, row + 0x40, len),
+        Posted::Bits => move_to(area, row + 0x58, len),
+        Posted::Unknown => move_to(area, row + 0x60, len),
+        Posted::Nothing => None,
+    }
+}
+
+// The bytes of Data, which begin at byte 4 of the frame.
+fn carried(wrote: Option<Wrote>) -> Option<Carried>
+    ensures { result ≡ carried_by wrote }
+{
+    let wrote = wrote?;
+    Some(Carried {
+        slot: wrote.slot,
+        offset: wrote.offset,
+        from: 4,
+        len: wrote.len,
+    })
+}
+
+// The bits of PxSERR.ERR of a fault: P, or E where the port stops.
+fn errors_of(report: &TakeReport) -> u16
+    ensures { result ≡ error_bits report.now }
+{
+    if report.stopped.is_some() {
+        return 0x800;
+    }
+    match report.fault {
+        Some(DeviceCause::TaskFile | DeviceCause::Overflow) | None => 0,
+        Some(_) => 0x400,
+    }
+}
+
+impl Wants {
+    // A FIS of a device came: what was wanted for its Data is wanted anew, if it still is.
+    pub(crate) fn heard(self, dev: u8) -> Wants
+        requires { dev < 16 }
+        ensures { result ≡ record self { feeding = without_of self.feeding (2 ^ dev) } }
+    {
+        Wants {
+            feeding: without(self.feeding, 1 << dev),
+            ..self
+        }
+    }
+}
+
+// A command with bytes that came for it.
+#[derive(Debug, Drop)]
+pub(crate) struct Counting {
+    pub(crate) command: Option<Command>,
+    pub(crate) count: Option<ByteCount>,
+}
+
+// PRDBC of a command with these bytes.
+fn count(command: Option<Command>, wrote: Wrote) -> Counting
+    ensures { result ≡ counting_of command wrote }
+{
+    let Some(mut command) = command else {
+        return Counting {
+            command: None,
+            count: None,
+        };
+    };
+    let count = command.count(wrote.offset, wrote.len as usize);
+    Counting {
+        command: Some(command),
+        count: Some(count),
+    }
+}
+
+// The command that is kept for a slot, taken out.
+fn kept_out(commands: &mut [Option<Command>; 32], slot: u8) -> Option<Command>
+    requires { slot < 32 }
+    ensures command { result ≡ slice_index_or commands.old slot None }
+    ensures rest { commands.new ≡ slice_set commands.old slot None }
+{
+    commands[slot as usize].take()
+}
+
+impl Writes {
+    // Whether something is to be written.
+    fn is_any(&self) -> bool
+        ensures { result ≡ is_any_of self.now }
+    {
+        self.payload.is_some() || self.posted.is_some() || self.counted.is_some()
+    }
+}
+
+impl OwnRegisters {
+    // After a report: its errors stand, and CCS is the slot that it is about, if it tells of a fault.
+    fn blamed(self, report: &TakeReport, slot: Option<u8>) -> OwnRegisters
+        ensures { result ≡ blamed_by self report.now slot }
+    {
+        let faulty = report.fault.is_some() || report.stopped.is_some();
+        OwnRegisters {
+            errors: self.errors | errors_of(report),
+            current: if faulty {
+                slot.unwrap_or(self.current)
+            } else {
+                self.current
+            },
+            ..self
+        }
+    }
+}
+
+impl Controller {
+    // How many bytes the table has places for of the command for which a device sends Data.
+    fn room(&self, dev: u8) -> Room
+        requires { dev < 16 }
+        ensures { result ≡ room_for self.now dev }
+    {
+        let Some(slot) = self.core.receiving(dev) else {
+            return Room::Whole;
+        };
+        match &self.commands[slot as usize] {
+            Some(command) => Room::Bytes(command.table().reach()),
+            None => Room::Bytes(0),
+        }
+    }
+
+    // Why no FIS is taken now.
+    fn hindrance(&self) -> Option<Hindrance>
+        ensures { result ≡ hindrance_of self.now }
+    {
+        if !is_up(self.link.action()) {
+            return Some(Hindrance::LinkDown);
+        }
+        if self.own.is_failed() {
+            return Some(Hindrance::Failed);
+        }
+        if !(self.own.receives && self.core.registers().receives) {
+            return Some(Hindrance::NotReceiving);
+        }
+        self.writes.is_any().then_some(Hindrance::Writing)
+    }
+
+    // The core takes the frame, or greets it while ST is 0.
+    fn give(&mut self, frame: &Frame) -> TakeReport
+        requires { self.old.core.registers.receives ≡ true }
+        ensures core { CoreHears self.old frame.now.bytes result self.new.core }
+        ensures rest { self.new ≡ record self.old { core = self.new.core } }
+    {
+        if self.core.registers().started {
+            let room = self.room(frame.pm_port());
+            self.core.take(room, frame)
+        } else {
+            self.core.greet(frame)
+        }
+    }
+
+    // The bytes that came count.
+    fn counts(&mut self, wrote: Option<Wrote>) -> Option<ByteCount>
+        ensures count { result ≡ count_after self.old wrote }
+        ensures rest { self.new ≡ record self.old { commands = commands_after self.old wrote } }
+    {
+        let wrote = wrote?;
+        let slot = wrote.slot;
+        if slot >= 32 {
+            return None;
+        }
+        let command = kept_out(&mut self.commands, slot);
+        let Counting { command, count } = count(command, wrote);
+        self.commands[slot as usize] = command;
+        count
+    }
+
+    // What is to be written to the guest for a frame.
+    fn writes_for(
+        &self,
+        switching: bool,
+        frame: &Frame,
+        report: &TakeReport,
+        counted: Option<ByteCount>,
+    ) -> Writes
+        ensures { result ≡ writes_of self.now switching frame.now.bytes report.now counted }
+    {
+        let len = frame.bytes().len();
+        let row = row(switching, frame.pm_port());
+        Writes {
+            payload: carried(report.wrote),
+            posted: posting(self.own.area(), row, report.posted, len),
+            counted,
+        }
+    }
+
+    // What is to be written to the guest is this.
+    fn hold(&mut self, writes: Writes)
+        ensures { self.new ≡ record self.old { writes = writes } }
+    {
+        self.writes = writes;
+    }
+
+    // What a report says of a device stands in the registers, and what was wanted for its Data is wanted anew.
+    fn blame(&mut self, dev: u8, report: &TakeReport)
+        requires { dev < 16 }
+        ensures { self.new ≡ blamed_state self.old dev report.now }
+    {
+        self.wants = self.wants.heard(dev);
+        self.own = self.own.blamed(report, self.core.concerned(dev));
+    }
+
+    // The bits that the core set in its PxIS since that read `was` become causes. Answers whether a message is due.
+    fn cause(&mut self, was: u32) -> bool
+        ensures after { self.new ≡ record self.old {
+          latch = latched self.old.latch (LineEvent.Caused (causes_since was self.old.core));
+        } }
+        ensures due { result ≡ is_due self.old.latch.lines (LineEvent.Caused (causes_since was self.old.core)) }
+    {
+        let causes = interrupts(new_bits(was, &self.core));
+        self.latch.caused(causes)
+    }
+
+    // A report is settled. Answers whether a message is due.
+    fn settle(&mut self, was: u32, switching: bool, frame: &Frame, report: &TakeReport) -> bool
+        ensures after { self.new ≡ settled self.old was switching frame.now.bytes report.now }
+        ensures due { result ≡ is_due self.old.latch.lines (LineEvent.Caused (causes_since was self.old.core)) }
+    {
+        let counted = self.counts(report.wrote);
+        let writes = self.writes_for(switching, frame, report, counted);
+        self.hold(writes);
+        self.blame(frame.pm_port(), report);
+        self.cause(was)
+    }
+
+    fn hear(&mut self, frame: &Frame) -> Took
+        requires { self.old.core.registers.receives ≡ true }
+        ensures { Hears self.old frame.now.bytes result self.new }
+    {
+        let was = status(&self.core);
+        let switching = self.core.registers().switching;
+        let report = self.give(frame);
+        let message = self.settle(was, switching, frame, &report);
+        Took { report, message }
+    }
+
+    /// Takes a FIS of a device, or of the control port. What is to be written to the guest for it is answered by
+    /// [`next`](Controller::next), before anything else; as long as its payload is, the caller holds the frame. The guest is to
+    /// see its registers only after that.
+    pub fn take(&mut self, frame: &Frame) -> Result<Took, Hindrance>
+        ensures hindrance { result_err result ≡ hindrance_of self.old }
+        ensures kept { OnErr result (self.new ≡ self.old) }
+        ensures taken { IfOk result (λ took. Hears self.old frame.now.bytes took self.new) }
+    {
+        if let Some(hindrance) = self.hindrance() {
+            return Err(hindrance);
+        }
+        Ok(self.hear(frame))
+    }
+}

@@ -1,0 +1,307 @@
+//! What a write of a register does.
+
+ghost use Rattle.std.specs.Prelude.{◌≡◌, Option, Some, None, false};
+ghost use Rattle.slots.specs.Slots.{mask_of};
+ghost use Rattle.hba_fbs.specs.Issuing.{is_busy};
+ghost use Rattle.ahci_registers.specs.Link.{action_of, causes_of, effect_of, written as written_of};
+ghost use Rattle.ahci_controller.specs.Writing.{Leaves, ResetsLink, StartsPort, Tells, clears_busy as clears_busy_of, fresh_slots, line_of, quietly as quietly_of, switched_by, ClearsBusy, stopped_if};
+
+use crate::bits::{CLO, bits_if, has_bit, without};
+use crate::causes::next_bits;
+use crate::controller::{CONTROL, Controller};
+use crate::offer::nothing;
+use crate::own::{Base, OwnRegisters};
+use ahci_registers::{Effect, LinkAction, LinkControl, Register};
+use hba_fbs::{Line, PortCore, WriteError};
+
+/// What a write asks for beside the registers.
+#[derive(Clone, Copy, Debug, PartialEq, Eq)]
+pub struct Written {
+    /// What it does to the link. Where that is reset, frames on their way are to be dropped, and what is behind the link
+    /// is to be reset.
+    pub effect: Effect,
+    /// A message is due, where messages stand for the line.
+    pub message: bool,
+    /// Why the port ignores it. Then it changes nothing of the port but what is held until it may be.
+    pub ignored: Option<WriteError>,
+}
+
+impl Written {
+    /// Nothing, but that a message may be due, or that it is ignored.
+    pub(crate) fn quietly(message: bool, ignored: Option<WriteError>) -> Written
+        ensures { result ≡ quietly_of message ignored }
+    {
+        Written {
+            effect: Effect::Nothing,
+            message,
+            ignored,
+        }
+    }
+}
+
+// The slots in which something is issued, as a mask.
+pub(crate) fn issued(core: &PortCore) -> u32
+    ensures { result ≡ mask_of (is_busy core.now.slots) }
+{
+    let mut mask: u32 = 0;
+    for slot in 0..32_u8 {
+        if core.is_issued(slot) {
+            mask |= 1 << slot;
+        }
+    }
+    mask
+}
+
+// What hangs at a link of which this is asked.
+fn line(action: LinkAction) -> Line
+    ensures { result ≡ line_of action }
+{
+    match action {
+        LinkAction::Disable => Line::Empty,
+        LinkAction::NoAction | LinkAction::Comreset => Line::Reset,
+    }
+}
+
+fn stopped(started: bool, value: u32) -> Option<WriteError>
+    ensures { result ≡ stopped_if started value }
+{
+    (!started && value != 0).then_some(WriteError::Stopped)
+}
+
+impl Controller {
+    // Writes a register of the core, PxCMD and PxCI apart. What that refuses is ignored.
+    fn tell(&mut self, register: hba_fbs::Register, value: u32) -> Option<WriteError>
+        ensures { Tells self.old register value self.old.latch self.old.own result self.new }
+    {
+        let nothing = nothing();
+        match self.core.write(register.offset(), value, &nothing) {
+            Ok(()) => None,
+            Err(refusal) => Some(refusal),
+        }
+    }
+
+    fn write_ghc(&mut self, value: u32) -> Written
+        ensures { Leaves Register.Ghc self.old value result self.new }
+    {
+        let write = self.latch.write_ghc(value);
+        if !write.reset {
+            return Written::quietly(write.message, None);
+        }
+        self.core.reset();
+        self.core.hang(CONTROL, Line::Reset);
+        self.link = LinkControl::new();
+        self.own = self.own.reset();
+        self.drop_wants();
+        Written {
+            effect: Effect::LinkReset,
+            message: write.message,
+            ignored: None,
+        }
+    }
+
+    // CLO: the device that PxTFD shows is no longer busy, while ST is 0.
+    fn clear_busy(&mut self, value: u32)
+        ensures { ClearsBusy self.old value self.new }
+    {
+        if has_bit(value, CLO) && !self.core.registers().started {
+            let dev = self.core.shown_device();
+            self.core.override_busy(dev);
+        }
+    }
+
+    // ST, FRE and PMA.
+    fn start(&mut self, value: u32) -> Option<WriteError>
+        ensures { StartsPort self.old value result self.new }
+    {
+        let before = self.own;
+        let was = self.core.registers();
+        let own = self.own.commanded(value);
+        let told = self.core.write_cmd(own.engine(was));
+        let is = self.core.registers();
+        if was.started && !is.started {
+            self.drop_wants();
+        }
+        self.own = own.latched(before, was, is);
+        told.err()
+    }
+
+    fn write_pxcmd(&mut self, value: u32) -> Written
+        ensures { Leaves Register.PxCmd self.old value result self.new }
+    {
+        self.clear_busy(value);
+        let ignored = self.start(value);
+        Written::quietly(false, ignored)
+    }
+
+    // The link is reset.
+    fn reset_link(&mut self)
+        ensures { ResetsLink self.old self.new }
+    {
+        self.core.reset_link();
+        self.core.hang(CONTROL, line(self.link.action()));
+        self.drop_wants();
+    }
+
+    fn write_pxsctl(&mut self, value: u32) -> Written
+        ensures { Leaves Register.PxSctl self.old value result self.new }
+    {
+        let write = self
+            .latch
+            .write_sctl(&mut self.link, value, self.own.starts);
+        if write.effect == Effect::LinkReset {
+            self.reset_link();
+        }
+        Written {
+            effect: write.effect,
+            message: write.message,
+            ignored: None,
+        }
+    }
+
+    // What is written to PxFBS of the core.
+    fn switched(&self, value: u32) -> u32
+        ensures { result ≡ switched_by self.now value }
+    {
+        if self.own.starts {
+            value / 2 * 2 + bits_if(self.core.registers().switching, 1)
+        } else {
+            value
+        }
+    }
+
+    fn write_pxfbs(&mut self, value: u32) -> Written
+        ensures { Leaves Register.PxFbs self.old value result self.new }
+    {
+        let switched = self.switched(value);
+        let ignored = self.tell(hba_fbs::Register::Fbs, switched);
+        let causes = next_bits(value, &self.core);
+        self.wants.feeding = 0;
+        Written::quietly(self.latch.caused(causes), ignored)
+    }
+
+    fn write_is(&mut self, value: u32) -> Written
+        ensures { Leaves Register.Is self.old value result self.new }
+    {
+        Written::quietly(self.latch.write_is(value), None)
+    }
+
+    fn write_pxis(&mut self, value: u32) -> Written
+        ensures { Leaves Register.PxIs self.old value result self.new }
+    {
+        let ignored = self.tell(hba_fbs::Register::Is, value);
+        self.latch.write_pxis(value);
+        Written::quietly(false, ignored)
+    }
+
+    fn write_pxserr(&mut self, value: u32) -> Written
+        ensures { Leaves Register.PxSerr self.old value result self.new }
+    {
+        let ignored = self.tell(hba_fbs::Register::Serr, value);
+        self.latch.write_serr(value);
+        self.own.errors &= !((value & 0xFFFF) as u16);
+        Written::quietly(false, ignored)
+    }
+
+    fn write_pxsact(&mut self, value: u32) -> Written
+        ensures { Leaves Register.PxSact self.old value result self.new }
+    {
+        let armed = without(value, issued(&self.core));
+        let ignored = self.tell(hba_fbs::Register::Sact, armed);
+        Written::quietly(false, ignored)
+    }
+
+    fn write_pxsntf(&mut self, value: u32) -> Written
+        ensures { Leaves Register.PxSntf self.old value result self.new }
+    {
+        let ignored = self.tell(hba_fbs::Register::Sntf, value);
+        Written::quietly(false, ignored)
+    }
+
+    fn write_pxie(&mut self, value: u32) -> Written
+        ensures { Leaves Register.PxIe self.old value result self.new }
+    {
+        Written::quietly(self.latch.write_pxie(value), None)
+    }
+
+    // The slots of a mask that may be read.
+    fn fresh(&self, value: u32) -> u32
+        ensures { result ≡ fresh_slots self.now value }
+    {
+        let free = without(without(value, issued(&self.core)), self.wants.pending);
+        without(free, self.own.bad)
+    }
+
+    fn write_pxci(&mut self, value: u32) -> Written
+        ensures { Leaves Register.PxCi self.old value result self.new }
+    {
+        let started = self.core.registers().started;
+        if started {
+            self.wants.pending |= self.fresh(value);
+        }
+        Written::quietly(false, stopped(started, value))
+    }
+
+    // Keeps these addresses.
+    fn rebase(&mut self, own: OwnRegisters) -> Written
+        ensures own { self.new ≡ record self.old { own = own } }
+        ensures quiet { result ≡ quietly_of false None }
+    {
+        self.own = own;
+        Written::quietly(false, None)
+    }
+
+    /// Writes all bits of a register.
+    pub(crate) fn write_register(&mut self, register: Register, value: u32) -> Written
+        ensures { Leaves register self.old value result self.new }
+    {
+        let own = self.own;
+        match register {
+            Register::Ghc => self.write_ghc(value),
+            Register::Is => self.write_is(value),
+            Register::PxClb => self.rebase(OwnRegisters {
+                list: Base {
+                    lower: value / 1024 * 1024,
+                    ..own.list
+                },
+                ..own
+            }),
+            Register::PxClbu => self.rebase(OwnRegisters {
+                list: Base {
+                    upper: value,
+                    ..own.list
+                },
+                ..own
+            }),
+            Register::PxFb => self.rebase(OwnRegisters {
+                area: Base {
+                    lower: value / 256 * 256,
+                    ..own.area
+                },
+                ..own
+            }),
+            Register::PxFbu => self.rebase(OwnRegisters {
+                area: Base {
+                    upper: value,
+                    ..own.area
+                },
+                ..own
+            }),
+            Register::PxIs => self.write_pxis(value),
+            Register::PxIe => self.write_pxie(value),
+            Register::PxCmd => self.write_pxcmd(value),
+            Register::PxSctl => self.write_pxsctl(value),
+            Register::PxSerr => self.write_pxserr(value),
+            Register::PxSact => self.write_pxsact(value),
+            Register::PxCi => self.write_pxci(value),
+            Register::PxSntf => self.write_pxsntf(value),
+            Register::PxFbs => self.write_pxfbs(value),
+            Register::Cap
+            | Register::Pi
+            | Register::Vs
+            | Register::Cap2
+            | Register::PxTfd
+            | Register::PxSig
+            | Register::PxSsts => Written::quietly(false, None),
+        }
+    }
+}
