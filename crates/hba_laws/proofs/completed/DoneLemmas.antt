@@ -1,8 +1,9 @@
 -- For `delivers`. The slots that a FIS is reported to free are those that it completes.
-use Rattle.std.proofs.Common.{◌≡◌, ℕ, ◌-◌, ◌^◌, ◌%◌, ◌<◌, Bool, true, false, cond, eqb, List, [], ◌∷◌, drop, length, refl, sym, ap, subst, ◌∙◌, inl, inr, Option, Some, None, arith}
-use Rattle.std.specs.Prelude.{Result, Ok, Err, is_none, is_some, is_ok, ◌&&◌, ◌==◌, not, nat_le, nat_lt, slice_index}
+use Rattle.std.proofs.Common.{◌≡◌, ℕ, ◌-◌, ◌^◌, ◌%◌, ◌<◌, Bool, true, false, cond, eqb, List, [], ◌∷◌, drop, get_or, length, map, refl, sym, ap, subst, ◌∙◌, inl, inr, Option, Some, None, arith}
+use Rattle.std.specs.Prelude.{Result, Ok, Err, is_none, is_some, is_ok, ◌&&◌, ◌==◌, not, nat_le, nat_lt, replicate, slice_index}
 use Rattle.std.specs.Option.{option_map}
-use Rattle.std.proofs.lemmas.Bool.{cases_eq, eq-eqb, ne_eqb, eqb-true, false≢true, and_parts, leb-true}
+use Rattle.std.proofs.lemmas.Bool.{cases_eq, cases_lt, eq-eqb, ne_eqb, eqb-true, false≢true, and_parts, leb-true}
+use Rattle.std.proofs.lemmas.List.{get_or-map, get_or-replicate, get_or_past, length-map, length-replicate}
 use Rattle.std.proofs.lemmas.Nat.Bits.{bit_at-pow_other, bit_at-pow_same, bit_at-zero}
 use Rattle.fis_view.specs.Seen.{seen}
 use Rattle.fis_view.specs.Table as table
@@ -14,7 +15,7 @@ use Rattle.slots.specs.Commands.{answer_for, answered_issue, answer_of, answered
 use Rattle.slots.specs.Data.{activated, after_activate, after_arrive, arrive_answer, gone_over, may_activate, moved_over}
 use Rattle.slots.specs.Setup.{after_setup_pio, came, dma_context, new_context, out_setup, pio_fault, pio_issue, setup_fault, with_own_context}
 use Rattle.slots.specs.Work.{needs_all}
-use Rattle.slots.specs.Slots.{DeviceSlots, Issue, freed, has_bit, holds, is_done_issue, is_queued_issue, is_waiting, is_whole_issue, match_some, own_issue, sent_pio, waiting}
+use Rattle.slots.specs.Slots.{DeviceSlots, Issue, freed, has_bit, holds, is_done_issue, is_queued_issue, is_waiting, is_whole_issue, match_some, own_issue, owned_by, sent_pio, waiting}
 use Rattle.slots.specs.declared.answer.Answered.{Answered}
 use Rattle.slots.specs.declared.answer.Answered.TheVariants as answer
 use Rattle.slots.specs.declared.answer.SetupError.{SetupError}

@@ -1,5 +1,5 @@
 -- For `delivers` and `core_delivers`. No device of a port that opens, or that was reset, has a command.
-use Rattle.std.proofs.Common.{◌≡◌, ℕ, [], ◌∷◌, get_or, map, replicate, refl, sym, ap, ◌∙◌, inl, inr, Option, Some, None, arith}
+use Rattle.std.proofs.Common.{◌≡◌, ℕ, [], ◌∷◌, get_or, length, map, replicate, refl, sym, ap, ◌∙◌, inl, inr, Option, Some, None, arith}
 use Rattle.std.specs.Option.{option_map}
 use Rattle.std.proofs.lemmas.Bool.{cases_lt}
 use Rattle.std.proofs.lemmas.List.{get_or-map, get_or-replicate, get_or_past, length-map, length-replicate}

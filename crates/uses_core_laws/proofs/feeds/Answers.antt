@@ -1,4 +1,4 @@
-use Rattle.std.proofs.Common.{[], refl, subst}
+use Rattle.std.proofs.Common.{◌≡◌, [], refl, subst}
 use Rattle.hba_fbs.specs.declared.turn.Turn.{Turn}
 use Rattle.hba_fbs.specs.declared.turn.Turn.TheVariants.{Feeds}
 use Rattle.hba_fbs.specs.Choosing.{MayChoose}
