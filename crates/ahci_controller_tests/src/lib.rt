@@ -1,0 +1,5 @@
+//! The tests of `ahci_controller`. They stand in a crate of their own, since a crate with tests is proved twice.
+#![tactic(auto)]
+
+#[cfg(test)]
+mod tests;

@@ -1,0 +1,6 @@
+//! What no clause says: values from outside, what stock software does at its start, and that calls succeed.
+
+mod rig;
+mod sectors;
+mod starts;
+mod steps;

@@ -1,0 +1,173 @@
+//! Tests as lists of steps: what is done with a controller, and what it answers then.
+//!
+//! A test that is a list has one assertion, so it is proved with little work.
+
+use super::rig::Rig;
+use ahci_controller::{Hindrance, Next, Width};
+use ahci_registers::Effect;
+use std::alloc::Global;
+use std::process::Abort;
+use std::test::Fail;
+
+/// A step of a test. Frames are given in hexadecimal.
+#[derive(Clone, Copy)]
+pub(super) enum Step {
+    /// A value is written to the register at an offset. The link stays as it is.
+    Writes(u32, u32),
+    /// The same, and this is what it does to the link.
+    Links(u32, u32, Effect),
+    /// A value is written by an access of this width.
+    Puts(u32, Width, u64),
+    /// An access of this width reads this.
+    Gets(u32, Width, u64),
+    /// The register at an offset reads this.
+    Reads(u32, u32),
+    /// Whether the interrupt line is raised.
+    Line(bool),
+    /// The guest writes the command of a slot: its PM Port, the number of its entries, and its FIS.
+    Command(u8, u8, u8, &'static str),
+    /// The guest writes an entry of a slot's table: its number, its address, and how many bytes it has.
+    Entry(u8, u8, u64, u32),
+    /// The guest writes this many bytes from an address on, each of them this one.
+    Fills(u64, usize, u8),
+    /// The byte at an address of the guest is this one.
+    Holds(u64, u8),
+    /// This command goes to a device next.
+    Sends(&'static str),
+    /// A sector of Data goes to a device next. These are its first byte, and its last.
+    SendsSector(u8, u8, u8),
+    /// Nothing goes to a device.
+    IsSilent,
+    /// A FIS is taken, and heard.
+    Takes(&'static str),
+    /// A sector of Data of a device is taken, and heard. Each of its bytes is this one.
+    TakesSector(u8, u8),
+    /// A FIS is ignored.
+    Ignores(&'static str),
+    /// A FIS is not taken.
+    Hinders(&'static str, Hindrance),
+}
+
+impl Rig {
+    fn does(&mut self, offset: u32, value: u32, wanted: Effect) -> bool {
+        self.write32(offset, value).effect == wanted
+    }
+
+    fn puts(&mut self, offset: u32, width: Width, value: u64) -> bool {
+        self.write(offset, width, value);
+        true
+    }
+
+    fn lists(&mut self, slot: u8, dev: u8, entries: u8, fis: &str) -> bool {
+        match self.bytes_of(fis) {
+            Some(bytes) => self.command(slot, dev, 0, entries, &bytes),
+            None => false,
+        }
+    }
+
+    fn fills(&mut self, at: u64, count: usize, byte: u8) -> bool {
+        let room = [byte; 512];
+        match room.get(..count) {
+            Some(bytes) => self.put(at, bytes),
+            None => false,
+        }
+    }
+
+    // Takes a frame, once more if memory was refused, and does what is next.
+    fn hears(&mut self, bytes: &[u8]) -> Option<Result<bool, Hindrance>> {
+        let took = match self.take(bytes) {
+            Err(_) => self.take(bytes).ok()?,
+            Ok(took) => took,
+        };
+        match took {
+            Ok(took) => Some(Ok(took.report.ignored)),
+            Err(why) => Some(Err(why)),
+        }
+    }
+
+    fn takes(&mut self, fis: &str, wanted: Result<bool, Hindrance>) -> bool {
+        match self.bytes_of(fis) {
+            Some(bytes) => self.hears(&bytes) == Some(wanted),
+            None => false,
+        }
+    }
+
+    fn takes_sector(&mut self, dev: u8, byte: u8) -> bool {
+        let mut bytes = [byte; 516];
+        bytes[0] = 0x46;
+        bytes[1] = dev;
+        bytes[2] = 0;
+        bytes[3] = 0;
+        self.hears(&bytes) == Some(Ok(false))
+    }
+
+    fn sends(&mut self, wanted: &str) -> bool {
+        let Next::Order { fis, .. } = self.next() else {
+            return false;
+        };
+        match self.bytes_of(wanted) {
+            Some(wanted) => fis.as_slice() == wanted.as_slice(),
+            None => false,
+        }
+    }
+
+    fn sends_sector(&mut self, to: u8, first: u8, last: u8) -> bool {
+        let next = self.next();
+        let Next::Feed { dev, .. } = next else {
+            return false;
+        };
+        let Some(bytes) = self.data(next) else {
+            return false;
+        };
+        dev == to
+            && bytes.len() == 512
+            && bytes.first() == Some(&first)
+            && bytes.last() == Some(&last)
+    }
+
+    // Whether a step is as it says.
+    fn passes(&mut self, step: Step) -> bool {
+        match step {
+            Step::Writes(offset, value) => self.does(offset, value, Effect::Nothing),
+            Step::Links(offset, value, wanted) => self.does(offset, value, wanted),
+            Step::Puts(offset, width, value) => self.puts(offset, width, value),
+            Step::Gets(offset, width, value) => self.read(offset, width) == value,
+            Step::Reads(offset, value) => self.read(offset, Width::Dword) == u64::from(value),
+            Step::Line(raised) => self.line() == raised,
+            Step::Command(slot, dev, entries, fis) => self.lists(slot, dev, entries, fis),
+            Step::Entry(slot, at, address, bytes) => self.entry(slot, at, address, bytes),
+            Step::Fills(at, count, byte) => self.fills(at, count, byte),
+            Step::Holds(at, byte) => self.byte(at) == Some(byte),
+            Step::Takes(fis) => self.takes(fis, Ok(false)),
+            Step::TakesSector(dev, byte) => self.takes_sector(dev, byte),
+            Step::Ignores(fis) => self.takes(fis, Ok(true)),
+            Step::Hinders(fis, why) => self.takes(fis, Err(why)),
+            Step::Sends(fis) => self.sends(fis),
+            Step::SendsSector(dev, first, last) => self.sends_sector(dev, first, last),
+            Step::IsSilent => self.next() == Next::Nothing,
+        }
+    }
+
+    // The number of the first step that is not as it says.
+    fn first_wrong(&mut self, steps: &[Step]) -> Option<usize> {
+        for (i, step) in steps.iter().enumerate() {
+            if !self.passes(*step) {
+                return Some(i);
+            }
+        }
+        None
+    }
+}
+
+/// Each step of a new controller is as it says: those of each list, one after the other.
+pub(super) fn play(rt: &impl Abort, alloc: Global, lists: &[&[Step]]) -> Result<(), Fail> {
+    let mut rig = Rig::new(alloc)?;
+    for (list, steps) in lists.iter().enumerate() {
+        assert_eq!(rt;
+            rig.first_wrong(steps),
+            None,
+            "the number of a step of list {list}"
+        );
+    }
+    Ok(())
+}
