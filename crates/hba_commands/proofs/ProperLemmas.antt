@@ -35,10 +35,10 @@ some_counted command count =
 
 -- whole sectors
 abbrev AreSectors : ℕ → Type 0
-AreSectors len = (len % 4 ≡ 0) × (len ≤ 131072) × (0 < len)
+AreSectors len = (len % 4 ≡ 0) × (len ≤ 33554432) × (0 < len)
 
 are_sectors : (n : ℕ) → 0 < n → 512 * n ≤ 131072 → AreSectors (512 * n)
-are_sectors n some most = (omega arith, most, omega arith)
+are_sectors n some most = (omega arith, omega (arith, most), omega arith)
 
 are_page : (b : Bool) (n : ℕ) → 0 < n → (if b then 512 else 512 * n) ≤ 131072 → AreSectors (if b then 512 else 512 * n)
 are_page true n some most = (omega arith, omega arith, omega arith)

@@ -43,7 +43,7 @@ pub struct Outside;
 /// list, the command tables and the received FIS area. The client area follows; it holds the data of
 /// transfers.
 ///
-/// A PRD table that was read is kept, and not read again until its bytes may be written.
+/// A PRD table that was read is kept, and not read again until its bytes may be written or 32 others were read.
 #[derive(Drop)]
 pub struct HostMemory {
     pub(crate) structure: Vec<u8>,

@@ -72,6 +72,6 @@ HasDataExactly PioOut len = 0 < len
 HasDataExactly NoData len = len ≡ 0
 HasDataExactly Control len = len ≡ 0
 
--- what a command can ask for: whole dwords, at most 128 KiB, and some bytes exactly if its kind moves data
+-- what a command can ask for: whole dwords, at most 32 MiB (65,536 sectors), and some bytes exactly if its kind moves data
 abbrev pub IsWork : Work → Type 0
-IsWork work = (work.len % 4 ≡ 0) × (work.len ≤ 0x20000) × HasDataExactly work.kind work.len
+IsWork work = (work.len % 4 ≡ 0) × (work.len ≤ 0x2000000) × HasDataExactly work.kind work.len

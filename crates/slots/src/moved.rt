@@ -15,7 +15,7 @@ pub(crate) struct Stretch {
     end: u32,
 }
 
-/// Which dwords were transferred, of a transfer of up to 128 KiB: stretches in order, each with a gap to the
+/// Which dwords were transferred, of a transfer of up to 32 MiB: stretches in order, each with a gap to the
 /// next.
 #[derive(Drop)]
 pub(crate) struct Moved {
@@ -31,13 +31,13 @@ impl Model for Moved {
 
     ghost view = { λ m. over_of m.dwords m.stretches.items };
 
-    ghost invariant = { λ m. (m.dwords ≤ 32768) × AreApart 0 m.dwords m.stretches.items };
+    ghost invariant = { λ m. (m.dwords ≤ 8388608) × AreApart 0 m.dwords m.stretches.items };
 }
 
 impl Moved {
     /// None of a transfer of `len` bytes.
     pub(crate) fn new(len: u32) -> Self
-        requires { len ≤ 131072 }
+        requires { len ≤ 33554432 }
         ensures { result ≡ none_over len }
     {
         Moved {
@@ -55,7 +55,7 @@ impl Moved {
 
     fn dwords(&self) -> u32
         ensures value { result ≡ length self.now }
-        ensures few { result ≤ 32768 }
+        ensures few { result ≤ 8388608 }
     {
         self.dwords
     }
@@ -141,9 +141,9 @@ fn have_between(stretches: &[Stretch], start: usize, end: usize) -> bool
 
 // How many dwords they have.
 fn count_dwords(stretches: &[Stretch]) -> u32
-    requires { AreApart 0 32768 stretches.now }
+    requires { AreApart 0 8388608 stretches.now }
     ensures value { result ≡ dwords_of stretches.now }
-    ensures few { result ≤ 32768 }
+    ensures few { result ≤ 8388608 }
 {
     let mut dwords = 0;
     for stretch in stretches {

@@ -34,7 +34,7 @@ pub enum Kind {
 pub struct Work {
     /// What it does with data.
     pub kind: Kind,
-    /// How many bytes it moves: a multiple of 4, at most 131,072. It is 0 for NoData and Control, and for no
+    /// How many bytes it moves: a multiple of 4, at most 33,554,432. It is 0 for NoData and Control, and for no
     /// other kind.
     pub len: u32,
 }

@@ -13,7 +13,7 @@ overflow_sub-dwords c =
     let ss = c.args.stretches.now in
     let i = c.loop-stretch.stretch-index in
     let none : Stretch = record { start = 0; end = 0 } in
-    let h : AreApart 0 32768 (get_or ss i none ∷ drop (i + 1) ss) = subst (AreApart 0 32768) (drop_more ss i none c.loop-stretch-test.true) c.loop-stretch.invariant.apart in
+    let h : AreApart 0 8388608 (get_or ss i none ∷ drop (i + 1) ss) = subst (AreApart 0 8388608) (drop_more ss i none c.loop-stretch-test.true) c.loop-stretch.invariant.apart in
     omega (arith, h.1)
 
 pub overflow_add-dwords : goal.overflow_add-dwords
@@ -22,7 +22,7 @@ overflow_add-dwords c =
     let i = c.loop-stretch.stretch-index in
     let none : Stretch = record { start = 0; end = 0 } in
     let e : dwords_of (drop i ss) ≡ dwords_of (get_or ss i none ∷ drop (i + 1) ss) = ap dwords_of (drop_more ss i none c.loop-stretch-test.true) in
-    let few = dwords_few 0 32768 ss c.requires in
+    let few = dwords_few 0 8388608 ss c.requires in
     omega (arith, c.loop-stretch.invariant.whole)
 
 pub loop-stretch-preserved : goal.loop-stretch-preserved
@@ -31,8 +31,8 @@ loop-stretch-preserved c =
     let i = c.loop-stretch.stretch-index in
     let none : Stretch = record { start = 0; end = 0 } in
     let e : dwords_of (drop i ss) ≡ dwords_of (get_or ss i none ∷ drop (i + 1) ss) = ap dwords_of (drop_more ss i none c.loop-stretch-test.true) in
-    let h : AreApart 0 32768 (get_or ss i none ∷ drop (i + 1) ss) = subst (AreApart 0 32768) (drop_more ss i none c.loop-stretch-test.true) c.loop-stretch.invariant.apart in
-    record { whole = omega (arith, c.loop-stretch.invariant.whole); apart = lower 0 _ 32768 (drop (i + 1) ss) h.3 (omega arith) }
+    let h : AreApart 0 8388608 (get_or ss i none ∷ drop (i + 1) ss) = subst (AreApart 0 8388608) (drop_more ss i none c.loop-stretch-test.true) c.loop-stretch.invariant.apart in
+    record { whole = omega (arith, c.loop-stretch.invariant.whole); apart = lower 0 _ 8388608 (drop (i + 1) ss) h.3 (omega arith) }
 
 pub returns-clause-value : goal.returns-clause-value
 returns-clause-value c =
@@ -41,5 +41,5 @@ returns-clause-value c =
 
 pub returns-clause-few : goal.returns-clause-few
 returns-clause-few c =
-    let few = dwords_few 0 32768 c.args.stretches.now c.requires in
+    let few = dwords_few 0 8388608 c.args.stretches.now c.requires in
     omega (arith, c.loop-stretch.invariant.whole)

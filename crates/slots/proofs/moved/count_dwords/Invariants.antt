@@ -6,5 +6,5 @@ use Rattle.slots.proofs.moved.count_dwords.Given as goal
 abbrev pub invariant-loop-stretch : goal.invariant-loop-stretch
 invariant-loop-stretch l = record {
   whole : l.dwords + dwords_of (drop l.stretch-index l.stretches) ≡ dwords_of l.stretches;
-  apart : AreApart 0 32768 (drop l.stretch-index l.stretches);
+  apart : AreApart 0 8388608 (drop l.stretch-index l.stretches);
 }

@@ -5,7 +5,7 @@ use Rattle.slots.proofs.moved.Moved.came.Goals as goal
 
 pub count_dwords-requires : goal.count_dwords-requires
 count_dwords-requires c =
-    subst (AreApart 0 32768) (sym c.as_slice.ensures.value) (wider 0 c.self.inside.dwords 32768 c.self.inside.stretches.items c.self.invariant.1 c.self.invariant.0)
+    subst (AreApart 0 8388608) (sym c.as_slice.ensures.value) (wider 0 c.self.inside.dwords 8388608 c.self.inside.stretches.items c.self.invariant.1 c.self.invariant.0)
 
 pub returns : goal.returns
 returns c =

@@ -3,7 +3,7 @@ use Rattle.std.specs.Option.{option_or}
 use Rattle.slots.specs.declared.answer.SetupError.{SetupError}
 use Rattle.slots.specs.Bytes.{came_of}
 use Rattle.slots.specs.Issued.{with_flags, issue_in}
-use Rattle.slots.specs.Setup.{long_fault, transfer_fault}
+use Rattle.slots.specs.Setup.{transfer_fault}
 use Rattle.slots.proofs.ByteLemmas.{whole_dwords}
 use Rattle.slots.proofs.slot.Slot.out_fault.Goals as goal
 
