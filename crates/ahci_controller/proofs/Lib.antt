@@ -3,3 +3,4 @@ pub mod HeadLemmas
 pub mod MaskLemmas
 pub mod FairLemmas
 pub mod TakeLemmas
+pub mod CircleLemmas

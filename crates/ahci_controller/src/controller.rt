@@ -39,6 +39,9 @@ pub struct Controller {
     pub(crate) circle: Circle,
 }
 
+// A controller is below 64 KiB.
+const _: () = prove!(size_of::<Controller>() < 65536);
+
 impl Model for Controller {
     ghost use Rattle.ahci_controller.specs.States.{ControllerState};
 
