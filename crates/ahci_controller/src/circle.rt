@@ -57,6 +57,9 @@ pub(crate) fn slot_after(mask: u32, last: u8) -> Option<u8>
     ensures low { IfSome result (λ slot. slot < 32) }
     ensures there { IfSome result (λ slot. has_bit_of mask slot ≡ true) }
 {
+    if mask == 0 {
+        return None;
+    }
     for step in 0..32_u8 {
         let slot = slot_at(last, step);
         if has_bit(mask, u32::from(slot)) {
@@ -72,6 +75,9 @@ pub(crate) fn device_after(mask: u32, last: u8) -> Option<u8>
     ensures low { IfSome result (λ dev. dev < 16) }
     ensures there { IfSome result (λ dev. has_bit_of mask dev ≡ true) }
 {
+    if mask == 0 {
+        return None;
+    }
     for step in 0..16_u8 {
         let dev = device_at(last, step);
         if has_bit(mask, u32::from(dev)) {

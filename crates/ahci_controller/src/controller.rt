@@ -39,6 +39,9 @@ pub struct Controller {
     pub(crate) circle: Circle,
 }
 
+// A controller is below 64 KiB.
+const _: () = prove!(size_of::<Controller>() < 65536);
+
 impl Model for Controller {
     ghost use Rattle.ahci_controller.specs.States.{ControllerState};
 
@@ -95,7 +98,7 @@ impl Controller {
     pub(crate) fn drop_wants(&mut self)
         ensures { self.new ≡ dropped self.old }
     {
-        self.wants = self.wants.dropped();
+        self.wants.dropped();
         self.fetches = no_fetches();
         self.writes = Writes::none();
     }

@@ -161,3 +161,45 @@ static WIDTHS: [Step; 12] = [
 fn registers_have_all_widths(rt: HostRuntime) -> Result<(), Fail> {
     play(&rt, rt.alloc(), &[&OPENS, &WIDTHS])
 }
+
+/// Signatures as Linux classifies them: of a zoned disk, and of a port multiplier.
+static SHOWS_SIGNATURES: [Step; 10] = [
+    Writes(0x118, 0x16),
+    Takes("3400500101CDAB00000000000100000000000000"),
+    IsSilent,
+    Reads(0x124, 0xABCD_0101),
+    // only the first one after a reset counts
+    Takes(SIGNATURE),
+    IsSilent,
+    Reads(0x124, 0xABCD_0101),
+    Links(0x004, 1, Effect::LinkReset),
+    Writes(0x118, 0x16),
+    Takes("3400500101699600000000000100000000000000"),
+];
+
+/// Task files as the emulator's own devices send them.
+static SHOWS_TASK_FILES: [Step; 14] = [
+    IsSilent,
+    Reads(0x124, 0x9669_0101),
+    Takes("344051045aeb882ec9f653003bc9000000000000"),
+    IsSilent,
+    Reads(0x120, 0x451),
+    Takes("3400d0009abf322876548200f1ab000000000000"),
+    IsSilent,
+    Reads(0x120, 0xD0),
+    Takes("3440990452f7a368f19caa00681b000000000000"),
+    IsSilent,
+    Reads(0x120, 0x499),
+    Takes("3400503c42b323c7e9152b00ea06000000000000"),
+    IsSilent,
+    Reads(0x120, 0x3C50),
+];
+
+#[test]
+fn registers_show_what_devices_send(rt: HostRuntime) -> Result<(), Fail> {
+    play(
+        &rt,
+        rt.alloc(),
+        &[&OPENS, &SHOWS_SIGNATURES, &SHOWS_TASK_FILES],
+    )
+}

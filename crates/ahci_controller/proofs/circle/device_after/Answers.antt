@@ -3,7 +3,11 @@ use Rattle.std.specs.Option.{option_map}
 use Rattle.slots.specs.Slots.{has_bit}
 use Rattle.slots.proofs.Door.{lowest_found, lowest_none}
 use Rattle.ahci_controller.specs.Circle.{is_behind}
+use Rattle.ahci_controller.proofs.CircleLemmas.{none_behind}
 use Rattle.ahci_controller.proofs.circle.device_after.Goals as goal
+
+pub returns-then-mask-eq0-clause-value : goal.returns-then-mask-eq0-clause-value
+returns-then-mask-eq0-clause-value c = sym (none_behind 16 c.args.mask c.args.last (omega (arith, c.if-mask-eq0.true)))
 
 pub returns-then-has_bit-clause-value : goal.returns-then-has_bit-clause-value
 returns-then-has_bit-clause-value c =
