@@ -2,3 +2,5 @@ pub mod OpeningLemmas
 pub mod HeadLemmas
 pub mod MaskLemmas
 pub mod FairLemmas
+pub mod rules
+pub mod Door

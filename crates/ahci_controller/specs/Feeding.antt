@@ -7,7 +7,7 @@ use Rattle.guest_fetch.specs.Places.{Delivers}
 use Rattle.guest_fetch.specs.Commands.{Fetched}
 use Rattle.guest_fetch.specs.declared.moves.Move.{Move}
 use Rattle.hba_fbs.specs.Bits.{without}
-use Rattle.hba_fbs.specs.Choosing.{Chooses, may_feed}
+use Rattle.hba_fbs.specs.Choosing.{Chooses, MayChoose, may_feed}
 use Rattle.hba_fbs.specs.declared.turn.Turn as turn_type
 use Rattle.hba_fbs.specs.declared.turn.Turn.TheVariants as turn
 use Rattle.ahci_controller.specs.Causes.{missing_causes}
@@ -37,6 +37,7 @@ EndsFed old result new = (new ≡ old) × (result ≡ answer.Ended)
 
 -- it goes
 pub record SendsData (old : ControllerState) (dev : ℕ) (new : ControllerState) : Type 0 where
+  pub may : MayChoose old.core (turn_to old dev)
   pub core : Chooses (turn_to old dev) old.core new.core
   pub rest : new ≡ record old { core = new.core }
 
