@@ -4,3 +4,4 @@ pub mod MaskLemmas
 pub mod FairLemmas
 pub mod rules
 pub mod Door
+pub mod TakeLemmas

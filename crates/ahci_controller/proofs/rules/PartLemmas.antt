@@ -270,15 +270,15 @@ module _ (core : Port) (wants : Wants) (fetches : List (Option Fetching)) (comma
   -- ---- bytes of a command were moved
 
   pub counts : (slot : ℕ) (f : Fetched) (next : Option Carried) → slot < 32 → ((k : Option Command) → IsOffered k (get_or commands slot None) → IsOffered k (Some f))
-      → IfSome next (IsCarried wants (set (set commands slot None) slot (Some f)))
-      → AreParts core wants fetches (set (set commands slot None) slot (Some f)) next
+      → IfSome next (IsCarried wants (set commands slot (Some f)))
+      → AreParts core wants fetches (set commands slot (Some f)) next
   counts slot f next below offers carried = record {
-    long = length-set (set commands slot None) slot (Some f) ∙ length-set commands slot no_command ∙ was.long;
+    long = length-set commands slot (Some f) ∙ was.long;
     kept = λ s. elim (cases_eq s slot) [
       | inl same ↦
-          subst (λ (k : ℕ). IsOffered (last_command core.commands k) (get_or (set (set commands slot None) slot (Some f)) k None)) (sym same)
-          (subst (λ (o : Option Fetched). IsOffered (last_command core.commands slot) o) (sym (get_or-set_same (set commands slot None) slot (Some f) None (rw (length-set commands slot no_command, was.long) below))) (offers (last_command core.commands slot) (was.kept slot)))
-      | inr ne ↦ subst (λ (o : Option Fetched). IsOffered (last_command core.commands s) o) (sym (get_or-set_other (set commands slot None) slot s (Some f) None ne ∙ get_or-set_other commands slot s None None ne)) (was.kept s)
+          subst (λ (k : ℕ). IsOffered (last_command core.commands k) (get_or (set commands slot (Some f)) k None)) (sym same)
+          (subst (λ (o : Option Fetched). IsOffered (last_command core.commands slot) o) (sym (get_or-set_same commands slot (Some f) None (rw was.long below))) (offers (last_command core.commands slot) (was.kept slot)))
+      | inr ne ↦ subst (λ (o : Option Fetched). IsOffered (last_command core.commands s) o) (sym (get_or-set_other commands slot s (Some f) None ne)) (was.kept s)
     ];
     unread = was.unread;
     free = was.free;
@@ -286,3 +286,7 @@ module _ (core : Port) (wants : Wants) (fetches : List (Option Fetching)) (comma
     counted = was.counted;
     carried = carried;
   }
+
+  pub carried_on : (slot : ℕ) (f : Fetched) (p : Option Carried) → slot < 32 → IfSome p (IsCarried wants commands) → IfSome p (IsCarried wants (set commands slot (Some f)))
+  carried_on slot f None below h = tt
+  carried_on slot f (Some w) below h = record { slot = h.slot; kept = still_kept slot w.slot f below h.kept; out = h.out }

@@ -1,5 +1,5 @@
 -- The rules of a controller stay true as a frame is taken.
-use Rattle.std.proofs.Common.{◌≡◌, ℕ, ◌<◌, ◌^◌, ◌||◌, Bool, true, false, List, get_or, set, length, refl, sym, ap, subst, ◌∙◌, inl, inr, Option, Some, None, get_or-set_same, length-set}
+use Rattle.std.proofs.Common.{◌≡◌, ℕ, ◌<◌, ◌^◌, ◌||◌, Bool, true, false, List, get_or, set, length, refl, sym, ap, subst, ◌∙◌, inl, inr, Option, Some, None, get_or-set_same}
 use Rattle.std.specs.Prelude.{IfSome, MatchOption, is_some, nat_lt, if◌then◌else◌}
 use Rattle.std.proofs.lemmas.Bool.{cases_Bool, false≢true, lt-ltb, true≢false}
 use Rattle.fis_view.specs.Seen.{seen}
@@ -22,14 +22,15 @@ use Rattle.hba_fbs.specs.declared.report.TakeReport.{TakeReport}
 use Rattle.hba_fbs.specs.declared.report.Wrote.{Wrote}
 use Rattle.ahci_controller.specs.Rules.{AreParts, IsCarried, IsOffered, IsRuled}
 use Rattle.ahci_controller.specs.States.{ControllerState, kept}
-use Rattle.ahci_controller.specs.Taking.{CoreHearsIf, Hears, carried, carried_by, commands_after, counting, moved_on, room_for}
-use Rattle.ahci_controller.specs.declared.taking.Counting.{Counting}
+use Rattle.ahci_controller.specs.Moving.{commands_after, moved_on}
+use Rattle.ahci_controller.specs.Taking.{CoreHearsIf, Hears, carried, carried_by, room_for}
 use Rattle.ahci_controller.specs.declared.taking.Took.{Took}
 use Rattle.ahci_controller.specs.declared.wants.Carried.{Carried}
 use Rattle.ahci_controller.specs.declared.wants.Wants.{Wants}
 use Rattle.ahci_controller.proofs.rules.BitLemmas as bits
 use Rattle.ahci_controller.proofs.rules.FreeLemmas.{same_free, slots_free}
 use Rattle.ahci_controller.proofs.rules.PartLemmas as parts
+use Rattle.ahci_controller.proofs.rules.TurnLemmas.{offers_on}
 use Rattle.ahci_controller.proofs.rules.Words.{IsOfIssue}
 use Rattle.ahci_controller.proofs.rules.WroteLemmas.{decided_wrote, greeted_wrote, passed_wrote}
 
@@ -121,10 +122,6 @@ has_kept c slot was have busy =
     let f = the_command (kept c slot) some in
     record { command = f.0; here = f.1 }
 
-offers_on : (w : Wrote) (f : Fetched) (k : Option Command) → IsOffered k (Some f) → IsOffered k (Some (moved_on w f))
-offers_on w f None h = tt
-offers_on w f (Some command) h = h
-
 -- ---- the controller
 
 busy_out : (c : ControllerState) (slot : ℕ) → slot < 32 → IsRuled c → is_some (issue_at c.core.slots slot) ≡ true → has_bit c.wants.out slot ≡ false
@@ -147,15 +144,13 @@ heard_ruled dev old new (Some w) rules was commands frees started wrote =
     parts.core_moves old.core wants old.fetches old.commands old.writes.payload fed new commands frees (λ e. was.stopped (sym started ∙ e)) in
     let k : HasKept old w.slot = has_kept old w.slot was rules.commands wrote.busy in
     let f : Fetched = moved_on w k.command in
-    let now : List (Option Fetched) = set (set old.commands w.slot None) w.slot (Some f) in
+    let now : List (Option Fetched) = set old.commands w.slot (Some f) in
     let is : commands_after (record old { core = new }) (Some w) ≡ now =
-    ap (λ (b : Bool). if b then set (set old.commands w.slot None) w.slot (counting (kept old w.slot) w).command else old.commands) (lt-ltb w.slot 32 wrote.below)
-    ∙ ap (λ (o : Option Fetched). set (set old.commands w.slot None) w.slot (counting o w).command) k.here in
-    let none : Option Fetched = None in
-    let long : w.slot < length (set old.commands w.slot none) = rw (length-set old.commands w.slot none, was.long) wrote.below in
+    ap (λ (b : Bool). match_some (if b then kept old w.slot else None) old.commands (λ command. set old.commands w.slot (Some (moved_on w command)))) (lt-ltb w.slot 32 wrote.below)
+    ∙ ap (λ (o : Option Fetched). match_some o old.commands (λ command. set old.commands w.slot (Some (moved_on w command)))) k.here in
     let brought : IsCarried wants now (carried w) = record {
       slot = wrote.below;
-      kept = ap is_some (get_or-set_same (set old.commands w.slot none) w.slot (Some f) None long);
+      kept = ap is_some (get_or-set_same old.commands w.slot (Some f) None (rw was.long wrote.below));
       out = busy_out old w.slot wrote.below was wrote.busy;
     } in
     subst (λ (l : List (Option Fetched)). AreParts new wants old.fetches l (carried_by (Some w))) (sym is)

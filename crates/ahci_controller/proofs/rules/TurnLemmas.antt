@@ -2,7 +2,7 @@
 use Rattle.std.proofs.Common.{◌≡◌, ◌≢◌, ℕ, ◌+◌, ◌-◌, ◌<◌, ◌≤◌, ◌^◌, ◌%◌, ◌&&◌, min, Bool, true, false, List, get_or, set, length, refl, sym, ap, subst, ◌∙◌, inl, inr, Option, Some, None, arith, get_or-set_same}
 use Rattle.std.specs.Prelude.{IfSome, MatchOption, is_some, nat_lt, ◌==◌, if◌then◌else◌}
 use Rattle.std.specs.Option.{option_map}
-use Rattle.std.proofs.lemmas.Bool.{and_parts, cases_Bool, false≢true, lt-ltb, true≢false}
+use Rattle.std.proofs.lemmas.Bool.{and_parts, cases_Bool, false≢true, ltb-true, true≢false}
 use Rattle.slots.specs.Slots.{KeepsFree, Slots, has_bit, issue_at, lowest_below, match_some}
 use Rattle.slots.specs.Table.{IsTable}
 use Rattle.slots.proofs.Door.{lowest_is}
@@ -24,17 +24,17 @@ use Rattle.hba_fbs.specs.declared.report.Wrote.{Wrote}
 use Rattle.hba_fbs.specs.declared.turn.Turn.{Turn}
 use Rattle.hba_fbs.specs.declared.turn.Turn.TheVariants.{Feeds, Orders, Rests}
 use Rattle.ahci_controller.specs.Circle.{first_behind, is_behind}
-use Rattle.ahci_controller.specs.Feeding.{Gathers, GathersIf, Loses, LosesIf, MissesData, MissesIf, SendsIf, without_feeding}
+use Rattle.ahci_controller.specs.Feeding.{Gathers, GathersIf, Loses, LosesIf, MissesData, MissesIf, SendsIf, sent_to, without_feeding}
 use Rattle.ahci_controller.specs.Fetching.{asked as asked_of}
-use Rattle.ahci_controller.specs.Next.{FeedsTo, Frames, FramesFor, OrdersSlot, Reads, Turns, TurnsIf, after_rest, is_fed, is_halted, left, next_device, next_read, next_slot, next_write, payload_step, rest, run_of, step_of, step_with, turn_to, writes_next, written}
+use Rattle.ahci_controller.specs.Next.{FeedsTo, Frames, FramesFor, OrdersSlot, Reads, Turns, TurnsIf, after_count, after_rest, counted_slot, is_fed, is_halted, left, next_device, next_read, next_slot, next_write, payload_step, rest, run_of, step_of, step_with, turn_to, writes_next, written}
+use Rattle.ahci_controller.specs.Moving.{command_of, moved, moved_on}
+use Rattle.ahci_controller.specs.Outbox.{no_writes}
 use Rattle.ahci_controller.specs.Rules.{AreParts, IsCarried, IsOffered, IsRuled, IsUnread}
 use Rattle.ahci_controller.specs.States.{ControllerState, kept}
-use Rattle.ahci_controller.specs.Taking.{CoreHearsIf, Hears, carried, carried_by, commands_after, counting, moved_on, room_for}
 use Rattle.ahci_controller.specs.declared.feeding.Fed.{Fed}
 use Rattle.ahci_controller.specs.declared.next.Next.{Next}
 use Rattle.ahci_controller.specs.declared.next.Next.TheVariants as next_step
 use Rattle.ahci_controller.specs.declared.next.Step.{Step}
-use Rattle.ahci_controller.specs.declared.taking.Took.{Took}
 use Rattle.ahci_controller.specs.declared.wants.Carried.{Carried}
 use Rattle.ahci_controller.specs.declared.wants.Writes.{Writes}
 use Rattle.ahci_controller.proofs.rules.BitLemmas as bits
@@ -45,11 +45,12 @@ use Rattle.ahci_controller.proofs.rules.CallLemmas.{same_ruled}
 -- ---- what is to be written to the guest
 
 after_empty : (w : Writes) → (after_rest w).payload ≡ None
-after_empty w = by w.posted
+after_empty w = by w.posted (counted_slot w)
   where
-    by : (posted : Option Move) → (match_some posted (record { payload = None; posted = None; counted = None }) (λ m. record w { payload = None; posted = None })).payload ≡ None
-    by None = refl
-    by (Some m) = refl
+    by : (posted : Option Move) (slot : Option ℕ) → (match_some posted (match_some slot no_writes (after_count w)) (λ m. record w { payload = None; posted = None })).payload ≡ None
+    by None None = refl
+    by None (Some slot) = refl
+    by (Some m) slot = refl
 
 left_carried : (c : ControllerState) (w : Carried) (m : Move) → IsCarried c.wants c.commands w → IfSome (left w m) (IsCarried c.wants c.commands)
 left_carried c w m is = by (min m.len w.len == w.len)
@@ -72,7 +73,7 @@ written_ruled : (c : ControllerState) → IsRuled c → IsRuled (written c)
 written_ruled c was = parts.payload_is c.core c.wants c.fetches c.commands c.writes.payload was (writes_next c).payload (next_carried c c.writes.payload was.carried)
 
 -- nothing is left of it
-written_empty : (c : ControllerState) (s : Option Step) → match_some s (rest c.writes) (λ x. Some (next_step.Payload x.write)) ≡ None → (match_some s (after_rest c.writes) (λ x. record c.writes { payload = x.left })).payload ≡ None
+written_empty : (c : ControllerState) (s : Option Step) → match_some s (rest c) (λ x. Some (next_step.Payload x.write)) ≡ None → (match_some s (after_rest c.writes) (λ x. record c.writes { payload = x.left })).payload ≡ None
 written_empty c None none = after_empty c.writes
 written_empty c (Some x) none = cc
 
@@ -142,12 +143,34 @@ next_rules old new next ok was h = turns_as (next_write old) old new next refl o
 
 -- ---- Data to devices
 
+-- bytes of a command count
+pub offers_on : (w : Wrote) (f : Fetched) (k : Option Command) → IsOffered k (Some f) → IsOffered k (Some (moved_on w f))
+offers_on w f None h = tt
+offers_on w f (Some command) h = h
+
+is_below : (w : Wrote) (b : Bool) (o : Option Fetched) (f : Fetched) → (if b then o else None) ≡ Some f → (b ≡ true) × (o ≡ Some f)
+is_below w true o f h = (refl, h)
+is_below w false o f h = cc
+
+moved_as : (c : ControllerState) (w : Wrote) (o : Option Fetched) → command_of c w ≡ o → IsRuled c → AreParts c.core c.wants c.fetches (match_some o c.commands (λ command. set c.commands w.slot (Some (moved_on w command)))) c.writes.payload
+moved_as c w None is was = was
+moved_as c w (Some f) is was =
+    let parts_of = is_below w (nat_lt w.slot 32) (kept c w.slot) f is in
+    let below : w.slot < 32 = ltb-true w.slot 32 parts_of.0 in
+    parts.counts c.core c.wants c.fetches c.commands c.writes.payload was w.slot (moved_on w f) c.writes.payload below
+    (λ command h. offers_on w f command (subst (λ (o : Option Fetched). IsOffered command o) parts_of.1 h))
+    (parts.carried_on c.core c.wants c.fetches c.commands c.writes.payload was w.slot (moved_on w f) c.writes.payload below was.carried)
+
+moved_ruled : (c : ControllerState) (o : Option Wrote) → IsRuled c → IsRuled (moved c o)
+moved_ruled c None was = was
+moved_ruled c (Some w) was = moved_as c w (command_of c w) refl was
+
 unfed : (dev : ℕ) (c : ControllerState) → IsRuled c → IsRuled (without_feeding c dev)
 unfed dev c was = parts.feeding_is c.core c.wants c.fetches c.commands c.writes.payload was (without c.wants.feeding (2 ^ dev))
 
 sends_ruled : (due : Bool) (dev : ℕ) (c new : ControllerState) (fed : Fed) → IsTable new.core.slots → IsRuled c → SendsIf due c dev fed new → IsRuled new
 sends_ruled false dev c new fed ok was h = same_ruled c new h.0 was
-sends_ruled true dev c new fed ok was h = subst IsRuled (sym h.0.rest) (chosen_ruled (turn_to c dev) c new.core ok h.0.core was)
+sends_ruled true dev c new fed ok was h = subst IsRuled (sym h.rest) (chosen_ruled (turn_to c dev) (moved c (sent_to c dev)) new.core ok h.core (moved_ruled c (sent_to c dev) was))
 
 gathers_ruled : (out : Bool) (dev : ℕ) (old new : ControllerState) (fed : Fed) → IsTable new.core.slots → IsRuled old → GathersIf out old dev fed new → IsRuled new
 gathers_ruled false dev old new fed ok was h = same_ruled old new h.0 was

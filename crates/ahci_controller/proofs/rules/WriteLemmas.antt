@@ -35,7 +35,7 @@ use Rattle.ahci_controller.specs.Rules.{AreParts, IsOffered, IsRuled}
 use Rattle.ahci_controller.specs.States.{ControllerState}
 use Rattle.ahci_controller.specs.Wants.{dropped}
 use Rattle.ahci_controller.specs.Wide.{WritesAt, WritesFitting, WritesIf, WritesPart, WritesWide}
-use Rattle.ahci_controller.specs.Writing.{ClearsBusy, ClearsIf, Commands, Leaves, ResetsBy, ResetsLink, StartsPort, Tells, WritesGlobal, asked_state, clears_busy, engine, fresh_slots, link_effect, link_moved, told_refusal}
+use Rattle.ahci_controller.specs.Writing.{ClearsBusy, ClearsIf, Commands, Leaves, ResetsBy, ResetsLink, StartsPort, Tells, WritesGlobal, WritesRegister, asked_state, clears_busy, engine, fresh_slots, link_effect, link_moved, plain, told_refusal}
 use Rattle.ahci_controller.specs.declared.access.Width.{Width}
 use Rattle.ahci_controller.specs.declared.latch.Latch.{Latch}
 use Rattle.ahci_controller.specs.declared.own.OwnRegisters.{OwnRegisters}
@@ -198,9 +198,9 @@ register_rules ahci.PxFbs value c new result ok was h =
 
 -- ---- accesses
 
-at_register : (o : Option Register) (value : Register → ℕ) (c new : ControllerState) (result : Written) → IsTable new.core.slots → IsRuled c → (nothing : Type 0) → (nothing → new ≡ c) → MatchOption o nothing (λ register. Leaves register c (value register) result new) → IsRuled new
+at_register : (o : Option Register) (value : Register → ℕ) (c new : ControllerState) (result : Written) → IsTable new.core.slots → IsRuled c → (nothing : Type 0) → (nothing → new ≡ c) → MatchOption o nothing (λ register. WritesRegister register c (value register) result new) → IsRuled new
 at_register None value c new result ok was nothing same h = same_ruled c new (same h) was
-at_register (Some register) value c new result ok was nothing same h = register_rules register (value register) c new result ok was h
+at_register (Some register) value c new result ok was nothing same h = register_rules register (value register) c new (plain result) ok was h.leaves
 
 pub write32_rules : (offset value : ℕ) (c new : ControllerState) (result : Written) → IsTable new.core.slots → IsRuled c → WritesAt c offset value result new → IsRuled new
 write32_rules offset value c new result ok was h = at_register (register_at offset) (λ register. value) c new result ok was _ (λ n. n.0) h
