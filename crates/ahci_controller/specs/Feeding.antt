@@ -1,21 +1,23 @@
 -- The bytes of Data that go to devices: AHCI 1.3.1, 4.2.3.3 and 5.3 (a port gathers the bytes of a write from the places of its
 -- command's table), and 6.1 (Host Bus Fatal Error).
 use Rattle.std.specs.Prelude.{◌≡◌, ℕ, ◌^◌, Bool, true, false, bit_or, List, Option, Some, None, MatchOption}
-use Rattle.ahci_registers.specs.Lines.{is_due}
 use Rattle.ahci_registers.specs.Lines.LineEvent.{Caused}
 use Rattle.guest_fetch.specs.Places.{Delivers}
 use Rattle.guest_fetch.specs.Commands.{Fetched}
 use Rattle.guest_fetch.specs.declared.moves.Move.{Move}
 use Rattle.hba_fbs.specs.Bits.{without}
 use Rattle.hba_fbs.specs.Choosing.{Chooses, may_feed}
+use Rattle.hba_fbs.specs.declared.report.Wrote.{Wrote}
 use Rattle.hba_fbs.specs.declared.turn.Turn as turn_type
 use Rattle.hba_fbs.specs.declared.turn.Turn.TheVariants as turn
 use Rattle.ahci_controller.specs.Causes.{missing_causes}
-use Rattle.ahci_controller.specs.Latch.{latched}
+use Rattle.ahci_controller.specs.Latch.{latched, told}
+use Rattle.ahci_controller.specs.Moving.{moved, processed_by, sent_by}
 use Rattle.ahci_controller.specs.Next.{is_fed, turn_to}
 use Rattle.ahci_controller.specs.States.{ControllerState, kept}
 use Rattle.ahci_controller.specs.declared.feeding.Fed.{Fed}
 use Rattle.ahci_controller.specs.declared.feeding.Fed.TheVariants as answer
+use Rattle.ahci_controller.specs.declared.latch.Told.{Told}
 
 -- the bytes lie where the table says that was supplied
 abbrev pub PlacesBy : Option Fetched → (offset len : ℕ) → Option (List Move) → Type 0
@@ -35,14 +37,28 @@ StaysFed old result new = (new ≡ old) × (result ≡ answer.Stale)
 abbrev pub EndsFed : ControllerState → Fed → ControllerState → Type 0
 EndsFed old result new = (new ≡ old) × (result ≡ answer.Ended)
 
--- it goes
-pub record SendsData (old : ControllerState) (dev : ℕ) (new : ControllerState) : Type 0 where
+abbrev pub goes_with : Told → Fed
+goes_with t = answer.Goes t.message t.line
+
+abbrev pub missed_with : Told → Fed
+missed_with t = answer.Missed t.message t.line
+
+-- the bytes that go
+abbrev pub sent_to : ControllerState → ℕ → Option Wrote
+sent_to c dev = sent_by (turn_to c dev)
+
+-- It goes, and its bytes count. PxIS tells where they end an entry with I.
+pub record SendsData (old : ControllerState) (dev : ℕ) (result : Fed) (new : ControllerState) : Type 0 where
   pub core : Chooses (turn_to old dev) old.core new.core
-  pub rest : new ≡ record old { core = new.core }
+  pub goes : result ≡ goes_with (told old.latch (processed_by old (sent_to old dev)))
+  pub rest : new ≡ record (moved old (sent_to old dev)) {
+    core = new.core;
+    latch = latched old.latch (Caused (processed_by old (sent_to old dev)));
+  }
 
 abbrev pub SendsIf : (due : Bool) → ControllerState → ℕ → Fed → ControllerState → Type 0
 SendsIf false old dev result new = EndsFed old result new
-SendsIf true old dev result new = SendsData old dev new × (result ≡ answer.Goes)
+SendsIf true old dev result new = SendsData old dev result new
 
 abbrev pub GathersIf : (out : Bool) → ControllerState → ℕ → Fed → ControllerState → Type 0
 GathersIf false old dev result new = StaysFed old result new
@@ -53,7 +69,7 @@ Gathers old dev number result new = GathersIf (is_fed old.wants dev number) old 
 
 -- the slot is a bad one since, and the host is told
 pub record LosesSlot (old : ControllerState) (slot : ℕ) (result : Fed) (new : ControllerState) : Type 0 where
-  pub told : result ≡ answer.Missed (is_due old.latch.lines (Caused missing_causes))
+  pub missed : result ≡ missed_with (told old.latch missing_causes)
   pub rest : new ≡ record old {
     own = record old.own { bad = bit_or old.own.bad (2 ^ slot) };
     latch = latched old.latch (Caused missing_causes);

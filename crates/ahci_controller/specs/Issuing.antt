@@ -1,7 +1,6 @@
 -- A command that was read is issued, or not taken: AHCI 1.3.1, sections 3.3.14 (PxCI), 4.2.2 (PMP) and 6.1 (errors).
 use Rattle.std.specs.Prelude.{◌≡◌, ℕ, ◌^◌, if◌then◌else◌, bit_or, List, Option, Some, MatchOption, slice_set}
 use Rattle.std.specs.Option.{option_map}
-use Rattle.ahci_registers.specs.Lines.{is_due}
 use Rattle.ahci_registers.specs.Lines.LineEvent.{Caused}
 use Rattle.guest_fetch.specs.Commands.{Fetched}
 use Rattle.guest_fetch.specs.declared.refusal.Refusal.{Refusal}
@@ -11,13 +10,14 @@ use Rattle.hba_fbs.specs.Placing.{Places, issue_error}
 use Rattle.hba_fbs.specs.Views.{Port}
 use Rattle.slots.specs.declared.work.Work.{Work}
 use Rattle.ahci_controller.specs.Causes.{bad_causes, missing_causes}
-use Rattle.ahci_controller.specs.Latch.{latched}
+use Rattle.ahci_controller.specs.Latch.{latched, told}
 use Rattle.ahci_controller.specs.Offers.{is_work, offer_in, offers}
 use Rattle.ahci_controller.specs.States.{ControllerState}
 use Rattle.ahci_controller.specs.declared.issuing.NotTaken.{NotTaken}
 use Rattle.ahci_controller.specs.declared.issuing.NotTaken.TheVariants as why
 use Rattle.ahci_controller.specs.declared.issuing.Supply.{Supply}
 use Rattle.ahci_controller.specs.declared.issuing.Supply.TheVariants as answer
+use Rattle.ahci_controller.specs.declared.latch.Told.{Told}
 use Rattle.ahci_controller.specs.declared.offer.Offered.{Offered}
 
 -- the device of a command: the one that its header names, as its FIS does
@@ -47,10 +47,13 @@ causes_of (why.Read r) = causes_of_refusal r
 causes_of (why.Bytes found) = bad_causes
 causes_of (why.Issue e) = bad_causes
 
+abbrev pub not_taken : NotTaken → Told → Supply
+not_taken reason t = answer.NotTaken reason t.message t.line
+
 -- The slot is a bad one since, and the host is told.
 pub record RefusesSlot (old : ControllerState) (slot : ℕ) (reason : NotTaken) (result : Supply) (new : ControllerState)
     : Type 0 where
-  pub told : result ≡ answer.NotTaken reason (is_due old.latch.lines (Caused (causes_of reason)))
+  pub told : result ≡ not_taken reason (told old.latch (causes_of reason))
   pub rest : new ≡ record old {
     wants = record old.wants { pending = without old.wants.pending (2 ^ slot) };
     own = record old.own { bad = bit_or old.own.bad (2 ^ slot) };

@@ -1,12 +1,15 @@
 -- Interrupts: AHCI 1.3.1, sections 3.1.3 (IS, whose bits ones clear) and 10.7.1 (IS.IPS is set while PxIS and PxIE have a bit
 -- in common, and the line is raised while GHC.IE is 1 and a bit of IS is).
-use Rattle.std.specs.Prelude.{ℕ, ◌&&◌, ◌||◌, Bool, false, not}
+use Rattle.std.specs.Prelude.{ℕ, ◌&&◌, ◌||◌, Bool, true, false, not}
 use Rattle.std.specs.Int.{from_bool}
 use Rattle.ahci_registers.specs.Bits.{has_bit}
-use Rattle.ahci_registers.specs.Lines.{LineEvent, after, opening_lines, pends}
+use Rattle.ahci_registers.specs.Lines.{LineEvent, after, is_due, opening_lines, pends}
 use Rattle.ahci_registers.specs.Lines.LineEvent.{Caused, WrotePortStatus, WrotePortMask, WroteStatus, WroteGlobal, WroteError}
 use Rattle.ahci_registers.specs.declared.lines.Lines.{Lines}
+use Rattle.ahci_controller.specs.declared.latch.Edge.{Edge}
+use Rattle.ahci_controller.specs.declared.latch.Edge.TheVariants.{Steady, Rising, Falling}
 use Rattle.ahci_controller.specs.declared.latch.Latch.{Latch}
+use Rattle.ahci_controller.specs.declared.latch.Told.{Told}
 
 abbrev pub opening_latch : Latch
 opening_latch = record { lines = opening_lines; pending = false }
@@ -33,3 +36,17 @@ is_shown l = from_bool l.pending
 
 abbrev pub raised : Latch → Bool
 raised l = l.pending && l.lines.enabled
+
+-- what came of the line
+abbrev pub edge_between : (was is : Bool) → Edge
+edge_between false true = Rising
+edge_between false false = Steady
+edge_between true true = Steady
+edge_between true false = Falling
+
+abbrev pub edge : (old new : Latch) → Edge
+edge old new = edge_between (raised old) (raised new)
+
+-- what causes tell
+abbrev pub told : Latch → (causes : ℕ) → Told
+told l causes = record { message = is_due l.lines (Caused causes); line = edge l (latched l (Caused causes)) }

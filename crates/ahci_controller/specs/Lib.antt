@@ -13,6 +13,7 @@ pub mod Writing
 pub mod Wide
 pub mod Issuing
 pub mod Fetching
+pub mod Moving
 pub mod Taking
 pub mod Next
 pub mod Feeding

@@ -17,6 +17,7 @@ use Rattle.hba_fbs.specs.declared.turn.Turn as turn_type
 use Rattle.hba_fbs.specs.declared.turn.Turn.TheVariants as turn
 use Rattle.ahci_controller.specs.Circle.{device_after, slot_after}
 use Rattle.ahci_controller.specs.Fetching.{asked, next_number, want_at}
+use Rattle.ahci_controller.specs.Moving.{count_of}
 use Rattle.ahci_controller.specs.Outbox.{no_writes}
 use Rattle.ahci_controller.specs.Own.{is_failed}
 use Rattle.ahci_controller.specs.States.{ControllerState, kept}
@@ -57,16 +58,27 @@ step_of c w = option_map (step_with w) (run_of c w)
 abbrev pub payload_step : ControllerState → Option Step
 payload_step c = match_some c.writes.payload None (step_of c)
 
+-- PRDBC of a command, as it is by now: the lowest slot comes first
+abbrev pub counted_slot : Writes → Option ℕ
+counted_slot w = slot_after w.counted 31
+
+abbrev pub count_next : ControllerState → ℕ → Option Next
+count_next c slot = option_map (λ command. next.Counted (count_of command)) (kept c slot)
+
 -- the FIS, and then PRDBC
-abbrev pub rest : Writes → Option Next
-rest w = match_some w.posted (option_map next.Counted w.counted) (λ m. Some (next.Posted m))
+abbrev pub rest : ControllerState → Option Next
+rest c = match_some c.writes.posted (match_some (counted_slot c.writes) None (count_next c)) (λ m. Some (next.Posted m))
+
+abbrev pub after_count : Writes → ℕ → Writes
+after_count w slot = record { payload = None; posted = None; counted = without w.counted (2 ^ slot) }
 
 abbrev pub after_rest : Writes → Writes
-after_rest w = match_some w.posted no_writes (λ m. record w { payload = None; posted = None })
+after_rest w = match_some w.posted (match_some (counted_slot w) no_writes (after_count w))
+    (λ m. record w { payload = None; posted = None })
 
 -- bytes of the payload first, as far as they have places
 abbrev pub next_write : ControllerState → Option Next
-next_write c = match_some (payload_step c) (rest c.writes) (λ s. Some (next.Payload s.write))
+next_write c = match_some (payload_step c) (rest c) (λ s. Some (next.Payload s.write))
 
 abbrev pub writes_next : ControllerState → Writes
 writes_next c = match_some (payload_step c) (after_rest c.writes) (λ s. record c.writes { payload = s.left })

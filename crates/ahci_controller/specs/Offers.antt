@@ -36,7 +36,7 @@ moves_some Control = false
 
 -- whole dwords, as many as a slot has room for, and some exactly if the kind moves data
 abbrev pub is_work : Work → Bool
-is_work work = work.len % 4 == 0 && nat_le work.len 0x20000
+is_work work = work.len % 4 == 0 && nat_le work.len 0x2000000
     && (if moves_some work.kind then nat_lt 0 work.len else work.len == 0)
 
 abbrev pub work_if : Work → Option Work

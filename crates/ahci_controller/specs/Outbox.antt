@@ -18,4 +18,4 @@ abbrev pub without_wants : Wants → Wants
 without_wants w = record w { pending = 0; out = 0; feeding = 0 }
 
 abbrev pub no_writes : Writes
-no_writes = record { payload = None; posted = None; counted = None }
+no_writes = record { payload = None; posted = None; counted = 0 }

@@ -28,6 +28,13 @@ opening_own = record {
 abbrev pub reset_own : OwnRegisters → OwnRegisters
 reset_own own = record opening_own { list = own.list; area = own.area }
 
+-- with another address
+abbrev pub own_list : OwnRegisters → (lower upper : ℕ) → OwnRegisters
+own_list own lower upper = record own { list = record { lower = lower; upper = upper } }
+
+abbrev pub own_area : OwnRegisters → (lower upper : ℕ) → OwnRegisters
+own_area own lower upper = record own { area = record { lower = lower; upper = upper } }
+
 -- a command that cannot be served stopped the port
 abbrev pub is_failed : OwnRegisters → Bool
 is_failed own = not (own.bad == 0)

@@ -1,13 +1,10 @@
 -- A FIS of a device is taken: AHCI 1.3.1, sections 3.3.7 (FRE), 3.3.12 (PxSERR), 4.2.1 (Received FIS Structure), 4.2.2 (PRDBC),
 -- 5.3.13 and 6.1; of the rows of the received area section 9.3.
-use Rattle.std.specs.Prelude.{◌≡◌, ℕ, ◌+◌, ◌-◌, ◌^◌, ◌&&◌, ◌||◌, nat_lt, Bool, true, false, not, if◌then◌else◌}
-use Rattle.std.specs.Prelude.{List, length, Option, Some, None, slice_set, is_some, bit_or, unwrap_or}
+use Rattle.std.specs.Prelude.{◌≡◌, ℕ, ◌+◌, ◌-◌, ◌^◌, ◌==◌, ◌&&◌, ◌||◌, nat_lt, Bool, true, false, not, if◌then◌else◌}
+use Rattle.std.specs.Prelude.{List, length, Option, Some, None, is_some, bit_or, unwrap_or}
 use Rattle.std.specs.Option.{option_map}
 use Rattle.fis_view.specs.Seen.{seen}
 use Rattle.guest_fetch.specs.Places.{reach_of}
-use Rattle.guest_fetch.specs.Runs.{counted}
-use Rattle.guest_fetch.specs.declared.command.ByteCount.{ByteCount}
-use Rattle.guest_fetch.specs.Commands.{Fetched}
 use Rattle.guest_fetch.specs.declared.moves.Move.{Move}
 use Rattle.slots.specs.Data.{receiving_slot}
 use Rattle.slots.specs.Slots.{context_of, match_some, slots_of}
@@ -25,20 +22,21 @@ use Rattle.hba_fbs.specs.Bits.{without}
 use Rattle.hba_fbs.specs.Deciding.{Decides, Passes}
 use Rattle.hba_fbs.specs.Greeting.{Greets, greeted_in}
 use Rattle.hba_fbs.specs.Reading.{value_of}
-use Rattle.hba_fbs.specs.Reasons.{concerned}
+use Rattle.hba_fbs.specs.Reasons.{concerned, ignored_for}
 use Rattle.hba_fbs.specs.Taking.{admitted, ignores, port_of}
 use Rattle.hba_fbs.specs.Views.{Port, view_of}
+use Rattle.hba_fbs.specs.declared.reasons.Ignored.{Ignored}
 use Rattle.hba_fbs.specs.declared.register.Register.TheVariants as on_port
 use Rattle.hba_fbs.specs.declared.report.TakeReport.{TakeReport}
 use Rattle.hba_fbs.specs.declared.report.Wrote.{Wrote}
 use Rattle.hba_fbs.specs.declared.room.Room.{Room}
 use Rattle.hba_fbs.specs.declared.room.Room.TheVariants.{Bytes, Whole}
 use Rattle.ahci_controller.specs.Causes.{causes_since}
-use Rattle.ahci_controller.specs.Latch.{latched}
+use Rattle.ahci_controller.specs.Latch.{edge, latched}
+use Rattle.ahci_controller.specs.Moving.{commands_after, counted_after, processed_by}
 use Rattle.ahci_controller.specs.Own.{area_of, is_failed}
 use Rattle.ahci_controller.specs.States.{ControllerState, kept}
 use Rattle.ahci_controller.specs.declared.own.OwnRegisters.{OwnRegisters}
-use Rattle.ahci_controller.specs.declared.taking.Counting.{Counting}
 use Rattle.ahci_controller.specs.declared.taking.Hindrance.{Hindrance}
 use Rattle.ahci_controller.specs.declared.taking.Hindrance.TheVariants as why
 use Rattle.ahci_controller.specs.declared.taking.Took.{Took}
@@ -53,7 +51,7 @@ is_up Comreset = false
 is_up Disable = false
 
 abbrev pub is_any : Writes → Bool
-is_any w = is_some w.payload || is_some w.posted || is_some w.counted
+is_any w = is_some w.payload || is_some w.posted || not (w.counted == 0)
 
 -- the first of these that applies
 abbrev pub hindrance : ControllerState → Option Hindrance
@@ -91,36 +89,12 @@ carried w = record { slot = w.slot; offset = w.offset; from = 4; len = w.len }
 abbrev pub carried_by : Option Wrote → Option Carried
 carried_by wrote = option_map carried wrote
 
--- ---- PRDBC: how many bytes of a command were moved
-
-abbrev pub moved_with : Fetched → Wrote → ℕ
-moved_with c w = counted c.table c.moved w.offset w.len
-
-abbrev pub moved_on : Wrote → Fetched → Fetched
-moved_on w c = record c { moved = moved_with c w }
-
--- DW1 of its header
-abbrev pub count_of : Wrote → Fetched → ByteCount
-count_of w c = record { at = c.at + 4; value = moved_with c w }
-
-abbrev pub counting : Option Fetched → Wrote → Counting
-counting None w = record { command = None; count = None }
-counting (Some c) w = record { command = Some (moved_on w c); count = Some (count_of w c) }
-
-abbrev pub count_after : ControllerState → Option Wrote → Option ByteCount
-count_after c None = None
-count_after c (Some w) = if nat_lt w.slot 32 then (counting (kept c w.slot) w).count else None
-
-abbrev pub commands_after : ControllerState → Option Wrote → List (Option Fetched)
-commands_after c None = c.commands
-commands_after c (Some w) = if nat_lt w.slot 32
-    then slice_set (slice_set c.commands w.slot None) w.slot (counting (kept c w.slot) w).command else c.commands
-
-abbrev pub writes_of : ControllerState → (switching : Bool) → List ℕ → TakeReport → Option ByteCount → Writes
-writes_of c switching frame report count = record {
+-- and the PRDBC of these slots
+abbrev pub writes_of : ControllerState → (switching : Bool) → List ℕ → TakeReport → (slots : ℕ) → Writes
+writes_of c switching frame report slots = record {
   payload = carried_by report.wrote;
   posted = posting_at (area_of c.own) (row_in switching (port_of frame)) report.posted (length frame);
-  counted = count;
+  counted = slots;
 }
 
 -- ---- what it tells
@@ -149,15 +123,19 @@ blamed_state c dev report = record c {
   own = blamed c.own report (concerned (slots_of dev c.core.slots));
 }
 
--- A report is settled: the bits that the core set become causes, what is to be written to the guest is at hand, and what was
--- wanted for Data to the device is wanted anew, if it still is.
+-- what becomes a cause: the bits that the core set, and DPS of the bytes that came
+abbrev pub told_by : ControllerState → (was : ℕ) → Port → TakeReport → ℕ
+told_by c was port report = bit_or (causes_since was port) (processed_by c report.wrote)
+
+-- A report is settled: its causes come, what is to be written to the guest is at hand, and what was wanted for Data to the
+-- device is wanted anew, if it still is.
 abbrev pub settled : ControllerState → (was : ℕ) → (switching : Bool) → List ℕ → TakeReport → ControllerState
 settled c was switching frame report = record c {
-  latch = latched c.latch (Caused (causes_since was c.core));
+  latch = latched c.latch (Caused (told_by c was c.core report));
   own = blamed c.own report (concerned (slots_of (port_of frame) c.core.slots));
   wants = record c.wants { feeding = without c.wants.feeding (2 ^ port_of frame) };
   commands = commands_after c report.wrote;
-  writes = writes_of c switching frame report (count_after c report.wrote);
+  writes = writes_of c switching frame report (counted_after c report.wrote);
 }
 
 -- ---- the call
@@ -182,10 +160,17 @@ CoreHearsIf false old frame report new = Greets old.core (port_of frame)
 abbrev pub CoreHears : ControllerState → List ℕ → TakeReport → Port → Type 0
 CoreHears old frame report new = CoreHearsIf old.core.registers.started old frame report new
 
+-- why the core ignores a frame, if it does
+abbrev pub why_ignored : Port → List ℕ → (ignored : Bool) → Option Ignored
+why_ignored port frame true = ignored_for (port_of frame) port (view_of (port_of frame) port) (seen frame)
+why_ignored port frame false = None
+
 -- The core hears the frame, and its report is settled.
 pub record Hears (old : ControllerState) (frame : List ℕ) (result : Took) (new : ControllerState) : Type 0 where
   pub core : CoreHears old frame result.report new.core
+  pub why : result.ignored ≡ why_ignored old.core frame result.report.ignored
   pub told : result.message
-      ≡ is_due old.latch.lines (Caused (causes_since (value_of on_port.Is old.core) new.core))
+      ≡ is_due old.latch.lines (Caused (told_by old (value_of on_port.Is old.core) new.core result.report))
+  pub line : result.line ≡ edge old.latch new.latch
   pub rest : new ≡ settled (record old { core = new.core }) (value_of on_port.Is old.core) old.core.registers.switching
       frame result.report

@@ -4,7 +4,7 @@ use Rattle.ahci_registers.specs.Offsets.{register_at}
 use Rattle.ahci_controller.specs.Access.{fits, high_of, low_of, merged, ones_of, pair_of, part_of, spread_of}
 use Rattle.ahci_controller.specs.Reading.{read_at, shown}
 use Rattle.ahci_controller.specs.States.{ControllerState}
-use Rattle.ahci_controller.specs.Writing.{Leaves, quietly}
+use Rattle.ahci_controller.specs.Writing.{WritesRegister, quietly}
 use Rattle.ahci_controller.specs.declared.access.Width.{Width}
 use Rattle.ahci_controller.specs.declared.wide.WideWritten.{WideWritten}
 use Rattle.ahci_controller.specs.declared.writing.Written.{Written}
@@ -24,13 +24,13 @@ WritesNothing old result new = (new ≡ old) × (result ≡ quietly false None)
 -- where no register begins, nothing happens
 abbrev pub WritesAt : ControllerState → (offset value : ℕ) → Written → ControllerState → Type 0
 WritesAt old offset value result new = MatchOption (register_at offset) (WritesNothing old result new)
-    (λ register. Leaves register old value result new)
+    (λ register. WritesRegister register old value result new)
 
 -- some bits of a dword
 abbrev pub WritesIf : (empty : Bool) → ControllerState → (offset value mask : ℕ) → Written → ControllerState → Type 0
 WritesIf true old offset value mask result new = WritesNothing old result new
 WritesIf false old offset value mask result new = MatchOption (register_at offset) (WritesNothing old result new)
-    (λ register. Leaves register old (merged register (shown register old) value mask) result new)
+    (λ register. WritesRegister register old (merged register (shown register old) value mask) result new)
 
 abbrev pub WritesPart : ControllerState → (offset value mask : ℕ) → Written → ControllerState → Type 0
 WritesPart old offset value mask result new = WritesIf (mask == 0) old offset value mask result new

@@ -31,19 +31,21 @@ use Rattle.hba_fbs.specs.declared.greeting.Line.TheVariants as on_line
 use Rattle.hba_fbs.specs.declared.register.Register as port_register
 use Rattle.hba_fbs.specs.declared.register.Register.TheVariants as on_port
 use Rattle.ahci_controller.specs.Causes.{next_causes}
-use Rattle.ahci_controller.specs.Latch.{latched}
+use Rattle.ahci_controller.specs.Latch.{edge, latched}
 use Rattle.ahci_controller.specs.Offers.{offer_in, offers_nothing}
 use Rattle.ahci_controller.specs.Own as own_words
-use Rattle.ahci_controller.specs.Own.{commanded, engine_of, falls, reset_own}
+use Rattle.ahci_controller.specs.Own.{commanded, engine_of, falls, own_area, own_list, reset_own}
 use Rattle.ahci_controller.specs.States.{ControllerState}
 use Rattle.ahci_controller.specs.Wants.{dropped}
+use Rattle.ahci_controller.specs.declared.latch.Edge.TheVariants.{Steady}
 use Rattle.ahci_controller.specs.declared.latch.Latch.{Latch}
 use Rattle.ahci_controller.specs.declared.own.OwnRegisters.{OwnRegisters}
 use Rattle.ahci_controller.specs.declared.writing.Written.{Written}
 
 -- nothing is asked for beside the registers, but that a message may be due
 abbrev pub quietly : Bool → Option WriteError → Written
-quietly message ignored = record { effect = Nothing; message = message; ignored = ignored }
+quietly message ignored =
+    record { effect = Nothing; message = message; ignored = ignored; ended = 0; line = Steady }
 
 -- ---- registers of the core
 
@@ -76,10 +78,8 @@ WritesGlobal true old value new = ResetsAll old value new
 WritesGlobal false old value new = new ≡ record old { latch = latched old.latch (WroteGlobal value) }
 
 abbrev pub global_written : ControllerState → ℕ → Written
-global_written c value = record {
+global_written c value = record (quietly (is_due c.latch.lines (WroteGlobal value)) None) {
   effect = (if line_bits.has_bit value 0 then LinkReset else Nothing);
-  message = is_due c.latch.lines (WroteGlobal value);
-  ignored = None;
 }
 
 -- What hangs at the port: nothing while the interface is disabled, and else a device that owes its signature.
@@ -178,17 +178,11 @@ asked_state c value = if c.core.registers.started
 abbrev pub Rebases : ControllerState → OwnRegisters → Written → ControllerState → Type 0
 Rebases old own result new = (new ≡ record old { own = own }) × (result ≡ quietly false None)
 
-abbrev pub own_list : OwnRegisters → (lower upper : ℕ) → OwnRegisters
-own_list own lower upper = record own { list = record { lower = lower; upper = upper } }
-
-abbrev pub own_area : OwnRegisters → (lower upper : ℕ) → OwnRegisters
-own_area own lower upper = record own { area = record { lower = lower; upper = upper } }
-
 -- with this answer, and this message
 abbrev pub Quiet : Written → Bool → Type 0
 Quiet result message = result ≡ quietly message result.ignored
 
--- what a write of a register leaves and asks for
+-- what a write of a register leaves and asks for; what it did to the line and which commands it ended stand below
 abbrev pub Leaves : Register → ControllerState → ℕ → Written → ControllerState → Type 0
 Leaves Ghc old value result new =
     WritesGlobal (line_bits.has_bit value 0) old value new × (result ≡ global_written old value)
@@ -207,10 +201,8 @@ Leaves PxIe old value result new =
     × (result ≡ quietly (is_due old.latch.lines (WrotePortMask value)) None)
 Leaves PxCmd old value result new = Commands old value result.ignored new × Quiet result false
 Leaves PxSctl old value result new = ResetsBy (link_effect old value) (link_moved old value) new
-    × (result ≡ record {
+    × (result ≡ record (quietly (is_due old.latch.lines (Caused (link_causes old value))) None) {
       effect = link_effect old value;
-      message = is_due old.latch.lines (Caused (link_causes old value));
-      ignored = None;
     })
 Leaves PxSerr old value result new =
     Tells old on_port.Serr value (latched old.latch (WroteError value))
@@ -227,3 +219,32 @@ Leaves PxFbs old value result new =
     (latched old.latch (Caused (next_causes value new.core))) old.own result.ignored new
     × Quiet result (is_due old.latch.lines (Caused (next_causes value new.core)))
 Leaves register old value result new = (new ≡ old) × (result ≡ quietly false None)
+
+-- ---- what a write ends
+
+-- the slots whose commands are issued or being read
+abbrev pub under_way : ControllerState → ℕ
+under_way c = bit_or (mask_of (is_busy c.core.slots)) c.wants.pending
+
+-- a reset, ST, a COMRESET and DEC end commands, and no other write does
+abbrev pub may_end : Register → Bool
+may_end Ghc = true
+may_end PxCmd = true
+may_end PxSctl = true
+may_end PxFbs = true
+may_end register = false
+
+abbrev pub at_stake : Register → ControllerState → ℕ
+at_stake register c = if may_end register then under_way c else 0
+
+-- ---- the whole answer
+
+-- what else is answered
+abbrev pub plain : Written → Written
+plain result = record result { ended = 0; line = Steady }
+
+pub record WritesRegister (register : Register) (old : ControllerState) (value : ℕ) (result : Written)
+    (new : ControllerState) : Type 0 where
+  pub leaves : Leaves register old value (plain result) new
+  pub ended : result.ended ≡ without (at_stake register old) (at_stake register new)
+  pub line : result.line ≡ edge old.latch new.latch

@@ -95,7 +95,7 @@ impl Controller {
     pub(crate) fn drop_wants(&mut self)
         ensures { self.new ≡ dropped self.old }
     {
-        self.wants = self.wants.dropped();
+        self.wants.dropped();
         self.fetches = no_fetches();
         self.writes = Writes::none();
     }

@@ -8,6 +8,8 @@ use crate::bits::has_bit;
 use crate::causes::interrupts;
 use crate::controller::Controller;
 use crate::issuing::slot_bit;
+use crate::latch::Edge;
+use crate::moving::sent;
 use guest_fetch::Moves;
 use hba_fbs::Turn;
 
@@ -19,11 +21,18 @@ pub enum Fed {
     /// They are wanted no more: what they were for has ended.
     Ended,
     /// The Data FIS goes to the device.
-    Goes,
+    Goes {
+        /// A message is due, where messages stand for the line.
+        message: bool,
+        /// What it did to the line.
+        line: Edge,
+    },
     /// The command cannot be served. Its slot is a bad one: PxIS tells, and nothing goes on until ST falls.
     Missed {
         /// A message is due, where messages stand for the line.
         message: bool,
+        /// What it did to the line.
+        line: Edge,
     },
 }
 
@@ -53,20 +62,29 @@ impl Controller {
         requires { dev < 16 }
         ensures { self.new ≡ without_feeding self.old dev }
     {
-        self.wants = self.wants.heard(dev);
+        self.wants.heard(dev);
     }
 
-    // Data goes to a device.
-    fn send_data(&mut self, dev: u8)
+    // Data goes to a device, and its bytes count.
+    fn send_data(&mut self, dev: u8) -> Fed
         requires dev { dev < 16 }
         requires due { may_feed self.old.core dev ≡ true }
-        ensures { SendsData self.old dev self.new }
+        ensures { SendsData self.old dev result self.new }
     {
         let turn = self.core.turn_of_device(dev);
+        let wrote = sent(&turn);
         self.core.goes(turn);
+        let processed = self.processed(wrote);
+        self.moved(wrote);
+        let told = self.latch.told(interrupts(processed));
+        Fed::Goes {
+            message: told.message,
+            line: told.line,
+        }
     }
 
-    /// The bytes that are wanted for Data to a device are in the frame. Where they are still due, it goes.
+    /// The bytes that are wanted for Data to a device are in the frame. Where they are still due, it goes, and PRDBC of its
+    /// command is to be written.
     pub fn gathered(&mut self, dev: u8, number: u64) -> Fed
         ensures { Gathers self.old dev number result self.new }
     {
@@ -77,8 +95,7 @@ impl Controller {
         if !self.is_due(dev) {
             return Fed::Ended;
         }
-        self.send_data(dev);
-        Fed::Goes
+        self.send_data(dev)
     }
 
     // The command of a slot cannot be served.
@@ -87,8 +104,10 @@ impl Controller {
         ensures { LosesSlot self.old slot result self.new }
     {
         self.own.bad |= slot_bit(slot);
+        let told = self.latch.told(interrupts(0x2800_0000));
         Fed::Missed {
-            message: self.latch.caused(interrupts(0x2800_0000)),
+            message: told.message,
+            line: told.line,
         }
     }
 

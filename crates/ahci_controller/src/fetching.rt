@@ -24,19 +24,14 @@ pub struct Ask {
 
 impl Wants {
     // With one more, for a slot.
-    fn asked(self, slot: u8) -> Wants
+    fn asked(&mut self, slot: u8)
         requires { slot < 32 }
-        ensures { result ≡ asked_of self slot }
+        ensures { self.new ≡ asked_of self.old slot }
     {
         let number = self.count.saturating_add(1);
-        let mut slots = self.slots;
-        slots[slot as usize] = number;
-        Wants {
-            out: self.out | slot_bit(slot),
-            count: number,
-            slots,
-            ..self
-        }
+        self.out |= slot_bit(slot);
+        self.count = number;
+        self.slots[slot as usize] = number;
     }
 
     // Whether this one is out.
@@ -98,7 +93,7 @@ impl Controller {
         ensures { Asks self.old slot result self.new }
     {
         let want = self.want(slot);
-        self.wants = self.wants.asked(slot);
+        self.wants.asked(slot);
         Ask {
             slot,
             number: self.wants.count,

@@ -9,6 +9,7 @@ ghost use Rattle.ahci_controller.specs.Offers.{CanBeOffered, moves_some as moves
 use crate::bits::without;
 use crate::causes::interrupts;
 use crate::controller::Controller;
+use crate::latch::Edge;
 use crate::offer::Offered;
 use ahci_registers::PortInterrupts;
 use guest_fetch::{Command, Refusal};
@@ -47,6 +48,8 @@ pub enum Supply {
         why: NotTaken,
         /// A message is due, where messages stand for the line.
         message: bool,
+        /// What it did to the line.
+        line: Edge,
     },
     /// Memory for the table is refused. The same bytes are wanted again.
     OutOfMemory,
@@ -94,7 +97,7 @@ fn served(work: Work) -> Option<Work>
     } else {
         work.len == 0
     };
-    if work.len % 4 == 0 && work.len <= 0x2_0000 && some {
+    if work.len % 4 == 0 && work.len <= 0x200_0000 && some {
         Some(work)
     } else {
         None
@@ -136,8 +139,12 @@ impl Controller {
     {
         self.wants.pending = without(self.wants.pending, slot_bit(slot));
         self.own.bad |= slot_bit(slot);
-        let message = self.latch.caused(causes_of(why));
-        Supply::NotTaken { why, message }
+        let told = self.latch.told(causes_of(why));
+        Supply::NotTaken {
+            why,
+            message: told.message,
+            line: told.line,
+        }
     }
 
     // It is kept as it was supplied.

@@ -4,7 +4,7 @@ ghost use Rattle.std.specs.Prelude.{◌≡◌, ◌||◌};
 ghost use Rattle.ahci_registers.specs.Bits.{has_bit as line_bit, interrupt_bits};
 ghost use Rattle.ahci_registers.specs.Lines.{LineEvent, is_due, pends};
 ghost use Rattle.ahci_registers.specs.Link.{action_of, causes_of, effect_of, written as written_of};
-ghost use Rattle.ahci_controller.specs.Latch.{is_shown, latched, opening_latch, over as over_of, raised as raised_by};
+ghost use Rattle.ahci_controller.specs.Latch.{edge_between, is_shown, latched, opening_latch, over as over_of, raised as raised_by, told as told_of};
 
 use crate::bits::has_bit;
 use ahci_registers::{GlobalWrite, Lines, LinkControl, LinkWrite, PortInterrupts};
@@ -16,6 +16,39 @@ pub struct Latch {
     pub lines: Lines,
     /// IS.IPS.
     pub pending: bool,
+}
+
+/// What a call did to the interrupt line.
+#[derive(Clone, Copy, Debug, PartialEq, Eq)]
+pub enum Edge {
+    /// Nothing.
+    Steady,
+    /// It rose.
+    Rising,
+    /// It fell.
+    Falling,
+}
+
+/// What causes tell.
+#[derive(Clone, Copy, Debug, PartialEq, Eq)]
+pub(crate) struct Told {
+    /// A message is due, where messages stand for the line.
+    pub(crate) message: bool,
+    /// What they did to the line.
+    pub(crate) line: Edge,
+}
+
+impl Edge {
+    /// From this level to that one.
+    pub(crate) fn between(was: bool, is: bool) -> Edge
+        ensures { result ≡ edge_between was is }
+    {
+        match (was, is) {
+            (false, true) => Edge::Rising,
+            (true, false) => Edge::Falling,
+            _ => Edge::Steady,
+        }
+    }
 }
 
 impl Latch {
@@ -49,6 +82,19 @@ impl Latch {
         let due = lines.caused(causes);
         *self = Latch::over(lines, self.pending);
         due
+    }
+
+    /// Causes come. Answers what they tell.
+    pub(crate) fn told(&mut self, causes: PortInterrupts) -> Told
+        ensures after { self.new ≡ latched self.old (LineEvent.Caused (interrupt_bits causes)) }
+        ensures tells { result ≡ told_of self.old (interrupt_bits causes) }
+    {
+        let was = self.line();
+        let message = self.caused(causes);
+        Told {
+            message,
+            line: Edge::between(was, self.line()),
+        }
     }
 
     /// A write of PxIS.

@@ -2,12 +2,14 @@
 
 ghost use Rattle.std.specs.Prelude.{◌≡◌, ◌<◌, true, slice_get, IfSome};
 ghost use Rattle.hba_fbs.specs.Choosing.{may_feed as may_feed_device, may_order as may_order_slot};
-ghost use Rattle.ahci_controller.specs.Next.{FeedsTo, Frames, OrdersSlot, Reads, Turns, after_rest as after_rest_of, fed as fed_of, is_fed as is_fed_of, is_halted as is_halted_of, left as left_of, next_device as next_device_of, next_read as next_read_of, next_slot as next_slot_of, next_write as next_write_of, payload_step, rest as rest_of, run_of, writes_next};
+ghost use Rattle.ahci_controller.specs.Next.{FeedsTo, Frames, OrdersSlot, Reads, Turns, after_count as after_count_of, after_rest as after_rest_of, counted_slot as counted_slot_of, fed as fed_of, is_fed as is_fed_of, is_halted as is_halted_of, left as left_of, next_device as next_device_of, next_read as next_read_of, next_slot as next_slot_of, next_write as next_write_of, payload_step, rest as rest_of, run_of, writes_next};
 
 use crate::bits::{has_bit, without};
 use crate::circle::{Circle, device_after, slot_after};
 use crate::controller::Controller;
 use crate::fetching::Ask;
+use crate::issuing::slot_bit;
+use crate::moving::count;
 use crate::wants::{Carried, Wants, Writes};
 use ahci_registers::LinkAction;
 use guest_fetch::{ByteCount, Move, Moves};
@@ -84,20 +86,27 @@ fn first(moves: Moves<'_>) -> Option<Move>
 }
 
 impl Writes {
-    // What is left but for a payload, and goes first.
-    fn rest(self) -> Option<Next>
-        ensures { result ≡ rest_of self }
+    // The slot whose PRDBC is to be written next.
+    fn counted_slot(&self) -> Option<u8>
+        ensures slot { result ≡ counted_slot_of self.now }
+        ensures low { IfSome result (λ slot. slot < 32) }
     {
-        if let Some(posted) = self.posted {
-            return Some(Next::Posted(posted));
-        }
-        match self.counted {
-            Some(count) => Some(Next::Counted(count)),
-            None => None,
+        slot_after(self.counted, 31)
+    }
+
+    // What is left once the slot's is.
+    fn after_count(self, slot: u8) -> Writes
+        requires { slot < 32 }
+        ensures { result ≡ after_count_of self slot }
+    {
+        Writes {
+            payload: None,
+            posted: None,
+            counted: without(self.counted, slot_bit(slot)),
         }
     }
 
-    // What is left after it.
+    // What is left once what comes next after the payload is.
     fn after_rest(self) -> Writes
         ensures { result ≡ after_rest_of self }
     {
@@ -107,26 +116,24 @@ impl Writes {
                 posted: None,
                 counted: self.counted,
             },
-            None => Writes::none(),
+            None => match self.counted_slot() {
+                Some(slot) => self.after_count(slot),
+                None => Writes::none(),
+            },
         }
     }
 }
 
 impl Wants {
     // With one more, for Data to a device.
-    fn fed(self, dev: u8) -> Wants
+    fn fed(&mut self, dev: u8)
         requires { dev < 16 }
-        ensures { result ≡ fed_of self dev }
+        ensures { self.new ≡ fed_of self.old dev }
     {
         let number = self.count.saturating_add(1);
-        let mut devices = self.devices;
-        devices[dev as usize] = number;
-        Wants {
-            feeding: self.feeding | 1 << dev,
-            count: number,
-            devices,
-            ..self
-        }
+        self.feeding |= 1 << dev;
+        self.count = number;
+        self.devices[dev as usize] = number;
     }
 
     // Whether this one is out.
@@ -166,6 +173,20 @@ impl Controller {
         })
     }
 
+    // What comes first but for a payload.
+    fn rest(&self) -> Option<Next>
+        ensures { result ≡ rest_of self.now }
+    {
+        if let Some(posted) = self.writes.posted {
+            return Some(Next::Posted(posted));
+        }
+        let slot = self.writes.counted_slot()?;
+        match &self.commands[slot as usize] {
+            Some(command) => Some(Next::Counted(count(command))),
+            None => None,
+        }
+    }
+
     // What is next to be written to the guest.
     fn next_write(&mut self) -> Option<Next>
         ensures next { result ≡ next_write_of self.old }
@@ -179,8 +200,9 @@ impl Controller {
             };
             return Some(Next::Payload(step.write));
         }
+        let rest = self.rest();
         self.writes = writes.after_rest();
-        writes.rest()
+        rest
     }
 
     // Whether nothing goes on: the link is down, or a command that cannot be served stopped the port.
@@ -218,7 +240,7 @@ impl Controller {
         requires due { may_feed_device self.old.core dev ≡ true }
         ensures { FeedsTo self.old dev result self.new }
     {
-        self.wants = self.wants.fed(dev);
+        self.wants.fed(dev);
         self.circle = Circle {
             device: dev,
             fed: true,

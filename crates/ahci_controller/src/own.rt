@@ -1,7 +1,7 @@
 //! The registers of the port that the controller has beside those of the core.
 
 ghost use Rattle.std.specs.Prelude.{◌≡◌, ◌+◌, ◌≤◌, ◌^◌};
-ghost use Rattle.ahci_controller.specs.Own.{area_of, cmd_shown, commanded, engine_of, is_failed as is_failed_of, latched, list_of, opening_own, reset_own};
+ghost use Rattle.ahci_controller.specs.Own.{area_of, cmd_shown, commanded, engine_of, is_failed as is_failed_of, latched, list_of, opening_own, own_area, own_list, reset_own};
 
 use crate::bits::{FRE, PMA, ST, bits_if, has_bit};
 use hba_fbs::Registers;
@@ -76,6 +76,26 @@ impl OwnRegisters {
             list: self.list,
             area: self.area,
             ..OwnRegisters::new()
+        }
+    }
+
+    /// With this address of the command list.
+    pub(crate) fn with_list(self, lower: u32, upper: u32) -> OwnRegisters
+        ensures { result ≡ own_list self lower upper }
+    {
+        OwnRegisters {
+            list: Base { lower, upper },
+            ..self
+        }
+    }
+
+    /// With this address of the received area.
+    pub(crate) fn with_area(self, lower: u32, upper: u32) -> OwnRegisters
+        ensures { result ≡ own_area self lower upper }
+    {
+        OwnRegisters {
+            area: Base { lower, upper },
+            ..self
         }
     }
 

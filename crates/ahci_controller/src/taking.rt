@@ -1,22 +1,23 @@
 //! FISes of devices are taken.
 
-ghost use Rattle.std.specs.Prelude.{◌≡◌, ◌<◌, ◌^◌, None, true, slice_index_or, slice_set, OnErr, IfOk};
+ghost use Rattle.std.specs.Prelude.{◌≡◌, ◌<◌, ◌^◌, true, bit_or, OnErr, IfOk};
 ghost use Rattle.std.specs.Result.{result_err};
 ghost use Rattle.hba_fbs.specs.Bits.{without as without_of};
 ghost use Rattle.ahci_registers.specs.Lines.{LineEvent, is_due};
 ghost use Rattle.ahci_controller.specs.Causes.{causes_since};
 ghost use Rattle.ahci_controller.specs.Latch.{latched};
-ghost use Rattle.ahci_controller.specs.Taking.{CoreHears, Hears, blamed as blamed_by, blamed_state, carried_by, commands_after, count_after, counting as counting_of, error_bits, hindrance as hindrance_of, is_any as is_any_of, is_up as is_up_of, move_to as move_to_of, posting_at, room_for, row_in, settled, writes_of};
+ghost use Rattle.ahci_controller.specs.Taking.{CoreHears, Hears, blamed as blamed_by, blamed_state, carried_by, error_bits, hindrance as hindrance_of, is_any as is_any_of, is_up as is_up_of, move_to as move_to_of, posting_at, room_for, row_in, settled, told_by, why_ignored, writes_of};
 
 use crate::bits::without;
 use crate::causes::{interrupts, new_bits, status};
 use crate::controller::Controller;
+use crate::latch::Edge;
 use crate::own::OwnRegisters;
 use crate::wants::{Carried, Wants, Writes};
 use ahci_registers::LinkAction;
 use fis_view::Frame;
-use guest_fetch::{ByteCount, Command, Move};
-use hba_fbs::{Room, TakeReport, Wrote};
+use guest_fetch::Move;
+use hba_fbs::{Ignored, Room, TakeReport, Wrote};
 use port_errors::DeviceCause;
 use rx_area::Posted;
 
@@ -38,8 +39,12 @@ pub enum Hindrance {
 pub struct Took {
     /// What the core says.
     pub report: TakeReport,
+    /// Why it was ignored, if it was.
+    pub ignored: Option<Ignored>,
     /// A message is due, where messages stand for the line.
     pub message: bool,
+    /// What it did to the line.
+    pub line: Edge,
 }
 
 fn is_up(action: LinkAction) -> bool
@@ -119,48 +124,12 @@ fn errors_of(report: &TakeReport) -> u16
 
 impl Wants {
     // A FIS of a device came: what was wanted for its Data is wanted anew, if it still is.
-    pub(crate) fn heard(self, dev: u8) -> Wants
+    pub(crate) fn heard(&mut self, dev: u8)
         requires { dev < 16 }
-        ensures { result ≡ record self { feeding = without_of self.feeding (2 ^ dev) } }
+        ensures { self.new ≡ record self.old { feeding = without_of self.old.feeding (2 ^ dev) } }
     {
-        Wants {
-            feeding: without(self.feeding, 1 << dev),
-            ..self
-        }
+        self.feeding = without(self.feeding, 1 << dev);
     }
-}
-
-// A command with bytes that came for it.
-#[derive(Debug, Drop)]
-pub(crate) struct Counting {
-    pub(crate) command: Option<Command>,
-    pub(crate) count: Option<ByteCount>,
-}
-
-// PRDBC of a command with these bytes.
-fn count(command: Option<Command>, wrote: Wrote) -> Counting
-    ensures { result ≡ counting_of command wrote }
-{
-    let Some(mut command) = command else {
-        return Counting {
-            command: None,
-            count: None,
-        };
-    };
-    let count = command.count(wrote.offset, wrote.len as usize);
-    Counting {
-        command: Some(command),
-        count: Some(count),
-    }
-}
-
-// The command that is kept for a slot, taken out.
-fn kept_out(commands: &mut [Option<Command>; 32], slot: u8) -> Option<Command>
-    requires { slot < 32 }
-    ensures command { result ≡ slice_index_or commands.old slot None }
-    ensures rest { commands.new ≡ slice_set commands.old slot None }
-{
-    commands[slot as usize].take()
 }
 
 impl Writes {
@@ -168,7 +137,7 @@ impl Writes {
     fn is_any(&self) -> bool
         ensures { result ≡ is_any_of self.now }
     {
-        self.payload.is_some() || self.posted.is_some() || self.counted.is_some()
+        self.payload.is_some() || self.posted.is_some() || self.counted != 0
     }
 }
 
@@ -225,6 +194,8 @@ impl Controller {
     fn give(&mut self, frame: &Frame) -> TakeReport
         requires { self.old.core.registers.receives ≡ true }
         ensures core { CoreHears self.old frame.now.bytes result self.new.core }
+        ensures why { why_ignored self.new.core frame.now.bytes result.ignored
+            ≡ why_ignored self.old.core frame.now.bytes result.ignored }
         ensures rest { self.new ≡ record self.old { core = self.new.core } }
     {
         if self.core.registers().started {
@@ -235,20 +206,15 @@ impl Controller {
         }
     }
 
-    // The bytes that came count.
-    fn counts(&mut self, wrote: Option<Wrote>) -> Option<ByteCount>
-        ensures count { result ≡ count_after self.old wrote }
-        ensures rest { self.new ≡ record self.old { commands = commands_after self.old wrote } }
+    // Why the core ignored the frame, if it did. Then it is as it was before.
+    fn why(&self, frame: &Frame, report: &TakeReport) -> Option<Ignored>
+        ensures { result ≡ why_ignored self.now.core frame.now.bytes report.now.ignored }
     {
-        let wrote = wrote?;
-        let slot = wrote.slot;
-        if slot >= 32 {
-            return None;
+        if report.ignored {
+            self.core.why_ignored(frame)
+        } else {
+            None
         }
-        let command = kept_out(&mut self.commands, slot);
-        let Counting { command, count } = count(command, wrote);
-        self.commands[slot as usize] = command;
-        count
     }
 
     // What is to be written to the guest for a frame.
@@ -257,7 +223,7 @@ impl Controller {
         switching: bool,
         frame: &Frame,
         report: &TakeReport,
-        counted: Option<ByteCount>,
+        counted: u32,
     ) -> Writes
         ensures { result ≡ writes_of self.now switching frame.now.bytes report.now counted }
     {
@@ -282,42 +248,52 @@ impl Controller {
         requires { dev < 16 }
         ensures { self.new ≡ blamed_state self.old dev report.now }
     {
-        self.wants = self.wants.heard(dev);
+        self.wants.heard(dev);
         self.own = self.own.blamed(report, self.core.concerned(dev));
     }
 
-    // The bits that the core set in its PxIS since that read `was` become causes. Answers whether a message is due.
-    fn cause(&mut self, was: u32) -> bool
+    // The bits that the core set in its PxIS since that read `was` become causes, and these. Answers whether a message is due.
+    fn cause(&mut self, was: u32, processed: u32) -> bool
         ensures after { self.new ≡ record self.old {
-          latch = latched self.old.latch (LineEvent.Caused (causes_since was self.old.core));
+          latch = latched self.old.latch (LineEvent.Caused (bit_or (causes_since was self.old.core) processed));
         } }
-        ensures due { result ≡ is_due self.old.latch.lines (LineEvent.Caused (causes_since was self.old.core)) }
+        ensures due { result
+            ≡ is_due self.old.latch.lines (LineEvent.Caused (bit_or (causes_since was self.old.core) processed)) }
     {
-        let causes = interrupts(new_bits(was, &self.core));
+        let causes = interrupts(new_bits(was, &self.core) | processed);
         self.latch.caused(causes)
     }
 
     // A report is settled. Answers whether a message is due.
     fn settle(&mut self, was: u32, switching: bool, frame: &Frame, report: &TakeReport) -> bool
         ensures after { self.new ≡ settled self.old was switching frame.now.bytes report.now }
-        ensures due { result ≡ is_due self.old.latch.lines (LineEvent.Caused (causes_since was self.old.core)) }
+        ensures due { result
+            ≡ is_due self.old.latch.lines (LineEvent.Caused (told_by self.old was self.old.core report.now)) }
     {
-        let counted = self.counts(report.wrote);
-        let writes = self.writes_for(switching, frame, report, counted);
+        let processed = self.processed(report.wrote);
+        self.moved(report.wrote);
+        let writes = self.writes_for(switching, frame, report, self.writes.counted);
         self.hold(writes);
         self.blame(frame.pm_port(), report);
-        self.cause(was)
+        self.cause(was, processed)
     }
 
     fn hear(&mut self, frame: &Frame) -> Took
         requires { self.old.core.registers.receives ≡ true }
         ensures { Hears self.old frame.now.bytes result self.new }
     {
+        let level = self.line();
         let was = status(&self.core);
         let switching = self.core.registers().switching;
         let report = self.give(frame);
+        let ignored = self.why(frame, &report);
         let message = self.settle(was, switching, frame, &report);
-        Took { report, message }
+        Took {
+            report,
+            ignored,
+            message,
+            line: Edge::between(level, self.line()),
+        }
     }
 
     /// Takes a FIS of a device, or of the control port. What is to be written to the guest for it is answered by

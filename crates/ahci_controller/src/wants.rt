@@ -3,7 +3,7 @@
 ghost use Rattle.std.specs.Prelude.{◌≡◌};
 ghost use Rattle.ahci_controller.specs.Outbox.{no_writes, opening_wants, without_wants};
 
-use guest_fetch::{ByteCount, Move};
+use guest_fetch::Move;
 
 /// What is wanted of the guest.
 #[derive(Clone, Copy, Debug, PartialEq, Eq)]
@@ -35,15 +35,15 @@ pub struct Carried {
     pub len: u32,
 }
 
-/// What is to be written to the guest for the frame that was taken last, in this order.
+/// What is to be written to the guest, in this order: for the frame that was taken last, and for bytes that were moved.
 #[derive(Clone, Copy, Debug, PartialEq, Eq)]
 pub struct Writes {
     /// Bytes of its payload.
     pub payload: Option<Carried>,
     /// The frame itself, to the received area.
     pub posted: Option<Move>,
-    /// PRDBC.
-    pub counted: Option<ByteCount>,
+    /// The slots whose PRDBC is to be written, as a mask.
+    pub counted: u32,
 }
 
 impl Wants {
@@ -62,15 +62,12 @@ impl Wants {
     }
 
     /// Without any of them.
-    pub(crate) fn dropped(self) -> Wants
-        ensures { result ≡ without_wants self }
+    pub(crate) fn dropped(&mut self)
+        ensures { self.new ≡ without_wants self.old }
     {
-        Wants {
-            pending: 0,
-            out: 0,
-            feeding: 0,
-            ..self
-        }
+        self.pending = 0;
+        self.out = 0;
+        self.feeding = 0;
     }
 }
 
@@ -82,7 +79,7 @@ impl Writes {
         Writes {
             payload: None,
             posted: None,
-            counted: None,
+            counted: 0,
         }
     }
 }

@@ -4,13 +4,14 @@ ghost use Rattle.std.specs.Prelude.{◌≡◌, Option, Some, None, false};
 ghost use Rattle.slots.specs.Slots.{mask_of};
 ghost use Rattle.hba_fbs.specs.Issuing.{is_busy};
 ghost use Rattle.ahci_registers.specs.Link.{action_of, causes_of, effect_of, written as written_of};
-ghost use Rattle.ahci_controller.specs.Writing.{Leaves, ResetsLink, StartsPort, Tells, clears_busy as clears_busy_of, fresh_slots, line_of, quietly as quietly_of, switched_by, ClearsBusy, stopped_if};
+ghost use Rattle.ahci_controller.specs.Writing.{Leaves, ResetsLink, StartsPort, Tells, WritesRegister, at_stake as at_stake_of, may_end as may_end_of, plain, under_way as under_way_of, clears_busy as clears_busy_of, fresh_slots, line_of, quietly as quietly_of, switched_by, ClearsBusy, stopped_if};
 
 use crate::bits::{CLO, bits_if, has_bit, without};
 use crate::causes::next_bits;
 use crate::controller::{CONTROL, Controller};
+use crate::latch::Edge;
 use crate::offer::nothing;
-use crate::own::{Base, OwnRegisters};
+use crate::own::OwnRegisters;
 use ahci_registers::{Effect, LinkAction, LinkControl, Register};
 use hba_fbs::{Line, PortCore, WriteError};
 
@@ -24,6 +25,11 @@ pub struct Written {
     pub message: bool,
     /// Why the port ignores it. Then it changes nothing of the port but what is held until it may be.
     pub ignored: Option<WriteError>,
+    /// The slots whose commands it ended, as a mask: issued or being read before, and neither since. ST, DEC, a COMRESET and a
+    /// reset end them.
+    pub ended: u32,
+    /// What it did to the line.
+    pub line: Edge,
 }
 
 impl Written {
@@ -35,6 +41,8 @@ impl Written {
             effect: Effect::Nothing,
             message,
             ignored,
+            ended: 0,
+            line: Edge::Steady,
         }
     }
 }
@@ -50,6 +58,16 @@ pub(crate) fn issued(core: &PortCore) -> u32
         }
     }
     mask
+}
+
+// Whether a write of the register may end commands.
+fn may_end(register: Register) -> bool
+    ensures { result ≡ may_end_of register }
+{
+    match register {
+        Register::Ghc | Register::PxCmd | Register::PxSctl | Register::PxFbs => true,
+        _ => false,
+    }
 }
 
 // What hangs at a link of which this is asked.
@@ -94,8 +112,7 @@ impl Controller {
         self.drop_wants();
         Written {
             effect: Effect::LinkReset,
-            message: write.message,
-            ignored: None,
+            ..Written::quietly(write.message, None)
         }
     }
 
@@ -153,8 +170,7 @@ impl Controller {
         }
         Written {
             effect: write.effect,
-            message: write.message,
-            ignored: None,
+            ..Written::quietly(write.message, None)
         }
     }
 
@@ -250,42 +266,19 @@ impl Controller {
         Written::quietly(false, None)
     }
 
-    /// Writes all bits of a register.
-    pub(crate) fn write_register(&mut self, register: Register, value: u32) -> Written
-        ensures { Leaves register self.old value result self.new }
+    // What a write of a register leaves, and asks for.
+    fn leave(&mut self, register: Register, value: u32) -> Written
+        ensures leaves { Leaves register self.old value result self.new }
+        ensures plain { plain result ≡ result }
     {
         let own = self.own;
         match register {
             Register::Ghc => self.write_ghc(value),
             Register::Is => self.write_is(value),
-            Register::PxClb => self.rebase(OwnRegisters {
-                list: Base {
-                    lower: value / 1024 * 1024,
-                    ..own.list
-                },
-                ..own
-            }),
-            Register::PxClbu => self.rebase(OwnRegisters {
-                list: Base {
-                    upper: value,
-                    ..own.list
-                },
-                ..own
-            }),
-            Register::PxFb => self.rebase(OwnRegisters {
-                area: Base {
-                    lower: value / 256 * 256,
-                    ..own.area
-                },
-                ..own
-            }),
-            Register::PxFbu => self.rebase(OwnRegisters {
-                area: Base {
-                    upper: value,
-                    ..own.area
-                },
-                ..own
-            }),
+            Register::PxClb => self.rebase(own.with_list(value / 1024 * 1024, own.list.upper)),
+            Register::PxClbu => self.rebase(own.with_list(own.list.lower, value)),
+            Register::PxFb => self.rebase(own.with_area(value / 256 * 256, own.area.upper)),
+            Register::PxFbu => self.rebase(own.with_area(own.area.lower, value)),
             Register::PxIs => self.write_pxis(value),
             Register::PxIe => self.write_pxie(value),
             Register::PxCmd => self.write_pxcmd(value),
@@ -302,6 +295,38 @@ impl Controller {
             | Register::PxTfd
             | Register::PxSig
             | Register::PxSsts => Written::quietly(false, None),
+        }
+    }
+
+    // The slots whose commands are issued or being read, as a mask.
+    fn under_way(&self) -> u32
+        ensures { result ≡ under_way_of self.now }
+    {
+        issued(&self.core) | self.wants.pending
+    }
+
+    // Those whose commands a write of the register may end.
+    fn at_stake(&self, register: Register) -> u32
+        ensures { result ≡ at_stake_of register self.now }
+    {
+        if may_end(register) {
+            self.under_way()
+        } else {
+            0
+        }
+    }
+
+    /// Writes all bits of a register.
+    pub(crate) fn write_register(&mut self, register: Register, value: u32) -> Written
+        ensures { WritesRegister register self.old value result self.new }
+    {
+        let level = self.line();
+        let before = self.at_stake(register);
+        let written = self.leave(register, value);
+        Written {
+            ended: without(before, self.at_stake(register)),
+            line: Edge::between(level, self.line()),
+            ..written
         }
     }
 }

@@ -24,6 +24,13 @@ pub(super) const BUFFER: u64 = BASE + 0x6000;
 /// How many bytes the guest's memory has.
 const LEN: u64 = 0xA000;
 
+/// Bytes of the guest that lie one after another.
+#[derive(Clone, Copy, PartialEq, Eq)]
+pub(super) struct Run {
+    pub(super) at: u64,
+    pub(super) len: usize,
+}
+
 /// A controller, the memory of its guest, and the frame that was taken last.
 #[derive(Drop)]
 pub(super) struct Rig {
@@ -130,6 +137,37 @@ impl Rig {
         self.put(table + 16 * u64::from(at), &entry)
     }
 
+    /// What is next to do, of which nothing is done here.
+    pub(super) fn raw(&mut self) -> Next {
+        self.controller.next()
+    }
+
+    /// Answers a want with these bytes, once more if memory was refused, and tells whether they count.
+    pub(super) fn supply(&mut self, ask: Ask, bytes: &[u8]) -> bool {
+        let mut answer = Supply::OutOfMemory;
+        for _ in 0..2_u32 {
+            if answer == Supply::OutOfMemory {
+                answer = self
+                    .controller
+                    .supply(self.alloc, ask.slot, ask.number, bytes);
+            }
+        }
+        matches!(answer, Supply::More | Supply::Issued { .. })
+    }
+
+    /// Where the first of 8,192 bytes of a slot's command lies, from this one on, and those with it.
+    pub(super) fn place(&self, slot: u8, offset: u32) -> Option<Run> {
+        if slot >= 32 {
+            return None;
+        }
+        let mut places = self.controller.places(slot, offset, 8192)?;
+        let step = places.next()?;
+        Some(Run {
+            at: step.at,
+            len: step.len,
+        })
+    }
+
     // Answers a want.
     fn answer(&mut self, ask: Ask) -> Supply {
         match lent(&self.guest, ask.want.at, ask.want.len) {
@@ -211,7 +249,7 @@ impl Rig {
         };
         let bytes = self.gather(slot, offset, len).ok()?;
         match self.controller.gathered(dev, number) {
-            Fed::Goes => Some(bytes),
+            Fed::Goes { .. } => Some(bytes),
             _ => None,
         }
     }

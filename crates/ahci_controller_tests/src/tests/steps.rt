@@ -2,9 +2,10 @@
 //!
 //! A test that is a list has one assertion, so it is proved with little work.
 
-use super::rig::Rig;
-use ahci_controller::{Hindrance, Next, Width};
+use super::rig::{Rig, Run};
+use ahci_controller::{Edge, Hindrance, Next, Width};
 use ahci_registers::Effect;
+use hba_fbs::Ignored;
 use std::alloc::Global;
 use std::process::Abort;
 use std::test::Fail;
@@ -42,10 +43,26 @@ pub(super) enum Step {
     Takes(&'static str),
     /// A sector of Data of a device is taken, and heard. Each of its bytes is this one.
     TakesSector(u8, u8),
-    /// A FIS is ignored.
-    Ignores(&'static str),
+    /// Data of a device, so many bytes, is taken, and heard.
+    TakesData(u8, usize),
+    /// A FIS is ignored, and this is why.
+    Ignores(&'static str, Ignored),
     /// A FIS is not taken.
     Hinders(&'static str, Hindrance),
+    /// Bytes of the guest are wanted next from this address on, as many as these, and these are supplied.
+    Supplies(u64, &'static str),
+    /// Bytes of the frame that was taken last go to the guest next: to which address, from which byte of it on, and how many.
+    Moves(u64, usize, usize),
+    /// PRDBC goes to the guest next: where it lies, and the number.
+    Counts(u64, u32),
+    /// Of 8,192 bytes of a slot's command, from this one on, the first lies at this address, and so many one after another.
+    Lies(u8, u32, u64, usize),
+    /// Bytes of a slot's command, from this one on, lie nowhere.
+    LiesNowhere(u8, u32),
+    /// A value is written to the register at an offset, and it ends the commands of these slots.
+    Ends(u32, u32, u32),
+    /// A value is written to the register at an offset, and the line does this.
+    Turns(u32, u32, Edge),
 }
 
 impl Rig {
@@ -74,18 +91,18 @@ impl Rig {
     }
 
     // Takes a frame, once more if memory was refused, and does what is next.
-    fn hears(&mut self, bytes: &[u8]) -> Option<Result<bool, Hindrance>> {
+    fn hears(&mut self, bytes: &[u8]) -> Option<Result<Option<Ignored>, Hindrance>> {
         let took = match self.take(bytes) {
             Err(_) => self.take(bytes).ok()?,
             Ok(took) => took,
         };
         match took {
-            Ok(took) => Some(Ok(took.report.ignored)),
+            Ok(took) => Some(Ok(took.ignored)),
             Err(why) => Some(Err(why)),
         }
     }
 
-    fn takes(&mut self, fis: &str, wanted: Result<bool, Hindrance>) -> bool {
+    fn takes(&mut self, fis: &str, wanted: Result<Option<Ignored>, Hindrance>) -> bool {
         match self.bytes_of(fis) {
             Some(bytes) => self.hears(&bytes) == Some(wanted),
             None => false,
@@ -98,7 +115,44 @@ impl Rig {
         bytes[1] = dev;
         bytes[2] = 0;
         bytes[3] = 0;
-        self.hears(&bytes) == Some(Ok(false))
+        self.hears(&bytes) == Some(Ok(None))
+    }
+
+    fn takes_data(&mut self, dev: u8, count: usize) -> bool {
+        let room = [0; 8196];
+        let mut bytes = room;
+        bytes[0] = 0x46;
+        bytes[1] = dev;
+        match bytes.get(..count.saturating_add(4)) {
+            Some(bytes) => self.hears(bytes) == Some(Ok(None)),
+            None => false,
+        }
+    }
+
+    fn supplies(&mut self, at: u64, text: &str) -> bool {
+        let Next::Read(ask) = self.raw() else {
+            return false;
+        };
+        match self.bytes_of(text) {
+            Some(bytes) => {
+                ask.want.at == at && ask.want.len == bytes.len() && self.supply(ask, &bytes)
+            }
+            None => false,
+        }
+    }
+
+    fn moves(&mut self, at: u64, from: usize, len: usize) -> bool {
+        match self.raw() {
+            Next::Payload(step) => step.at == at && step.from == from && step.len == len,
+            _ => false,
+        }
+    }
+
+    fn counts(&mut self, at: u64, value: u32) -> bool {
+        match self.raw() {
+            Next::Counted(count) => count.at == at && count.value == value,
+            _ => false,
+        }
     }
 
     fn sends(&mut self, wanted: &str) -> bool {
@@ -138,13 +192,21 @@ impl Rig {
             Step::Entry(slot, at, address, bytes) => self.entry(slot, at, address, bytes),
             Step::Fills(at, count, byte) => self.fills(at, count, byte),
             Step::Holds(at, byte) => self.byte(at) == Some(byte),
-            Step::Takes(fis) => self.takes(fis, Ok(false)),
+            Step::Takes(fis) => self.takes(fis, Ok(None)),
             Step::TakesSector(dev, byte) => self.takes_sector(dev, byte),
-            Step::Ignores(fis) => self.takes(fis, Ok(true)),
+            Step::TakesData(dev, count) => self.takes_data(dev, count),
+            Step::Ignores(fis, why) => self.takes(fis, Ok(Some(why))),
             Step::Hinders(fis, why) => self.takes(fis, Err(why)),
             Step::Sends(fis) => self.sends(fis),
             Step::SendsSector(dev, first, last) => self.sends_sector(dev, first, last),
             Step::IsSilent => self.next() == Next::Nothing,
+            Step::Supplies(at, bytes) => self.supplies(at, bytes),
+            Step::Moves(at, from, len) => self.moves(at, from, len),
+            Step::Counts(at, value) => self.counts(at, value),
+            Step::Lies(slot, offset, at, len) => self.place(slot, offset) == Some(Run { at, len }),
+            Step::LiesNowhere(slot, offset) => self.place(slot, offset).is_none(),
+            Step::Ends(offset, value, slots) => self.write32(offset, value).ended == slots,
+            Step::Turns(offset, value, edge) => self.write32(offset, value).line == edge,
         }
     }
 
