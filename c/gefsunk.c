@@ -36,6 +36,10 @@ uint32_t gefsunk_hba_data(gef_hba *hba, gef_place *places, size_t room, size_t *
 uint32_t gefsunk_hba_next_out(gef_hba *hba, const uint8_t *memory, size_t memory_len, uint64_t base, uint8_t *fis,
                               size_t room, size_t *len, uint32_t *message);
 
+const char *gef_version(void) {
+    return GEF_VERSION;
+}
+
 const char *gef_status_text(gef_status status) {
     switch (status) {
     case GEF_OK: return "done";
