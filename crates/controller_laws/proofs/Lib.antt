@@ -1,0 +1,6 @@
+pub mod ListLemmas
+pub mod RegisterLemmas
+pub mod CallLemmas
+pub mod FallLemmas
+pub mod EndLemmas
+pub mod PlaceLemmas
