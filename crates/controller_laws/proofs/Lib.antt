@@ -4,3 +4,4 @@ pub mod CallLemmas
 pub mod FallLemmas
 pub mod EndLemmas
 pub mod PlaceLemmas
+pub mod OpenLemmas

@@ -8,6 +8,7 @@ use Rattle.hba_laws.specs.Agreement.{IsTold}
 use Rattle.hba_laws.specs.CoreHistories.{history_through, is_freed_in}
 use Rattle.hba_laws.specs.Cores.{CoreEvent, RunsBy}
 use Rattle.hba_laws.specs.History.{History}
+use Rattle.ahci_controller.specs.Opening.{IsOpening}
 use Rattle.ahci_controller.specs.Reading.{shown}
 use Rattle.ahci_controller.specs.States.{ControllerState}
 use Rattle.ahci_controller.specs.Access.{fits}
@@ -42,6 +43,17 @@ pub record IsFreed (s : ℕ) (past : ℕ → History) (old new : Port) (events :
 -- each device has this history
 abbrev pub AreTold : Port → (ℕ → History) → Type 0
 AreTold port past = (n : ℕ) → n < 16 → IsTold (view_of n port) (past n)
+
+-- no device of a controller that opens has a history yet
+abbrev pub OpensUntold : Type 0
+OpensUntold = (c : ControllerState) → IsOpening c → AreTold c.core (λ n. [])
+
+-- and over every call the histories go on
+abbrev pub HistoriesGoOn : Type 0
+HistoriesGoOn =
+    (old new : ControllerState) (event : Event) (does : Does old event new)
+    → (are : AreCoreEvents old.core (of_event old event new does) new.core) → (past : ℕ → History) → AreTold old.core past
+    → AreTold new.core (λ n. history_through n (past n) old.core new.core (of_event old event new does) are.run)
 
 -- A bit of PxCI falls by such an event, or by the answer to a queued command, which PxSACT shows still, or as the port stops.
 abbrev pub Falls : ℕ → (ℕ → History) → (old : ControllerState) → (event : Event) → (new : ControllerState)

@@ -1,7 +1,7 @@
 //! The laws.
 
 ghost use Rattle.controller_laws.specs.CoreEvents.{EventsAreCoreEvents};
-ghost use Rattle.controller_laws.specs.Ends.{IssuesFall};
+ghost use Rattle.controller_laws.specs.Ends.{HistoriesGoOn, IssuesFall, OpensUntold};
 ghost use Rattle.controller_laws.specs.Places.{WritesArePlaced};
 
 /// A law for callers; it runs no code. Take any list of calls of a controller. What they do to its core is a list of the core's
@@ -13,9 +13,12 @@ pub fn events_are_core_events()
 
 /// A law for callers; it runs no code. A bit of PxCI falls only as the slot's own device ends its command, by an event of its
 /// history: it completes, all of its bytes having moved, or was a Control and went, or the device was cleared or reset; or as
-/// its device answers a queued command, which PxSACT shows still; or as a write stops or resets the port.
+/// its device answers a queued command, which PxSACT shows still; or as a write stops or resets the port. No device of a
+/// controller that opens has a history yet, and each call adds its events.
 pub fn issues_fall()
-    ensures { IssuesFall }
+    ensures falls { IssuesFall }
+    ensures opens { OpensUntold }
+    ensures told { HistoriesGoOn }
 {
     hba_laws::core_delivers();
 }
