@@ -1,38 +1,35 @@
 -- What each call does to the core.
-use Rattle.std.proofs.Common.{◌≡◌, ℕ, ◌<◌, ◌^◌, ◌&&◌, Bool, true, false, not, List, [], ◌∷◌, ◌++◌, length, refl, sym, ap, subst, ◌∙◌, Option, Some, None, get_or-set_same}
-use Rattle.std.specs.Prelude.{◌==◌, MatchOption, if◌then◌else◌, nat_lt}
+use Rattle.std.proofs.Common.{◌≡◌, ℕ, ◌<◌, ◌^◌, ◌&&◌, Bool, true, false, not, List, [], ◌∷◌, length, refl, sym, ap, subst, ◌∙◌, Option, Some, None, get_or-set_same}
+use Rattle.std.specs.Prelude.{MatchOption, if◌then◌else◌, nat_lt}
 use Rattle.std.specs.Option.{option_map}
-use Rattle.std.proofs.lemmas.Bool.{and_parts, false≢true, true≢false, ltb-true}
+use Rattle.std.proofs.lemmas.Bool.{and_parts, ltb-true}
 use Rattle.fis_view.specs.Frames.{IsFrame}
-use Rattle.slots.specs.Data.{payload}
-use Rattle.slots.specs.Slots.{Issue, context_of, has_bit, issue_at, match_some}
+use Rattle.slots.specs.Slots.{Issue, issue_at, match_some}
 use Rattle.guest_fetch.specs.Commands.{Fetched}
 use Rattle.guest_fetch.specs.declared.fetch.Supplied.{Supplied}
 use Rattle.guest_fetch.specs.declared.fetch.Supplied.TheVariants as supplied
 use Rattle.guest_fetch.specs.declared.moves.Move.{Move}
 use Rattle.hba_commands.specs.declared.command.Command.{Command}
 use Rattle.hba_fbs.specs.Choosing.{Chooses, MayChoose, may_feed}
-use Rattle.hba_fbs.specs.Greeting.{Greets, greeted_in, listens_with}
-use Rattle.hba_fbs.specs.Issuing.{is_busy}
 use Rattle.hba_fbs.specs.Placing.{issue_error}
 use Rattle.hba_fbs.specs.Taking.{port_of}
-use Rattle.hba_fbs.specs.Turning.{feeds, orders}
-use Rattle.hba_fbs.specs.Views.{Port, last_command, view_of}
+use Rattle.hba_fbs.specs.Turning.{orders}
+use Rattle.hba_fbs.specs.Views.{Port, last_command}
 use Rattle.hba_fbs.specs.declared.error.IssueError.{IssueError}
 use Rattle.hba_fbs.specs.declared.report.TakeReport.{TakeReport}
 use Rattle.hba_fbs.specs.declared.turn.Turn.{Turn}
 use Rattle.hba_fbs.specs.declared.turn.Turn.TheVariants.{Feeds, Orders, Rests}
 use Rattle.hba_laws.specs.Cores as core
 use Rattle.hba_laws.specs.Cores.{CoreEvent, HasBytes, IsCore}
-use Rattle.ahci_controller.specs.Feeding.{Gathers, GathersIf, Loses, LosesIf, MissesData, MissesIf as MissesDataIf, SendsIf, without_feeding}
-use Rattle.ahci_controller.specs.Fetching.{AnswersTo, GoesOn, Misses, MissesIf, SuppliesIf, answered, fits, is_asked, next_number, without_fetch}
+use Rattle.ahci_controller.specs.Feeding.{GathersIf, Loses, LosesIf, MissesIf as MissesDataIf, SendsIf, without_feeding}
+use Rattle.ahci_controller.specs.Fetching.{GoesOn, MissesIf, SuppliesIf, answered, fits, is_asked, next_number, without_fetch}
 use Rattle.ahci_controller.specs.Access.{fits as fits_width}
-use Rattle.ahci_controller.specs.Issuing.{IssuesSlot, PlacesSlot, RefusesSlot, device_of, not_issued, not_taken as not_taken_as, offered_command}
-use Rattle.ahci_controller.specs.Next.{FeedsTo, Frames, FramesFor, OrdersSlot, Reads, TurnsIf, Turns, count_next, counted_slot, feed_next, is_fed, is_halted, next_device, next_read, next_slot, next_write, order_next, rest, run_of, step_of, step_with, turn_to, written}
+use Rattle.ahci_controller.specs.Issuing.{PlacesSlot, RefusesSlot, device_of, not_issued, not_taken as not_taken_as, offered_command}
+use Rattle.ahci_controller.specs.Next.{FeedsTo, Frames, FramesFor, OrdersSlot, Reads, TurnsIf, count_next, counted_slot, feed_next, is_fed, is_halted, next_device, next_read, next_slot, next_write, order_next, rest, run_of, step_of, step_with, turn_to, written}
 use Rattle.ahci_controller.specs.Moving.{count_of}
 use Rattle.ahci_controller.specs.Offers.{offer_in}
 use Rattle.ahci_controller.specs.States.{ControllerState, kept}
-use Rattle.ahci_controller.specs.Taking.{CoreHearsIf, Hears, hindrance, is_any, room_for}
+use Rattle.ahci_controller.specs.Taking.{CoreHearsIf, is_any, room_for}
 use Rattle.ahci_controller.specs.declared.feeding.Fed.{Fed}
 use Rattle.ahci_controller.specs.declared.feeding.Fed.TheVariants as fed_answer
 use Rattle.ahci_controller.specs.declared.issuing.NotTaken.{NotTaken}
@@ -42,11 +39,9 @@ use Rattle.ahci_controller.specs.declared.issuing.Supply.TheVariants as supply_a
 use Rattle.ahci_controller.specs.declared.next.Next.{Next}
 use Rattle.ahci_controller.specs.declared.next.Next.TheVariants as next_step
 use Rattle.ahci_controller.specs.declared.wants.Carried.{Carried}
-use Rattle.ahci_controller.specs.declared.taking.Hindrance.{Hindrance}
 use Rattle.ahci_controller.specs.declared.taking.Hindrance.TheVariants as why
 use Rattle.hba_fbs.specs.declared.greeting.Listens.TheVariants as listens
 use Rattle.ahci_controller.specs.declared.taking.Took.{Took}
-use Rattle.ahci_controller.specs.declared.wants.Writes.{Writes}
 use Rattle.controller_laws.specs.CoreEvents.{AreCoreEvents, no_tables, of_all, of_event, of_fed, of_frame, of_next, of_supply}
 use Rattle.controller_laws.specs.Events as event
 use Rattle.controller_laws.specs.Events.{Does, Event, IsController, IsWhole, Runs, Takes}

@@ -1,10 +1,10 @@
 -- What becomes of a slot that is being read, or of one whose command is a bad one.
-use Rattle.std.proofs.Common.{◌≡◌, ◌≢◌, ℕ, ◌<◌, ◌^◌, ◌&&◌, ◌||◌, Bool, true, false, not, List, length, map, get_or, refl, sym, ap, subst, ◌∙◌, inl, inr, arith, Option, Some, None, bit_or}
-use Rattle.std.specs.Prelude.{◌==◌, ◌⊎◌, MatchOption, is_some, nat_lt, if◌then◌else◌}
+use Rattle.std.proofs.Common.{◌≡◌, ◌≢◌, ℕ, ◌<◌, ◌^◌, ◌&&◌, Bool, true, false, not, List, length, get_or, refl, sym, ap, ◌∙◌, inl, inr, arith, Option, Some, None, bit_or}
+use Rattle.std.specs.Prelude.{◌⊎◌, MatchOption, is_some, nat_lt, if◌then◌else◌}
 use Rattle.std.proofs.lemmas.List.{length-map}
 use Rattle.std.proofs.lemmas.List.FromFn.{get_or-map-range_with_len}
-use Rattle.std.proofs.lemmas.Bool.{and_parts, cases_Bool, cases_eq, false≢true, ltb-true, true≢false}
-use Rattle.slots.specs.Slots.{DeviceSlots, Issue, has_bit, issue_at, match_some, own_issue, owned_by, slots_of}
+use Rattle.std.proofs.lemmas.Bool.{and_parts, cases_Bool, cases_eq, false≢true, ltb-true}
+use Rattle.slots.specs.Slots.{DeviceSlots, Issue, has_bit, issue_at, own_issue, owned_by, slots_of}
 use Rattle.slots.specs.Table.{IsTable}
 use Rattle.ahci_registers.specs.Bits as line_bits
 use Rattle.ahci_registers.specs.Offsets.{register_at}
@@ -28,11 +28,11 @@ use Rattle.hba_fbs.specs.declared.register.Register as port_register
 use Rattle.hba_fbs.specs.declared.registers.Registers.{Registers}
 use Rattle.hba_fbs.specs.declared.turn.Turn.{Turn}
 use Rattle.hba_fbs.specs.declared.turn.Turn.TheVariants.{Feeds, Orders, Rests}
-use Rattle.ahci_controller.specs.Access.{fits as fits_width, merged}
+use Rattle.ahci_controller.specs.Access.{merged}
 use Rattle.ahci_controller.specs.Feeding.{GathersIf, Loses, LosesIf, LosesSlot, MissesIf as MissesDataIf, SendsIf, without_feeding}
 use Rattle.ahci_controller.specs.Fetching.{GoesOn, MissesIf, SuppliesIf, answered, fits, is_asked, without_fetch}
 use Rattle.ahci_controller.specs.Issuing.{PlacesSlot, RefusesSlot, device_of, not_issued, offered_command}
-use Rattle.ahci_controller.specs.Next.{FeedsTo, Frames, FramesFor, OrdersSlot, Reads as ReadsSlot, TurnsIf, is_fed, is_halted, next_device, next_read, next_slot, next_write, turn_to, written}
+use Rattle.ahci_controller.specs.Next.{FeedsTo, Frames, FramesFor, OrdersSlot, Reads as ReadsSlot, TurnsIf, is_halted, next_device, next_read, next_slot, turn_to, written}
 use Rattle.ahci_controller.specs.Offers.{offer_in}
 use Rattle.ahci_controller.specs.Own as own_words
 use Rattle.ahci_controller.specs.Reading.{shown}

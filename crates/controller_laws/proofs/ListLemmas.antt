@@ -1,13 +1,11 @@
 -- Lists of events of the core, one after another.
-use Rattle.std.proofs.Common.{◌≡◌, ℕ, ◌<◌, Bool, true, false, List, [], ◌∷◌, ◌++◌, refl, sym, subst, ap, arith, replicate, None}
+use Rattle.std.proofs.Common.{◌≡◌, List, [], ◌∷◌, ◌++◌, refl, sym, subst, arith, replicate, None}
 use Rattle.std.proofs.lemmas.Bool.{false≢true}
-use Rattle.hba_commands.specs.declared.command.Command.{Command}
 use Rattle.slots.specs.Table.{IsTable}
-use Rattle.slots.specs.Slots.{Slots, no_slots}
+use Rattle.slots.specs.Slots.{no_slots}
 use Rattle.slots.proofs.Door.{new_table}
-use Rattle.hba_fbs.specs.Registers.{AreOwn}
 use Rattle.hba_fbs.specs.Resets.{link_reset, whole_reset}
-use Rattle.hba_fbs.specs.Views.{IsCorePort, Port}
+use Rattle.hba_fbs.specs.Views.{Port}
 use Rattle.hba_fbs.proofs.Door.{none_have}
 use Rattle.hba_laws.specs.Cores.{CoreEvent, DoesBy, IsCore}
 use Rattle.hba_laws.specs.CoreHistories.{IsFramedBy}

@@ -1,16 +1,15 @@
 -- The first of the moves of a command's bytes, and the writes to the guest.
-use Rattle.std.proofs.Common.{◌≡◌, ℕ, zero, suc, ◌+◌, ◌-◌, ◌<◌, ◌≤◌, ◌&&◌, min, Bool, true, false, List, [], ◌∷◌, refl, sym, ap, subst, ◌∙◌, inl, inr, arith, Option, Some, None}
-use Rattle.std.specs.Prelude.{MatchOption, nat_le, nat_lt, slice_get, if◌then◌else◌}
+use Rattle.std.proofs.Common.{◌≡◌, ℕ, zero, suc, ◌+◌, ◌-◌, ◌<◌, ◌≤◌, Bool, true, false, List, [], ◌∷◌, refl, sym, ap, subst, ◌∙◌, arith, Option, Some, None}
+use Rattle.std.specs.Prelude.{MatchOption, nat_lt, slice_get, if◌then◌else◌}
 use Rattle.std.specs.Option.{option_map}
-use Rattle.std.proofs.lemmas.Bool.{cases_Bool, ltb-false, ltb-true}
+use Rattle.std.proofs.lemmas.Bool.{ltb-false, ltb-true}
 use Rattle.slots.specs.Slots.{match_some}
 use Rattle.guest_fetch.specs.Commands.{Fetched}
 use Rattle.guest_fetch.specs.Moves.{move_of, moves_at, moves_of}
 use Rattle.guest_fetch.specs.Places.{place, room_at}
-use Rattle.guest_fetch.specs.declared.command.ByteCount.{ByteCount}
 use Rattle.guest_fetch.specs.declared.entry.Entry.{Entry}
 use Rattle.guest_fetch.specs.declared.moves.Move.{Move}
-use Rattle.ahci_controller.specs.Next.{Frames, FramesFor, Reads, count_next, counted_slot, Turns, TurnsIf, feed_next, first_run, is_halted, left, next_device, next_read, next_slot, next_write, order_next, rest, run_of, step_of, step_with, turn_to, written}
+use Rattle.ahci_controller.specs.Next.{Frames, FramesFor, Reads, count_next, counted_slot, TurnsIf, feed_next, first_run, is_halted, left, next_device, next_read, next_slot, next_write, order_next, rest, run_of, step_of, step_with, turn_to, written}
 use Rattle.ahci_controller.specs.Moving.{count_of}
 use Rattle.ahci_controller.specs.States.{ControllerState, kept}
 use Rattle.ahci_controller.specs.declared.next.Next.{Next}

@@ -1,36 +1,33 @@
 -- What a write of a register does to the core.
 use Rattle.std.proofs.Common.{◌≡◌, ℕ, ◌+◌, Bool, true, false, List, [], ◌∷◌, ◌++◌, refl, sym, ap, subst, ◌∙◌, Option, Some, None}
 use Rattle.std.specs.Prelude.{◌==◌, MatchOption, if◌then◌else◌}
-use Rattle.std.proofs.lemmas.Bool.{cases_Bool}
-use Rattle.slots.specs.Slots.{Slots, match_some}
+use Rattle.slots.specs.Slots.{match_some}
 use Rattle.slots.specs.Table.{IsTable}
 use Rattle.ahci_registers.specs.Bits as line_bits
-use Rattle.ahci_registers.specs.Link.{action_of}
 use Rattle.ahci_registers.specs.Offsets.{register_at}
 use Rattle.ahci_registers.specs.declared.link.Effect.{Effect}
 use Rattle.ahci_registers.specs.declared.link.Effect.TheVariants as effect
 use Rattle.ahci_registers.specs.declared.register.Register.{Register}
 use Rattle.ahci_registers.specs.declared.register.Register.TheVariants as ahci
-use Rattle.hba_commands.specs.declared.command.Command.{Command}
 use Rattle.hba_fbs.specs.Offering.{AcceptsBy}
 use Rattle.hba_fbs.specs.Reading.{shown_device}
 use Rattle.hba_fbs.specs.Registers.{AreOwn, own_refusal_by}
 use Rattle.hba_fbs.specs.Resets.{link_reset, whole_reset}
 use Rattle.hba_fbs.specs.Stopping.{Overrides, SetsCmd}
-use Rattle.hba_fbs.specs.Views.{HaveCommands, Port}
+use Rattle.hba_fbs.specs.Views.{Port}
 use Rattle.hba_fbs.specs.declared.error.WriteError.{WriteError}
 use Rattle.hba_fbs.specs.declared.register.Register as port_register
 use Rattle.hba_fbs.specs.declared.register.Register.TheVariants as on_port
 use Rattle.hba_fbs.specs.declared.registers.Registers.{Registers}
 use Rattle.hba_laws.specs.Cores as core
 use Rattle.hba_laws.specs.Cores.{CoreEvent, IsCore}
-use Rattle.ahci_controller.specs.Access.{fits, high_of, low_of, merged, ones_of, spread_of}
+use Rattle.ahci_controller.specs.Access.{merged}
 use Rattle.ahci_controller.specs.Offers.{offer_in, offers_nothing}
 use Rattle.ahci_controller.specs.Own.{commanded, engine_of}
 use Rattle.ahci_controller.specs.Reading.{shown}
 use Rattle.ahci_controller.specs.States.{ControllerState}
-use Rattle.ahci_controller.specs.Wide.{WritesAt, WritesFitting, WritesIf, WritesPart, WritesWide, block_of}
-use Rattle.ahci_controller.specs.Writing.{ClearsBusy, ClearsIf, Commands, Leaves, ResetsBy, StartsPort, Tells, WritesGlobal, WritesRegister, asked_state, clears_busy, control_after, engine, link_effect, link_moved, plain, told_refusal}
+use Rattle.ahci_controller.specs.Wide.{WritesAt, WritesFitting, WritesIf, WritesPart, block_of}
+use Rattle.ahci_controller.specs.Writing.{ClearsIf, Commands, Leaves, ResetsBy, Tells, WritesGlobal, WritesRegister, asked_state, clears_busy, engine, link_effect, link_moved, plain, told_refusal}
 use Rattle.ahci_controller.specs.declared.access.Width.{Width}
 use Rattle.ahci_controller.specs.declared.latch.Latch.{Latch}
 use Rattle.ahci_controller.specs.declared.own.OwnRegisters.{OwnRegisters}

@@ -1,6 +1,6 @@
 -- What the events of a controller are for its core, in order and number: none, one or two events of a port that holds no memory
 -- (`hba_laws`), and for an access of eight bytes those of its two dwords.
-use Rattle.std.specs.Prelude.{◌≡◌, ℕ, ◌+◌, ◌^◌, ◌==◌, ◌%◌, Bool, true, false, if◌then◌else◌, List, [], ◌∷◌, ◌++◌, Option, Some, None}
+use Rattle.std.specs.Prelude.{ℕ, ◌+◌, ◌^◌, ◌==◌, ◌%◌, Bool, true, false, if◌then◌else◌, List, [], ◌∷◌, ◌++◌}
 use Rattle.slots.specs.Slots.{match_some}
 use Rattle.ahci_registers.specs.Bits as line_bits
 use Rattle.ahci_registers.specs.Link.{action_of}

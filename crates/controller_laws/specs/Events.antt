@@ -3,7 +3,7 @@
 use Rattle.std.specs.Prelude.{◌≡◌, ℕ, List, [], ◌∷◌, Some, None}
 use Rattle.fis_view.specs.Frames.{IsFrame}
 use Rattle.slots.specs.Table.{IsTable}
-use Rattle.hba_fbs.specs.Views.{IsCorePort, Port}
+use Rattle.hba_fbs.specs.Views.{IsCorePort}
 use Rattle.hba_laws.specs.Cores.{HasBytes}
 use Rattle.ahci_controller.specs.Feeding.{Gathers, MissesData}
 use Rattle.ahci_controller.specs.Fetching.{AnswersTo, Misses}
