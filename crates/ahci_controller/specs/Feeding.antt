@@ -6,7 +6,7 @@ use Rattle.guest_fetch.specs.Places.{Delivers}
 use Rattle.guest_fetch.specs.Commands.{Fetched}
 use Rattle.guest_fetch.specs.declared.moves.Move.{Move}
 use Rattle.hba_fbs.specs.Bits.{without}
-use Rattle.hba_fbs.specs.Choosing.{Chooses, may_feed}
+use Rattle.hba_fbs.specs.Choosing.{Chooses, MayChoose, may_feed}
 use Rattle.hba_fbs.specs.declared.report.Wrote.{Wrote}
 use Rattle.hba_fbs.specs.declared.turn.Turn as turn_type
 use Rattle.hba_fbs.specs.declared.turn.Turn.TheVariants as turn
@@ -49,6 +49,7 @@ sent_to c dev = sent_by (turn_to c dev)
 
 -- It goes, and its bytes count. PxIS tells where they end an entry with I.
 pub record SendsData (old : ControllerState) (dev : ℕ) (result : Fed) (new : ControllerState) : Type 0 where
+  pub may : MayChoose old.core (turn_to old dev)
   pub core : Chooses (turn_to old dev) old.core new.core
   pub goes : result ≡ goes_with (told old.latch (processed_by old (sent_to old dev)))
   pub rest : new ≡ record (moved old (sent_to old dev)) {

@@ -97,7 +97,8 @@ AnswersTo old slot number bytes result new = SuppliesIf (fits old slot number by
 
 abbrev pub MissesIf : Bool → ControllerState → ℕ → Supply → ControllerState → Type 0
 MissesIf false old slot result new = Stays old result new
-MissesIf true old slot result new = RefusesSlot (answered old slot) slot (why.Read (missing_in old slot)) result new
+MissesIf true old slot result new =
+    RefusesSlot (without_fetch (answered old slot) slot) slot (why.Read (missing_in old slot)) result new
 
 abbrev pub Misses : ControllerState → (slot number : ℕ) → Supply → ControllerState → Type 0
 Misses old slot number result new = MissesIf (is_asked old.wants slot number) old slot result new

@@ -1,5 +1,5 @@
 -- A command that was read is issued, or not taken: AHCI 1.3.1, sections 3.3.14 (PxCI), 4.2.2 (PMP) and 6.1 (errors).
-use Rattle.std.specs.Prelude.{◌≡◌, ℕ, ◌^◌, if◌then◌else◌, bit_or, List, Option, Some, MatchOption, slice_set}
+use Rattle.std.specs.Prelude.{◌≡◌, ℕ, ◌^◌, ◌<◌, if◌then◌else◌, bit_or, List, Option, Some, MatchOption, slice_set}
 use Rattle.std.specs.Option.{option_map}
 use Rattle.ahci_registers.specs.Lines.LineEvent.{Caused}
 use Rattle.guest_fetch.specs.Commands.{Fetched}
@@ -70,6 +70,7 @@ Keeps old slot command new = new ≡ record old {
 -- the core has it
 pub record PlacesSlot (old : ControllerState) (slot : ℕ) (command : Fetched) (result : Supply)
     (new : ControllerState) : Type 0 where
+  pub dev : device_of command < 16
   pub told : result ≡ answer.Issued (device_of command)
   pub core : Places old.core (offer_in (offered_command command)) (device_of command) (2 ^ slot) new.core
   pub rest : Keeps (record old { core = new.core }) slot command new

@@ -8,6 +8,7 @@ pub mod States
 pub mod Wants
 pub mod Causes
 pub mod Opening
+pub mod Rules
 pub mod Reading
 pub mod Writing
 pub mod Wide

@@ -11,7 +11,7 @@ use Rattle.guest_fetch.specs.Places.{room_at}
 use Rattle.guest_fetch.specs.Commands.{Fetched}
 use Rattle.guest_fetch.specs.declared.moves.Move.{Move}
 use Rattle.hba_fbs.specs.Bits.{without}
-use Rattle.hba_fbs.specs.Choosing.{Chooses, due_devices, due_slots}
+use Rattle.hba_fbs.specs.Choosing.{Chooses, MayChoose, due_devices, due_slots}
 use Rattle.hba_fbs.specs.Turning.{feeds, orders}
 use Rattle.hba_fbs.specs.declared.turn.Turn as turn_type
 use Rattle.hba_fbs.specs.declared.turn.Turn.TheVariants as turn
@@ -127,6 +127,7 @@ feed_next dev number (turn.Orders to slot command) = next.Nothing
 
 -- its bytes are wanted
 pub record FeedsTo (old : ControllerState) (dev : ℕ) (result : Next) (new : ControllerState) : Type 0 where
+  pub may : MayChoose old.core (turn_to old dev)
   pub is : result ≡ feed_next dev (next_number old.wants) (turn_to old dev)
   pub rest : new ≡ record old {
     wants = fed old.wants dev;
@@ -140,6 +141,7 @@ order_next slot (turn.Orders to of command) = next.Order to slot command.cfis
 
 -- it goes, and CCS is its slot
 pub record OrdersSlot (old : ControllerState) (slot : ℕ) (result : Next) (new : ControllerState) : Type 0 where
+  pub may : MayChoose old.core (orders old.core slot)
   pub is : result ≡ order_next slot (orders old.core slot)
   pub core : Chooses (orders old.core slot) old.core new.core
   pub rest : new ≡ record old {

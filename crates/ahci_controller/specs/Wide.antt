@@ -1,6 +1,8 @@
 -- Accesses to registers, of all widths: AHCI 1.3.1, section 3.
 use Rattle.std.specs.Prelude.{◌≡◌, ℕ, ◌+◌, ◌*◌, ◌/◌, ◌%◌, ◌==◌, Bool, true, false, if◌then◌else◌, MatchOption, None}
 use Rattle.ahci_registers.specs.Offsets.{register_at}
+use Rattle.hba_fbs.specs.Views.{IsCorePort}
+use Rattle.slots.specs.Table.{IsTable}
 use Rattle.ahci_controller.specs.Access.{fits, high_of, low_of, merged, ones_of, pair_of, part_of, spread_of}
 use Rattle.ahci_controller.specs.Reading.{read_at, shown}
 use Rattle.ahci_controller.specs.States.{ControllerState}
@@ -39,6 +41,8 @@ WritesPart old offset value mask result new = WritesIf (mask == 0) old offset va
 pub record WritesBlock (old : ControllerState) (offset bits mask : ℕ) (result : WideWritten) (new : ControllerState)
     : Type 0 where
   pub middle : ControllerState
+  pub port : IsCorePort middle.core
+  pub slots : IsTable middle.core.slots
   pub low : WritesPart old offset (low_of bits) (low_of mask) result.low middle
   pub high : WritesPart middle (offset + 4) (high_of bits) (high_of mask) result.high new
 

@@ -63,9 +63,10 @@ pub record Tells (old : ControllerState) (register : port_register.Register) (va
 
 -- ---- resets
 
--- A reset of the controller ends all but the addresses, and the link comes up anew. No signature has come since.
+-- A reset of the controller ends all but the addresses, and the link comes up anew. No signature has come since: PxTFD has its
+-- reset value (AHCI 1.3.1, 3.3.8 and 10.4.3).
 pub record ResetsAll (old : ControllerState) (value : ℕ) (new : ControllerState) : Type 0 where
-  pub core : Hangs (whole_reset old.core) 15 on_line.Reset new.core
+  pub core : Hangs (whole_reset old.core) 15 on_line.Empty new.core
   pub rest : new ≡ record (dropped old) {
     core = new.core;
     latch = latched old.latch (WroteGlobal value);

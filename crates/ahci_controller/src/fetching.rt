@@ -160,6 +160,7 @@ impl Controller {
         }
         let refusal = self.missing(slot);
         self.answered(slot);
+        let _ = self.fetch(slot);
         self.refuse(slot, NotTaken::Read(refusal))
     }
 }

@@ -73,6 +73,7 @@ impl Controller {
         let bits = spread(offset % 8, value);
         let mask = spread(offset % 8, width.ones());
         let lower = self.write_part(block, low(bits), low(mask));
+        self.core.keeps_rules();
         let higher = self.write_part(block + 4, high(bits), high(mask));
         WideWritten {
             low: lower,

@@ -106,7 +106,7 @@ impl Controller {
             return Written::quietly(write.message, None);
         }
         self.core.reset();
-        self.core.hang(CONTROL, Line::Reset);
+        self.core.hang(CONTROL, Line::Empty);
         self.link = LinkControl::new();
         self.own = self.own.reset();
         self.drop_wants();

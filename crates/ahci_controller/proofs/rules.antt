@@ -1,0 +1,10 @@
+pub mod Words
+pub mod BitLemmas
+pub mod FreeLemmas
+pub mod WroteLemmas
+pub mod PartLemmas
+pub mod CallLemmas
+pub mod TurnLemmas
+pub mod TakeLemmas
+pub mod WriteLemmas
+pub mod OpenLemmas

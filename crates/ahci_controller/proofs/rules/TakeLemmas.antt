@@ -1,0 +1,163 @@
+-- The rules of a controller stay true as a frame is taken.
+use Rattle.std.proofs.Common.{◌≡◌, ℕ, ◌<◌, ◌^◌, ◌||◌, Bool, true, false, List, get_or, set, length, refl, sym, ap, subst, ◌∙◌, inl, inr, Option, Some, None, get_or-set_same}
+use Rattle.std.specs.Prelude.{IfSome, MatchOption, is_some, nat_lt, if◌then◌else◌}
+use Rattle.std.proofs.lemmas.Bool.{cases_Bool, false≢true, lt-ltb, true≢false}
+use Rattle.fis_view.specs.Seen.{seen}
+use Rattle.fis_view.specs.declared.view.Fis.{Fis}
+use Rattle.fis_view.specs.declared.view.Fis.TheVariants as view
+use Rattle.slots.specs.Slots.{Issue, KeepsFree, has_bit, issue_at, match_some}
+use Rattle.slots.specs.Table.{IsTable}
+use Rattle.guest_fetch.specs.Commands.{Fetched}
+use Rattle.hba_commands.specs.declared.command.Command.{Command}
+use Rattle.hba_fbs.specs.Bits.{without}
+use Rattle.hba_fbs.specs.Deciding.{Decides, Passes, decided}
+use Rattle.hba_fbs.specs.Greeting.{Greets, greeted_in, is_first}
+use Rattle.hba_fbs.specs.Posting.{posted}
+use Rattle.hba_fbs.specs.Taking as core_taking
+use Rattle.hba_fbs.specs.Taking.{admitted, ignores, port_of, posted_of}
+use Rattle.hba_fbs.specs.Views.{HaveCommands, IsCorePort, Port, last_command, view_of}
+use Rattle.hba_fbs.specs.declared.hearing.Heard.{Heard}
+use Rattle.hba_fbs.specs.declared.registers.Registers.{Registers}
+use Rattle.hba_fbs.specs.declared.report.TakeReport.{TakeReport}
+use Rattle.hba_fbs.specs.declared.report.Wrote.{Wrote}
+use Rattle.ahci_controller.specs.Rules.{AreParts, IsCarried, IsOffered, IsRuled}
+use Rattle.ahci_controller.specs.States.{ControllerState, kept}
+use Rattle.ahci_controller.specs.Moving.{commands_after, moved_on}
+use Rattle.ahci_controller.specs.Taking.{CoreHearsIf, Hears, carried, carried_by, room_for}
+use Rattle.ahci_controller.specs.declared.taking.Took.{Took}
+use Rattle.ahci_controller.specs.declared.wants.Carried.{Carried}
+use Rattle.ahci_controller.specs.declared.wants.Wants.{Wants}
+use Rattle.ahci_controller.proofs.rules.BitLemmas as bits
+use Rattle.ahci_controller.proofs.rules.FreeLemmas.{same_free, slots_free}
+use Rattle.ahci_controller.proofs.rules.PartLemmas as parts
+use Rattle.ahci_controller.proofs.rules.TurnLemmas.{offers_on}
+use Rattle.ahci_controller.proofs.rules.Words.{IsOfIssue}
+use Rattle.ahci_controller.proofs.rules.WroteLemmas.{decided_wrote, greeted_wrote, passed_wrote}
+
+-- ---- the core
+
+-- what a frame leaves of it
+record HearsAs (old new : Port) (report : TakeReport) : Type 0 where
+  pub commands : new.commands ≡ old.commands
+  pub frees : KeepsFree old.slots new.slots
+  pub started : new.registers.started ≡ old.registers.started
+  pub wrote : IfSome report.wrote (IsOfIssue old)
+
+posted_started : (r : Registers) (dev : ℕ) (resetting : Bool) (fis : Option Fis) → (posted_of r dev resetting fis).started ≡ r.started
+unfolding posted
+posted_started r dev resetting None = refl
+posted_started r dev resetting (Some (view.RegD2H f)) = refl
+posted_started r dev resetting (Some (view.SetBits f)) = refl
+posted_started r dev resetting (Some (view.DmaSetup f)) = refl
+posted_started r dev resetting (Some (view.Unknown f)) = refl
+posted_started r dev resetting (Some other) = refl
+
+settled_started : (r : Registers) (h : Heard) → (core_taking.settled r h).started ≡ r.started
+unfolding core_taking.settled
+settled_started r h = refl
+
+no_wrote : (port : Port) (o : Option Wrote) → o ≡ None → IfSome o (IsOfIssue port)
+no_wrote port o none = subst (λ (w : Option Wrote). IfSome w (IsOfIssue port)) (sym none) tt
+
+decides_as : (old new : Port) (dev : ℕ) (h : Heard) (fis : Option Fis) (report : TakeReport) → IsTable old.slots
+    → new.registers ≡ core_taking.settled (posted_of old.registers dev (view_of dev old).state.resetting fis) h → new.registers.started ≡ old.registers.started
+decides_as old new dev h fis report ok is =
+    ap (λ (r : Registers). r.started) is ∙ settled_started (posted_of old.registers dev (view_of dev old).state.resetting fis) h ∙ posted_started old.registers dev (view_of dev old).state.resetting fis
+
+greets_as : (old new : Port) (dev : ℕ) (o : Option (List ℕ)) (report : TakeReport) → Greets old dev o report new → HearsAs old new report
+greets_as old new dev None report h = record {
+  commands = ap (λ (p : Port). p.commands) h.port;
+  frees = same_free old new h.port;
+  started = ap (λ (p : Port). p.registers.started) h.port;
+  wrote = no_wrote old report.wrote (greeted_wrote old new dev None report h);
+}
+greets_as old new dev (Some f) report h = record {
+  commands = h.commands;
+  frees = slots_free old new h.slots;
+  started = ap (λ (r : Registers). r.started) h.registers ∙ posted_started old.registers dev (is_first old.registers || (view_of dev old).state.resetting) (Some (view.RegD2H f));
+  wrote = no_wrote old report.wrote (greeted_wrote old new dev (Some f) report h);
+}
+
+hears_as : (started : Bool) (old : ControllerState) (new : Port) (frame : List ℕ) (report : TakeReport) → IsTable old.core.slots → CoreHearsIf started old frame report new → HearsAs old.core new report
+hears_as false old new frame report ok h = greets_as old.core new (port_of frame) (greeted_in (view_of (port_of frame) old.core).state (seen frame)) report h
+hears_as true old new frame report ok h = elim (cases_Bool (ignores (port_of frame) old.core frame)) [
+  | inl ignored ↦
+      let passes : Passes (port_of frame) old.core report new = h.ignored ignored in
+      record {
+        commands = ap (λ (p : Port). p.commands) passes.port;
+        frees = same_free old.core new passes.port;
+        started = ap (λ (p : Port). p.registers.started) passes.port;
+        wrote = no_wrote old.core report.wrote (passed_wrote old.core new (port_of frame) report passes);
+      }
+  | inr heard ↦
+      let fis : Option Fis = admitted (port_of frame) (seen frame) in
+      let decides : Decides old.core (port_of frame) (room_for old (port_of frame)) fis report new = h.heard heard in
+      record {
+        commands = decides.commands;
+        frees = decides.frees;
+        started = decides_as old.core new (port_of frame) (decided (port_of frame) (view_of (port_of frame) old.core) (room_for old (port_of frame)) fis) fis report ok decides.registers;
+        wrote = decided_wrote old.core new (port_of frame) (room_for old (port_of frame)) fis report ok decides;
+      }
+]
+
+-- ---- the command that is kept
+
+-- what is issued has its command here, too
+record HasKept (c : ControllerState) (slot : ℕ) : Type 0 where
+  command : Fetched
+  here : kept c slot ≡ Some command
+
+has_kept_of : (k : Option Command) (o : Option Fetched) → IsOffered k o → (k ≡ None → ⊥) → is_some o ≡ true
+has_kept_of None o offered some = absurd (some refl)
+has_kept_of (Some command) None offered some = absurd offered
+has_kept_of (Some command) (Some f) offered some = refl
+
+the_command : (o : Option Fetched) → is_some o ≡ true → (f : Fetched) × (o ≡ Some f)
+the_command None h = absurd (false≢true h)
+the_command (Some f) h = (f, refl)
+
+has_kept : (c : ControllerState) (slot : ℕ) → IsRuled c → HaveCommands c.core.slots c.core.commands → is_some (issue_at c.core.slots slot) ≡ true → HasKept c slot
+has_kept c slot was have busy =
+    let some : is_some (kept c slot) ≡ true = has_kept_of (last_command c.core.commands slot) (kept c slot) (was.kept slot) (λ none. false≢true (sym (ap is_some (have slot none)) ∙ busy)) in
+    let f = the_command (kept c slot) some in
+    record { command = f.0; here = f.1 }
+
+-- ---- the controller
+
+busy_out : (c : ControllerState) (slot : ℕ) → slot < 32 → IsRuled c → is_some (issue_at c.core.slots slot) ≡ true → has_bit c.wants.out slot ≡ false
+busy_out c slot below was busy = elim (cases_Bool (has_bit c.wants.pending slot)) [
+  | inl pending ↦ absurd (false≢true (sym (ap is_some (was.free slot below pending)) ∙ busy))
+  | inr none ↦ (was.unread slot below none).out
+]
+
+heard_ruled : (dev : ℕ) (old : ControllerState) (new : Port) (o : Option Wrote) → IsCorePort old.core → IsRuled old → new.commands ≡ old.core.commands → KeepsFree old.core.slots new.slots → new.registers.started ≡ old.core.registers.started
+    → IfSome o (IsOfIssue old.core) → AreParts new (record old.wants { feeding = without old.wants.feeding (2 ^ dev) }) old.fetches (commands_after (record old { core = new }) o) (carried_by o)
+heard_ruled dev old new None rules was commands frees started wrote =
+    let fed : IsRuled (record old { wants = record old.wants { feeding = without old.wants.feeding (2 ^ dev) } }) = parts.feeding_is old.core old.wants old.fetches old.commands old.writes.payload was (without old.wants.feeding (2 ^ dev)) in
+    let moved : AreParts new (record old.wants { feeding = without old.wants.feeding (2 ^ dev) }) old.fetches old.commands old.writes.payload =
+    parts.core_moves old.core _ old.fetches old.commands old.writes.payload fed new commands frees (λ e. was.stopped (sym started ∙ e)) in
+    parts.payload_is new _ old.fetches old.commands old.writes.payload moved None tt
+heard_ruled dev old new (Some w) rules was commands frees started wrote =
+    let wants : Wants = record old.wants { feeding = without old.wants.feeding (2 ^ dev) } in
+    let fed : IsRuled (record old { wants = wants }) = parts.feeding_is old.core old.wants old.fetches old.commands old.writes.payload was (without old.wants.feeding (2 ^ dev)) in
+    let moved : AreParts new wants old.fetches old.commands old.writes.payload =
+    parts.core_moves old.core wants old.fetches old.commands old.writes.payload fed new commands frees (λ e. was.stopped (sym started ∙ e)) in
+    let k : HasKept old w.slot = has_kept old w.slot was rules.commands wrote.busy in
+    let f : Fetched = moved_on w k.command in
+    let now : List (Option Fetched) = set old.commands w.slot (Some f) in
+    let is : commands_after (record old { core = new }) (Some w) ≡ now =
+    ap (λ (b : Bool). match_some (if b then kept old w.slot else None) old.commands (λ command. set old.commands w.slot (Some (moved_on w command)))) (lt-ltb w.slot 32 wrote.below)
+    ∙ ap (λ (o : Option Fetched). match_some o old.commands (λ command. set old.commands w.slot (Some (moved_on w command)))) k.here in
+    let brought : IsCarried wants now (carried w) = record {
+      slot = wrote.below;
+      kept = ap is_some (get_or-set_same old.commands w.slot (Some f) None (rw was.long wrote.below));
+      out = busy_out old w.slot wrote.below was wrote.busy;
+    } in
+    subst (λ (l : List (Option Fetched)). AreParts new wants old.fetches l (carried_by (Some w))) (sym is)
+    (parts.counts new wants old.fetches old.commands old.writes.payload moved w.slot f (Some (carried w)) wrote.below
+    (λ command h. offers_on w k.command command (subst (λ (o : Option Fetched). IsOffered command o) k.here h)) brought)
+
+pub take_rules : (frame : List ℕ) (old new : ControllerState) (took : Took) → IsCorePort old.core → IsTable old.core.slots → IsRuled old → Hears old frame took new → IsRuled new
+take_rules frame old new took rules ok was h =
+    let heard : HearsAs old.core new.core took.report = hears_as old.core.registers.started old new.core frame took.report ok h.core in
+    subst IsRuled (sym h.rest) (heard_ruled (port_of frame) old new.core took.report.wrote rules was heard.commands heard.frees heard.started heard.wrote)

@@ -1,0 +1,4 @@
+pub mod Events
+pub mod CoreEvents
+pub mod Ends
+pub mod Places
