@@ -1,0 +1,3 @@
+pub mod RunLemmas
+pub mod GatherLemmas
+pub mod BringLemmas
