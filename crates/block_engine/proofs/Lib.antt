@@ -1,0 +1,2 @@
+pub mod Asides
+pub mod Asked
