@@ -12,11 +12,10 @@ use Rattle.block_command.specs.Moments.{Moment, opening, is_storing, runs, turn_
 use Rattle.block_command.specs.Laws.{Input, Goes, Comes, after}
 use Rattle.block_command.proofs.Door.{same_command}
 use Rattle.block_disk.specs.Table.{at, with_command, with_input}
-use Rattle.block_disk.specs.Requests.{Queue, is_request, number_at, with_answer, with_asked, with_drawn, with_table}
+use Rattle.block_disk.specs.Requests.{Queue, is_fis, is_request, number_at, with_answer, with_asked, with_drawn, with_table}
 use Rattle.block_disk.specs.Requests as requests
 use Rattle.block_disk.proofs.Door.{each_is}
-use Rattle.block_queue.specs.Line.{Line, command_at, left_at, left_below, left_of, line_answered, line_gone, line_reset, line_taken, may_send, may_start, moved_back, none_in_line, orphan, orphan_of, orphans_answered, starts, with_queue}
-use Rattle.block_queue.specs.Line as queue
+use Rattle.block_queue.specs.Line.{Line, command_at, left_of, line_answered, line_gone, line_reset, line_taken, may_send, moved_back, none_in_line, orphan, orphan_of, orphans_answered, starts, with_queue}
 use Rattle.block_queue.specs.declared.queue.Orphan.{Orphan}
 use Rattle.block_queue.proofs.Door.{left_read, of_and, runs_before, storing_runs}
 use Rattle.block_scheduler.specs.declared.sets.Sets.{Sets}
