@@ -7,7 +7,8 @@ ghost use Rattle.block_command.specs.Moments.{IsCommand};
 use block_command::{AnswerError, Command, Protocol, Turn};
 use block_engine::{
     Answer, AsideKind, AsideStage, Engine, EngineFis, ErrorKind, Failure, Range, Request, What,
-    asides_are_earned,
+    asides_are_earned, data_are_named, ends_are_earned, numbers_are_fresh, requests_are_apart,
+    something_moves,
 };
 use std::alloc::{AllocError, Global};
 use std::process::Abort;
@@ -329,4 +330,13 @@ fn a_failure_is_kept(rt: HostRuntime) {
     assert!(rt; disk.failure(3) == Some(failure));
     send(&rt, alloc, &mut disk);
     assert!(rt; disk.fault() == Some(3));
+}
+
+#[test]
+fn laws_hold(_rt: HostRuntime) {
+    requests_are_apart();
+    ends_are_earned();
+    data_are_named();
+    numbers_are_fresh();
+    something_moves();
 }

@@ -4,7 +4,10 @@ ghost use Rattle.std.specs.Prelude.{◌≡◌, ◌<◌};
 ghost use Rattle.block_command.specs.Moments.{IsCommand};
 
 use block_command::{AnswerError, Command, Protocol, Turn};
-use block_scheduler::{NextFis, Scheduler};
+use block_scheduler::{
+    NextFis, Scheduler, data_are_named, ends_are_earned, numbers_are_fresh, requests_are_apart,
+    something_moves,
+};
 use std::alloc::{AllocError, Global};
 use std::process::Abort;
 
@@ -178,4 +181,13 @@ fn errors_end_all(rt: HostRuntime) {
     for count in taken(&rt, alloc, 700, 50) {
         assert!(rt; count >= 5);
     }
+}
+
+#[test]
+fn laws_hold(_rt: HostRuntime) {
+    requests_are_apart();
+    ends_are_earned();
+    data_are_named();
+    numbers_are_fresh();
+    something_moves();
 }

@@ -1,2 +1,3 @@
 pub mod Asides
 pub mod Asked
+pub mod Runs

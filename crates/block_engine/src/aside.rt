@@ -1,5 +1,6 @@
 //! FLUSH CACHE (EXT) and DATA SET MANAGEMENT: commands that move no sectors of the queue.
 
+ghost use Rattle.std.specs.Prelude.{◌≡◌};
 ghost use Rattle.block_engine.specs.Aside.{AsidesAreEarned, asks_for, is_over, is_waiting, settled};
 
 /// What a command beside the queue asks for.

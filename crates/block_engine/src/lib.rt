@@ -3,8 +3,12 @@
 
 mod aside;
 mod engine;
+mod laws;
 mod request;
 
 pub use aside::{AsideKind, AsideStage, asides_are_earned};
 pub use engine::{Engine, EngineFis};
+pub use laws::{
+    data_are_named, ends_are_earned, numbers_are_fresh, requests_are_apart, something_moves,
+};
 pub use request::{Answer, ErrorKind, Failure, Range, Request, What};
