@@ -1,8 +1,8 @@
 -- What is asked next, by whom.
-use Rattle.std.proofs.Common.{◌≡◌, ℕ, true, false, Some, None, refl, sym, ap, inl, inr, ◌⊎◌, ◌≤◌}
-use Rattle.std.specs.Prelude.{Option, Bool, IfSome, IfNone, ◌^◌, is_none, if◌then◌else◌}
+use Rattle.std.proofs.Common.{◌≡◌, ℕ, true, false, Some, None, sym, ap, inl, inr, ◌⊎◌, ◌≤◌}
+use Rattle.std.specs.Prelude.{Option, IfSome, IfNone, ◌^◌, is_none, if◌then◌else◌}
 use Rattle.block_command.specs.declared.answer.AnswerError.{AnswerError}
-use Rattle.block_command.specs.Laws.{Input, Stores, Flushes}
+use Rattle.block_command.specs.Laws.{Stores, Flushes}
 use Rattle.block_queue.specs.Line.{IsOldest, Line, PassesNowhere, command_at, line_refusal}
 use Rattle.block_scheduler.specs.Sets.{asks_at}
 use Rattle.block_engine.specs.declared.request.Request.{Request}

@@ -1,16 +1,14 @@
 -- The engine of a block disk: what it asks the caller for, what it makes of the answers, and which FIS goes next.
 use Rattle.std.specs.Prelude.{ℕ, ◌≡◌, ◌+◌, ◌^◌, ◌<◌, ◌≤◌, ◌==◌, nat_lt, nat_le, Bool, true, false, not, ◌&&◌, ◌||◌, ◌⊎◌}
-use Rattle.std.specs.Prelude.{List, [], Option, Some, None, is_none, replicate, slice_index_or, slice_set, if◌then◌else◌}
+use Rattle.std.specs.Prelude.{List, [], Option, Some, None, is_none, replicate, slice_set, if◌then◌else◌}
 use Rattle.block_command.specs.declared.answer.AnswerError.{AnswerError}
 use Rattle.block_command.specs.declared.answer.AnswerError.TheVariants.{NotOut, OtherKind, OtherSector}
-use Rattle.block_command.specs.declared.command.Command.{Command}
 use Rattle.block_command.specs.declared.command.Turn.{Turn}
 use Rattle.block_command.specs.declared.command.Turn.TheVariants as turn
 use Rattle.block_command.specs.Moments.{Moment, is_storing, part_count, part_lba, runs, turn_of}
 use Rattle.block_command.specs.Laws.{Input, Loads, Stores, Flushes, Fails}
 use Rattle.block_disk.specs.Requests.{with_asked, with_drawn}
-use Rattle.block_queue.specs.Line.{IsOldest, Line, PassesNowhere, awaits, command_at, first_below, line_answered, line_gone, line_refusal, line_reset, line_taken, may_send, with_queue}
-use Rattle.block_scheduler.specs.declared.scheduler.NextFis.{NextFis}
+use Rattle.block_queue.specs.Line.{IsOldest, Line, PassesNowhere, awaits, command_at, first_below, line_answered, line_gone, line_refusal, line_reset, may_send, with_queue}
 use Rattle.block_scheduler.specs.declared.scheduler.NextFis.TheVariants as fis
 use Rattle.block_scheduler.specs.Sets.{asks_at}
 use Rattle.block_scheduler.specs.Schedule.{IsNextFis, IsNextStart, Schedule, is_quiet, none_scheduled, with_line}

@@ -9,7 +9,7 @@ use Rattle.block_disk.specs.Table.{is_under_way, with_input}
 use Rattle.block_disk.specs.Requests.{AreSeenRightly, Rises, Seen, asks, no_books, none_queued, numbers_given, seen_by, with_table}
 use Rattle.block_queue.specs.Line.{command_at, line_taken, may_send, may_start, with_queue}
 use Rattle.block_queue.specs.Deeds.{AllAreApart, AreNamed, Goes, act_of}
-use Rattle.block_scheduler.specs.Schedule.{ends_sent, line_sent, none_scheduled}
+use Rattle.block_scheduler.specs.Schedule.{ends_sent, line_sent}
 use Rattle.block_scheduler.specs.Laws as moves
 use Rattle.block_scheduler.specs.Laws.{Move, deeds_in, seen_in}
 use Rattle.block_engine.specs.declared.aside.AsideKind.{AsideKind}
