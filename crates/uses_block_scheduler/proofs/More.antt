@@ -1,13 +1,12 @@
 -- A run that goes on.
-use Rattle.std.proofs.Common.{◌≡◌, ℕ, ◌<◌, ◌≤◌, true, List, [], ◌∷◌, ◌++◌, Some, None, refl, sym, ap, ◌∙◌, subst}
-use Rattle.std.specs.Prelude.{Option, Bool, is_none}
-use Rattle.block_command.specs.declared.command.Command.{Command}
+use Rattle.std.proofs.Common.{◌≡◌, ℕ, true, List, [], ◌∷◌, ◌++◌, Some, None, refl, sym, ap, ◌∙◌, subst}
+use Rattle.std.specs.Prelude.{Option, Bool, not}
+use Rattle.std.specs.Option.{is_some}
 use Rattle.block_disk.specs.Table.{is_under_way}
 use Rattle.block_queue.specs.Line.{command_at}
-use Rattle.block_queue.specs.Deeds.{Goes}
 use Rattle.block_scheduler.specs.Schedule.{IsNextStart, Schedule, none_scheduled}
 use Rattle.block_scheduler.specs.Laws.{AreMoves, IsMove, Move, SomethingMoves, after_move, after_moves}
-use Rattle.uses_block_scheduler.specs.Reached.{Extends, IsDriven, IsReached}
+use Rattle.uses_block_scheduler.specs.Reached.{Extends, IsDriven}
 
 are_more : (moves : List Move) (s : Schedule) (m : Move) → AreMoves s moves → IsMove (after_moves s moves) m → AreMoves s (moves ++ m ∷ [])
 unfolding after_moves
@@ -32,7 +31,7 @@ append_none (m ∷ later) = ap (λ ms. m ∷ ms) (append_none later)
 pub no_more : (old new : Schedule) → new ≡ old → Extends old new []
 no_more old new e = λ limit moves r. rw (append_none moves) (r.0, e ∙ r.1)
 
-pub driven : (s : Schedule) (next : Option ℕ) (idle : Bool) → SomethingMoves → IsNextStart s next → idle ≡ is_none next → IsDriven s idle
+pub driven : (s : Schedule) (next : Option ℕ) (idle : Bool) → SomethingMoves → IsNextStart s next → is_some next ≡ not idle → IsDriven s idle
 driven s None idle law is e = λ same limit moves p r room low alive.
     rw r.1 (law limit moves p r.0 room low (subst (λ s. is_under_way (command_at s.line p) ≡ true) r.1 alive) (subst (λ s. IsNextStart s None) r.1 is))
-driven s (Some p) idle law is e = λ same. absurd (let f = sym e ∙ same in cc)
+driven s (Some p) idle law is e = λ same. absurd (let f = e ∙ ap not same in cc)
