@@ -7,8 +7,8 @@ ghost use Rattle.block_command.specs.Moments.{IsCommand};
 use block_command::{AnswerError, Command, Protocol, Turn};
 use block_engine::{
     Answer, AsideKind, AsideStage, Engine, EngineFis, ErrorKind, Failure, Range, Request, What,
-    asides_are_earned, data_are_named, ends_are_earned, numbers_are_fresh, requests_are_apart,
-    something_moves,
+    asides_are_earned, data_are_named, discards_are_alone, ends_are_earned, numbers_are_fresh,
+    requests_are_apart, something_moves,
 };
 use std::alloc::{AllocError, Global};
 use std::process::Abort;
@@ -187,8 +187,8 @@ fn taken(rt: &impl Abort, alloc: Global, rounds: u32, fails: u64, reset: u32) ->
 #[test]
 fn queued_commands_end(rt: HostRuntime) {
     let alloc = rt.alloc();
-    for count in taken(&rt, alloc, 1500, 0, 0) {
-        assert!(rt; count >= 10);
+    for count in taken(&rt, alloc, 1000, 0, 0) {
+        assert!(rt; count >= 5);
     }
 }
 
@@ -203,7 +203,7 @@ fn errors_end_queued_commands(rt: HostRuntime) {
 #[test]
 fn resets_end_queued_commands(rt: HostRuntime) {
     let alloc = rt.alloc();
-    for count in taken(&rt, alloc, 1000, 0, 100) {
+    for count in taken(&rt, alloc, 700, 0, 100) {
         assert!(rt; count >= 5);
     }
 }
@@ -337,6 +337,7 @@ fn laws_hold(_rt: HostRuntime) {
     requests_are_apart();
     ends_are_earned();
     data_are_named();
+    discards_are_alone();
     numbers_are_fresh();
     something_moves();
 }

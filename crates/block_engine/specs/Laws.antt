@@ -1,13 +1,13 @@
 -- Runs of an engine: each call does to its scheduler what some calls of a scheduler do, so the laws of the scheduler hold of what an
 -- engine shows.
-use Rattle.std.specs.Prelude.{ℕ, ◌≡◌, ◌<◌, ◌≤◌, ◌⊎◌, nat_lt, true, false, List, [], ◌∷◌, ◌++◌, map, Option, Some, None}
+use Rattle.std.specs.Prelude.{ℕ, ◌≡◌, ◌<◌, ◌≤◌, ◌⊎◌, nat_lt, true, false, List, [], ◌∷◌, ◌++◌, map, Option, Some, None, Bool}
 use Rattle.block_command.specs.declared.command.Command.{Command}
-use Rattle.block_command.specs.Moments.{IsCommand, is_queued}
+use Rattle.block_command.specs.Moments.{IsCommand, Moment, is_queued, runs}
 use Rattle.block_command.specs.Laws as command
 use Rattle.block_command.specs.Laws.{Comes}
 use Rattle.block_disk.specs.Table.{is_under_way, with_input}
 use Rattle.block_disk.specs.Requests.{AreSeenRightly, Rises, Seen, asks, no_books, none_queued, numbers_given, seen_by, with_table}
-use Rattle.block_queue.specs.Line.{command_at, line_taken, may_send, may_start, with_queue}
+use Rattle.block_queue.specs.Line.{Line, command_at, line_taken, may_send, may_start, with_queue, orphan}
 use Rattle.block_queue.specs.Deeds.{AllAreApart, AreNamed, Goes, act_of}
 use Rattle.block_scheduler.specs.Schedule.{ends_sent, line_sent}
 use Rattle.block_scheduler.specs.Laws as moves
@@ -139,3 +139,19 @@ SomethingMoves = (limit : ℕ) (steps : List Step) (p : ℕ) → AreSteps (none_
     → is_under_way (command_at (line (after_steps (none_engaged limit) steps)) p) ≡ true
     → IsEngineStart (after_steps (none_engaged limit) steps) None
     → (discards (after_steps (none_engaged limit) steps) ≡ true) ⊎ Goes (line (after_steps (none_engaged limit) steps))
+
+-- ## Discards are alone
+
+abbrev pub runs_at : Option Moment → Bool
+runs_at None = false
+runs_at (Some m) = runs m.stage
+
+-- nothing of the queue runs, and no dropped store is out
+pub record IsStill (l : Line) : Type 0 where
+  pub still : (p : ℕ) → p < 33 → runs_at (command_at l p) ≡ false
+  pub none : (p : ℕ) → p < 33 → orphan l p ≡ None
+
+-- while a discard is out, also one that a reset dropped, no command of the queue has started, so no load and no store is out
+abbrev pub DiscardsAreAlone : Type 0
+DiscardsAreAlone = (limit : ℕ) (steps : List Step) → AreSteps (none_engaged limit) steps
+    → discards (after_steps (none_engaged limit) steps) ≡ true → IsStill (line (after_steps (none_engaged limit) steps))

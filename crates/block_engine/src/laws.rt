@@ -1,6 +1,6 @@
 //! Laws over every run of an engine.
 
-ghost use Rattle.block_engine.specs.Laws.{DataAreNamed, EndsAreEarned, NumbersAreFresh, RequestsAreApart, SomethingMoves};
+ghost use Rattle.block_engine.specs.Laws.{DataAreNamed, DiscardsAreAlone, EndsAreEarned, NumbersAreFresh, RequestsAreApart, SomethingMoves};
 
 /// A law; it runs no code. In every run, whatever is taken, sent, received, asked and answered: each request to load
 /// or to store is apart from all that were asked and are not answered. They have no sector in common, unless both are
@@ -32,4 +32,10 @@ pub fn numbers_are_fresh()
 /// something.
 pub fn something_moves()
     ensures { SomethingMoves }
+{}
+
+/// A law; it runs no code. In every run, while a discard is out, also one that a reset dropped, no command of the queue
+/// has started and no dropped store is out. So no load or store passes a discard.
+pub fn discards_are_alone()
+    ensures { DiscardsAreAlone }
 {}
