@@ -52,7 +52,11 @@ fn some_command(place: u8, seed: u64) -> Command
         write: bits >> 26 & 1 == 1 && !matches!(protocol, Protocol::Verify),
         lasting: bits >> 27 & 1 == 1,
         protocol,
-        block: if matches!(protocol, Protocol::Pio) { 4096 } else { 8192 },
+        block: if matches!(protocol, Protocol::Pio) {
+            4096
+        } else {
+            8192
+        },
     }
 }
 
@@ -217,7 +221,12 @@ fn take_single(rt: &impl Abort, alloc: Global, disk: &mut Engine, seed: u64) {
         0 => disk.take_flush(),
         1 => {
             let mut ranges = Vec::new(alloc);
-            ranges.push(Range { lba: seed >> 40, count: 8 }).expect(rt, "memory");
+            ranges
+                .push(Range {
+                    lba: seed >> 40,
+                    count: 8,
+                })
+                .expect(rt, "memory");
             disk.take_discard(ranges);
         }
         _ => disk.take(alloc, some_command(32, seed)),
@@ -286,10 +295,12 @@ fn a_flush_waits_for_a_dropped_store(rt: HostRuntime) {
         disk.take_flush();
     }
     assert!(rt; disk.next_request().is_none());
-    disk.answer(store.number, Answer::Done).expect(&rt, "the store");
+    disk.answer(store.number, Answer::Done)
+        .expect(&rt, "the store");
     let flush = disk.next_request().expect(&rt, "the flush");
     assert!(rt; matches!(flush.what, What::Flush));
-    disk.answer(flush.number, Answer::Done).expect(&rt, "the flush");
+    disk.answer(flush.number, Answer::Done)
+        .expect(&rt, "the flush");
     assert!(rt; matches!(disk.stage(), AsideStage::Done));
     asides_are_earned();
 }
@@ -300,7 +311,9 @@ fn nothing_starts_beside_a_dropped_discard(rt: HostRuntime) {
     let mut disk = Engine::new(alloc, LIMIT).expect(&rt, "memory");
     if matches!(disk.stage(), AsideStage::Idle) {
         let mut ranges = Vec::new(alloc);
-        ranges.push(Range { lba: 1, count: 2 }).expect(&rt, "memory");
+        ranges
+            .push(Range { lba: 1, count: 2 })
+            .expect(&rt, "memory");
         disk.take_discard(ranges);
     }
     let discard = disk.next_request().expect(&rt, "the discard");
@@ -311,7 +324,8 @@ fn nothing_starts_beside_a_dropped_discard(rt: HostRuntime) {
         disk.take(alloc, WRITE);
     }
     assert!(rt; disk.start_next().expect(&rt, "memory").is_none());
-    disk.answer(discard.number, Answer::Done).expect(&rt, "the discard");
+    disk.answer(discard.number, Answer::Done)
+        .expect(&rt, "the discard");
     assert!(rt; disk.start_next().expect(&rt, "memory").is_some());
 }
 
@@ -320,13 +334,23 @@ fn a_failure_is_kept(rt: HostRuntime) {
     let alloc = rt.alloc();
     let mut disk = Engine::new(alloc, LIMIT).expect(&rt, "memory");
     if disk.fault().is_none() {
-        disk.take(alloc, Command { write: false, ..WRITE });
+        disk.take(
+            alloc,
+            Command {
+                write: false,
+                ..WRITE
+            },
+        );
     }
     let load = first_request(&rt, alloc, &mut disk);
-    let failure = Failure { error: ErrorKind::Uncorrectable, lba: 8 };
+    let failure = Failure {
+        error: ErrorKind::Uncorrectable,
+        lba: 8,
+    };
     assert!(rt; disk.answer(load.number, Answer::Failed(failure)).is_err());
     let failure = Failure { lba: 7, ..failure };
-    disk.answer(load.number, Answer::Failed(failure)).expect(&rt, "the load");
+    disk.answer(load.number, Answer::Failed(failure))
+        .expect(&rt, "the load");
     assert!(rt; disk.failure(3) == Some(failure));
     send(&rt, alloc, &mut disk);
     assert!(rt; disk.fault() == Some(3));

@@ -78,18 +78,18 @@ set_still : (xs : List (Option Moment)) (p q : ℕ) (x : Option Moment) → runs
     → runs_at (get_or (set xs p x) q None) ≡ false
 set_still xs p q x e f = elim (cases_eq q p) [
   | inl same ↦ rw same (elim (cases_lt p (length xs)) [
-      | inl low ↦ rw (get_or-set_same xs p x None low) e
-      | inr high ↦ rw (out_none xs p x high) refl
-    ])
+    | inl low ↦ rw (get_or-set_same xs p x None low) e
+    | inr high ↦ rw (out_none xs p x high) refl
+  ])
   | inr apart ↦ rw (get_or-set_other xs p q x None apart) f
 ]
 
 set_none : (xs : List (Option Orphan)) (p q : ℕ) → get_or xs q None ≡ None → get_or (set xs p None) q None ≡ None
 set_none xs p q f = elim (cases_eq q p) [
   | inl same ↦ rw same (elim (cases_lt p (length xs)) [
-      | inl low ↦ get_or-set_same xs p None None low
-      | inr high ↦ get_or-eq_default (set xs p None) None (let l = length-set xs p None in omega (arith, l, high))
-    ])
+    | inl low ↦ get_or-set_same xs p None None low
+    | inr high ↦ get_or-eq_default (set xs p None) None (let l = length-set xs p None in omega (arith, l, high))
+  ])
   | inr apart ↦ get_or-set_other xs p q None None apart ∙ f
 ]
 

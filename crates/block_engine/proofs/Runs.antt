@@ -93,7 +93,7 @@ done_answers : (b : Bool) → is_answer (if b then Stores else Flushes) ≡ true
 done_answers true = refl
 done_answers false = refl
 
-answer_are : (e : EngineState) (x : Option ℕ) (number : ℕ) (a : Answer) → (( p : ℕ) → x ≡ Some p → p < 33)
+answer_are : (e : EngineState) (x : Option ℕ) (number : ℕ) (a : Answer) → ((p : ℕ) → x ≡ Some p → p < 33)
     → moves.AreMoves e.schedule (answer_moves e x number a)
 answer_are e None number a low = tt
 answer_are e (Some p) number (answers.Loaded bytes) low = ((low p refl, refl), tt)

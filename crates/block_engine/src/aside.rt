@@ -55,7 +55,11 @@ pub(crate) fn asks_for(stage: AsideStage, number: u64) -> bool
 pub(crate) fn settled(well: bool) -> AsideStage
     ensures { result ≡ settled well }
 {
-    if well { AsideStage::Done } else { AsideStage::Failed }
+    if well {
+        AsideStage::Done
+    } else {
+        AsideStage::Failed
+    }
 }
 
 /// A law; it runs no code. In every run, whatever is answered and when, the end of a command beside the queue goes

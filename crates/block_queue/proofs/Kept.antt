@@ -682,7 +682,7 @@ unfolding first_below
 first_found test zero k low none e = absurd (omega (arith, low))
 first_found test (suc n) k low none e = elim (cases_eq k n) [
   | inl same ↦ let none' = ap (first_below test) (sym same) ∙ none in
-    first_here test n _ _ none' (ap test (sym same) ∙ e) ∙ ap Some (sym same)
+      first_here test n _ _ none' (ap test (sym same) ∙ e) ∙ ap Some (sym same)
   | inr apart ↦ first_stays _ k _ (first_found test n k (omega (arith, low, apart)) none e)
 ]
 
