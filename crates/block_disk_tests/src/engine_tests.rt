@@ -191,8 +191,8 @@ fn taken(rt: &impl Abort, alloc: Global, rounds: u32, fails: u64, reset: u32) ->
 #[test]
 fn queued_commands_end(rt: HostRuntime) {
     let alloc = rt.alloc();
-    for count in taken(&rt, alloc, 1000, 0, 0) {
-        assert!(rt; count >= 5);
+    for count in taken(&rt, alloc, 500, 0, 0) {
+        assert!(rt; count >= 2);
     }
 }
 
@@ -200,15 +200,15 @@ fn queued_commands_end(rt: HostRuntime) {
 fn errors_end_queued_commands(rt: HostRuntime) {
     let alloc = rt.alloc();
     for count in taken(&rt, alloc, 1000, 50, 0) {
-        assert!(rt; count >= 5);
+        assert!(rt; count >= 2);
     }
 }
 
 #[test]
 fn resets_end_queued_commands(rt: HostRuntime) {
     let alloc = rt.alloc();
-    for count in taken(&rt, alloc, 700, 0, 100) {
-        assert!(rt; count >= 5);
+    for count in taken(&rt, alloc, 400, 0, 100) {
+        assert!(rt; count >= 2);
     }
 }
 
@@ -260,7 +260,7 @@ fn singles(rt: &impl Abort, alloc: Global, count: u32) {
 
 #[test]
 fn single_commands_end(rt: HostRuntime) {
-    singles(&rt, rt.alloc(), 2000);
+    singles(&rt, rt.alloc(), 600);
 }
 
 /// A write of a sector.
