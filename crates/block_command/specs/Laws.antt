@@ -6,6 +6,9 @@ use Rattle.block_command.specs.declared.command.Command.{Command}
 use Rattle.block_command.specs.declared.command.Turn.{Turn}
 use Rattle.block_command.specs.declared.command.Turn.TheVariants as turn
 use Rattle.block_command.specs.Moments.{IsCommand, Moment, opening, turn_of, part_of, part_lba, part_count, gone, after_loaded, after_came}
+use Rattle.block_command.specs.declared.answer.AnswerError.{AnswerError}
+use Rattle.block_command.specs.declared.answer.AnswerError.TheVariants.{OtherKind}
+use Rattle.block_command.specs.Moments.{load_fault, store_fault, flush_fault, failure_fault}
 use Rattle.block_command.specs.Moments.{after_stored, after_flushed, after_failed, whole, is_verify}
 
 -- what can be done with a command
@@ -28,6 +31,14 @@ after m (Comes part) = after_came m m.stage part
 after m Stores = after_stored m m.stage
 after m Flushes = after_flushed m m.stage
 after m Fails = after_failed m m.stage
+
+-- why an answer is refused
+abbrev pub refusal : Moment → Input → Option AnswerError
+refusal m (Loads bytes) = load_fault m m.stage bytes
+refusal m Stores = store_fault m.stage
+refusal m Flushes = flush_fault m.stage
+refusal m Fails = failure_fault m.stage
+refusal m _ = Some OtherKind
 
 -- what a run shows
 pub data Happening : Type 0 where

@@ -1,7 +1,9 @@
 -- A command of a block disk at one moment, what it does next, and what it makes of what it is given
 -- (ACS-3, 4, protocols; Serial ATA 3.x, 10.5, FIS types, and 13.6, native command queuing).
 use Rattle.std.specs.Prelude.{ℕ, ◌+◌, ◌-◌, ◌*◌, ◌<◌, ◌≤◌, ◌==◌, ◌^◌, Bool, true, false, List, [], ◌++◌, length}
-use Rattle.std.specs.Prelude.{take, drop, nat_lt, if◌then◌else◌, ◌&&◌}
+use Rattle.std.specs.Prelude.{take, drop, nat_lt, if◌then◌else◌, ◌&&◌, Option, Some, None}
+use Rattle.block_command.specs.declared.answer.AnswerError.{AnswerError}
+use Rattle.block_command.specs.declared.answer.AnswerError.TheVariants.{OtherKind, OtherLength}
 use Rattle.block_command.specs.declared.command.Command.{Command}
 use Rattle.block_command.specs.declared.command.Protocol.{Protocol}
 use Rattle.block_command.specs.declared.command.Protocol.TheVariants.{Queued, Pio, Verify}
@@ -195,6 +197,26 @@ after_failed m Loading = record m { stage = Fail }
 after_failed m Storing = record m { stage = Fail }
 after_failed m Flushing = record m { stage = Fail }
 after_failed m _ = m
+
+-- ## Why an answer is refused: it is none to what was asked
+
+abbrev pub load_fault : Moment → Stage → List ℕ → Option AnswerError
+load_fault m Loading bytes = if length bytes == part_len m.command m.done then None else Some OtherLength
+load_fault m _ bytes = Some OtherKind
+
+abbrev pub store_fault : Stage → Option AnswerError
+store_fault Storing = None
+store_fault _ = Some OtherKind
+
+abbrev pub flush_fault : Stage → Option AnswerError
+flush_fault Flushing = None
+flush_fault _ = Some OtherKind
+
+abbrev pub failure_fault : Stage → Option AnswerError
+failure_fault Loading = None
+failure_fault Storing = None
+failure_fault Flushing = None
+failure_fault _ = Some OtherKind
 
 -- ## What every command keeps
 

@@ -1,8 +1,11 @@
 //! A command and its stages.
 
 ghost use Rattle.std.specs.Prelude.{◌≡◌, ◌+◌, ◌-◌, ◌*◌, ◌<◌, ◌≤◌, ◌^◌, [], length, IfOk, OnOk, OnErr, take, drop};
-ghost use Rattle.block_command.specs.Moments.{IsCommand, IsMoment, Moment, after_came, after_failed, after_flushed, after_loaded, after_stored, chunk, data_stage, first_data_stage, gone, holds, is_ended, is_queued, is_storing, is_verify, opening, part_count, part_len, part_lba, part_of, read_end, read_on, runs, sent_to, started, turn_of};
+ghost use Rattle.std.specs.Result.{result_err};
+ghost use Rattle.block_command.specs.Moments.{failure_fault, flush_fault, load_fault, store_fault};
+ghost use Rattle.block_command.specs.Moments.{IsCommand, IsMoment, Moment, after_came, after_failed, after_flushed, after_loaded, after_stored, chunk, data_stage, first_data_stage, gone, holds, is_ended, is_queued, is_storing, is_verify, opening, part_count, part_len, part_lba, part_of, read_end, read_on, runs, sent_to, started, turn_of, write_on};
 
+use crate::answer::AnswerError;
 use std::alloc::{AllocError, Global};
 use std::marker::Model;
 
@@ -367,20 +370,26 @@ impl BlockCommand {
         };
     }
 
-    /// The caller gives the sectors. Bytes that were not asked for, or of another number, are dropped.
-    pub fn loaded(&mut self, bytes: Vec<u8>)
-        ensures { self.new ≡ after_loaded self.old self.old.stage bytes.items }
+    /// The caller gives the sectors. Where none were asked for, or another number of them, it is refused, and the
+    /// command waits on.
+    pub fn loaded(&mut self, bytes: Vec<u8>) -> Result<(), AnswerError>
+        ensures refusal { result_err result ≡ load_fault self.old self.old.stage bytes.items }
+        ensures after { self.new ≡ after_loaded self.old self.old.stage bytes.items }
+        ensures err { OnErr result (self.new ≡ self.old) }
     {
-        if let Stage::Loading = self.stage
-            && bytes.len() == self.part_count() as usize * 512
-        {
-            if let Protocol::Verify = self.command.protocol {
-                self.read_on();
-            } else {
-                self.bytes = bytes;
-                self.stage = first_data_stage(self.command.protocol, self.done);
-            }
+        let Stage::Loading = self.stage else {
+            return Err(AnswerError::OtherKind);
+        };
+        if bytes.len() != self.part_count() as usize * 512 {
+            return Err(AnswerError::OtherLength);
         }
+        if let Protocol::Verify = self.command.protocol {
+            self.read_on();
+        } else {
+            self.bytes = bytes;
+            self.stage = first_data_stage(self.command.protocol, self.done);
+        }
+        Ok(())
     }
 
     /// A Data FIS came. One that was not asked for is dropped; one that has more than was asked for is an error of
@@ -406,40 +415,59 @@ impl BlockCommand {
         Ok(())
     }
 
-    /// The caller stored the bytes.
-    pub fn stored(&mut self)
-        ensures { self.new ≡ after_stored self.old self.old.stage }
+    /// All bytes of the part of a write are stored.
+    fn write_on(&mut self)
+        ensures { self.new ≡ write_on self.old (self.old.done + part_count self.old.command self.old.done) }
     {
-        if let Stage::Storing = self.stage {
-            let done = self.done + count_from(self.command, self.done);
-            self.done = done;
-            self.bytes.clear();
-            self.sent = 0;
-            self.stage = if done < self.command.count {
-                Stage::Activate
-            } else if self.command.lasting {
-                Stage::Flush
-            } else {
-                Stage::End
-            };
-        }
+        let done = self.done + count_from(self.command, self.done);
+        self.done = done;
+        self.bytes.clear();
+        self.sent = 0;
+        self.stage = if done < self.command.count {
+            Stage::Activate
+        } else if self.command.lasting {
+            Stage::Flush
+        } else {
+            Stage::End
+        };
     }
 
-    /// The caller flushed its medium.
-    pub fn flushed(&mut self)
-        ensures { self.new ≡ after_flushed self.old self.old.stage }
+    /// The caller stored the bytes. Refused where it was not asked for that.
+    pub fn stored(&mut self) -> Result<(), AnswerError>
+        ensures refusal { result_err result ≡ store_fault self.old.stage }
+        ensures after { self.new ≡ after_stored self.old self.old.stage }
+        ensures err { OnErr result (self.new ≡ self.old) }
     {
-        if let Stage::Flushing = self.stage {
-            self.stage = Stage::End;
-        }
+        let Stage::Storing = self.stage else {
+            return Err(AnswerError::OtherKind);
+        };
+        self.write_on();
+        Ok(())
     }
 
-    /// The caller could not do what it was asked for.
-    pub fn failed(&mut self)
-        ensures { self.new ≡ after_failed self.old self.old.stage }
+    /// The caller flushed its medium. Refused where it was not asked for that.
+    pub fn flushed(&mut self) -> Result<(), AnswerError>
+        ensures refusal { result_err result ≡ flush_fault self.old.stage }
+        ensures after { self.new ≡ after_flushed self.old self.old.stage }
+        ensures err { OnErr result (self.new ≡ self.old) }
     {
-        if let Stage::Loading | Stage::Storing | Stage::Flushing = self.stage {
-            self.stage = Stage::Fail;
-        }
+        let Stage::Flushing = self.stage else {
+            return Err(AnswerError::OtherKind);
+        };
+        self.stage = Stage::End;
+        Ok(())
+    }
+
+    /// The caller could not do what it was asked for. Refused where it was asked for nothing.
+    pub fn failed(&mut self) -> Result<(), AnswerError>
+        ensures refusal { result_err result ≡ failure_fault self.old.stage }
+        ensures after { self.new ≡ after_failed self.old self.old.stage }
+        ensures err { OnErr result (self.new ≡ self.old) }
+    {
+        let (Stage::Loading | Stage::Storing | Stage::Flushing) = self.stage else {
+            return Err(AnswerError::OtherKind);
+        };
+        self.stage = Stage::Fail;
+        Ok(())
     }
 }

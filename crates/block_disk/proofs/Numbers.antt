@@ -7,7 +7,7 @@ use Rattle.block_command.specs.Laws.{Input, Goes, Loads, Comes, Stores, Flushes,
 use Rattle.block_disk.specs.Table.{at, with_input}
 use Rattle.block_disk.specs.Laws as laws
 use Rattle.block_disk.specs.Laws.{Page, At, Took, Refused, shown_at, entered_in, at_page, page_entered}
-use Rattle.block_disk.specs.Requests.{Queue, is_answer, Act, Takes, Sends, Asks, Hears, Answers, Resets, IsAct, AreActs, after_act, is_out, told, none_queued}
+use Rattle.block_disk.specs.Requests.{Queue, is_answer, Act, Takes, Sends, Asks, Hears, Answers, Resets, Draws, IsAct, AreActs, after_act, is_out, told, none_queued}
 use Rattle.block_disk.specs.Requests.{OnLink, seen, seen_by, Books, no_books, entered_by, out_after, IsSeenRightly, AreSeenRightly}
 use Rattle.block_disk.specs.Requests.{LateAnswersCountForNothing, numbers_given, Rises, NumbersAreFresh}
 use Rattle.block_disk.proofs.Ends.{Kept, Matches, kept_none, next}
@@ -86,6 +86,7 @@ one q (Answers place number i) b agree is = (
       (ap (λ out. is_out out place number) agree.out) agree is.0 is.1,
 )
 one q Resets b agree is = (tt, record { kept = kept_none 33 refl; out = refl })
+one q Draws b agree is = (tt, record { kept = agree.kept; out = agree.out })
 
 runs : (acts : List Act) (q : Queue) (b : Books) → Agree q b → AreActs acts → AreSeenRightly b (seen_by q acts)
 unfolding seen_by
@@ -111,6 +112,7 @@ rises (Asks place ∷ later) q last low = (low, rises later (after_act q (Asks p
 rises (Hears place part ∷ later) q last low = rises later (after_act q (Hears place part)) last low
 rises (Answers place number i ∷ later) q last low = rises later (after_act q (Answers place number i)) last (same_next _ _ _ last low low)
 rises (Resets ∷ later) q last low = rises later (after_act q Resets) last low
+rises (Draws ∷ later) q last low = (low, rises later (after_act q Draws) q.next (omega arith))
 
 pub numbers_are_fresh : NumbersAreFresh
 numbers_are_fresh acts = rises acts none_queued 0 (omega arith)

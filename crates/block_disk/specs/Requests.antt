@@ -6,7 +6,9 @@ use Rattle.block_command.specs.declared.command.Turn.{Turn}
 use Rattle.block_command.specs.declared.command.Turn.TheVariants as turn
 use Rattle.block_command.specs.Moments.{IsCommand, Moment, is_queued, turn_of}
 use Rattle.block_command.specs.Laws.{Input, Happening, Goes, Comes, Loads, Stores, Flushes, Fails, Waited, Loaded, Stored, Flushed, Failed}
-use Rattle.block_disk.specs.Table.{Table, at, is_under_way, none_under_way, with_input, with_taken}
+use Rattle.block_command.specs.declared.answer.AnswerError.{AnswerError}
+use Rattle.block_command.specs.declared.answer.AnswerError.TheVariants.{NotOut}
+use Rattle.block_disk.specs.Table.{Table, at, is_under_way, may_go, none_under_way, refusal_at, with_input, with_taken}
 use Rattle.block_disk.specs.Laws.{Page, Shown, Took, Refused, At, Reset, IsAllowedBy, entered_in, shown_at}
 
 pub record Queue : Type 0 where
@@ -33,6 +35,24 @@ asks_at (Some m) = is_request (turn_of m.stage)
 abbrev pub asks : Queue → ℕ → Bool
 asks q place = asks_at (at q.table place)
 
+-- whether this is a FIS
+abbrev pub is_fis : Turn → Bool
+is_fis turn.SetUp = true
+is_fis turn.Announce = true
+is_fis turn.Data = true
+is_fis turn.Activate = true
+is_fis turn.End = true
+is_fis turn.Fail = true
+is_fis _ = false
+
+abbrev pub sends_at : Option Moment → Bool
+sends_at None = false
+sends_at (Some m) = is_fis (turn_of m.stage)
+
+-- whether the FIS that is next at a place may be sent now
+abbrev pub may_send : Queue → ℕ → Bool
+may_send q place = sends_at (at q.table place) && may_go q.table place
+
 abbrev pub is_out : List ℕ → ℕ → ℕ → Bool
 is_out out place number = nat_lt 0 number && (slice_index_or out place 0 == number)
 
@@ -54,6 +74,14 @@ with_asked q place = record {
   next = q.next + 1;
 }
 
+-- a number is given to a request of another crate
+abbrev pub with_drawn : Queue → Queue
+with_drawn q = record q { next = q.next + 1 }
+
+-- why an answer is refused: its number is of no request that is out, or it is none to what was asked
+abbrev pub answer_refusal : Queue → (place number : ℕ) → Input → Option AnswerError
+answer_refusal q place number i = if is_out q.out place number then refusal_at (at q.table place) i else Some NotOut
+
 -- the answer to the request that is out; any other is one to nothing
 abbrev pub with_answer : Queue → ℕ → ℕ → Input → Queue
 with_answer q place number i = if is_out q.out place number
@@ -63,7 +91,7 @@ with_answer q place number i = if is_out q.out place number
 abbrev pub queue_reset : Queue → Queue
 queue_reset q = record { table = none_under_way; out = replicate 33 0; next = q.next }
 
--- ## Runs
+-- ## Runs. A call that refuses an answer changes nothing and is none of their acts; they have more answers than are taken.
 
 pub data Act : Type 0 where
   Takes : Command → Act
@@ -73,6 +101,8 @@ pub data Act : Type 0 where
   Hears : ℕ → List ℕ → Act
   Answers : (place number : ℕ) → Input → Act
   Resets : Act
+  -- a number is given to a request of another crate
+  Draws : Act
 
 abbrev pub is_answer : Input → Bool
 is_answer Goes = false
@@ -86,6 +116,7 @@ IsAct (Asks place) = place < 33
 IsAct (Hears place part) = place < 33
 IsAct (Answers place number i) = (place < 33) × (is_answer i ≡ true)
 IsAct Resets = Unit {0}
+IsAct Draws = Unit {0}
 
 abbrev pub AreActs : List Act → Type 0
 AreActs [] = Unit {0}
@@ -98,6 +129,7 @@ after_act q (Asks place) = with_asked q place
 after_act q (Hears place part) = with_table q (with_input q.table place (Comes part))
 after_act q (Answers place number i) = with_answer q place number i
 after_act q Resets = queue_reset q
+after_act q Draws = with_drawn q
 
 -- what an answer says
 abbrev pub told : Input → Happening
@@ -112,6 +144,7 @@ pub data Seen : Type 0 where
   OnLink : Shown → Seen
   Asked : (place number : ℕ) → Shown → Seen
   Answered : (place number : ℕ) → Happening → Seen
+  Drawn : ℕ → Seen
 
 abbrev pub seen : Queue → Act → Seen
 seen q (Takes c) = OnLink (if is_under_way (at q.table c.place) then Refused c else Took c)
@@ -120,6 +153,7 @@ seen q (Asks place) = Asked place q.next (shown_at place (at q.table place) Goes
 seen q (Hears place part) = OnLink (shown_at place (at q.table place) (Comes part))
 seen q (Answers place number i) = Answered place number (told i)
 seen q Resets = OnLink Reset
+seen q Draws = Drawn q.next
 
 unfoldable pub seen_by : Queue → List Act → List Seen
 seen_by q [] = []
@@ -143,6 +177,7 @@ entered_by b (OnLink s) = record { pages = entered_in b.pages s; out = out_after
 entered_by b (Asked place number s) = record { pages = entered_in b.pages s; out = slice_set b.out place number }
 entered_by b (Answered place number h) = if is_out b.out place number
     then record { pages = entered_in b.pages (At place h); out = slice_set b.out place 0 } else b
+entered_by b (Drawn number) = b
 
 abbrev pub IsSeenRightly : Books → Seen → Type 0
 IsSeenRightly b (OnLink s) = IsAllowedBy b.pages s
@@ -159,6 +194,7 @@ LateAnswersCountForNothing = (acts : List Act) → AreActs acts → AreSeenRight
 
 abbrev pub numbers_of : Seen → List ℕ
 numbers_of (Asked place number s) = number ∷ []
+numbers_of (Drawn number) = number ∷ []
 numbers_of _ = []
 
 unfoldable pub numbers_given : Queue → List Act → List ℕ

@@ -5,7 +5,9 @@ use Rattle.block_command.specs.declared.command.Command.{Command}
 use Rattle.block_command.specs.declared.command.Turn.{Turn}
 use Rattle.block_command.specs.declared.command.Turn.TheVariants as turn
 use Rattle.block_command.specs.Moments.{Moment, opening, holds, is_ended, turn_of}
-use Rattle.block_command.specs.Laws.{Input, after}
+use Rattle.block_command.specs.declared.answer.AnswerError.{AnswerError}
+use Rattle.block_command.specs.declared.answer.AnswerError.TheVariants.{NotOut}
+use Rattle.block_command.specs.Laws.{Input, after, refusal}
 
 -- the command at each place, and the queued one whose Data are on the link
 pub record Table : Type 0 where
@@ -39,6 +41,11 @@ with_command d place m = record { places = slice_set d.places place m; wire = wi
 -- something is done with the command of a place, if there is one
 abbrev pub with_input : Table → ℕ → Input → Table
 with_input d place i = with_command d place (option_map (λ m. after m i) (at d place))
+
+-- why an answer to the command of a place is refused
+abbrev pub refusal_at : Option Moment → Input → Option AnswerError
+refusal_at None i = Some NotOut
+refusal_at (Some m) i = refusal m i
 
 -- whether a place is under way: it has a command that has not ended
 abbrev pub is_under_way : Option Moment → Bool

@@ -1,11 +1,12 @@
 //! The commands by place.
 
 ghost use Rattle.std.specs.Prelude.{◌≡◌, true, ◌<◌, ◌≤◌, IfOk, IfSome, IfNone, List, None, OnErr, OnOk, Option, Some, length, replicate, slice_index_or, slice_set};
+ghost use Rattle.std.specs.Result.{result_err};
 ghost use Rattle.block_command.specs.Moments.{IsCommand, Moment};
 ghost use Rattle.block_command.specs.Laws.{Comes, Fails, Flushes, Goes, Loads, Stores};
-ghost use Rattle.block_disk.specs.Table.{Table, at, freed, has_wire, is_under_way, may_go, none_under_way, wants_wire, wire_with, with_input, with_taken};
+ghost use Rattle.block_disk.specs.Table.{Table, at, freed, has_wire, is_under_way, may_go, none_under_way, refusal_at, wants_wire, wire_with, with_input, with_taken};
 
-use block_command::{BlockCommand, Command, Turn};
+use block_command::{AnswerError, BlockCommand, Command, Turn};
 use std::alloc::{AllocError, Global};
 use std::marker::Model;
 
@@ -125,47 +126,63 @@ impl Commands {
     }
 
     /// The caller gives the sectors that a command asked for.
-    pub fn loaded(&mut self, place: u8, bytes: Vec<u8>)
+    pub fn loaded(&mut self, place: u8, bytes: Vec<u8>) -> Result<(), AnswerError>
         requires { place < 33 }
-        ensures { self.new ≡ with_input self.old place (Loads bytes.items) }
+        ensures refusal { result_err result ≡ refusal_at (at self.old place) (Loads bytes.items) }
+        ensures ok { OnOk result (self.new ≡ with_input self.old place (Loads bytes.items)) }
+        ensures err { OnErr result (self.new ≡ self.old) }
     {
-        if let Some(command) = &mut self.by_place[place as usize] {
-            command.loaded(bytes);
-        }
+        let Some(command) = &mut self.by_place[place as usize] else {
+            return Err(AnswerError::NotOut);
+        };
+        command.loaded(bytes)?;
         self.note(place);
+        Ok(())
     }
 
     /// The caller stored the bytes of a command.
-    pub fn stored(&mut self, place: u8)
+    pub fn stored(&mut self, place: u8) -> Result<(), AnswerError>
         requires { place < 33 }
-        ensures { self.new ≡ with_input self.old place Stores }
+        ensures refusal { result_err result ≡ refusal_at (at self.old place) Stores }
+        ensures ok { OnOk result (self.new ≡ with_input self.old place Stores) }
+        ensures err { OnErr result (self.new ≡ self.old) }
     {
-        if let Some(command) = &mut self.by_place[place as usize] {
-            command.stored();
-        }
+        let Some(command) = &mut self.by_place[place as usize] else {
+            return Err(AnswerError::NotOut);
+        };
+        command.stored()?;
         self.note(place);
+        Ok(())
     }
 
     /// The caller flushed its medium for a command.
-    pub fn flushed(&mut self, place: u8)
+    pub fn flushed(&mut self, place: u8) -> Result<(), AnswerError>
         requires { place < 33 }
-        ensures { self.new ≡ with_input self.old place Flushes }
+        ensures refusal { result_err result ≡ refusal_at (at self.old place) Flushes }
+        ensures ok { OnOk result (self.new ≡ with_input self.old place Flushes) }
+        ensures err { OnErr result (self.new ≡ self.old) }
     {
-        if let Some(command) = &mut self.by_place[place as usize] {
-            command.flushed();
-        }
+        let Some(command) = &mut self.by_place[place as usize] else {
+            return Err(AnswerError::NotOut);
+        };
+        command.flushed()?;
         self.note(place);
+        Ok(())
     }
 
     /// The caller could not do what a command asked for.
-    pub fn failed(&mut self, place: u8)
+    pub fn failed(&mut self, place: u8) -> Result<(), AnswerError>
         requires { place < 33 }
-        ensures { self.new ≡ with_input self.old place Fails }
+        ensures refusal { result_err result ≡ refusal_at (at self.old place) Fails }
+        ensures ok { OnOk result (self.new ≡ with_input self.old place Fails) }
+        ensures err { OnErr result (self.new ≡ self.old) }
     {
-        if let Some(command) = &mut self.by_place[place as usize] {
-            command.failed();
-        }
+        let Some(command) = &mut self.by_place[place as usize] else {
+            return Err(AnswerError::NotOut);
+        };
+        command.failed()?;
         self.note(place);
+        Ok(())
     }
 
     /// Data came for a command.

@@ -1,18 +1,20 @@
 //! Commands whose requests have numbers, so that a late answer is one to nothing.
 
 ghost use Rattle.std.specs.Prelude.{◌≡◌, ◌+◌, ◌<◌, ◌≤◌, ◌^◌, true, IfOk, IfSome, IfNone, List, None, OnErr, OnOk, Option, Some, length};
+ghost use Rattle.std.specs.Result.{result_err};
 ghost use Rattle.block_command.specs.Moments.{IsCommand, Moment};
 ghost use Rattle.block_command.specs.Laws.{Comes, Fails, Flushes, Goes, Loads, Stores};
 ghost use Rattle.block_disk.specs.Table.{at, is_under_way, may_go, with_input, with_taken};
-ghost use Rattle.block_disk.specs.Requests.{Queue, asks, is_out, is_request, none_queued, number_at, queue_reset, with_answer, with_asked, with_table};
+ghost use Rattle.block_disk.specs.Requests.{Queue, answer_refusal, asks, is_fis, is_out, is_request, may_send, none_queued, number_at, queue_reset, with_answer, with_asked, with_drawn, with_table};
 
 use crate::commands::Commands;
-use block_command::{BlockCommand, Command, Turn};
+use block_command::{AnswerError, BlockCommand, Command, Turn};
 use std::alloc::{AllocError, Global};
 use std::marker::Model;
 
 /// The commands under way. Each request of theirs has a number that no other has had; an answer names it. What is
-/// answered to a request that a reset, a plug or an error has ended changes nothing, whatever is at its place by then.
+/// answered to a request that a reset, a plug or an error has ended is refused, whatever is at its place by then, and
+/// so is an answer of another kind or length than was asked for: a refusal changes nothing.
 #[derive(Drop)]
 pub struct Requests {
     commands: Commands,
@@ -26,6 +28,16 @@ impl Model for Requests {
     ghost Value = { Queue };
 
     ghost view = { λ q. record { table = q.commands; out = q.out; next = q.next } };
+}
+
+/// Whether this is a FIS.
+fn is_fis(turn: Turn) -> bool
+    ensures { result ≡ is_fis turn }
+{
+    matches!(
+        turn,
+        Turn::SetUp | Turn::Announce | Turn::Data | Turn::Activate | Turn::End | Turn::Fail
+    )
 }
 
 /// Whether this is a request to the caller.
@@ -109,10 +121,21 @@ impl Requests {
         self.commands.start(place)
     }
 
+    /// Whether the FIS that is next for a command may be sent: while a command has the wire, no other sends.
+    pub fn may_send(&self, place: u8) -> bool
+        requires { place < 33 }
+        ensures { result ≡ may_send self.now place }
+    {
+        match self.commands.get(place) {
+            None => false,
+            Some(command) => is_fis(command.turn()) && self.commands.may_go(place),
+        }
+    }
+
     /// The FIS that was next for a command was sent.
     pub fn send(&mut self, place: u8)
         requires place { place < 33 }
-        requires may { may_go self.old.table place ≡ true }
+        requires may { may_send self.old place ≡ true }
         ensures { self.new ≡ with_table self.old (with_input self.old.table place Goes) }
     {
         self.commands.go(place);
@@ -122,7 +145,7 @@ impl Requests {
     /// 2 ^ 63 requests were asked.
     pub fn ask(&mut self, place: u8) -> Option<u64>
         requires place { place < 33 }
-        requires may { may_go self.old.table place ≡ true }
+        requires may { asks self.old place ≡ true }
         ensures some { IfSome result (λ number. number ≡ self.old.next) }
         ensures asked { IfSome result (λ number. self.new ≡ with_asked self.old place) }
         ensures none { IfNone result ((2 ^ 63 ≤ self.old.next) × (self.new ≡ self.old)) }
@@ -133,6 +156,20 @@ impl Requests {
         let number = self.next;
         self.commands.go(place);
         self.out[place as usize] = number;
+        self.next = number + 1;
+        Some(number)
+    }
+
+    /// A number for a request of the crate above: no other request gets it. None where the numbers are used up.
+    pub fn draw(&mut self) -> Option<u64>
+        ensures some { IfSome result (λ number. number ≡ self.old.next) }
+        ensures drawn { IfSome result (λ number. self.new ≡ with_drawn self.old) }
+        ensures none { IfNone result ((2 ^ 63 ≤ self.old.next) × (self.new ≡ self.old)) }
+    {
+        if self.next >= 1 << 63 {
+            return None;
+        }
+        let number = self.next;
         self.next = number + 1;
         Some(number)
     }
@@ -164,47 +201,63 @@ impl Requests {
     }
 
     /// The caller gives the sectors that the request of this number asked for.
-    pub fn loaded(&mut self, place: u8, number: u64, bytes: Vec<u8>)
+    pub fn loaded(&mut self, place: u8, number: u64, bytes: Vec<u8>) -> Result<(), AnswerError>
         requires { place < 33 }
-        ensures { self.new ≡ with_answer self.old place number (Loads bytes.items) }
+        ensures refusal { result_err result ≡ answer_refusal self.old place number (Loads bytes.items) }
+        ensures ok { OnOk result (self.new ≡ with_answer self.old place number (Loads bytes.items)) }
+        ensures err { OnErr result (self.new ≡ self.old) }
     {
-        if self.is_out(place, number) {
-            self.commands.loaded(place, bytes);
-            self.out[place as usize] = 0;
+        if !self.is_out(place, number) {
+            return Err(AnswerError::NotOut);
         }
+        self.commands.loaded(place, bytes)?;
+        self.out[place as usize] = 0;
+        Ok(())
     }
 
     /// The caller stored the bytes of the request of this number.
-    pub fn stored(&mut self, place: u8, number: u64)
+    pub fn stored(&mut self, place: u8, number: u64) -> Result<(), AnswerError>
         requires { place < 33 }
-        ensures { self.new ≡ with_answer self.old place number Stores }
+        ensures refusal { result_err result ≡ answer_refusal self.old place number Stores }
+        ensures ok { OnOk result (self.new ≡ with_answer self.old place number Stores) }
+        ensures err { OnErr result (self.new ≡ self.old) }
     {
-        if self.is_out(place, number) {
-            self.commands.stored(place);
-            self.out[place as usize] = 0;
+        if !self.is_out(place, number) {
+            return Err(AnswerError::NotOut);
         }
+        self.commands.stored(place)?;
+        self.out[place as usize] = 0;
+        Ok(())
     }
 
     /// The caller flushed its medium for the request of this number.
-    pub fn flushed(&mut self, place: u8, number: u64)
+    pub fn flushed(&mut self, place: u8, number: u64) -> Result<(), AnswerError>
         requires { place < 33 }
-        ensures { self.new ≡ with_answer self.old place number Flushes }
+        ensures refusal { result_err result ≡ answer_refusal self.old place number Flushes }
+        ensures ok { OnOk result (self.new ≡ with_answer self.old place number Flushes) }
+        ensures err { OnErr result (self.new ≡ self.old) }
     {
-        if self.is_out(place, number) {
-            self.commands.flushed(place);
-            self.out[place as usize] = 0;
+        if !self.is_out(place, number) {
+            return Err(AnswerError::NotOut);
         }
+        self.commands.flushed(place)?;
+        self.out[place as usize] = 0;
+        Ok(())
     }
 
     /// The caller could not do what the request of this number asked for.
-    pub fn failed(&mut self, place: u8, number: u64)
+    pub fn failed(&mut self, place: u8, number: u64) -> Result<(), AnswerError>
         requires { place < 33 }
-        ensures { self.new ≡ with_answer self.old place number Fails }
+        ensures refusal { result_err result ≡ answer_refusal self.old place number Fails }
+        ensures ok { OnOk result (self.new ≡ with_answer self.old place number Fails) }
+        ensures err { OnErr result (self.new ≡ self.old) }
     {
-        if self.is_out(place, number) {
-            self.commands.failed(place);
-            self.out[place as usize] = 0;
+        if !self.is_out(place, number) {
+            return Err(AnswerError::NotOut);
         }
+        self.commands.failed(place)?;
+        self.out[place as usize] = 0;
+        Ok(())
     }
 
     /// All that is under way is gone: a software reset, a plug, or an error of queued commands.

@@ -3,7 +3,7 @@
 ghost use Rattle.std.specs.Prelude.{◌≡◌, ◌<◌};
 ghost use Rattle.block_command.specs.Moments.{IsCommand};
 
-use block_command::{Command, Protocol, Turn};
+use block_command::{AnswerError, Command, Protocol, Turn};
 use block_queue::{
     CommandQueue, data_are_named, ends_are_earned, numbers_are_fresh, requests_are_apart,
     something_moves, taken_is_last,
@@ -139,13 +139,16 @@ fn answer(rt: &impl Abort, alloc: Global, queue: &mut CommandQueue, asked: Asked
     if asked.place >= 33 {
         panic!(rt; "no place");
     }
-    match asked.kind {
+    let answered = match asked.kind {
         Kind::Load(len) => {
             let bytes = zeros(alloc, len).expect(rt, "memory");
-            queue.loaded(asked.place, asked.number, bytes);
+            queue.loaded(asked.place, asked.number, bytes)
         }
         Kind::Store => queue.stored(asked.place, asked.number),
         Kind::Flush => queue.flushed(asked.place, asked.number),
+    };
+    if let Err(error) = answered {
+        assert!(rt; matches!(error, AnswerError::NotOut));
     }
 }
 

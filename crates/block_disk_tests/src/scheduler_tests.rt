@@ -3,8 +3,11 @@
 ghost use Rattle.std.specs.Prelude.{◌≡◌, ◌<◌};
 ghost use Rattle.block_command.specs.Moments.{IsCommand};
 
-use block_command::{Command, Protocol, Turn};
-use block_scheduler::{Flush, FlushStage, NextFis, Scheduler, flushes_are_earned};
+use block_command::{AnswerError, Command, Protocol, Turn};
+use block_scheduler::{
+    NextFis, Scheduler, data_are_named, ends_are_earned, numbers_are_fresh, requests_are_apart,
+    something_moves,
+};
 use std::alloc::{AllocError, Global};
 use std::process::Abort;
 
@@ -110,17 +113,18 @@ fn answer(rt: &impl Abort, alloc: Global, disk: &mut Scheduler, asked: Asked, fa
     if asked.place >= 33 {
         panic!(rt; "no place");
     }
-    if fails > 0 && asked.number % fails == 0 {
-        disk.failed(asked.place, asked.number);
-        return;
-    }
-    match asked.turn {
+    let failed = fails > 0 && asked.number % fails == 0;
+    let answered = match asked.turn {
+        _ if failed => disk.failed(asked.place, asked.number),
         Turn::Load => {
             let bytes = zeros(alloc, asked.len).expect(rt, "memory");
-            disk.loaded(asked.place, asked.number, bytes);
+            disk.loaded(asked.place, asked.number, bytes)
         }
         Turn::Store => disk.stored(asked.place, asked.number),
         _ => disk.flushed(asked.place, asked.number),
+    };
+    if let Err(error) = answered {
+        assert!(rt; matches!(error, AnswerError::NotOut));
     }
 }
 
@@ -179,38 +183,11 @@ fn errors_end_all(rt: HostRuntime) {
     }
 }
 
-/// A write of a sector.
-const WRITE: Command = Command {
-    place: 3,
-    lba: 7,
-    count: 1,
-    write: true,
-    lasting: false,
-    protocol: Protocol::Queued,
-    block: 8192,
-};
-
 #[test]
-fn a_flush_waits_for_a_dropped_store(rt: HostRuntime) {
-    let alloc = rt.alloc();
-    let mut disk = Scheduler::new(alloc, LIMIT).expect(&rt, "memory");
-    let mut asked = Vec::new(alloc);
-    let mut flush = Flush::new();
-    disk.take(alloc, WRITE);
-    for _ in 0..6u32 {
-        start(&rt, &mut disk);
-        ask(&rt, &mut disk, &mut asked);
-        send(&rt, alloc, &mut disk);
-    }
-    disk.reset();
-    flush.take();
-    assert!(rt; flush.ask(&disk).is_none());
-    let store = asked.pop().expect(&rt, "the store");
-    answer(&rt, alloc, &mut disk, store, 0);
-    let number = flush.ask(&disk).expect(&rt, "the flush");
-    flush.answered(number, true);
-    assert!(rt; matches!(flush.stage(), FlushStage::Done));
-    flush.send();
-    assert!(rt; matches!(flush.stage(), FlushStage::Idle));
-    flushes_are_earned();
+fn laws_hold(_rt: HostRuntime) {
+    requests_are_apart();
+    ends_are_earned();
+    data_are_named();
+    numbers_are_fresh();
+    something_moves();
 }

@@ -51,6 +51,26 @@ fn zeros(alloc: Global, len: usize) -> Result<Vec<u8>, AllocError> {
     Ok(bytes)
 }
 
+/// Sends the FIS that is next for the command of a place.
+fn send(rt: &impl Abort, requests: &mut Requests, place: u8)
+    requires { place < 33 }
+{
+    if !requests.may_send(place) {
+        panic!(rt; "no FIS");
+    }
+    requests.send(place);
+}
+
+/// Asks for the request that is next for the command of a place, after answers that do not fit.
+fn ask(rt: &impl Abort, requests: &mut Requests, place: u8) -> u64
+    requires { place < 33 }
+{
+    if !requests.asks(place) {
+        panic!(rt; "no request");
+    }
+    requests.ask(place).expect(rt, "a number")
+}
+
 /// Does what is next for the command of a place; the caller answers at once, and the host sends what is asked for. So many
 /// bytes of Data went or came.
 fn go(rt: &impl Abort, alloc: Global, requests: &mut Requests, place: u8) -> usize
@@ -65,29 +85,30 @@ fn go(rt: &impl Abort, alloc: Global, requests: &mut Requests, place: u8) -> usi
     match next.turn {
         Turn::Start => requests.start(place).expect(rt, "memory"),
         Turn::Load => {
-            let number = requests.ask(place).expect(rt, "a number");
-            requests.loaded(place, number, zeros(alloc, next.part).expect(rt, "memory"));
+            let number = ask(rt, requests, place);
+            let bytes = zeros(alloc, next.part).expect(rt, "memory");
+            requests.loaded(place, number, bytes).expect(rt, "a load");
         }
         Turn::Store => {
-            let number = requests.ask(place).expect(rt, "a number");
-            requests.stored(place, number);
+            let number = ask(rt, requests, place);
+            requests.stored(place, number).expect(rt, "a store");
         }
         Turn::Flush => {
-            let number = requests.ask(place).expect(rt, "a number");
-            requests.flushed(place, number);
+            let number = ask(rt, requests, place);
+            requests.flushed(place, number).expect(rt, "a flush");
         }
         Turn::Data => {
-            requests.send(place);
+            send(rt, requests, place);
             return next.len;
         }
         Turn::Activate => {
-            requests.send(place);
+            send(rt, requests, place);
             let bytes = zeros(alloc, next.len).expect(rt, "memory");
             requests.came(place, &bytes).expect(rt, "memory");
             return next.len;
         }
         Turn::Nothing => panic!(rt; "it waits for nothing"),
-        Turn::SetUp | Turn::Announce | Turn::End | Turn::Fail => requests.send(place),
+        Turn::SetUp | Turn::Announce | Turn::End | Turn::Fail => send(rt, requests, place),
     }
     0
 }

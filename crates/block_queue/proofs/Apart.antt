@@ -16,11 +16,11 @@ use Rattle.block_command.specs.Laws.{Input, Goes, Comes, Happening, Ledger, afte
 use Rattle.block_command.proofs.Door.{Agrees, same_command, at as moment}
 use Rattle.block_disk.specs.Table.{Table, is_under_way, with_command, with_input}
 use Rattle.block_disk.specs.Laws.{Page, Took, Refused, shown_at}
-use Rattle.block_disk.specs.Requests.{Books, Queue, after_act, number_at, with_table, OnLink, Asked, asks_at, entered_by, is_answer, is_out, is_request, no_books, number_of, seen, with_asked}
+use Rattle.block_disk.specs.Requests.{Books, Queue, after_act, number_at, with_table, OnLink, Asked, asks_at, entered_by, is_answer, is_out, is_request, no_books, number_of, seen, with_asked, with_drawn}
 use Rattle.block_disk.proofs.Door.{Agree, Matches}
 use Rattle.block_queue.specs.Line.{Line, IsLine, bars, command_at, conflict, is_in_way, is_of, left_at, left_below, left_of, line_answered, line_reset, moved_back, none_in_line, orphan, orphan_of, rank, share, with_queue}
 use Rattle.block_queue.specs.declared.queue.Orphan.{Orphan}
-use Rattle.block_queue.specs.Deeds.{Deed, Takes, Starts, Sends, Asks, Hears, Answers, Resets, IsDeed, AreDeeds, act_of, after_deed, seen_of}
+use Rattle.block_queue.specs.Deeds.{Deed, Takes, Starts, Sends, Asks, Hears, Answers, Resets, Draws, IsDeed, AreDeeds, act_of, after_deed, seen_of}
 use Rattle.block_queue.specs.Deeds.{Out, Has, is_store, AreApart, Each, is_other, is_stored, out_after, IsApart, AllAreApart, RequestsAreApart, waits_for_caller}
 use Rattle.block_queue.proofs.Kept.{of_and, of_or}
 use Rattle.block_queue.proofs.Deeds.{agree_after, line_after, no_agree, same_queue}
@@ -429,6 +429,20 @@ reset_backed l r line store (inr d) = inr (record {
   lies = d.lies;
 })
 
+-- a number is drawn
+drawn_backed : (l : Line) (r : Out) → Backed l r → Backed (with_queue l (with_drawn l.queue)) r
+drawn_backed l r (inl a) = inl (record {
+  moment = a.moment;
+  low = a.low;
+  here = a.here;
+  number = a.number;
+  some = a.some;
+  waits = a.waits;
+  lies = a.lies;
+  kind = a.kind;
+})
+drawn_backed l r (inr d) = inr (record { store = d.store; low = d.low; here = d.here; number = d.number; lies = d.lies })
+
 -- ## Every run
 
 long_case : (q : Queue) (t : Table) (p : ℕ) (b : Bool) → length q.out ≡ 33
@@ -444,6 +458,7 @@ long_act l (Asks p) long = length-set l.queue.out p l.queue.next ∙ long
 long_act l (Hears p part) long = long
 long_act l (Answers p number i) long = long_case l.queue _ p _ long
 long_act l Resets long = long_replicate ℕ 33 0
+long_act l Draws long = long
 
 next_case : (q : Queue) (t : Table) (out : List ℕ) (b : Bool) → 0 < q.next
     → 0 < (if b then record { table = t; out = out; next = q.next } else q).next
@@ -458,6 +473,7 @@ next_act l (Asks p) some = omega arith
 next_act l (Hears p part) some = some
 next_act l (Answers p number i) some = next_case l.queue _ _ _ some
 next_act l Resets some = some
+next_act l Draws some = omega arith
 
 record Keeps (l : Line) (b : Books) (out : List Out) : Type 0 where
   pub line : IsLine l
@@ -515,6 +531,7 @@ step l (Sends p) b out k is = (tt, gone_out l p Goes out k.line is.0 refl k.back
 step l (Asks p) b out k is = asks_next l p b out (command_at l p) k is.0 is.1 refl
 step l (Hears p part) b out k is = (tt, gone_out l p (Comes part) out k.line is refl k.backed)
 step l (Answers p number i) b out k is = (tt, each_filter (Backed l) _ (is_other p number) out (λ r other back. answered_backed l p number i r other back) k.backed)
+step l Draws b out k is = (tt, each_map (Backed l) _ out (λ r back. drawn_backed l r back) k.backed)
 step l Resets b out k is = (tt, each_filter (Backed l) _ is_stored out (λ r store back. reset_backed l r k.line store back) k.backed)
 
 runs_apart : (deeds : List Deed) (l : Line) (b : Books) (out : List Out) → Keeps l b out → AreDeeds l deeds → AllAreApart out (seen_of l deeds)

@@ -12,9 +12,9 @@ use Rattle.block_disk.specs.Laws.{shown_at, wire_after, IsWired}
 use Rattle.block_disk.specs.Requests.{Queue, AreSeenRightly, Books, IsAct, after_act, asks_at, entered_by, is_answer, is_request, no_books, none_queued, seen, seen_by, with_answer, with_table}
 use Rattle.block_disk.proofs.Door.{Agree, Held, kept_none, none_held, numbers_are_fresh as fresh, one, stays_held}
 use Rattle.block_queue.specs.Line.{Line, IsLine, command_at, moved_back, may_start_at, none_in_line, starts, with_queue}
-use Rattle.block_queue.specs.Deeds.{Deed, Takes, Starts, Sends, Asks, Hears, Answers, Resets, IsDeed, AreDeeds, act_of, after_deed, seen_of}
+use Rattle.block_queue.specs.Deeds.{Deed, Takes, Starts, Sends, Asks, Hears, Answers, Resets, Draws, IsDeed, AreDeeds, act_of, after_deed, seen_of}
 use Rattle.block_queue.specs.Deeds.{EndsAreEarned, NumbersAreFresh, IsHeard, AreHeard, IsNamed, AreNamed, DataAreNamed, named_after}
-use Rattle.block_queue.proofs.Kept.{answers_line, asked_line, forgets_line, given_line, is_given, long_left, of_and, reset_line, sent_line, start_line, take_line}
+use Rattle.block_queue.proofs.Kept.{answers_line, asked_line, drawn_line, forgets_line, given_line, is_given, long_left, of_and, reset_line, sent_line, start_line, take_line}
 
 -- ## The requests of a line
 
@@ -32,6 +32,7 @@ same_queue l (Asks place) = refl
 same_queue l (Hears place part) = refl
 same_queue l (Answers place number i) = refl
 same_queue l Resets = refl
+same_queue l Draws = refl
 
 pub is_act : (l : Line) (d : Deed) → IsDeed l d → IsAct (act_of d)
 is_act l (Takes c) is = is
@@ -41,6 +42,7 @@ is_act l (Asks place) is = is.0
 is_act l (Hears place part) is = is
 is_act l (Answers place number i) is = is
 is_act l Resets is = tt
+is_act l Draws is = tt
 
 -- ## Every line of a run keeps what a line keeps
 
@@ -69,6 +71,7 @@ line_after l (Hears place part) line is = given_line l place (Comes part) l.queu
 line_after l (Answers place number i) line is =
     forgets_line (with_queue l (with_answer l.queue place number i)) place number (answers_line l place number i line is.0 (answer_given i is.1)) is.0
 line_after l Resets line is = reset_line l _ line (long_left l 33)
+line_after l Draws line is = drawn_line l line
 
 -- ## Ends are earned
 
@@ -175,6 +178,7 @@ names l (Asks p) w held is heard = (
 names l (Hears p part) w held is heard = stays_held l.queue.table w (laws.Does p (Comes part)) held (is, heard)
 names l (Answers p number i) w held is heard = (tt, answers_held l.queue p i _ w _ held is.0 is.1)
 names l Resets w held is heard = (tt, none_held 33 w refl)
+names l Draws w held is heard = (tt, held)
 
 named : (deeds : List Deed) (l : Line) (w : Option ℕ) → Held l.queue.table w → AreDeeds l deeds → AreHeard l deeds → AreNamed w (seen_of l deeds)
 unfolding seen_of

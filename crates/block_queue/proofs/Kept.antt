@@ -16,9 +16,9 @@ use Rattle.block_command.specs.Moments.{Moment, runs, opening, chunk, data_stage
 use Rattle.block_command.specs.Laws.{Input, Goes, Loads, Comes, Stores, Flushes, Fails, after}
 use Rattle.block_command.proofs.Door.{same_command, at as moment}
 use Rattle.block_disk.specs.Table.{Table, at, has_wire, freed, with_command, with_input}
-use Rattle.block_disk.specs.Requests.{Queue, number_at, with_table, with_answer, with_asked, queue_reset, asks_at}
+use Rattle.block_disk.specs.Requests.{Queue, number_at, with_table, with_answer, with_asked, with_drawn, queue_reset, asks_at, is_fis, sends_at}
 use Rattle.block_queue.specs.Line.{Line, IsLine, IsClear, IsWired, any_below, first_ranks, none_in_line, orphan, command_at, conflict, is_in_way, bars, is_before}
-use Rattle.block_queue.specs.Line.{waits_for, starts, may_start_at, is_fis, sends_at, with_queue, moved_up, moved_back, orphans_answered, left_below, left_of, left_at, line_reset}
+use Rattle.block_queue.specs.Line.{waits_for, starts, may_start_at, with_queue, first_below, or_this, moved_up, moved_back, orphans_answered, left_below, left_of, left_at, line_reset}
 use Rattle.block_queue.specs.declared.queue.Orphan.{Orphan}
 
 -- ## Tests of all places
@@ -640,3 +640,61 @@ wire_below l (Some p) line e = (line.wired p (sym e)).0
 pub wire_holds : (l : Line) (w : Option ℕ) → IsLine l → w ≡ l.queue.table.wire → IfSome w (λ place. has_wire (command_at l place) ≡ true)
 wire_holds l None line e = tt
 wire_holds l (Some p) line e = (line.wired p (sym e)).1
+
+-- ## A number is drawn
+
+pub drawn_line : (l : Line) → IsLine l → IsLine (with_queue l (with_drawn l.queue))
+drawn_line l line = record {
+  places = line.places;
+  ranks = line.ranks;
+  orphans = line.orphans;
+  below = line.below;
+  own = line.own;
+  clear = λ t m below is run. (let was = line.clear t m below is run in record { first = was.first; spared = was.spared; vacant = was.vacant });
+  wired = line.wired;
+  fresh = line.fresh;
+}
+
+pub draws_line : (l : Line) (result : Option ℕ) (q : Queue) → IsLine l → IfSome result (λ number. q ≡ with_drawn l.queue)
+    → IfNone result ((2 ^ 63 ≤ l.queue.next) × (q ≡ l.queue)) → IsLine (with_queue l q)
+draws_line l None q line some none = rw none.1 line
+draws_line l (Some number) q line some none = rw some (drawn_line l line)
+
+-- ## An answer that is taken, or refused
+
+pub answer_line : (l : Line) (p number : ℕ) (i : Input) (q : Queue) → IsLine l → p < 33 → is_given i ≡ true
+    → q ≡ with_answer l.queue p number i → IsLine (with_queue l q)
+answer_line l p number i q line low e is = rw is (answers_line l p number i line low e)
+
+-- ## The first place
+
+first_here : (test : ℕ → Bool) (n : ℕ) (x : Option ℕ) (b : Bool) → x ≡ None → b ≡ true → or_this x (if b then Some n else None) ≡ Some n
+first_here test n None true e f = refl
+first_here test n None false e f = absurd (cc)
+first_here test n (Some k) b e f = absurd (cc)
+
+first_stays : (x : Option ℕ) (k : ℕ) (y : Option ℕ) → x ≡ Some k → or_this x y ≡ Some k
+first_stays None k y e = absurd (cc)
+first_stays (Some j) k y e = e
+
+pub first_found : (test : ℕ → Bool) (n k : ℕ) → k < n → first_below test k ≡ None → test k ≡ true → first_below test n ≡ Some k
+unfolding first_below
+first_found test zero k low none e = absurd (omega (arith, low))
+first_found test (suc n) k low none e = elim (cases_eq k n) [
+  | inl same ↦ let none' = ap (first_below test) (sym same) ∙ none in
+      first_here test n _ _ none' (ap test (sym same) ∙ e) ∙ ap Some (sym same)
+  | inr apart ↦ first_stays _ k _ (first_found test n k (omega (arith, low, apart)) none e)
+]
+
+none_here : (n : ℕ) (x : Option ℕ) (b : Bool) → x ≡ None → b ≡ false → or_this x (if b then Some n else None) ≡ None
+none_here n None false e f = refl
+none_here n None true e f = absurd (cc)
+none_here n (Some k) b e f = absurd (cc)
+
+pub first_none : (test : ℕ → Bool) → None ≡ first_below test 0
+unfolding first_below
+first_none test = refl
+
+pub first_more : (test : ℕ → Bool) (n : ℕ) → first_below test n ≡ None → test n ≡ false → first_below test (n + 1) ≡ None
+unfolding first_below
+first_more test n none e = let more : n + 1 ≡ suc n = omega arith in ap (first_below test) more ∙ none_here n _ _ none e

@@ -1,5 +1,5 @@
 -- Commands never wait for each other in a circle, since they wait only for those that were taken before them.
-use Rattle.std.proofs.Common.{◌≡◌, ◌≢◌, ℕ, zero, suc, ◌-◌, ◌<◌, true, false, get_or, Some, None, refl, sym, ap, arith, inl, inr, ◌⊎◌, subst}
+use Rattle.std.proofs.Common.{◌∙◌, ◌≡◌, ◌≢◌, ℕ, zero, suc, ◌-◌, ◌<◌, true, false, get_or, Some, None, refl, sym, ap, arith, inl, inr, ◌⊎◌, subst}
 use Rattle.std.specs.Prelude.{Option, Bool, is_none, not, ◌||◌, ◌&&◌, nat_lt, if◌then◌else◌}
 use Rattle.std.proofs.lemmas.Bool.{lt-ltb, ltb-true, ltb-false}
 use Rattle.block_command.specs.declared.command.Command.{Command}
@@ -8,12 +8,12 @@ use Rattle.block_command.specs.declared.command.Stage.TheVariants.{Waiting, Load
 use Rattle.block_command.specs.declared.command.Stage.TheVariants.{Activate, Receiving}
 use Rattle.block_command.specs.declared.command.Stage.TheVariants.{Store, Storing, Flush, Flushing}
 use Rattle.block_command.specs.declared.command.Stage.TheVariants.{Ended}
-use Rattle.block_command.specs.Moments.{Moment, is_ended, is_queued, is_set_up, turn_of}
+use Rattle.block_command.specs.Moments.{Moment, is_ended, is_queued, is_set_up, runs, turn_of}
 use Rattle.block_disk.specs.Table.{has_wire, is_under_way, wants_wire}
-use Rattle.block_disk.specs.Requests.{is_request}
-use Rattle.block_queue.specs.Line.{Line, IsLine, any_below, bars, command_at, is_before, is_fis, is_in_way, moved_back, orphan, rank, starts, waits_for}
+use Rattle.block_disk.specs.Requests.{is_fis, is_request}
+use Rattle.block_queue.specs.Line.{Line, IsLine, PassesNowhere, any_below, bars, command_at, is_before, is_in_way, may_start, may_start_at, moved_back, orphan, rank, starts, waits_for}
 use Rattle.block_queue.specs.declared.queue.Orphan.{Orphan}
-use Rattle.block_queue.specs.Deeds.{MovesAt, MayStart, MaySend, MayAsk, CallerOwes, HostOwes, StoreOwed, Moves, SomethingMoves, IsLast, TakenIsLast, waits_for_caller, waits_for_host}
+use Rattle.block_queue.specs.Deeds.{Goes, MovesAt, MayStart, MaySend, MayAsk, CallerOwes, HostOwes, StoreOwed, Moves, SomethingMoves, IsLast, TakenIsLast, waits_for_caller, waits_for_host}
 use Rattle.block_queue.proofs.Kept.{any_at, before_taken, of_and, rank_below, rank_other, rank_same}
 
 -- ## Some number that passes
@@ -173,6 +173,96 @@ pub something_moves : SomethingMoves
 something_moves l p line low alive =
     let f = first_of 33 l p low alive (line.below p low) in
     some_moves l f.place (command_at l f.place) line f.below refl f.alone f.alive
+
+-- ## Something moves that is no start
+
+first_false : (x y : Bool) → x ≡ false → (x && y) ≡ false
+first_false false y e = refl
+first_false true y e = absurd (cc)
+
+middle_false : (x y z : Bool) → y ≡ false → (x && (y && z)) ≡ false
+middle_false false y z e = refl
+middle_false true false z e = refl
+middle_false true true z e = absurd (cc)
+
+not_started : (l : Line) (p : ℕ) (m : Moment) → starts (turn_of m.stage) ≡ false → may_start_at l p (Some m) ≡ false
+not_started l p m e = first_false _ _ e
+
+goes_at : (l : Line) (p : ℕ) (m : Moment) → p < 33 → command_at l p ≡ Some m → starts (turn_of m.stage) ≡ false → MovesAt l p → Goes l
+goes_at l p m low here start moves = record {
+  place = p;
+  below = low;
+  moves = moves;
+  started = ap (may_start_at l p) here ∙ not_started l p m start;
+}
+
+asks_goes : (l : Line) (p : ℕ) (m : Moment) → p < 33 → command_at l p ≡ Some m → starts (turn_of m.stage) ≡ false
+    → is_request (turn_of m.stage) ≡ true → Goes l
+asks_goes l p m low here start e = goes_at l p m low here start (MayAsk (rw here e))
+
+owes_goes : (l : Line) (p : ℕ) (m : Moment) → p < 33 → command_at l p ≡ Some m → starts (turn_of m.stage) ≡ false
+    → waits_for_caller m.stage ≡ true → Goes l
+owes_goes l p m low here start e = goes_at l p m low here start (CallerOwes m here e)
+
+sends_goes : (l : Line) (p : ℕ) (m : Moment) → p < 33 → command_at l p ≡ Some m → starts (turn_of m.stage) ≡ false
+    → is_fis (turn_of m.stage) ≡ true → (wants_wire (turn_of m.stage) ≡ false) ⊎ (l.queue.table.wire ≡ None) → Goes l
+sends_goes l p m low here start fis free = goes_at l p m low here start (MaySend (rw here (both_true _ _ fis (may_sent _ _ free))))
+
+abbrev starts_in : Stage → Bool
+starts_in s = starts (turn_of s)
+
+holder_goes : (l : Line) (p : ℕ) (m : Moment) (stage : Stage) → IsLine l → p < 33 → command_at l p ≡ Some m → m.stage ≡ stage
+    → is_set_up m stage ≡ true → Goes l
+holder_goes l p m Waiting line low here is up =
+    absurd (let f = line.fresh p m low here (ap (λ s. starts (turn_of s)) is) in let g = ap (nat_lt 0) f in cc)
+holder_goes l p m Load line low here is up = asks_goes l p m low here (ap starts_in is) (ap (λ s. is_request (turn_of s)) is)
+holder_goes l p m Loading line low here is up = owes_goes l p m low here (ap starts_in is) (ap waits_for_caller is)
+holder_goes l p m Announce line low here is up =
+    sends_goes l p m low here (ap starts_in is) (ap (λ s. is_fis (turn_of s)) is) (inl (ap (λ s. wants_wire (turn_of s)) is))
+holder_goes l p m Sending line low here is up =
+    sends_goes l p m low here (ap starts_in is) (ap (λ s. is_fis (turn_of s)) is) (inl (ap (λ s. wants_wire (turn_of s)) is))
+holder_goes l p m Activate line low here is up =
+    sends_goes l p m low here (ap starts_in is) (ap (λ s. is_fis (turn_of s)) is) (inl (ap (λ s. wants_wire (turn_of s)) is))
+holder_goes l p m Receiving line low here is up = goes_at l p m low here (ap starts_in is) (HostOwes m here (ap waits_for_host is))
+holder_goes l p m Store line low here is up = asks_goes l p m low here (ap starts_in is) (ap (λ s. is_request (turn_of s)) is)
+holder_goes l p m Storing line low here is up = owes_goes l p m low here (ap starts_in is) (ap waits_for_caller is)
+holder_goes l p m stage line low here is up = absurd (cc)
+
+held_goes : (l : Line) (p : ℕ) (x : Option Moment) → IsLine l → p < 33 → command_at l p ≡ x → has_wire x ≡ true → Goes l
+held_goes l p None line low here e = absurd (cc)
+held_goes l p (Some m) line low here e = holder_goes l p m m.stage line low here refl (of_and _ _ e).1
+
+fis_goes : (l : Line) (p : ℕ) (m : Moment) (w : Option ℕ) → IsLine l → p < 33 → command_at l p ≡ Some m → starts (turn_of m.stage) ≡ false
+    → is_fis (turn_of m.stage) ≡ true → l.queue.table.wire ≡ w → Goes l
+fis_goes l p m None line low here start fis e = sends_goes l p m low here start fis (inr e)
+fis_goes l p m (Some h) line low here start fis e = let wired = line.wired h e in held_goes l h (command_at l h) line wired.0 refl wired.1
+
+stage_goes : (l : Line) (p : ℕ) (m : Moment) (stage : Stage) → IsLine l → p < 33 → command_at l p ≡ Some m → m.stage ≡ stage
+    → runs stage ≡ true → Goes l
+stage_goes l p m Waiting line low here is run = absurd (cc)
+stage_goes l p m Ended line low here is run = absurd (cc)
+stage_goes l p m Load line low here is run = asks_goes l p m low here (ap starts_in is) (ap (λ s. is_request (turn_of s)) is)
+stage_goes l p m Store line low here is run = asks_goes l p m low here (ap starts_in is) (ap (λ s. is_request (turn_of s)) is)
+stage_goes l p m Flush line low here is run = asks_goes l p m low here (ap starts_in is) (ap (λ s. is_request (turn_of s)) is)
+stage_goes l p m Loading line low here is run = owes_goes l p m low here (ap starts_in is) (ap waits_for_caller is)
+stage_goes l p m Storing line low here is run = owes_goes l p m low here (ap starts_in is) (ap waits_for_caller is)
+stage_goes l p m Flushing line low here is run = owes_goes l p m low here (ap starts_in is) (ap waits_for_caller is)
+stage_goes l p m Receiving line low here is run = goes_at l p m low here (ap starts_in is) (HostOwes m here (ap waits_for_host is))
+stage_goes l p m stage line low here is run = fis_goes l p m _ line low here (ap starts_in is) (ap (λ s. is_fis (turn_of s)) is) refl
+
+pub running_goes : (l : Line) (p : ℕ) (m : Moment) → IsLine l → p < 33 → command_at l p ≡ Some m → runs m.stage ≡ true → Goes l
+running_goes l p m line low here run = stage_goes l p m m.stage line low here refl run
+
+orphan_not : (l : Line) (p : ℕ) (x : Option Moment) → is_none (orphan l p) ≡ false → may_start_at l p x ≡ false
+orphan_not l p None e = refl
+orphan_not l p (Some m) e = middle_false _ _ _ e
+
+pub orphan_goes : (l : Line) (p : ℕ) → p < 33 → is_none (orphan l p) ≡ false → Goes l
+orphan_goes l p low e = record { place = p; below = low; moves = StoreOwed e; started = orphan_not l p (command_at l p) e }
+
+pub others_go : (l : Line) (p : ℕ) → IsLine l → p < 33 → is_under_way (command_at l p) ≡ true → PassesNowhere (may_start l) → Goes l
+others_go l p line low alive none =
+    let m = something_moves l p line low alive in record { place = m.place; below = m.below; moves = m.moves; started = none m.place m.below }
 
 -- ## Who is taken is last
 

@@ -9,7 +9,7 @@ use Rattle.block_command.specs.Laws.{Input, Comes, Happening, AskedLoad, AskedSt
 use Rattle.block_disk.specs.Table.{is_under_way, with_input}
 use Rattle.block_disk.specs.Laws.{At, Reset, IsWired, wire_after}
 use Rattle.block_disk.specs.Requests.{Act, AreSeenRightly, Rises, Seen, OnLink, Asked, Answered, asks, is_answer, no_books, none_queued}
-use Rattle.block_disk.specs.Requests.{numbers_given, seen, seen_by, with_asked, with_table}
+use Rattle.block_disk.specs.Requests.{numbers_given, seen, seen_by, with_asked, with_drawn, with_table}
 use Rattle.block_disk.specs.Requests as requests
 use Rattle.block_queue.specs.Line.{Line, IsLine, command_at, is_before, line_answered, line_gone, line_reset, line_taken, may_send, may_start, none_in_line, orphan, with_queue}
 
@@ -25,6 +25,8 @@ pub data Deed : Type 0 where
   Hears : ℕ → List ℕ → Deed
   Answers : (place number : ℕ) → Input → Deed
   Resets : Deed
+  -- a number is given to a request of another crate
+  Draws : Deed
 
 -- what the conditions of the calls say; the queued commands have the tags' places
 abbrev pub IsDeed : Line → Deed → Type 0
@@ -35,6 +37,7 @@ IsDeed l (Asks place) = (place < 33) × (asks l.queue place ≡ true)
 IsDeed l (Hears place part) = place < 33
 IsDeed l (Answers place number i) = (place < 33) × (is_answer i ≡ true)
 IsDeed l Resets = Unit {0}
+IsDeed l Draws = Unit {0}
 
 abbrev pub after_deed : Line → Deed → Line
 after_deed l (Takes c) = line_taken l c
@@ -44,6 +47,7 @@ after_deed l (Asks place) = with_queue l (with_asked l.queue place)
 after_deed l (Hears place part) = with_queue l (with_table l.queue (with_input l.queue.table place (Comes part)))
 after_deed l (Answers place number i) = line_answered l place number i
 after_deed l Resets = line_reset l
+after_deed l Draws = with_queue l (with_drawn l.queue)
 
 abbrev pub AreDeeds : Line → List Deed → Type 0
 AreDeeds l [] = Unit {0}
@@ -58,6 +62,7 @@ act_of (Asks place) = requests.Asks place
 act_of (Hears place part) = requests.Hears place part
 act_of (Answers place number i) = requests.Answers place number i
 act_of Resets = requests.Resets
+act_of Draws = requests.Draws
 
 -- what a run shows
 unfoldable pub seen_of : Line → List Deed → List Seen
@@ -178,6 +183,13 @@ pub record Moves (l : Line) : Type 0 where
   pub place : ℕ
   pub below : place < 33
   pub moves : MovesAt l place
+
+-- something moves, and it is no start
+pub record Goes (l : Line) : Type 0 where
+  pub place : ℕ
+  pub below : place < 33
+  pub moves : MovesAt l place
+  pub started : may_start l place ≡ false
 
 -- while a command is under way, the disk may do something, or waits for an answer of the caller or for Data of the host
 abbrev pub SomethingMoves : Type 0

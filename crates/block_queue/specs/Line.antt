@@ -8,9 +8,11 @@ use Rattle.block_command.specs.declared.command.Command.{Command}
 use Rattle.block_command.specs.declared.command.Turn.{Turn}
 use Rattle.block_command.specs.declared.command.Turn.TheVariants as turn
 use Rattle.block_command.specs.Moments.{Moment, is_ended, is_storing, runs, turn_of}
-use Rattle.block_command.specs.Laws.{Input, Goes}
-use Rattle.block_disk.specs.Table.{Table, at, has_wire, is_under_way, may_go, with_input, with_taken}
-use Rattle.block_disk.specs.Requests.{Queue, none_queued, number_at, queue_reset, with_answer, with_table}
+use Rattle.block_command.specs.Laws.{Input, Goes, Stores, Fails}
+use Rattle.block_command.specs.declared.answer.AnswerError.{AnswerError}
+use Rattle.block_command.specs.declared.answer.AnswerError.TheVariants.{NotOut, OtherKind}
+use Rattle.block_disk.specs.Table.{Table, at, has_wire, is_under_way, may_go, refusal_at, with_input, with_taken}
+use Rattle.block_disk.specs.Requests.{Queue, is_out, none_queued, number_at, queue_reset, sends_at, with_answer, with_table}
 use Rattle.block_queue.specs.declared.queue.Orphan.{Orphan}
 
 pub record Line : Type 0 where
@@ -28,6 +30,15 @@ any_below test (suc n) = test n || any_below test n
 -- the numbers of the places; each is written as it stands
 unfoldable pub first_ranks : ℕ → List ℕ
 first_ranks n = range_with_len 0 n
+
+abbrev pub or_this : Option ℕ → Option ℕ → Option ℕ
+or_this None other = other
+or_this found other = found
+
+-- the first number below n that passes the test
+unfoldable pub first_below : (ℕ → Bool) → ℕ → Option ℕ
+first_below test zero = None
+first_below test (suc n) = or_this (first_below test n) (if test n then Some n else None)
 
 abbrev pub none_in_line : Line
 none_in_line = record { queue = none_queued; ranks = first_ranks 33; orphans = replicate 33 None }
@@ -82,20 +93,6 @@ may_start_at l place (Some m) =
 abbrev pub may_start : Line → ℕ → Bool
 may_start l place = may_start_at l place (command_at l place)
 
--- whether this is a FIS
-abbrev pub is_fis : Turn → Bool
-is_fis turn.SetUp = true
-is_fis turn.Announce = true
-is_fis turn.Data = true
-is_fis turn.Activate = true
-is_fis turn.End = true
-is_fis turn.Fail = true
-is_fis _ = false
-
-abbrev pub sends_at : Option Moment → Bool
-sends_at None = false
-sends_at (Some m) = is_fis (turn_of m.stage)
-
 -- whether the FIS that is next at a place may be sent now
 abbrev pub may_send : Line → ℕ → Bool
 may_send l place = sends_at (command_at l place) && may_go l.queue.table place
@@ -145,6 +142,28 @@ line_gone l place = with_queue l (with_table l.queue (with_input l.queue.table p
 abbrev pub is_of : ℕ → Option Orphan → Bool
 is_of number None = false
 is_of number (Some o) = o.number == number
+
+-- an answer that a dropped store may get: it was done, or could not be
+abbrev pub settles : Input → Bool
+settles Stores = true
+settles Fails = true
+settles _ = false
+
+-- why an answer that no dropped store may get is refused
+abbrev pub refused_by : Option Orphan → ℕ → AnswerError
+refused_by o number = if is_of number o then OtherKind else NotOut
+
+abbrev pub orphan_refusal : Option Orphan → ℕ → Input → Option AnswerError
+orphan_refusal o number i = if is_of number o then (if settles i then None else Some OtherKind) else Some NotOut
+
+-- why an answer is refused
+abbrev pub line_refusal : Line → (place number : ℕ) → Input → Option AnswerError
+line_refusal l place number i = if is_out l.queue.out place number then refusal_at (command_at l place) i
+    else orphan_refusal (orphan l place) number i
+
+-- the place is that of the request of this number, or of the dropped store of it
+abbrev pub awaits : Line → (number place : ℕ) → Bool
+awaits l number place = is_out l.queue.out place number || is_of number (orphan l place)
 
 abbrev pub orphans_answered : List (Option Orphan) → ℕ → ℕ → List (Option Orphan)
 orphans_answered orphans place number =

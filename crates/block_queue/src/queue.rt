@@ -1,13 +1,14 @@
 //! The queue of the commands under way.
 
 ghost use Rattle.std.specs.Prelude.{◌≡◌, ◌<◌, ◌≤◌, ◌^◌, true, IfOk, IfSome, IfNone, List, None, OnErr, OnOk, Option, Some, length};
+ghost use Rattle.std.specs.Result.{result_err};
 ghost use Rattle.block_command.specs.Moments.{IsCommand, Moment};
 ghost use Rattle.block_command.specs.Laws.{Comes, Fails, Flushes, Goes, Loads, Stores};
 ghost use Rattle.block_disk.specs.Table.{at, has_wire, is_under_way, with_input};
-ghost use Rattle.block_disk.specs.Requests.{asks, number_at, with_asked, with_table};
-ghost use Rattle.block_queue.specs.Line.{IsOldest, Line, PassesNowhere, any_below, bars, command_at, first_ranks, has_bit, is_fis, is_in_way, left_of, line_answered, line_forgets, line_gone, line_reset, line_taken, may_send, may_start, moved_back, none_in_line, orphan, share, starts, waits_for, with_queue};
+ghost use Rattle.block_disk.specs.Requests.{asks, number_at, with_asked, with_drawn, with_table};
+ghost use Rattle.block_queue.specs.Line.{IsOldest, Line, PassesNowhere, any_below, awaits, bars, command_at, first_below, first_ranks, has_bit, is_in_way, is_of, line_refusal, orphan_refusal, refused_by, left_of, line_answered, line_forgets, line_gone, line_reset, line_taken, may_send, may_start, moved_back, none_in_line, orphan, share, starts, waits_for, with_queue};
 
-use block_command::{BlockCommand, Command, Turn};
+use block_command::{AnswerError, BlockCommand, Command, Turn};
 use block_disk::Requests;
 use std::alloc::{AllocError, Global};
 use std::marker::Model;
@@ -110,16 +111,6 @@ fn has_bit(set: u64, place: u8) -> bool
     ensures { result ≡ has_bit set place }
 {
     set >> place & 1 == 1
-}
-
-/// Whether this is a FIS.
-fn is_fis(turn: Turn) -> bool
-    ensures { result ≡ is_fis turn }
-{
-    matches!(
-        turn,
-        Turn::SetUp | Turn::Announce | Turn::Data | Turn::Activate | Turn::End | Turn::Fail
-    )
 }
 
 /// Whether this is the start.
@@ -285,10 +276,7 @@ impl CommandQueue {
         requires { place < 33 }
         ensures { result ≡ may_send self.now place }
     {
-        match self.requests.get(place) {
-            None => false,
-            Some(command) => is_fis(command.turn()) && self.requests.may_go(place),
-        }
+        self.requests.may_send(place)
     }
 
     /// The FIS that was next for a command was sent.
@@ -342,40 +330,131 @@ impl CommandQueue {
         }
     }
 
-    /// The caller gives the sectors that the request of this number asked for.
-    pub fn loaded(&mut self, place: u8, number: u64, bytes: Vec<u8>)
+    /// Whether a dropped store of this number waits at this place for its answer.
+    fn is_dropped(&self, place: u8, number: u64) -> bool
         requires { place < 33 }
-        ensures { self.new ≡ line_answered self.old place number (Loads bytes.items) }
+        ensures { result ≡ is_of number (orphan self.now place) }
     {
-        self.requests.loaded(place, number, bytes);
-        self.forget(place, number);
+        match self.orphans[place as usize] {
+            None => false,
+            Some(orphan) => orphan.number == number,
+        }
     }
 
-    /// The caller stored the bytes of the request of this number.
-    pub fn stored(&mut self, place: u8, number: u64)
+    /// Why an answer that no dropped store may get is refused.
+    fn refused(&self, place: u8, number: u64) -> AnswerError
         requires { place < 33 }
-        ensures { self.new ≡ line_answered self.old place number Stores }
+        ensures { result ≡ refused_by (orphan self.now place) number }
     {
-        self.requests.stored(place, number);
+        if self.is_dropped(place, number) {
+            AnswerError::OtherKind
+        } else {
+            AnswerError::NotOut
+        }
+    }
+
+    /// A dropped store of this number is answered.
+    fn settle(&mut self, place: u8, number: u64) -> Result<(), AnswerError>
+        requires { place < 33 }
+        ensures refusal { result_err result ≡ orphan_refusal (orphan self.old place) number Stores }
+        ensures ok { OnOk result (self.new ≡ line_forgets self.old place number) }
+        ensures err { OnErr result (self.new ≡ self.old) }
+    {
+        if !self.is_dropped(place, number) {
+            return Err(AnswerError::NotOut);
+        }
         self.forget(place, number);
+        Ok(())
+    }
+
+    /// The caller gives the sectors that the request of this number asked for.
+    pub fn loaded(&mut self, place: u8, number: u64, bytes: Vec<u8>) -> Result<(), AnswerError>
+        requires { place < 33 }
+        ensures refusal { result_err result ≡ line_refusal self.old place number (Loads bytes.items) }
+        ensures ok { OnOk result (self.new ≡ line_answered self.old place number (Loads bytes.items)) }
+        ensures err { OnErr result (self.new ≡ self.old) }
+    {
+        if !self.requests.is_out(place, number) {
+            return Err(self.refused(place, number));
+        }
+        self.requests.loaded(place, number, bytes)?;
+        self.forget(place, number);
+        Ok(())
+    }
+
+    /// The caller stored the bytes of the request of this number, also where a reset dropped it.
+    pub fn stored(&mut self, place: u8, number: u64) -> Result<(), AnswerError>
+        requires { place < 33 }
+        ensures refusal { result_err result ≡ line_refusal self.old place number Stores }
+        ensures ok { OnOk result (self.new ≡ line_answered self.old place number Stores) }
+        ensures err { OnErr result (self.new ≡ self.old) }
+    {
+        if !self.requests.is_out(place, number) {
+            return self.settle(place, number);
+        }
+        self.requests.stored(place, number)?;
+        self.forget(place, number);
+        Ok(())
     }
 
     /// The caller flushed its medium for the request of this number.
-    pub fn flushed(&mut self, place: u8, number: u64)
+    pub fn flushed(&mut self, place: u8, number: u64) -> Result<(), AnswerError>
         requires { place < 33 }
-        ensures { self.new ≡ line_answered self.old place number Flushes }
+        ensures refusal { result_err result ≡ line_refusal self.old place number Flushes }
+        ensures ok { OnOk result (self.new ≡ line_answered self.old place number Flushes) }
+        ensures err { OnErr result (self.new ≡ self.old) }
     {
-        self.requests.flushed(place, number);
+        if !self.requests.is_out(place, number) {
+            return Err(self.refused(place, number));
+        }
+        self.requests.flushed(place, number)?;
         self.forget(place, number);
+        Ok(())
     }
 
-    /// The caller could not do what the request of this number asked for.
-    pub fn failed(&mut self, place: u8, number: u64)
+    /// The caller could not do what the request of this number asked for, also a store that a reset dropped.
+    pub fn failed(&mut self, place: u8, number: u64) -> Result<(), AnswerError>
         requires { place < 33 }
-        ensures { self.new ≡ line_answered self.old place number Fails }
+        ensures refusal { result_err result ≡ line_refusal self.old place number Fails }
+        ensures ok { OnOk result (self.new ≡ line_answered self.old place number Fails) }
+        ensures err { OnErr result (self.new ≡ self.old) }
     {
-        self.requests.failed(place, number);
+        if !self.requests.is_out(place, number) {
+            return self.settle(place, number);
+        }
+        self.requests.failed(place, number)?;
         self.forget(place, number);
+        Ok(())
+    }
+
+    /// Whether the request of this number, or the dropped store of it, is of this place.
+    fn awaits(&self, place: u8, number: u64) -> bool
+        requires { place < 33 }
+        ensures { result ≡ awaits self.now number place }
+    {
+        self.requests.is_out(place, number) || self.is_dropped(place, number)
+    }
+
+    /// The place of the request of this number, or of the dropped store of it.
+    pub fn place_of(&self, number: u64) -> Option<u8>
+        ensures value { result ≡ first_below (awaits self.now number) 33 }
+        ensures below { IfSome result (λ place. place < 33) }
+    {
+        for place in 0..33_u8 {
+            if self.awaits(place, number) {
+                return Some(place);
+            }
+        }
+        None
+    }
+
+    /// A number for a request of the crate above: no other request gets it. None where the numbers are used up.
+    pub fn draw(&mut self) -> Option<u64>
+        ensures some { IfSome result (λ number. number ≡ self.old.queue.next) }
+        ensures drawn { IfSome result (λ number. self.new ≡ with_queue self.old (with_drawn self.old.queue)) }
+        ensures none { IfNone result ((2 ^ 63 ≤ self.old.queue.next) × (self.new ≡ self.old)) }
+    {
+        self.requests.draw()
     }
 
     /// All that is under way is gone: a software reset, a plug, or an error of queued commands. A store that was out

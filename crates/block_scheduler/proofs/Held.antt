@@ -1,6 +1,6 @@
 -- What every schedule keeps: its sets, and its bound in bytes.
 use Rattle.std.proofs.Common.{◌≡◌, ◌≢◌, ℕ, zero, suc, ◌+◌, ◌<◌, ◌≤◌, true, false, sym, List, Some, None, refl, ap, ◌∙◌, arith, inl, inr, ◌⊎◌, get_or, set, length, subst}
-use Rattle.std.specs.Prelude.{Option, Bool, if◌then◌else◌}
+use Rattle.std.specs.Prelude.{Option, Bool, IfSome, IfNone, ◌^◌, if◌then◌else◌}
 use Rattle.std.specs.Option.{option_map}
 use Rattle.std.proofs.lemmas.Bool.{cases_eq, cases_lt, leb-true}
 use Rattle.std.proofs.lemmas.List.{get_or-set_same, get_or-set_other, length-set}
@@ -12,11 +12,10 @@ use Rattle.block_command.specs.Moments.{Moment, opening, is_storing, runs, turn_
 use Rattle.block_command.specs.Laws.{Input, Goes, Comes, after}
 use Rattle.block_command.proofs.Door.{same_command}
 use Rattle.block_disk.specs.Table.{at, with_command, with_input}
-use Rattle.block_disk.specs.Requests.{Queue, is_request, number_at, with_answer, with_asked, with_table}
+use Rattle.block_disk.specs.Requests.{Queue, is_fis, is_request, number_at, with_answer, with_asked, with_drawn, with_table}
 use Rattle.block_disk.specs.Requests as requests
 use Rattle.block_disk.proofs.Door.{each_is}
-use Rattle.block_queue.specs.Line.{Line, command_at, is_fis, left_at, left_below, left_of, line_answered, line_gone, line_reset, line_taken, may_send, may_start, moved_back, none_in_line, orphan, orphan_of, orphans_answered, starts, with_queue}
-use Rattle.block_queue.specs.Line as queue
+use Rattle.block_queue.specs.Line.{Line, command_at, left_of, line_answered, line_gone, line_reset, line_taken, may_send, moved_back, none_in_line, orphan, orphan_of, orphans_answered, starts, with_queue}
 use Rattle.block_queue.specs.declared.queue.Orphan.{Orphan}
 use Rattle.block_queue.proofs.Door.{left_read, of_and, runs_before, storing_runs}
 use Rattle.block_scheduler.specs.declared.sets.Sets.{Sets}
@@ -137,7 +136,7 @@ request_starts : (t : Turn) → is_request t ≡ true → starts t ≡ false
 request_starts turn.Start e = absurd (cc)
 request_starts t e = refl
 
-gone_starts : (x : Option Moment) → queue.sends_at x ≡ true → starts (turn_at x) ≡ false
+gone_starts : (x : Option Moment) → requests.sends_at x ≡ true → starts (turn_at x) ≡ false
 gone_starts None e = refl
 gone_starts (Some m) e = fis_starts (turn_of m.stage) e
 
@@ -207,6 +206,21 @@ answered_kept l new limit s t p number i turn kept given e f noted = rw e
     (forget_kept (with_queue l (with_answer l.queue p number i)) limit t (orphans_answered l.orphans p number)
     (answer_case l limit s t p i _ _ kept given (noted_at new (line_answered l p number i) s t p turn e f noted))
     (λ q low. answered_less l p _ q))
+
+-- a number is drawn
+drawn_kept : (l : Line) (limit : ℕ) (s : Sets) → IsKept l limit s → IsKept (with_queue l (with_drawn l.queue)) limit s
+drawn_kept l limit s kept =
+    let all = held_less l (with_queue l (with_drawn l.queue)) 33 (λ q low. omega arith) in
+    let was = kept.held in
+    record {
+      sets = record { waiting = kept.sets.waiting; asking = kept.sets.asking; sending = kept.sets.sending; ending = kept.sets.ending };
+      held = omega (arith, all, was);
+    }
+
+pub draws_kept : (l new : Line) (limit : ℕ) (s : Sets) (result : Option ℕ) → IsKept l limit s
+    → IfSome result (λ number. new ≡ with_queue l (with_drawn l.queue)) → IfNone result ((2 ^ 63 ≤ l.queue.next) × (new ≡ l)) → IsKept new limit s
+draws_kept l new limit s None kept some none = rw none.1 kept
+draws_kept l new limit s (Some number) kept some none = rw some (drawn_kept l limit s kept)
 
 -- a command is taken
 take_case : (l : Line) (limit : ℕ) (s t : Sets) (c : Command) (b : Bool) → IsKept l limit s

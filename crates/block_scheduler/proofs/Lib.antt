@@ -1,3 +1,3 @@
 pub mod Places
 pub mod Held
-pub mod Flushes
+pub mod Runs

@@ -1,3 +1,3 @@
 pub mod Sets
 pub mod Schedule
-pub mod Flush
+pub mod Laws

@@ -3,8 +3,8 @@ use Rattle.std.specs.Prelude.{ℕ, ◌≡◌, ◌≢◌, ◌<◌, nat_lt, Bool, 
 use Rattle.block_command.specs.declared.command.Turn.{Turn}
 use Rattle.block_command.specs.declared.command.Turn.TheVariants as turn
 use Rattle.block_command.specs.Moments.{Moment, turn_of}
-use Rattle.block_disk.specs.Requests.{asks, is_request}
-use Rattle.block_queue.specs.Line.{Line, command_at, has_bit, is_fis, starts}
+use Rattle.block_disk.specs.Requests.{asks, is_fis, is_request}
+use Rattle.block_queue.specs.Line.{Line, command_at, has_bit, starts}
 use Rattle.block_scheduler.specs.declared.sets.Sets.{Sets}
 
 abbrev pub no_sets : Sets

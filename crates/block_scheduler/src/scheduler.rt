@@ -1,16 +1,17 @@
 //! What goes next.
 
 ghost use Rattle.std.specs.Prelude.{◌≡◌, ◌&&◌, ◌<◌, ◌≤◌, ◌^◌, true, false, IfOk, IfSome, IfNone, None, OnErr, OnOk, Option, Some};
+ghost use Rattle.std.specs.Result.{result_err};
 ghost use Rattle.block_command.specs.Moments.{IsCommand, Moment};
 ghost use Rattle.block_command.specs.Laws.{Comes, Fails, Flushes, Loads, Stores};
 ghost use Rattle.block_disk.specs.Table.{is_under_way, with_input};
-ghost use Rattle.block_disk.specs.Requests.{asks, with_asked, with_table};
-ghost use Rattle.block_queue.specs.Line.{IsOldest, PassesNowhere, command_at, has_bit, line_answered, line_gone, line_reset, line_taken, may_send, may_start, orphan, with_queue};
+ghost use Rattle.block_disk.specs.Requests.{asks, with_asked, with_drawn, with_table};
+ghost use Rattle.block_queue.specs.Line.{IsOldest, PassesNowhere, awaits, command_at, first_below, has_bit, line_answered, line_gone, line_refusal, line_reset, line_taken, may_send, may_start, orphan, with_queue};
 ghost use Rattle.block_scheduler.specs.Sets.{IsSetOf, asks_at, ends_at, turn_at};
 ghost use Rattle.block_scheduler.specs.Schedule.{IsNextFis, IsNextStart, MayGo, Schedule, end_sent, ends_sent, fits, held, held_at, is_busy, is_quiet, line_sent, held_for, held_of, none_scheduled, with_line};
 
 use crate::sets::{Sets, is_end, is_fail, with_place};
-use block_command::{BlockCommand, Command, Turn};
+use block_command::{AnswerError, BlockCommand, Command, Turn};
 use block_queue::{CommandQueue, Orphan};
 use std::alloc::{AllocError, Global};
 use std::marker::Model;
@@ -347,43 +348,79 @@ impl Scheduler {
     }
 
     /// The caller gives the sectors that the request of this number asked for.
-    pub fn loaded(&mut self, place: u8, number: u64, bytes: Vec<u8>)
+    pub fn loaded(&mut self, place: u8, number: u64, bytes: Vec<u8>) -> Result<(), AnswerError>
         requires { place < 33 }
-        ensures { self.new ≡ with_line self.old (line_answered self.old.line place number (Loads bytes.items)) }
+        ensures refusal { result_err result ≡ line_refusal self.old.line place number (Loads bytes.items) }
+        ensures ok { OnOk result (self.new ≡ with_line self.old (line_answered self.old.line place number (Loads bytes.items))) }
+        ensures err { OnErr result (self.new ≡ self.old) }
     {
-        self.queue.loaded(place, number, bytes);
+        self.queue.loaded(place, number, bytes)?;
         let turn = turn_of(&self.queue, place);
         self.sets = self.sets.noted(place, turn);
+        Ok(())
     }
 
-    /// The caller stored the bytes of the request of this number.
-    pub fn stored(&mut self, place: u8, number: u64)
+    /// The caller stored the bytes of the request of this number, also where a reset dropped it.
+    pub fn stored(&mut self, place: u8, number: u64) -> Result<(), AnswerError>
         requires { place < 33 }
-        ensures { self.new ≡ with_line self.old (line_answered self.old.line place number Stores) }
+        ensures refusal { result_err result ≡ line_refusal self.old.line place number Stores }
+        ensures ok { OnOk result (self.new ≡ with_line self.old (line_answered self.old.line place number Stores)) }
+        ensures err { OnErr result (self.new ≡ self.old) }
     {
-        self.queue.stored(place, number);
+        self.queue.stored(place, number)?;
         let turn = turn_of(&self.queue, place);
         self.sets = self.sets.noted(place, turn);
+        Ok(())
     }
 
     /// The caller flushed its medium for the request of this number.
-    pub fn flushed(&mut self, place: u8, number: u64)
+    pub fn flushed(&mut self, place: u8, number: u64) -> Result<(), AnswerError>
         requires { place < 33 }
-        ensures { self.new ≡ with_line self.old (line_answered self.old.line place number Flushes) }
+        ensures refusal { result_err result ≡ line_refusal self.old.line place number Flushes }
+        ensures ok { OnOk result (self.new ≡ with_line self.old (line_answered self.old.line place number Flushes)) }
+        ensures err { OnErr result (self.new ≡ self.old) }
     {
-        self.queue.flushed(place, number);
+        self.queue.flushed(place, number)?;
         let turn = turn_of(&self.queue, place);
         self.sets = self.sets.noted(place, turn);
+        Ok(())
     }
 
-    /// The caller could not do what the request of this number asked for.
-    pub fn failed(&mut self, place: u8, number: u64)
+    /// The caller could not do what the request of this number asked for, also a store that a reset dropped.
+    pub fn failed(&mut self, place: u8, number: u64) -> Result<(), AnswerError>
         requires { place < 33 }
-        ensures { self.new ≡ with_line self.old (line_answered self.old.line place number Fails) }
+        ensures refusal { result_err result ≡ line_refusal self.old.line place number Fails }
+        ensures ok { OnOk result (self.new ≡ with_line self.old (line_answered self.old.line place number Fails)) }
+        ensures err { OnErr result (self.new ≡ self.old) }
     {
-        self.queue.failed(place, number);
+        self.queue.failed(place, number)?;
         let turn = turn_of(&self.queue, place);
         self.sets = self.sets.noted(place, turn);
+        Ok(())
+    }
+
+    /// The place of the request of this number, or of the dropped store of it.
+    pub fn place_of(&self, number: u64) -> Option<u8>
+        ensures value { result ≡ first_below (awaits self.now.line number) 33 }
+        ensures below { IfSome result (λ place. place < 33) }
+    {
+        self.queue.place_of(number)
+    }
+
+    /// A number for a request of the crate above: no other request gets it. None where the numbers are used up.
+    pub fn draw(&mut self) -> Option<u64>
+        ensures some { IfSome result (λ number. number ≡ self.old.line.queue.next) }
+        ensures drawn { IfSome result (λ number. self.new ≡ with_line self.old (with_queue self.old.line (with_drawn self.old.line.queue))) }
+        ensures none { IfNone result ((2 ^ 63 ≤ self.old.line.queue.next) × (self.new ≡ self.old)) }
+    {
+        self.queue.draw()
+    }
+
+    /// The queued command whose Data are on the link.
+    pub fn wire(&self) -> Option<u8>
+        ensures { result ≡ self.now.line.queue.table.wire }
+    {
+        self.queue.wire()
     }
 
     /// All that is under way is gone: a software reset or a plug.

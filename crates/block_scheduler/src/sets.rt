@@ -1,8 +1,8 @@
 //! Sets of places, by what is next for their commands.
 
 ghost use Rattle.std.specs.Prelude.{◌≡◌, ◌<◌};
-ghost use Rattle.block_queue.specs.Line.{is_fis, starts};
-ghost use Rattle.block_disk.specs.Requests.{is_request};
+ghost use Rattle.block_queue.specs.Line.{starts};
+ghost use Rattle.block_disk.specs.Requests.{is_fis, is_request};
 ghost use Rattle.block_scheduler.specs.Sets.{IsNoted, IsWith, IsWithTag, is_end, is_fail, no_sets};
 
 use block_command::Turn;

@@ -3,7 +3,7 @@ use Rattle.block_command.specs.Laws.{Flushes}
 use Rattle.block_scheduler.proofs.Held.{answered_kept}
 use Rattle.block_scheduler.proofs.scheduler.Scheduler.flushed.Goals as goal
 
-pub invariant_of-self : goal.invariant_of-self
-invariant_of-self c =
+pub invariant_of-self-2 : goal.invariant_of-self-2
+invariant_of-self-2 c =
     answered_kept c.self.inside.queue c.flushed.new.self c.self.inside.limit c.self.inside.sets c.noted-self-inside.result c.args.place c.args.number Flushes c.turn_of-turn.result c.self.invariant refl
-    c.flushed.ensures c.turn_of-turn.ensures c.noted-self-inside.ensures
+    c.in_ok-flushed.ensures.ok c.turn_of-turn.ensures c.noted-self-inside.ensures

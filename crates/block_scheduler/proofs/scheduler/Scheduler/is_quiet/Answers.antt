@@ -1,4 +1,4 @@
-use Rattle.std.proofs.Common.{ℕ, ◌<◌, below_more, arith, sym, ap, ◌∙◌}
+use Rattle.std.proofs.Common.{below_more, arith, sym, ap, ◌∙◌}
 use Rattle.std.specs.Prelude.{not}
 use Rattle.block_queue.proofs.Door.{any_found, any_none}
 use Rattle.block_scheduler.specs.Schedule.{is_busy}

@@ -1,0 +1,4 @@
+pub mod Asides
+pub mod Asked
+pub mod Runs
+pub mod Alone

@@ -1,0 +1,3 @@
+pub mod Aside
+pub mod Engine
+pub mod Laws
