@@ -1,0 +1,39 @@
+-- Which commands may stand beside which (Serial ATA 3.x, 13.6, native command queuing; ACS-3, 4.16), and the software reset
+-- (Serial ATA 3.x, 11.4).
+use Rattle.std.specs.Prelude.{ℕ, ◌/◌, ◌%◌, ◌==◌, ◌&&◌, nat_lt, Bool, true, false, not, List, if◌then◌else◌}
+use Rattle.std.specs.Int.{bit_at}
+use Rattle.fis_view.specs.Table.{H2d, Control, field}
+use Rattle.ata_command.specs.declared.asked.Asked.{Asked}
+use Rattle.ata_command.specs.declared.asked.Asked.TheVariants.{Moves, ReadsLog}
+use Rattle.ata_command.specs.declared.control.Course.{Course}
+use Rattle.ata_command.specs.declared.control.Course.TheVariants.{Drop, Refuse, AbortAll, Take}
+use Rattle.ata_command.specs.declared.control.Standing.{Standing}
+use Rattle.ata_command.specs.declared.control.Standing.TheVariants as standing
+
+-- it is a tag, and in none of these
+abbrev pub is_tag_free : (tags place : ℕ) → Bool
+is_tag_free tags place = nat_lt place 32 && (bit_at tags place == 0)
+
+-- the NCQ Command Error log is page 0 of log 10h
+abbrev pub is_error_log : Asked → Bool
+is_error_log (ReadsLog p) = (p.log == 0x10) && (p.page == 0) && (p.count == 1)
+is_error_log _ = false
+
+-- Beside queued commands only another may stand, with a tag that is free. Any other command ends all of them.
+abbrev pub stands_beside : Asked → (tags : ℕ) → Bool
+stands_beside (Moves m) tags = is_tag_free tags m.command.place
+stands_beside _ tags = false
+
+abbrev pub tag_course : Asked → (tags : ℕ) → Course
+tag_course a tags = if stands_beside a tags then Take else AbortAll
+
+-- After an error only the NCQ Command Error log is read; all other commands are refused.
+abbrev pub course : Asked → Standing → Course
+course a standing.Reset = Drop
+course a standing.Single = Drop
+course a standing.Error = if is_error_log a then Take else Refuse
+course a (standing.Queued tags) = if tags == 0 then Take else tag_course a tags
+
+-- SRST is bit 2 of Control
+abbrev pub resets : List ℕ → Bool
+resets f = field H2d Control f / 4 % 2 == 1

@@ -1,0 +1,4 @@
+pub mod Opcodes
+pub mod Asks
+pub mod Courses
+pub mod Trims

@@ -1,0 +1,2 @@
+pub mod CommandFis
+pub mod Fronts
