@@ -1,0 +1,11 @@
+//! The pages of 512 bytes that a disk gives of itself (ACS-3): IDENTIFY DEVICE data, logs, SMART data.
+#![tactic(auto)]
+
+mod identity;
+mod profile;
+mod settings;
+mod text;
+
+pub use profile::{Capacity, NumberFault, PhysicalSector, Profile, QueueDepth, Rotation, Rpm};
+pub use settings::{MultipleCount, Settings, TransferMode};
+pub use text::{FirmwareRevision, IdentityText, ModelNumber, SerialNumber, TextFault};
