@@ -4,3 +4,4 @@ pub mod Counts
 pub mod Modes
 pub mod Bytes
 pub mod Identity
+pub mod Smart

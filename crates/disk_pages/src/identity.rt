@@ -1,25 +1,13 @@
 //! IDENTIFY DEVICE data (ACS-3, 7.12.7), made anew for each command that asks for them.
 
 ghost use Rattle.std.specs.Prelude.{◌≡◌, ◌≤◌, ◌<◌, length};
-ghost use Rattle.disk_pages.specs.Bytes.{byte_of, checksum};
+ghost use Rattle.disk_pages.specs.Bytes.{byte_of};
 ghost use Rattle.disk_pages.specs.Identity.{alignment_word, bits_if, enabled, feature_word, identity, identity_word, low_sectors, multiple_word};
 ghost use Rattle.disk_pages.specs.Identity.{name_bit, name_word, physical_word, place_word, rotation_word, transfer_word, wwn_number};
 
+use crate::bytes::close;
 use crate::profile::{PhysicalSector, Profile, Rotation};
 use crate::settings::{MultipleCount, Settings};
-
-/// The byte that makes the sum of these bytes and itself 0 modulo 256.
-#[tactic(auto, unfolding(crate::specs::Bytes::checksum))]
-pub(crate) fn checksum_of(bytes: &[u8]) -> u8
-    requires { length bytes.now ≤ 65536 }
-    ensures { result ≡ checksum bytes.now }
-{
-    let mut sum: u32 = 0;
-    for byte in bytes {
-        sum += *byte as u32;
-    }
-    ((256 - sum % 256) % 256) as u8
-}
 
 fn bits_if(b: bool, bits: u16) -> u16
     ensures { result ≡ bits_if b bits }
@@ -199,4 +187,16 @@ fn identity_byte(profile: &Profile, settings: &Settings, k: usize) -> u8
     } else {
         (word / 256) as u8
     }
+}
+
+/// Writes the IDENTIFY DEVICE data into a page of 512 bytes.
+pub fn identify(profile: &Profile, settings: &Settings, page: &mut [u8])
+    requires { length page.old ≡ 512 }
+    ensures { page.new ≡ identity profile.now settings.now }
+{
+    for k in 0..510usize {
+        page[k] = identity_byte(profile, settings, k);
+    }
+    page[510] = 0xA5;
+    close(page);
 }
