@@ -16,5 +16,8 @@ fitting_is_text room text e = grind arith
 
 pub padded_is_text : (room : ℕ) (text : List ℕ) → text_fault room text ≡ None → is_text (padded room text) ≡ true
 padded_is_text room text e =
-    rw (list_all-append is_graphic text (replicate (room - length text) 0x20), fitting_is_text room text e,
-    blanks_are_text (room - length text)) refl
+    rw (
+      list_all-append is_graphic text (replicate (room - length text) 0x20),
+      fitting_is_text room text e,
+      blanks_are_text (room - length text),
+    ) refl

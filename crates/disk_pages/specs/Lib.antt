@@ -4,4 +4,6 @@ pub mod Counts
 pub mod Modes
 pub mod Bytes
 pub mod Identity
+pub mod Logs
 pub mod Smart
+pub mod Claims

@@ -2,13 +2,19 @@
 #![tactic(auto)]
 
 mod bytes;
+mod claims;
 mod identity;
+mod log;
+mod ncq_error;
 mod profile;
 mod settings;
 mod smart;
 mod text;
 
+pub use claims::claims_are_whole;
 pub use identity::identify;
+pub use log::{LogPage, reads_log};
+pub use ncq_error::NcqError;
 pub use profile::{Capacity, NumberFault, PhysicalSector, Profile, QueueDepth, Rotation, Rpm};
 pub use settings::{MultipleCount, Settings, TransferMode};
 pub use smart::{Health, SmartAnswer, smart_answer, smart_page};

@@ -14,4 +14,4 @@ pub returns : goal.returns
 unfolding identity
 returns c =
     whole_page (identity_word c.args.profile.now c.args.settings.now) c.loop-k.page c.close.new.page c.loop-k.k
-        (omega arith) (omega arith) (omega arith) c.loop-k.invariant c.close.ensures
+    (omega arith) (omega arith) (omega arith) c.loop-k.invariant c.close.ensures
