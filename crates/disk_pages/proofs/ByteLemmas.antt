@@ -1,8 +1,7 @@
-use Rattle.std.proofs.Common.{◌≡◌, ℕ, ◌+◌, ◌<◌, ◌≤◌, List, [], ◌∷◌, ◌++◌, length, take, drop, map, refl, sym, ◌∙◌, ap, subst, arith, suc, add-one}
+use Rattle.std.proofs.Common.{◌≡◌, ℕ, ◌+◌, ◌<◌, ◌≤◌, List, [], ◌∷◌, ◌++◌, length, take, drop, refl, sym, ◌∙◌, ap, subst, arith, suc}
 use Rattle.std.proofs.Math.ListN.{set, drop_of_length-le}
 use Rattle.std.proofs.lemmas.List.{take_more_set, set_split}
 use Rattle.std.proofs.lemmas.List.FromFn.{map-range_with_len_more}
-use Rattle.std.specs.List.{range_with_len}
 use Rattle.disk_pages.specs.Bytes.{byte_of, bytes_of, closed}
 
 -- one more byte of a page

@@ -1,10 +1,7 @@
-use Rattle.std.proofs.Common.{◌≡◌, ℕ, ◌+◌, ◌-◌, IsTrue, Bool, true, false, nat_lt, ◌&&◌, List, [], ◌∷◌, ◌++◌, length, replicate, refl, rules}
-use Rattle.std.proofs.Common.{zero, suc, arith, sym, ◌∙◌, ap, subst, cond, Option, Some, None}
+use Rattle.std.proofs.Common.{◌≡◌, ℕ, ◌-◌, true, List, length, replicate, refl}
+use Rattle.std.proofs.Common.{zero, suc, arith, None}
 use Rattle.std.proofs.lemmas.List.Folds.{list_all-append}
-use Rattle.std.specs.List.{list_all}
 use Rattle.disk_pages.specs.Texts.{is_graphic, is_text, padded, text_fault}
-use Rattle.disk_pages.specs.declared.text.TextFault.{TextFault}
-use Rattle.disk_pages.specs.declared.text.TextFault.TheVariants.{TooLong, NotPrintable}
 
 blanks_are_text : (n : ℕ) → is_text (replicate n 0x20) ≡ true
 blanks_are_text zero = refl

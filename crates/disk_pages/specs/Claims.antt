@@ -1,6 +1,6 @@
 -- What the IDENTIFY DEVICE data claim, and which commands a disk that claims it has to serve (ACS-3, 4, feature sets, and
 -- 7.12.7; Serial ATA 3.x, 13.6). A decoder cites `AreServed`: what is claimed is served.
-use Rattle.std.specs.Prelude.{ℕ, ◌+◌, ◌/◌, ◌%◌, ◌^◌, ◌==◌, ◌&&◌, ◌||◌, not, nat_le, Bool, true, false, IsTrue, List, [], ◌∷◌}
+use Rattle.std.specs.Prelude.{ℕ, ◌/◌, ◌%◌, ◌^◌, ◌==◌, ◌&&◌, ◌||◌, not, Bool, IsTrue, List, [], ◌∷◌}
 use Rattle.std.specs.List.{list_all, list_any, range_with_len}
 use Rattle.disk_pages.specs.Identity.{identity_word}
 use Rattle.disk_pages.specs.declared.profile.Profile.{Profile}

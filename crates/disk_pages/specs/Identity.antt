@@ -1,6 +1,6 @@
 -- IDENTIFY DEVICE data (ACS-3, 7.12.7): 256 words of two bytes, the low byte first. Each word has its row here; a word
 -- without one is 0.
-use Rattle.std.specs.Prelude.{ℕ, ◌+◌, ◌-◌, ◌*◌, ◌/◌, ◌%◌, ◌==◌, ◌&&◌, nat_le, nat_lt, min, Bool, true, false, if◌then◌else◌}
+use Rattle.std.specs.Prelude.{ℕ, ◌+◌, ◌-◌, ◌/◌, ◌%◌, ◌==◌, ◌&&◌, nat_le, nat_lt, min, Bool, if◌then◌else◌}
 use Rattle.std.specs.Prelude.{List, [], ◌∷◌, ◌++◌, Option, Some, None}
 use Rattle.disk_pages.specs.Texts.{pair}
 use Rattle.disk_pages.specs.Modes.{multiword_bits, ultra_bits}

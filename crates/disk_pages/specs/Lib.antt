@@ -7,3 +7,4 @@ pub mod Identity
 pub mod Logs
 pub mod Smart
 pub mod Claims
+pub mod Readings

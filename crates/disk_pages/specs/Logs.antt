@@ -1,7 +1,7 @@
 -- The logs that READ LOG EXT reads (ACS-3, 9), each page a list of 512 bytes.
 use Rattle.std.specs.Prelude.{ℕ, ◌+◌, ◌/◌, ◌%◌, ◌==◌, ◌&&◌, nat_le, nat_lt, Bool, if◌then◌else◌, List, [], ◌∷◌}
 use Rattle.std.specs.Prelude.{take, Option, Some, None}
-use Rattle.disk_pages.specs.Bytes.{At, at, closed, page_with}
+use Rattle.disk_pages.specs.Bytes.{at, closed, page_with}
 use Rattle.disk_pages.specs.Identity.{identity}
 use Rattle.disk_pages.specs.declared.profile.Profile.{Profile}
 use Rattle.disk_pages.specs.declared.settings.Settings.{Settings}

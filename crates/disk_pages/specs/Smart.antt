@@ -1,6 +1,6 @@
 -- SMART (ACS-3, 7.46).
 use Rattle.std.specs.Prelude.{ℕ, ◌==◌, ◌&&◌, ◌||◌, if◌then◌else◌, List, [], ◌∷◌, take}
-use Rattle.disk_pages.specs.Bytes.{At, at, closed, page_with}
+use Rattle.disk_pages.specs.Bytes.{at, closed, page_with}
 use Rattle.disk_pages.specs.declared.smart.Health.{Health}
 use Rattle.disk_pages.specs.declared.smart.Health.TheVariants.{Good, Failing}
 use Rattle.disk_pages.specs.declared.smart.SmartAnswer.{SmartAnswer}

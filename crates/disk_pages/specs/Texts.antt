@@ -1,5 +1,5 @@
 -- ATA strings (ACS-3, 3.4.9): graphic characters of ASCII, padded with blanks to the length of their field.
-use Rattle.std.specs.Prelude.{ℕ, ◌+◌, ◌-◌, ◌*◌, nat_le, nat_lt, ◌&&◌, Bool, true, if◌then◌else◌, List, ◌++◌, length, replicate}
+use Rattle.std.specs.Prelude.{ℕ, ◌+◌, ◌-◌, ◌*◌, nat_le, nat_lt, ◌&&◌, Bool, if◌then◌else◌, List, ◌++◌, length, replicate}
 use Rattle.std.specs.Prelude.{slice_index, Option, Some, None, Result, Ok, Err}
 use Rattle.std.specs.List.{list_all}
 use Rattle.disk_pages.specs.declared.text.TextFault.{TextFault}

@@ -136,13 +136,21 @@ fn rotation_word(rotation: Rotation) -> u16
     }
 }
 
+/// The world wide name as a number, 0 if there is none.
+pub(crate) fn name_number(profile: &Profile) -> u64
+    ensures value { result ≡ wwn_number profile.now.wwn }
+    ensures bound { result < 0x1_0000_0000_0000_0000 }
+{
+    profile.wwn.unwrap_or(0)
+}
+
 /// Words 100 to 254.
 #[tactic(auto, unfolding(crate::specs::Identity::place_word))]
 fn place_word(profile: &Profile, n: usize) -> u16
     ensures { result ≡ place_word profile.now n }
 {
     let sectors = profile.capacity.sectors();
-    let wwn = profile.wwn.unwrap_or(0);
+    let wwn = name_number(profile);
     match n {
         100 => (sectors % 0x1_0000) as u16,
         101 => (sectors / 0x1_0000 % 0x1_0000) as u16,

@@ -1,4 +1,4 @@
-use Rattle.std.proofs.Common.{◌≡◌, true, IsTrue, sym, subst, ◌∙◌, rules, ap}
+use Rattle.std.proofs.Common.{◌≡◌, true, sym, ◌∙◌, rules, ap}
 use Rattle.disk_pages.specs.Texts.{is_text}
 use Rattle.disk_pages.proofs.TextLemmas.{padded_is_text}
 use Rattle.disk_pages.proofs.text.IdentityText.new.Goals as goal
