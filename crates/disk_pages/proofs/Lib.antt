@@ -1,0 +1,4 @@
+pub mod TextLemmas
+pub mod ByteLemmas
+pub mod ClaimLemmas
+pub mod ReadingLemmas

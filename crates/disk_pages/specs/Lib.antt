@@ -1,0 +1,10 @@
+pub mod Texts
+pub mod Profiles
+pub mod Counts
+pub mod Modes
+pub mod Bytes
+pub mod Identity
+pub mod Logs
+pub mod Smart
+pub mod Claims
+pub mod Readings
