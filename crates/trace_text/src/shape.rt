@@ -45,10 +45,7 @@ impl Shape {
         let said = Said::read(words, sectors)?;
         let plan = DiskPlan {
             order: said.order.unwrap_or(Order::Oldest),
-            chunk: match said.chunk {
-                Some(chunk) => chunk.bytes,
-                None => 8192,
-            },
+            chunk: chunk_bytes(said.chunk),
             last_first: said.is_last_first,
             bad: said.bad,
             auto: said.is_auto,
@@ -104,6 +101,16 @@ struct Chunk {
     /// A multiple of 512, from 512 to 8,192.
     bytes: u16,
     ghost has_size: { (512 ≤ bytes) × (bytes ≤ 8192) × (bytes % 512 ≡ 0) },
+}
+
+/// The bytes that one DMA Setup moves at most, if this was said of it.
+fn chunk_bytes(said: Option<Chunk>) -> u16
+    ensures { (512 ≤ result) × (result ≤ 8192) × (result % 512 ≡ 0) }
+{
+    match said {
+        Some(chunk) => chunk.bytes,
+        None => 8192,
+    }
 }
 
 /// The words of a line about a disk that come after its size.
