@@ -60,13 +60,15 @@ class Maker:
         """A disk, or a script that begins as a disk does."""
         if port in self.scripts:
             return f"script {port} {SIGNATURE}"
-        words = [f"disk {port} sectors {self.random.choice((8, 16, 24))}"]
+        sectors = self.random.choice((8, 16, 24))
+        words = [f"disk {port} sectors {sectors}"]
         if self.chance(0.4):
             words.append("order newest")
         if self.chance(0.5):
             words.append(f"chunk {512 * self.random.randint(1, 4)}")
         words += [word for word in ("lastfirst",) if self.chance(0.3)]
-        words += [f"bad {sector}" for sector in self.random.sample(range(16), self.random.choice((0, 0, 1, 3)))]
+        bad = self.random.sample(range(16), self.random.choice((0, 0, 1, 3)))
+        words += [f"bad {sector}" for sector in bad if sector < sectors]
         words += [word for word in ("auto", "stock") if self.chance(0.3)]
         return " ".join(words)
 

@@ -11,9 +11,19 @@ from pm_tools.program import Program
 from pm_tools.trace import CONTROL_PORT, Step, Trace, link_step
 
 PXCLB, PXCLBU, PXFB, PXFBU, PXCI, PXFBS = 0x100, 0x104, 0x108, 0x10C, 0x138, 0x140
+NAMED = {"PxCLB": PXCLB, "PxCLBU": PXCLBU, "PxFB": PXFB, "PxFBU": PXFBU, "PxCI": PXCI, "PxFBS": PXFBS}
+OTHER = 0xFFFF  # stands for all registers that say nothing of where bytes are
 ROW = 256  # bytes of the received FISes of a device
 PLACES = {"setup": (0x00, 28), "pio": (0x20, 20), "d2h": (0x40, 20), "bits": (0x58, 8)}
 COMMAND_BYTES = 20
+
+
+def offset_of(word: str) -> int:
+    """The offset of a register, by its name or in hexadecimal."""
+    try:
+        return NAMED[word] if word in NAMED else int(word, 16)
+    except ValueError:
+        return OTHER
 
 
 @dataclass
@@ -41,7 +51,7 @@ class Guest:
             data, begin = bytes.fromhex("".join(words[2:])), int(words[1], 16) - self.start
             self.memory[begin:begin + len(data)] = data
         elif words[:2] == ["mmio", "write"]:
-            self.write(int(words[2], 16), int(words[3], 16))
+            self.write(offset_of(words[2]), int(words[3], 16))
 
     def write(self, register: int, value: int) -> None:
         self.registers[register] = value

@@ -43,7 +43,8 @@ def note_of(step: Step) -> str:
         for start in ("driver, ", "driver: ", "driver "):
             said = said.removeprefix(start)
         return said
-    return step.text.split("; ", 1)[1] if "; " in step.text else ""
+    came = step.text.split("; ", 1)[1] if "; " in step.text else ""
+    return re.sub(r"\b(fault [\w-]+) of .*", r"\1", came)  # without all requests that were out
 
 
 def spelled(value: int, bits: dict[int, str]) -> str:

@@ -7,8 +7,8 @@
 A packet is a FIS that is put on the host's link; with --links all, on any link, each device's link an interface of its
 own. Its time is the number of its step, in microseconds, and its comment has the line of the trace. The trace tells a FIS
 in words: its bytes are made of them, and what the words leave out is 0 (the bytes of Data, above all). The packet says so
-(`fis.made`). With --play the scenario is played in such a way that the bytes become known of all FISes that devices send
-under `run`, and of all but Data under `guest`.
+(`fis.made`). A trace of `run --bytes` has the bytes. With --play the scenario is played in such a way that the bytes of all
+FISes become known under `run`, and those of all but Data under `guest`.
 """
 from __future__ import annotations
 

@@ -120,6 +120,7 @@ LINK_WORDS = re.compile(r"(up|down) (?:port (\d+)|control port): (.*)")
 STEP_WORDS = re.compile(r"#(?P<number>\d+) (?P<way>up|down) (?P<who>.*?)(?: conn (?P<conn>\d+))? fis (?P<fis>\d+): (?P<said>.*)")
 CHANGE_WORDS = re.compile(r"#(?P<number>\d+) (?P<who>disk|pm records at port) (?P<port>\d+), conn (?P<conn>\d+) (?P<what>came|went)")
 DRIVER_WORDS = re.compile(r"#(?P<number>\d+) driver(?P<place>, control port|, port (?P<port>\d+))?(?P<said>.*)")
+ENDED_WORDS = re.compile(r" tells (?:(done|aborted|removed|port-error)|device-error (\w\w)(?: [A-Z]+)* (\w\w))\b")
 HOPS = {"disk -> pm": ("sends", "disk", "pm"), "pm takes at": ("takes", "disk", "pm"),
         "pm -> host": ("sends", "pm", "host"), "host takes from": ("takes", "pm", "host"),
         "host takes from pm": ("takes", "pm", "host"), "host -> pm": ("sends", "host", "pm"),
@@ -171,16 +172,24 @@ def change_step(line: str) -> Optional[Step]:
                 conn=int(found["conn"]), gone=is_gone, dropped=dropped[1] if dropped else None)
 
 
+def ended_of(said: str) -> Optional[str]:
+    """How the request ended that the driver tells of, without the bits that are spelled and without why."""
+    found = ENDED_WORDS.search(said)
+    if not found:
+        return None
+    return found[1] or f"device-error {found[2]} {found[3]}"
+
+
 def driver_step(line: str) -> Optional[Step]:
     """A line of `run --trace` of what the driver did."""
     found = DRIVER_WORDS.fullmatch(line)
     if not found:
         return None
     said = found["said"]
-    ended, issued = re.search(r" tells ([\w -]+)", said), re.match(r": (h2d .*?), slot ", said)
+    issued = re.match(r": (h2d .*?), slot ", said)
     return Step(number=int(found["number"]), act="drives", source="driver", target="host", text=line,
                 port=port_of(found["place"] or ""), frame=issued[1] if issued else None, slots=slots_in(said),
-                submitted=" takes a request: " in said, ended=ended[1] if ended else None)
+                submitted=" takes a request: " in said, ended=ended_of(said))
 
 
 def text_step(line: str) -> Optional[Step]:

@@ -11,7 +11,7 @@ from unittest import mock
 
 from pm_tools.frames import made
 from pm_tools.pcapng import write_packets
-from pm_tools.playing import flat, played, rounds_of
+from pm_tools.playing import flat, played
 from pm_tools.program import Program
 from pm_tools.trace import read_json, read_trace, with_bytes
 from support import DATA, TOP, built_program, call, needs_program
@@ -61,7 +61,7 @@ class Bytes(unittest.TestCase):
                 ("h2d write-pm port 0 pscr[2] value 00000301", 15, (), "278fe80203000000000000000100000000000000"),
                 ("d2h status 50 error 01 value 96690101", 15, (), "340f500101699600000000000100000000000000"),
                 ("d2h status 50 error 01 signature", 2, (), "3402500101000000000000000100000000000000"),
-                ("bits status 41 error 40 sactive 00000004 notify", 1, (), "a181414004000000"),
+                ("bits status 41 DRDY ERR error 40 UNC sactive 00000004 notify", 1, (), "a181414004000000"),
                 ("setup tag 3 to host offset 512 count 1024 auto", 0, (),
                  "41a00000030000000000000000000000000200000004000000000000"),
                 ("activate", 4, (), "39040000"),
@@ -69,13 +69,8 @@ class Bytes(unittest.TestCase):
                 ("pio status 58 bytes 512", 0, (), "5f20580000000000000000000000000000020000")):
             self.assertEqual(made(words, port, slots).hex(), wanted, words)
 
-    def test_rounds_are_counted(self) -> None:
-        steps = read_json((TOP / "cases/trace/json.out").read_text().splitlines()).steps
-        self.assertEqual(rounds_of(steps[1:4], 1), 1)
-        self.assertEqual(rounds_of(steps[1:6], 1), 2)
-
     def test_blocks_are_played_out(self) -> None:
-        self.assertEqual(list(flat(["# one", "repeat 2", "poll", "end", "expect x", "came 0"])), ["poll", "poll", "came 0"])
+        self.assertEqual(list(flat(["# one", "repeat 2 # two", "poll", "end", "expect x", "came 0"])), ["poll", "poll", "came 0"])
 
 
 def dissected() -> str:

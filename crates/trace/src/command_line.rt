@@ -129,13 +129,16 @@ impl<'a> Call<'a> {
 
 /// The steps that the words after `run` ask for.
 fn watch_of(given: &ArgMatches<'_>) -> Result<Watch, Misuse> {
-    let is_json = given.get_flag("json");
+    let has_bytes = given.get_flag("bytes");
+    let is_json = given.get_flag("json") || has_bytes;
     let mut watch = Watch {
         is_on: given.get_flag("trace") || is_json,
         port: None,
         is_faults: false,
         from: 1,
         is_json,
+        has_bytes,
+        is_strict: given.get_flag("strict"),
     };
     for only in given.get_strs("only").unwrap_or(&[]) {
         narrow(&mut watch, only)?;
@@ -210,6 +213,8 @@ fn run_words<'a>(alloc: Global) -> Result<Command<'a>, Error> {
     let command = mode_words(alloc, "run")?
         .arg(flag(alloc, "trace"))?
         .arg(flag(alloc, "json"))?
+        .arg(flag(alloc, "bytes"))?
+        .arg(flag(alloc, "strict"))?
         .arg(
             Arg::new(alloc, "only")
                 .long("only")

@@ -10,6 +10,8 @@ pm_trace run [WORDS] [FILE]            play a scenario, one step at a time
     --only faults    only faults, drops, removals and requests that failed
     --from N         only steps from number N on
     --json           the same as JSON, an object a line
+    --bytes          the same with the bytes of each FIS
+    --strict         a step or a request that is refused ends the run
 pm_trace threads [--turns N] [FILE]    run one with a thread for each disk, the multiplier and the host
     --turns N        end once nothing moved in N turns of a thread, 1 to 16777216
 pm_trace guest [--trace] [FILE]        play the accesses of a driver to an AHCI controller

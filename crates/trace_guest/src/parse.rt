@@ -143,9 +143,9 @@ impl Action {
 /// The words after `mmio`.
 fn access(words: &mut Words<'_>) -> Result<Action, Failure> {
     match words.next_word() {
-        Some(b"read") => Ok(Action::Read(words.dword(Wanted::Offset)?)),
+        Some(b"read") => Ok(Action::Read(words.controller_register()?)),
         Some(b"write") => Ok(Action::Write(
-            words.dword(Wanted::Offset)?,
+            words.controller_register()?,
             words.dword(Wanted::Value)?,
         )),
         _ => Err(words.refused(Refusal::Number, Wanted::Access)),

@@ -1,12 +1,14 @@
 //! What a step that moved something tells about itself.
 
-use crate::text::write_outcome;
-use crate::tickets::{Asked, SlotList, Tickets};
+use crate::places::Waiting;
+use crate::reason::{Reason, device_fault};
+use crate::tickets::{Asked, AskedList, SlotList, Tickets};
+use fis_view::Frame;
 use hba_driver::{Completion, Outcome};
 use hba_fbs::TakeReport;
-use port_errors::{DeviceCause, PortCause};
+use port_errors::PortCause;
 use std::fmt;
-use trace_text::{FrameShort, bit_of, named_slots};
+use trace_text::{ErrorLog, ErrorText, FrameShort, StatusText, bit_of, named_slots};
 
 /// Who did what in a step.
 #[derive(Clone, Copy)]
@@ -82,7 +84,7 @@ pub enum Upshot {
     /// Nothing more than what the act says.
     Plain,
     /// The host port did this with a FIS.
-    Report(TakeReport),
+    Report(Hearing),
     /// The FIS was let go.
     Dropped(&'static str),
     /// The control port heard it.
@@ -96,7 +98,7 @@ pub enum Upshot {
     /// The driver took a request.
     Submitted(Asked),
     /// A request ended.
-    Polled(Completion),
+    Polled(Ending),
     /// Bytes were put to client memory.
     Put {
         at: u32,
@@ -104,43 +106,47 @@ pub enum Upshot {
     },
 }
 
-impl Upshot {
+/// What the host port did with a FIS, and what that tells.
+#[derive(Clone, Copy)]
+pub struct Hearing {
+    pub report: TakeReport,
+    /// The log of a device that it brought.
+    pub log: Option<ErrorLog>,
+    /// The slots of the requests one of which the device failed.
+    pub failed: u32,
+}
+
+/// How a request ended.
+#[derive(Clone, Copy)]
+pub struct Ending {
+    pub completion: Completion,
+    /// Why it was not done, as far as that is known.
+    pub reason: Option<Reason>,
+}
+
+impl Hearing {
     /// The name of the cause of the fault that it made.
     pub fn fault(self) -> Option<&'static str> {
-        let Upshot::Report(report) = self else {
-            return None;
-        };
-        match (report.fault, report.stopped) {
+        match (self.report.fault, self.report.stopped) {
             (Some(cause), _) => Some(device_fault(cause)),
             (None, Some(cause)) => Some(port_fault(cause)),
             (None, None) => None,
         }
     }
-
-    /// Whether it is a fault, a drop, a removal or the end of a request that was not done.
-    pub fn is_trouble(self) -> bool {
-        match self {
-            Upshot::Report(report) => self.fault().is_some() || report.ignored,
-            Upshot::Dropped(_) => true,
-            Upshot::Connection { is_gone, .. } => is_gone,
-            Upshot::Polled(completion) => completion.outcome != Outcome::Done,
-            Upshot::Plain | Upshot::Control | Upshot::Submitted(_) | Upshot::Put { .. } => false,
-        }
-    }
 }
 
-/// The name of a cause for which a device is faulty.
-fn device_fault(cause: DeviceCause) -> &'static str {
-    match cause {
-        DeviceCause::TaskFile => "task-file",
-        DeviceCause::BadTag => "bad-tag",
-        DeviceCause::Overflow => "overflow",
-        DeviceCause::Stray => "stray",
-        DeviceCause::Twice => "twice",
-        DeviceCause::Fragments => "fragments",
-        DeviceCause::Short => "short",
-        DeviceCause::BadFis => "bad-fis",
-        DeviceCause::WrongWay => "wrong-way",
+impl Upshot {
+    /// Whether it is a fault, its log, a drop, a removal or the end of a request that was not done.
+    pub fn is_trouble(self) -> bool {
+        match self {
+            Upshot::Report(hearing) => {
+                hearing.fault().is_some() || hearing.report.ignored || hearing.log.is_some()
+            }
+            Upshot::Dropped(_) => true,
+            Upshot::Connection { is_gone, .. } => is_gone,
+            Upshot::Polled(ending) => ending.completion.outcome != Outcome::Done,
+            Upshot::Plain | Upshot::Control | Upshot::Submitted(_) | Upshot::Put { .. } => false,
+        }
     }
 }
 
@@ -183,6 +189,8 @@ pub struct Event<'a> {
     /// The slots that it names, or that the driver issued.
     pub slots: u32,
     pub upshot: Upshot,
+    /// The frames that were dropped because their device went.
+    pub lost: Option<&'a Waiting>,
     /// The registers of the host port before and after.
     pub registers: Option<Change>,
 }
@@ -246,6 +254,7 @@ impl Event<'static> {
             frame: None,
             slots: 0,
             upshot,
+            lost: None,
             registers: None,
         }
     }
@@ -278,7 +287,7 @@ impl fmt::Display for EventText<'_, '_> {
         write_moved(event, f)?;
         write_slots(event, self.tickets, f)?;
         write_change(event, f)?;
-        write_upshot(event.upshot, self.tickets, f)
+        write_upshot(event, self.tickets, f)
     }
 }
 
@@ -368,67 +377,153 @@ fn write_change<W: fmt::Write>(event: &Event<'_>, f: &mut fmt::Formatter<W>) -> 
 
 /// Writes what came of a step.
 fn write_upshot<W: fmt::Write>(
-    upshot: Upshot,
+    event: &Event<'_>,
     tickets: &Tickets,
     f: &mut fmt::Formatter<W>,
 ) -> fmt::Result {
-    match upshot {
+    match event.upshot {
         Upshot::Plain => Ok(()),
-        Upshot::Report(report) => write_report(report, tickets, f),
+        Upshot::Report(hearing) => write_hearing(hearing, tickets, f),
         Upshot::Dropped(why) => write!(f, "; dropped: {why}"),
         Upshot::Control => f.write_str("; heard by the control port"),
-        Upshot::Connection {
-            conn,
-            is_gone,
-            dropped,
-        } => {
+        Upshot::Connection { conn, is_gone, .. } => {
             let what = if is_gone { "went" } else { "came" };
             write!(f, ", conn {conn} {what}")?;
-            write_dropped(dropped, f)
+            match event.dropped(tickets) {
+                Some(dropped) => write!(f, "; dropped: {dropped}"),
+                None => Ok(()),
+            }
         }
         Upshot::Submitted(asked) => write!(f, " takes a request: {asked}"),
-        Upshot::Polled(completion) => write_polled(completion, tickets, f),
+        Upshot::Polled(ending) => write_polled(ending, tickets, f),
         Upshot::Put { at, len } => write!(f, " puts {len} bytes at {at:x}"),
     }
 }
 
-/// Writes how many frames of a connection were let go when it went.
-fn write_dropped<W: fmt::Write>(dropped: u32, f: &mut fmt::Formatter<W>) -> fmt::Result {
-    match dropped {
+/// The frames that were dropped because their device went, as words.
+#[derive(Drop)]
+pub struct Dropped<'a, 'b> {
+    /// How many were dropped on their way down.
+    count: u32,
+    lost: Option<&'a Waiting>,
+    tickets: &'b Tickets,
+}
+
+impl Event<'_> {
+    /// The frames that were dropped because their device went; None if there are none.
+    pub fn dropped<'b>(&'b self, tickets: &'b Tickets) -> Option<Dropped<'b, 'b>> {
+        let Upshot::Connection { dropped, .. } = self.upshot else {
+            return None;
+        };
+        let is_lost = match self.lost {
+            Some(lost) => lost.up.is_some() || lost.down.is_some(),
+            None => false,
+        };
+        (is_lost || dropped > 0).then_some(Dropped {
+            count: dropped,
+            lost: self.lost,
+            tickets,
+        })
+    }
+}
+
+impl fmt::Display for Dropped<'_, '_> {
+    fn fmt<W: fmt::Write>(&self, f: &mut fmt::Formatter<W>) -> fmt::Result {
+        let (down, up) = match self.lost {
+            Some(lost) => (lost.down.as_ref(), lost.up.as_ref()),
+            None => (None, None),
+        };
+        match (down, up) {
+            (Some(down), Some(up)) => {
+                write_lost("down", down, self.tickets, f)?;
+                f.write_str(" and ")?;
+                write_lost("up", up, self.tickets, f)
+            }
+            (Some(down), None) => write_lost("down", down, self.tickets, f),
+            (None, Some(up)) => write_lost("up", up, self.tickets, f),
+            (None, None) => write!(f, "{} frames", self.count),
+        }
+    }
+}
+
+/// Writes which frame was dropped on this way.
+fn write_lost<W: fmt::Write>(
+    way: &str,
+    frame: &Frame,
+    tickets: &Tickets,
+    f: &mut fmt::Formatter<W>,
+) -> fmt::Result {
+    let number = frame.stamp().number;
+    write!(f, "{way} fis {number}: {}", FrameShort(frame.bytes()))?;
+    match named_slots(frame.bytes()) {
         0 => Ok(()),
-        1 => f.write_str("; dropped: the frame that it held"),
-        n => write!(f, "; dropped: the {n} frames that it held"),
+        mask => write!(f, ", {}", SlotList { mask, tickets }),
     }
 }
 
 /// Writes how a request ended, and what it asked.
 fn write_polled<W: fmt::Write>(
-    completion: Completion,
+    ending: Ending,
     tickets: &Tickets,
     f: &mut fmt::Formatter<W>,
 ) -> fmt::Result {
     f.write_str(" tells ")?;
-    write_outcome(completion.outcome, f)?;
-    match tickets.asked(completion.slot) {
+    write_ending(ending, f)?;
+    match tickets.asked(ending.completion.slot) {
         Some(asked) => write!(f, ": {asked}"),
         None => Ok(()),
     }
 }
 
+/// Writes how a request ended, and why.
+fn write_ending<W: fmt::Write>(ending: Ending, f: &mut fmt::Formatter<W>) -> fmt::Result {
+    match (ending.completion.outcome, ending.reason) {
+        (Outcome::DeviceError { status, error }, reason) => {
+            let error = ErrorText { status, error };
+            write!(f, "device-error {} {error}", StatusText(status))?;
+            match reason {
+                Some(Reason::Named(lba)) => write!(f, " at lba {lba}"),
+                _ => Ok(()),
+            }
+        }
+        (Outcome::Aborted, Some(reason)) => write!(f, "aborted by {reason}"),
+        (outcome, _) => f.write_str(outcome_name(outcome)),
+    }
+}
+
+/// The name of how a request ended.
+fn outcome_name(outcome: Outcome) -> &'static str {
+    match outcome {
+        Outcome::Done => "done",
+        Outcome::DeviceError { .. } => "device-error",
+        Outcome::Aborted => "aborted",
+        Outcome::Removed => "removed",
+        Outcome::PortError => "port-error",
+    }
+}
+
 /// Writes what the host port did with a FIS.
-fn write_report<W: fmt::Write>(
-    report: TakeReport,
+fn write_hearing<W: fmt::Write>(
+    hearing: Hearing,
     tickets: &Tickets,
     f: &mut fmt::Formatter<W>,
 ) -> fmt::Result {
+    let report = hearing.report;
     if report.ignored {
         return f.write_str("; taken by nobody");
     }
     write_range(report, tickets, f)?;
     write_done(report.done, tickets, f)?;
-    match Upshot::Report(report).fault() {
-        Some(cause) => write!(f, "; fault {cause}"),
-        None => Ok(()),
+    if let Some(log) = hearing.log {
+        write!(f, "; log 10h: {log}")?;
+    }
+    let Some(cause) = hearing.fault() else {
+        return Ok(());
+    };
+    write!(f, "; fault {cause}")?;
+    match hearing.failed {
+        0 => Ok(()),
+        mask => write!(f, " of {}", AskedList { mask, tickets }),
     }
 }
 

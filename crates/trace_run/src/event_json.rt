@@ -1,6 +1,7 @@
 //! A step as an object of JSON.
 
-use crate::event::{Event, EventText, Mark, Upshot};
+use crate::event::{Ending, Event, EventText, Hearing, Mark, Upshot};
+use crate::reason::Reason;
 use crate::text::write_outcome;
 use crate::tickets::{SlotArray, Tickets};
 use hba_driver::Outcome;
@@ -12,6 +13,8 @@ use trace_text::FrameShort;
 pub struct EventJson<'a, 'b> {
     pub event: &'b Event<'a>,
     pub tickets: &'b Tickets,
+    /// Whether it has the bytes of its FIS.
+    pub has_bytes: bool,
 }
 
 impl fmt::Display for EventJson<'_, '_> {
@@ -20,8 +23,11 @@ impl fmt::Display for EventJson<'_, '_> {
         write_act(event, f)?;
         write_place(event, f)?;
         write_frame(event, f)?;
+        if self.has_bytes {
+            write_bytes(event, f)?;
+        }
         write_slots(event, tickets, f)?;
-        write_ends(event.upshot, f)?;
+        write_ends(event, tickets, f)?;
         let text = EventText { event, tickets };
         write!(f, ",\"text\":\"{text}\"}}")
     }
@@ -56,6 +62,18 @@ fn write_frame<W: fmt::Write>(event: &Event<'_>, f: &mut fmt::Formatter<W>) -> f
     }
 }
 
+/// Writes the bytes of its FIS, two digits each.
+fn write_bytes<W: fmt::Write>(event: &Event<'_>, f: &mut fmt::Formatter<W>) -> fmt::Result {
+    let Some(frame) = event.frame else {
+        return Ok(());
+    };
+    f.write_str(",\"bytes\":\"")?;
+    for byte in frame {
+        write!(f, "{byte:02x}")?;
+    }
+    f.write_str("\"")
+}
+
 fn write_mark<W: fmt::Write>(mark: Mark, f: &mut fmt::Formatter<W>) -> fmt::Result {
     write!(f, ",\"fis\":{}", mark.number)?;
     match mark.conn {
@@ -86,20 +104,39 @@ fn write_slots<W: fmt::Write>(
 }
 
 /// Writes what came of the step.
-fn write_ends<W: fmt::Write>(upshot: Upshot, f: &mut fmt::Formatter<W>) -> fmt::Result {
-    if let Some(cause) = upshot.fault() {
-        write!(f, ",\"fault\":\"{cause}\"")?;
-    }
-    match upshot {
-        Upshot::Report(report) if report.ignored => f.write_str(",\"ignored\":true"),
-        Upshot::Report(report) if report.done != 0 => write_done(report.done, f),
+fn write_ends<W: fmt::Write>(
+    event: &Event<'_>,
+    tickets: &Tickets,
+    f: &mut fmt::Formatter<W>,
+) -> fmt::Result {
+    match event.upshot {
+        Upshot::Report(hearing) => write_hearing(hearing, f),
         Upshot::Dropped(why) => write!(f, ",\"dropped\":\"{why}\""),
         Upshot::Connection { conn, is_gone, .. } => {
-            write!(f, ",\"conn\":{conn},\"gone\":{is_gone}")
+            write!(f, ",\"conn\":{conn},\"gone\":{is_gone}")?;
+            match event.dropped(tickets) {
+                Some(dropped) => write!(f, ",\"dropped\":\"{dropped}\""),
+                None => Ok(()),
+            }
         }
         Upshot::Submitted(_) => f.write_str(",\"submitted\":true"),
-        Upshot::Polled(completion) => write_ended(completion.outcome, f),
+        Upshot::Polled(ending) => write_ending(ending, f),
         _ => Ok(()),
+    }
+}
+
+/// Writes what the host port did with a FIS.
+fn write_hearing<W: fmt::Write>(hearing: Hearing, f: &mut fmt::Formatter<W>) -> fmt::Result {
+    if let Some(cause) = hearing.fault() {
+        write!(f, ",\"fault\":\"{cause}\"")?;
+    }
+    if let Some(log) = hearing.log {
+        write!(f, ",\"log\":\"{log}\"")?;
+    }
+    match hearing.report.done {
+        _ if hearing.report.ignored => f.write_str(",\"ignored\":true"),
+        0 => Ok(()),
+        done => write_done(done, f),
     }
 }
 
@@ -112,9 +149,14 @@ fn write_done<W: fmt::Write>(mask: u32, f: &mut fmt::Formatter<W>) -> fmt::Resul
     write!(f, ",\"done\":{done}")
 }
 
-/// Writes how a request ended.
-fn write_ended<W: fmt::Write>(outcome: Outcome, f: &mut fmt::Formatter<W>) -> fmt::Result {
+/// Writes how a request ended, and why.
+fn write_ending<W: fmt::Write>(ending: Ending, f: &mut fmt::Formatter<W>) -> fmt::Result {
     f.write_str(",\"ended\":\"")?;
-    write_outcome(outcome, f)?;
-    f.write_str("\"")
+    write_outcome(ending.completion.outcome, f)?;
+    f.write_str("\"")?;
+    match (ending.completion.outcome, ending.reason) {
+        (Outcome::DeviceError { .. }, Some(Reason::Named(lba))) => write!(f, ",\"lba\":{lba}"),
+        (Outcome::Aborted, Some(reason)) => write!(f, ",\"by\":\"{reason}\""),
+        _ => Ok(()),
+    }
 }

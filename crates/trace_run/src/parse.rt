@@ -374,9 +374,9 @@ fn memory(words: &mut Words<'_>, sizes: Sizes) -> Result<Common, Failure>
     Ok(Common::See(View::Memory(at, count)))
 }
 
-/// The words after `reg`: the offset of a register among those of its port.
+/// The words after `reg`: a register of the port, by its name or its offset.
 fn register(words: &mut Words<'_>) -> Result<Action, Failure> {
-    let offset = words.address()?;
+    let offset = words.port_register()?;
     match Register::at(offset) {
         Some(register) => Ok(Action::Register(register)),
         None => Err(words.refused(Refusal::Range, Wanted::Register)),

@@ -3,6 +3,7 @@
 use crate::due::Due;
 use crate::opening::{Opening, Sizes};
 use crate::parse::{Action, Setting, filed_disk};
+use crate::refused::{Refused, Why};
 use crate::round_step::RoundStep;
 use crate::text::{Reply, print_faults, print_register, print_registers, print_sizes, print_view};
 use crate::tracer::{Sight, Tracer};
@@ -14,7 +15,9 @@ use std::fs::OpenFile;
 use std::io::{Eprint, Read, Seek, Write};
 use std::mem;
 use std::rt::Files;
-use trace_text::{Failure, Filed, Lines, Media, Printer, Words, is_skipped, play_aside};
+use trace_text::{
+    Failure, Filed, Lines, Media, Printer, Refusal, Wanted, Words, is_skipped, play_aside,
+};
 
 /// Plays the scenario line by line and writes what each line prints. A refused line ends it; the
 /// lines before it have acted and printed. A line that prints something else than was expected ends
@@ -201,6 +204,10 @@ struct Scene<F: Drop> {
     /// Which steps of a round are tried.
     due: Due,
     tracer: Tracer,
+    /// Whether a step or a request that is refused ends the scenario.
+    is_strict: bool,
+    /// The line that is played, counted from 1.
+    line: usize,
 }
 
 impl<F: Read + Write + Seek + OpenFile + Drop> Scene<F> {
@@ -217,7 +224,9 @@ impl<F: Read + Write + Seek + OpenFile + Drop> Scene<F> {
             media,
             counts: Counts::new(alloc),
             due: Due::all(),
-            tracer: Tracer::new(watch),
+            tracer: Tracer::new(alloc, watch),
+            is_strict: watch.is_strict,
+            line: 0,
         })
     }
 
@@ -230,6 +239,7 @@ impl<F: Read + Write + Seek + OpenFile + Drop> Scene<F> {
         printer: &mut Printer<'_>,
         out: &mut W,
     ) -> Result<(), Failure> {
+        self.line = words.line();
         let action = Action::read(alloc, name, &mut words, self.sizes)?;
         self.play(alloc, &action, printer, out)
     }
@@ -265,7 +275,21 @@ impl<F: Read + Write + Seek + OpenFile + Drop> Scene<F> {
         out: &mut W,
     ) -> Result<(), Failure> {
         let reply = self.step(alloc, step, out)?;
-        printer.print(alloc, &reply, out)
+        printer.print(alloc, &reply, out)?;
+        if self.is_strict && reply.is_refusal() {
+            return Err(self.refusal());
+        }
+        Ok(())
+    }
+
+    /// The refusal of the line that is played, because its step or its request was refused.
+    fn refusal(&self) -> Failure {
+        Failure::Line {
+            line: self.line,
+            refusal: Refusal::Refused,
+            word: 0,
+            wanted: Wanted::Strict,
+        }
     }
 
     /// Runs rounds, and prints whether the last of them did nothing.
@@ -422,23 +446,26 @@ impl<F: Read + Write + Seek + OpenFile + Drop> Scene<F> {
     ) -> Result<Result<Answer, StepError>, Failure> {
         let sight = Sight::of(alloc, &self.world, step)?;
         let acted = self.world.step(alloc, step);
-        self.tell(step, &sight, &acted, out)?;
+        self.tell(step, sight, &acted, out)?;
         Ok(acted)
     }
 
-    /// Counts the answer of a step, and writes what it did.
+    /// Counts the answer of a step, and writes what it did, or why it was refused.
     fn tell<W: Write>(
         &mut self,
         step: &Step,
-        sight: &Sight,
+        sight: Sight,
         acted: &Result<Answer, StepError>,
         out: &mut W,
     ) -> Result<(), Failure> {
         self.note(step, acted)?;
-        match acted {
-            Ok(answer) => self.tracer.note(&self.world, step, sight, answer, out),
-            Err(_) => Ok(()),
-        }
+        let why = match acted {
+            Ok(Answer::Refused(error)) => Why::Request(*error),
+            Ok(answer) => return self.tracer.note(&self.world, step, sight, answer, out),
+            Err(error) => Why::Step(*error),
+        };
+        let line = self.line;
+        self.tracer.note_refused(&Refused { line, step, why }, out)
     }
 
     /// Counts the answer of a step, and takes note of which steps are due after it. If memory was refused,

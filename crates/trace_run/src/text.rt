@@ -153,6 +153,11 @@ impl Reply {
         }
     }
 
+    /// Whether a step or a request was refused.
+    pub fn is_refusal(&self) -> bool {
+        matches!(self, Reply::Refused(_) | Reply::RequestRefused(_))
+    }
+
     /// This many bytes of client memory, from this address on, as far as they lie in it.
     fn shown(alloc: Global, memory: &HostMemory, at: u32, count: u32) -> Result<Reply, AllocError> {
         let start = at.saturating_sub(CLIENT_START) as usize;

@@ -1,19 +1,23 @@
 //! Tells about each step of a run that moved something.
 
-use crate::event::{Act, Change, Event, EventText, Mark, Registers, Upshot};
+use crate::event::{Act, Change, Ending, Event, EventText, Hearing, Mark, Registers, Upshot};
 use crate::event_json::EventJson;
+use crate::places::{Places, Waiting};
+use crate::reason::Fault;
+use crate::refused::{Refused, RefusedJson};
 use crate::tickets::{Asked, Tickets};
 use crate::watch::Watch;
 use fis_view::Frame;
 use hba_driver::{Completion, Ticket};
-use hba_fbs::{HostPort, Register};
+use hba_fbs::{HostPort, Register, TakeReport};
 use host_memory::HostMemory;
 use multiplier::Passed;
 use pm_world::{Answer, Hop, Step, World};
+use port_errors::DeviceCause;
 use std::alloc::{AllocError, Global};
 use std::io::Write;
 use std::mem;
-use trace_text::{Failure, bit_of};
+use trace_text::{ErrorLog, Failure, bit_of};
 
 /// What is seen of a world before a step of it.
 #[derive(Drop)]
@@ -88,16 +92,18 @@ pub struct Tracer {
     tickets: Tickets,
     /// How many times each port of the multiplier recorded that its device came or went.
     recorded: [u32; 16],
+    places: Places,
 }
 
 impl Tracer {
     /// Nothing has moved.
-    pub fn new(watch: Watch) -> Tracer {
+    pub fn new(alloc: Global, watch: Watch) -> Tracer {
         Tracer {
             watch,
             number: 0,
             tickets: Tickets::new(),
             recorded: [0; 16],
+            places: Places::new(alloc),
         }
     }
 
@@ -111,16 +117,70 @@ impl Tracer {
         &mut self,
         world: &World,
         step: &Step,
+        sight: Sight,
+        answer: &Answer,
+        out: &mut W,
+    ) -> Result<(), Failure> {
+        self.tell(world, step, &sight, answer, out)?;
+        if let Answer::Polled(completion) = answer {
+            self.tickets.free(completion.slot);
+        }
+        let Sight {
+            frame,
+            dropped: _,
+            registers: _,
+        } = sight;
+        Ok(self.places.note(answer, frame)?)
+    }
+
+    /// Writes what a step did that gave this answer.
+    fn tell<W: Write>(
+        &mut self,
+        world: &World,
+        step: &Step,
         sight: &Sight,
         answer: &Answer,
         out: &mut W,
     ) -> Result<(), Failure> {
-        let Some(event) = self.event(world, step, sight, answer) else {
-            return Ok(());
+        let lost = self.lost(answer);
+        match self.event(world, step, sight, answer) {
+            Some(event) => {
+                let event = Event {
+                    lost: lost.as_ref(),
+                    ..event
+                };
+                self.write(&event, out)
+            }
+            None => Ok(()),
+        }
+    }
+
+    /// What waited at a port whose device went, if that is what a step recorded.
+    fn lost(&mut self, answer: &Answer) -> Option<Waiting> {
+        let Answer::Presence(port) = answer else {
+            return None;
         };
-        self.write(&event, out)?;
-        if let Upshot::Polled(completion) = event.upshot {
-            self.tickets.free(completion.slot);
+        match self.recorded.get(usize::from(*port)) {
+            Some(count) if *count % 2 == 1 => Some(self.places.clear(*port)),
+            _ => None,
+        }
+    }
+
+    /// Tells about a step that was refused, or whose request was.
+    pub fn note_refused<W: Write>(
+        &self,
+        refused: &Refused<'_>,
+        out: &mut W,
+    ) -> Result<(), Failure> {
+        let Watch { port, from, .. } = self.watch;
+        let is_asked = port.is_none() || refused.port() == port;
+        if !is_asked || self.number.saturating_add(1) < from {
+            return Ok(());
+        }
+        if self.watch.is_json {
+            writeln!(out, "{}", RefusedJson(refused))?;
+        } else {
+            writeln!(out, "{refused}")?;
         }
         Ok(())
     }
@@ -132,7 +192,16 @@ impl Tracer {
         }
         let tickets = &self.tickets;
         if self.watch.is_json {
-            writeln!(out, "{}", EventJson { event, tickets })?;
+            let has_bytes = self.watch.has_bytes;
+            writeln!(
+                out,
+                "{}",
+                EventJson {
+                    event,
+                    tickets,
+                    has_bytes
+                }
+            )?;
         } else {
             writeln!(out, "{}", EventText { event, tickets })?;
         }
@@ -182,8 +251,17 @@ impl Tracer {
             Answer::Gone { port, conn } => connection(Act::Gone(*port), *port, *conn, true),
             Answer::Presence(port) => self.presence(world, *port, sight),
             Answer::Ticked => tick(world, sight),
-            Answer::Submitted(ticket) => self.submit(step, *ticket),
+            Answer::Submitted(ticket) => self.submit(world, step, *ticket),
             Answer::Polled(completion) => self.polled(*completion),
+            Answer::Took { port, report, .. } => {
+                let hearing = self.hear(world, answer, *report);
+                took(
+                    Act::HostTakes(*port),
+                    *port,
+                    Upshot::Report(hearing),
+                    answer,
+                )
+            }
             Answer::Put => put(step),
             moved => move_of(world, sight, moved),
         }
@@ -205,8 +283,32 @@ impl Tracer {
         Event::plain(Act::Records(port), Some(port), upshot)
     }
 
+    /// The host port took a FIS, and did this with it.
+    fn hear(&mut self, world: &World, answer: &Answer, report: TakeReport) -> Hearing {
+        self.tickets.done(report.done);
+        let log = log_of(world, answer, report);
+        if let Some(log) = log {
+            self.tickets.log(report.dev, log);
+        }
+        let failed = match report.fault {
+            Some(DeviceCause::TaskFile) => {
+                self.tickets.waiting(report.dev) & out_slots(world.host())
+            }
+            _ => 0,
+        };
+        if let Some(cause) = report.fault {
+            let step = self.number;
+            self.tickets.fault(report.dev, Fault { step, cause });
+        }
+        Hearing {
+            report,
+            log,
+            failed,
+        }
+    }
+
     /// The driver took a request.
-    fn submit(&mut self, step: &Step, ticket: Ticket) -> Event<'static> {
+    fn submit(&mut self, world: &World, step: &Step, ticket: Ticket) -> Event<'static> {
         let Step::Submit(dev, request) = step else {
             return Event::plain(Act::Drives, None, Upshot::Plain);
         };
@@ -216,7 +318,8 @@ impl Tracer {
             lba: request.lba,
             sectors: request.sectors,
         };
-        let slot = self.tickets.take(ticket.0, asked);
+        let is_faulty = *dev < 16 && world.host().cause(*dev).is_some();
+        let slot = self.tickets.take(ticket.0, asked, is_faulty);
         Event {
             slots: slot.map_or(0, bit_of),
             ..Event::plain(Act::Drives, Some(*dev), Upshot::Submitted(asked))
@@ -227,11 +330,29 @@ impl Tracer {
     fn polled(&self, completion: Completion) -> Event<'static> {
         let asked = self.tickets.asked(completion.slot);
         let port = asked.map(|asked| asked.device);
+        let ending = Ending {
+            completion,
+            reason: self.tickets.reason(completion.slot),
+        };
         Event {
             slots: bit_of(completion.slot),
-            ..Event::plain(Act::Drives, port, Upshot::Polled(completion))
+            ..Event::plain(Act::Drives, port, Upshot::Polled(ending))
         }
     }
+}
+
+/// The slots of the commands that a host port has issued and that have not ended.
+fn out_slots(port: &HostPort) -> u32 {
+    shown(port, Register::Ci) | shown(port, Register::Sact)
+}
+
+/// The log of a device that a FIS brought whole, as the answer to a command that asks for it.
+fn log_of(world: &World, answer: &Answer, report: TakeReport) -> Option<ErrorLog> {
+    let (Answer::Took { bytes, .. }, Some(wrote)) = (answer, report.wrote) else {
+        return None;
+    };
+    let command = command_of(world.memory(), usize::from(wrote.slot))?;
+    ErrorLog::carried(command, bytes.as_slice())
 }
 
 /// A device came or went.
@@ -339,18 +460,21 @@ fn shown_move(answer: &Answer) -> Event<'_> {
             let told = Event::plain(Act::DiskSends(*port), Some(*port), Upshot::Plain);
             with_bytes(told, *conn, *number, bytes.as_slice())
         }
+        _ => Event::plain(Act::Drives, None, Upshot::Plain),
+    }
+}
+
+/// The host port took a FIS, whose bytes the answer has.
+fn took(act: Act, port: u8, upshot: Upshot, answer: &Answer) -> Event<'_> {
+    let told = Event::plain(act, Some(port), upshot);
+    match answer {
         Answer::Took {
-            port,
             conn,
             number,
             bytes,
-            report,
-        } => {
-            let upshot = Upshot::Report(*report);
-            let told = Event::plain(Act::HostTakes(*port), Some(*port), upshot);
-            with_bytes(told, *conn, *number, bytes.as_slice())
-        }
-        _ => Event::plain(Act::Drives, None, Upshot::Plain),
+            ..
+        } => with_bytes(told, *conn, *number, bytes.as_slice()),
+        _ => told,
     }
 }
 

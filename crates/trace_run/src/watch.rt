@@ -1,6 +1,6 @@
-//! What is written of the steps of a run.
+//! What is written of the steps of a run, and which of them end it.
 
-/// What is written of the steps of a run.
+/// What is written of the steps of a run, and which of them end it.
 #[derive(Clone, Copy)]
 pub struct Watch {
     /// Whether anything is.
@@ -13,4 +13,8 @@ pub struct Watch {
     pub from: u64,
     /// Whether all output is JSON, an object a line.
     pub is_json: bool,
+    /// Whether each object has the bytes of its FIS.
+    pub has_bytes: bool,
+    /// Whether a step or a request that is refused ends the run.
+    pub is_strict: bool,
 }

@@ -65,6 +65,9 @@ pub enum Refusal {
     /// A file cannot be opened to be read and written, or no disk can have its sectors there.
     #[error("file")]
     File,
+    /// A step or a request is refused where none may be.
+    #[error("refused")]
+    Refused,
 }
 
 impl Failure {

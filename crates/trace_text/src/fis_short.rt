@@ -1,6 +1,7 @@
 //! A FIS in a few words.
 
 use crate::decoding::fis_of;
+use crate::task_file::{ErrorText, StatusText};
 use fis_view::{DmaSetup, Fis, RegD2H, RegH2D, SetBits};
 use std::fmt;
 
@@ -34,8 +35,8 @@ fn write_fis<W: fmt::Write>(fis: &Fis<'_>, f: &mut fmt::Formatter<W>) -> fmt::Re
 
 /// Writes a Set Device Bits FIS.
 fn write_bits<W: fmt::Write>(fis: &SetBits<'_>, f: &mut fmt::Formatter<W>) -> fmt::Result {
-    let (status, error) = (fis.status(), fis.error());
-    write!(f, "bits status {status:02x} error {error:02x}")?;
+    f.write_str("bits")?;
+    write_task_file(fis.status(), fis.error(), f)?;
     let notify = if fis.n() { " notify" } else { "" };
     write!(f, " sactive {:08x}{notify}", fis.sactive())
 }
@@ -51,7 +52,17 @@ fn write_setup<W: fmt::Write>(fis: &DmaSetup<'_>, f: &mut fmt::Formatter<W>) -> 
 
 /// Writes a PIO Setup FIS.
 fn write_pio<W: fmt::Write>(status: u8, bytes: u16, f: &mut fmt::Formatter<W>) -> fmt::Result {
-    write!(f, "pio status {status:02x} bytes {bytes}")
+    write!(f, "pio status {} bytes {bytes}", StatusText(status))
+}
+
+/// Writes Status and Error.
+fn write_task_file<W: fmt::Write>(status: u8, error: u8, f: &mut fmt::Formatter<W>) -> fmt::Result {
+    write!(
+        f,
+        " status {} error {}",
+        StatusText(status),
+        ErrorText { status, error }
+    )
 }
 
 /// Writes why nothing else is told of a frame, its type and its length.
@@ -135,12 +146,8 @@ fn command_name(command: u8) -> Option<&'static str> {
 
 /// Writes an answer, with the value of a register if it has one.
 fn write_d2h<W: fmt::Write>(fis: &RegD2H<'_>, f: &mut fmt::Formatter<W>) -> fmt::Result {
-    write!(
-        f,
-        "d2h status {:02x} error {:02x}",
-        fis.status(),
-        fis.error()
-    )?;
+    f.write_str("d2h")?;
+    write_task_file(fis.status(), fis.error(), f)?;
     if fis.pm_port() == 15 {
         let high = fis.lba() & 0xFF_FFFF;
         return write!(f, " value {high:06x}{:02x}", fis.count() & 0xFF);

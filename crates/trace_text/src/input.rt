@@ -66,12 +66,22 @@ pub fn without_return(line: &[u8]) -> &[u8] {
     }
 }
 
-/// The line of this number, counted from 1; an empty one if there are not that many.
+/// The line without its comment, which begins with a `#` at its start or behind a blank.
+pub fn without_comment(line: &[u8]) -> &[u8] {
+    for at in 0..line.len() {
+        if line[at] == b'#' && (at == 0 || is_blank(line[at - 1])) {
+            return &line[..at];
+        }
+    }
+    line
+}
+
+/// The line of this number, counted from 1, without its comment; an empty one if there are not that many.
 pub fn line_of(input: &[u8], number: usize) -> &[u8] {
     let line = input
         .split(|byte| *byte == b'\n')
         .nth(number.saturating_sub(1));
-    without_return(line.unwrap_or(&[]))
+    without_comment(without_return(line.unwrap_or(&[])))
 }
 
 /// Whether a line says nothing: its first byte is `#`, or it has only blanks.

@@ -8,6 +8,7 @@
 
 mod blocks;
 mod decoding;
+mod error_log;
 mod failure;
 mod fis_short;
 mod hex_text;
@@ -16,12 +17,15 @@ mod lines;
 mod media;
 mod note;
 mod printer;
+mod registers;
 mod shape;
+mod task_file;
 mod wanted;
 mod words;
 
 pub use blocks::play_aside;
 pub use decoding::{DecodeError, decode};
+pub use error_log::ErrorLog;
 pub use failure::{Failure, Refusal};
 pub use fis_short::{FrameShort, bit_of, named_slots};
 pub use input::{LONGEST_INPUT, LONGEST_LINE, is_skipped, read_input, without_return};
@@ -30,5 +34,6 @@ pub use media::{DiskFile, Filed, Media, read_filed};
 pub use note::{Note, Shown};
 pub use printer::{Expected, Mismatch, Printer};
 pub use shape::Shape;
+pub use task_file::{ErrorText, StatusText};
 pub use wanted::{Keyword, Quantity, Wanted};
 pub use words::{Words, value_within};

@@ -1,6 +1,6 @@
 //! The lines of a scenario in the order in which they are played.
 
-use crate::input::without_return;
+use crate::input::{without_comment, without_return};
 
 /// The lines of a scenario, one after the other. A block of them is repeated as often as its `repeat`
 /// says.
@@ -35,13 +35,13 @@ impl<'a> Lines<'a> {
         }
     }
 
-    /// The next line and its number, without what ends it.
+    /// The next line and its number, without its comment and what ends it.
     pub fn next_line(&mut self) -> Option<(usize, &'a [u8])> {
         let rest = self.rest?;
         self.number = self.number.saturating_add(1);
         let (line, behind) = first_line(rest);
         self.rest = behind;
-        Some((self.number, without_return(line)))
+        Some((self.number, without_comment(without_return(line))))
     }
 
     /// Whether the last line stands in a block.

@@ -4,14 +4,12 @@ ghost use Rattle.std.specs.Prelude.{◌≡◌, ◌%◌, ◌≤◌, IfOk, true};
 ghost use Rattle.disk_model.specs.Runs.{is_size};
 
 use crate::failure::{Failure, Refusal};
+use crate::input::LONGEST_LINE;
 use crate::wanted::{Keyword, Quantity, Wanted};
 use crate::words::Words;
 use arrayvec::ArrayVec;
 use disk_model::{Disk, DiskError, DiskPlan, Order, Profile};
 use std::alloc::{AllocError, Global};
-
-/// The largest number of a sector that cannot be read.
-const LARGEST: u64 = 0xFFFF_FFFF;
 
 /// A disk that is not built yet.
 #[derive(Drop)]
@@ -44,15 +42,19 @@ impl Shape {
         requires some { 1 ≤ sectors }
         requires at_most { sectors ≤ 65536 }
     {
+        let said = Said::read(words, sectors)?;
         let plan = DiskPlan {
-            order: order(words)?,
-            chunk: chunk(words)?,
-            last_first: words.takes(b"lastfirst"),
-            bad: bad_sectors(words)?,
-            auto: words.takes(b"auto"),
-            profile: profile(words, port),
+            order: said.order.unwrap_or(Order::Oldest),
+            chunk: chunk_bytes(said.chunk),
+            last_first: said.is_last_first,
+            bad: said.bad,
+            auto: said.is_auto,
+            profile: if said.is_stock {
+                Profile::Stock(port as u32)
+            } else {
+                Profile::Bare
+            },
         };
-        words.end_of(Wanted::Plan)?;
         Ok(Shape { sectors, plan })
     }
 
@@ -93,20 +95,92 @@ fn joined(bad: &[u32], unread: &[u32]) -> Option<ArrayVec<u32, 16>> {
     Some(all)
 }
 
-/// What the disk of this port says of itself: `stock` comes next, or it says little.
-fn profile(words: &mut Words<'_>, port: u8) -> Profile {
-    if words.takes(b"stock") {
-        Profile::Stock(port as u32)
-    } else {
-        Profile::Bare
+/// The most bytes that one DMA Setup moves.
+#[derive(Clone, Copy)]
+struct Chunk {
+    /// A multiple of 512, from 512 to 8,192.
+    bytes: u16,
+    ghost has_size: { (512 ≤ bytes) × (bytes ≤ 8192) × (bytes % 512 ≡ 0) },
+}
+
+/// The bytes that one DMA Setup moves at most, if this was said of it.
+fn chunk_bytes(said: Option<Chunk>) -> u16
+    ensures { (512 ≤ result) × (result ≤ 8192) × (result % 512 ≡ 0) }
+{
+    match said {
+        Some(chunk) => chunk.bytes,
+        None => 8192,
     }
 }
 
-/// The words `order ..`, if they come next.
-fn order(words: &mut Words<'_>) -> Result<Order, Failure> {
-    if !words.takes(b"order") {
-        return Ok(Order::Oldest);
+/// The words of a line about a disk that come after its size.
+#[derive(Drop)]
+struct Said {
+    order: Option<Order>,
+    chunk: Option<Chunk>,
+    is_last_first: bool,
+    bad: ArrayVec<u32, 16>,
+    is_auto: bool,
+    is_stock: bool,
+}
+
+impl Said {
+    /// None of them.
+    fn nothing() -> Said {
+        Said {
+            order: None,
+            chunk: None,
+            is_last_first: false,
+            bad: ArrayVec::new(),
+            is_auto: false,
+            is_stock: false,
+        }
     }
+
+    /// Those to the end of the line, in any order, about a disk of so many sectors.
+    fn read(words: &mut Words<'_>, sectors: u32) -> Result<Said, Failure>
+        requires some { 1 ≤ sectors }
+    {
+        let mut said = Said::nothing();
+        for _ in 0..LONGEST_LINE {
+            if words.is_at_end() {
+                break;
+            }
+            said.add(words, sectors)?;
+        }
+        Ok(said)
+    }
+
+    /// Takes in the next one.
+    fn add(&mut self, words: &mut Words<'_>, sectors: u32) -> Result<(), Failure>
+        requires some { 1 ≤ sectors }
+    {
+        match words.next_word().unwrap_or(&[]) {
+            b"order" if self.order.is_none() => self.order = Some(order(words)?),
+            b"chunk" if self.chunk.is_none() => self.chunk = Some(chunk_size(words)?),
+            b"lastfirst" if !self.is_last_first => self.is_last_first = true,
+            b"bad" => self.add_bad(words, sectors)?,
+            b"auto" if !self.is_auto => self.is_auto = true,
+            b"stock" if !self.is_stock => self.is_stock = true,
+            _ => return Err(words.refused(Refusal::Number, Wanted::Plan)),
+        }
+        Ok(())
+    }
+
+    /// Takes in one more sector that cannot be read, of at most 16.
+    fn add_bad(&mut self, words: &mut Words<'_>, sectors: u32) -> Result<(), Failure>
+        requires some { 1 ≤ sectors }
+    {
+        let sector = words.number(Quantity::BadSector, 0, u64::from(sectors - 1))? as u32;
+        if self.bad.try_push(sector).is_err() {
+            return Err(words.refused(Refusal::Range, Wanted::FewerBad));
+        }
+        Ok(())
+    }
+}
+
+/// The word after `order`.
+fn order(words: &mut Words<'_>) -> Result<Order, Failure> {
     match words.next_word() {
         Some(b"oldest") => Ok(Order::Oldest),
         Some(b"newest") => Ok(Order::Newest),
@@ -114,31 +188,11 @@ fn order(words: &mut Words<'_>) -> Result<Order, Failure> {
     }
 }
 
-/// The words `chunk ..`, if they come next.
-fn chunk(words: &mut Words<'_>) -> Result<u16, Failure>
-    ensures { IfOk result (λ n. (512 ≤ n) × (n ≤ 8192) × (n % 512 ≡ 0)) }
-{
-    if !words.takes(b"chunk") {
-        return Ok(8192);
-    }
-    let chunk = words.number(Quantity::Chunk, 512, 8192)? as u16;
-    if chunk % 512 != 0 {
+/// The word after `chunk`.
+fn chunk_size(words: &mut Words<'_>) -> Result<Chunk, Failure> {
+    let bytes = words.number(Quantity::Chunk, 512, 8192)? as u16;
+    if bytes % 512 != 0 {
         return Err(words.refused(Refusal::Range, Wanted::WholeSectors));
     }
-    Ok(chunk)
-}
-
-/// All words `bad ..` that come next, at most 16 times.
-fn bad_sectors(words: &mut Words<'_>) -> Result<ArrayVec<u32, 16>, Failure> {
-    let mut sectors = ArrayVec::new();
-    for _ in 0..17 {
-        if !words.takes(b"bad") {
-            break;
-        }
-        let sector = words.number(Quantity::BadSector, 0, LARGEST)? as u32;
-        if sectors.try_push(sector).is_err() {
-            return Err(words.refused(Refusal::Range, Wanted::FewerBad));
-        }
-    }
-    Ok(sectors)
+    Ok(Chunk { bytes })
 }

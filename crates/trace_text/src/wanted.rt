@@ -112,7 +112,7 @@ pub enum Wanted {
     OtherFile,
     /// `oldest` or `newest`.
     Order,
-    /// The words of a disk's plan, in their order.
+    /// The words of a disk's plan.
     Plan,
     /// At most 16 bad sectors.
     FewerBad,
@@ -150,6 +150,8 @@ pub enum Wanted {
     Repeat,
     /// That the block before has ended.
     OneBlock,
+    /// That no step and no request be refused.
+    Strict,
 }
 
 impl fmt::Display for Wanted {
@@ -196,7 +198,7 @@ impl Wanted {
             Wanted::OtherFile => "another disk has this file",
             Wanted::Order => "wanted `oldest` or `newest`",
             Wanted::Plan => {
-                "wanted `order`, `chunk`, `lastfirst`, `bad`, `auto`, `stock` in this order, each but `bad` once"
+                "wanted `order`, `chunk`, `lastfirst`, `bad`, `auto` or `stock`, each but `bad` once"
             }
             Wanted::FewerBad => "wanted at most 16 sectors that cannot be read",
             Wanted::WholeSectors => "wanted a multiple of 512",
@@ -204,7 +206,7 @@ impl Wanted {
             Wanted::LongAddress => "wanted an address, at most 16 hexadecimal digits without 0x",
             Wanted::Access => "wanted `read` or `write`",
             Wanted::Offset =>
-                "wanted the offset of a register, at most 8 hexadecimal digits without 0x",
+                "wanted a register, as PxCMD, or its offset, at most 8 hexadecimal digits without 0x",
             Wanted::Value => "wanted a value, at most 8 hexadecimal digits without 0x",
             Wanted::GuestArea => "wanted bytes that all lie in the guest's memory",
             Wanted::Place => "wanted ADDRESS:BYTES, as 101000:512",
@@ -213,11 +215,12 @@ impl Wanted {
             Wanted::ClientArea => {
                 "wanted bytes of the client area, from 100000 to the end of memory"
             }
-            Wanted::Register => "wanted the offset of a register, as `regs` shows it",
+            Wanted::Register => "wanted a register, as PxCMD, or its offset, as `regs` shows it",
             Wanted::Text => "wanted the line that is to be printed next",
             Wanted::End => "wanted a line `end` after it",
             Wanted::Repeat => "wanted a `repeat` before it",
             Wanted::OneBlock => "a block stands in no other block",
+            Wanted::Strict => "under --strict no step and no request may be refused",
         }
     }
 }

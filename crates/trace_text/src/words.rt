@@ -5,6 +5,7 @@ ghost use Rattle.std.specs.Prelude.{◌≡◌, ◌≤◌, IfOk};
 use crate::failure::{Failure, Refusal};
 use crate::hex_text::{HexError, bytes_of, hex_fault};
 use crate::input::is_blank;
+use crate::registers::{controller_offset, port_offset};
 use crate::wanted::{Keyword, Quantity, Wanted};
 use fis_view::Bytes;
 use host_memory::Prd;
@@ -99,6 +100,40 @@ impl<'a> Words<'a> {
             Ok(value) => Ok(value as u32),
             Err(refusal) => Err(self.refused(refusal, wanted)),
         }
+    }
+
+    /// The next word as a register of a port, by its name (`PxCMD`) or by its offset among those of the port in
+    /// hexadecimal.
+    pub fn port_register(&mut self) -> Result<u32, Failure> {
+        match port_offset(self.peeked()) {
+            Some(offset) => self.named(offset),
+            None => self.dword(Wanted::Register),
+        }
+    }
+
+    /// The next word as a register of a controller, by its name (`GHC`, `PxCMD` of the first port) or by its offset in
+    /// hexadecimal.
+    pub fn controller_register(&mut self) -> Result<u32, Failure> {
+        match controller_offset(self.peeked()) {
+            Some(offset) => self.named(offset),
+            None => self.dword(Wanted::Offset),
+        }
+    }
+
+    /// The next word, which is not taken; an empty one if there is none.
+    fn peeked(&self) -> &'a [u8] {
+        let mut ahead = Words {
+            line: self.line,
+            asked: self.asked,
+            rest: self.rest,
+        };
+        ahead.next_word().unwrap_or(&[])
+    }
+
+    /// Takes the next word, which names this.
+    fn named(&mut self, offset: u32) -> Result<u32, Failure> {
+        let _name = self.next_word();
+        Ok(offset)
     }
 
     /// The next word as an address of 64 bits, in hexadecimal.
@@ -199,15 +234,14 @@ impl<'a> Words<'a> {
 
     /// Checks that no word is left.
     pub fn end(&self) -> Result<(), Failure> {
-        self.end_of(Wanted::Nothing)
-    }
-
-    /// Checks that no word is left, where only this was wanted.
-    pub fn end_of(&self, wanted: Wanted) -> Result<(), Failure> {
         if self.is_at_end() {
             return Ok(());
         }
-        Err(self.refused_at(self.asked.saturating_add(1), Refusal::Number, wanted))
+        Err(self.refused_at(
+            self.asked.saturating_add(1),
+            Refusal::Number,
+            Wanted::Nothing,
+        ))
     }
 }
 
