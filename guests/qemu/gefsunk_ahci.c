@@ -254,19 +254,21 @@ static uint64_t read_register(void *opaque, hwaddr at, unsigned size)
     if (!has_begun(s)) {
         return UINT32_MAX;
     }
-    if (at == PXTFD) {
+    if (at / 4 * 4 == PXTFD) {
         run_pump(s);
     }
-    must(gef_hba_read32(&s->pump.hba, at, &value));
+    must(gef_hba_read32(&s->pump.hba, at / 4 * 4, &value));
     record_read(&s->recording, at, value);
     show_access(s, "read", at, value);
-    return at == 0 && !s->fbs ? value & ~CAP_FBSS : value;
+    value = at < 4 && !s->fbs ? value & ~CAP_FBSS : value;
+    return value >> 8 * (at % 4);
 }
 
+/* A write of less than a dword is ignored. */
 static void write_register(void *opaque, hwaddr at, uint64_t value, unsigned size)
 {
     GefsunkAhci *s = opaque;
-    if (s->is_busy || !has_begun(s)) {
+    if (s->is_busy || size < 4 || !has_begun(s)) {
         return;
     }
     reaches_memory(s);
@@ -347,9 +349,21 @@ static uint64_t read_plugged(void *opaque, hwaddr at, unsigned size)
     return GEFSUNK_AHCI(opaque)->pump.plugged;
 }
 
-#define DWORDS .endianness = DEVICE_LITTLE_ENDIAN, .valid = { 4, 4 }, .impl = { 4, 4 }
-static const MemoryRegionOps register_ops = { .read = read_register, .write = write_register, DWORDS };
-static const MemoryRegionOps fault_ops = { .read = read_plugged, .write = inject, DWORDS };
+/* An access of eight bytes to the controller's registers comes as two, the lower dword first. */
+static const MemoryRegionOps register_ops = {
+    .read = read_register,
+    .write = write_register,
+    .endianness = DEVICE_LITTLE_ENDIAN,
+    .valid = { 1, 8 },
+    .impl = { 1, 4 },
+};
+static const MemoryRegionOps fault_ops = {
+    .read = read_plugged,
+    .write = inject,
+    .endianness = DEVICE_LITTLE_ENDIAN,
+    .valid = { 4, 4 },
+    .impl = { 4, 4 },
+};
 
 /* The machine is reset. */
 static void begin(DeviceState *dev)
