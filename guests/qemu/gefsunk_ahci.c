@@ -43,6 +43,8 @@ OBJECT_DECLARE_SIMPLE_TYPE(GefsunkAhci, GEFSUNK_AHCI)
 #define ROUNDS 64 /* rounds of the pump before others have their turn */
 #define CAP_FBSS 0x10000u
 #define PXTFD 0x120
+#define POWER 0x70 /* the power management capability */
+#define D3HOT 3
 
 /* The file of a disk, which may take nothing for a while. */
 typedef struct {
@@ -252,19 +254,21 @@ static uint64_t read_register(void *opaque, hwaddr at, unsigned size)
     if (!has_begun(s)) {
         return UINT32_MAX;
     }
-    if (at == PXTFD) {
+    if (at / 4 * 4 == PXTFD) {
         run_pump(s);
     }
-    must(gef_hba_read32(&s->pump.hba, at, &value));
+    must(gef_hba_read32(&s->pump.hba, at / 4 * 4, &value));
     record_read(&s->recording, at, value);
     show_access(s, "read", at, value);
-    return at == 0 && !s->fbs ? value & ~CAP_FBSS : value;
+    value = at < 4 && !s->fbs ? value & ~CAP_FBSS : value;
+    return value >> 8 * (at % 4);
 }
 
+/* A write of less than a dword is ignored. */
 static void write_register(void *opaque, hwaddr at, uint64_t value, unsigned size)
 {
     GefsunkAhci *s = opaque;
-    if (s->is_busy || !has_begun(s)) {
+    if (s->is_busy || size < 4 || !has_begun(s)) {
         return;
     }
     reaches_memory(s);
@@ -345,9 +349,21 @@ static uint64_t read_plugged(void *opaque, hwaddr at, unsigned size)
     return GEFSUNK_AHCI(opaque)->pump.plugged;
 }
 
-#define DWORDS .endianness = DEVICE_LITTLE_ENDIAN, .valid = { 4, 4 }, .impl = { 4, 4 }
-static const MemoryRegionOps register_ops = { .read = read_register, .write = write_register, DWORDS };
-static const MemoryRegionOps fault_ops = { .read = read_plugged, .write = inject, DWORDS };
+/* An access of eight bytes to the controller's registers comes as two, the lower dword first. */
+static const MemoryRegionOps register_ops = {
+    .read = read_register,
+    .write = write_register,
+    .endianness = DEVICE_LITTLE_ENDIAN,
+    .valid = { 1, 8 },
+    .impl = { 1, 4 },
+};
+static const MemoryRegionOps fault_ops = {
+    .read = read_plugged,
+    .write = inject,
+    .endianness = DEVICE_LITTLE_ENDIAN,
+    .valid = { 4, 4 },
+    .impl = { 4, 4 },
+};
 
 /* The machine is reset. */
 static void begin(DeviceState *dev)
@@ -357,13 +373,34 @@ static void begin(DeviceState *dev)
     s->is_reset_due = true;
     has_begun(s);
     pci_set_irq(PCI_DEVICE(s), 0);
+    pci_set_word(PCI_DEVICE(s)->config + POWER + PCI_PM_CTRL, 0);
+}
+
+/*
+ * The power state is D0 or D3hot, and a write of another one is ignored. From D3hot the function comes back reset: bit
+ * No_Soft_Reset is 0 (PCI Power Management 1.2, 3.2.4).
+ */
+static void change_power(PCIDevice *dev, uint16_t was)
+{
+    uint16_t now = pci_get_word(dev->config + POWER + PCI_PM_CTRL);
+    if (now != 0 && now != D3HOT) {
+        pci_set_word(dev->config + POWER + PCI_PM_CTRL, was);
+    } else if (was == D3HOT && now == 0) {
+        pci_device_reset(dev);
+    }
 }
 
 /* If the guest lets the controller at its memory now, what waited for that goes on. */
 static void write_config(PCIDevice *dev, uint32_t at, uint32_t value, int len)
 {
+    GefsunkAhci *s = GEFSUNK_AHCI(dev);
+    uint16_t was = pci_get_word(dev->config + POWER + PCI_PM_CTRL);
+    if (s->is_busy) {
+        return;
+    }
     pci_default_write_config(dev, at, value, len);
-    qemu_bh_schedule(GEFSUNK_AHCI(dev)->later);
+    change_power(dev, was);
+    qemu_bh_schedule(s->later);
 }
 
 static void begin_recording(GefsunkAhci *s)
@@ -440,6 +477,10 @@ static void realize(PCIDevice *dev, Error **errp)
         pci_register_bar(dev, 0, PCI_BASE_ADDRESS_SPACE_MEMORY, &s->fault_register);
     }
     msi_init(dev, 0x80, 1, true, false, NULL);
+    /* It is the last to be added, so the list of capabilities begins with it (AHCI 1.3.1, 2.1.14). */
+    pci_add_capability(dev, PCI_CAP_ID_PM, POWER, PCI_PM_SIZEOF, errp);
+    pci_set_word(dev->config + POWER + PCI_PM_PMC, PCI_PM_CAP_VER_1_2);
+    pci_set_word(dev->wmask + POWER + PCI_PM_CTRL, PCI_PM_CTRL_STATE_MASK);
 }
 
 static Property properties[] = {
