@@ -93,12 +93,14 @@ def step_of(fields: dict[str, Any]) -> Step:
     return Step(number=fields["step"], source=fields["from"], target=fields["to"], **known)
 
 
-def line_of(text: str) -> Step | str:
-    """A line of JSON: a step, or what was printed."""
+def line_of(text: str) -> Step | str | None:
+    """A line of JSON: a step, or what was printed; None for a refusal, which is printed behind it, too."""
     fields = json.loads(text)
     if "step" in fields:
         return step_of(fields)
-    return str(next(fields[key] for key in ("printed", "error", "text") if key in fields))
+    if "refused" in fields:
+        return None
+    return str(next(fields[key] for key in ("printed", "error") if key in fields))
 
 
 def read_json(lines: Iterable[str], name: str = "the input") -> Trace:
@@ -106,9 +108,11 @@ def read_json(lines: Iterable[str], name: str = "the input") -> Trace:
     found: list[Step | str] = []
     for number, line in enumerate(lines, 1):
         try:
-            found.append(line_of(line))
+            said = line_of(line)
         except (ValueError, KeyError, TypeError, StopIteration) as error:
             raise NotATrace(f"{name}: line {number} is no line of `pm_trace run --json`") from error
+        if said is not None:
+            found.append(said)
     if not found:
         raise NotATrace(f"{name} is empty, so it is no trace")
     if any(isinstance(line, Step) and line.act != "sends" for line in found):
@@ -118,6 +122,7 @@ def read_json(lines: Iterable[str], name: str = "the input") -> Trace:
 
 LINK_WORDS = re.compile(r"(up|down) (?:port (\d+)|control port): (.*)")
 STEP_WORDS = re.compile(r"#(?P<number>\d+) (?P<way>up|down) (?P<who>.*?)(?: conn (?P<conn>\d+))? fis (?P<fis>\d+): (?P<said>.*)")
+REFUSED_WORDS = re.compile(r"refused at line \d+[,:]")
 CHANGE_WORDS = re.compile(r"#(?P<number>\d+) (?P<who>disk|pm records at port) (?P<port>\d+), conn (?P<conn>\d+) (?P<what>came|went)")
 DRIVER_WORDS = re.compile(r"#(?P<number>\d+) driver(?P<place>, control port|, port (?P<port>\d+))?(?P<said>.*)")
 ENDED_WORDS = re.compile(r" tells (?:(done|aborted|removed|port-error)|device-error (\w\w)(?: [A-Z]+)* (\w\w))\b")
@@ -213,7 +218,7 @@ def read_text(lines: Iterable[str], name: str = "the input") -> Trace:
     """A trace of `run --trace` or `guest --trace`. All other lines count as printed."""
     found: list[Step | str] = []
     number, is_of_link = 0, False
-    for line in (line.rstrip("\n") for line in lines):
+    for line in (line.rstrip("\n") for line in lines if not REFUSED_WORDS.match(line)):
         on_link = link_step(number + 1, line)
         step = on_link or text_step(line)
         number, is_of_link = number + (step is not None), is_of_link or on_link is not None
