@@ -34,7 +34,7 @@ uint32_t gefsunk_hba_write32(gef_hba *hba, const uint8_t *memory, size_t len, ui
 uint32_t gefsunk_hba_take(gef_hba *hba, const uint8_t *fis, size_t len, gef_taken *taken);
 uint32_t gefsunk_hba_data(gef_hba *hba, gef_place *places, size_t room, size_t *count);
 uint32_t gefsunk_hba_next_out(gef_hba *hba, const uint8_t *memory, size_t memory_len, uint64_t base, uint8_t *fis,
-                              size_t room, size_t *len, uint32_t *message);
+                              size_t room, size_t *len, gef_sent *sent);
 
 const char *gef_version(void) {
     return GEF_VERSION;
@@ -184,7 +184,7 @@ gef_status gef_hba_data(gef_hba *hba, gef_place *places, size_t room, size_t *co
 }
 
 gef_status gef_hba_next_out(gef_hba *hba, const gef_memory *memory, uint8_t *fis, size_t room, size_t *len,
-                            uint32_t *message) {
-    if (!hba || !memory || !memory->bytes || !fis || !len || !message) return GEF_NULL;
-    return (gef_status)gefsunk_hba_next_out(hba, memory->bytes, memory->len, memory->address, fis, room, len, message);
+                            gef_sent *sent) {
+    if (!hba || !memory || !memory->bytes || !fis || !len || !sent) return GEF_NULL;
+    return (gef_status)gefsunk_hba_next_out(hba, memory->bytes, memory->len, memory->address, fis, room, len, sent);
 }

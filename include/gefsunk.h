@@ -270,14 +270,15 @@ gef_status gef_disk_sector(gef_disk *disk, uint32_t lba, uint8_t *bytes, size_t 
 /* ---- a controller ------------------------------------------------------------------------------------------------ */
 
 /*
- * An AHCI controller (AHCI 1.3.1) with one port, as a register file for drivers that nobody will change: FIS-based
- * switching, native command queuing, 32 slots, 64-bit addresses. Behind it you put a multiplier, or one device of your own,
- * and in front of it a guest: gef_hba_read32 and gef_hba_write32 are the accesses to its registers. The rules of a
- * handle are those of gef_pm. A controller takes about 5.3 MB.
+ * An AHCI controller (AHCI 1.3.1) with one port, as a register file for unmodified drivers: FIS-based switching, native
+ * command queuing, 32 slots, 64-bit addresses. Behind it you put a multiplier, or one device of your own, and in front of
+ * it a guest: gef_hba_read32 and gef_hba_write32 are the accesses to its registers. The rules of a handle are those of
+ * gef_pm. A controller takes a few KB, and 16 bytes for each entry of a table while its command is issued.
  *
  *     on a write of a register:  gef_hba_write32; do what *link says; then pump, and set the line
  *     pump, until nothing moves: gef_hba_next_out gives a FIS: it goes to gef_pm_from_host
- *                                gef_pm_to_host gives one: it goes to gef_hba_take, and from there to guest memory
+ *                                gef_pm_to_host gives one: it goes to gef_hba_take, and from there to guest memory.
+ *                                After GEF_FULL you keep it, and pass it again
  *     after each of them:        gef_hba_line says whether the interrupt line is up
  *
  * gefsunk_pump.h has this loop, for a multiplier with disks of this library.
@@ -323,13 +324,13 @@ gef_status gef_hba_line(gef_hba *hba, uint32_t *raised);
 /* What a write does to the link. */
 #define GEF_LINK_STAYS 0u /* nothing */
 #define GEF_LINK_RESET 1u /* it goes down: drop what is on its way, and make the multiplier and what is behind it anew */
-#define GEF_LINK_UP 2u    /* it is up again */
+#define GEF_LINK_UP 2u    /* it is up again: what is behind it begins anew now, and sends its signature */
 
 /*
  * Writes the register at an offset. No write is an error: what may not be done is ignored, or held until it may be. Ones
  * written to PxCI issue commands; their headers, FISes and tables are read from the guest's memory in this call, and never
- * again. *link says what the write does to the link. *message is 1 if a message is due (where messages, MSI, stand for
- * the line), else 0.
+ * again (in gef_hba_next_out, where the allocator refuses memory here, or a FIS is still due for which it did). *link says
+ * what the write does to the link. *message is 1 if a message is due (where messages, MSI, stand for the line), else 0.
  * Can return GEF_CLOSED.
  */
 gef_status gef_hba_write32(gef_hba *hba, const gef_memory *memory, uint32_t offset, uint32_t value, uint32_t *link,
@@ -349,8 +350,10 @@ typedef struct gef_taken {
  * A FIS arrives from the multiplier, or from a device of yours, with its port in PM Port. A device with no multiplier before
  * it has that of the FIS which it took last: drivers reset it at port 15, and the answer is awaited from there. Before the
  * guest goes on, write to its memory, in this order: the bytes of a Data FIS (gef_hba_data), the FIS (is_posted), the count
- * (is_counted).
- * Can return GEF_CLOSED, GEF_BAD_LENGTH, GEF_NO_MEMORY.
+ * (is_counted). While the link is down a FIS is lost, and after a command that cannot be served until the guest clears
+ * PxCMD.ST. GEF_FULL: the guest receives none yet (PxCMD.FRE is 0), or gef_hba_next_out returned GEF_NO_MEMORY and was not
+ * called since. The FIS waits: pass it again later. Where the link is reset, drop it.
+ * Can return GEF_CLOSED, GEF_BAD_LENGTH, GEF_NO_MEMORY, GEF_FULL.
  */
 gef_status gef_hba_take(gef_hba *hba, const uint8_t *fis, size_t len, gef_taken *taken);
 
@@ -366,19 +369,27 @@ typedef struct gef_place {
 
 /*
  * Where the bytes of the FIS that gef_hba_take took last go: the places into the room, their number into *count. It changes
- * nothing. GEF_NOTHING: it brought no bytes, or PxCI was written or the controller reset (GHC.HR) since.
+ * nothing. GEF_NOTHING: it brought no bytes, or a register was written since.
  * Can return GEF_CLOSED, GEF_TOO_SHORT, GEF_NOTHING. After GEF_TOO_SHORT the room has some of the places.
  */
 gef_status gef_hba_data(gef_hba *hba, gef_place *places, size_t room, size_t *count);
 
+/* What else is to be done as a FIS goes out. */
+typedef struct gef_sent {
+    uint32_t is_counted; /* 1: count goes there, as 4 bytes, least significant first, at count_at */
+    uint32_t message;    /* 1: a message is due */
+    uint64_t count_at;
+    uint32_t count;
+} gef_sent;
+
 /*
  * Takes the next FIS that goes out, with its PM Port: its bytes go into fis, and their number into *len. The room must be
- * GEF_FIS_ROOM. Bytes of a write are read from the guest's memory in this call. *message is 1 if a message is due, after
- * GEF_NOTHING too.
+ * GEF_FIS_ROOM. Bytes of a write are read from the guest's memory in this call. *sent is filled after GEF_NOTHING, too. Before
+ * the guest goes on, write the count to its memory.
  * Can return GEF_CLOSED, GEF_TOO_SHORT, GEF_NOTHING, GEF_NO_MEMORY (pass it again).
  */
 gef_status gef_hba_next_out(gef_hba *hba, const gef_memory *memory, uint8_t *fis, size_t room, size_t *len,
-                            uint32_t *message);
+                            gef_sent *sent);
 
 /*
  * ---- What is proved, and what you must keep
@@ -393,7 +404,7 @@ gef_status gef_hba_next_out(gef_hba *hba, const gef_memory *memory, uint8_t *fis
  *   - FISes of a device go up in the order in which they came, each at most once, and none of a device that went
  *     (`multiplier`: frames_pass_in_order; each call here is a step of it).
  *   - A FIS that goes up has the number of its port as PM Port. A FIS that goes down has 0. No other bit changes.
- *   - A register of the controller reads what its contract says, and a write leaves what it says (`ahci_port`). Bytes of a
+ *   - A register of the controller reads what its contract says, and a write leaves what it says (`ahci_controller`). Bytes of a
  *     Data FIS go only to places that the command's table named when the command was issued, in order, each once.
  *   - What a disk sends is what its plan and all that happened to it allow, and it is silent only if they allow nothing.
  *     So the laws of `disk_model` hold of it: a read that ends had the sectors as they were when it was started, and a

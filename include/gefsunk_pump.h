@@ -110,6 +110,14 @@ static inline void gef_pump_put(gef_pump *pump, uint64_t at, const uint8_t *byte
     }
 }
 
+/* Writes PRDBC there. */
+static inline void gef_pump_count(gef_pump *pump, uint64_t at, uint32_t count) {
+    uint8_t bytes[4];
+    size_t i;
+    for (i = 0; i < 4; i++) bytes[i] = (uint8_t)(count >> 8 * i);
+    gef_pump_put(pump, at, bytes, 4);
+}
+
 static inline void gef_pump_show(gef_pump *pump, int is_out, const gef_waiting *fis) {
     if (pump->show) pump->show(pump->context, is_out, fis->fis, fis->len);
 }
@@ -185,11 +193,12 @@ static inline gef_status gef_pump_from_link(gef_pump *pump) {
 /* From the controller to the other end: one FIS. GEF_NOTHING: the controller has none. GEF_FULL: it waits for room. */
 static inline gef_status gef_pump_one_out(gef_pump *pump) {
     gef_memory memory = gef_pump_memory(pump);
-    uint32_t message = 0;
+    gef_sent sent = {0, 0, 0, 0};
     gef_status status;
     if (!pump->out.len) {
-        status = gef_hba_next_out(&pump->hba, &memory, pump->out.fis, GEF_FIS_ROOM, &pump->out.len, &message);
-        pump->message |= message;
+        status = gef_hba_next_out(&pump->hba, &memory, pump->out.fis, GEF_FIS_ROOM, &pump->out.len, &sent);
+        pump->message |= sent.message;
+        if (sent.is_counted) gef_pump_count(pump, sent.count_at, sent.count);
         if (status != GEF_OK) return status;
         gef_pump_show(pump, 1, &pump->out);
     }
@@ -201,9 +210,8 @@ static inline gef_status gef_pump_one_out(gef_pump *pump) {
 }
 
 /*
- * From the controller to the other end: all that can go. The controller gives the lowest slot first. So one FIS a round would
- * let a guest that refills low slots keep its high ones waiting for ever. A disk with no multiplier before it takes one: it
- * answers with the PM Port of the FIS that it took last.
+ * From the controller to the other end: all that can go. A disk with no multiplier before it takes one: it answers with the
+ * PM Port of the FIS that it took last.
  */
 static inline gef_status gef_pump_out(gef_pump *pump) {
     uint32_t left = pump->ports ? GEF_PUMP_OUT : 1;
@@ -249,7 +257,6 @@ static inline gef_status gef_pump_up(gef_pump *pump, uint8_t port) {
 /* To the controller, and what comes of it to the guest's memory, in this order: data, the FIS, PRDBC. */
 static inline gef_status gef_pump_take(gef_pump *pump) {
     gef_taken taken;
-    uint8_t count[4];
     size_t places, at;
     gef_status status = gef_hba_take(&pump->hba, pump->in.fis, pump->in.len, &taken);
     if (status != GEF_OK) return status;
@@ -257,15 +264,14 @@ static inline gef_status gef_pump_take(gef_pump *pump) {
     for (at = 0; status == GEF_OK && at < places; at++)
         gef_pump_put(pump, pump->places[at].at, pump->in.fis + 4 + pump->places[at].from, pump->places[at].len);
     if (taken.is_posted) gef_pump_put(pump, taken.post_at, pump->in.fis, pump->in.len);
-    for (at = 0; at < 4; at++) count[at] = (uint8_t)(taken.count >> 8 * at);
-    if (taken.is_counted) gef_pump_put(pump, taken.count_at, count, 4);
+    if (taken.is_counted) gef_pump_count(pump, taken.count_at, taken.count);
     pump->message |= taken.message;
     pump->in.len = 0;
     pump->moved = 1;
     return status == GEF_NOTHING ? GEF_OK : status;
 }
 
-/* From the other end to the controller: all that can go. */
+/* From the other end to the controller: all that can go. While the guest receives none (PxCMD.FRE), one waits. */
 static inline gef_status gef_pump_in(gef_pump *pump) {
     gef_status status;
     for (;;) {
@@ -275,7 +281,7 @@ static inline gef_status gef_pump_in(gef_pump *pump) {
             gef_pump_show(pump, 0, &pump->in);
         }
         status = gef_pump_take(pump);
-        if (status != GEF_OK) return status;
+        if (status != GEF_OK) return status == GEF_FULL ? GEF_OK : status;
     }
 }
 
@@ -393,7 +399,7 @@ static inline gef_status gef_pump_write32(gef_pump *pump, uint32_t offset, uint3
     gef_status status = gef_hba_write32(&pump->hba, &memory, offset, value, &link, &message);
     pump->message |= message;
     pump->link = link;
-    if (status == GEF_OK && link == GEF_LINK_RESET) status = gef_pump_reset(pump);
+    if (status == GEF_OK && link != GEF_LINK_STAYS) status = gef_pump_reset(pump);
     gef_hba_line(&pump->hba, &pump->raised);
     return status;
 }

@@ -196,11 +196,12 @@ static int call_hba(gef_hba *hba, int *is_open) {
     uint32_t closed = *is_open ? 0 : BIT(GEF_CLOSED), open = *is_open ? ~0u : 0, value = 2, message = 2;
     size_t len = 0, at, room_len = kind & 1 ? sizeof room : next();
     gef_taken taken;
+    gef_sent sent;
     gef_status status;
     uint8_t *fis;
     switch (what % 12) {
     case 0:
-        /* It takes 5 MB, so few lists make one. */
+        /* Few lists make one a second time. */
         if (kind & 0xF0) return 1;
         status = gef_hba_new(hba);
         if (*is_open) return status == GEF_OPEN;
@@ -230,15 +231,15 @@ static int call_hba(gef_hba *hba, int *is_open) {
         status = gef_hba_take(hba, fis, len, &taken);
         free(fis);
         if (status == GEF_OK && (taken.is_posted > 1 || taken.is_counted > 1 || taken.message > 1)) return 0;
-        return allowed(status, closed | (open & (BIT(GEF_OK) | BIT(GEF_BAD_LENGTH))));
+        return allowed(status, closed | (open & (BIT(GEF_OK) | BIT(GEF_BAD_LENGTH) | BIT(GEF_FULL))));
     case 8:
         status = gef_hba_data(hba, places, kind & 1 ? 64 : kind & 3, &len);
         for (at = 0; status == GEF_OK && at < len; at++)
             if (!places[at].len || places[at].from + places[at].len > GEF_FIS_ROOM - 4) return 0;
         return allowed(status, closed | (open & (BIT(GEF_OK) | BIT(GEF_NOTHING) | BIT(GEF_TOO_SHORT))));
     case 9:
-        status = gef_hba_next_out(hba, &guest, room, room_len, &len, &message);
-        if (status == GEF_OK && (len < 4 || len > room_len || message > 1)) return 0;
+        status = gef_hba_next_out(hba, &guest, room, room_len, &len, &sent);
+        if (status == GEF_OK && (len < 4 || len > room_len || sent.message > 1 || sent.is_counted > 1)) return 0;
         return allowed(status, closed | (open & (BIT(GEF_OK) | BIT(GEF_TOO_SHORT) | BIT(GEF_NOTHING))));
     case 10:
         status = gef_hba_line(hba, &value);

@@ -499,7 +499,7 @@ static void begin(uint8_t ports) {
     must("plug", gef_pump_plug(&pump, 0));
     must("PxCLB", gef_pump_write32(&pump, 0x100, LIST));
     must("PxFB", gef_pump_write32(&pump, 0x108, AREA));
-    must("PxCMD", gef_pump_write32(&pump, 0x118, 0x20011));
+    must("PxCMD", gef_pump_write32(&pump, 0x118, 0x20019));
     must("settle", gef_pump_settle(&pump, 100));
 }
 

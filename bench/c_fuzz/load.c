@@ -112,6 +112,7 @@ static void bring_up(const load *of) {
     }
     write_register(CLB, LIST);
     write_register(FB, AREA);
+    write_register(CMD, 0x20018); /* CLO: no signature came */
     write_register(FBS, 1);
     write_register(CMD, 0x20011);
     for (port = 0; port < PORTS; port++) {

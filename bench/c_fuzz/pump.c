@@ -131,7 +131,7 @@ static void bring_up(unsigned ports) {
     unsigned port;
     write_register(CLB, LIST);
     write_register(FB, AREA);
-    write_register(CMD, 0x20010);
+    write_register(CMD, 0x20018); /* CLO: no signature came */
     write_register(FBS, 1);
     write_register(CMD, 0x20011);
     for (port = 0; port < ports; port++) {

@@ -93,7 +93,7 @@ int main(void) {
 
     write_register(CLB, LIST);
     write_register(FB, AREA);
-    write_register(CMD, 0x20010); /* PMA, FRE */
+    write_register(CMD, 0x20018); /* PMA, FRE, and CLO: no signature came */
     write_register(FBS, 1);
     write_register(CMD, 0x20011); /* ST */
     for (port = 0; port < 2; port++) {

@@ -1,7 +1,7 @@
 -- The places of a Data FIS are written one after another.
 use Rattle.std.proofs.Common.{◌≡◌, ℕ, ◌+◌, ◌<◌, ◌≤◌, List, [], ◌∷◌, ◌++◌, length, take, slice_set, ◌∙◌, sym, refl, ap, arith, append_assoc, length-append}
 use Rattle.std.proofs.lemmas.List.{append-nil, length-set, length_push, map-append, take_more_set}
-use Rattle.guest_bytes.specs.declared.moves.Move.{Move}
+use Rattle.guest_fetch.specs.declared.moves.Move.{Move}
 use Rattle.gefsunk.specs.Hbas.{place_of, places_of}
 use Rattle.gefsunk.specs.declared.hba.DataPlace.{DataPlace}
 

@@ -1,9 +1,8 @@
 -- What an export leaves behind a handle. Where the handle is closed, or has something of another kind, nothing is
 -- done. A handle stays open or closed, except where something is made or freed.
 use Rattle.std.specs.Prelude.{◌≡◌, ℕ, ◌≤◌, ◌==◌, not, List, Option, Some, None}
-use Rattle.ahci_port.specs.Opening.{IsOpening}
-use Rattle.ahci_port.specs.States.{ControllerState}
 use Rattle.failing_disk.specs.Faces.{FailingValue}
+use Rattle.guest_port.specs.States.{IsOpeningPort, PortState}
 use Rattle.gefsunk.specs.Disks.{DiskRefused, IsDiskOf}
 use Rattle.gefsunk.specs.Pms.{opening, opening_with_port_0}
 use Rattle.gefsunk.specs.declared.kept.Kept.{Kept}
@@ -34,7 +33,7 @@ AtDisk None answer new rule = (answer ≡ status.Closed) × (new ≡ None)
 
 -- a call on the controller behind the handle, by its rule
 abbrev pub AtHba :
-    Option Kept → Status → Option Kept → (ControllerState → ControllerState → Type 0) → Type 0
+    Option Kept → Status → Option Kept → (PortState → PortState → Type 0) → Type 0
 AtHba (Some (kept.Hba old)) answer (Some (kept.Hba new)) rule = rule old new
 AtHba (Some (kept.Hba old)) answer (Some (kept.Pm new)) rule = ⊥
 AtHba (Some (kept.Hba old)) answer (Some (kept.Disk new)) rule = ⊥
@@ -90,7 +89,7 @@ FreedDisk None answer new = (answer ≡ status.Closed) × (new ≡ None)
 
 -- a new controller
 abbrev pub HasHba : Option Kept → Type 0
-HasHba (Some (kept.Hba hba)) = IsOpening hba
+HasHba (Some (kept.Hba hba)) = IsOpeningPort hba
 HasHba (Some (kept.Pm pm)) = ⊥
 HasHba (Some (kept.Disk disk)) = ⊥
 HasHba None = ⊥

@@ -4,18 +4,22 @@ use Rattle.std.specs.Prelude.{Option, None, Some, map}
 use Rattle.fis_view.specs.Frames.{is_frame}
 use Rattle.fis_view.specs.declared.frame.Stamp.{Stamp}
 use Rattle.guest_bytes.specs.Flat.{Block, MayMiss, MayRead}
-use Rattle.guest_bytes.specs.declared.moves.Move.{Move}
-use Rattle.ahci_registers.specs.Lines.{line}
+use Rattle.guest_fetch.specs.declared.command.ByteCount.{ByteCount}
+use Rattle.guest_fetch.specs.declared.moves.Move.{Move}
 use Rattle.ahci_registers.specs.declared.link.Effect.{Effect}
 use Rattle.ahci_registers.specs.declared.link.Effect.TheVariants.{Nothing, LinkReset, LinkUp}
-use Rattle.ahci_port.specs.Accesses.{WritesAt}
-use Rattle.ahci_port.specs.Reading.{read_at}
-use Rattle.ahci_port.specs.Sending.{Misses, Prepares, Sends, is_to_go, nothing_sent}
-use Rattle.ahci_port.specs.States.{ControllerState}
-use Rattle.ahci_port.specs.Taking.{Brings, Drops, Takes, is_deaf}
-use Rattle.ahci_port.specs.declared.sending.Sent.{Sent}
-use Rattle.ahci_port.specs.declared.taking.Counted.{Counted}
-use Rattle.ahci_port.specs.declared.taking.Took.{Took}
+use Rattle.ahci_controller.specs.Latch.{raised}
+use Rattle.ahci_controller.specs.Reading.{read_at}
+use Rattle.ahci_controller.specs.declared.taking.Hindrance.{Hindrance}
+use Rattle.ahci_controller.specs.declared.taking.Hindrance.TheVariants as why
+use Rattle.guest_port.specs.Sending.{PausesPort, SendsPort}
+use Rattle.guest_port.specs.States.{PortState}
+use Rattle.guest_port.specs.Taking.{Brings, TakesPort, hindrance_of}
+use Rattle.guest_port.specs.Writing.{WritesDword, WritesPort, effect_in, message_in}
+use Rattle.guest_port.specs.declared.access.Access.{Access}
+use Rattle.guest_port.specs.declared.sending.Sent.{Sent}
+use Rattle.guest_port.specs.declared.taking.Taken.{Taken}
+use Rattle.gefsunk.specs.declared.hba.FisSent.{FisSent}
 use Rattle.gefsunk.specs.declared.hba.FisTaken.{FisTaken}
 use Rattle.gefsunk.specs.declared.hba.DataPlace.{DataPlace}
 use Rattle.gefsunk.specs.declared.status.Status.{Status}
@@ -42,18 +46,22 @@ link_of n = if n == 0 then Nothing else if n == 1 then LinkReset else LinkUp
 
 -- ---- registers
 
-abbrev pub HbaRead : ControllerState → ℕ → Status → ℕ → Type 0
-HbaRead hba offset answer value = (answer ≡ status.Done) × (value ≡ read_at hba offset)
+abbrev pub HbaRead : PortState → ℕ → Status → ℕ → Type 0
+HbaRead hba offset answer value = (answer ≡ status.Done) × (value ≡ read_at hba.controller offset)
 
-abbrev pub LineRule : ControllerState → Status → ℕ → Type 0
-LineRule hba answer raised = (answer ≡ status.Done) × (raised ≡ number_of (line hba.lines))
+abbrev pub LineRule : PortState → Status → ℕ → Type 0
+LineRule hba answer raises = (answer ≡ status.Done) × (raises ≡ number_of (raised hba.controller.latch))
 
-abbrev pub HbaWrite :
-    ControllerState → Block → (offset value : ℕ) → Status → (link message : ℕ) → ControllerState → Type 0
+-- the register is written, and commands are read
+pub record WritesHba (old : PortState) (guest : Block) (offset value link message : ℕ) (new : PortState) : Type 0 where
+  pub access : Access
+  pub writes : WritesPort (MayRead guest) (MayMiss guest) old (WritesDword offset value) access new
+  pub link_is : link_of link ≡ effect_in access.written
+  pub message_is : yes message ≡ message_in access
+
+abbrev pub HbaWrite : PortState → Block → (offset value : ℕ) → Status → (link message : ℕ) → PortState → Type 0
 HbaWrite old guest offset value answer link message new =
-    (answer ≡ status.Done) × (link < 3) × Tells message
-    × WritesAt (MayRead guest) (MayMiss guest) old offset value
-    (record { effect = link_of link; message = yes message }) new
+    (answer ≡ status.Done) × (link < 3) × Tells message × WritesHba old guest offset value link message new
 
 -- ---- a FIS of a device
 
@@ -62,26 +70,55 @@ abbrev pub ShowsPost : Option Move → FisTaken → Type 0
 ShowsPost None taken = (taken.is_posted ≡ 0) × (taken.post_at ≡ 0)
 ShowsPost (Some m) taken = (taken.is_posted ≡ 1) × (taken.post_at ≡ m.at)
 
-abbrev pub ShowsCount : Option Counted → FisTaken → Type 0
+abbrev pub ShowsCount : Option ByteCount → FisTaken → Type 0
 ShowsCount None taken = (taken.is_counted ≡ 0) × (taken.count_at ≡ 0) × (taken.count ≡ 0)
-ShowsCount (Some c) taken = (taken.is_counted ≡ 1) × (taken.count_at ≡ c.at) × (taken.count ≡ c.count)
+ShowsCount (Some c) taken = (taken.is_counted ≡ 1) × (taken.count_at ≡ c.at) × (taken.count ≡ c.value)
 
 -- what C sees of what was done
-pub record Shows (took : Took) (taken : FisTaken) : Type 0 where
-  pub posted : ShowsPost took.posted taken
-  pub counted : ShowsCount took.counted taken
-  pub told : taken.message ≡ number_of took.message
+pub record Shows (told : Taken) (taken : FisTaken) : Type 0 where
+  pub posted : ShowsPost told.posted taken
+  pub counted : ShowsCount told.counted taken
+  pub message : taken.message ≡ number_of told.took.message
 
--- the controller takes it, or drops it
-pub record TakesOrDrops (old : ControllerState) (fis : List ℕ) (taken : FisTaken) (new : ControllerState)
-    : Type 0 where
-  pub took : Took
-  pub takes : is_deaf old ≡ false → Takes old fis took new
-  pub drops : is_deaf old ≡ true → Drops old fis took new
-  pub shown : Shows took taken
+-- the controller takes it
+pub record Takes (old : PortState) (fis : List ℕ) (taken : FisTaken) (new : PortState) : Type 0 where
+  pub told : Taken
+  pub takes : TakesPort old fis told new
+  pub shown : Shows told taken
 
-abbrev pub HbaTake : ControllerState → List ℕ → Status → FisTaken → ControllerState → Type 0
+-- of a FIS that is dropped nothing is to be written
+abbrev pub dropped_fis : FisTaken
+dropped_fis = record { is_posted = 0; is_counted = 0; post_at = 0; count_at = 0; count = 0; message = 0 }
+
+-- it is lost while the link is down, and dropped after a command that cannot be served; else it waits
+abbrev pub Hinders : Hindrance → Status → (before taken : FisTaken) → Type 0
+Hinders why.LinkDown answer before taken = (answer ≡ status.Done) × (taken ≡ dropped_fis)
+Hinders why.Failed answer before taken = (answer ≡ status.Done) × (taken ≡ dropped_fis)
+Hinders why.NotReceiving answer before taken = (answer ≡ status.Full) × (taken ≡ before)
+Hinders why.Writing answer before taken = (answer ≡ status.Full) × (taken ≡ before)
+
+abbrev pub Drops : Option Hindrance → PortState → FisTaken → PortState → Type 0
+Drops None old taken new = ⊥
+Drops (Some why.LinkDown) old taken new = (new ≡ old) × (taken ≡ dropped_fis)
+Drops (Some why.Failed) old taken new = (new ≡ old) × (taken ≡ dropped_fis)
+Drops (Some why.NotReceiving) old taken new = ⊥
+Drops (Some why.Writing) old taken new = ⊥
+
+abbrev pub Waits : Option Hindrance → PortState → PortState → Type 0
+Waits None old new = ⊥
+Waits (Some why.LinkDown) old new = ⊥
+Waits (Some why.Failed) old new = ⊥
+Waits (Some why.NotReceiving) old new = new ≡ old
+Waits (Some why.Writing) old new = new ≡ old
+
+-- it is taken where nothing hinders that
+pub record TakesOrDrops (old : PortState) (fis : List ℕ) (taken : FisTaken) (new : PortState) : Type 0 where
+  pub takes : hindrance_of old ≡ None → Takes old fis taken new
+  pub drops : (why : Hindrance) → hindrance_of old ≡ Some why → Drops (Some why) old taken new
+
+abbrev pub HbaTake : PortState → List ℕ → Status → FisTaken → PortState → Type 0
 HbaTake old fis status.Done taken new = (is_frame fis ≡ true) × TakesOrDrops old fis taken new
+HbaTake old fis status.Full taken new = (is_frame fis ≡ true) × Waits (hindrance_of old) old new
 HbaTake old fis status.BadLength taken new = (is_frame fis ≡ false) × (new ≡ old)
 HbaTake old fis status.NoMemory taken new = (is_frame fis ≡ true) × (new ≡ old)
 HbaTake old fis _ taken new = ⊥
@@ -95,18 +132,18 @@ abbrev pub places_of : List Move → List DataPlace
 places_of moves = map place_of moves
 
 -- these are all the places
-pub record ArePlaces (hba : ControllerState) (places : List DataPlace) : Type 0 where
+pub record ArePlaces (hba : PortState) (places : List DataPlace) : Type 0 where
   pub moves : List Move
   pub brings : Brings hba (Some moves)
   pub all : places ≡ places_of moves
 
 -- there are more than the room has
-pub record AreMore (hba : ControllerState) (room : ℕ) : Type 0 where
+pub record AreMore (hba : PortState) (room : ℕ) : Type 0 where
   pub moves : List Move
   pub brings : Brings hba (Some moves)
   pub more : room < length moves
 
-abbrev pub DataRule : ControllerState → ℕ → Status → List DataPlace → Type 0
+abbrev pub DataRule : PortState → ℕ → Status → List DataPlace → Type 0
 DataRule hba room status.Done places = ArePlaces hba places
 DataRule hba room status.Nothing places = Brings hba None
 DataRule hba room status.TooShort places = AreMore hba room
@@ -114,24 +151,33 @@ DataRule hba room _ places = ⊥
 
 -- ---- a FIS for a device
 
-abbrev pub Gives : ControllerState → Block → Sent → ControllerState → Type 0
-Gives old guest sent new =
-    (is_deaf old ≡ false → Sends (MayRead guest) old sent new ⊎ Misses (MayMiss guest) old sent new)
-    × (is_deaf old ≡ true → (new ≡ old) × (sent ≡ nothing_sent))
+abbrev pub ShowsSentCount : Option ByteCount → FisSent → Type 0
+ShowsSentCount None told = (told.is_counted ≡ 0) × (told.count_at ≡ 0) × (told.count ≡ 0)
+ShowsSentCount (Some c) told = (told.is_counted ≡ 1) × (told.count_at ≡ c.at) × (told.count ≡ c.value)
+
+-- what C sees of it beside the FIS
+pub record ShowsSent (sent : Sent) (told : FisSent) : Type 0 where
+  pub counted : ShowsSentCount sent.counted told
+  pub message : told.message ≡ number_of sent.message
 
 -- this one, with its stamp, which C does not see
-pub record GivesFis (old : ControllerState) (guest : Block) (fis : List ℕ) (message : ℕ) (new : ControllerState)
-    : Type 0 where
+pub record GivesFis (old : PortState) (guest : Block) (fis : List ℕ) (told : FisSent) (new : PortState) : Type 0 where
   pub stamp : Stamp
-  pub gives : Gives old guest
-      (record { frame = Some (record { bytes = fis; stamp = stamp }); message = yes message }) new
+  pub sent : Sent
+  pub sends : SendsPort (MayRead guest) (MayMiss guest) old sent new
+  pub is : sent.frame ≡ Some (record { bytes = fis; stamp = stamp })
+  pub shown : ShowsSent sent told
 
-abbrev pub NextOut : ControllerState → Block → ℕ → Status → List ℕ → ℕ → ControllerState → Type 0
-NextOut old guest room status.Done fis message new = Tells message × GivesFis old guest fis message new
-NextOut old guest room status.Nothing fis message new =
-    Tells message × Gives old guest (record { frame = None; message = yes message }) new
-NextOut old guest room status.NoMemory fis message new =
-    (is_deaf old ≡ true → ⊥) × (new ≡ record old { memory = new.memory }) × Prepares (MayRead guest) old new.memory
-    × (is_to_go old new.memory ≡ true)
-NextOut old guest room status.TooShort fis message new = (room < 8196) × (new ≡ old)
-NextOut old guest room _ fis message new = ⊥
+-- none
+pub record GivesNone (old : PortState) (guest : Block) (told : FisSent) (new : PortState) : Type 0 where
+  pub sent : Sent
+  pub sends : SendsPort (MayRead guest) (MayMiss guest) old sent new
+  pub is : sent.frame ≡ None
+  pub shown : ShowsSent sent told
+
+abbrev pub NextOut : PortState → Block → ℕ → Status → List ℕ → FisSent → PortState → Type 0
+NextOut old guest room status.Done fis told new = GivesFis old guest fis told new
+NextOut old guest room status.Nothing fis told new = GivesNone old guest told new
+NextOut old guest room status.NoMemory fis told new = PausesPort (MayRead guest) (MayMiss guest) old new
+NextOut old guest room status.TooShort fis told new = (room < 8196) × (new ≡ old)
+NextOut old guest room _ fis told new = ⊥

@@ -1,15 +1,16 @@
 //! A controller as the library for C keeps it.
 
 ghost use Rattle.std.specs.Prelude.{◌≡◌, ◌≢◌, ◌≤◌, ◌<◌, drop, length, take};
-ghost use Rattle.gefsunk.specs.Hbas.{DataRule, HbaRead, HbaTake, HbaWrite, LineRule, NextOut, Shows, link_of, number_of, place_of};
+ghost use Rattle.gefsunk.specs.Hbas.{DataRule, HbaRead, HbaTake, HbaWrite, Hinders, LineRule, NextOut, Shows, ShowsSent, dropped_fis, link_of, number_of, place_of};
 
 use crate::guest::GuestBlock;
 use crate::pm::{copied, refused, stamp};
 use crate::status::Status;
-use ahci_port::{Controller, Took, Written};
+use ahci_controller::Hindrance;
 use ahci_registers::Effect;
 use fis_view::Frame;
-use guest_bytes::Move;
+use guest_fetch::Move;
+use guest_port::{GuestPort, Sent, Taken};
 use std::alloc::Global;
 
 /// What taking a FIS did, as C sees it.
@@ -28,6 +29,20 @@ pub struct FisTaken {
     pub count: u32,
     /// 1 if a message is due, else 0.
     pub message: u32,
+}
+
+/// What else is to be done as a FIS goes out, as C sees it.
+#[repr(C)]
+#[derive(Clone, Copy, Debug, PartialEq, Eq)]
+pub struct FisSent {
+    /// 1 if PRDBC is to be written, else 0.
+    pub is_counted: u32,
+    /// 1 if a message is due, else 0.
+    pub message: u32,
+    /// Where PRDBC is.
+    pub count_at: u64,
+    /// What it is to be.
+    pub count: u32,
 }
 
 /// Where bytes of a Data FIS go, as C sees it.
@@ -61,24 +76,24 @@ fn link_number(effect: Effect) -> u32
 }
 
 /// What a register reads.
-pub fn read32(controller: &Controller, offset: u32, value: &mut u32) -> Status
-    ensures { HbaRead controller.now offset result value.new }
+pub fn read32(port: &GuestPort, offset: u32, value: &mut u32) -> Status
+    ensures { HbaRead port.now offset result value.new }
 {
-    *value = controller.read32(offset);
+    *value = port.read32(offset);
     Status::Done
 }
 
 /// Whether the interrupt line is raised.
-pub fn line(controller: &Controller, raised: &mut u32) -> Status
-    ensures { LineRule controller.now result raised.new }
+pub fn line(port: &GuestPort, raised: &mut u32) -> Status
+    ensures { LineRule port.now result raised.new }
 {
-    *raised = number(controller.line());
+    *raised = number(port.line());
     Status::Done
 }
 
 /// Writes a register. Says what that does to the link, and whether a message is due.
 pub fn write32(
-    controller: &mut Controller,
+    port: &mut GuestPort,
     alloc: Global,
     guest: &GuestBlock<'_>,
     offset: u32,
@@ -86,48 +101,76 @@ pub fn write32(
     link: &mut u32,
     message: &mut u32,
 ) -> Status
-    ensures { HbaWrite controller.old guest.now offset value result link.new message.new controller.new }
+    ensures { HbaWrite port.old guest.now offset value result link.new message.new port.new }
 {
-    let written = controller.write32(alloc, guest, offset, value);
-    *link = link_number(written.effect);
-    *message = number(written.message);
+    let access = port.write32(alloc, guest, offset, value);
+    *link = link_number(access.effect());
+    *message = number(access.message());
     Status::Done
 }
 
-fn shown(took: &Took) -> FisTaken
-    ensures { Shows took.now result }
+/// Of a FIS that is dropped.
+fn dropped() -> FisTaken
+    ensures { result ≡ dropped_fis }
 {
-    let mut taken = FisTaken {
+    FisTaken {
         is_posted: 0,
         is_counted: 0,
         post_at: 0,
         count_at: 0,
         count: 0,
-        message: number(took.message),
+        message: 0,
+    }
+}
+
+fn shown(told: &Taken) -> FisTaken
+    ensures { Shows told.now result }
+{
+    let mut taken = FisTaken {
+        message: number(told.took.message),
+        ..dropped()
     };
-    if let Some(posted) = took.posted {
+    if let Some(posted) = told.posted {
         taken.is_posted = 1;
         taken.post_at = posted.at;
     }
-    if let Some(counted) = took.counted {
+    if let Some(counted) = told.counted {
         taken.is_counted = 1;
         taken.count_at = counted.at;
-        taken.count = counted.count;
+        taken.count = counted.value;
     }
     taken
 }
 
+/// What becomes of a FIS that the controller does not take: it is lost, or waits.
+fn hindered(why: Hindrance, taken: &mut FisTaken) -> Status
+    ensures { Hinders why result taken.old taken.new }
+{
+    match why {
+        Hindrance::LinkDown | Hindrance::Failed => {
+            *taken = dropped();
+            Status::Done
+        }
+        Hindrance::NotReceiving | Hindrance::Writing => Status::Full,
+    }
+}
+
 /// The controller takes a FIS of a device.
-pub fn take(controller: &mut Controller, alloc: Global, fis: &[u8], taken: &mut FisTaken) -> Status
-    ensures rule { HbaTake controller.old fis.now result taken.new controller.new }
+pub fn take(port: &mut GuestPort, alloc: Global, fis: &[u8], taken: &mut FisTaken) -> Status
+    ensures rule { HbaTake port.old fis.now result taken.new port.new }
     ensures kept { result ≢ Status.Done → taken.new ≡ taken.old }
 {
     let frame = match Frame::from_bytes(alloc, fis, stamp(0, 0)) {
         Ok(frame) => frame,
         Err(error) => return refused(error),
     };
-    *taken = shown(&controller.take(&frame));
-    Status::Done
+    match port.take(&frame) {
+        Ok(told) => {
+            *taken = shown(&told);
+            Status::Done
+        }
+        Err(why) => hindered(why, taken),
+    }
 }
 
 fn placed(step: Move) -> DataPlace
@@ -141,13 +184,13 @@ fn placed(step: Move) -> DataPlace
 }
 
 /// Writes the places of the bytes of the Data FIS that was taken last into the room, and their number.
-pub fn data(controller: &Controller, room: &mut [DataPlace], count: &mut usize) -> Status
-    ensures rule { DataRule controller.now (length room.old) result (take count.new room.new) }
+pub fn data(port: &GuestPort, room: &mut [DataPlace], count: &mut usize) -> Status
+    ensures rule { DataRule port.now (length room.old) result (take count.new room.new) }
     ensures within { result ≡ Status.Done → count.new ≤ length room.old }
     ensures kept { result ≢ Status.Done → count.new ≡ count.old }
     ensures room { result ≡ Status.Nothing → room.new ≡ room.old }
 {
-    let Some(moves) = controller.data() else {
+    let Some(moves) = port.data() else {
         return Status::Nothing;
     };
     let mut filled = 0;
@@ -162,29 +205,46 @@ pub fn data(controller: &Controller, room: &mut [DataPlace], count: &mut usize) 
     Status::Done
 }
 
-/// Writes the next FIS for the devices into the room, and its length. Says whether a message is due.
+fn told(sent: &Sent) -> FisSent
+    ensures { ShowsSent sent.now result }
+{
+    let mut told = FisSent {
+        is_counted: 0,
+        message: number(sent.message),
+        count_at: 0,
+        count: 0,
+    };
+    if let Some(counted) = sent.counted {
+        told.is_counted = 1;
+        told.count_at = counted.at;
+        told.count = counted.value;
+    }
+    told
+}
+
+/// Writes the next FIS for the devices into the room, and its length. Says what else is to be done.
 pub fn next_out(
-    controller: &mut Controller,
+    port: &mut GuestPort,
     alloc: Global,
     guest: &GuestBlock<'_>,
     room: &mut [u8],
     len: &mut usize,
-    message: &mut u32,
+    told_sent: &mut FisSent,
 ) -> Status
-    ensures rule { NextOut controller.old guest.now (length room.old) result (take len.new room.new) message.new
-        controller.new }
+    ensures rule { NextOut port.old guest.now (length room.old) result (take len.new room.new) told_sent.new
+        port.new }
     ensures within { result ≡ Status.Done → len.new ≤ length room.old }
     ensures kept { result ≢ Status.Done → (room.new ≡ room.old) × (len.new ≡ len.old) }
-    ensures silent { result ≢ Status.Done → result ≢ Status.Nothing → message.new ≡ message.old }
+    ensures silent { result ≢ Status.Done → result ≢ Status.Nothing → told_sent.new ≡ told_sent.old }
     ensures rest { drop len.new room.new ≡ drop len.new room.old }
 {
     if room.len() < Frame::LONGEST {
         return Status::TooShort;
     }
-    let Ok(sent) = controller.next_out(alloc, guest) else {
+    let Ok(sent) = port.next_out(alloc, guest) else {
         return Status::NoMemory;
     };
-    *message = number(sent.message);
+    *told_sent = told(&sent);
     match sent.frame {
         Some(frame) => {
             *len = copied(&frame, room);

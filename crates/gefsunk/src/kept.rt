@@ -1,8 +1,8 @@
 //! What a handle can have behind it.
 
 use crate::pm::Pm;
-use ahci_port::Controller;
 use failing_disk::FailingDisk;
+use guest_port::GuestPort;
 
 /// What stands behind a handle. One kind of handle keeps all, so that a handle of one kind that is given to
 /// a call for another is found out.
@@ -13,5 +13,5 @@ pub enum Kept {
     /// A disk.
     Disk(FailingDisk),
     /// A controller of one port.
-    Hba(Controller),
+    Hba(GuestPort),
 }

@@ -21,9 +21,9 @@ mod status;
 mod text;
 
 use crate::guest::GuestBlock;
-use ahci_port::Controller;
+use guest_port::GuestPort;
 pub use handle::{Handle, Held};
-pub use hba::{DataPlace, FisTaken};
+pub use hba::{DataPlace, FisSent, FisTaken};
 pub use kept::Kept;
 pub use pm::Pm;
 pub use status::Status;
@@ -440,10 +440,7 @@ pub extern "C" fn gefsunk_hba_new(handle: &mut Handle, alloc: Global) -> u32
         *handle = Handle::open(kept);
         return Status::Open.code();
     }
-    let Ok(controller) = Controller::new(alloc) else {
-        return Status::NoMemory.code();
-    };
-    match Box::new(alloc, Kept::Hba(controller)) {
+    match Box::new(alloc, Kept::Hba(GuestPort::new())) {
         Ok(kept) => {
             *handle = Handle::open(kept);
             Status::Done.code()
@@ -485,7 +482,7 @@ pub extern "C" fn gefsunk_hba_read32(
         return Status::Closed.code();
     };
     let status = match &*kept {
-        Kept::Hba(controller) => hba::read32(controller, offset, value),
+        Kept::Hba(port) => hba::read32(port, offset, value),
         Kept::Pm(_) | Kept::Disk(_) => Status::Closed,
     };
     *handle = Handle::open(kept);
@@ -503,7 +500,7 @@ pub extern "C" fn gefsunk_hba_line(handle: &mut Handle, alloc: Global, raised: &
         return Status::Closed.code();
     };
     let status = match &*kept {
-        Kept::Hba(controller) => hba::line(controller, raised),
+        Kept::Hba(port) => hba::line(port, raised),
         Kept::Pm(_) | Kept::Disk(_) => Status::Closed,
     };
     *handle = Handle::open(kept);
@@ -531,9 +528,7 @@ pub extern "C" fn gefsunk_hba_write32(
     };
     let guest = GuestBlock::new(base, memory);
     let status = match &mut *kept {
-        Kept::Hba(controller) => {
-            hba::write32(controller, alloc, &guest, offset, value, link, message)
-        }
+        Kept::Hba(port) => { hba::write32(port, alloc, &guest, offset, value, link, message) }
         Kept::Pm(_) | Kept::Disk(_) => Status::Closed,
     };
     *handle = Handle::open(kept);
@@ -556,7 +551,7 @@ pub extern "C" fn gefsunk_hba_take(
         return Status::Closed.code();
     };
     let status = match &mut *kept {
-        Kept::Hba(controller) => hba::take(controller, alloc, fis, taken),
+        Kept::Hba(port) => hba::take(port, alloc, fis, taken),
         Kept::Pm(_) | Kept::Disk(_) => Status::Closed,
     };
     *handle = Handle::open(kept);
@@ -581,7 +576,7 @@ pub extern "C" fn gefsunk_hba_data(
         return Status::Closed.code();
     };
     let status = match &*kept {
-        Kept::Hba(controller) => hba::data(controller, room, count),
+        Kept::Hba(port) => hba::data(port, room, count),
         Kept::Pm(_) | Kept::Disk(_) => Status::Closed,
     };
     *handle = Handle::open(kept);
@@ -597,15 +592,15 @@ pub extern "C" fn gefsunk_hba_next_out(
     base: u64,
     room: &mut [u8],
     len: &mut usize,
-    message: &mut u32,
+    sent: &mut FisSent,
 ) -> u32
     ensures rule { AtHba handle.old.held.value (status_of result) handle.new.held.value
         (λ old new. NextOut old (block base memory.now) (length room.old) (status_of result)
-        (take len.new room.new) message.new new) }
+        (take len.new room.new) sent.new new) }
     ensures within { status_of result ≡ status.Done → len.new ≤ length room.old }
     ensures kept { status_of result ≢ status.Done → (room.new ≡ room.old) × (len.new ≡ len.old) }
     ensures silent { status_of result ≢ status.Done → status_of result ≢ status.Nothing
-        → message.new ≡ message.old }
+        → sent.new ≡ sent.old }
     ensures rest { drop len.new room.new ≡ drop len.new room.old }
 {
     let Some(mut kept) = handle.take(alloc) else {
@@ -613,7 +608,7 @@ pub extern "C" fn gefsunk_hba_next_out(
     };
     let guest = GuestBlock::new(base, memory);
     let status = match &mut *kept {
-        Kept::Hba(controller) => hba::next_out(controller, alloc, &guest, room, len, message),
+        Kept::Hba(port) => hba::next_out(port, alloc, &guest, room, len, sent),
         Kept::Pm(_) | Kept::Disk(_) => Status::Closed,
     };
     *handle = Handle::open(kept);

@@ -3,11 +3,11 @@
 ghost use Rattle.std.specs.Prelude.{◌≡◌, ◌≤◌, IfOk, length};
 
 use crate::bay::Bay;
-use crate::text::Moved;
-use ahci_port::{Controller, Took};
+use crate::text::{Ignored, Lost, Moved, NotIssued, Outcome};
 use ahci_registers::Effect;
-use fis_view::{Bytes, Frame};
-use guest_bytes::{FlatGuest, Guest, Move, NotThere};
+use fis_view::Frame;
+use guest_bytes::{FlatGuest, Guest, NotThere};
+use guest_port::{Access, GuestPort, Refused, Sent, bring, bring_count};
 use multiplier::{Multiplier, PmRefusal};
 use std::alloc::{AllocError, Global};
 use std::fs::OpenFile;
@@ -17,13 +17,15 @@ use trace_text::{Failure, Media};
 /// A controller, the memory of its guest, a port multiplier, and a disk for each of its ports.
 #[derive(Drop)]
 pub struct Board {
-    controller: Controller,
+    port: GuestPort,
     memory: FlatGuest,
     ports: u8,
     multiplier: Multiplier,
     bays: Vec<Bay>,
     /// A FIS that the controller gave and the multiplier had no room for.
     down: Option<Frame>,
+    /// A FIS that waits until the guest receives some.
+    up: Option<Frame>,
     /// Whether each FIS on the link is written.
     is_traced: bool,
     ghost has_ports: { (1 ≤ ports) × (ports ≤ 15) },
@@ -31,57 +33,23 @@ pub struct Board {
     ghost has_registers: { multiplier.registers.ports ≡ ports },
 }
 
-/// Writes the bytes of a move, if the payload has them. Bytes for a place that is not all memory are lost.
-fn carry(memory: &mut FlatGuest, step: Move, payload: &[u8]) {
-    let rest = payload.get(step.from..).unwrap_or(&[]);
-    if let Some(bytes) = rest.get(..step.len) {
-        let _ = memory.put(step.at, bytes);
-    }
-}
-
-/// Writes to the guest's memory what a FIS that was taken brings: the bytes of Data, then the FIS, then
-/// PRDBC.
-fn bring(controller: &Controller, memory: &mut FlatGuest, frame: &Frame, took: Took) {
-    let payload = frame.bytes().get(4..).unwrap_or(&[]);
-    if let Some(moves) = controller.data() {
-        for step in moves {
-            carry(memory, step, payload);
-        }
-    }
-    if let Some(posted) = took.posted {
-        carry(memory, posted, frame.bytes());
-    }
-    if let Some(counted) = took.counted {
-        let _ = memory.put(counted.at, &counted.count.to_le_bytes());
-    }
-}
-
 impl Board {
     /// A board of these disks, none of them plugged in.
-    pub fn new(
-        alloc: Global,
-        memory: FlatGuest,
-        ports: u8,
-        bays: Vec<Bay>,
-        is_traced: bool,
-    ) -> Result<Board, AllocError>
+    pub fn new(memory: FlatGuest, ports: u8, bays: Vec<Bay>, is_traced: bool) -> Board
         requires some { 1 ≤ ports }
         requires at_most { ports ≤ 15 }
         requires each { length bays.items ≡ ports }
     {
-        // The size of its memory is its own, so nothing else is refused.
-        let Ok(controller) = Controller::new(alloc) else {
-            return Err(AllocError);
-        };
-        Ok(Board {
-            controller,
+        Board {
+            port: GuestPort::new(),
             memory,
             ports,
             multiplier: Multiplier::new(ports),
             bays,
             down: None,
+            up: None,
             is_traced,
-        })
+        }
     }
 
     /// Each disk gets the sectors of its file, if it has one.
@@ -129,26 +97,34 @@ impl Board {
 
     /// What the register at an offset reads.
     pub fn read(&self, offset: u32) -> u32 {
-        self.controller.read32(offset)
+        self.port.read32(offset)
     }
 
     /// Whether the interrupt line is up.
     pub fn line(&self) -> bool {
-        self.controller.line()
+        self.port.line()
     }
 
     /// Writes the register at an offset. Says what that does to the link.
-    pub fn write(&mut self, alloc: Global, offset: u32, value: u32) -> Result<Effect, AllocError> {
-        let written = self.controller.write32(alloc, &self.memory, offset, value);
-        if written.effect == Effect::LinkReset {
+    pub fn write<W: Write>(
+        &mut self,
+        alloc: Global,
+        offset: u32,
+        value: u32,
+        out: &mut W,
+    ) -> Result<Effect, Failure> {
+        let access = self.port.write32(alloc, &self.memory, offset, value);
+        self.tell_access(&access, out)?;
+        if access.effect() != Effect::Nothing {
             self.reset_link(alloc)?;
         }
-        Ok(written.effect)
+        Ok(access.effect())
     }
 
     /// What is behind the link begins anew, but for what is on the media. FISes on their way are lost.
     fn reset_link(&mut self, alloc: Global) -> Result<(), AllocError> {
         self.down = None;
+        self.up = None;
         self.multiplier = Multiplier::new(self.ports);
         for port in 0..15_u8 {
             self.plug_again(alloc, port)?;
@@ -212,15 +188,26 @@ impl Board {
         Ok(is_moved)
     }
 
+    /// What the controller gives next, as it is told.
+    fn next_down<W: Write>(
+        &mut self,
+        alloc: Global,
+        out: &mut W,
+    ) -> Result<Option<Frame>, Failure> {
+        let sent = self.port.next_out(alloc, &self.memory)?;
+        if let Some(count) = sent.counted {
+            bring_count(count, &mut self.memory);
+        }
+        self.tell_sent(&sent, out)?;
+        Ok(sent.frame)
+    }
+
     /// From the controller to the multiplier.
     fn move_out<W: Write>(&mut self, alloc: Global, out: &mut W) -> Result<bool, Failure> {
         let frame = match self.down.take() {
             Some(frame) => frame,
-            None => match self.controller.next_out(alloc, &self.memory)?.frame {
-                Some(frame) => {
-                    self.tell("down", &frame, false, out)?;
-                    frame
-                }
+            None => match self.next_down(alloc, out)? {
+                Some(frame) => frame,
                 None => return Ok(false),
             },
         };
@@ -251,15 +238,72 @@ impl Board {
         Ok(is_taken || is_sent)
     }
 
-    /// From the multiplier to the controller, and what comes of it to the guest's memory.
+    /// From the multiplier to the controller, and what comes of it to the guest's memory. While the guest receives none, a
+    /// FIS waits.
     fn move_in<W: Write>(&mut self, alloc: Global, out: &mut W) -> Result<bool, Failure> {
-        let Some(frame) = self.multiplier.next_up(alloc)? else {
-            return Ok(false);
+        if let Some(frame) = self.up.take() {
+            return self.take(frame, true, out);
+        }
+        match self.multiplier.next_up(alloc)? {
+            Some(frame) => self.take(frame, false, out),
+            None => Ok(false),
+        }
+    }
+
+    /// The controller takes a FIS, which has waited or not. Says whether it is gone.
+    fn take<W: Write>(
+        &mut self,
+        frame: Frame,
+        has_waited: bool,
+        out: &mut W,
+    ) -> Result<bool, Failure> {
+        let outcome = match self.port.take(&frame) {
+            Ok(taken) => {
+                bring(&self.port, &frame, taken, &mut self.memory);
+                match taken.took.ignored {
+                    Some(why) => Outcome::Ignored(why),
+                    None => Outcome::Heard,
+                }
+            }
+            Err(why) => Outcome::Hindered(why),
         };
-        let took = self.controller.take(&frame);
-        bring(&self.controller, &mut self.memory, &frame, took);
-        self.tell("up", &frame, took.report.ignored, out)?;
-        Ok(true)
+        let waits = outcome.waits();
+        if !(waits && has_waited) {
+            let way = if waits { "waits" } else { "up" };
+            self.tell(way, &frame, outcome, out)?;
+        }
+        if waits {
+            self.up = Some(frame);
+        }
+        Ok(!waits)
+    }
+
+    /// Writes why a write of a register was ignored, or a command is not taken, if that is asked for.
+    fn tell_access<W: Write>(&self, access: &Access, out: &mut W) -> Result<(), Failure> {
+        if let (true, Some(why)) = (self.is_traced, access.written.low.ignored) {
+            writeln!(out, "{}", Ignored { why })?;
+        }
+        self.tell_refused(access.refused, out)
+    }
+
+    /// Writes what the controller gave, if that is asked for.
+    fn tell_sent<W: Write>(&self, sent: &Sent, out: &mut W) -> Result<(), Failure> {
+        self.tell_refused(sent.refused, out)?;
+        if let (true, Some(slot)) = (self.is_traced, sent.missed) {
+            writeln!(out, "{}", Lost { slot })?;
+        }
+        match &sent.frame {
+            Some(frame) => self.tell("down", frame, Outcome::Heard, out),
+            None => Ok(()),
+        }
+    }
+
+    /// Writes why a command is not taken, if that is asked for.
+    fn tell_refused<W: Write>(&self, refused: Option<Refused>, out: &mut W) -> Result<(), Failure> {
+        if let (true, Some(refused)) = (self.is_traced, refused) {
+            writeln!(out, "{}", NotIssued { refused })?;
+        }
+        Ok(())
     }
 
     /// Writes a FIS that went over the link, if that is asked for.
@@ -267,14 +311,14 @@ impl Board {
         &self,
         way: &str,
         frame: &Frame,
-        is_ignored: bool,
+        outcome: Outcome,
         out: &mut W,
     ) -> Result<(), Failure> {
         if self.is_traced {
             let moved = Moved {
                 way,
                 frame,
-                is_ignored,
+                outcome,
             };
             writeln!(out, "{moved}")?;
         }

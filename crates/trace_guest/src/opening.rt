@@ -141,7 +141,7 @@ impl Opening {
             None => plain_memory(alloc)?,
         };
         let bays = bays_of(alloc, sizes.ports, disks)?;
-        Board::new(alloc, memory, sizes.ports, bays, is_traced)
+        Ok(Board::new(memory, sizes.ports, bays, is_traced))
     }
 }
 

@@ -216,7 +216,7 @@ impl Scene {
                 Reply::Read { offset, value }
             }
             Action::Write(offset, value) => {
-                Reply::Written(self.board.write(alloc, offset, value)?)
+                Reply::Written(self.board.write(alloc, offset, value, out)?)
             }
             Action::Put(at, bytes) => match self.board.put(at, bytes.as_slice()) {
                 Ok(()) => Reply::Put,

@@ -108,7 +108,12 @@ impl Machine {
         let room: &mut FisRoom = &mut [0; FIS_ROOM];
         loop {
             let mut moved = false;
-            if let Some(fis) = self.controller.next_out(guest(&self.memory), room)?.fis {
+            let out = self.controller.next_out(guest(&self.memory), room)?;
+            if let Some(count) = out.count {
+                let at = index(count.at);
+                self.memory[at..at + 4].copy_from_slice(&count.bytes.to_le_bytes());
+            }
+            if let Some(fis) = out.fis {
                 show("out", fis)?;
                 self.multiplier.host_sends(fis)?;
                 moved = true;
@@ -179,7 +184,7 @@ impl Machine {
     fn bring_up(&mut self) -> Result<(), Error> {
         self.write(register::CLB, LIST as u32)?;
         self.write(register::FB, AREA as u32)?;
-        self.write(register::CMD, 0x20010)?; // PMA, FRE
+        self.write(register::CMD, 0x20018)?; // PMA, FRE, and CLO: no signature came
         self.write(register::FBS, 1)?;
         self.write(register::CMD, 0x20011)?; // ST
         for port in 0..2 {

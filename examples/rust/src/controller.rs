@@ -99,6 +99,8 @@ impl Place {
 pub struct Out<'room> {
     /// The FIS, with its PM Port; `None` where none can go now.
     pub fis: Option<&'room [u8]>,
+    /// What PRDBC is to be; `None` where it stays. Write it before the guest goes on.
+    pub count: Option<ByteCount>,
     /// Whether a message (MSI) is due. It can be due without a FIS.
     pub message: bool,
 }
@@ -116,7 +118,7 @@ pub struct Controller {
 unsafe impl Send for Controller {}
 
 impl Controller {
-    /// A controller that is stopped, with its link up. It takes about 5.3 MB.
+    /// A controller that is stopped, with its link up.
     ///
     /// # Errors
     /// [`Error::NoMemory`].
@@ -192,7 +194,9 @@ impl Controller {
     /// A FIS of a device arrives, with its port in PM Port.
     ///
     /// # Errors
-    /// [`Error::BadLength`] and [`Error::NoMemory`].
+    /// [`Error::Full`]: the guest receives none yet (PxCMD.FRE is 0), or [`next_out`](Controller::next_out) met
+    /// [`Error::NoMemory`] and was not called since: give the FIS again later. [`Error::BadLength`] and
+    /// [`Error::NoMemory`].
     pub fn take(&mut self, fis: &[u8]) -> Result<Taken, Error> {
         let mut taken = ffi::Taken::default();
         // SAFETY: as in `read32`, and the length is that of the slice.
@@ -209,8 +213,8 @@ impl Controller {
         })
     }
 
-    /// Where the bytes of the FIS that was taken last go, in order: no place where it brought none, or where PxCI was
-    /// written or the controller reset since. Of two bytes for one address the later one stays.
+    /// Where the bytes of the FIS that was taken last go, in order: no place where it brought none, or where a register was
+    /// written since. Of two bytes for one address the later one stays.
     ///
     /// # Errors
     /// [`Error::NoMemory`], for the list alone.
@@ -254,7 +258,7 @@ impl Controller {
         memory: GuestMemory<'_>,
         room: &'room mut FisRoom,
     ) -> Result<Out<'room>, Error> {
-        let (mut len, mut message) = (0, 0);
+        let (mut len, mut sent) = (0, ffi::Sent::default());
         // SAFETY: as in `write32`, and the room has the length that is given.
         let status = unsafe {
             ffi::gef_hba_next_out(
@@ -263,17 +267,22 @@ impl Controller {
                 room.as_mut_ptr(),
                 room.len(),
                 &mut len,
-                &mut message,
+                &mut sent,
             )
         };
-        let message = message != 0;
-        if status == NOTHING {
-            return Ok(Out { fis: None, message });
-        }
-        Error::check(status)?;
+        let fis = if status == NOTHING {
+            None
+        } else {
+            Error::check(status)?;
+            Some(&room[..len])
+        };
         Ok(Out {
-            fis: Some(&room[..len]),
-            message,
+            fis,
+            count: (sent.is_counted != 0).then_some(ByteCount {
+                at: sent.count_at,
+                bytes: sent.count,
+            }),
+            message: sent.message != 0,
         })
     }
 }

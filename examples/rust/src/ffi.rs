@@ -45,6 +45,16 @@ pub(crate) struct Taken {
     pub(crate) message: u32,
 }
 
+/// What else is to be done as a FIS goes out: `gef_sent`.
+#[repr(C)]
+#[derive(Default)]
+pub(crate) struct Sent {
+    pub(crate) is_counted: u32,
+    pub(crate) message: u32,
+    pub(crate) count_at: u64,
+    pub(crate) count: u32,
+}
+
 #[link(name = "gefsunk", kind = "static")]
 extern "C" {
     pub(crate) fn gef_status_text(status: c_int) -> *const c_char;
@@ -123,6 +133,6 @@ extern "C" {
         fis: *mut u8,
         room: usize,
         len: *mut usize,
-        message: *mut u32,
+        sent: *mut Sent,
     ) -> c_int;
 }

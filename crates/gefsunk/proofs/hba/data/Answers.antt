@@ -1,6 +1,6 @@
 use Rattle.std.proofs.Common.{List, Option, Some, ◌∙◌, ap, arith, subst, sym}
-use Rattle.guest_bytes.specs.declared.moves.Move.{Move}
-use Rattle.ahci_port.specs.Taking.{Brings}
+use Rattle.guest_fetch.specs.declared.moves.Move.{Move}
+use Rattle.guest_port.specs.Taking.{Brings}
 use Rattle.gefsunk.proofs.DataLemmas.{all_written, none_written, one_more, too_many}
 use Rattle.gefsunk.proofs.hba.data.Goals as goal
 
@@ -16,7 +16,7 @@ loop-step-preserved c = one_more _ _ _ _ _ _ _ _ c.in-Some-step.ensures.steps c.
 pub returns-clause-rule : goal.returns-clause-rule
 returns-clause-rule c = record {
   moves = c.into_iter-step-iterator.result;
-  brings = subst (λ (o : Option (List Move)). Brings c.args.controller.now o) (c.in-Some.is ∙ ap Some (sym c.into_iter-step-iterator.ensures.into_iter_gives)) c.data.ensures;
+  brings = subst (λ (o : Option (List Move)). Brings c.args.port.now o) (c.in-Some.is ∙ ap Some (sym c.into_iter-step-iterator.ensures.into_iter_gives)) c.data.ensures;
   all = all_written _ _ _ _ _ c.in-None.ensures.steps.0 c.loop-step.invariant;
 }
 
@@ -26,6 +26,6 @@ returns-clause-within c = λ _. omega (arith, c.loop-step.invariant.within, c.lo
 pub returns-then-filled-room-clause-rule : goal.returns-then-filled-room-clause-rule
 returns-then-filled-room-clause-rule c = record {
   moves = c.into_iter-step-iterator.result;
-  brings = subst (λ (o : Option (List Move)). Brings c.args.controller.now o) (c.in-Some.is ∙ ap Some (sym c.into_iter-step-iterator.ensures.into_iter_gives)) c.data.ensures;
+  brings = subst (λ (o : Option (List Move)). Brings c.args.port.now o) (c.in-Some.is ∙ ap Some (sym c.into_iter-step-iterator.ensures.into_iter_gives)) c.data.ensures;
   more = too_many _ _ _ _ _ _ _ c.in-Some-step.ensures.steps c.if-filled-room.true c.loop-step.invariant;
 }

@@ -1,4 +1,0 @@
-pub mod EventLemmas
-pub mod StoreLemmas
-pub mod OpenLemmas
-pub mod QuietLemmas

@@ -1,4 +1,0 @@
-pub mod GatherLemmas
-pub mod OpeningLemmas
-pub mod SendLemmas
-pub mod StayLemmas

@@ -1,4 +1,0 @@
-pub mod Headers
-pub mod Commands
-pub mod Refusals
-pub mod Window

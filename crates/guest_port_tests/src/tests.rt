@@ -1,0 +1,100 @@
+//! What no clause says: values from outside, and that calls succeed.
+
+mod bad;
+mod linux;
+mod of_ahci_registers;
+mod of_guest_bytes;
+mod rig;
+mod sectors;
+mod steps;
+
+use ahci_registers::Effect;
+use std::test::Fail;
+use steps::Step::{IsSilent, Links, Reads, Sends, Writes};
+use steps::{STARTS, Step, play};
+
+static OPENS: [Step; 12] = [
+    Reads(0x00, 0xE137_1F00),
+    Reads(0x04, 0x8000_0000),
+    Reads(0x0C, 1),
+    Reads(0x10, 0x1_0301),
+    Reads(0x118, 0x40_0006),
+    Reads(0x120, 0x7F),
+    Reads(0x124, 0xFFFF_FFFF),
+    Reads(0x128, 0x133),
+    Reads(0x140, 0xF000),
+    // no registers
+    Reads(0x14, 0),
+    Reads(0x101, 0),
+    Reads(0x200, 0),
+];
+
+/// What is ignored, and what is held until it may be.
+static HOLDS: [Step; 22] = [
+    Writes(0x100, 0x63FF),
+    Writes(0x108, 0x64FF),
+    Writes(0x138, 1),
+    Writes(0x134, 1),
+    Writes(0x300, 1),
+    Reads(0x100, 0x6000),
+    Reads(0x108, 0x6400),
+    Reads(0x138, 0),
+    Reads(0x134, 0),
+    // ST without FRE
+    Writes(0x118, 1),
+    Reads(0x118, 0x40_0007),
+    Writes(0x118, 0x11),
+    Reads(0x118, 0x40_C017),
+    // FR falls with FRE, and EN stays until ST falls
+    Writes(0x118, 1),
+    Reads(0x118, 0x40_8007),
+    Writes(0x140, 0x301),
+    Reads(0x140, 0xF300),
+    Links(0x04, 3, Effect::LinkReset),
+    Reads(0x04, 0x8000_0000),
+    Reads(0x118, 0x40_0006),
+    Reads(0x140, 0xF000),
+    Reads(0x100, 0x6000),
+];
+
+/// The registers as a driver finds them, and after a reset of the controller.
+#[test]
+fn registers_read_as_the_standard_says(rt: HostRuntime) -> Result<(), Fail> {
+    play(&rt, rt.alloc(), &[&OPENS, &HOLDS])
+}
+
+static RESETS_THE_LINK: [Step; 18] = [
+    // while ST is 1 DET stays
+    Writes(0x12C, 0x301),
+    Reads(0x12C, 0x300),
+    Reads(0x128, 0x133),
+    Writes(0x118, 0x2_0010),
+    Links(0x12C, 0x301, Effect::LinkReset),
+    Reads(0x128, 0),
+    Reads(0x138, 0),
+    Reads(0x134, 0),
+    Links(0x12C, 0x300, Effect::LinkUp),
+    Reads(0x128, 0x133),
+    Reads(0x130, 0x401_0000),
+    Reads(0x124, 0xFFFF_FFFF),
+    Reads(0x140, 0xF201),
+    Writes(0x130, 0xFFFF_FFFF),
+    Reads(0x130, 0),
+    Reads(0x110, 0),
+    Writes(0x118, 0x2_0011),
+    IsSilent,
+];
+
+#[test]
+fn a_comreset_leaves_no_command(rt: HostRuntime) -> Result<(), Fail> {
+    play(
+        &rt,
+        rt.alloc(),
+        &[
+            &STARTS,
+            &sectors::ISSUES_READ,
+            &[Sends(sectors::READ)],
+            &RESETS_THE_LINK,
+        ],
+    )
+}
