@@ -94,7 +94,7 @@ refused_may f r None s e = e
 refused_may f r (Some tag) s e = tt
 
 taken_may : (d : DiskFacts) (f : Front) (a : Asked) (s : AsideStage) → IsAsked d a → s ≡ stages.Idle → May s (taken f a)
-taken_may d f (ask.Moves m) s is e = (is.place, is.is, moves_beside m s _ e)
+taken_may d f (ask.Moves m) s is e = (is.place, is.is, is.queued, moves_beside m s _ e)
 taken_may d f ask.Flushes s is e = (e, tt)
 taken_may d f (ask.Sets x) s is e = set_may f x s e
 taken_may d f (ask.SetsMultiple m) s is e = e

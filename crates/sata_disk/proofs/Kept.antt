@@ -37,7 +37,7 @@ at_rest (Expects n) = refl
 
 act_case : (d : DiskState) (f : Front) (a : Act) → IsDisk d → MayAct d.engine.stage f.task a → (f.in_reset ≡ true → f.task ≡ Idle) → IsDisk (acting d f a)
 act_case d f act.Nothing is may reset = record { fault = is.fault; beside = may; reset = reset }
-act_case d f (act.Takes c) is may reset = record { fault = is.fault; beside = may.2; reset = reset }
+act_case d f (act.Takes c) is may reset = record { fault = is.fault; beside = may.3; reset = reset }
 act_case d f act.Flushes is may reset = record { fault = is.fault; beside = may.1; reset = reset }
 act_case d f act.Resets is may reset = record { fault = refl; beside = at_rest f.task; reset = reset }
 

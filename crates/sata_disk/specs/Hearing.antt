@@ -1,6 +1,6 @@
 -- What a disk makes of a FIS of its host (Serial ATA 3.x, 10.5, FIS types, 11.4, software reset, and 13.6, native command queuing;
 -- ACS-3, 7.5, DATA SET MANAGEMENT, and 7.24, READ LOG EXT).
-use Rattle.std.specs.Prelude.{ℕ, ◌≡◌, ◌*◌, ◌/◌, ◌==◌, ◌<◌, ◌&&◌, Bool, true, false, List, map, drop, length, Option, Some, None, Result, Ok, Err, if◌then◌else◌}
+use Rattle.std.specs.Prelude.{ℕ, ◌≡◌, ◌*◌, ◌/◌, ◌==◌, ◌<◌, ◌&&◌, nat_lt, Bool, true, false, List, map, drop, length, Option, Some, None, Result, Ok, Err, if◌then◌else◌}
 use Rattle.fis_view.specs.Table.{H2d, C, field}
 use Rattle.fis_view.specs.declared.view.Fis.{Fis}
 use Rattle.fis_view.specs.declared.view.Fis.TheVariants as view
@@ -10,7 +10,7 @@ use Rattle.block_command.specs.declared.command.Stage.{Stage}
 use Rattle.block_command.specs.declared.command.Stage.TheVariants as stage
 use Rattle.block_command.specs.declared.command.Turn.{Turn}
 use Rattle.block_command.specs.declared.command.Turn.TheVariants as turn
-use Rattle.block_command.specs.Moments.{IsCommand, Moment, turn_of}
+use Rattle.block_command.specs.Moments.{IsCommand, Moment, is_queued, turn_of}
 use Rattle.block_command.specs.Laws.{Comes}
 use Rattle.block_disk.specs.Table.{with_input}
 use Rattle.block_disk.specs.Requests.{with_table}
@@ -35,7 +35,8 @@ use Rattle.ata_front.specs.declared.task.Act.{Act}
 use Rattle.ata_front.specs.declared.task.Act.TheVariants as act
 use Rattle.ata_front.specs.declared.task.Task.{Task}
 use Rattle.disk_pages.specs.Logs.{reads_log}
-use Rattle.sata_disk.specs.State.{DiskState, IsBeside, commands, data_place, facts_of, tags_of}
+use Rattle.disk_pages.specs.Profiles.{facts_of}
+use Rattle.sata_disk.specs.State.{DiskState, IsBeside, commands, data_place, tags_of}
 use Rattle.sata_disk.specs.declared.unheard.Unheard.{Unheard}
 use Rattle.sata_disk.specs.declared.unheard.Unheard.TheVariants.{NotOfHost, InReset, Busy, NotAwaited}
 
@@ -53,7 +54,7 @@ acted d h = record { profile = d.profile; front = h.front; engine = engine_acted
 -- the command can be taken, and one beside the queue is taken only where none is
 abbrev pub MayAct : AsideStage → Task → Act → Type 0
 MayAct s t act.Nothing = IsBeside t s
-MayAct s t (act.Takes c) = (c.place < 33) × IsCommand c × IsBeside t s
+MayAct s t (act.Takes c) = (c.place < 33) × IsCommand c × (is_queued c.protocol ≡ nat_lt c.place 32) × IsBeside t s
 MayAct s t act.Flushes = (s ≡ stages.Idle) × IsBeside t stages.Waiting
 MayAct s t act.Resets = Unit {0}
 
@@ -71,8 +72,8 @@ with_logs a = a
 abbrev pub asked_of : DiskState → List ℕ → Asked
 asked_of d f = with_logs (asked f (facts_of d.profile) d.front.settings)
 
-abbrev pub commanded_by : DiskState → List ℕ → DiskState
-commanded_by d f = acted d (commanded d.front (asked_of d f) (tags_of (commands d)))
+abbrev pub command_told : DiskState → List ℕ → Heard
+command_told d f = commanded d.front (asked_of d f) (tags_of (commands d))
 
 abbrev pub command_unheard : Standing → Option Unheard
 command_unheard stand.Reset = Some InReset
@@ -83,8 +84,11 @@ command_unheard _ = None
 abbrev pub is_command : List ℕ → Bool
 is_command f = field H2d C f == 1
 
+abbrev pub register_told : DiskState → List ℕ → Heard
+register_told d f = if is_command f then command_told d f else controlled d.front (resets f)
+
 abbrev pub register_heard : DiskState → List ℕ → DiskState
-register_heard d f = if is_command f then commanded_by d f else acted d (controlled d.front (resets f))
+register_heard d f = acted d (register_told d f)
 
 abbrev pub register_unheard : DiskState → List ℕ → Option Unheard
 register_unheard d f = if is_command f then command_unheard (standing d.front (tags_of (commands d))) else None
@@ -153,6 +157,16 @@ abbrev pub fis_unheard : DiskState → Result Fis FisFault → Option Unheard
 fis_unheard d (Ok (view.RegH2D f)) = register_unheard d f
 fis_unheard d (Ok (view.Payload f)) = data_unheard d
 fis_unheard d _ = Some NotOfHost
+
+-- what becomes of the commands may be done, and nothing is under way beside the queue where ranges come
+abbrev pub MayRange : AsideStage → Option ℕ → Type 0
+MayRange s None = Unit {0}
+MayRange s (Some blocks) = s ≡ stages.Idle
+
+abbrev pub MayHear : DiskState → Result Fis FisFault → Type 0
+MayHear d (Ok (view.RegH2D f)) = MayAct d.engine.stage (register_told d f).front.task (register_told d f).act
+MayHear d (Ok (view.Payload f)) = MayRange d.engine.stage (heard_data d.front.task)
+MayHear d _ = Unit {0}
 
 -- it was plugged in
 abbrev pub plugged : DiskState → DiskState

@@ -6,7 +6,6 @@ use Rattle.block_queue.specs.Line.{Line, command_at, first_below}
 use Rattle.block_engine.specs.Engine.{EngineState, line, none_engaged}
 use Rattle.block_engine.specs.declared.aside.AsideStage.{AsideStage}
 use Rattle.block_engine.specs.declared.aside.AsideStage.TheVariants as stages
-use Rattle.ata_command.specs.Asks.{DiskFacts}
 use Rattle.ata_front.specs.Fronts.{opening}
 use Rattle.ata_front.specs.declared.front.Front.{Front}
 use Rattle.ata_front.specs.declared.task.Task.{Task}
@@ -27,10 +26,6 @@ commands d = line d.engine
 -- a disk that was not plugged in: its write cache is on
 abbrev pub new_disk : Profile → (limit : ℕ) → DiskState
 new_disk p limit = record { profile = p; front = opening true; engine = none_engaged limit }
-
--- what a command has to know of the disk; TRIM takes up to 8 blocks of ranges (IDENTIFY DEVICE data, word 105)
-abbrev pub facts_of : Profile → DiskFacts
-facts_of p = record { sectors = p.capacity; depth = p.depth; trim_blocks = if p.trim then 8 else 0 }
 
 -- ## Commands under way
 

@@ -8,10 +8,10 @@ ghost use Rattle.block_engine.specs.Engine.{IsEngineStart, IsRequested, answer_r
 ghost use Rattle.ata_front.specs.Fronts.{heard_data, owed, standing};
 ghost use Rattle.ata_front.specs.declared.task.Task.TheVariants as tasks;
 ghost use Rattle.sata_disk.specs.State.{DiskState, commands, new_disk, tags_of};
-ghost use Rattle.sata_disk.specs.Hearing.{MayAct, acted, command_unheard, commanded_by, data_heard, data_unheard, discarding, fis_heard, fis_unheard, plugged, ranges_of, register_heard, register_unheard};
+ghost use Rattle.sata_disk.specs.Hearing.{MayAct, MayHear, MayRange, acted, command_told, command_unheard, data_heard, data_unheard, discarding, fis_heard, fis_unheard, plugged, ranges_of, register_heard, register_told, register_unheard};
 ghost use Rattle.sata_disk.specs.Sending.{IsFis, IsOut, after_sent, beside_reply, command_sent, out_at, part_at};
 
-use crate::hearing::{asked_of, bytes_came, facts_of, tags_of};
+use crate::hearing::{asked_of, bytes_came, tags_of};
 use crate::out::{
     Out, fails, is_data, is_done, moving_of, own_of, part_len, single_front, trouble_at,
 };
@@ -84,9 +84,10 @@ impl SataDisk {
     /// A Register FIS came that writes the Command register.
     fn command(&mut self, alloc: Global, fis: &RegH2D<'_>) -> Option<Unheard>
         ensures unheard { result ≡ command_unheard (standing self.old.front (tags_of (commands self.old))) }
-        ensures heard { self.new ≡ commanded_by self.old fis.now }
+        ensures heard { self.new ≡ acted self.old (command_told self.old fis.now) }
+        ensures may { MayAct self.old.engine.stage (command_told self.old fis.now).front.task (command_told self.old fis.now).act }
     {
-        let facts = facts_of(&self.profile);
+        let facts = self.profile.facts();
         let asked = asked_of(fis, &facts, self.front.settings());
         let tags = tags_of(&self.engine);
         let unheard = command_unheard(self.front.standing(tags));
@@ -99,6 +100,7 @@ impl SataDisk {
     fn register(&mut self, alloc: Global, fis: &RegH2D<'_>) -> Option<Unheard>
         ensures unheard { result ≡ register_unheard self.old fis.now }
         ensures heard { self.new ≡ register_heard self.old fis.now }
+        ensures may { MayAct self.old.engine.stage (register_told self.old fis.now).front.task (register_told self.old fis.now).act }
     {
         if fis.c() {
             return self.command(alloc, fis);
@@ -125,6 +127,7 @@ impl SataDisk {
     fn data(&mut self, alloc: Global, bytes: &[u8]) -> Result<Option<Unheard>, AllocError>
         ensures unheard { IfOk result (λ unheard. unheard ≡ data_unheard self.old) }
         ensures ok { OnOk result (self.new ≡ data_heard self.old bytes.now) }
+        ensures may { MayRange self.old.engine.stage (heard_data self.old.front.task) }
         ensures err { OnErr result (self.new ≡ self.old) }
     {
         match self.front.expects() {
@@ -145,6 +148,7 @@ impl SataDisk {
     pub fn on_frame(&mut self, alloc: Global, frame: &Frame) -> Result<Option<Unheard>, AllocError>
         ensures unheard { IfOk result (λ unheard. unheard ≡ fis_unheard self.old (seen frame.now.bytes)) }
         ensures ok { OnOk result (self.new ≡ fis_heard self.old (seen frame.now.bytes)) }
+        ensures may { MayHear self.old (seen frame.now.bytes) }
         ensures err { OnErr result (self.new ≡ self.old) }
     {
         match frame.fis() {

@@ -4,31 +4,16 @@ ghost use Rattle.std.specs.Prelude.{◌≡◌, ◌≤◌, ◌<◌, IfOk, IfSome,
 ghost use Rattle.block_queue.specs.Line.{command_at, first_below};
 ghost use Rattle.block_engine.specs.Engine.{line};
 ghost use Rattle.ata_command.specs.Asks.{IsAsked, aborted, asked};
-ghost use Rattle.sata_disk.specs.State.{data_place, facts_of, has_link, tags_below, tags_of};
+ghost use Rattle.sata_disk.specs.State.{data_place, has_link, tags_below, tags_of};
 ghost use Rattle.sata_disk.specs.Hearing.{came_for, page_asked, receives, waits, with_logs};
 
 use ata_command::{Asked, Facts, LogPage, Refusal, Settings};
 use ata_reply::AtaError;
 use block_command::Turn;
 use block_engine::Engine;
-use disk_pages::{Profile, reads_log};
+use disk_pages::reads_log;
 use fis_view::RegH2D;
 use std::alloc::AllocError;
-
-/// What a command has to know of the disk.
-pub(crate) fn facts_of(profile: &Profile) -> Facts
-    ensures { result ≡ facts_of profile.now }
-{
-    let trim_blocks = if profile.trim { 8 } else { 0 };
-    match Facts::new(
-        profile.capacity.sectors(),
-        profile.depth.commands(),
-        trim_blocks,
-    ) {
-        Some(facts) => facts,
-        None => unreachable!(),
-    }
-}
 
 /// One page of a log that is there; any other is refused.
 fn page_asked(page: LogPage) -> Asked
