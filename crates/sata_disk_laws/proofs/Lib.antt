@@ -1,0 +1,4 @@
+mod Runs
+mod Exact
+mod Told
+mod Silent

@@ -1,0 +1,69 @@
+//! The laws.
+
+ghost use Rattle.sata_disk_laws.specs.Told.{FisesAreTold};
+ghost use Rattle.sata_disk_laws.specs.Laws.{DataAreNamed, DiscardsAreAlone, EndsAreEarned, NumbersAreFresh, RequestsAreApart, SilenceIsOwed, SomethingMoves};
+
+/// A law. In every run each Data FIS of a read has the bytes that the caller gave for its sectors, in order, from the first on. The FIS
+/// that says that a command ended well goes, for a read, after all of them; for a write, after the caller stored exactly the bytes that
+/// came, in order, at its sectors, and, if it is to last, answered a flush that was asked for after that. An answer counts only if it names
+/// the last request of its place, and that was neither answered nor ended by a reset or an error.
+pub fn ends_are_earned()
+    ensures { EndsAreEarned }
+{
+    block_engine::ends_are_earned();
+}
+
+/// A law. In every run each request to load or to store is apart from all that were asked and are not answered: they have no sector in
+/// common, unless both are loads. A reset or an error ends no store: the caller may still do it.
+pub fn requests_are_apart()
+    ensures { RequestsAreApart }
+{
+    block_engine::requests_are_apart();
+}
+
+/// A law. In every run no two requests get one number.
+pub fn numbers_are_fresh()
+    ensures { NumbersAreFresh }
+{
+    block_engine::numbers_are_fresh();
+}
+
+/// A law. In every run, while a discard is out, also one that a reset dropped, no command that moves sectors has started, and no dropped
+/// store is out.
+pub fn discards_are_alone()
+    ensures { DiscardsAreAlone }
+{
+    block_engine::discards_are_alone();
+}
+
+/// A law. In every run of a disk with a limit of 1 MiB or more: while a command is under way and none starts next, the caller owes the
+/// answer to a discard, or a FIS may be sent, a request is to be asked, or the caller or the host owes something.
+pub fn something_moves()
+    ensures { SomethingMoves }
+{
+    block_engine::something_moves();
+}
+
+/// A law. In every run each Data FIS of a queued command, in both directions, and each of its DMA Activate FISes is of the command that
+/// the last DMA Setup FIS named. No condition is left on what the host sends: Data go to that command, or to the one that is not queued.
+pub fn data_are_named()
+    ensures { DataAreNamed }
+{
+    block_engine::data_are_named();
+}
+
+/// A law. The bytes of each FIS that goes next say what the account of the commands has then: those of a Data FIS are the Data that the
+/// account has, a Register FIS or a Set Device Bits FIS that says that a command ended well is its end there. So the laws over accounts
+/// hold of what the host gets.
+pub fn fises_are_told()
+    ensures { FisesAreTold }
+{}
+
+/// A law. In every run of a disk with a limit of 1 MiB or more: where nothing starts, no FIS goes and nothing is asked while a command is
+/// under way, the caller owes the answer to a discard, to another request, or to a store that a reset dropped, or the host owes Data. So
+/// the disk is silent over a command only where it waits for somebody.
+pub fn silence_is_owed()
+    ensures { SilenceIsOwed }
+{
+    block_engine::something_moves();
+}

@@ -1,0 +1,9 @@
+//! Laws over every run of a `SataDisk`: whatever FISes come, whatever is asked and answered, in whatever order.
+#![tactic(auto)]
+
+mod laws;
+
+pub use laws::{
+    data_are_named, discards_are_alone, ends_are_earned, fises_are_told, numbers_are_fresh,
+    requests_are_apart, silence_is_owed, something_moves,
+};
