@@ -144,12 +144,12 @@ opens_with_port_0 ports device most counted =
     each zero = first_sound device counted
     each (suc n) = (opens_sound ports most).ports (suc n)
 
-empty_at : (count n : ℕ) → slice_index_or (replicate count port.empty_port) n port.empty_port ≡ port.empty_port
+pub empty_at : (count n : ℕ) → slice_index_or (replicate count port.empty_port) n port.empty_port ≡ port.empty_port
 empty_at zero n = refl
 empty_at (suc count) zero = refl
 empty_at (suc count) (suc n) = empty_at count n
 
-seat_empty : (count n : ℕ) → slice_index_or (replicate count empty_seat) n empty_seat ≡ empty_seat
+pub seat_empty : (count n : ℕ) → slice_index_or (replicate count empty_seat) n empty_seat ≡ empty_seat
 seat_empty zero n = refl
 seat_empty (suc count) zero = refl
 seat_empty (suc count) (suc n) = seat_empty count n

@@ -1,6 +1,6 @@
 -- A port multiplier whose devices come and go, and are reset by their ports (Serial ATA 3.x, 16.3, port multiplier; 16.4.2, PSCR[2]
 -- is SControl of the port; 14.1.3, SControl: DET 1 resets the device for as long as it stands there).
-use Rattle.std.specs.Prelude.{◌≡◌, ◌≤◌, ◌==◌, ◌&&◌, ℕ, zero, suc, nat_lt, Bool, true, false, if◌then◌else◌}
+use Rattle.std.specs.Prelude.{◌≡◌, ◌≤◌, ◌<◌, ◌==◌, ◌&&◌, ℕ, zero, suc, nat_lt, Bool, true, false, if◌then◌else◌}
 use Rattle.std.specs.Prelude.{List, length, replicate, slice_index_or, slice_set, Option, Some, None, is_none, is_some, MatchOption, MatchResult, Result, Ok, Err}
 use Rattle.std.specs.Bool.{MatchBool}
 use Rattle.std.specs.List.{find, range_with_len}
@@ -124,6 +124,25 @@ abbrev pub renewed : FanState → FanState
 renewed f =
     all_joined f.seats f.multiplier.registers.ports
     (opening_fan f.multiplier.registers.ports f.legacy (seat_at f 0).is_there)
+
+-- a port, and its seat, where a device was or not: its device is there, as connection 1, and is to begin, and nothing waits
+abbrev pub renewed_port : Seat → port.PortState
+renewed_port seat = if seat.is_there then port.with_connection port.empty_port 1 else port.empty_port
+
+abbrev pub renewed_seat : Seat → Seat
+renewed_seat seat = if seat.is_there then seated 1 else empty_seat
+
+-- what that is at each port; FISes pass the device of port 0 at once where that port is open from the start
+pub record IsRenewed (old new : FanState) : Type 0 where
+  pub fan : IsFan new
+  pub ports : new.multiplier.registers.ports ≡ old.multiplier.registers.ports
+  pub legacy : new.legacy ≡ old.legacy
+  pub answer : new.multiplier.answer ≡ None
+  pub port : (n : ℕ) → n < old.multiplier.registers.ports
+      → pm.port_at new.multiplier n ≡ renewed_port (seat_at old n)
+  pub seat : (n : ℕ) → n < old.multiplier.registers.ports → seat_at new n ≡ renewed_seat (seat_at old n)
+  pub passes : old.legacy ≡ true
+      → pm.passes_to new.multiplier 0 ≡ (if (seat_at old 0).is_there then Some 1 else None)
 
 -- the first port whose device is to begin anew
 abbrev pub first_begun : FanState → Option ℕ

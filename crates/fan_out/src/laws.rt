@@ -3,7 +3,7 @@
 ghost use Rattle.std.specs.Prelude.{List, Result};
 ghost use Rattle.fis_view.specs.Frames.{Stamped};
 ghost use Rattle.fan_out.specs.Calls.{DoesAll, FanCall, PassesInOrder, ResetEndsConnection};
-ghost use Rattle.fan_out.specs.Fans.{FanState, IsFan, SendsFan};
+ghost use Rattle.fan_out.specs.Fans.{FanState, IsFan, IsRenewed, SendsFan, renewed};
 
 use crate::fan_out::FanOut;
 use multiplier::{Passed, PmRefusal};
@@ -22,4 +22,10 @@ pub fn fans_pass_in_order()
 pub fn a_reset_ends_the_connection()
     ensures { (old new : FanState) (frame : Stamped) (sent : Result Passed (Stamped × PmRefusal)) → IsFan old →
         SendsFan old frame sent new → ResetEndsConnection old frame sent new }
+{}
+
+/// Of what `renew` leaves of any sound fan. Each device that was there is there, as connection 1, and is to begin anew. Nothing waits,
+/// in either direction. Where port 0 is open from the start, FISes pass its device at once.
+pub fn a_renewed_fan_is_empty()
+    ensures { (old : FanState) → IsFan old → IsRenewed old (renewed old) }
 {}

@@ -13,6 +13,6 @@ mod straight;
 
 pub use fan::Fan;
 pub use fan_out::FanOut;
-pub use laws::{a_reset_ends_the_connection, fans_pass_in_order};
+pub use laws::{a_renewed_fan_is_empty, a_reset_ends_the_connection, fans_pass_in_order};
 pub use seat::{NotThere, PlugError, Seat};
 pub use straight::Straight;

@@ -2,7 +2,9 @@
 
 mod steps;
 
-use fan_out::{NotThere, PlugError};
+use fan_out::{
+    NotThere, PlugError, a_renewed_fan_is_empty, a_reset_ends_the_connection, fans_pass_in_order,
+};
 use multiplier::Passed;
 use std::alloc::AllocError;
 use steps::Step::{
@@ -224,6 +226,9 @@ fn devices_come_and_go(rt: HostRuntime) {
 
 #[test]
 fn refusals_have_numbers_and_texts(rt: HostRuntime) -> Result<(), AllocError> {
+    a_renewed_fan_is_empty();
+    a_reset_ends_the_connection();
+    fans_pass_in_order();
     let text = format!(in rt.alloc();
         "{}, {}, {}, {}",
         PlugError::NoPort,
