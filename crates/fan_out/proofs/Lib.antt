@@ -1,0 +1,4 @@
+mod FanLemmas
+mod OrderLemmas
+mod ResetLemmas
+mod RenewLemmas

@@ -1,0 +1,5 @@
+pub mod Seats
+pub mod Straights
+pub mod Fans
+pub mod FanOuts
+pub mod Calls
