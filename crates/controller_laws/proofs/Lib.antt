@@ -5,3 +5,11 @@ pub mod FallLemmas
 pub mod EndLemmas
 pub mod PlaceLemmas
 pub mod OpenLemmas
+pub mod TouchLemmas
+pub mod SourceLemmas
+pub mod OwnDataLemmas
+pub mod CarryLemmas
+pub mod LineLemmas
+pub mod PlainLemmas
+pub mod ActiveLemmas
+pub mod RoundLemmas

@@ -2,3 +2,8 @@ pub mod Events
 pub mod CoreEvents
 pub mod Ends
 pub mod Places
+pub mod Sources
+pub mod Carrying
+pub mod Interrupts
+pub mod Active
+pub mod Rounds

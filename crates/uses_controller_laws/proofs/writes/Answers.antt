@@ -4,6 +4,6 @@ use Rattle.uses_controller_laws.proofs.writes.Goals as goal
 
 pub returns : goal.returns
 returns c =
-    is_call c.events_are_core_events.ensures c.issues_fall.ensures.falls c.args.controller.now c.write32-written.new.self (call.Wrote c.args.offset c.args.value c.write32-written.result)
+    is_call c.laws.ensures c.args.controller.now c.write32-written.new.self (call.Wrote c.args.offset c.args.value c.write32-written.result)
     (ruled c.args.controller.now c.keeps_rules.ensures.port c.keeps_rules.ensures.slots c.keeps_rules.ensures.rules)
     (ruled c.write32-written.new.self c.keeps_rules-2.ensures.port c.keeps_rules-2.ensures.slots c.keeps_rules-2.ensures.rules) c.write32-written.ensures
