@@ -70,7 +70,11 @@ fn blocks(count: u16) -> u32
     ensures is { result ≡ sectors count }
     ensures few { result ≤ 65536 }
 {
-    if count == 0 { 0x1_0000 } else { u32::from(count) }
+    if count == 0 {
+        0x1_0000
+    } else {
+        u32::from(count)
+    }
 }
 
 // What it asks for, if it is one that `hba_commands` names.
