@@ -187,8 +187,8 @@ impl Controller {
         }
     }
 
-    // What is next to be written to the guest.
-    fn next_write(&mut self) -> Option<Next>
+    /// What is next to be written to the guest.
+    pub(crate) fn next_write(&mut self) -> Option<Next>
         ensures next { result ≡ next_write_of self.old }
         ensures rest { self.new ≡ record self.old { writes = writes_next self.old } }
     {

@@ -8,7 +8,7 @@ ghost use Rattle.hba_fbs.specs.Views.{IsCorePort};
 ghost use Rattle.ahci_controller.specs.Feeding.{Gathers, MissesData, Places};
 ghost use Rattle.ahci_controller.specs.Fetching.{AnswersTo, Misses};
 ghost use Rattle.ahci_controller.specs.Latch.{raised};
-ghost use Rattle.ahci_controller.specs.Next.{Turns};
+ghost use Rattle.ahci_controller.specs.Next.{Turns, next_write as next_write_of, written};
 ghost use Rattle.ahci_controller.specs.Opening.{IsOpening};
 ghost use Rattle.ahci_controller.specs.Reading.{read_at};
 ghost use Rattle.ahci_controller.specs.Rules.{IsRuled};
@@ -140,6 +140,16 @@ impl Controller {
     {
         self.parts.keeps_rules();
         self.parts.take(frame)
+    }
+
+    /// What is next to be written to the guest; None where nothing is left. [`next`](Controller::next) answers it before anything
+    /// else: this is for callers who may not do anything else yet.
+    #[tactic(auto, using(crate::proofs::rules::TurnLemmas::written_rules))]
+    pub fn next_write(&mut self) -> Option<Next>
+        ensures next { result ≡ next_write_of self.old }
+        ensures rest { self.new ≡ written self.old }
+    {
+        self.parts.next_write()
     }
 
     /// What is next to do. What is to be written to the guest for the frame that was taken last comes first. Then commands are

@@ -1,18 +1,20 @@
 //! A port multiplier whose devices come and go.
 
-ghost use Rattle.std.specs.Prelude.{◌≡◌, ◌<◌, ◌≤◌, IfSome, IfOk, is_none, slice_index_or};
-ghost use Rattle.multiplier.specs.Rules.{FromDeviceRule, NextDownRule, NextUpRule};
-ghost use Rattle.multiplier.specs.State.{port_at};
-ghost use Rattle.fan_out.specs.Fans.{ConnectsAt, DisconnectsAt, FanState, FromHost, Through, heeded, heeded_at, is_resetting, opening_fan, port_bit, rejoined, renewed, without_begun};
+ghost use Rattle.std.specs.Prelude.{◌≡◌, ◌<◌, ◌≤◌, false, true, IfSome, Some};
+ghost use Rattle.pm_control.specs.Requests.{requested};
+ghost use Rattle.multiplier.specs.Rules.{FromHostRule, NextDownRule, NextUpRule};
+ghost use Rattle.fan_out.specs.Fans.{OffersFan, PlugsFan, PullsFan, SendsFan, TellsFan, Through, all_joined, controlled, controlled_by, first_begun, heeded, held_in_reset, is_in_reset, joined, opening_fan, parted, rejoined, renewed, seat_at, wants};
 
-use fis_view::Frame;
+use crate::seat::{NotThere, PlugError, Seat};
+use fis_view::{Fis, Frame, RegH2D};
 use multiplier::{Multiplier, Passed, PmRefusal};
-use pm_ports::{GoneError, Offered, PortError};
+use pm_ports::Offered;
+use pm_registers::PSCR_CONTROL;
 use std::alloc::{AllocError, Global};
 use std::marker::Model;
 
-/// The number of SControl among the registers of a port (Serial ATA 3.x, 16.4.2).
-const SCONTROL: u16 = 2;
+/// WRITE PORT MULTIPLIER.
+const WRITE_PORT_MULTIPLIER: u8 = 0xE8;
 
 /// A port multiplier, and which connection is at each of its ports.
 #[derive(Debug, Drop)]
@@ -22,199 +24,273 @@ pub struct Fan {
     ports: u8,
     // Whether port 0 is open from the start, for software that knows no multipliers.
     legacy: bool,
-    // By port: the connection that is there.
-    present: [Option<u32>; 15],
-    // The ports whose SControl.DET is 1, as a mask.
-    in_reset: u16,
-    // Those whose device is to begin anew.
-    begun: u16,
+    seats: [Seat; 15],
 }
 
 impl Model for Fan {
+    ghost use Rattle.std.specs.Prelude.{◌≡◌};
     ghost use Rattle.fan_out.specs.Fans.{FanState, IsFan};
 
     ghost Value = { FanState };
 
-    ghost view = { λ f. record { multiplier = f.multiplier; ports = f.ports; legacy = f.legacy; present = f.present; in_reset = f.in_reset; begun = f.begun } };
+    ghost view = { λ f. record { multiplier = f.multiplier; legacy = f.legacy; seats = f.seats } };
 
-    ghost invariant = { λ f. IsFan (record { multiplier = f.multiplier; ports = f.ports; legacy = f.legacy; present = f.present; in_reset = f.in_reset; begun = f.begun }) };
+    ghost invariant = { λ f. (f.ports ≡ f.multiplier.registers.ports)
+        × IsFan (record { multiplier = f.multiplier; legacy = f.legacy; seats = f.seats }) };
 }
 
-fn port_bit(n: u8) -> u16
-    requires { n < 15 }
-    ensures { result ≡ 2 ^ n }
+// The port whose SControl a Register Host to Device FIS writes.
+fn controlled_by(fis: &RegH2D<'_>) -> Option<u8>
+    ensures { result ≡ controlled_by (Some (requested fis.now)) }
 {
-    1 << n
+    let writes = fis.c() && fis.command() == WRITE_PORT_MULTIPLIER;
+    if writes && fis.features() == PSCR_CONTROL {
+        Some(fis.device() % 16)
+    } else {
+        None
+    }
+}
+
+// The port whose SControl a frame writes, where it is for the control port.
+fn controlled(frame: &Frame) -> Option<u8>
+    ensures { result ≡ controlled frame.now.bytes }
+{
+    match frame.fis() {
+        Ok(Fis::RegH2D(fis)) => controlled_by(&fis),
+        _ => None,
+    }
 }
 
 impl Fan {
-    /// With this many device ports, and no device.
-    pub fn new(ports: u8, legacy: bool) -> Fan
+    // With this many device ports. Where port 0 is open from the start, a device may be there as connection 1.
+    pub(crate) fn new(ports: u8, legacy: bool, is_there: bool) -> Fan
         requires some { 1 ≤ ports }
         requires at_most { ports ≤ 15 }
-        ensures { result ≡ opening_fan ports legacy }
+        ensures { result ≡ opening_fan ports legacy is_there }
     {
-        let multiplier = if legacy {
-            Multiplier::with_port_0_open(ports, None)
-        } else {
-            Multiplier::new(ports)
-        };
+        let mut seats = [Seat::empty(); 15];
+        if !legacy {
+            return Fan {
+                multiplier: Multiplier::new(ports),
+                ports,
+                legacy,
+                seats,
+            };
+        }
+        let device = if is_there { Some(1) } else { None };
+        if is_there {
+            seats[0] = Seat::of(1);
+        }
         Fan {
-            multiplier,
+            multiplier: Multiplier::with_port_0_open(ports, device),
             ports,
             legacy,
-            present: [None; 15],
-            in_reset: 0,
-            begun: 0,
+            seats,
         }
     }
 
-    /// How many device ports there are.
-    pub fn ports(&self) -> u8
-        ensures { result ≡ self.now.ports }
+    // How many device ports there are.
+    pub(crate) fn ports(&self) -> u8
+        ensures value { result ≡ self.now.multiplier.registers.ports }
+        ensures most { result ≤ 15 }
     {
         self.ports
     }
 
-    /// A device came to a port, as this connection. It is to begin.
-    pub fn came(&mut self, n: u8, conn: u32) -> Result<(), PortError>
-        requires { n < self.old.ports }
-        ensures { CameFan self.old n conn result self.new }
+    // A device comes to a port, as this connection, where the port takes it.
+    fn join(&mut self, n: u8, conn: u32)
+        requires { n < self.old.multiplier.registers.ports }
+        ensures { self.new ≡ joined self.old n conn }
     {
-        self.multiplier.came(n, conn)?;
-        self.present[usize::from(n)] = Some(conn);
-        self.begun |= port_bit(n);
+        if self.multiplier.came(n, conn).is_ok() {
+            self.seats[usize::from(n)] = Seat::of(conn);
+        }
+    }
+
+    // The device of a port goes, and with it the frames that wait there.
+    fn part(&mut self, n: u8)
+        requires there { n < self.old.multiplier.registers.ports }
+        requires present { (seat_at self.old n).is_there ≡ true }
+        ensures { self.new ≡ parted self.old n }
+    {
+        let seat = self.seats[usize::from(n)];
+        match self.multiplier.gone(n, seat.last) {
+            Ok(()) => {}
+            Err(_) => unreachable!(),
+        }
+        self.seats[usize::from(n)] = seat.left();
+    }
+
+    // A device is plugged in at a port, as the next connection.
+    pub(crate) fn plug(&mut self, n: u8) -> Result<(), PlugError>
+        requires { n < self.old.multiplier.registers.ports }
+        ensures { PlugsFan self.old n result self.new }
+    {
+        let conn = self.seats[usize::from(n)].next_connection()?;
+        self.join(n, conn);
         Ok(())
     }
 
-    /// The device went from a port, and with it the frames that wait there.
-    pub fn gone(&mut self, n: u8) -> Result<(), GoneError>
-        requires { n < self.old.ports }
-        ensures { GoneFan self.old n result self.new }
+    // The device of a port is pulled.
+    pub(crate) fn pull(&mut self, n: u8) -> Result<(), NotThere>
+        requires { n < self.old.multiplier.registers.ports }
+        ensures { PullsFan self.old n result self.new }
     {
-        let Some(conn) = self.present[usize::from(n)] else {
-            return Err(GoneError::NotThere);
-        };
-        self.multiplier.gone(n, conn)?;
-        self.present[usize::from(n)] = None;
-        self.begun &= !port_bit(n);
+        if !self.seats[usize::from(n)].is_there {
+            return Err(NotThere);
+        }
+        self.part(n);
         Ok(())
     }
 
-    // The device at a port is there on its next connection: what it sent before is dropped, and it is to begin anew.
+    // The device of a port is there on its next connection: what it sent before is dropped, and it is to begin anew.
     fn rejoin(&mut self, n: u8)
-        requires { n < self.old.ports }
+        requires { n < self.old.multiplier.registers.ports }
         ensures { self.new ≡ rejoined self.old n }
     {
-        let Some(conn) = self.present[usize::from(n)] else {
-            return;
-        };
-        if conn == u32::MAX {
-            return;
+        let seat = self.seats[usize::from(n)];
+        if seat.is_there && seat.last < u32::MAX {
+            self.part(n);
+            self.join(n, seat.last + 1);
         }
-        let _ = self.gone(n);
-        let _ = self.came(n, conn + 1);
     }
 
-    // Whether SControl.DET of a port is 1.
-    fn is_resetting(&self, n: u8) -> bool
-        ensures { result ≡ is_resetting self.now n }
+    // The devices that were there come to the first ports, as connection 1.
+    fn join_all(&mut self, seats: [Seat; 15])
+        ensures { self.new ≡ all_joined seats self.old.multiplier.registers.ports self.old }
     {
-        match self.multiplier.registers().read(n, SCONTROL) {
-            Ok(value) => value & 0xF == 1,
+        for n in 0..self.ports {
+            if seats[usize::from(n)].is_there {
+                self.join(n, 1);
+            }
+        }
+    }
+
+    // The link was reset: nothing is on its way, and each device is to begin anew.
+    pub(crate) fn renew(&mut self)
+        ensures { self.new ≡ renewed self.old }
+    {
+        let seats = self.seats;
+        *self = Fan::new(self.ports, self.legacy, seats[0].is_there);
+        self.join_all(seats);
+    }
+
+    // Whether SControl of a port holds its device in reset.
+    fn is_in_reset(&self, n: u8) -> bool
+        requires { n < self.now.multiplier.registers.ports }
+        ensures { result ≡ is_in_reset self.now.multiplier n }
+    {
+        match self.multiplier.registers().read(n, PSCR_CONTROL) {
+            Ok(value) => value % 16 == 1,
             Err(_) => false,
         }
     }
 
-    // What SControl of a port asks of its device now: once DET falls from 1 to another value, the device begins anew.
-    fn heed_at(&mut self, n: u8)
-        requires { n < self.old.ports }
-        ensures { self.new ≡ heeded_at self.old n }
+    // The port that is in reset and whose SControl a frame writes.
+    fn held_in_reset(&self, frame: &Frame) -> Option<u8>
+        ensures value { result ≡ held_in_reset self.now.multiplier frame.now }
+        ensures there { IfSome result (λ n. n < self.now.multiplier.registers.ports) }
     {
-        let was = has_bit(self.in_reset, n);
-        if self.is_resetting(n) {
-            self.in_reset |= port_bit(n);
-        } else if was {
-            self.in_reset &= !port_bit(n);
-            self.rejoin(n);
+        let n = controlled(frame)?;
+        if n < self.ports && self.is_in_reset(n) {
+            Some(n)
+        } else {
+            None
         }
     }
 
-    // The same at each port.
-    fn heed(&mut self)
-        ensures { self.new ≡ heeded self.old.ports self.old }
-    {
-        for n in 0..self.ports {
-            self.heed_at(n);
-        }
-    }
-
-    /// Takes a frame of the host, or gives it back. A write of SControl may have a device begin anew.
-    pub fn send(&mut self, alloc: Global, frame: Frame) -> Result<Passed, (Frame, PmRefusal)>
+    // Takes a frame of the host, or gives it back. A write of SControl may have a device begin anew.
+    pub(crate) fn send(
+        &mut self,
+        alloc: Global,
+        frame: Frame,
+    ) -> Result<Passed, (Frame, PmRefusal)>
         ensures { SendsFan self.old frame result self.new }
     {
-        let passed = self.multiplier.from_host(alloc, frame)?;
-        if passed == Passed::Control {
-            self.heed();
+        let held = self.held_in_reset(&frame);
+        let passed = self.pass(alloc, frame)?;
+        if let Some(n) = held {
+            self.heed(n);
         }
         Ok(passed)
     }
 
-    /// Gives the frame for the device at a port.
-    pub fn next_down(&mut self, n: u8) -> Option<Frame>
-        requires { n < self.old.ports }
+    // Takes a frame of the host, or gives it back.
+    fn pass(&mut self, alloc: Global, frame: Frame) -> Result<Passed, (Frame, PmRefusal)>
+        ensures rule { Through (λ old new. FromHostRule old frame result new) self.old self.new }
+        ensures ports { self.new.multiplier.registers.ports ≡ self.old.multiplier.registers.ports }
+    {
+        self.multiplier.from_host(alloc, frame)
+    }
+
+    // A port was in reset. Where it is so no more, its device begins anew.
+    fn heed(&mut self, n: u8)
+        requires { n < self.old.multiplier.registers.ports }
+        ensures { self.new ≡ heeded self.old n }
+    {
+        if !self.is_in_reset(n) {
+            self.rejoin(n);
+        }
+    }
+
+    // Gives the frame for the device at a port.
+    pub(crate) fn next_down(&mut self, n: u8) -> Option<Frame>
+        requires { n < self.old.multiplier.registers.ports }
         ensures { Through (λ old new. NextDownRule old n result new) self.old self.new }
     {
         self.multiplier.next_down(n)
     }
 
-    /// Whether a frame of the device at a port has room.
-    pub fn wants(&self, n: u8) -> bool
-        requires { n < self.now.ports }
-        ensures { result ≡ is_none (port_at self.now.multiplier n).up }
+    // Whether a device is at a port and a frame of it has room.
+    pub(crate) fn wants(&self, n: u8) -> bool
+        requires { n < self.now.multiplier.registers.ports }
+        ensures { result ≡ wants self.now n }
     {
-        self.multiplier.hold(n).is_none()
+        self.seats[usize::from(n)].is_there && self.multiplier.hold(n).is_none()
     }
 
-    /// Takes a frame of the device at a port, or gives it back where another waits.
-    pub fn offer(&mut self, n: u8, frame: Frame) -> Result<Offered, Frame>
-        requires { n < self.old.ports }
-        ensures { Through (λ old new. FromDeviceRule old n frame result new) self.old self.new }
+    // Takes a frame of the device at a port, or gives it back where another waits. Where no device is, it is dropped.
+    pub(crate) fn offer(&mut self, n: u8, frame: Frame) -> Result<Offered, Frame>
+        requires { n < self.old.multiplier.registers.ports }
+        ensures { OffersFan self.old n frame result self.new }
     {
-        self.multiplier.from_device(n, frame)
+        let seat = self.seats[usize::from(n)];
+        if !seat.is_there {
+            return Ok(Offered::Dropped);
+        }
+        if self.multiplier.hold(n).is_some() {
+            return Err(frame);
+        }
+        match self.multiplier.from_device(n, seat.sent_from(n, frame)) {
+            Ok(Offered::Held) => {
+                self.seats[usize::from(n)] = seat.after_sent();
+                Ok(Offered::Held)
+            }
+            _ => unreachable!(),
+        }
     }
 
-    /// Gives the frame for the host whose turn it is. Only a notification needs memory; where that is refused, nothing changes.
-    pub fn next_up(&mut self, alloc: Global) -> Result<Option<Frame>, AllocError>
+    // Gives the frame for the host whose turn it is. Only a notification needs memory; where that is refused, nothing changes.
+    pub(crate) fn next_up(&mut self, alloc: Global) -> Result<Option<Frame>, AllocError>
         ensures { Through (λ old new. NextUpRule old result new) self.old self.new }
     {
         self.multiplier.next_up(alloc)
     }
 
-    /// The connection of the device at a port.
-    pub fn present(&self, n: u8) -> Option<u32>
-        requires { n < 15 }
-        ensures { result ≡ slice_index_or self.now.present n None }
+    // The first port whose device is to begin anew.
+    fn first_begun(&self) -> Option<u8>
+        ensures value { result ≡ first_begun self.now }
+        ensures there { IfSome result (λ n. n < self.now.multiplier.registers.ports) }
     {
-        self.present[usize::from(n)]
+        (0..self.ports).find(|n| self.seats[usize::from(*n)].begun)
     }
 
-    /// A port whose device is to begin anew.
-    pub fn next_begun(&mut self) -> Option<u8>
-        ensures { TakesBegun self.old result self.new }
+    // Says which device is to begin anew, each once.
+    pub(crate) fn next_begun(&mut self) -> Option<u8>
+        ensures { TellsFan self.old result self.new }
     {
-        let n = (0..15_u8).find(|n| has_bit(self.begun, *n))?;
-        self.begun &= !port_bit(n);
+        let n = self.first_begun()?;
+        self.seats[usize::from(n)] = self.seats[usize::from(n)].told();
         Some(n)
-    }
-
-    // The device at a port is there from the start.
-    fn rejoin_from(&mut self, n: u8, conn: Option<u32>)
-        requires { n < self.old.ports }
-        ensures { self.new ≡ joined self.old n conn }
-    {
-        if let Some(conn) = conn {
-            let _ = self.came(n, 1);
-        }
     }
 }

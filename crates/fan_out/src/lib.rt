@@ -1,14 +1,16 @@
 //! What is behind the port of a host: one device, or a port multiplier with up to fifteen.
 //!
-//! A [`FanOut`] takes the frames of the host ([`FanOut::send`]) and those of devices ([`FanOut::offer`]), and gives them on
+//! A [`FanOut`] takes the frames of the host ([`FanOut::send`]) and those of the devices ([`FanOut::offer`]), and gives them on
 //! ([`FanOut::next_down`], [`FanOut::next_up`]). Devices are plugged in and pulled, and a device that the host resets by its port
 //! begins anew, on a connection of its own ([`FanOut::next_begun`]).
 #![tactic(auto)]
 
 mod fan;
 mod fan_out;
+mod seat;
 mod straight;
 
 pub use fan::Fan;
-pub use fan_out::{FanOut, PlugError};
+pub use fan_out::FanOut;
+pub use seat::{NotThere, PlugError, Seat};
 pub use straight::Straight;

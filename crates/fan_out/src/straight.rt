@@ -1,11 +1,12 @@
 //! One device at the other end of the link.
 
 ghost use Rattle.std.specs.Prelude.{◌≡◌, ◌<◌, is_none};
-ghost use Rattle.fan_out.specs.Straights.{CameStraight, GivesDown, GivesUp, GoneStraight, OffersStraight, SendsStraight, addressed, opening_straight, pointed};
+ghost use Rattle.fan_out.specs.Straights.{GivesDown, GivesUp, OffersStraight, PlugsStraight, PullsStraight, SendsStraight, TellsStraight, addressed, joined, opening_straight, pointed, renewed, wants};
 
+use crate::seat::{NotThere, PlugError, Seat};
 use fis_view::{Frame, Stamp};
 use multiplier::{Passed, PmRefusal};
-use pm_ports::{GoneError, Offered, Port, PortError};
+use pm_ports::{Offered, Port};
 use std::marker::Model;
 
 /// One device straight behind the link, or none. It sees 0 as PM Port, as behind a multiplier. What it sends has the PM Port of
@@ -13,23 +14,22 @@ use std::marker::Model;
 #[derive(Debug, Drop)]
 pub struct Straight {
     port: Port,
-    // The PM Port of the FIS that the device was given last, and of the one that it was given before it sent what waits.
+    seat: Seat,
+    // The PM Port of the FIS that the device was given last.
     asked: u8,
-    answers: u8,
 }
 
 impl Model for Straight {
-    ghost use Rattle.std.specs.Prelude.{◌<◌};
-    ghost use Rattle.fan_out.specs.Straights.{StraightState};
+    ghost use Rattle.fan_out.specs.Straights.{IsStraight, StraightState};
 
     ghost Value = { StraightState };
 
-    ghost view = { λ s. record { port = s.port; asked = s.asked; answers = s.answers } };
+    ghost view = { λ s. record { port = s.port; seat = s.seat; asked = s.asked } };
 
-    ghost invariant = { λ s. (s.asked < 16) × (s.answers < 16) };
+    ghost invariant = { λ s. IsStraight (record { port = s.port; seat = s.seat; asked = s.asked }) };
 }
 
-// A frame of the host as the device's place keeps it: for this connection.
+// A frame of the host as it waits for the device of this connection.
 fn addressed(conn: u32, mut frame: Frame) -> Frame
     ensures { result ≡ addressed conn frame }
 {
@@ -48,49 +48,84 @@ fn pointed(port: u8, mut frame: Frame) -> Frame
 }
 
 impl Straight {
-    /// With no device.
-    pub fn new() -> Straight
+    // With no device.
+    pub(crate) fn new() -> Straight
         ensures { result ≡ opening_straight }
     {
         Straight {
             port: Port::new(),
+            seat: Seat::empty(),
             asked: 0,
-            answers: 0,
         }
     }
 
-    /// A device came, as this connection.
-    pub fn came(&mut self, conn: u32) -> Result<(), PortError>
-        ensures { CameStraight self.old conn result self.new }
+    // A device comes, as this connection.
+    fn join(&mut self, conn: u32)
+        requires free { self.old.seat.is_there ≡ false }
+        requires next { self.old.seat.last < conn }
+        ensures { self.new ≡ joined self.old conn }
     {
-        self.port.came(conn)
+        match self.port.came(conn) {
+            Ok(()) => {}
+            Err(_) => unreachable!(),
+        }
+        self.seat = Seat::of(conn);
+        self.asked = 0;
     }
 
-    /// The device of this connection went, and with it the frames that wait.
-    pub fn gone(&mut self, conn: u32) -> Result<(), GoneError>
-        ensures { GoneStraight self.old conn result self.new }
+    // A device is plugged in, as the next connection.
+    pub(crate) fn plug(&mut self) -> Result<(), PlugError>
+        ensures { PlugsStraight self.old result self.new }
     {
-        self.port.gone(conn)
+        let conn = self.seat.next_connection()?;
+        self.join(conn);
+        Ok(())
     }
 
-    /// Takes a frame of the host, or gives it back where another waits. Where no device is, it is dropped.
-    pub fn send(&mut self, frame: Frame) -> Result<Passed, (Frame, PmRefusal)>
+    // The device is pulled, and the frames that wait are dropped.
+    pub(crate) fn pull(&mut self) -> Result<(), NotThere>
+        ensures { PullsStraight self.old result self.new }
+    {
+        if !self.seat.is_there {
+            return Err(NotThere);
+        }
+        match self.port.gone(self.seat.last) {
+            Ok(()) => {}
+            Err(_) => unreachable!(),
+        }
+        self.seat = self.seat.left();
+        Ok(())
+    }
+
+    // The link was reset: nothing is on its way, and the device is to begin anew.
+    pub(crate) fn renew(&mut self)
+        ensures { self.new ≡ renewed self.old }
+    {
+        let is_there = self.seat.is_there;
+        *self = Straight::new();
+        if is_there {
+            self.join(1);
+        }
+    }
+
+    // Takes a frame of the host, or gives it back where another waits. Where no device is, it is dropped.
+    pub(crate) fn send(&mut self, frame: Frame) -> Result<Passed, (Frame, PmRefusal)>
         ensures { SendsStraight self.old frame result self.new }
     {
-        let Some(conn) = self.port.present() else {
+        if !self.seat.is_there {
             return Ok(Passed::Dropped);
-        };
+        }
         if !self.port.has_room_down() {
             return Err((frame, PmRefusal::HoldFull));
         }
-        match self.port.put_down(addressed(conn, frame)) {
+        match self.port.put_down(addressed(self.seat.last, frame)) {
             Ok(()) => Ok(Passed::Down(0)),
             Err(_) => unreachable!(),
         }
     }
 
-    /// Gives the frame for the device.
-    pub fn next_down(&mut self) -> Option<Frame>
+    // Gives the frame for the device.
+    pub(crate) fn next_down(&mut self) -> Option<Frame>
         ensures { GivesDown self.old result self.new }
     {
         let frame = self.port.take_down()?;
@@ -98,29 +133,48 @@ impl Straight {
         Some(pointed(0, frame))
     }
 
-    /// Whether a frame of the device has room.
-    pub fn wants(&self) -> bool
-        ensures { result ≡ is_none self.now.port.up }
+    // Whether a device is there and a frame of it has room.
+    pub(crate) fn wants(&self) -> bool
+        ensures { result ≡ wants self.now }
     {
-        self.port.wants()
+        self.seat.is_there && self.port.wants()
     }
 
-    /// Takes a frame of the device, or gives it back where another waits. One of a connection that is gone is dropped.
-    pub fn offer(&mut self, frame: Frame) -> Result<Offered, Frame>
+    // Takes a frame of the device, or gives it back where another waits. Where no device is, it is dropped.
+    pub(crate) fn offer(&mut self, frame: Frame) -> Result<Offered, Frame>
         ensures { OffersStraight self.old frame result self.new }
     {
-        let offered = self.port.offer(frame)?;
-        if offered == Offered::Held {
-            self.answers = self.asked;
+        if self.port.present().is_none() {
+            return Ok(Offered::Dropped);
         }
-        Ok(offered)
+        if !self.port.wants() {
+            return Err(frame);
+        }
+        let frame = pointed(self.asked, self.seat.sent_from(0, frame));
+        match self.port.offer(frame) {
+            Ok(Offered::Held) => {
+                self.seat = self.seat.after_sent();
+                Ok(Offered::Held)
+            }
+            _ => unreachable!(),
+        }
     }
 
-    /// Gives the frame for the host.
-    pub fn next_up(&mut self) -> Option<Frame>
+    // Gives the frame for the host.
+    pub(crate) fn next_up(&mut self) -> Option<Frame>
         ensures { GivesUp self.old result self.new }
     {
-        let frame = self.port.take_held(true)?;
-        Some(pointed(self.answers, frame))
+        self.port.take_held(true)
+    }
+
+    // Says that the device is to begin anew, once.
+    pub(crate) fn next_begun(&mut self) -> Option<u8>
+        ensures { TellsStraight self.old result self.new }
+    {
+        if !self.seat.begun {
+            return None;
+        }
+        self.seat = self.seat.told();
+        Some(0)
     }
 }

@@ -1,0 +1,5 @@
+pub mod States
+pub mod Gathers
+pub mod Bays
+pub mod Acts
+pub mod Answers

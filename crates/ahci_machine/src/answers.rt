@@ -1,0 +1,142 @@
+//! What the caller answers.
+
+use crate::bay::Unit;
+use crate::machine::Machine;
+use crate::request::{MediumId, Wanted};
+use ahci_controller::Supply;
+use block_command::AnswerError;
+use block_engine::{Answer, Range};
+use fis_view::Frame;
+use sata_disk::SataDisk;
+use std::alloc::{AllocError, Global};
+use thiserror::Error;
+
+/// Why an answer of a medium is refused. Nothing changes.
+#[derive(Clone, Copy, Debug, PartialEq, Eq, Error)]
+pub enum MediumError {
+    /// The disk that asked is not there any more.
+    #[error("another disk asked")]
+    OtherDisk,
+    /// It does not fit what was asked.
+    #[error("it does not fit what was asked")]
+    Answer(AnswerError),
+}
+
+impl Machine {
+    // Bytes of a command came, or are no memory.
+    fn supplied(&mut self, supply: Supply) -> Result<(), AllocError> {
+        match supply {
+            Supply::OutOfMemory => Err(AllocError),
+            Supply::NotTaken { message, .. } => {
+                self.message = self.message || message;
+                Ok(())
+            }
+            Supply::Stale | Supply::More | Supply::Issued { .. } => Ok(()),
+        }
+    }
+
+    /// The bytes that are wanted are these. What is wanted no more, or is not so many bytes, changes nothing. Where memory is
+    /// refused, the same bytes are wanted again.
+    pub fn supply(&mut self, alloc: Global, wanted: Wanted, bytes: &[u8]) -> Result<(), AllocError> {
+        match wanted {
+            Wanted::Command { slot, number } => {
+                let supply = self.controller.supply(alloc, slot, number, bytes);
+                self.supplied(supply)
+            }
+            Wanted::Data { dev, number, done } => {
+                if let Some(Some(gathering)) = self.gathering.get_mut(usize::from(dev)) {
+                    gathering.supply(number, done, bytes);
+                }
+                Ok(())
+            }
+        }
+    }
+
+    /// Some of the bytes that are wanted are not memory.
+    pub fn no_memory(&mut self, wanted: Wanted) -> Result<(), AllocError> {
+        match wanted {
+            Wanted::Command { slot, number } => {
+                let supply = self.controller.no_memory(slot, number);
+                self.supplied(supply)
+            }
+            Wanted::Data { dev, number, done } => {
+                if let Some(place) = self.gathering.get_mut(usize::from(dev)) {
+                    if let Some(gathering) = place.take() {
+                        if gathering.is_asked(number, done) {
+                            self.missed(gathering.feed);
+                        } else {
+                            *place = Some(gathering);
+                        }
+                    }
+                }
+                Ok(())
+            }
+        }
+    }
+
+    // The disk that asked, if it is there still.
+    fn disk(&self, id: MediumId) -> Option<&SataDisk> {
+        let bay = self.bays.get(usize::from(id.port))?;
+        match &bay.unit {
+            Unit::Disk(disk) if bay.disk == id.disk => Some(disk),
+            _ => None,
+        }
+    }
+
+    /// A medium answers a request.
+    pub fn answer(&mut self, id: MediumId, answer: Answer) -> Result<(), MediumError> {
+        let Some(bay) = self.bays.get_mut(usize::from(id.port)) else {
+            return Err(MediumError::OtherDisk);
+        };
+        match &mut bay.unit {
+            Unit::Disk(disk) if bay.disk == id.disk => match disk.answer(id.number, answer) {
+                Ok(()) => Ok(()),
+                Err(error) => Err(MediumError::Answer(error)),
+            },
+            _ => Err(MediumError::OtherDisk),
+        }
+    }
+
+    /// The bytes of a store, until it is answered.
+    pub fn stored(&self, id: MediumId, place: u8) -> Option<&[u8]> {
+        if place >= 33 {
+            return None;
+        }
+        Some(self.disk(id)?.get(place)?.bytes())
+    }
+
+    /// The sectors of a discard, until it is answered.
+    pub fn discarded(&self, id: MediumId) -> &[Range] {
+        match self.disk(id) {
+            Some(disk) => disk.ranges(),
+            None => &[],
+        }
+    }
+
+    /// The FIS for the device of the caller's own at a port.
+    pub fn take_frame(&mut self, port: u8) -> Option<Frame> {
+        let bay = self.bays.get_mut(usize::from(port))?;
+        match bay.unit {
+            Unit::Own => {
+                bay.told = false;
+                bay.down.take()
+            }
+            Unit::Empty | Unit::Disk(_) => None,
+        }
+    }
+
+    /// A FIS of the device of the caller's own at a port. It is given back where another waits, and where no such device is
+    /// plugged in.
+    pub fn offer(&mut self, port: u8, frame: Frame) -> Result<(), Frame> {
+        let Some(bay) = self.bays.get(usize::from(port)) else {
+            return Err(frame);
+        };
+        match bay.unit {
+            Unit::Own if self.fan.wants(port) => match self.fan.offer(port, frame) {
+                Ok(_) => Ok(()),
+                Err(frame) => Err(frame),
+            },
+            _ => Err(frame),
+        }
+    }
+}

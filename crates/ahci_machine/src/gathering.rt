@@ -1,0 +1,136 @@
+//! The bytes of a Data FIS to a device come from the guest's memory, part by part.
+
+use crate::request::{GuestRead, Wanted};
+use ahci_controller::Controller;
+use fis_view::{Frame, Stamp, is_frame_length};
+use std::alloc::{AllocError, Global};
+
+/// Data that are due for a device.
+#[derive(Clone, Copy, Debug, PartialEq, Eq)]
+pub struct Feed {
+    /// The device.
+    pub dev: u8,
+    /// The number of the want.
+    pub number: u64,
+    /// The slot of the command.
+    pub slot: u8,
+    /// The offset of the first byte.
+    pub offset: u32,
+    /// How many there are.
+    pub len: u32,
+}
+
+/// A Data FIS of which bytes are still to come.
+#[derive(Debug, Drop)]
+pub struct Gathering {
+    pub(crate) feed: Feed,
+    bytes: Vec<u8>,
+    done: usize,
+    // How many bytes were asked for, and have not come.
+    asked: Option<usize>,
+}
+
+/// What a Data FIS waits for.
+#[derive(Clone, Copy, Debug, PartialEq, Eq)]
+pub enum Waits {
+    /// For bytes that were asked for.
+    Asked,
+    /// These are to be asked for.
+    Wants(GuestRead),
+    /// Nothing: all of its bytes are there.
+    Whole,
+    /// Some of its bytes have no place.
+    Nowhere,
+}
+
+/// The stamp of a frame of the host.
+pub(crate) fn host_stamp(dev: u8) -> Stamp {
+    Stamp {
+        port: dev,
+        conn: 0,
+        number: 0,
+        shown: [0; 15],
+    }
+}
+
+impl Gathering {
+    /// None of the bytes has come.
+    pub(crate) fn new(alloc: Global, feed: Feed) -> Result<Gathering, AllocError> {
+        let len = 4 + feed.len as usize;
+        let mut bytes = Vec::with_capacity(alloc, len)?;
+        bytes.extend_from_slice(&[0x46, feed.dev, 0, 0])?;
+        bytes.resize(len, 0)?;
+        Ok(Gathering {
+            feed,
+            bytes,
+            done: 0,
+            asked: None,
+        })
+    }
+
+    // The bytes that are wanted next, where the table of the command has places for them.
+    fn next_read(&self, controller: &Controller) -> Option<GuestRead> {
+        if self.feed.slot >= 32 || self.done > self.feed.len as usize {
+            return None;
+        }
+        let done = self.done as u32;
+        let offset = self.feed.offset.checked_add(done)?;
+        let mut moves = controller.places(self.feed.slot, offset, self.feed.len - done)?;
+        let first = moves.next()?;
+        Some(GuestRead {
+            wanted: Wanted::Data {
+                dev: self.feed.dev,
+                number: self.feed.number,
+                done: self.done,
+            },
+            at: first.at,
+            len: first.len,
+        })
+    }
+
+    /// What it waits for.
+    pub(crate) fn waits(&self, controller: &Controller) -> Waits {
+        if self.asked.is_some() {
+            return Waits::Asked;
+        }
+        if self.done == self.feed.len as usize {
+            return Waits::Whole;
+        }
+        match self.next_read(controller) {
+            Some(read) => Waits::Wants(read),
+            None => Waits::Nowhere,
+        }
+    }
+
+    /// So many bytes were asked for.
+    pub(crate) fn ask(&mut self, len: usize) {
+        self.asked = Some(len);
+    }
+
+    /// These bytes came, behind `done` others. If they are not those that were asked for, nothing changes.
+    pub(crate) fn supply(&mut self, number: u64, done: usize, bytes: &[u8]) {
+        let from = 4 + self.done;
+        if number != self.feed.number || done != self.done || self.asked != Some(bytes.len()) {
+            return;
+        }
+        if from > self.bytes.len() || bytes.len() > self.bytes.len() - from {
+            return;
+        }
+        self.bytes[from..from + bytes.len()].copy_from_slice(bytes);
+        self.done += bytes.len();
+        self.asked = None;
+    }
+
+    /// Whether such bytes were asked for.
+    pub(crate) fn is_asked(&self, number: u64, done: usize) -> bool {
+        self.asked.is_some() && number == self.feed.number && done == self.done
+    }
+
+    /// The Data FIS, if it has a length of one.
+    pub(crate) fn into_frame(self) -> Option<Frame> {
+        if !is_frame_length(&self.bytes) {
+            return None;
+        }
+        Some(Frame::from_vec(self.bytes, host_stamp(self.feed.dev)))
+    }
+}

@@ -1,0 +1,4 @@
+pub mod Seats
+pub mod Straights
+pub mod Fans
+pub mod FanOuts

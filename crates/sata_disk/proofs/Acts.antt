@@ -1,0 +1,129 @@
+-- What becomes of the commands may be done.
+use Rattle.std.proofs.Common.{◌≡◌, ℕ, ◌<◌, true, false, Some, None, refl, subst}
+use Rattle.std.specs.Prelude.{Option, Bool, nat_lt, if◌then◌else◌}
+use Rattle.ata_reply.specs.declared.reply.Reply.TheVariants as reply
+use Rattle.block_engine.specs.declared.aside.AsideStage.{AsideStage}
+use Rattle.block_engine.specs.declared.aside.AsideStage.TheVariants as stages
+use Rattle.ata_command.specs.Asks.{DiskFacts, IsAsked}
+use Rattle.ata_command.specs.Courses.{course}
+use Rattle.ata_command.specs.declared.asked.Asked.{Asked}
+use Rattle.ata_command.specs.declared.asked.Asked.TheVariants as ask
+use Rattle.ata_command.specs.declared.asked.LogPage.{LogPage}
+use Rattle.ata_command.specs.declared.asked.PowerTask.{PowerTask}
+use Rattle.ata_command.specs.declared.asked.PowerTask.TheVariants as power
+use Rattle.ata_command.specs.declared.asked.SmartTask.{SmartTask}
+use Rattle.ata_command.specs.declared.asked.SmartTask.TheVariants as smart
+use Rattle.ata_command.specs.declared.asked.Move.{Move}
+use Rattle.ata_command.specs.declared.asked.Refusal.{Refusal}
+use Rattle.ata_command.specs.declared.control.Standing.TheVariants as stand
+use Rattle.ata_command.specs.declared.control.Course.{Course}
+use Rattle.ata_command.specs.declared.control.Course.TheVariants.{Drop, Refuse, AbortAll, Take}
+use Rattle.ata_command.specs.declared.settings.Setting.{Setting}
+use Rattle.ata_command.specs.declared.settings.Setting.TheVariants as set
+use Rattle.ata_front.specs.Fronts.{after_plug, commanded, commanded_by, controlled, refused_by, set_by, standing, standing_by, taken, taken_power, task_of_smart, log_task, moves_task, taken_moves}
+use Rattle.ata_front.specs.declared.front.Front.{Front}
+use Rattle.ata_front.specs.declared.front.Heard.{Heard}
+use Rattle.ata_front.specs.declared.task.Act.{Act}
+use Rattle.ata_front.specs.declared.task.Act.TheVariants as act
+use Rattle.ata_front.specs.declared.task.Fault.{Fault}
+use Rattle.ata_front.specs.declared.task.Moving.{Moving}
+use Rattle.ata_front.specs.declared.task.Page.{Page}
+use Rattle.ata_front.specs.declared.task.Task.{Task}
+use Rattle.ata_front.specs.declared.task.Task.TheVariants.{Idle, Owes, Moves, Waits, Announces, Gives, Sends, Activates, Expects}
+use Rattle.sata_disk.specs.State.{IsBeside}
+use Rattle.sata_disk.specs.Hearing.{MayAct}
+
+-- ## Where a command is heard, nothing is under way beside the queue
+
+is_single : (t : Task) (fault : Option Fault) (tags : ℕ) (a : Asked) (s : AsideStage) → (course a (standing_by t fault tags) ≡ Drop → ⊥) → IsBeside t s
+    → s ≡ stages.Idle
+is_single Idle fault tags a s heard beside = beside
+is_single (Owes r) fault tags a s heard beside = beside
+is_single (Moves m) fault tags a s heard beside = beside
+is_single (Waits p) fault tags a s heard beside = absurd (heard refl)
+is_single (Announces p) fault tags a s heard beside = beside
+is_single (Gives p) fault tags a s heard beside = beside
+is_single (Sends p) fault tags a s heard beside = beside
+is_single (Activates n) fault tags a s heard beside = beside
+is_single (Expects n) fault tags a s heard beside = beside
+
+is_idle : (reset : Bool) (t : Task) (fault : Option Fault) (tags : ℕ) (a : Asked) (s : AsideStage)
+    → (course a (if reset then stand.Reset else standing_by t fault tags) ≡ Drop → ⊥) → IsBeside t s → s ≡ stages.Idle
+is_idle true t fault tags a s heard beside = absurd (heard refl)
+is_idle false t fault tags a s heard beside = is_single t fault tags a s heard beside
+
+-- ## A command that is taken
+
+moves_beside : (m : Move) (s : AsideStage) (b : Bool) → s ≡ stages.Idle
+    → IsBeside (if b then Owes reply.Accepted else Moves (record { wide = m.wide; left = m.command.count })) s
+moves_beside m s true e = e
+moves_beside m s false e = e
+
+abbrev May : AsideStage → Heard → Type 0
+May s h = MayAct s h.front.task h.act
+
+set_may : (f : Front) (x : Setting) (s : AsideStage) → s ≡ stages.Idle → May s (set_by f x)
+set_may f (set.WriteCache false) s e = (e, tt)
+set_may f (set.WriteCache true) s e = e
+set_may f (set.LookAhead on) s e = e
+set_may f (set.AutoActivate on) s e = e
+set_may f (set.Mode mode) s e = e
+set_may f (set.Reverts on) s e = e
+
+log_beside : (page : Page) (s : AsideStage) (b : Bool) → s ≡ stages.Idle → IsBeside (if b then Sends page else Announces page) s
+log_beside page s true e = e
+log_beside page s false e = e
+
+smart_beside : (t : SmartTask) (s : AsideStage) → s ≡ stages.Idle → IsBeside (task_of_smart t) s
+smart_beside smart.ReadData s e = e
+smart_beside smart.ReadThresholds s e = e
+smart_beside smart.Nothing s e = e
+smart_beside smart.ReturnStatus s e = e
+
+standby_may : (f : Front) (s : AsideStage) (b : Bool) (yes no : Heard) → May s yes → May s no → May s (if b then yes else no)
+standby_may f s true yes no y n = y
+standby_may f s false yes no y n = n
+
+power_may : (f : Front) (t : PowerTask) (s : AsideStage) → s ≡ stages.Idle → May s (taken_power f t)
+power_may f power.Check s e = e
+power_may f power.Idle s e = e
+power_may f power.Standby s e = standby_may f s f.settings.write_cache _ _ (e, tt) e
+
+refused_may : (f : Front) (r : Refusal) (tag : Option ℕ) (s : AsideStage) → s ≡ stages.Idle → May s (refused_by f r tag)
+refused_may f r None s e = e
+refused_may f r (Some tag) s e = tt
+
+taken_may : (d : DiskFacts) (f : Front) (a : Asked) (s : AsideStage) → IsAsked d a → s ≡ stages.Idle → May s (taken f a)
+taken_may d f (ask.Moves m) s is e = (is.place, is.is, moves_beside m s _ e)
+taken_may d f ask.Flushes s is e = (e, tt)
+taken_may d f (ask.Sets x) s is e = set_may f x s e
+taken_may d f (ask.SetsMultiple m) s is e = e
+taken_may d f (ask.Trims blocks) s is e = e
+taken_may d f ask.Identifies s is e = e
+taken_may d f (ask.ReadsLog p) s is e = log_beside _ s p.dma e
+taken_may d f (ask.Smart t) s is e = smart_beside t s e
+taken_may d f (ask.Power t) s is e = power_may f t s e
+taken_may d f (ask.Refused r) s is e = refused_may f r r.tag s e
+
+course_may : (d : DiskFacts) (f : Front) (a : Asked) (s : AsideStage) (x : Course) → IsAsked d a → IsBeside f.task s
+    → ((x ≡ Drop → ⊥) → s ≡ stages.Idle) → May s (commanded_by f a x)
+course_may d f a s Drop is beside idle = beside
+course_may d f a s Refuse is beside idle = idle (λ e. absurd (cc))
+course_may d f a s AbortAll is beside idle = tt
+course_may d f a s Take is beside idle = taken_may d f a s is (idle (λ e. absurd (cc)))
+
+pub command_may : (d : DiskFacts) (f : Front) (a : Asked) (tags : ℕ) (s : AsideStage) → IsAsked d a → IsBeside f.task s
+    → MayAct s (commanded f a tags).front.task (commanded f a tags).act
+command_may d f a tags s is beside = course_may d f a s _ is beside (λ heard. is_idle f.in_reset f.task f.fault tags a s heard beside)
+
+-- ## Resets
+
+control_case : (f : Front) (s : AsideStage) (b : Bool) → f.in_reset ≡ b → IsBeside f.task s → (f.in_reset ≡ true → f.task ≡ Idle)
+    → IsBeside (if b then record f { task = Owes reply.Signature; in_reset = false } else f).task s
+control_case f s true e beside reset = let P : Task → Type 0 = λ t. IsBeside t s in subst P (reset e) beside
+control_case f s false e beside reset = beside
+
+pub control_may : (f : Front) (srst : Bool) (s : AsideStage) → IsBeside f.task s → (f.in_reset ≡ true → f.task ≡ Idle)
+    → MayAct s (controlled f srst).front.task (controlled f srst).act
+control_may f true s beside reset = tt
+control_may f false s beside reset = control_case f s f.in_reset refl beside reset

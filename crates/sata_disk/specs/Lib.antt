@@ -1,0 +1,4 @@
+pub mod State
+pub mod Hearing
+pub mod Pages
+pub mod Sending
