@@ -1,6 +1,7 @@
 //! What is at a port.
 
 use crate::act::Act;
+use crate::gathering::host_stamp;
 use crate::request::MediumId;
 use fan_out::FanOut;
 use fis_view::Frame;
@@ -105,7 +106,9 @@ impl Bay {
         let Some(out) = disk.next_out() else {
             return Ok(None);
         };
-        let frame = disk.frame(alloc, out)?;
+        let Ok(frame) = disk.frame(alloc, out, host_stamp(port)) else {
+            return Err(AllocError);
+        };
         disk.sent(out);
         let _ = fan.offer(port, frame);
         Ok(Some(Act::Speaks { port, out }))
