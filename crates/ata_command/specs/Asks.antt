@@ -7,13 +7,11 @@ use Rattle.block_command.specs.declared.command.Protocol.{Protocol}
 use Rattle.block_command.specs.declared.command.Protocol.TheVariants as protocol
 use Rattle.block_command.specs.Moments.{IsCommand, is_queued}
 use Rattle.ata_reply.specs.declared.reply.AtaError.TheVariants.{Aborted, NotFound}
-use Rattle.ata_command.specs.declared.facts.Multiple.{Multiple}
-use Rattle.ata_command.specs.declared.facts.Multiple.TheVariants as multiple
-use Rattle.ata_command.specs.declared.facts.Setting.{Setting}
-use Rattle.ata_command.specs.declared.facts.Setting.TheVariants.{Mode, WriteCache, LookAhead, Reverts, AutoActivate}
-use Rattle.ata_command.specs.declared.facts.Settings.{Settings}
-use Rattle.ata_command.specs.declared.facts.TransferMode.{TransferMode}
-use Rattle.ata_command.specs.declared.facts.TransferMode.TheVariants.{PioDefault, Pio, MultiwordDma, UltraDma}
+use Rattle.ata_command.specs.declared.settings.Multiple.{Multiple}
+use Rattle.ata_command.specs.declared.settings.Setting.{Setting}
+use Rattle.ata_command.specs.declared.settings.Setting.TheVariants.{Mode, WriteCache, LookAhead, Reverts, AutoActivate}
+use Rattle.ata_command.specs.declared.settings.Settings.{Settings}
+use Rattle.ata_command.specs.declared.settings.TransferMode.{TransferMode}
 use Rattle.ata_command.specs.declared.opcode.Opcode.{Opcode}
 use Rattle.ata_command.specs.declared.opcode.Opcode.TheVariants as code
 use Rattle.ata_command.specs.declared.opcode.Transfer as moves
@@ -26,6 +24,7 @@ use Rattle.ata_command.specs.declared.asked.PowerTask.TheVariants as power
 use Rattle.ata_command.specs.declared.asked.SmartTask.{SmartTask}
 use Rattle.ata_command.specs.declared.asked.SmartTask.TheVariants as smart
 use Rattle.ata_command.specs.Opcodes.{opcode_of}
+use Rattle.ata_command.specs.Modes.{mode_after, multiple_of, sectors_in}
 
 -- what of a disk never changes: its sectors, how many queued commands it takes at a time, the most blocks of ranges of a TRIM
 pub record DiskFacts : Type 0 where
@@ -77,6 +76,7 @@ queued f write d s =
       lasting = write && ((field H2d Device f / 128 % 2 == 1) || not s.write_cache);
       protocol = protocol.Queued;
       block = 8192;
+      auto_activate = write && s.auto_activate;
     }) true
 
 abbrev pub protocol_of : Way → Protocol
@@ -84,15 +84,6 @@ protocol_of way.Dma = protocol.Dma
 protocol_of way.Single = protocol.Pio
 protocol_of way.Multiple = protocol.Pio
 protocol_of way.Verify = protocol.Verify
-
--- how many sectors SET MULTIPLE MODE set
-abbrev pub sectors_in : Multiple → ℕ
-sectors_in multiple.Off = 0
-sectors_in multiple.One = 1
-sectors_in multiple.Two = 2
-sectors_in multiple.Four = 4
-sectors_in multiple.Eight = 8
-sectors_in multiple.Sixteen = 16
 
 abbrev pub block_of : ℕ → Option ℕ
 block_of sectors = if sectors == 0 then None else Some (sectors * 512)
@@ -114,6 +105,7 @@ transferred_by f t d s (Some block) = moved d (record {
   lasting = t.write && (t.fua || not s.write_cache);
   protocol = protocol_of t.way;
   block = block;
+  auto_activate = false;
 }) t.wide
 
 -- a read, a write or a verify that is not queued; READ MULTIPLE and WRITE MULTIPLE want SET MULTIPLE MODE first
@@ -122,28 +114,16 @@ transferred f t d s = transferred_by f t d s (block_in t.way s.multiple)
 
 -- ## Settings
 
--- the number is from this one to that one
-abbrev pub is_from : (low high n : ℕ) → Bool
-is_from low high n = nat_le low n && nat_le n high
-
--- the type of the mode is in bits 7:3, its number in bits 2:0
-abbrev pub mode_of : ℕ → Option TransferMode
-mode_of n =
-    (if nat_le n 0x01 then Some PioDefault
-    else (if is_from 0x08 0x0C n then Some (Pio (n - 0x08))
-    else (if is_from 0x20 0x22 n then Some (MultiwordDma (n - 0x20))
-    else (if is_from 0x40 0x46 n then Some (UltraDma (n - 0x40)) else None))))
-
 abbrev pub mode_set : Option TransferMode → Option Setting
 mode_set None = None
 mode_set (Some mode) = Some (Mode mode)
 
 -- the subcommands of SET FEATURES; Count 02h names DMA Setup auto-activate
-abbrev pub setting_of : (feature count : ℕ) → Option Setting
-setting_of feature count =
+abbrev pub setting_of : TransferMode → (feature count : ℕ) → Option Setting
+setting_of mode feature count =
     (if feature == 0x02 then Some (WriteCache true)
     else (if feature == 0x82 then Some (WriteCache false)
-    else (if feature == 0x03 then mode_set (mode_of count)
+    else (if feature == 0x03 then mode_set (mode_after mode count)
     else (if feature == 0x10 && count == 2 then Some (AutoActivate true)
     else (if feature == 0x90 && count == 2 then Some (AutoActivate false)
     else (if feature == 0x55 then Some (LookAhead false)
@@ -151,25 +131,12 @@ setting_of feature count =
     else (if feature == 0x66 then Some (Reverts false)
     else (if feature == 0xCC then Some (Reverts true) else None)))))))))
 
-abbrev pub or_aborted : Option Asked → Asked
-or_aborted None = aborted
-or_aborted (Some a) = a
-
 abbrev pub sets : Option Setting → Asked
 sets None = aborted
 sets (Some s) = ask.Sets s
 
-abbrev pub features_set : List ℕ → Asked
-features_set f = sets (setting_of (field H2d Features f % 256) (field H2d Count f % 256))
-
-abbrev pub multiple_of : ℕ → Option Multiple
-multiple_of n =
-    (if n == 0 then Some multiple.Off
-    else (if n == 1 then Some multiple.One
-    else (if n == 2 then Some multiple.Two
-    else (if n == 4 then Some multiple.Four
-    else (if n == 8 then Some multiple.Eight
-    else (if n == 16 then Some multiple.Sixteen else None))))))
+abbrev pub features_set : List ℕ → TransferMode → Asked
+features_set f mode = sets (setting_of mode (field H2d Features f % 256) (field H2d Count f % 256))
 
 abbrev pub sets_multiple : Option Multiple → Asked
 sets_multiple None = aborted
@@ -220,7 +187,7 @@ asked_by code.ReadQueued f d s = queued f false d s
 asked_by code.WriteQueued f d s = queued f true d s
 asked_by (code.Transfer t) f d s = transferred f t d s
 asked_by code.Flush f d s = ask.Flushes
-asked_by code.SetFeatures f d s = features_set f
+asked_by code.SetFeatures f d s = features_set f s.mode
 asked_by code.SetMultiple f d s = multiple_set f
 asked_by code.DataSet f d s = trimmed f d
 asked_by code.Identify f d s = ask.Identifies

@@ -1,4 +1,5 @@
 pub mod Opcodes
+pub mod Modes
 pub mod Asks
 pub mod Courses
 pub mod Trims

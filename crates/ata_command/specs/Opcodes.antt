@@ -17,11 +17,12 @@ transfer_of c =
     else (if c == 0x24 then row false true false Single
     else (if c == 0xC4 then row false false false Multiple
     else (if c == 0x29 then row false true false Multiple
-    -- WRITE SECTOR(S), WRITE SECTOR(S) EXT, WRITE MULTIPLE, WRITE MULTIPLE EXT
+    -- WRITE SECTOR(S), WRITE SECTOR(S) EXT, WRITE MULTIPLE, WRITE MULTIPLE EXT, WRITE MULTIPLE FUA EXT
     else (if c == 0x30 then row true false false Single
     else (if c == 0x34 then row true true false Single
     else (if c == 0xC5 then row true false false Multiple
     else (if c == 0x39 then row true true false Multiple
+    else (if c == 0xCE then row true true true Multiple
     -- READ DMA, READ DMA EXT, WRITE DMA, WRITE DMA EXT, WRITE DMA FUA EXT
     else (if c == 0xC8 then row false false false Dma
     else (if c == 0x25 then row false true false Dma
@@ -31,7 +32,7 @@ transfer_of c =
     -- READ VERIFY SECTOR(S), READ VERIFY SECTOR(S) EXT
     else (if c == 0x40 then row false false false Verify
     else (if c == 0x42 then row false true false Verify
-    else None)))))))))))))))
+    else None))))))))))))))))
 
 abbrev pub other_of : ℕ → Opcode
 other_of c =

@@ -2,10 +2,11 @@
 
 ghost use Rattle.std.specs.Prelude.{◌≡◌, ◌<◌, ◌≤◌, ◌+◌, IfSome, nat_lt};
 ghost use Rattle.block_command.specs.Moments.{is_queued};
-ghost use Rattle.ata_command.specs.Asks.{IsAsked, aborted, asked, asked_by, block_in, count_of, features_set, lba_of, log_page, mode_of, moved, multiple_of, multiple_set, protocol_of, queued, sectors_asked, setting_of, smart_asked, smart_task, transferred, trimmed};
+ghost use Rattle.ata_command.specs.Asks.{IsAsked, aborted, asked, asked_by, block_in, count_of, features_set, lba_of, log_page, moved, multiple_set, protocol_of, queued, sectors_asked, setting_of, smart_asked, smart_task, transferred, trimmed};
 
-use crate::facts::{Facts, Multiple, Setting, Settings, TransferMode};
+use crate::facts::Facts;
 use crate::opcode::{Opcode, Transfer, Way};
+use crate::settings::{Multiple, Setting, Settings, TransferMode};
 use ata_reply::AtaError;
 use block_command::{Command, Protocol};
 use fis_view::RegH2D;
@@ -195,6 +196,7 @@ fn queued(fis: &RegH2D<'_>, write: bool, facts: &Facts, settings: Settings) -> A
         lasting: write && (fua || !settings.write_cache),
         protocol: Protocol::Queued,
         block: 8192,
+        auto_activate: write && settings.auto_activate,
     };
     moved(facts, command, true)
 }
@@ -245,31 +247,19 @@ fn transferred(fis: &RegH2D<'_>, transfer: Transfer, facts: &Facts, settings: Se
         lasting: transfer.write && (transfer.fua || !settings.write_cache),
         protocol: protocol_of(transfer.way),
         block,
+        auto_activate: false,
     };
     moved(facts, command, transfer.wide)
 }
 
-/// The mode of transfer of a code, None for one that the disk does not have.
-fn mode_of(code: u8) -> Option<TransferMode>
-    ensures { result ≡ mode_of code }
-{
-    match code {
-        0x00 | 0x01 => Some(TransferMode::PioDefault),
-        0x08..=0x0C => Some(TransferMode::Pio(code - 0x08)),
-        0x20..=0x22 => Some(TransferMode::MultiwordDma(code - 0x20)),
-        0x40..=0x46 => Some(TransferMode::UltraDma(code - 0x40)),
-        _ => None,
-    }
-}
-
 /// What SET FEATURES sets, by its Features and Count, None for what the disk does not have.
-fn setting_of(feature: u8, count: u8) -> Option<Setting>
-    ensures { result ≡ setting_of feature count }
+fn setting_of(mode: TransferMode, feature: u8, count: u8) -> Option<Setting>
+    ensures { result ≡ setting_of mode feature count }
 {
     match feature {
         0x02 => Some(Setting::WriteCache(true)),
         0x82 => Some(Setting::WriteCache(false)),
-        0x03 => Some(Setting::Mode(mode_of(count)?)),
+        0x03 => Some(Setting::Mode(mode.selected(count)?)),
         0x10 if count == 2 => Some(Setting::AutoActivate(true)),
         0x90 if count == 2 => Some(Setting::AutoActivate(false)),
         0x55 => Some(Setting::LookAhead(false)),
@@ -281,27 +271,13 @@ fn setting_of(feature: u8, count: u8) -> Option<Setting>
 }
 
 /// SET FEATURES.
-fn features_set(fis: &RegH2D<'_>) -> Asked
-    ensures { result ≡ features_set fis.now }
+fn features_set(fis: &RegH2D<'_>, mode: TransferMode) -> Asked
+    ensures { result ≡ features_set fis.now mode }
 {
-    match setting_of((fis.features() % 256) as u8, (fis.count() % 256) as u8) {
+    let feature = (fis.features() % 256) as u8;
+    match setting_of(mode, feature, (fis.count() % 256) as u8) {
         Some(setting) => Asked::Sets(setting),
         None => aborted(),
-    }
-}
-
-/// The sectors of a block that SET MULTIPLE MODE asks for.
-fn multiple_of(count: u8) -> Option<Multiple>
-    ensures { result ≡ multiple_of count }
-{
-    match count {
-        0 => Some(Multiple::Off),
-        1 => Some(Multiple::One),
-        2 => Some(Multiple::Two),
-        4 => Some(Multiple::Four),
-        8 => Some(Multiple::Eight),
-        16 => Some(Multiple::Sixteen),
-        _ => None,
     }
 }
 
@@ -309,7 +285,7 @@ fn multiple_of(count: u8) -> Option<Multiple>
 fn multiple_set(fis: &RegH2D<'_>) -> Asked
     ensures { result ≡ multiple_set fis.now }
 {
-    match multiple_of((fis.count() % 256) as u8) {
+    match Multiple::of_count((fis.count() % 256) as u8) {
         Some(multiple) => Asked::SetsMultiple(multiple),
         None => aborted(),
     }
@@ -378,7 +354,7 @@ fn asked_by(opcode: Opcode, fis: &RegH2D<'_>, facts: &Facts, settings: Settings)
         Opcode::WriteQueued => queued(fis, true, facts, settings),
         Opcode::Transfer(transfer) => transferred(fis, transfer, facts, settings),
         Opcode::Flush => Asked::Flushes,
-        Opcode::SetFeatures => features_set(fis),
+        Opcode::SetFeatures => features_set(fis, settings.mode),
         Opcode::SetMultiple => multiple_set(fis),
         Opcode::DataSet => trimmed(fis, facts),
         Opcode::Identify => Asked::Identifies,

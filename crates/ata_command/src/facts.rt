@@ -1,7 +1,6 @@
-//! What a command needs to know of a disk.
+//! What of a disk never changes, and a command needs to know.
 
 ghost use Rattle.std.specs.Prelude.{◌≡◌, ◌≤◌, ◌^◌, IfSome, IfNone, OnSome, false, nat_le};
-ghost use Rattle.ata_command.specs.Asks.{sectors_in};
 
 use std::marker::Model;
 
@@ -65,75 +64,4 @@ impl Facts {
     {
         self.trim_blocks
     }
-}
-
-/// How many sectors a DRQ data block of READ MULTIPLE and WRITE MULTIPLE has.
-#[derive(Clone, Copy, Debug, PartialEq, Eq)]
-pub enum Multiple {
-    /// None was set: these commands are refused.
-    Off,
-    /// 1.
-    One,
-    /// 2.
-    Two,
-    /// 4.
-    Four,
-    /// 8.
-    Eight,
-    /// 16.
-    Sixteen,
-}
-
-impl Multiple {
-    /// The sectors of a block.
-    pub fn sectors(self) -> u8
-        ensures value { result ≡ sectors_in self }
-        ensures most { result ≤ 16 }
-    {
-        match self {
-            Multiple::Off => 0,
-            Multiple::One => 1,
-            Multiple::Two => 2,
-            Multiple::Four => 4,
-            Multiple::Eight => 8,
-            Multiple::Sixteen => 16,
-        }
-    }
-}
-
-/// A mode of transfer (ACS-3, SET FEATURES, 03h).
-#[derive(Clone, Copy, Debug, PartialEq, Eq)]
-pub enum TransferMode {
-    /// The mode of PIO that the disk chooses.
-    PioDefault,
-    /// PIO, modes 0 to 4.
-    Pio(u8),
-    /// Multiword DMA, modes 0 to 2.
-    MultiwordDma(u8),
-    /// Ultra DMA, modes 0 to 6.
-    UltraDma(u8),
-}
-
-/// What SET FEATURES sets.
-#[derive(Clone, Copy, Debug, PartialEq, Eq)]
-pub enum Setting {
-    /// The mode of transfer.
-    Mode(TransferMode),
-    /// The volatile write cache is on.
-    WriteCache(bool),
-    /// Read look-ahead is on.
-    LookAhead(bool),
-    /// A software reset takes settings back to their defaults.
-    Reverts(bool),
-    /// The DMA Setup FIS of a queued write lets the first Data come.
-    AutoActivate(bool),
-}
-
-/// What of a disk SET FEATURES and SET MULTIPLE MODE change, and a command has to know.
-#[derive(Clone, Copy, Debug, PartialEq, Eq)]
-pub struct Settings {
-    /// The volatile write cache is on.
-    pub write_cache: bool,
-    /// The sectors of a block of READ MULTIPLE and WRITE MULTIPLE.
-    pub multiple: Multiple,
 }

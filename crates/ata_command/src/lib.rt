@@ -5,10 +5,12 @@ mod asked;
 mod control;
 mod facts;
 mod opcode;
+mod settings;
 mod trim;
 
 pub use asked::{Asked, LogPage, Move, PowerTask, Refusal, SmartTask};
 pub use control::{Course, Standing, course_of, resets};
-pub use facts::{Facts, Multiple, Setting, Settings, TransferMode};
+pub use facts::Facts;
 pub use opcode::{Opcode, Transfer, Way};
+pub use settings::{Multiple, Setting, Settings, TransferMode};
 pub use trim::{Extent, extents_of};

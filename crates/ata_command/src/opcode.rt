@@ -1,6 +1,6 @@
 //! The command codes (ACS-3, 7, and its table of command codes).
 
-ghost use Rattle.std.specs.Prelude.{◌≡◌, Some, false};
+ghost use Rattle.std.specs.Prelude.{◌≡◌, Some, true, false};
 ghost use Rattle.ata_command.specs.Opcodes.{opcode_of, transfer_of};
 
 /// How a command that is not queued moves sectors.
@@ -76,6 +76,18 @@ fn plain(write: bool, wide: bool, way: Way) -> Option<Transfer>
     })
 }
 
+/// A write with FUA.
+fn lasting(way: Way) -> Option<Transfer>
+    ensures { result ≡ Some (record { write = true; wide = true; fua = true; way = way }) }
+{
+    Some(Transfer {
+        write: true,
+        wide: true,
+        fua: true,
+        way,
+    })
+}
+
 impl Transfer {
     /// The transfer of a code.
     fn of(code: u8) -> Option<Transfer>
@@ -90,18 +102,14 @@ impl Transfer {
             0x34 => plain(true, true, Way::Single),
             0x35 => plain(true, true, Way::Dma),
             0x39 => plain(true, true, Way::Multiple),
-            0x3D => Some(Transfer {
-                write: true,
-                wide: true,
-                fua: true,
-                way: Way::Dma,
-            }),
+            0x3D => lasting(Way::Dma),
             0x40 => plain(false, false, Way::Verify),
             0x42 => plain(false, true, Way::Verify),
             0xC4 => plain(false, false, Way::Multiple),
             0xC5 => plain(true, false, Way::Multiple),
             0xC8 => plain(false, false, Way::Dma),
             0xCA => plain(true, false, Way::Dma),
+            0xCE => lasting(Way::Multiple),
             _ => None,
         }
     }

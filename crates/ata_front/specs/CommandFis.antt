@@ -41,12 +41,12 @@ asks_by m _ = reply.Activate
 abbrev pub asks_data : Moment → Reply
 asks_data m = asks_by m m.command.protocol
 
--- one DMA Setup FIS for all of a command
-abbrev pub set_up : block.Command → (auto_activate : Bool) → Reply
-set_up c auto_activate = reply.SetUp (record {
+-- One DMA Setup FIS for all of a command. With auto-activate its bit A says that Data may come: no DMA Activate goes before them.
+abbrev pub set_up : block.Command → Reply
+set_up c = reply.SetUp (record {
   tag = c.place;
   to_host = not c.write;
-  auto_activate = auto_activate;
+  auto_activate = c.auto_activate;
   bytes = c.count * 512;
 })
 
@@ -56,13 +56,13 @@ failure_of c t wide =
     if nat_lt c.place 32 then reply.Aborts t.error
     else reply.Failed (record { error = t.error; lba = t.lba; wide = wide })
 
-abbrev pub reply_by : Moment → Turn → (auto_activate : Bool) → (left : ℕ) → Trouble → (wide : Bool) → Option Reply
-reply_by m turn.SetUp auto left t wide = Some (set_up m.command auto)
-reply_by m turn.Announce auto left t wide = Some (announced_read m left)
-reply_by m turn.Activate auto left t wide = Some (asks_data m)
-reply_by m turn.End auto left t wide = Some reply.Done
-reply_by m turn.Fail auto left t wide = Some (failure_of m.command t wide)
-reply_by m _ auto left t wide = None
+abbrev pub reply_by : Moment → Turn → (left : ℕ) → Trouble → (wide : Bool) → Option Reply
+reply_by m turn.SetUp left t wide = Some (set_up m.command)
+reply_by m turn.Announce left t wide = Some (announced_read m left)
+reply_by m turn.Activate left t wide = Some (asks_data m)
+reply_by m turn.End left t wide = Some reply.Done
+reply_by m turn.Fail left t wide = Some (failure_of m.command t wide)
+reply_by m _ left t wide = None
 
-abbrev pub command_reply : Moment → (auto_activate : Bool) → (left : ℕ) → Trouble → (wide : Bool) → Option Reply
-command_reply m auto left t wide = reply_by m (turn_of m.stage) auto left t wide
+abbrev pub command_reply : Moment → (left : ℕ) → Trouble → (wide : Bool) → Option Reply
+command_reply m left t wide = reply_by m (turn_of m.stage) left t wide

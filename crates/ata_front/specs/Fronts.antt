@@ -19,10 +19,10 @@ use Rattle.ata_command.specs.declared.control.Course.{Course}
 use Rattle.ata_command.specs.declared.control.Course.TheVariants.{Drop, Refuse, AbortAll, Take}
 use Rattle.ata_command.specs.declared.control.Standing.{Standing}
 use Rattle.ata_command.specs.declared.control.Standing.TheVariants as stand
-use Rattle.ata_command.specs.declared.facts.Multiple.TheVariants as multiple
-use Rattle.ata_command.specs.declared.facts.Setting.{Setting}
-use Rattle.ata_command.specs.declared.facts.Setting.TheVariants as set
-use Rattle.ata_command.specs.declared.facts.TransferMode.TheVariants.{UltraDma}
+use Rattle.ata_command.specs.declared.settings.Setting.{Setting}
+use Rattle.ata_command.specs.declared.settings.Setting.TheVariants as set
+use Rattle.ata_command.specs.declared.settings.Settings.{Settings}
+use Rattle.ata_command.specs.Modes.{power_on}
 use Rattle.ata_front.specs.declared.front.Front.{Front}
 use Rattle.ata_front.specs.declared.front.Heard.{Heard}
 use Rattle.ata_front.specs.declared.task.Act.{Act}
@@ -33,33 +33,26 @@ use Rattle.ata_front.specs.declared.task.Owed.{Owed}
 use Rattle.ata_front.specs.declared.task.Owed.TheVariants as owe
 use Rattle.ata_front.specs.declared.task.Page.{Page}
 use Rattle.ata_front.specs.declared.task.Page.TheVariants as page
-use Rattle.ata_front.specs.declared.task.Preferences.{Preferences}
 use Rattle.ata_front.specs.declared.task.Purpose.{Purpose}
 use Rattle.ata_front.specs.declared.task.Purpose.TheVariants as purpose
 use Rattle.ata_front.specs.declared.task.Task.{Task}
 use Rattle.ata_front.specs.declared.task.Task.TheVariants.{Idle, Owes, Moves, Waits, Announces, Gives, Sends, Activates, Expects}
 use Rattle.ata_front.specs.declared.task.Trouble.{Trouble}
 
--- the write cache as the caller wants it, look-ahead on, all else off, Ultra DMA mode 6
+-- the settings are those of power on, but for the write cache, which is as the caller wants it
 abbrev pub opening : (write_cache : Bool) → Front
 opening write_cache = record {
   task = Idle;
   fault = None;
   in_reset = false;
-  preferences = record {
-    write_cache = write_cache;
-    look_ahead = true;
-    auto_activate = false;
-    multiple = multiple.Off;
-    mode = UltraDma 6;
-  };
+  settings = record power_on { write_cache = write_cache };
 }
 
 abbrev pub leaves : Front → Task → Heard
 leaves f t = record { front = record f { task = t }; act = act.Nothing }
 
-abbrev pub prefers : Front → Preferences → Heard
-prefers f p = record { front = record f { preferences = p; task = Owes reply.Done }; act = act.Nothing }
+abbrev pub sets : Front → Settings → Heard
+sets f s = record { front = record f { settings = s; task = Owes reply.Done }; act = act.Nothing }
 
 abbrev pub aborted : Reply
 aborted = reply.Failed (record { error = Aborted; lba = 0; wide = true })
@@ -68,14 +61,14 @@ aborted = reply.Failed (record { error = Aborted; lba = 0; wide = true })
 
 abbrev pub after_plug : Front → Heard
 after_plug f = record {
-  front = record { task = Owes reply.Signature; fault = None; in_reset = false; preferences = f.preferences };
+  front = record { task = Owes reply.Signature; fault = None; in_reset = false; settings = f.settings };
   act = act.Resets;
 }
 
 -- SRST drops all; the signature goes once it is cleared
 abbrev pub controlled : Front → (srst : Bool) → Heard
 controlled f true =
-    record { front = record { task = Idle; fault = None; in_reset = true; preferences = f.preferences }; act = act.Resets }
+    record { front = record { task = Idle; fault = None; in_reset = true; settings = f.settings }; act = act.Resets }
 controlled f false = record {
   front = if f.in_reset then record f { task = Owes reply.Signature; in_reset = false } else f;
   act = act.Nothing;
@@ -109,10 +102,10 @@ taken_flush f p = record { front = record f { task = Waits p }; act = act.Flushe
 -- the write cache goes off behind a flush
 abbrev pub set_by : Front → Setting → Heard
 set_by f (set.WriteCache false) = taken_flush f purpose.CacheOff
-set_by f (set.WriteCache true) = prefers f (record f.preferences { write_cache = true })
-set_by f (set.LookAhead on) = prefers f (record f.preferences { look_ahead = on })
-set_by f (set.AutoActivate on) = prefers f (record f.preferences { auto_activate = on })
-set_by f (set.Mode mode) = prefers f (record f.preferences { mode = mode })
+set_by f (set.WriteCache true) = sets f (record f.settings { write_cache = true })
+set_by f (set.LookAhead on) = sets f (record f.settings { look_ahead = on })
+set_by f (set.AutoActivate on) = sets f (record f.settings { auto_activate = on })
+set_by f (set.Mode mode) = sets f (record f.settings { mode = mode })
 set_by f (set.Reverts on) = leaves f (Owes reply.Done)
 
 abbrev pub refused_by : Front → Refusal → Option ℕ → Heard
@@ -129,7 +122,7 @@ abbrev pub taken_power : Front → PowerTask → Heard
 taken_power f power.Check = leaves f (Owes reply.Active)
 taken_power f power.Idle = leaves f (Owes reply.Done)
 taken_power f power.Standby =
-    if f.preferences.write_cache then taken_flush f purpose.Flush else leaves f (Owes reply.Done)
+    if f.settings.write_cache then taken_flush f purpose.Flush else leaves f (Owes reply.Done)
 
 abbrev pub log_task : LogPage → Task
 log_task p = if p.dma then Sends (page.Log p) else Announces (page.Log p)
@@ -144,7 +137,7 @@ abbrev pub taken : Front → Asked → Heard
 taken f (ask.Moves m) = taken_moves f m
 taken f ask.Flushes = taken_flush f purpose.Flush
 taken f (ask.Sets s) = set_by f s
-taken f (ask.SetsMultiple m) = prefers f (record f.preferences { multiple = m })
+taken f (ask.SetsMultiple m) = sets f (record f.settings { multiple = m })
 taken f (ask.Trims blocks) = leaves f (Activates blocks)
 taken f ask.Identifies = leaves f (Announces page.Identity)
 taken f (ask.ReadsLog p) = leaves f (log_task p)
@@ -216,12 +209,12 @@ over true t = reply.Done
 over false t = reply.Failed (record { error = t.error; lba = t.lba; wide = true })
 
 -- the write cache is off once what was in it lasts
-abbrev pub preferred : Preferences → Task → (well : Bool) → Preferences
-preferred p (Waits purpose.CacheOff) true = record p { write_cache = false }
-preferred p _ well = p
+abbrev pub settings_then : Settings → Task → (well : Bool) → Settings
+settings_then s (Waits purpose.CacheOff) true = record s { write_cache = false }
+settings_then s _ well = s
 
 abbrev pub beside_sent : Front → (well : Bool) → Front
-beside_sent f well = record f { task = Idle; preferences = preferred f.preferences f.task well }
+beside_sent f well = record f { task = Idle; settings = settings_then f.settings f.task well }
 
 abbrev pub task_less : Task → (ended : Bool) → ℕ → Task
 task_less (Moves m) false sectors = Moves (record { wide = m.wide; left = m.left - sectors })

@@ -50,14 +50,14 @@ fn asks_data(command: &BlockCommand) -> Reply
 }
 
 /// The DMA Setup FIS of a command.
-fn set_up(command: &BlockCommand, auto_activate: bool) -> Reply
-    ensures { result ≡ set_up command.now.command auto_activate }
+fn set_up(command: &BlockCommand) -> Reply
+    ensures { result ≡ set_up command.now.command }
 {
     let command = command.command();
     Reply::SetUp(SetUp {
         tag: command.place,
         to_host: !command.write,
-        auto_activate,
+        auto_activate: command.auto_activate,
         bytes: command.count * 512,
     })
 }
@@ -80,15 +80,14 @@ fn failure_of(command: Command, trouble: Trouble, wide: bool) -> Reply
 /// sectors of a read by PIO that were not sent; `trouble` says why it failed, if it did, and `wide` whether its LBA has 48 bits.
 pub fn command_reply(
     command: &BlockCommand,
-    auto_activate: bool,
     left: u32,
     trouble: Trouble,
     wide: bool,
 ) -> Option<Reply>
-    ensures { result ≡ command_reply command.now auto_activate left trouble wide }
+    ensures { result ≡ command_reply command.now left trouble wide }
 {
     match command.turn() {
-        Turn::SetUp => Some(set_up(command, auto_activate)),
+        Turn::SetUp => Some(set_up(command)),
         Turn::Announce => Some(announced_read(command, left)),
         Turn::Activate => Some(asks_data(command)),
         Turn::End => Some(Reply::Done),

@@ -3,10 +3,10 @@
 ghost use Rattle.std.specs.Prelude.{◌≡◌};
 ghost use Rattle.ata_front.specs.Fronts.{MayTake, aborted, after_discard, after_plug, beside_sent, commanded, controlled, failed_all, given, heard_data, is_log_10, log_task, opening, over, owed, page_announced, queued_failed, refused, said, set_by, single_sent, standing, taken, taken_flush, taken_moves, taken_power, task_of_smart};
 
-use crate::task::{Act, Fault, Moving, Owed, Page, Preferences, Purpose, Task, Trouble};
+use crate::task::{Act, Fault, Moving, Owed, Page, Purpose, Task, Trouble};
 use ata_command::{
-    Asked, Course, LogPage, Move, Multiple, PowerTask, Refusal, Setting, Settings, SmartTask,
-    Standing, TransferMode, course_of,
+    Asked, Course, LogPage, Move, PowerTask, Refusal, Setting, Settings, SmartTask, Standing,
+    course_of,
 };
 use ata_reply::{Announcement, AtaError, Failure, Reply};
 
@@ -20,7 +20,7 @@ pub struct Front {
     /// SRST is set.
     pub in_reset: bool,
     /// What commands have set.
-    pub preferences: Preferences,
+    pub settings: Settings,
 }
 
 /// A front after something came, and what becomes of the commands.
@@ -97,25 +97,18 @@ impl Front {
             task: Task::Idle,
             fault: None,
             in_reset: false,
-            preferences: Preferences {
+            settings: Settings {
                 write_cache,
-                look_ahead: true,
-                auto_activate: false,
-                multiple: Multiple::Off,
-                mode: TransferMode::UltraDma(6),
+                ..Settings::power_on()
             },
         }
     }
 
-    /// What a command has to know of the settings.
+    /// What commands have set: what a command has to know, and the IDENTIFY DEVICE data show.
     pub fn settings(self) -> Settings
-        ensures write_cache { result.write_cache ≡ self.preferences.write_cache }
-        ensures multiple { result.multiple ≡ self.preferences.multiple }
+        ensures { result ≡ self.settings }
     {
-        Settings {
-            write_cache: self.preferences.write_cache,
-            multiple: self.preferences.multiple,
-        }
+        self.settings
     }
 
     /// The front with this task, and nothing becomes of the commands.
@@ -137,7 +130,7 @@ impl Front {
                 task: Task::Owes(Reply::Signature),
                 fault: None,
                 in_reset: false,
-                preferences: self.preferences,
+                settings: self.settings,
             },
             act: Act::Resets,
         }
@@ -153,7 +146,7 @@ impl Front {
                     task: Task::Idle,
                     fault: None,
                     in_reset: true,
-                    preferences: self.preferences,
+                    settings: self.settings,
                 },
                 act: Act::Resets,
             };
@@ -235,13 +228,13 @@ impl Front {
     }
 
     /// The front with these settings, and a good end next.
-    fn preferring(self, preferences: Preferences) -> Heard
-        ensures { result ≡ record { front = record self { preferences = preferences; task = Task.Owes Reply.Done }; act = Act.Nothing } }
+    fn setting(self, settings: Settings) -> Heard
+        ensures { result ≡ record { front = record self { settings = settings; task = Task.Owes Reply.Done }; act = Act.Nothing } }
     {
         Heard {
             front: Front {
                 task: Task::Owes(Reply::Done),
-                preferences,
+                settings,
                 ..self
             },
             act: Act::Nothing,
@@ -253,19 +246,19 @@ impl Front {
         ensures value { result ≡ set_by self setting }
         ensures act { MayTake result.act (Asked.Sets setting) }
     {
-        let now = self.preferences;
+        let now = self.settings;
         match setting {
             Setting::WriteCache(false) => self.taken_flush(Purpose::CacheOff),
-            Setting::WriteCache(true) => self.preferring(Preferences {
+            Setting::WriteCache(true) => self.setting(Settings {
                 write_cache: true,
                 ..now
             }),
-            Setting::LookAhead(look_ahead) => self.preferring(Preferences { look_ahead, ..now }),
-            Setting::AutoActivate(auto_activate) => self.preferring(Preferences {
+            Setting::LookAhead(look_ahead) => self.setting(Settings { look_ahead, ..now }),
+            Setting::AutoActivate(auto_activate) => self.setting(Settings {
                 auto_activate,
                 ..now
             }),
-            Setting::Mode(mode) => self.preferring(Preferences { mode, ..now }),
+            Setting::Mode(mode) => self.setting(Settings { mode, ..now }),
             Setting::Reverts(_) => self.with(Task::Owes(Reply::Done)),
         }
     }
@@ -300,7 +293,7 @@ impl Front {
         match task {
             PowerTask::Check => self.with(Task::Owes(Reply::Active)),
             PowerTask::Idle => self.with(Task::Owes(Reply::Done)),
-            PowerTask::Standby => if self.preferences.write_cache {
+            PowerTask::Standby => if self.settings.write_cache {
                 self.taken_flush(Purpose::Flush)
             } else {
                 self.with(Task::Owes(Reply::Done))
@@ -317,9 +310,9 @@ impl Front {
             Asked::Moves(moved) => self.taken_moves(moved),
             Asked::Flushes => self.taken_flush(Purpose::Flush),
             Asked::Sets(setting) => self.set(setting),
-            Asked::SetsMultiple(multiple) => self.preferring(Preferences {
+            Asked::SetsMultiple(multiple) => self.setting(Settings {
                 multiple,
-                ..self.preferences
+                ..self.settings
             }),
             Asked::Trims(blocks) => self.with(Task::Activates(blocks)),
             Asked::Identifies => self.with(Task::Announces(Page::Identity)),
@@ -437,16 +430,16 @@ impl Front {
     pub fn beside_sent(self, well: bool) -> Front
         ensures { result ≡ beside_sent self well }
     {
-        let preferences = match self.task {
-            Task::Waits(Purpose::CacheOff) if well => Preferences {
+        let settings = match self.task {
+            Task::Waits(Purpose::CacheOff) if well => Settings {
                 write_cache: false,
-                ..self.preferences
+                ..self.settings
             },
-            _ => self.preferences,
+            _ => self.settings,
         };
         Front {
             task: Task::Idle,
-            preferences,
+            settings,
             ..self
         }
     }

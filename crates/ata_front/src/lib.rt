@@ -8,4 +8,4 @@ mod task;
 
 pub use command_fis::command_reply;
 pub use front::{Front, Heard};
-pub use task::{Act, Fault, Moving, Owed, Page, Preferences, Purpose, Task, Trouble};
+pub use task::{Act, Fault, Moving, Owed, Page, Purpose, Task, Trouble};

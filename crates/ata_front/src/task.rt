@@ -1,6 +1,6 @@
 //! What a host waits for.
 
-use ata_command::{LogPage, Multiple, TransferMode};
+use ata_command::LogPage;
 use ata_reply::{AtaError, Reply};
 use block_command::Command;
 
@@ -98,19 +98,4 @@ pub enum Act {
     Flushes,
     /// All that is under way is dropped.
     Resets,
-}
-
-/// What commands have set.
-#[derive(Clone, Copy, Debug, PartialEq, Eq)]
-pub struct Preferences {
-    /// The volatile write cache is on.
-    pub write_cache: bool,
-    /// Read look-ahead is on.
-    pub look_ahead: bool,
-    /// The DMA Setup FIS of a queued write lets the first Data come.
-    pub auto_activate: bool,
-    /// The sectors of a block of READ MULTIPLE and WRITE MULTIPLE.
-    pub multiple: Multiple,
-    /// The mode of transfer.
-    pub mode: TransferMode,
 }

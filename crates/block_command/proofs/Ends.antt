@@ -1,7 +1,7 @@
 -- The ends of a command are earned: at each stage the ledger is a function of the command's moment and of the bytes of its
 -- earlier parts.
 use Rattle.std.proofs.Common.{◌≡◌, ℕ, ◌+◌, ◌-◌, ◌*◌, ◌<◌, ◌≤◌, true, false, List, [], ◌∷◌, ◌++◌, length, take, drop, refl, ap, sym, ◌∙◌, arith, rules, inl, inr, ◌⊎◌, Some, None}
-use Rattle.std.specs.Prelude.{Bool, Option, nat_lt, if◌then◌else◌, ◌==◌}
+use Rattle.std.specs.Prelude.{Bool, Option, nat_lt, if◌then◌else◌, ◌==◌, ◌&&◌}
 use Rattle.std.proofs.lemmas.Bool.{eqb-true, eq-eqb, ltb-true, ltb-false}
 use Rattle.std.proofs.lemmas.List.{append-nil, append_assoc, length-append, take_all, take-append-drop}
 use Rattle.std.proofs.Math.Seq.{take-add}
@@ -323,6 +323,20 @@ begin : (c : Command) (past bytes : List ℕ) (done sent : ℕ) → bytes ≡ []
     → Agrees c (at c done bytes sent (started c)) blank
 begin c past bytes done sent e f g some = rw e (rw f (rw g (starts c _ refl some)))
 
+-- the DMA Setup of a write lets Data come, or a DMA Activate is next
+set_up_writes : (c : Command) (past bytes : List ℕ) (done sent : ℕ) (w a : Bool) → w ≡ true → c.write ≡ true → Behind c past done
+    → length bytes ≤ part_len c done
+    → Agrees c (at c done bytes sent (if a then Receiving else Activate)) (if w && a then write_ledger (past ++ bytes) true past None false false
+    else write_ledger (past ++ bytes) false past None false false)
+set_up_writes c past bytes done sent true true e write behind low = known c past refl (write, behind, low)
+set_up_writes c past bytes done sent true false e write behind low = known c past refl (write, behind, low)
+set_up_writes c past bytes done sent false a e write behind low = absurd (cc)
+
+-- that of a read lets none come
+set_up_reads : (w a : Bool) (k l : Ledger) → w ≡ false → (if w && a then k else l) ≡ l
+set_up_reads false a k l e = refl
+set_up_reads true a k l e = absurd (cc)
+
 asks_load : (c : Command) (past bytes : List ℕ) (done sent : ℕ) (b : Bool) → b ≡ true → c.write ≡ false → Behind c past done → sent ≡ 0
     → Agrees c (at c done bytes sent Loading) (read_ledger past (if b then Some (part_len c done) else None) (moved c past))
 asks_load c past bytes done sent true e write behind zero = known c past refl (write, behind, zero)
@@ -354,8 +368,10 @@ step c past done bytes sent Load Goes facts =
     asks_load c past bytes done sent _ (behind_is c past done facts.1.0) facts.0 facts.1 facts.2
 step c past done bytes sent Loading (Loads given) facts = loads c past bytes given done sent _ refl facts.0 facts.1 facts.2
 step c past done bytes sent Loading Fails facts = inl refl
+step c past done bytes sent SetUpWrite Goes facts =
+    set_up_writes c past bytes done sent c.write c.auto_activate facts.0 facts.0 facts.1 facts.2
 step c past done bytes sent SetUpRead Goes facts =
-    known c past (ap (read_ledger (past ++ bytes) None) (none_sent past bytes sent facts.4))
+    known c past (set_up_reads c.write c.auto_activate _ _ facts.0 ∙ ap (read_ledger (past ++ bytes) None) (none_sent past bytes sent facts.4))
     (facts.0, facts.1, facts.2, facts.3, omega (arith, facts.4))
 step c past done bytes sent Sending Goes facts =
     let n = chunk c (length bytes - sent) in

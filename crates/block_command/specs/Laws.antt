@@ -1,7 +1,7 @@
 -- What the run of a command tells by itself, which Data it may send, and when its end is earned. The ledger knows no stage
 -- and no part: it looks at what was asked, answered, sent and received, and at nothing else.
 use Rattle.std.specs.Prelude.{ℕ, ◌≡◌, ◌+◌, ◌*◌, ◌==◌, Bool, true, false, List, [], ◌∷◌, ◌++◌}
-use Rattle.std.specs.Prelude.{length, if◌then◌else◌, Option, Some, None}
+use Rattle.std.specs.Prelude.{length, if◌then◌else◌, ◌&&◌, Option, Some, None}
 use Rattle.block_command.specs.declared.command.Command.{Command}
 use Rattle.block_command.specs.declared.command.Turn.{Turn}
 use Rattle.block_command.specs.declared.command.Turn.TheVariants as turn
@@ -135,11 +135,13 @@ abbrev pub stored_in : Ledger → Option (List ℕ) → Ledger
 stored_in l None = l
 stored_in l (Some bytes) = record l { kept = l.kept ++ bytes; storing = None }
 
--- the first Data FIS after a DMA Activate or PIO Setup FIS counts
+-- the first Data FIS after a DMA Activate or PIO Setup FIS counts, and that after the DMA Setup FIS of a write that activates
+-- it
 abbrev pub entered : Command → Ledger → Happening → Ledger
 entered c l (AskedLoad at n) = record l { wanting = if is_behind c at l.given then Some (n * 512) else None }
 entered c l (Loaded bytes) = given_to l l.wanting bytes
 entered c l (SentData part) = record l { sent = l.sent ++ part }
+entered c l SentSetUp = (if c.write && c.auto_activate then record l { active = true } else l)
 entered c l SentActivate = record l { active = true }
 entered c l (CameData part) = (if l.active then record l { came = l.came ++ part; active = false } else l)
 entered c l (AskedStore at bytes) = record l { storing = if is_behind c at l.kept then Some bytes else None }

@@ -122,6 +122,10 @@ read_end _ = End
 abbrev pub started : Command → Stage
 started c = if c.write then (if is_queued c.protocol then SetUpWrite else Activate) else Load
 
+-- with auto-activate the DMA Setup of a queued write lets its first Data FIS come (Serial ATA 3.x, 10.5.9, bit A)
+abbrev pub set_up_stage : Command → Stage
+set_up_stage c = if c.auto_activate then Receiving else Activate
+
 -- all of the part of a read is done
 abbrev pub read_on : Moment → ℕ → Moment
 read_on m done = record m {
@@ -141,7 +145,7 @@ gone m Load = record m { stage = Loading }
 gone m SetUpRead = record m { stage = Sending }
 gone m Announce = record m { stage = Sending }
 gone m Sending = sent_to m (m.sent + chunk m.command (length m.bytes - m.sent))
-gone m SetUpWrite = record m { stage = Activate }
+gone m SetUpWrite = record m { stage = set_up_stage m.command }
 gone m Activate = record m { stage = Receiving }
 gone m Store = record m { stage = Storing }
 gone m Flush = record m { stage = Flushing }

@@ -3,7 +3,7 @@
 ghost use Rattle.std.specs.Prelude.{◌≡◌, ◌+◌, ◌-◌, ◌*◌, ◌<◌, ◌≤◌, ◌^◌, [], length, IfOk, OnOk, OnErr, take, drop};
 ghost use Rattle.std.specs.Result.{result_err};
 ghost use Rattle.block_command.specs.Moments.{failure_fault, flush_fault, load_fault, store_fault};
-ghost use Rattle.block_command.specs.Moments.{IsCommand, IsMoment, Moment, after_came, after_failed, after_flushed, after_loaded, after_stored, chunk, data_stage, first_data_stage, gone, holds, is_ended, is_queued, is_storing, is_verify, opening, part_count, part_len, part_lba, part_of, read_end, read_on, runs, sent_to, started, turn_of, write_on};
+ghost use Rattle.block_command.specs.Moments.{IsCommand, IsMoment, Moment, after_came, after_failed, after_flushed, after_loaded, after_stored, chunk, data_stage, first_data_stage, gone, holds, is_ended, is_queued, is_storing, is_verify, opening, part_count, part_len, part_lba, part_of, read_end, read_on, runs, sent_to, set_up_stage, started, turn_of, write_on};
 
 use crate::answer::AnswerError;
 use std::alloc::{AllocError, Global};
@@ -39,6 +39,8 @@ pub struct Command {
     pub protocol: Protocol,
     /// The most bytes of a Data FIS: 8,192, or those of a DRQ data block.
     pub block: u32,
+    /// Whether the DMA Setup FIS of a queued write lets its first Data FIS come: no DMA Activate FIS goes before it.
+    pub auto_activate: bool,
 }
 
 /// How far a command has come.
@@ -183,6 +185,17 @@ fn read_end(protocol: Protocol) -> Stage
     match protocol {
         Protocol::Pio => Stage::Ended,
         Protocol::Queued | Protocol::Dma | Protocol::Verify => Stage::End,
+    }
+}
+
+/// Where a queued write is whose DMA Setup FIS went.
+fn set_up_stage(command: Command) -> Stage
+    ensures { result ≡ set_up_stage command }
+{
+    if command.auto_activate {
+        Stage::Receiving
+    } else {
+        Stage::Activate
     }
 }
 
@@ -332,7 +345,7 @@ impl BlockCommand {
             Stage::Load => self.stage = Stage::Loading,
             Stage::SetUpRead | Stage::Announce => self.stage = Stage::Sending,
             Stage::Sending => self.sent_part(),
-            Stage::SetUpWrite => self.stage = Stage::Activate,
+            Stage::SetUpWrite => self.stage = set_up_stage(self.command),
             Stage::Activate => self.stage = Stage::Receiving,
             Stage::Store => self.stage = Stage::Storing,
             Stage::Flush => self.stage = Stage::Flushing,

@@ -57,6 +57,7 @@ fn some_command(place: u8, seed: u64) -> Command
         } else {
             8192
         },
+        auto_activate: bits >> 28 & 1 == 1,
     }
 }
 
@@ -68,6 +69,9 @@ fn data_len(disk: &Engine, place: u8) -> Option<usize>
     let left = (command.part_count() as usize * 512).saturating_sub(command.bytes().len());
     match command.turn() {
         Turn::Activate => Some(left.min(command.command().block as usize)),
+        Turn::SetUp if command.command().write && command.command().auto_activate => Some(left.min(
+            command.command().block as usize,
+        )),
         _ => None,
     }
 }
@@ -272,6 +276,7 @@ const WRITE: Command = Command {
     lasting: false,
     protocol: Protocol::Queued,
     block: 8192,
+    auto_activate: false,
 };
 
 /// Drives an engine until it has asked for something, and answers what it did.
@@ -354,6 +359,29 @@ fn a_failure_is_kept(rt: HostRuntime) {
     assert!(rt; disk.failure(3) == Some(failure));
     send(&rt, alloc, &mut disk);
     assert!(rt; disk.fault() == Some(3));
+}
+
+#[test]
+fn a_failure_is_of_the_command_that_stands_there(rt: HostRuntime) {
+    let alloc = rt.alloc();
+    let mut disk = Engine::new(alloc, LIMIT).expect(&rt, "memory");
+    let failure = Failure {
+        error: ErrorKind::Aborted,
+        lba: 7,
+    };
+    disk.take(alloc, WRITE);
+    let dropped = first_request(&rt, alloc, &mut disk);
+    disk.reset();
+    disk.take(alloc, WRITE);
+    disk.answer(dropped.number, Answer::Failed(failure))
+        .expect(&rt, "the dropped store");
+    assert!(rt; disk.failure(3).is_none());
+    let store = first_request(&rt, alloc, &mut disk);
+    disk.answer(store.number, Answer::Failed(failure))
+        .expect(&rt, "the store");
+    assert!(rt; disk.failure(3) == Some(failure));
+    disk.reset();
+    assert!(rt; disk.failure(3).is_none());
 }
 
 #[test]

@@ -63,6 +63,7 @@ fn some_command(place: u8, seed: u64) -> Command
         lasting: bits >> 14 & 1 == 1,
         protocol,
         block: 8192,
+        auto_activate: bits >> 15 & 1 == 1,
     }
 }
 
@@ -87,6 +88,9 @@ fn data_len(queue: &CommandQueue, place: u8) -> Option<usize>
     let left = (command.part_count() as usize * 512).saturating_sub(command.bytes().len());
     match command.turn() {
         Turn::Activate => Some(left.min(command.command().block as usize)),
+        Turn::SetUp if command.command().write && command.command().auto_activate => Some(left.min(
+            command.command().block as usize,
+        )),
         _ => None,
     }
 }
@@ -215,6 +219,7 @@ const WRITE: Command = Command {
     lasting: false,
     protocol: Protocol::Queued,
     block: 8192,
+    auto_activate: true,
 };
 
 #[test]

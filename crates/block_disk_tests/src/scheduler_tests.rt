@@ -51,6 +51,7 @@ fn some_command(place: u8, seed: u64) -> Command
         lasting: bits >> 27 & 1 == 1,
         protocol: Protocol::Queued,
         block: 8192,
+        auto_activate: bits >> 28 & 1 == 1,
     }
 }
 
@@ -62,6 +63,9 @@ fn data_len(disk: &Scheduler, place: u8) -> Option<usize>
     let left = (command.part_count() as usize * 512).saturating_sub(command.bytes().len());
     match command.turn() {
         Turn::Activate => Some(left.min(command.command().block as usize)),
+        Turn::SetUp if command.command().write && command.command().auto_activate => Some(left.min(
+            command.command().block as usize,
+        )),
         _ => None,
     }
 }

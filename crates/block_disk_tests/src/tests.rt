@@ -19,6 +19,7 @@ const READ: Command = Command {
     lasting: false,
     protocol: Protocol::Queued,
     block: 8192,
+    auto_activate: false,
 };
 
 /// What is next for the command of a place.
@@ -29,6 +30,8 @@ struct Next {
     len: usize,
     /// The bytes of its load.
     part: usize,
+    /// Whether the host answers by Data.
+    asks_data: bool,
 }
 
 fn next_of(requests: &Requests, place: u8) -> Option<Next>
@@ -42,7 +45,17 @@ fn next_of(requests: &Requests, place: u8) -> Option<Next>
         Turn::Data => command.part().len(),
         _ => left.min(command.command().block as usize),
     };
-    Some(Next { turn, len, part })
+    let asks_data = match turn {
+        Turn::Activate => true,
+        Turn::SetUp => command.command().write && command.command().auto_activate,
+        _ => false,
+    };
+    Some(Next {
+        turn,
+        len,
+        part,
+        asks_data,
+    })
 }
 
 fn zeros(alloc: Global, len: usize) -> Result<Vec<u8>, AllocError> {
@@ -101,14 +114,16 @@ fn go(rt: &impl Abort, alloc: Global, requests: &mut Requests, place: u8) -> usi
             send(rt, requests, place);
             return next.len;
         }
-        Turn::Activate => {
+        Turn::SetUp | Turn::Activate if next.asks_data => {
             send(rt, requests, place);
             let bytes = zeros(alloc, next.len).expect(rt, "memory");
             requests.came(place, &bytes).expect(rt, "memory");
             return next.len;
         }
         Turn::Nothing => panic!(rt; "it waits for nothing"),
-        Turn::SetUp | Turn::Announce | Turn::End | Turn::Fail => send(rt, requests, place),
+        Turn::SetUp | Turn::Activate | Turn::Announce | Turn::End | Turn::Fail => {
+            send(rt, requests, place)
+        }
     }
     0
 }
@@ -142,6 +157,17 @@ fn each_kind_ends(rt: HostRuntime) {
             Command {
                 write: true,
                 lasting: true,
+                ..READ
+            }
+        ) == all
+    );
+    assert!(rt;
+        moved(
+            &rt,
+            alloc,
+            Command {
+                write: true,
+                auto_activate: true,
                 ..READ
             }
         ) == all

@@ -26,9 +26,9 @@ use Rattle.block_engine.specs.declared.aside.AsideStage.TheVariants as stages
 use Rattle.block_engine.specs.declared.request.Answer.{Answer}
 use Rattle.block_engine.specs.declared.request.Answer.TheVariants as answers
 use Rattle.block_engine.specs.Aside.{settled}
-use Rattle.block_engine.specs.Engine.{EngineState, answered, discards, done_at, done_of, dropped_by, failed_by, is_asked, is_discard, line, loaded_at, none_engaged, place_of}
+use Rattle.block_engine.specs.Engine.{runs_at, EngineState, answered, discards, done_at, done_of, dropped_by, failed_by, is_asked, is_discard, line, loaded_at, none_engaged, place_of}
 use Rattle.block_engine.specs.Laws.{Step, Takes, TakesAside, Starts, Asks, AsksAside, Answers, Hears, Sends, SendsEnds, SendsAside, Forgives, Resets}
-use Rattle.block_engine.specs.Laws.{IsStep, after_step, AreSteps, after_steps, IsStill, runs_at, DiscardsAreAlone}
+use Rattle.block_engine.specs.Laws.{IsStep, after_step, AreSteps, after_steps, IsStill, DiscardsAreAlone}
 
 -- ## Commands that do not run
 

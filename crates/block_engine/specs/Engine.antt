@@ -3,12 +3,14 @@ use Rattle.std.specs.Prelude.{ℕ, ◌≡◌, ◌+◌, ◌^◌, ◌<◌, ◌≤�
 use Rattle.std.specs.Prelude.{List, [], Option, Some, None, is_none, replicate, slice_set, if◌then◌else◌}
 use Rattle.block_command.specs.declared.answer.AnswerError.{AnswerError}
 use Rattle.block_command.specs.declared.answer.AnswerError.TheVariants.{NotOut, OtherKind, OtherSector}
+use Rattle.block_command.specs.declared.command.Command.{Command}
 use Rattle.block_command.specs.declared.command.Turn.{Turn}
 use Rattle.block_command.specs.declared.command.Turn.TheVariants as turn
 use Rattle.block_command.specs.Moments.{Moment, is_storing, part_count, part_lba, runs, turn_of}
 use Rattle.block_command.specs.Laws.{Input, Loads, Stores, Flushes, Fails}
+use Rattle.block_disk.specs.Table.{is_under_way}
 use Rattle.block_disk.specs.Requests.{with_asked, with_drawn}
-use Rattle.block_queue.specs.Line.{IsOldest, Line, PassesNowhere, awaits, command_at, first_below, line_answered, line_gone, line_refusal, line_reset, may_send, with_queue}
+use Rattle.block_queue.specs.Line.{IsOldest, Line, PassesNowhere, awaits, command_at, first_below, line_answered, line_gone, line_refusal, line_reset, line_taken, may_send, with_queue}
 use Rattle.block_scheduler.specs.declared.scheduler.NextFis.TheVariants as fis
 use Rattle.block_scheduler.specs.Sets.{asks_at}
 use Rattle.block_scheduler.specs.Schedule.{IsNextFis, IsNextStart, Schedule, is_quiet, none_scheduled, with_line}
@@ -37,7 +39,7 @@ pub record EngineState : Type 0 where
   pub ranges : List Range
   -- the number of the discard that a reset dropped while it was out, and that is not answered
   pub dropped : Option ℕ
-  -- of each place, the failure that the caller answered last; of place 32 also that of the command beside the queue
+  -- of the command of each place what the caller answered, if that is a failure; of place 32 also of the command beside the queue
   pub failures : List (Option Failure)
 
 abbrev pub none_engaged : ℕ → EngineState
@@ -59,10 +61,19 @@ with_schedule e s = record e { schedule = s }
 abbrev pub on_line : EngineState → Line → EngineState
 on_line e l = record e { schedule = with_line e.schedule l }
 
--- ## A command beside the queue
+-- ## Commands are taken: none has failed yet
+
+abbrev pub unfailed : EngineState → ℕ → List (Option Failure)
+unfailed e p = slice_set e.failures p None
+
+abbrev pub taken : EngineState → Command → EngineState
+taken e c = record e {
+  schedule = with_line e.schedule (line_taken (line e) c);
+  failures = if is_under_way (command_at (line e) c.place) then e.failures else unfailed e c.place;
+}
 
 abbrev pub aside_taken : EngineState → AsideKind → List Range → EngineState
-aside_taken e k ranges = record e { kind = k; stage = Waiting; ranges = ranges }
+aside_taken e k ranges = record e { kind = k; stage = Waiting; ranges = ranges; failures = unfailed e 32 }
 
 abbrev pub is_discard : AsideKind → Bool
 is_discard kinds.Discard = true
@@ -79,6 +90,9 @@ discards e = (is_discard e.kind && is_asked e.stage) || not (is_none e.dropped)
 -- it may ask: no command is under way, no dropped store is out, and no dropped discard
 abbrev pub may_ask : EngineState → Bool
 may_ask e = is_waiting e.stage && is_quiet (line e) && is_none e.dropped
+
+abbrev pub with_failures : EngineState → List (Option Failure) → EngineState
+with_failures e failures = record e { failures = failures }
 
 -- ## What starts
 
@@ -137,6 +151,10 @@ is_uncorrectable _ = false
 abbrev pub has_part : Moment → Bool
 has_part m = runs m.stage && (not m.command.write || is_storing m.stage)
 
+abbrev pub runs_at : Option Moment → Bool
+runs_at None = false
+runs_at (Some m) = runs m.stage
+
 abbrev pub is_in_part : Moment → ℕ → Bool
 is_in_part m lba = nat_le (part_lba m) lba && nat_lt lba (part_lba m + part_count m.command m.done)
 
@@ -154,11 +172,16 @@ abbrev pub or_else : Option AnswerError → Option AnswerError → Option Answer
 or_else None other = other
 or_else found other = found
 
-abbrev pub with_failure : EngineState → ℕ → Failure → EngineState
-with_failure e p f = record e { failures = slice_set e.failures p (Some f) }
+-- the failure is that of the command of a place, and not that of what a reset dropped
+abbrev pub failed_own : EngineState → ℕ → Failure → (own : Bool) → List (Option Failure)
+failed_own e p f own = if own then slice_set e.failures p (Some f) else e.failures
 
+-- no command runs in a place of which a dropped store is out
 abbrev pub failed_at : EngineState → (place number : ℕ) → Failure → EngineState
-failed_at e p number f = with_failure (on_line e (line_answered (line e) p number Fails)) p f
+failed_at e p number f = record e {
+  schedule = with_line e.schedule (line_answered (line e) p number Fails);
+  failures = failed_own e p f (runs_at (command_at (line e) p));
+}
 
 abbrev pub is_number : Option ℕ → ℕ → Bool
 is_number None number = false
@@ -175,7 +198,7 @@ abbrev pub beside_answered : EngineState → (number : ℕ) → (well : Bool) �
 beside_answered e number well = if asks_for e.stage number then record e { stage = settled well } else record e { dropped = None }
 
 abbrev pub beside_failed : EngineState → (number : ℕ) → Failure → EngineState
-beside_failed e number f = with_failure (beside_answered e number false) 32 f
+beside_failed e number f = with_failures (beside_answered e number false) (failed_own e 32 f (asks_for e.stage number))
 
 abbrev pub beside_other : EngineState → ℕ → AnswerError
 beside_other e number = if is_beside e number then OtherKind else NotOut
@@ -251,4 +274,5 @@ engine_reset e = record e {
   schedule = record { line = line_reset (line e); limit = e.schedule.limit; fault = None };
   stage = Idle;
   dropped = dropped_by e.kind e.stage e.dropped;
+  failures = replicate 33 None;
 }

@@ -2,12 +2,12 @@
 -- engine shows.
 use Rattle.std.specs.Prelude.{ℕ, ◌≡◌, ◌<◌, ◌≤◌, ◌⊎◌, nat_lt, true, false, List, [], ◌∷◌, ◌++◌, map, Option, Some, None, Bool}
 use Rattle.block_command.specs.declared.command.Command.{Command}
-use Rattle.block_command.specs.Moments.{IsCommand, Moment, is_queued, runs}
+use Rattle.block_command.specs.Moments.{IsCommand, Moment, is_queued}
 use Rattle.block_command.specs.Laws as command
 use Rattle.block_command.specs.Laws.{Comes}
 use Rattle.block_disk.specs.Table.{is_under_way, with_input}
 use Rattle.block_disk.specs.Requests.{AreSeenRightly, Rises, Seen, asks, no_books, none_queued, numbers_given, seen_by, with_table}
-use Rattle.block_queue.specs.Line.{Line, command_at, line_taken, may_send, may_start, with_queue, orphan}
+use Rattle.block_queue.specs.Line.{Line, command_at, may_send, may_start, with_queue, orphan}
 use Rattle.block_queue.specs.Deeds.{AllAreApart, AreNamed, Goes, act_of}
 use Rattle.block_scheduler.specs.Schedule.{ends_sent, line_sent}
 use Rattle.block_scheduler.specs.Laws as moves
@@ -17,7 +17,7 @@ use Rattle.block_engine.specs.declared.aside.AsideStage.TheVariants.{Idle}
 use Rattle.block_engine.specs.declared.request.Answer.{Answer}
 use Rattle.block_engine.specs.declared.request.Answer.TheVariants as answers
 use Rattle.block_engine.specs.declared.request.Range.{Range}
-use Rattle.block_engine.specs.Engine.{EngineState, IsEngineStart, answer_refusal, answered, aside_asked, aside_due, aside_sent, aside_taken, discards, done_of, engine_reset, line, may_ask, none_engaged, on_line, place_asked, place_of, started, with_schedule}
+use Rattle.block_engine.specs.Engine.{EngineState, IsEngineStart, answer_refusal, answered, aside_asked, aside_due, aside_sent, aside_taken, discards, done_of, engine_reset, line, may_ask, none_engaged, on_line, place_asked, place_of, runs_at, started, taken, with_schedule}
 
 -- the calls of an engine that change it; a refused answer changes nothing and is none of them
 pub data Step : Type 0 where
@@ -51,7 +51,7 @@ IsStep e Resets = Unit {0}
 
 -- what the calls leave
 abbrev pub after_step : EngineState → Step → EngineState
-after_step e (Takes c) = on_line e (line_taken (line e) c)
+after_step e (Takes c) = taken e c
 after_step e (TakesAside k ranges) = aside_taken e k ranges
 after_step e (Starts p) = started e (Some p)
 after_step e (Asks p) = place_asked e p
@@ -141,10 +141,6 @@ SomethingMoves = (limit : ℕ) (steps : List Step) (p : ℕ) → AreSteps (none_
     → (discards (after_steps (none_engaged limit) steps) ≡ true) ⊎ Goes (line (after_steps (none_engaged limit) steps))
 
 -- ## Discards are alone
-
-abbrev pub runs_at : Option Moment → Bool
-runs_at None = false
-runs_at (Some m) = runs m.stage
 
 -- nothing of the queue runs, and no dropped store is out
 pub record IsStill (l : Line) : Type 0 where

@@ -6,11 +6,11 @@ ghost use Rattle.block_command.specs.Moments.{IsCommand, Moment};
 ghost use Rattle.block_command.specs.Laws.{Comes, Fails, Flushes, Loads, Stores};
 ghost use Rattle.block_disk.specs.Table.{is_under_way, with_input};
 ghost use Rattle.block_disk.specs.Requests.{asks, with_table};
-ghost use Rattle.block_queue.specs.Line.{PassesNowhere, awaits, command_at, first_below, line_answered, line_refusal, line_taken, may_send, with_queue};
+ghost use Rattle.block_queue.specs.Line.{PassesNowhere, awaits, command_at, first_below, line_answered, line_refusal, may_send, with_queue};
 ghost use Rattle.block_scheduler.specs.Sets.{asks_at};
 ghost use Rattle.block_scheduler.specs.Schedule.{Schedule, ends_sent, held, is_quiet, line_sent, with_line};
 ghost use Rattle.block_engine.specs.Aside.{settled};
-ghost use Rattle.block_engine.specs.Engine.{AsksNothing, EngineState, IsEngineFis, IsEngineStart, IsRequested, MayGo, answer_refusal, answered, aside_asked, aside_due, aside_sent, aside_taken, aside_what, beside_answered, beside_failed, beside_other, beside_refusal, discards, done_at, done_of, done_refusal, dropped_by, engine_reset, fail_refusal, failed_at, failed_by, failure_misfit, has_part, is_asked, is_beside, is_discard, is_in_part, is_number, line, load_refusal, loaded_at, may_ask, none_engaged, on_line, or_else, place_asked, started, what_at, what_of, with_schedule};
+ghost use Rattle.block_engine.specs.Engine.{AsksNothing, EngineState, IsEngineFis, IsEngineStart, IsRequested, MayGo, answer_refusal, answered, aside_asked, aside_due, aside_sent, aside_taken, aside_what, beside_answered, beside_failed, beside_other, beside_refusal, discards, done_at, done_of, done_refusal, dropped_by, engine_reset, fail_refusal, failed_at, failed_by, failure_misfit, has_part, is_asked, is_beside, is_discard, is_in_part, is_number, line, load_refusal, loaded_at, may_ask, none_engaged, on_line, or_else, place_asked, runs_at, started, taken, what_at, what_of, with_schedule};
 ghost use Rattle.block_engine.specs.declared.aside.AsideKind.TheVariants.{Flush, Discard};
 ghost use Rattle.block_engine.specs.declared.aside.AsideStage.TheVariants.{Idle};
 
@@ -195,7 +195,8 @@ impl Engine {
         self.scheduler.forgive();
     }
 
-    /// What the caller answered last of a command that failed; of place 32 also of one beside the queue.
+    /// What the caller answered of the command of a place, if it failed; of place 32 also of the one beside the queue. A command
+    /// that ended keeps it until another is taken.
     pub fn failure(&self, place: u8) -> Option<Failure>
         requires { place < 33 }
         ensures { result ≡ slice_index_or self.now.failures place None }
@@ -229,8 +230,11 @@ impl Engine {
         requires fault { self.old.schedule.fault ≡ None }
         requires place { command.place < 33 }
         requires is { IsCommand command }
-        ensures { self.new ≡ on_line self.old (line_taken (line self.old) command) }
+        ensures { self.new ≡ taken self.old command }
     {
+        if !self.scheduler.is_taken(command.place) {
+            self.failures[command.place as usize] = None;
+        }
         self.scheduler.take(alloc, command);
     }
 
@@ -241,6 +245,7 @@ impl Engine {
     {
         self.kind = AsideKind::Flush;
         self.stage = AsideStage::Waiting;
+        self.failures[32] = None;
     }
 
     /// A command beside the queue is taken that asks to discard these sectors: DATA SET MANAGEMENT.
@@ -250,6 +255,7 @@ impl Engine {
     {
         self.kind = AsideKind::Discard;
         self.stage = AsideStage::Waiting;
+        self.failures[32] = None;
         self.ranges = ranges;
     }
 
@@ -438,6 +444,17 @@ impl Engine {
         }
     }
 
+    /// Whether the command of a place runs.
+    fn runs(&self, place: u8) -> bool
+        requires { place < 33 }
+        ensures { result ≡ runs_at (command_at (line self.now) place) }
+    {
+        match self.scheduler.get(place) {
+            None => false,
+            Some(command) => command.is_running(),
+        }
+    }
+
     /// The request of a place could not be done.
     fn failed_at(&mut self, place: u8, number: u64, failure: Failure) -> Result<(), AnswerError>
         requires { place < 33 }
@@ -448,8 +465,11 @@ impl Engine {
         if let Some(error) = self.misfit(place, failure) {
             return Err(error);
         }
+        let own = self.runs(place);
         self.scheduler.failed(place, number)?;
-        self.failures[place as usize] = Some(failure);
+        if own {
+            self.failures[place as usize] = Some(failure);
+        }
         Ok(())
     }
 
@@ -459,8 +479,11 @@ impl Engine {
         ensures ok { OnOk result (self.new ≡ beside_failed self.old number failure) }
         ensures err { OnErr result (self.new ≡ self.old) }
     {
+        let own = asks_for(self.stage, number);
         self.settle(number, false)?;
-        self.failures[32] = Some(failure);
+        if own {
+            self.failures[32] = Some(failure);
+        }
         Ok(())
     }
 
@@ -551,6 +574,7 @@ impl Engine {
     {
         self.dropped = dropped_by(self.kind, self.stage, self.dropped);
         self.stage = AsideStage::Idle;
+        self.failures = [None; 33];
         self.scheduler.reset();
     }
 }

@@ -163,6 +163,7 @@ waited_before c done bytes sent Receiving (Comes part) e = absurd_start _ _
     (came_started (moment c done bytes sent Receiving) (bytes ++ part) (nat_lt (chunk c (part_len c done - length bytes)) (length part))
     (nat_lt (length (bytes ++ part)) (part_len c done))) e
 waited_before c done bytes sent Storing Stores e = absurd_start _ _ (started_if _ Activate _ refl (started_if c.lasting Flush End refl refl)) e
+waited_before c done bytes sent SetUpWrite Goes e = absurd_start _ _ (started_if c.auto_activate Receiving Activate refl refl) e
 waited_before c done bytes sent stage Goes e = absurd (cc)
 waited_before c done bytes sent stage i e = absurd (cc)
 

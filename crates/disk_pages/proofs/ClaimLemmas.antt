@@ -2,7 +2,7 @@ use Rattle.std.proofs.Common.{ℕ, ◌+◌, Bool, true, false, IsTrue, refl, Opt
 use Rattle.disk_pages.specs.Claims.{AreWhole, is_covered}
 use Rattle.disk_pages.specs.Identity.{bits_if, feature_word, identity_word, name_bit, place_word}
 use Rattle.disk_pages.specs.declared.profile.Profile.{Profile}
-use Rattle.disk_pages.specs.declared.settings.Settings.{Settings}
+use Rattle.ata_command.specs.declared.settings.Settings.{Settings}
 
 named : (wwn : Option ℕ) → IsTrue (is_covered 84 (0x4060 + name_bit wwn))
 named None = refl

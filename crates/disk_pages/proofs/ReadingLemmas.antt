@@ -14,7 +14,8 @@ use Rattle.disk_pages.specs.Identity.{bits_if, enabled, feature_word, identity, 
 use Rattle.disk_pages.specs.Identity.{is_from, name_word, place_word, transfer_word, wwn_number}
 use Rattle.disk_pages.specs.Readings.{IsIdentityOf, IsTextAt, double_at, name_at, quad_at, word_at}
 use Rattle.disk_pages.specs.declared.profile.Profile.{Profile}
-use Rattle.disk_pages.specs.declared.settings.Settings.{Settings}
+use Rattle.ata_command.specs.declared.settings.Settings.{Settings}
+use Rattle.ata_command.specs.Modes.{sectors_in}
 
 long_bytes : (words : ℕ → ℕ) (n : ℕ) → length (bytes_of words n) ≡ n
 unfolding bytes_of
@@ -153,11 +154,11 @@ trim_read p s =
 multiple_byte : (m : ℕ) → m ≤ 16 → multiple_word m % 0x100 ≡ m
 multiple_byte m most = grind (arith, most)
 
-multiple_read : (p : Profile) (s : Settings) → s.multiple ≤ 16 → word_at (identity p s) 59 % 0x100 ≡ s.multiple
+multiple_read : (p : Profile) (s : Settings) → sectors_in s.multiple ≤ 16 → word_at (identity p s) 59 % 0x100 ≡ sectors_in s.multiple
 unfolding identity_word transfer_word
 multiple_read p s most =
-    let word : word_at (identity p s) 59 ≡ multiple_word s.multiple = read_word p s 59 (lit< tt) in
-    ap (λ w. w % 0x100) word ∙ multiple_byte s.multiple most
+    let word : word_at (identity p s) 59 ≡ multiple_word (sectors_in s.multiple) = read_word p s 59 (lit< tt) in
+    ap (λ w. w % 0x100) word ∙ multiple_byte (sectors_in s.multiple) most
 
 -- texts
 both : (a b : Bool) → (a && b) ≡ true → b ≡ true
@@ -275,7 +276,7 @@ pub record AreBounded (p : Profile) (s : Settings) : Type 0 where
   pub sectors : p.capacity < 0x1000000000000
   pub name : wwn_number p.wwn < 0x10000000000000000
   pub depth : 1 ≤ p.depth
-  pub multiple : s.multiple ≤ 16
+  pub multiple : sectors_in s.multiple ≤ 16
 
 pub identity_reads : (p : Profile) (s : Settings) → AreBounded p s → IsIdentityOf p s (identity p s)
 identity_reads p s b = record {

@@ -4,7 +4,7 @@ use Rattle.std.specs.Prelude.{ℕ, ◌/◌, ◌%◌, ◌^◌, ◌==◌, ◌&&◌
 use Rattle.std.specs.List.{list_all, list_any, range_with_len}
 use Rattle.disk_pages.specs.Identity.{identity_word}
 use Rattle.disk_pages.specs.declared.profile.Profile.{Profile}
-use Rattle.disk_pages.specs.declared.settings.Settings.{Settings}
+use Rattle.ata_command.specs.declared.settings.Settings.{Settings}
 
 -- a bit of a word that stands for a feature, and the commands that it promises
 pub record Claim : Type 0 where

@@ -2,6 +2,7 @@
 -- without one is 0.
 use Rattle.std.specs.Prelude.{ℕ, ◌+◌, ◌-◌, ◌/◌, ◌%◌, ◌==◌, ◌&&◌, nat_le, nat_lt, min, Bool, if◌then◌else◌}
 use Rattle.std.specs.Prelude.{List, [], ◌∷◌, ◌++◌, Option, Some, None}
+use Rattle.ata_command.specs.Modes.{sectors_in}
 use Rattle.disk_pages.specs.Texts.{pair}
 use Rattle.disk_pages.specs.Modes.{multiword_bits, ultra_bits}
 use Rattle.disk_pages.specs.Bytes.{bytes_of, closed}
@@ -10,7 +11,7 @@ use Rattle.disk_pages.specs.declared.profile.PhysicalSector.{PhysicalSector}
 use Rattle.disk_pages.specs.declared.profile.PhysicalSector.TheVariants.{Bytes512, Bytes4096}
 use Rattle.disk_pages.specs.declared.profile.Rotation.{Rotation}
 use Rattle.disk_pages.specs.declared.profile.Rotation.TheVariants.{Unknown, Solid, Rotates}
-use Rattle.disk_pages.specs.declared.settings.Settings.{Settings}
+use Rattle.ata_command.specs.declared.settings.Settings.{Settings}
 
 -- this bit pattern where it is so, and no bit where not
 abbrev pub bits_if : Bool → ℕ → ℕ
@@ -45,7 +46,7 @@ transfer_word p s n =
     else (if n == 49 then 0x0F00
     else (if n == 50 then 0x4000
     else (if n == 53 then 0x0006
-    else (if n == 59 then multiple_word s.multiple
+    else (if n == 59 then multiple_word (sectors_in s.multiple)
     else (if n == 60 then low_sectors p.capacity % 0x10000
     else (if n == 61 then low_sectors p.capacity / 0x10000
     else (if n == 63 then 0x0007 + multiword_bits s.mode

@@ -4,7 +4,7 @@ use Rattle.std.specs.Prelude.{take, Option, Some, None}
 use Rattle.disk_pages.specs.Bytes.{at, closed, page_with}
 use Rattle.disk_pages.specs.Identity.{identity}
 use Rattle.disk_pages.specs.declared.profile.Profile.{Profile}
-use Rattle.disk_pages.specs.declared.settings.Settings.{Settings}
+use Rattle.ata_command.specs.declared.settings.Settings.{Settings}
 use Rattle.disk_pages.specs.declared.ncq_error.NcqError.{NcqError}
 use Rattle.disk_pages.specs.declared.log.LogPage.{LogPage}
 use Rattle.disk_pages.specs.declared.log.LogPage.TheVariants as log

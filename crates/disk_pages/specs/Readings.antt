@@ -1,10 +1,11 @@
 -- What a driver reads in the IDENTIFY DEVICE data, in the words of ACS-3, 7.12.7: each field is what the disk is and what is
 -- set.
 use Rattle.std.specs.Prelude.{◌≡◌, ℕ, ◌+◌, ◌*◌, ◌/◌, ◌%◌, ◌<◌, min, List, slice_index, sum}
+use Rattle.ata_command.specs.Modes.{sectors_in}
 use Rattle.disk_pages.specs.Claims.{bit_of}
 use Rattle.disk_pages.specs.Identity.{wwn_number}
 use Rattle.disk_pages.specs.declared.profile.Profile.{Profile}
-use Rattle.disk_pages.specs.declared.settings.Settings.{Settings}
+use Rattle.ata_command.specs.declared.settings.Settings.{Settings}
 
 -- a word: its low byte stands first
 abbrev pub word_at : List ℕ → ℕ → ℕ
@@ -46,7 +47,7 @@ pub record IsIdentityOf (p : Profile) (s : Settings) (page : List ℕ) : Type 0 
   pub cache : bit_of 5 (word_at page 85) ≡ s.write_cache
   pub look_ahead : bit_of 6 (word_at page 85) ≡ s.look_ahead
   pub auto_activate : bit_of 2 (word_at page 79) ≡ s.auto_activate
-  pub multiple : word_at page 59 % 0x100 ≡ s.multiple
+  pub multiple : word_at page 59 % 0x100 ≡ sectors_in s.multiple
   pub trim : bit_of 0 (word_at page 169) ≡ p.trim
   pub mark : slice_index page 510 ≡ 0xA5
   pub checksum : sum page % 256 ≡ 0

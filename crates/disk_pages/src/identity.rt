@@ -1,13 +1,15 @@
 //! IDENTIFY DEVICE data (ACS-3, 7.12.7), made anew for each command that asks for them.
 
 ghost use Rattle.std.specs.Prelude.{◌≡◌, ◌≤◌, ◌<◌, length};
+ghost use Rattle.ata_command.specs.Modes.{sectors_in};
 ghost use Rattle.disk_pages.specs.Bytes.{byte_of};
 ghost use Rattle.disk_pages.specs.Identity.{alignment_word, bits_if, enabled, feature_word, identity, identity_word, low_sectors, multiple_word};
+ghost use Rattle.disk_pages.specs.Modes.{multiword_bits, ultra_bits};
 ghost use Rattle.disk_pages.specs.Identity.{name_bit, name_word, physical_word, place_word, rotation_word, transfer_word, wwn_number};
 
 use crate::bytes::close;
 use crate::profile::{PhysicalSector, Profile, Rotation};
-use crate::settings::{MultipleCount, Settings};
+use ata_command::{Multiple, Settings, TransferMode};
 
 fn bits_if(b: bool, bits: u16) -> u16
     ensures { result ≡ bits_if b bits }
@@ -29,12 +31,40 @@ fn name_word(profile: &Profile, n: usize) -> u16
     }
 }
 
-fn multiple_word(multiple: MultipleCount) -> u16
-    ensures { result ≡ multiple_word multiple }
+fn multiple_word(multiple: Multiple) -> u16
+    ensures { result ≡ multiple_word (sectors_in multiple) }
 {
     match multiple.sectors() {
         0 => 0,
         count => 0x0100 + count as u16,
+    }
+}
+
+/// Bits 10:8 of word 63: a bit for the selected mode of multiword DMA.
+fn multiword_bits(mode: TransferMode) -> u16
+    ensures { result ≡ multiword_bits mode }
+{
+    match mode {
+        TransferMode::Multiword0 => 0x0100,
+        TransferMode::Multiword1 => 0x0200,
+        TransferMode::Multiword2 => 0x0400,
+        _ => 0,
+    }
+}
+
+/// Bits 14:8 of word 88: a bit for the selected mode of Ultra DMA.
+fn ultra_bits(mode: TransferMode) -> u16
+    ensures { result ≡ ultra_bits mode }
+{
+    match mode {
+        TransferMode::Ultra0 => 0x0100,
+        TransferMode::Ultra1 => 0x0200,
+        TransferMode::Ultra2 => 0x0400,
+        TransferMode::Ultra3 => 0x0800,
+        TransferMode::Ultra4 => 0x1000,
+        TransferMode::Ultra5 => 0x2000,
+        TransferMode::Ultra6 => 0x4000,
+        _ => 0,
     }
 }
 
@@ -60,7 +90,7 @@ fn transfer_word(profile: &Profile, settings: &Settings, n: usize) -> u16
         59 => multiple_word(settings.multiple),
         60 => (low_sectors(profile) % 0x1_0000) as u16,
         61 => (low_sectors(profile) / 0x1_0000) as u16,
-        63 => 0x0007 + settings.mode.multiword_bits(),
+        63 => 0x0007 + multiword_bits(settings.mode),
         64 => 0x0003,
         65..=68 => 120,
         _ => 0,
@@ -103,7 +133,7 @@ fn feature_word(profile: &Profile, settings: &Settings, n: usize) -> u16
         85 => enabled(settings),
         86 => 0x3400,
         87 => 0x4060 + name_bit(profile.wwn),
-        88 => 0x007F + settings.mode.ultra_bits(),
+        88 => 0x007F + ultra_bits(settings.mode),
         _ => 0,
     }
 }

@@ -8,7 +8,6 @@ mod log;
 mod ncq_error;
 mod profile;
 mod readings;
-mod settings;
 mod smart;
 mod text;
 
@@ -18,6 +17,5 @@ pub use log::{LogPage, reads_log};
 pub use ncq_error::NcqError;
 pub use profile::{Capacity, NumberFault, PhysicalSector, Profile, QueueDepth, Rotation, Rpm};
 pub use readings::identity_is_read;
-pub use settings::{MultipleCount, Settings, TransferMode};
 pub use smart::{Health, SmartAnswer, smart_answer, smart_page};
 pub use text::{FirmwareRevision, IdentityText, ModelNumber, SerialNumber, TextFault};

@@ -10,7 +10,7 @@ use crate::bytes::{clear, close};
 use crate::identity::identify;
 use crate::ncq_error::NcqError;
 use crate::profile::Profile;
-use crate::settings::Settings;
+use ata_command::Settings;
 
 /// Log 00h: word n is how many pages log n has, word 0 the version.
 #[tactic(auto, unfolding(crate::specs::Logs::directory))]

@@ -5,7 +5,7 @@ ghost use Rattle.disk_pages.specs.Readings.{IsIdentityOf};
 
 use crate::identity::name_number;
 use crate::profile::Profile;
-use crate::settings::Settings;
+use ata_command::Settings;
 
 /// In the page that [`identify`](crate::identify) writes a driver finds the disk's names, its sectors, what it does and what
 /// is set, and a checksum that is right.

@@ -9,5 +9,5 @@ returns c = identity_reads _ _ (record {
   sectors = c.sectors.ensures.bound;
   name = rw (← c.name_number.ensures.value) c.name_number.ensures.bound;
   depth = c.commands.ensures.some;
-  multiple = c.sectors-2.ensures.bound;
+  multiple = rw (← c.sectors-2.ensures.value) c.sectors-2.ensures.most;
 })
