@@ -41,7 +41,7 @@ fn write_log(profile: &Profile, front: Front, page: LogPage, bytes: &mut [u8])
 }
 
 /// Writes a page of 512 bytes. A log that is not there has only zeros.
-#[tactic(auto, unfolding(Rattle::disk_pages::specs::Bytes::blank))]
+#[tactic(auto)]
 pub(crate) fn write_page(profile: &Profile, front: Front, page: Page, bytes: &mut [u8])
     requires { length bytes.old ≡ 512 }
     ensures { IsPage profile.now front page bytes.new }

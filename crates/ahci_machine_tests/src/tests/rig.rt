@@ -64,7 +64,7 @@ fn profile() -> Result<Profile, Fail> {
 
 /// A byte of a medium: each sector has its own.
 fn pattern(at: usize) -> u8 {
-    (at / 512 * 7 + at % 512) as u8
+    ((at / 512 * 7 + at % 512) & 0xFF) as u8
 }
 
 impl Rig {
