@@ -9,7 +9,7 @@ use Rattle.block_engine.specs.declared.request.Request.{Request}
 use Rattle.fan_out.specs.FanOuts.{GivesDownThere, Offers, wants_at}
 use Rattle.fan_out.specs.declared.fan_out.FanOut.{FanOut}
 use Rattle.sata_disk.specs.Hearing.{fis_heard, fis_unheard, plugged}
-use Rattle.sata_disk.specs.Sending.{IsOut, after_sent}
+use Rattle.sata_disk.specs.Sending.{IsFis, IsOut, after_sent}
 use Rattle.sata_disk.specs.State.{DiskState}
 use Rattle.sata_disk.specs.declared.out.Out.{Out}
 use Rattle.sata_disk.specs.declared.unheard.Unheard.{Unheard}
@@ -70,7 +70,7 @@ pub record Speaks (port : ℕ) (out : Out) (fan : FanOut) (old : Bay) (after : F
   pub there : old.unit ≡ Disk disk
   pub room : wants_at fan port ≡ true
   pub next : IsOut disk (Some out)
-  pub bytes : frame.bytes ≡ frame_bytes disk out
+  pub bytes : IsFis disk out frame.bytes
   pub offers : Offers fan port frame (Ok Held) after
   pub rest : new ≡ with_unit old (Disk (after_sent disk out))
 

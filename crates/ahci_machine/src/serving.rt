@@ -1,12 +1,17 @@
 //! The ports have their turns.
 
+ghost use Rattle.std.specs.Prelude.{◌≡◌, IfOk, OnErr};
+ghost use Rattle.ahci_machine.specs.Acts.{MayDo, MayStep};
+
 use crate::act::Act;
 use crate::machine::Machine;
 use std::alloc::{AllocError, Global};
 
 impl Machine {
     /// A device that is to begin anew does.
-    pub(crate) fn begin_next(&mut self, alloc: Global) -> Option<Act> {
+    pub(crate) fn begin_next(&mut self, alloc: Global) -> Option<Act>
+        ensures { MayDo self.old result self.new }
+    {
         let port = self.fan.next_begun()?;
         if let Some(bay) = self.bays.get_mut(usize::from(port)) {
             bay.drops_all(alloc);
@@ -15,7 +20,10 @@ impl Machine {
     }
 
     // What is next at a port.
-    fn serve(&mut self, alloc: Global, port: u8) -> Result<Option<Act>, AllocError> {
+    fn serve(&mut self, alloc: Global, port: u8) -> Result<Option<Act>, AllocError>
+        ensures ok { IfOk result (λ act. MayDo self.old act self.new) }
+        ensures err { OnErr result (self.new ≡ self.old) }
+    {
         let Some(bay) = self.bays.get_mut(usize::from(port)) else {
             return Ok(None);
         };
@@ -35,7 +43,10 @@ impl Machine {
     }
 
     /// What is next at the ports, each in its turn.
-    pub(crate) fn serve_next(&mut self, alloc: Global) -> Result<Option<Act>, AllocError> {
+    pub(crate) fn serve_next(&mut self, alloc: Global) -> Result<Option<Act>, AllocError>
+        ensures ok { IfOk result (λ act. MayStep self.old act self.new) }
+        ensures err { OnErr result (self.new ≡ self.old) }
+    {
         let ports = self.fan.ports();
         let mut port = self.turn;
         for _ in 0..ports {
