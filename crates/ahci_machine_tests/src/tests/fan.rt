@@ -41,7 +41,7 @@ fn each_port_is_served(rt: HostRuntime) -> Result<(), Fail> {
     let mut rig = Rig::new(rt.alloc(), 3)?;
     assert!(rt; starts(&mut rig)?);
     rig.writes(0x118, 0x10)?;
-    rig.writes(0x140, 1)?;
+    rig.writes(0x140, 0xF01)?;
     rig.writes(0x118, 0x2_0018)?;
     rig.writes(0x118, 0x2_0011)?;
     for port in 0..3 {
