@@ -201,7 +201,7 @@ pub record TakesNext (took : Took) (old new : MachineState) : Type 0 where
 pub record LosesNext (why : Hindrance) (old new : MachineState) : Type 0 where
   pub there : is_some old.incoming ≡ true
   pub once : old.taken ≡ false
-  pub why : hindrance old.controller ≡ Some why
+  pub is : hindrance old.controller ≡ Some why
   pub rest : new ≡ record old { incoming = None }
 
 -- ---- the ports

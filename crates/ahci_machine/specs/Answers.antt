@@ -1,6 +1,6 @@
 -- What the caller answers: bytes of its guest (AHCI 1.3.1, 5.3, what a port fetches), and what its media did.
 use Rattle.std.specs.Bool.{MatchBool}
-use Rattle.std.specs.Prelude.{◌≡◌, ◌≢◌, ◌||◌, ◌==◌, ℕ, Bool, true, false, if◌then◌else◌, List, [], length, slice_set, Option, Some, None, MatchOption, Result, Ok, Err, MatchResult, IsOk, OnOk, OnErr}
+use Rattle.std.specs.Prelude.{◌≡◌, ◌≢◌, ◌||◌, ◌&&◌, ◌==◌, ℕ, nat_lt, Bool, true, false, if◌then◌else◌, List, [], length, slice_set, Option, Some, None, MatchOption, Result, Ok, Err, MatchResult, IsOk, OnOk, OnErr}
 use Rattle.std.specs.Result.{IsErrOf}
 use Rattle.std.specs.declared.alloc.AllocError.{AllocError}
 use Rattle.fis_view.specs.Frames.{Stamped}
@@ -67,7 +67,7 @@ SuppliesMachine (Data dev number done) bytes old result new =
 
 -- whether bytes of it were asked for, and have not come
 abbrev pub is_wanted : MachineState → (dev number done : ℕ) → Bool
-is_wanted m dev number done = match_some (gathering_at m dev) false (λ g. is_asked g number done)
+is_wanted m dev number done = nat_lt dev 16 && match_some (gathering_at m dev) false (λ g. is_asked g number done)
 
 pub record MissesFor (g : GatheringState) (dev : ℕ) (old new : MachineState) : Type 0 where
   pub act : Act
@@ -104,7 +104,7 @@ ranges_in (Some d) = d.engine.ranges
 -- it takes the answer by its own rule
 pub record AnswersDisk (id : MediumId) (answer : Answer) (d : DiskState) (old : MachineState) (result : Result (Unit {0}) MediumError)
     (new : MachineState) : Type 0 where
-  pub is : MatchOption (answer_refusal d.engine id.number answer) IsOk result (λ error. IsErrOf result (medium.Answer error))
+  pub is : MatchOption (answer_refusal d.engine id.number answer) (IsOk result) (λ error. IsErrOf result (medium.Answer error))
   pub ok : OnOk result (new ≡ record old {
     bays = slice_set old.bays id.port (with_unit (bay_at old id.port)
         (Disk (record d { engine = answered d.engine id.number answer })));

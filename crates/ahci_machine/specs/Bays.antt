@@ -3,7 +3,7 @@
 use Rattle.std.specs.Prelude.{◌≡◌, ◌↔◌, ℕ, Bool, true, false, Option, Some, None, Result, Ok, Err, MatchOption}
 use Rattle.fis_view.specs.Frames.{Stamped}
 use Rattle.fis_view.specs.Seen.{seen}
-use Rattle.pm_ports.specs.declared.port.Offered.{Offered}
+use Rattle.pm_ports.specs.declared.port.Offered.TheVariants.{Held}
 use Rattle.block_engine.specs.Engine.{IsEngineStart, IsRequested, started}
 use Rattle.block_engine.specs.declared.request.Request.{Request}
 use Rattle.fan_out.specs.FanOuts.{GivesDownThere, Offers, wants_at}

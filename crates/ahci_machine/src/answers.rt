@@ -1,6 +1,6 @@
 //! What the caller answers.
 
-ghost use Rattle.std.specs.Prelude.{◌≡◌, ◌<◌, ◌||◌, IfSome, MatchOption, option_copied};
+ghost use Rattle.std.specs.Prelude.{◌≡◌, ◌<◌, ◌||◌, IfSome, IsTrue, MatchOption, option_copied};
 ghost use Rattle.ahci_machine.specs.Answers.{AnswersMachine, Holds, MissesFor, MissesMachine, OffersFrame, SuppliesMachine, TakesFrame, disk_at, is_wanted as is_wanted_of, ranges_in, supply_message, IsToldBy};
 ghost use Rattle.ahci_machine.specs.States.{gathering_at};
 
@@ -63,11 +63,15 @@ impl Machine {
 
     // Whether bytes of a Data FIS were asked for, and have not come.
     fn is_wanted(&self, dev: u8, number: u64, done: usize) -> bool
-        ensures { result ≡ is_wanted_of self.now dev number done }
+        ensures value { result ≡ is_wanted_of self.now dev number done }
+        ensures low { IsTrue result → dev < 16 }
     {
-        match self.gathering.get(usize::from(dev)) {
-            Some(Some(gathering)) => gathering.is_asked(number, done),
-            _ => false,
+        if dev >= 16 {
+            return false;
+        }
+        match &self.gathering[usize::from(dev)] {
+            Some(gathering) => gathering.is_asked(number, done),
+            None => false,
         }
     }
 
@@ -91,7 +95,7 @@ impl Machine {
                 self.supplied(supply)
             }
             Wanted::Data { dev, number, done } => {
-                if dev < 16 && self.is_wanted(dev, number, done) {
+                if self.is_wanted(dev, number, done) {
                     self.miss(dev);
                 }
                 Ok(())

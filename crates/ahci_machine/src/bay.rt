@@ -71,6 +71,7 @@ impl Bay {
     }
 
     /// The next FIS of the host is there.
+    #[tactic(auto, using(crate::proofs::FanLemmas::none_down))]
     pub(crate) fn fall(&mut self, fan: &mut FanOut, port: u8) -> Option<Act>
         ensures { BayMayDo port fan.old self.old result fan.new self.new }
     {

@@ -142,6 +142,7 @@ impl Machine {
     }
 
     /// The frame on its way goes to the devices, where there is room.
+    #[tactic(auto, using(crate::proofs::FanLemmas::sends_back))]
     pub(crate) fn send_next(&mut self, alloc: Global) -> Result<Option<Act>, AllocError>
         ensures ok { IfOk result (λ act. MayDo self.old act self.new) }
         ensures err { OnErr result (self.new ≡ self.old) }
@@ -167,10 +168,15 @@ impl Machine {
     {
         let dev = gathering.feed.dev;
         let fed = self.controller.gathered(dev, gathering.feed.number);
-        if let Fed::Goes { message, .. } = fed {
-            self.message = self.message || message;
-            self.writing = true;
-            self.outgoing = gathering.into_frame();
+        match fed {
+            Fed::Goes { message, .. } => {
+                self.message = self.message || message;
+                self.writing = true;
+                self.outgoing = gathering.into_frame();
+            }
+            Fed::Stale => {}
+            Fed::Ended => {}
+            Fed::Missed { .. } => {}
         }
         Act::Gathers { dev, fed }
     }
@@ -232,6 +238,7 @@ impl Machine {
     }
 
     /// The next frame of the devices is on its way to the controller, where none is.
+    #[tactic(auto, using(crate::proofs::FanLemmas::none_up, crate::proofs::FanLemmas::refused_up))]
     pub(crate) fn rise_next(&mut self, alloc: Global) -> Result<Option<Act>, AllocError>
         ensures ok { IfOk result (λ act. MayDo self.old act self.new) }
         ensures err { OnErr result (self.new ≡ self.old) }

@@ -133,7 +133,9 @@ impl Gathering {
     pub(crate) fn supply(&mut self, number: u64, done: usize, bytes: &[u8])
         ensures { Supplies self.old number done bytes.now self.new }
     {
-        let from = 4 + self.done;
+        let Some(from) = self.done.checked_add(4) else {
+            return;
+        };
         if number != self.feed.number || done != self.done || self.asked != Some(bytes.len()) {
             return;
         }

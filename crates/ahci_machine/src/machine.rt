@@ -113,8 +113,9 @@ impl Machine {
         self.controller.read(offset, width)
     }
 
-    // The link was reset: nothing is on its way any more, and each device begins anew.
-    fn renew(&mut self)
+    /// What is behind the controller begins anew, as at power-up, and as a write does that resets the link: nothing is on its way
+    /// any more, and each device that is plugged in begins. With `legacy` the one at port 0 is reached at once.
+    pub fn power_on(&mut self)
         ensures { self.new ≡ renewed self.old }
     {
         self.incoming = None;
@@ -135,7 +136,7 @@ impl Machine {
         let written = self.controller.write(offset, width, value);
         self.message = self.message || written.low.message || written.high.message;
         if written.low.effect != Effect::Nothing || written.high.effect != Effect::Nothing {
-            self.renew();
+            self.power_on();
         }
         written
     }

@@ -70,12 +70,12 @@ impl Machine {
     pub fn pull(&mut self, alloc: Global, port: u8) -> Result<(), PortFault>
         ensures { PullsMachine port self.old result self.new }
     {
-        let Some(bay) = self.bays.get_mut(usize::from(port)) else {
+        if usize::from(port) >= self.bays.len() {
             return Err(PortFault::NoPort);
-        };
+        }
         match self.fan.pull(port) {
             Ok(()) => {
-                bay.drops_all(alloc);
+                self.bays[usize::from(port)].drops_all(alloc);
                 Ok(())
             }
             Err(_) => Err(PortFault::NotThere),

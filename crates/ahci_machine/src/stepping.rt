@@ -95,6 +95,7 @@ impl Machine {
     }
 
     /// Makes moves until one asks something of the caller, but at most 64.
+    #[tactic(auto, using(crate::proofs::MoveLemmas::no_moves, crate::proofs::MoveLemmas::one_more))]
     pub fn next(&mut self, alloc: Global) -> Result<Request, AllocError>
         ensures ok { IfOk result (λ request. Asks (unlent self.old) request self.new) }
         ensures err { OnErr result (Moves (unlent self.old) self.new) }
