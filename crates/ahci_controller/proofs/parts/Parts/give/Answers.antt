@@ -1,5 +1,5 @@
 use Rattle.ahci_controller.proofs.TakeLemmas.{greeted_why, taken_why}
-use Rattle.ahci_controller.proofs.controller.Controller.give.Goals as goal
+use Rattle.ahci_controller.proofs.parts.Parts.give.Goals as goal
 
 pub returns-then-registers-clause-why : goal.returns-then-registers-clause-why
 returns-then-registers-clause-why c =

@@ -1,4 +1,4 @@
-//! The controller.
+//! The parts of the controller.
 
 ghost use Rattle.std.specs.Prelude.{◌≡◌, None, replicate};
 ghost use Rattle.port_errors.specs.Errors.{AreErrors};
@@ -16,9 +16,9 @@ use guest_fetch::{Command, Fetch};
 use hba_fbs::{Line, PortCore};
 use std::marker::Model;
 
-/// An AHCI controller of one port.
+/// The parts of a controller. Each call of [`Controller`](crate::Controller) is one of theirs, and keeps their rules.
 #[derive(Drop)]
-pub struct Controller {
+pub struct Parts {
     /// What decides.
     pub(crate) core: PortCore,
     /// The interrupts.
@@ -37,17 +37,19 @@ pub struct Controller {
     pub(crate) writes: Writes,
     /// Whose turn it is.
     pub(crate) circle: Circle,
+    /// By device: where its next Data begin among the bytes of their command.
+    pub(crate) cursors: [u32; 16],
 }
 
-// A controller is below 64 KiB.
-const _: () = prove!(size_of::<Controller>() < 65536);
+// They are below 64 KiB.
+const _: () = prove!(size_of::<Parts>() < 65536);
 
-impl Model for Controller {
+impl Model for Parts {
     ghost use Rattle.ahci_controller.specs.States.{ControllerState};
 
     ghost Value = { ControllerState };
 
-    ghost view = { λ c. record { core = c.core; latch = c.latch; link = c.link; own = c.own; wants = c.wants; fetches = c.fetches; commands = c.commands; writes = c.writes; circle = c.circle } };
+    ghost view = { λ c. record { core = c.core; latch = c.latch; link = c.link; own = c.own; wants = c.wants; fetches = c.fetches; commands = c.commands; writes = c.writes; circle = c.circle; cursors = c.cursors } };
 }
 
 /// The PM Port that a multiplier's control port has, and behind which PxTFD looks before a signature came.
@@ -65,14 +67,14 @@ fn no_commands() -> [Option<Command>; 32]
     Default::default()
 }
 
-impl Controller {
+impl Parts {
     /// As it opens: nothing is issued, the port is stopped, the link is up, no signature has come and no interrupt is enabled.
-    pub fn new() -> Controller
+    pub fn new() -> Parts
         ensures { IsOpening result }
     {
         let mut core = PortCore::new();
         core.hang(CONTROL, Line::Empty);
-        Controller {
+        Parts {
             core,
             latch: Latch::new(),
             link: LinkControl::new(),
@@ -82,6 +84,7 @@ impl Controller {
             commands: no_commands(),
             writes: Writes::none(),
             circle: Circle::new(),
+            cursors: [0; 16],
         }
     }
 
