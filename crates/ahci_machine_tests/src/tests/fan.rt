@@ -51,15 +51,7 @@ fn each_port_is_served(rt: HostRuntime) -> Result<(), Fail> {
     rig.writes(0x118, 0x2_0018)?;
     rig.writes(0x118, 0x2_0011)?;
     for port in 0..3 {
-        assert!(rt;
-            opens(&mut rig, port)?,
-            "{port} {} {} {} {} {}",
-            rig.reads(0x110),
-            rig.reads(0x120),
-            rig.reads(0x138),
-            rig.reads(0x118),
-            rig.reads(0x140)
-        );
+        assert!(rt; opens(&mut rig, port)?, "{port}");
     }
     assert!(rt; reads_all(&mut rig, 3)?);
     assert_eq!(rt;
