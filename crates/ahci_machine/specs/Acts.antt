@@ -1,0 +1,301 @@
+-- What each move of a machine is. Each one is a call of one part, by that part's own rule, or two of the frames' ways meet; the other
+-- parts stay (AHCI 1.3.1, 5.3, a port's state machine; Serial ATA 3.x, 16.3, frame transmission by a port multiplier).
+use Rattle.std.specs.Prelude.{◌≡◌, ◌≢◌, ◌⊎◌, ◌||◌, ℕ, zero, suc, nat_lt, length, Bool, true, false, if◌then◌else◌, List, slice_set, slice_index_or, Option, Some, None, is_some, Result, Ok, Err, MatchOption, IfSome}
+use Rattle.std.specs.Int.{to_le_bytes, w32}
+use Rattle.fis_view.specs.Frames.{Stamped}
+use Rattle.fis_view.specs.Seen.{seen}
+use Rattle.multiplier.specs.declared.multiplier.Passed.{Passed}
+use Rattle.pm_ports.specs.declared.port.Offered.TheVariants.{Held}
+use Rattle.guest_fetch.specs.declared.moves.Move.{Move}
+use Rattle.guest_fetch.specs.declared.command.ByteCount.{ByteCount}
+use Rattle.ahci_controller.specs.Feeding.{Gathers, MissesData}
+use Rattle.ahci_controller.specs.Latch.{raised}
+use Rattle.ahci_controller.specs.Next.{Turns, next_write, written}
+use Rattle.ahci_controller.specs.States.{ControllerState}
+use Rattle.ahci_controller.specs.Taking.{Hears, hindrance}
+use Rattle.ahci_controller.specs.declared.feeding.Fed.{Fed}
+use Rattle.ahci_controller.specs.declared.feeding.Fed.TheVariants as fed
+use Rattle.ahci_controller.specs.declared.next.Next.{Next}
+use Rattle.ahci_controller.specs.declared.next.Next.TheVariants as next
+use Rattle.ahci_controller.specs.declared.taking.Hindrance.{Hindrance}
+use Rattle.ahci_controller.specs.declared.taking.Took.{Took}
+use Rattle.block_engine.specs.Engine.{IsEngineStart, IsRequested, started}
+use Rattle.fan_out.specs.FanOuts.{GivesDownThere, GivesUpThere, Offers, Sends, Tells, wants_at}
+use Rattle.fan_out.specs.declared.fan_out.FanOut.{FanOut}
+use Rattle.sata_disk.specs.Hearing.{fis_heard, fis_unheard}
+use Rattle.sata_disk.specs.Sending.{IsOut, after_sent}
+use Rattle.sata_disk.specs.State.{DiskState}
+use Rattle.sata_disk.specs.declared.out.Out.{Out}
+use Rattle.sata_disk.specs.declared.unheard.Unheard.{Unheard}
+use Rattle.ahci_machine.specs.Asked.{request_of}
+use Rattle.ahci_machine.specs.Bays.{BayDoes, begun}
+use Rattle.ahci_machine.specs.Gathers.{Awaits, GatheringState, asked_for, frame_of, host_stamp, opening_gathering}
+use Rattle.ahci_machine.specs.States.{MachineState, bay_at, gathering_at}
+use Rattle.ahci_machine.specs.declared.act.Act.{Act}
+use Rattle.ahci_machine.specs.declared.act.Act.TheVariants as act
+use Rattle.ahci_machine.specs.declared.bay.Bay.{Bay}
+use Rattle.ahci_machine.specs.declared.bay.Unit.{Unit as Inside}
+use Rattle.ahci_machine.specs.declared.bay.Unit.TheVariants as inside
+use Rattle.ahci_machine.specs.declared.gathering.Feed.{Feed}
+use Rattle.ahci_machine.specs.declared.gathering.Waits.{Waits}
+use Rattle.ahci_machine.specs.declared.gathering.Waits.TheVariants as waits
+use Rattle.ahci_machine.specs.declared.machine.Lent.{Lent}
+use Rattle.ahci_machine.specs.declared.machine.Lent.TheVariants as lent
+use Rattle.ahci_machine.specs.declared.request.GuestRead.{GuestRead}
+use Rattle.ahci_machine.specs.declared.request.Request.{Request}
+use Rattle.ahci_machine.specs.declared.request.Request.TheVariants as request
+
+-- ---- the controller
+
+abbrev pub with_controller : MachineState → ControllerState → MachineState
+with_controller m c = record m { controller = c }
+
+-- a call of the controller alone
+abbrev pub Controls : (ControllerState → ControllerState → Type 0) → MachineState → MachineState → Type 0
+Controls Rule old new = Rule old.controller new.controller × (new ≡ with_controller old new.controller)
+
+-- what of a write is lent to the caller
+abbrev pub lent_by : Next → Lent
+lent_by (next.Payload m) = lent.Frame m.from m.len
+lent_by (next.Posted m) = lent.Frame m.from m.len
+lent_by (next.Counted c) = lent.Count (to_le_bytes w32 c.value)
+lent_by other = lent.Nothing
+
+-- bytes go to the guest
+pub record Writes (write : Next) (old new : MachineState) : Type 0 where
+  pub due : old.writing ≡ true
+  pub next : next_write old.controller ≡ Some write
+  pub rest : new ≡ record old { controller = written old.controller; lent = lent_by write }
+
+-- all of them went: the frame that they came with is dropped
+pub record LetsGo (old new : MachineState) : Type 0 where
+  pub due : old.writing ≡ true
+  pub none : next_write old.controller ≡ None
+  pub rest : new ≡ record old {
+    controller = written old.controller;
+    writing = false;
+    incoming = (if old.taken then None else old.incoming);
+    taken = false;
+  }
+
+-- what it says to do next
+abbrev pub kept_of : Next → Option Next
+kept_of next.Nothing = None
+kept_of other = Some other
+
+pub record TurnsNext (said : Next) (old new : MachineState) : Type 0 where
+  pub none : old.kept ≡ None
+  pub turns : Turns old.controller said new.controller
+  pub rest : new ≡ record old { controller = new.controller; kept = kept_of said }
+
+abbrev pub feeding : MachineState → (dev number slot offset len : ℕ) → List (Option GatheringState)
+feeding m dev number slot offset len =
+    if nat_lt dev 16
+    then slice_set m.gathering dev (Some (opening_gathering (record { dev = dev; number = number; slot = slot; offset = offset; len = len })))
+    else m.gathering
+
+abbrev pub DoesBy : Next → MachineState → MachineState → Type 0
+DoesBy (next.Order dev slot fis) old new =
+    (old.outgoing ≡ None)
+    × (new ≡ record old { kept = None; outgoing = Some (record { bytes = fis; stamp = host_stamp dev }) })
+DoesBy (next.Feed dev number slot offset len) old new =
+    new ≡ record old { kept = None; gathering = feeding old dev number slot offset len }
+DoesBy (next.Payload m) old new = new ≡ record old { kept = None; lent = lent_by (next.Payload m) }
+DoesBy (next.Posted m) old new = new ≡ record old { kept = None; lent = lent_by (next.Posted m) }
+DoesBy (next.Counted c) old new = new ≡ record old { kept = None; lent = lent_by (next.Counted c) }
+DoesBy next.Nothing old new = new ≡ record old { kept = None }
+DoesBy (next.Read ask) old new = new ≡ record old { kept = None }
+
+-- that is done
+pub record DoesNext (said : Next) (old new : MachineState) : Type 0 where
+  pub kept : old.kept ≡ Some said
+  pub does : DoesBy said old new
+
+-- the frame on its way goes to the devices
+pub record SendsNext (passed : Passed) (old new : MachineState) : Type 0 where
+  pub frame : Stamped
+  pub on : old.outgoing ≡ Some frame
+  pub sends : Sends old.fan frame (Ok passed) new.fan
+  pub rest : new ≡ record old { fan = new.fan; outgoing = None }
+
+-- ---- Data for a device
+
+abbrev pub with_gathering : MachineState → (dev : ℕ) → Option GatheringState → MachineState
+with_gathering m dev g = record m { gathering = slice_set m.gathering dev g }
+
+pub record WantsNext (read : GuestRead) (old new : MachineState) : Type 0 where
+  pub dev : ℕ
+  pub gathering : GatheringState
+  pub there : gathering_at old dev ≡ Some gathering
+  pub waits : Awaits gathering old.controller (waits.Wants read)
+  pub rest : new ≡ with_gathering old dev (Some (asked_for gathering read.len))
+
+abbrev pub GoesBy : Fed → GatheringState → MachineState → MachineState → Type 0
+GoesBy (fed.Goes message line) g old new =
+    new ≡ record old { message = old.message || message; writing = true; outgoing = frame_of g }
+GoesBy other g old new = new ≡ old
+
+pub record GathersOf (g : GatheringState) (dev : ℕ) (answer : Fed) (old new : MachineState) : Type 0 where
+  pub is : dev ≡ g.feed.dev
+  pub gathers : Gathers old.controller dev g.feed.number answer new.controller
+  pub goes : GoesBy answer g (with_controller old new.controller) new
+
+abbrev pub GathersBy : GatheringState → MachineState → Act → MachineState → Type 0
+GathersBy g old (act.Gathers dev answer) new = GathersOf g dev answer old new
+GathersBy g old other new = ⊥
+
+abbrev pub missed_message : Fed → Bool
+missed_message (fed.Missed message line) = message
+missed_message other = false
+
+pub record MissesOf (f : Feed) (dev : ℕ) (answer : Fed) (old new : MachineState) : Type 0 where
+  pub is : dev ≡ f.dev
+  pub misses : MissesData old.controller f.dev f.number answer new.controller
+  pub rest : new ≡ record old { controller = new.controller; message = old.message || missed_message answer }
+
+abbrev pub MissesBy : Feed → MachineState → Act → MachineState → Type 0
+MissesBy f old (act.Misses dev answer) new = MissesOf f dev answer old new
+MissesBy f old other new = ⊥
+
+abbrev pub AwaitsAt : MachineState → (dev : ℕ) → Waits → Type 0
+AwaitsAt m dev w = MatchOption (gathering_at m dev) ⊥ (λ g. Awaits g m.controller w)
+
+-- all of its bytes came: it goes, if it is still due
+pub record GathersNext (dev : ℕ) (answer : Fed) (old new : MachineState) : Type 0 where
+  pub place : ℕ
+  pub gathering : GatheringState
+  pub there : gathering_at old place ≡ Some gathering
+  pub whole : Awaits gathering old.controller waits.Whole
+  pub free : old.outgoing ≡ None
+  pub gathers : GathersOf gathering dev answer (with_gathering old place None) new
+
+-- some of them have no place
+pub record MissesNext (dev : ℕ) (answer : Fed) (old new : MachineState) : Type 0 where
+  pub place : ℕ
+  pub gathering : GatheringState
+  pub there : gathering_at old place ≡ Some gathering
+  pub nowhere : Awaits gathering old.controller waits.Nowhere
+  pub misses : MissesOf gathering.feed dev answer (with_gathering old place None) new
+
+-- ---- frames of the devices
+
+pub record RisesNext (old new : MachineState) : Type 0 where
+  pub frame : Stamped
+  pub none : old.incoming ≡ None
+  pub gives : GivesUpThere old.fan (Ok (Some frame)) new.fan
+  pub rest : new ≡ record old { fan = new.fan; incoming = Some frame }
+
+pub record TakesNext (took : Took) (old new : MachineState) : Type 0 where
+  pub frame : Stamped
+  pub on : old.incoming ≡ Some frame
+  pub once : old.taken ≡ false
+  pub hears : Hears old.controller frame.bytes took new.controller
+  pub rest : new ≡ record old {
+    controller = new.controller;
+    message = old.message || took.message;
+    taken = true;
+    writing = true;
+  }
+
+pub record LosesNext (why : Hindrance) (old new : MachineState) : Type 0 where
+  pub there : is_some old.incoming ≡ true
+  pub once : old.taken ≡ false
+  pub is : hindrance old.controller ≡ Some why
+  pub rest : new ≡ record old { incoming = None }
+
+-- ---- the ports
+
+abbrev pub with_bay : MachineState → (port : ℕ) → Bay → List Bay
+with_bay m port b = if nat_lt port (length m.bays) then slice_set m.bays port b else m.bays
+
+-- a device begins anew
+pub record BeginsNext (port : ℕ) (old new : MachineState) : Type 0 where
+  pub tells : Tells old.fan (Some port) new.fan
+  pub rest : new ≡ record old { fan = new.fan; bays = with_bay old port (begun (bay_at old port)) }
+
+pub record ServesNext (port : ℕ) (act : Act) (old new : MachineState) : Type 0 where
+  pub inside : nat_lt port (length old.bays) ≡ true
+  pub does : BayDoes port old.fan (bay_at old port) act new.fan (bay_at new port)
+  pub rest : new ≡ record old { fan = new.fan; bays = slice_set old.bays port (bay_at new port) }
+
+-- ---- each move
+
+-- nothing is next: the controller has nothing to do, or has to wait
+abbrev pub RestsNow : MachineState → MachineState → Type 0
+RestsNow old new = (new ≡ old) ⊎ TurnsNext next.Nothing old new
+
+abbrev pub Does : MachineState → Act → MachineState → Type 0
+Does old act.Rests new = RestsNow old new
+Does old (act.Writes write) new = Writes write old new
+Does old act.LetsGo new = LetsGo old new
+Does old (act.Line line) new = (line ≡ raised old.controller.latch) × (line ≢ old.told) × (new ≡ record old { told = line })
+Does old act.Message new = (old.message ≡ true) × (new ≡ record old { message = false })
+Does old (act.Turns said) new = TurnsNext said old new
+Does old (act.Does said) new = DoesNext said old new
+Does old (act.Sends passed) new = SendsNext passed old new
+Does old (act.Wants read) new = WantsNext read old new
+Does old (act.Gathers dev answer) new = GathersNext dev answer old new
+Does old (act.Misses dev answer) new = MissesNext dev answer old new
+Does old act.Rises new = RisesNext old new
+Does old (act.Takes took) new = TakesNext took old new
+Does old (act.Loses why) new = LosesNext why old new
+Does old (act.Begins port) new = BeginsNext port old new
+Does old (act.Falls port) new = ServesNext port (act.Falls port) old new
+Does old (act.Hears port unheard) new = ServesNext port (act.Hears port unheard) old new
+Does old (act.Points port) new = ServesNext port (act.Points port) old new
+Does old (act.Drops port) new = ServesNext port (act.Drops port) old new
+Does old (act.Speaks port out) new = ServesNext port (act.Speaks port out) old new
+Does old (act.Starts port place) new = ServesNext port (act.Starts port place) old new
+Does old (act.Asks id request) new = ServesNext id.port (act.Asks id request) old new
+
+abbrev pub MayDo : MachineState → Option Act → MachineState → Type 0
+MayDo old None new = new ≡ old
+MayDo old (Some act) new = Does old act new
+
+-- whose turn is next is the machine's own choice
+abbrev pub turned : MachineState → (first : Bool) → (turn : ℕ) → MachineState
+turned m first turn = record m { first = first; turn = turn }
+
+-- one move, and whose turn is next
+pub record Steps (old : MachineState) (act : Act) (new : MachineState) : Type 0 where
+  pub middle : MachineState
+  pub does : Does old act middle
+  pub turns : new ≡ turned middle new.first new.turn
+
+-- the same where there may be none
+abbrev pub MayStep : MachineState → Option Act → MachineState → Type 0
+MayStep old None new = new ≡ old
+MayStep old (Some act) new = Steps old act new
+
+-- ---- a call
+
+-- what was lent before is lent no more
+abbrev pub unlent : MachineState → MachineState
+unlent m = record m { lent = lent.Nothing }
+
+pub record ThenSteps (Before : MachineState → Type 0) (new : MachineState) : Type 0 where
+  pub middle : MachineState
+  pub act : Act
+  pub before : Before middle
+  pub quiet : request_of act ≡ None
+  pub last : Steps middle act new
+
+-- so many moves that ask nothing
+unfoldable pub StepsBy : ℕ → MachineState → MachineState → Type 0
+StepsBy zero old new = new ≡ old
+StepsBy (suc count) old new = ThenSteps (StepsBy count old) new
+
+pub record Moves (old new : MachineState) : Type 0 where
+  pub count : ℕ
+  pub steps : StepsBy count old new
+
+-- moves that ask nothing, and then one that asks this; or the budget is spent
+pub record AsksAtLast (old : MachineState) (asked : Request) (new : MachineState) : Type 0 where
+  pub middle : MachineState
+  pub act : Act
+  pub quiet : Moves old middle
+  pub last : Steps middle act new
+  pub is : request_of act ≡ Some asked
+
+abbrev pub Asks : MachineState → Request → MachineState → Type 0
+Asks old asked new = AsksAtLast old asked new ⊎ ((asked ≡ request.Again) × Moves old new)

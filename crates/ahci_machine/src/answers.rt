@@ -1,0 +1,194 @@
+//! What the caller answers.
+
+ghost use Rattle.std.specs.Prelude.{◌≡◌, ◌<◌, ◌||◌, IfSome, IsTrue, MatchOption, option_copied};
+ghost use Rattle.ahci_machine.specs.Answers.{AnswersMachine, Holds, MissesFor, MissesMachine, OffersFrame, SuppliesData, SuppliesMachine, TakesFrame, disk_at, is_wanted as is_wanted_of, ranges_in, supply_message, IsToldBy};
+ghost use Rattle.ahci_machine.specs.States.{gathering_at};
+
+use crate::bay::Unit;
+use crate::machine::Machine;
+use crate::request::{MediumId, Wanted};
+use ahci_controller::Supply;
+use block_command::AnswerError;
+use block_engine::{Answer, Range};
+use fis_view::Frame;
+use sata_disk::SataDisk;
+use std::alloc::{AllocError, Global};
+use thiserror::Error;
+
+/// Why an answer of a medium is refused. Nothing changes.
+#[derive(Clone, Copy, Debug, PartialEq, Eq, Error)]
+pub enum MediumError {
+    /// The disk that asked is not there any more.
+    #[error("another disk asked")]
+    OtherDisk,
+    /// It does not fit what was asked.
+    #[error("it does not fit what was asked")]
+    Answer(AnswerError),
+}
+
+impl Machine {
+    // Bytes of a command came, or are no memory.
+    fn supplied(&mut self, supply: Supply) -> Result<(), AllocError>
+        ensures is { IsToldBy supply result }
+        ensures rest { self.new ≡ record self.old { message = self.old.message || supply_message supply } }
+    {
+        match supply {
+            Supply::OutOfMemory => Err(AllocError),
+            Supply::NotTaken { message, .. } => {
+                self.message = self.message || message;
+                Ok(())
+            }
+            Supply::Stale | Supply::More | Supply::Issued { .. } => Ok(()),
+        }
+    }
+
+    // Bytes of the Data FIS of a device came.
+    fn supply_data(&mut self, dev: u8, number: u64, done: usize, bytes: &[u8])
+        requires { dev < 16 }
+        ensures { MatchOption (gathering_at self.old dev) (self.new ≡ self.old)
+            (λ g. SuppliesData g dev number done bytes.now self.old self.new) }
+    {
+        if let Some(gathering) = &mut self.gathering[usize::from(dev)] {
+            gathering.supply(number, done, bytes);
+        }
+    }
+
+    /// The bytes that are wanted are these. What is wanted no more, or is not so many bytes, changes nothing. Where memory is
+    /// refused, the same bytes are wanted again.
+    pub fn supply(&mut self, alloc: Global, wanted: Wanted, bytes: &[u8]) -> Result<(), AllocError>
+        ensures { SuppliesMachine wanted bytes.now self.old result self.new }
+    {
+        match wanted {
+            Wanted::Command { slot, number } => {
+                let supply = self.controller.supply(alloc, slot, number, bytes);
+                self.supplied(supply)
+            }
+            Wanted::Data { dev, number, done } => {
+                if dev < 16 {
+                    self.supply_data(dev, number, done, bytes);
+                }
+                Ok(())
+            }
+        }
+    }
+
+    // Whether bytes of a Data FIS were asked for, and have not come.
+    fn is_wanted(&self, dev: u8, number: u64, done: usize) -> bool
+        ensures value { result ≡ is_wanted_of self.now dev number done }
+        ensures low { IsTrue result → dev < 16 }
+    {
+        if dev >= 16 {
+            return false;
+        }
+        match &self.gathering[usize::from(dev)] {
+            Some(gathering) => gathering.is_asked(number, done),
+            None => false,
+        }
+    }
+
+    // They are not memory.
+    fn miss(&mut self, dev: u8)
+        requires { dev < 16 }
+        ensures { MatchOption (gathering_at self.old dev) (self.new ≡ self.old) (λ g. MissesFor g dev self.old self.new) }
+    {
+        if let Some(gathering) = self.gathering[usize::from(dev)].take() {
+            self.missed(gathering.feed);
+        }
+    }
+
+    /// Some of the bytes that are wanted are not memory.
+    pub fn no_memory(&mut self, wanted: Wanted) -> Result<(), AllocError>
+        ensures { MissesMachine wanted self.old result self.new }
+    {
+        match wanted {
+            Wanted::Command { slot, number } => {
+                let supply = self.controller.no_memory(slot, number);
+                self.supplied(supply)
+            }
+            Wanted::Data { dev, number, done } => {
+                if self.is_wanted(dev, number, done) {
+                    self.miss(dev);
+                }
+                Ok(())
+            }
+        }
+    }
+
+    // The disk that asked, if it is there still.
+    fn disk(&self, id: MediumId) -> Option<&SataDisk>
+        ensures { option_copied result ≡ disk_at self.now id }
+    {
+        let bay = self.bays.get(usize::from(id.port))?;
+        match &bay.unit {
+            Unit::Disk(disk) if bay.disk == id.disk => Some(disk),
+            _ => None,
+        }
+    }
+
+    /// A medium answers a request.
+    pub fn answer(&mut self, id: MediumId, answer: Answer) -> Result<(), MediumError>
+        ensures { AnswersMachine id answer self.old result self.new }
+    {
+        let Some(bay) = self.bays.get_mut(usize::from(id.port)) else {
+            return Err(MediumError::OtherDisk);
+        };
+        match &mut bay.unit {
+            Unit::Disk(disk) if bay.disk == id.disk => match disk.answer(id.number, answer) {
+                Ok(()) => Ok(()),
+                Err(error) => Err(MediumError::Answer(error)),
+            },
+            _ => Err(MediumError::OtherDisk),
+        }
+    }
+
+    /// The bytes of a store, until it is answered.
+    pub fn stored(&self, id: MediumId, place: u8) -> Option<&[u8]>
+        ensures { IfSome result (λ bytes. Holds self.now id place bytes.now) }
+    {
+        if place >= 33 {
+            return None;
+        }
+        Some(self.disk(id)?.get(place)?.bytes())
+    }
+
+    /// The sectors of a discard, until it is answered.
+    pub fn discarded(&self, id: MediumId) -> &[Range]
+        ensures { result.now ≡ ranges_in (disk_at self.now id) }
+    {
+        match self.disk(id) {
+            Some(disk) => disk.ranges(),
+            None => &[],
+        }
+    }
+
+    /// The FIS for the device of the caller's own at a port.
+    pub fn take_frame(&mut self, port: u8) -> Option<Frame>
+        ensures { TakesFrame port self.old result self.new }
+    {
+        let bay = self.bays.get_mut(usize::from(port))?;
+        match bay.unit {
+            Unit::Own => {
+                bay.told = false;
+                bay.down.take()
+            }
+            Unit::Empty | Unit::Disk(_) => None,
+        }
+    }
+
+    /// A FIS of the device of the caller's own at a port. It is given back where another waits, and where no such device is
+    /// plugged in.
+    pub fn offer(&mut self, port: u8, frame: Frame) -> Result<(), Frame>
+        ensures { OffersFrame port frame self.old result self.new }
+    {
+        let Some(bay) = self.bays.get(usize::from(port)) else {
+            return Err(frame);
+        };
+        match bay.unit {
+            Unit::Own if self.fan.wants(port) => match self.fan.offer(port, frame) {
+                Ok(_) => Ok(()),
+                Err(frame) => Err(frame),
+            },
+            _ => Err(frame),
+        }
+    }
+}

@@ -1,0 +1,61 @@
+//! One disk, straight behind the controller.
+
+use super::driver::{BUFFER, command, h2d, starts};
+use super::rig::Rig;
+use std::test::Fail;
+
+/// IDENTIFY DEVICE, in slot 0.
+fn identifies(rig: &mut Rig) -> Result<bool, Fail> {
+    command(rig, 0, 0, false, &h2d(0xEC, 0, 0, 0), 512);
+    rig.writes(0x138, 1)?;
+    Ok(rig.reads(0x138) == 0 && rig.holds(BUFFER + 54, 4) == [0x45, 0x47, 0x53, 0x46].as_slice())
+}
+
+#[test]
+fn a_disk_says_what_it_is(rt: HostRuntime) -> Result<(), Fail> {
+    let mut rig = Rig::new(rt.alloc(), 0)?;
+    assert!(rt; starts(&mut rig)?);
+    assert_eq!(rt; rig.reads(0x120), 0x150);
+    assert_eq!(rt; rig.reads(0x124), 0x101);
+    assert!(rt; identifies(&mut rig)?);
+    assert!(rt; rig.line());
+    Ok(())
+}
+
+fn reads_dma(rig: &mut Rig) -> Result<bool, Fail> {
+    command(rig, 3, 0, false, &h2d(0x25, 0, 5, 2), 1024);
+    rig.writes(0x138, 8)?;
+    let ok = rig.reads(0x138) == 0;
+    let first = rig.stores(0, 5 * 512);
+    let last = rig.stores(0, 7 * 512 - 1);
+    Ok(
+        ok && rig.holds(BUFFER, 1).first().copied() == first
+            && rig.holds(BUFFER + 1023, 1).first().copied() == last,
+    )
+}
+
+#[test]
+fn sectors_are_read(rt: HostRuntime) -> Result<(), Fail> {
+    let mut rig = Rig::new(rt.alloc(), 0)?;
+    assert!(rt; starts(&mut rig)?);
+    assert!(rt; reads_dma(&mut rig)?);
+    Ok(())
+}
+
+fn writes_queued(rig: &mut Rig) -> Result<bool, Fail> {
+    rig.fills(BUFFER, &[0xA5; 512]);
+    let mut fis = h2d(0x61, 1, 9, 0);
+    fis[12] = 4 << 3;
+    command(rig, 4, 0, true, &fis, 512);
+    rig.writes(0x134, 16)?;
+    rig.writes(0x138, 16)?;
+    Ok(rig.reads(0x138) == 0 && rig.reads(0x134) == 0 && rig.stores(0, 9 * 512 + 511) == Some(0xA5))
+}
+
+#[test]
+fn sectors_are_written(rt: HostRuntime) -> Result<(), Fail> {
+    let mut rig = Rig::new(rt.alloc(), 0)?;
+    assert!(rt; starts(&mut rig)?);
+    assert!(rt; writes_queued(&mut rig)?);
+    Ok(())
+}
