@@ -42,6 +42,8 @@ OBJECT_DECLARE_SIMPLE_TYPE(GefsunkDisk, GEFSUNK_DISK)
 #define DISCARDS 64          /* ranges that are looked up at a time */
 #define DISK_LIMIT (4u << 20) /* the most bytes that the commands of a disk hold */
 #define CAP_FBSS 0x10000u
+#define GHC 4
+#define GHC_AE_HR 0x80000001u
 #define MSI 0x80   /* where capabilities stand */
 #define POWER 0x70
 #define D3HOT 3
@@ -522,7 +524,10 @@ static void init_bus_class(ObjectClass *klass, void *data)
 
 /* ---- the function */
 
-/* A new machine, whose disks are those of the bus. */
+/*
+ * A new machine, whose disks are those of the bus. They are there as power comes: so the controller is reset once they are
+ * plugged in, and the one at port 0 needs no host that opens its port.
+ */
 static void make(GefsunkAhci *s)
 {
     uint32_t port;
@@ -533,6 +538,7 @@ static void make(GefsunkAhci *s)
             must(put(s, disk));
         }
     }
+    must(gef_machine_write(&s->machine, GHC, 4, GHC_AE_HR));
     s->has_event = s->is_up = false;
     set_line(s);
 }
