@@ -497,7 +497,12 @@ gef_status gef_machine_put_disk(gef_machine *machine, uint8_t port, const gef_di
  */
 gef_status gef_machine_put_device(gef_machine *machine, uint8_t port);
 
-/* What is at a port is plugged in, and begins anew. Can return GEF_CLOSED, GEF_NO_PORT, GEF_NOT_THERE, GEF_PLUGGED_IN, GEF_SPENT. */
+/*
+ * What is at a port is plugged in, and begins anew. A multiplier says that to its host as of any device that comes: no FIS of it goes
+ * up before the host has opened the port, and has cleared its SError. For disks that are there as power comes, plug them in first,
+ * and then reset the controller, gef_machine_write(machine, 4, 4, 0x80000001): a port 0 that is open from the start passes then.
+ * Can return GEF_CLOSED, GEF_NO_PORT, GEF_NOT_THERE, GEF_PLUGGED_IN, GEF_SPENT.
+ */
 gef_status gef_machine_plug(gef_machine *machine, uint8_t port);
 
 /*
@@ -596,8 +601,9 @@ gef_status gef_machine_answer_done(gef_machine *machine, const gef_request *requ
 #define GEF_ABRT 0x04u /* it cannot be done */
 
 /*
- * A request could not be done, first at this sector (of a flush: 0). The guest is told.
- * Can return GEF_CLOSED, GEF_BAD_ERROR, GEF_OTHER_DISK, GEF_NOT_OUT, GEF_OTHER_SECTOR.
+ * A request could not be done, first at this sector (of a flush or a discard: 0). The guest is told. GEF_UNC is of loads alone:
+ * of another request it is refused by GEF_OTHER_KIND.
+ * Can return GEF_CLOSED, GEF_BAD_ERROR, GEF_OTHER_DISK, GEF_NOT_OUT, GEF_OTHER_KIND, GEF_OTHER_SECTOR.
  */
 gef_status gef_machine_answer_failed(gef_machine *machine, const gef_request *request, uint32_t error, uint64_t lba);
 

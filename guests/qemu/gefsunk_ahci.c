@@ -33,24 +33,16 @@
 #define TYPE_GEFSUNK_AHCI "gefsunk-ahci"
 OBJECT_DECLARE_SIMPLE_TYPE(GefsunkAhci, GEFSUNK_AHCI)
 #define TYPE_GEFSUNK_BUS "gefsunk-bus"
-OBJECT_DECLARE_SIMPLE_TYPE(GefsunkBus, GEFSUNK_BUS)
 #define TYPE_GEFSUNK_DISK "gefsunk-disk"
 OBJECT_DECLARE_SIMPLE_TYPE(GefsunkDisk, GEFSUNK_DISK)
 
 #define MOST_PORTS 15
 #define EVENTS 256           /* that are done before others have their turn */
-#define DISCARDS 64          /* ranges that are looked up at a time */
+#define DISCARDS 16          /* ranges that are looked up at a time */
 #define DISK_LIMIT (4u << 20) /* the most bytes that the commands of a disk hold */
-#define CAP_FBSS 0x10000u
-#define GHC 4
-#define GHC_AE_HR 0x80000001u
 #define MSI 0x80   /* where capabilities stand */
 #define POWER 0x70
-#define D3HOT 3
-
-struct GefsunkBus {
-    BusState parent_obj;
-};
+enum { GHC = 4, GHC_AE_HR = 0x80000001u, CAP_FBSS = 0x10000, D3HOT = 3 };
 
 /* Something that a disk's medium is to do. */
 typedef struct Work {
@@ -69,7 +61,6 @@ struct GefsunkDisk {
     BlockConf conf;
     VMChangeStateEntry *changes;
     QTAILQ_HEAD(, Work) stopped; /* what goes on as the machine does, after an error */
-    bool is_there;               /* it is at its port */
     /* properties */
     int32_t port;
     uint32_t depth;
@@ -80,15 +71,15 @@ struct GefsunkDisk {
 
 struct GefsunkAhci {
     PCIDevice parent_obj;
-    GefsunkBus bus;
+    BusState bus;
+    GefsunkDisk *disks[MOST_PORTS];
     MemoryRegion registers;
     QEMUBH *later;
     gef_machine machine;
     gef_event event;
-    bool has_event; /* `event` waits for bus mastering */
-    bool is_busy;   /* an event is being done */
-    bool is_held;   /* nothing begins */
-    bool is_up;     /* the interrupt line */
+    bool has_event;        /* `event` waits for bus mastering */
+    bool is_busy, is_held; /* an event is being done; none begins */
+    bool is_up;            /* the interrupt line */
     /* properties */
     uint8_t ports;
     bool port0_open, fbs;
@@ -108,52 +99,27 @@ static GefsunkAhci *controller_of(GefsunkDisk *disk)
     return GEFSUNK_AHCI(qdev_get_parent_bus(DEVICE(disk))->parent);
 }
 
-static GefsunkDisk *disk_at(GefsunkAhci *s, uint32_t port)
-{
-    BusChild *child;
-    QTAILQ_FOREACH(child, &BUS(&s->bus)->children, sibling) {
-        GefsunkDisk *disk = GEFSUNK_DISK(child->child);
-        if (disk->is_there && disk->port == port) {
-            return disk;
-        }
-    }
-    return NULL;
-}
-
-static bool is_master(GefsunkAhci *s)
-{
-    return pci_get_word(PCI_DEVICE(s)->config + PCI_COMMAND) & PCI_COMMAND_MASTER;
-}
-
 static void run(void *opaque);
 
-/* ---- what media do */
-
-/* An answer may be refused, since a reset ends requests. Then nobody waits for it. */
 static void end_work(Work *work)
 {
     qemu_vfree(work->bytes);
     g_free(work);
 }
 
-static void answer(Work *work)
+/* The disk is told. It may refuse that, since a reset ends requests: then nobody waits for it. */
+static void answer(Work *work, bool is_done)
 {
     GefsunkAhci *s = controller_of(work->disk);
     const gef_event *e = &work->event;
-    if (e->kind != GEF_EVENT_LOAD) {
+    bool is_load = e->kind == GEF_EVENT_LOAD;
+    gef_status status =
+        !is_done ? gef_machine_answer_failed(&s->machine, &e->request, is_load ? GEF_UNC : GEF_ABRT, e->lba) :
+        is_load ? gef_machine_answer_loaded(&s->machine, &e->request, work->bytes, work->vector.size) :
         gef_machine_answer_done(&s->machine, &e->request);
-    } else if (gef_machine_answer_loaded(&s->machine, &e->request, work->bytes, work->vector.size) == GEF_NO_MEMORY) {
-        must(GEF_NO_MEMORY);
+    if (status != GEF_NOT_OUT && status != GEF_OTHER_DISK) {
+        must(status);
     }
-    end_work(work);
-    run(s);
-}
-
-static void fail(Work *work)
-{
-    GefsunkAhci *s = controller_of(work->disk);
-    const gef_event *e = &work->event;
-    gef_machine_answer_failed(&s->machine, &e->request, e->kind == GEF_EVENT_LOAD ? GEF_UNC : GEF_ABRT, e->lba);
     end_work(work);
     run(s);
 }
@@ -164,73 +130,68 @@ static void begin_work(Work *work);
 static void worked(void *opaque, int ret)
 {
     Work *work = opaque;
-    GefsunkDisk *disk = work->disk;
-    BlockBackend *blk = disk->conf.blk;
+    BlockBackend *blk = work->disk->conf.blk;
     bool is_read = work->event.kind == GEF_EVENT_LOAD;
+    BlockErrorAction action = BLOCK_ERROR_ACTION_IGNORE;
     if (ret < 0) {
-        BlockErrorAction action = blk_get_error_action(blk, is_read, -ret);
+        action = blk_get_error_action(blk, is_read, -ret);
         block_acct_failed(blk_get_stats(blk), &work->account);
         if (action == BLOCK_ERROR_ACTION_STOP) {
-            QTAILQ_INSERT_TAIL(&disk->stopped, work, next);
+            QTAILQ_INSERT_TAIL(&work->disk->stopped, work, next);
         }
         blk_error_action(blk, action, is_read, -ret);
-        if (action == BLOCK_ERROR_ACTION_STOP) {
-            return;
-        } else if (action == BLOCK_ERROR_ACTION_REPORT) {
-            fail(work);
-            return;
-        }
     } else {
         block_acct_done(blk_get_stats(blk), &work->account);
     }
-    if (work->event.kind == GEF_EVENT_DISCARD) {
+    if (action == BLOCK_ERROR_ACTION_REPORT) {
+        answer(work, false);
+    } else if (action == BLOCK_ERROR_ACTION_IGNORE && work->event.kind == GEF_EVENT_DISCARD) {
         work->at++;
         begin_work(work);
-    } else {
-        answer(work);
+    } else if (action == BLOCK_ERROR_ACTION_IGNORE) {
+        answer(work, true);
     }
 }
 
 /* The next range of a discard, if there is one. */
 static void begin_discard(Work *work)
 {
-    GefsunkDisk *disk = work->disk;
-    GefsunkAhci *s = controller_of(disk);
-    gef_range *range = &work->ranges[work->at];
+    BlockBackend *blk = work->disk->conf.blk;
+    GefsunkAhci *s = controller_of(work->disk);
+    int64_t at, len;
     if (work->at == work->count) {
         work->done += work->count;
         work->at = work->count = 0;
-        range = work->ranges;
         gef_machine_discarded(&s->machine, &work->event.request, work->done, work->ranges, DISCARDS, &work->count);
     }
     if (work->count == 0) {
-        answer(work);
+        answer(work, true);
         return;
     }
-    block_acct_start(blk_get_stats(disk->conf.blk), &work->account, range->count * BDRV_SECTOR_SIZE, BLOCK_ACCT_UNMAP);
-    blk_aio_pdiscard(disk->conf.blk, range->lba * BDRV_SECTOR_SIZE, range->count * BDRV_SECTOR_SIZE, worked, work);
+    at = work->ranges[work->at].lba * BDRV_SECTOR_SIZE;
+    len = work->ranges[work->at].count * BDRV_SECTOR_SIZE;
+    block_acct_start(blk_get_stats(blk), &work->account, len, BLOCK_ACCT_UNMAP);
+    blk_aio_pdiscard(blk, at, len, worked, work);
 }
 
 static void begin_work(Work *work)
 {
     BlockBackend *blk = work->disk->conf.blk;
-    BlockAcctStats *stats = blk_get_stats(blk);
+    uint32_t kind = work->event.kind;
     int64_t at = work->event.lba * BDRV_SECTOR_SIZE;
-    switch (work->event.kind) {
-    case GEF_EVENT_LOAD:
-        block_acct_start(stats, &work->account, work->vector.size, BLOCK_ACCT_READ);
-        blk_aio_preadv(blk, at, &work->vector, 0, worked, work);
-        break;
-    case GEF_EVENT_STORE:
-        block_acct_start(stats, &work->account, work->vector.size, BLOCK_ACCT_WRITE);
-        blk_aio_pwritev(blk, at, &work->vector, 0, worked, work);
-        break;
-    case GEF_EVENT_FLUSH:
-        block_acct_start(stats, &work->account, 0, BLOCK_ACCT_FLUSH);
-        blk_aio_flush(blk, worked, work);
-        break;
-    default:
+    if (kind == GEF_EVENT_DISCARD) {
         begin_discard(work);
+        return;
+    }
+    block_acct_start(blk_get_stats(blk), &work->account, work->vector.size,
+                     kind == GEF_EVENT_LOAD ? BLOCK_ACCT_READ :
+                     kind == GEF_EVENT_STORE ? BLOCK_ACCT_WRITE : BLOCK_ACCT_FLUSH);
+    if (kind == GEF_EVENT_LOAD) {
+        blk_aio_preadv(blk, at, &work->vector, 0, worked, work);
+    } else if (kind == GEF_EVENT_STORE) {
+        blk_aio_pwritev(blk, at, &work->vector, 0, worked, work);
+    } else {
+        blk_aio_flush(blk, worked, work);
     }
 }
 
@@ -239,7 +200,7 @@ static void ask_medium(GefsunkAhci *s, const gef_event *event)
 {
     Work *work = g_new0(Work, 1);
     size_t len = (size_t)event->count * BDRV_SECTOR_SIZE, filled = 0;
-    work->disk = disk_at(s, event->port);
+    work->disk = s->disks[event->port];
     work->event = *event;
     if (len) {
         work->bytes = blk_blockalign(work->disk->conf.blk, len);
@@ -252,16 +213,12 @@ static void ask_medium(GefsunkAhci *s, const gef_event *event)
     begin_work(work);
 }
 
-/* ---- what the guest's memory gives and takes */
-
 static void read_guest(GefsunkAhci *s, const gef_event *event)
 {
     g_autofree uint8_t *bytes = g_malloc(event->len);
-    if (pci_dma_read(PCI_DEVICE(s), event->at, bytes, event->len) == MEMTX_OK) {
-        must(gef_machine_supply(&s->machine, &event->wanted, bytes, event->len));
-    } else {
-        must(gef_machine_no_memory(&s->machine, &event->wanted));
-    }
+    bool is_there = pci_dma_read(PCI_DEVICE(s), event->at, bytes, event->len) == MEMTX_OK;
+    must(is_there ? gef_machine_supply(&s->machine, &event->wanted, bytes, event->len)
+                  : gef_machine_no_memory(&s->machine, &event->wanted));
 }
 
 /* There is nothing to write any more where a reset of the link came between. */
@@ -278,8 +235,6 @@ static void set_line(GefsunkAhci *s)
 {
     pci_set_irq(PCI_DEVICE(s), s->is_up && !msi_enabled(PCI_DEVICE(s)));
 }
-
-/* ---- events */
 
 static void do_event(GefsunkAhci *s, const gef_event *event)
 {
@@ -299,14 +254,10 @@ static void do_event(GefsunkAhci *s, const gef_event *event)
             msi_notify(PCI_DEVICE(s), 0);
         }
         break;
-    case GEF_EVENT_LOAD:
-    case GEF_EVENT_STORE:
-    case GEF_EVENT_FLUSH:
-    case GEF_EVENT_DISCARD:
-        ask_medium(s, event);
-        break;
-    default: /* a disk begins anew, or the library wants to be asked again */
-        break;
+    default:
+        if (event->kind >= GEF_EVENT_LOAD && event->kind <= GEF_EVENT_DISCARD) {
+            ask_medium(s, event);
+        }
     }
 }
 
@@ -316,7 +267,8 @@ static bool has_next(GefsunkAhci *s)
     if (!s->has_event) {
         must(gef_machine_next(&s->machine, &s->event));
     }
-    s->has_event = (s->event.kind == GEF_EVENT_READ_GUEST || s->event.kind == GEF_EVENT_WRITE_GUEST) && !is_master(s);
+    s->has_event = (s->event.kind == GEF_EVENT_READ_GUEST || s->event.kind == GEF_EVENT_WRITE_GUEST) &&
+                   !(pci_get_word(PCI_DEVICE(s)->config + PCI_COMMAND) & PCI_COMMAND_MASTER);
     return s->event.kind != GEF_EVENT_NOTHING && !s->has_event;
 }
 
@@ -329,18 +281,14 @@ static void run(void *opaque)
         return;
     }
     s->is_busy = true;
-    while (count < EVENTS && has_next(s)) {
-        gef_event event = s->event;
-        do_event(s, &event);
-        count++;
+    for (; count < EVENTS && has_next(s); count++) {
+        do_event(s, &s->event);
     }
     s->is_busy = false;
     if (count == EVENTS) {
         qemu_bh_schedule(s->later);
     }
 }
-
-/* ---- registers */
 
 static uint64_t read_register(void *opaque, hwaddr at, unsigned size)
 {
@@ -367,21 +315,13 @@ static const MemoryRegionOps register_ops = {
     .impl = { 1, 8 },
 };
 
-/* ---- disks */
-
 static gef_status put(GefsunkAhci *s, GefsunkDisk *disk)
 {
     gef_disk_profile profile = {
-        .model = disk->model,
-        .serial = disk->serial,
-        .firmware = disk->firmware,
+        .model = disk->model, .serial = disk->serial, .firmware = disk->firmware, .wwn = disk->wwn,
         .sectors = blk_getlength(disk->conf.blk) / BDRV_SECTOR_SIZE,
-        .wwn = disk->wwn,
-        .physical = disk->conf.physical_block_size,
-        .rotation = disk->rotation_rate,
-        .depth = disk->depth,
-        .trim = disk->conf.discard_granularity != 0,
-        .limit = DISK_LIMIT,
+        .physical = disk->conf.physical_block_size, .rotation = disk->rotation_rate, .depth = disk->depth,
+        .trim = disk->conf.discard_granularity != 0, .limit = DISK_LIMIT,
     };
     gef_status status = gef_machine_put_disk(&s->machine, disk->port, &profile);
     if (status == GEF_OK) {
@@ -418,15 +358,11 @@ static void settle(GefsunkAhci *s, GefsunkDisk *disk)
 static bool has_port(GefsunkAhci *s, GefsunkDisk *disk, Error **errp)
 {
     int32_t ports = MAX(s->ports, 1), port = MAX(disk->port, 0);
-    while (disk->port < 0 && port < ports && disk_at(s, port)) {
+    while (disk->port < 0 && port < ports && s->disks[port]) {
         port++;
     }
-    if (port >= ports) {
-        error_setg(errp, disk->port < 0 ? "no port is free" : "the ports are 0 to %d", ports - 1);
-        return false;
-    }
-    if (disk_at(s, port)) {
-        error_setg(errp, "port %d has a disk", port);
+    if (port >= ports || s->disks[port]) {
+        error_setg(errp, "port %d has a disk, or is none of the %d ports", port, ports);
         return false;
     }
     disk->port = port;
@@ -435,12 +371,9 @@ static bool has_port(GefsunkAhci *s, GefsunkDisk *disk, Error **errp)
 
 static bool has_medium(GefsunkDisk *disk, Error **errp)
 {
-    if (!disk->conf.blk || !blk_is_inserted(disk->conf.blk)) {
-        error_setg(errp, "a disk needs a drive with a medium");
-        return false;
-    }
-    if (!blk_supports_write_perm(disk->conf.blk)) {
-        error_setg(errp, "a disk cannot be read-only");
+    BlockBackend *blk = disk->conf.blk;
+    if (!blk || !blk_is_inserted(blk) || !blk_supports_write_perm(blk)) {
+        error_setg(errp, "a disk needs a drive with a medium that can be written");
         return false;
     }
     if (!blkconf_blocksizes(&disk->conf, errp)) {
@@ -471,7 +404,7 @@ static void realize_disk(DeviceState *dev, Error **errp)
         error_setg(errp, "%s", gef_status_text(status));
         return;
     }
-    disk->is_there = true;
+    s->disks[disk->port] = disk;
     disk->changes = qdev_add_vm_change_state_handler(dev, changed, disk);
     blk_iostatus_enable(disk->conf.blk);
     add_boot_device_path(disk->conf.bootindex, dev, "/disk@0");
@@ -485,7 +418,7 @@ static void unrealize_disk(DeviceState *dev)
     settle(s, disk);
     qemu_del_vm_change_state_handler(disk->changes);
     del_boot_device_path(dev, "/disk@0");
-    disk->is_there = false;
+    s->disks[disk->port] = NULL;
     must(gef_machine_remove(&s->machine, disk->port));
     run(s);
 }
@@ -509,8 +442,6 @@ static Property disk_properties[] = {
     DEFINE_PROP_END_OF_LIST(),
 };
 
-/* ---- the bus */
-
 static char *firmware_path(DeviceState *dev)
 {
     return g_strdup_printf("drive@%x", GEFSUNK_DISK(dev)->port);
@@ -522,20 +453,16 @@ static void init_bus_class(ObjectClass *klass, void *data)
     HOTPLUG_HANDLER_CLASS(klass)->unplug = qdev_simple_device_unplug_cb;
 }
 
-/* ---- the function */
-
 /*
  * A new machine, whose disks are those of the bus. They are there as power comes: so the controller is reset once they are
  * plugged in, and the one at port 0 needs no host that opens its port.
  */
 static void make(GefsunkAhci *s)
 {
-    uint32_t port;
     must(gef_machine_new(&s->machine, s->ports, s->port0_open));
-    for (port = 0; port < MOST_PORTS; port++) {
-        GefsunkDisk *disk = disk_at(s, port);
-        if (disk) {
-            must(put(s, disk));
+    for (unsigned port = 0; port < MOST_PORTS; port++) {
+        if (s->disks[port]) {
+            must(put(s, s->disks[port]));
         }
     }
     must(gef_machine_write(&s->machine, GHC, 4, GHC_AE_HR));
@@ -546,9 +473,10 @@ static void make(GefsunkAhci *s)
 static void reset(DeviceState *dev)
 {
     GefsunkAhci *s = GEFSUNK_AHCI(dev);
-    BusChild *child;
-    QTAILQ_FOREACH(child, &BUS(&s->bus)->children, sibling) {
-        settle(s, GEFSUNK_DISK(child->child));
+    for (unsigned port = 0; port < MOST_PORTS; port++) {
+        if (s->disks[port]) {
+            settle(s, s->disks[port]);
+        }
     }
     must(gef_machine_free(&s->machine));
     make(s);
@@ -557,30 +485,23 @@ static void reset(DeviceState *dev)
 }
 
 /*
- * The power state is D0 or D3hot, and a write of another one is ignored. From D3hot the function comes back reset: bit
- * No_Soft_Reset is 0 (PCI Power Management 1.2, 3.2.4).
+ * What waited for bus mastering may go on, and messages may stand for the line. The power state is D0 or D3hot, and a write of
+ * another one is ignored. From D3hot the function comes back reset: No_Soft_Reset is 0 (PCI Power Management 1.2, 3.2.4).
  */
-static void change_power(PCIDevice *dev, uint16_t was)
-{
-    uint16_t now = pci_get_word(dev->config + POWER + PCI_PM_CTRL);
-    if (now != 0 && now != D3HOT) {
-        pci_set_word(dev->config + POWER + PCI_PM_CTRL, was);
-    } else if (was == D3HOT && now == 0) {
-        pci_device_reset(dev);
-    }
-}
-
-/* What waited for bus mastering may go on, and messages may stand for the line. */
 static void write_config(PCIDevice *dev, uint32_t at, uint32_t value, int len)
 {
     GefsunkAhci *s = GEFSUNK_AHCI(dev);
-    uint16_t was = pci_get_word(dev->config + POWER + PCI_PM_CTRL);
+    uint8_t *power = dev->config + POWER + PCI_PM_CTRL;
+    uint16_t was = pci_get_word(power), now;
     pci_default_write_config(dev, at, value, len);
-    if (!s->is_busy) {
-        change_power(dev, was);
-        set_line(s);
-        qemu_bh_schedule(s->later);
+    now = pci_get_word(power);
+    if (now != 0 && now != D3HOT) {
+        pci_set_word(power, was);
+    } else if (was == D3HOT && now == 0) {
+        pci_device_reset(dev);
     }
+    set_line(s);
+    qemu_bh_schedule(s->later);
 }
 
 static void realize(PCIDevice *dev, Error **errp)
@@ -602,7 +523,7 @@ static void realize(PCIDevice *dev, Error **errp)
     memory_region_init_io(&s->registers, OBJECT(s), &register_ops, s, TYPE_GEFSUNK_AHCI, 4096);
     pci_register_bar(dev, 5, PCI_BASE_ADDRESS_SPACE_MEMORY, &s->registers);
     qbus_init(&s->bus, sizeof s->bus, TYPE_GEFSUNK_BUS, DEVICE(dev), NULL);
-    qbus_set_bus_hotplug_handler(BUS(&s->bus));
+    qbus_set_bus_hotplug_handler(&s->bus);
     s->later = qemu_bh_new_guarded(run, s, &DEVICE(dev)->mem_reentrancy_guard);
     make(s);
 }
@@ -636,7 +557,6 @@ static void init_class(ObjectClass *klass, void *data)
     k->class_id = PCI_CLASS_STORAGE_SATA;
     dc->reset = reset;
     dc->vmsd = &not_migrated;
-    dc->desc = "AHCI controller with a port multiplier";
     device_class_set_props(dc, properties);
     set_bit(DEVICE_CATEGORY_STORAGE, dc->categories);
 }
@@ -647,7 +567,6 @@ static void init_disk_class(ObjectClass *klass, void *data)
     dc->bus_type = TYPE_GEFSUNK_BUS;
     dc->realize = realize_disk;
     dc->unrealize = unrealize_disk;
-    dc->desc = "Serial ATA disk";
     device_class_set_props(dc, disk_properties);
     set_bit(DEVICE_CATEGORY_STORAGE, dc->categories);
 }
@@ -663,7 +582,7 @@ static const TypeInfo types[] = {
     {
         .name = TYPE_GEFSUNK_BUS,
         .parent = TYPE_BUS,
-        .instance_size = sizeof(GefsunkBus),
+        .instance_size = sizeof(BusState),
         .class_init = init_bus_class,
         .interfaces = (InterfaceInfo[]) { { TYPE_HOTPLUG_HANDLER }, { } },
     },
