@@ -1,10 +1,11 @@
 -- What is next to do: AHCI 1.3.1, 5.3 (a port goes over its slots in a circle) and 9.3 (and over devices), 4.2.1 and 4.2.2 (what
--- is written to the guest for a FIS, before its slot's bit falls).
+-- is written to the guest for a FIS, before its slot's bit falls), 5.3.2 (a port starts as BSY and DRQ are 0).
 use Rattle.std.specs.Prelude.{◌≡◌, ℕ, ◌+◌, ◌-◌, ◌^◌, ◌==◌, ◌&&◌, ◌||◌, min, nat_lt, Bool, true, false, not, if◌then◌else◌}
-use Rattle.std.specs.Prelude.{bit_or, Option, Some, None, MatchOption, slice_get, slice_set, slice_index_or}
+use Rattle.std.specs.Prelude.{bit_or, List, Option, Some, None, MatchOption, slice_get, slice_set, slice_index_or}
 use Rattle.std.specs.Option.{option_map}
 use Rattle.slots.specs.Data.{payload}
 use Rattle.slots.specs.Slots.{context_of, has_bit, match_some}
+use Rattle.slots.specs.Work.{is_queued}
 use Rattle.ahci_registers.specs.Link.{action_of}
 use Rattle.guest_fetch.specs.Moves.{moves_at}
 use Rattle.guest_fetch.specs.Places.{room_at}
@@ -13,15 +14,18 @@ use Rattle.guest_fetch.specs.declared.moves.Move.{Move}
 use Rattle.hba_fbs.specs.Bits.{without}
 use Rattle.hba_fbs.specs.Choosing.{Chooses, MayChoose, due_devices, due_slots}
 use Rattle.hba_fbs.specs.Turning.{feeds, orders}
+use Rattle.hba_fbs.specs.declared.error.WriteError.{WriteError}
 use Rattle.hba_fbs.specs.declared.turn.Turn as turn_type
 use Rattle.hba_fbs.specs.declared.turn.Turn.TheVariants as turn
 use Rattle.ahci_controller.specs.Circle.{device_after, slot_after}
 use Rattle.ahci_controller.specs.Fetching.{asked, next_number, want_at}
 use Rattle.ahci_controller.specs.Moving.{count_of}
 use Rattle.ahci_controller.specs.Outbox.{no_writes}
-use Rattle.ahci_controller.specs.Own.{is_failed}
+use Rattle.ahci_controller.specs.Own.{is_failed, is_ready}
+use Rattle.ahci_controller.specs.Reading.{is_idle}
 use Rattle.ahci_controller.specs.States.{ControllerState, kept}
 use Rattle.ahci_controller.specs.Taking.{is_up}
+use Rattle.ahci_controller.specs.Writing.{Restarts}
 use Rattle.ahci_controller.specs.declared.fetching.Ask.{Ask}
 use Rattle.ahci_controller.specs.declared.next.Next.{Next}
 use Rattle.ahci_controller.specs.declared.next.Next.TheVariants as next
@@ -85,9 +89,13 @@ writes_next c = match_some (payload_step c) (after_rest c.writes) (λ s. record 
 
 -- ---- wants
 
--- the link is down, or a command that cannot be served stopped the port
+-- ST was held, and the task file is idle by now: the port is to start
+abbrev pub may_start : ControllerState → Bool
+may_start c = is_ready c.own (is_idle c) c.core.registers
+
+-- the link is down, a command that cannot be served stopped the port, or it does not run
 abbrev pub is_halted : ControllerState → Bool
-is_halted c = not (is_up (action_of c.link.control)) || is_failed c.own
+is_halted c = not (is_up (action_of c.link.control)) || is_failed c.own || not (c.core.registers.started || may_start c)
 
 -- the next of the slots that are being read, and for which nothing is wanted
 abbrev pub next_read : ControllerState → Option ℕ
@@ -139,6 +147,13 @@ order_next slot turn.Rests = next.Nothing
 order_next slot (turn.Feeds to of offset len) = next.Nothing
 order_next slot (turn.Orders to of command) = next.Order to slot command.cfis
 
+-- a command that is not queued begins with its first byte
+abbrev pub cursors_for : List ℕ → turn_type.Turn → List ℕ
+cursors_for cursors turn.Rests = cursors
+cursors_for cursors (turn.Feeds to of offset len) = cursors
+cursors_for cursors (turn.Orders to of command) =
+    if is_queued command.work.kind then cursors else slice_set cursors to 0
+
 -- it goes, and CCS is its slot
 pub record OrdersSlot (old : ControllerState) (slot : ℕ) (result : Next) (new : ControllerState) : Type 0 where
   pub may : MayChoose old.core (orders old.core slot)
@@ -148,6 +163,7 @@ pub record OrdersSlot (old : ControllerState) (slot : ℕ) (result : Next) (new 
     core = new.core;
     circle = record old.circle { slot = slot; fed = false };
     own = record old.own { current = slot };
+    cursors = cursors_for old.cursors (orders old.core slot);
   }
 
 abbrev pub next_device : ControllerState → Option ℕ
@@ -172,9 +188,24 @@ Frames old result new = FramesFor (next_device old) (next_slot old) old.circle.f
 
 -- ---- the call
 
+-- the port runs
+abbrev pub RunsNow : ControllerState → Next → ControllerState → Type 0
+RunsNow old result new = MatchOption (next_read old) (Frames old result new) (λ slot. Reads old slot result new)
+
+-- The port starts, ST having been held. Then a command is read whose bit was set meanwhile; nothing else is to be done yet.
+pub record StartsUp (old : ControllerState) (result : Next) (new : ControllerState) : Type 0 where
+  pub middle : ControllerState
+  pub ignored : Option WriteError
+  pub starts : Restarts old (is_idle old) old.own ignored middle
+  pub reads : MatchOption (next_read middle) (RestsNow middle result new) (λ slot. Reads middle slot result new)
+
+abbrev pub GoesIf : (started : Bool) → ControllerState → Next → ControllerState → Type 0
+GoesIf true old result new = RunsNow old result new
+GoesIf false old result new = StartsUp old result new
+
 abbrev pub TurnsIf : (halted : Bool) → ControllerState → Next → ControllerState → Type 0
 TurnsIf true old result new = RestsNow old result new
-TurnsIf false old result new = MatchOption (next_read old) (Frames old result new) (λ slot. Reads old slot result new)
+TurnsIf false old result new = GoesIf old.core.registers.started old result new
 
 abbrev pub written : ControllerState → ControllerState
 written c = record c { writes = writes_next c }

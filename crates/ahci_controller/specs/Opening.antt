@@ -20,3 +20,4 @@ pub record IsOpening (c : ControllerState) : Type 0 where
   pub commands : c.commands ≡ replicate 32 None
   pub writes : c.writes ≡ no_writes
   pub circle : c.circle ≡ opening_circle
+  pub cursors : c.cursors ≡ replicate 16 0

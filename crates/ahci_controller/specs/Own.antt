@@ -1,5 +1,5 @@
 -- The registers of the port that the controller has beside those of the core: AHCI 1.3.1, sections 3.3.1 to 3.3.4 (addresses)
--- and 3.3.7 (PxCMD).
+-- and 3.3.7 (PxCMD), 5.3.2 (a port starts) and 10.3.1 (when software may write ST).
 use Rattle.std.specs.Prelude.{ℕ, ◌+◌, ◌*◌, ◌/◌, ◌%◌, ◌^◌, ◌==◌, ◌&&◌, ◌||◌, Bool, false, not, if◌then◌else◌}
 use Rattle.slots.specs.Slots.{has_bit}
 use Rattle.hba_fbs.specs.Bits.{st, fre, fr, cr, pma, fbscp}
@@ -62,15 +62,20 @@ bits_if set bits = if set then bits else 0
 abbrev pub receives_now : OwnRegisters → Registers → Bool
 receives_now own r = own.receives || (own.starts && r.started)
 
--- what is written to PxCMD of the core: ST is held until FRE is 1
-abbrev pub engine_of : OwnRegisters → Registers → ℕ
-engine_of own r =
-    bits_if (own.starts && receives_now own r) (2 ^ st)
+-- The port runs from here on: ST and FRE were written, and PxTFD shows neither BSY nor DRQ as it starts. Until then ST is held:
+-- the port does not run (P:NotRunning, 5.3.2), so it takes the signature that clears them (10.3.1 has software wait for that).
+abbrev pub is_ready : OwnRegisters → (idle : Bool) → Registers → Bool
+is_ready own idle r = own.starts && receives_now own r && (r.started || idle)
+
+-- what is written to PxCMD of the core
+abbrev pub engine_of : OwnRegisters → (idle : Bool) → Registers → ℕ
+engine_of own idle r =
+    bits_if (is_ready own idle r) (2 ^ st)
     + bits_if (receives_now own r) (2 ^ fre) + bits_if own.multiplied (2 ^ pma)
 
--- the core stops
-abbrev pub falls : (was now : Registers) → Bool
-falls was now = was.started && not now.started
+-- ST falls: the port ran before, or ST was held, and now it neither runs nor is to
+abbrev pub falls : (before own : OwnRegisters) → (was now : Registers) → Bool
+falls before own was now = not now.started && (was.started || before.starts && not own.starts)
 
 -- The list is where PxCLB says as the port starts, the area where PxFB says as FRE rises. As ST falls no bad command is left,
 -- and CCS is 0.
@@ -78,8 +83,8 @@ abbrev pub latched : OwnRegisters → (before : OwnRegisters) → (was now : Reg
 latched own before was now = record own {
   list_used = (if now.started && not was.started then own.list else own.list_used);
   area_used = (if own.receives && not before.receives then own.area else own.area_used);
-  bad = (if falls was now then 0 else own.bad);
-  current = (if falls was now then 0 else own.current);
+  bad = (if falls before own was now then 0 else own.bad);
+  current = (if falls before own was now then 0 else own.current);
 }
 
 -- PxCMD: ST, FRE and PMA as they were written; CCS is bits 12:8; FR shows FRE, CR is that of the core; SUD (1), POD (2) and FBSCP

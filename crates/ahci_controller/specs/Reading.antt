@@ -1,10 +1,12 @@
--- What the registers read: AHCI 1.3.1, sections 3.1 and 3.3.
-use Rattle.std.specs.Prelude.{ℕ, bit_or}
-use Rattle.slots.specs.Slots.{match_some}
+-- What the registers read: AHCI 1.3.1, sections 3.1 and 3.3, and of PxTFD 10.4.2 (Port Reset).
+use Rattle.std.specs.Prelude.{ℕ, ◌&&◌, Bool, not, bit_or}
+use Rattle.slots.specs.Slots.{has_bit, match_some}
 use Rattle.ahci_registers.specs.Fixed.{capabilities, ports, version}
 use Rattle.ahci_registers.specs.Lines.{ghc_shown, serr_shown}
 use Rattle.ahci_registers.specs.Link.{action_of, detected_by, status_of}
 use Rattle.ahci_registers.specs.Offsets.{register_at}
+use Rattle.ahci_registers.specs.declared.link.LinkAction.{LinkAction}
+use Rattle.ahci_registers.specs.declared.link.LinkAction.TheVariants.{NoAction, Comreset, Disable}
 use Rattle.ahci_registers.specs.declared.register.Register.{Register}
 use Rattle.ahci_registers.specs.declared.register.Register.TheVariants.{Cap, Ghc, Is, Pi, Vs, Cap2, PxClb}
 use Rattle.ahci_registers.specs.declared.register.Register.TheVariants.{PxClbu, PxFb, PxFbu, PxIs, PxIe}
@@ -17,6 +19,20 @@ use Rattle.hba_fbs.specs.declared.register.Register.TheVariants as on_port
 use Rattle.ahci_controller.specs.Latch.{is_shown}
 use Rattle.ahci_controller.specs.Own.{cmd_shown}
 use Rattle.ahci_controller.specs.States.{ControllerState}
+
+-- PxTFD: 7Fh during a COMRESET, and else that of the core. (10.4.2: while DET is 1 STS is 7Fh, and BSY is set as the device answers
+-- behind it.)
+abbrev pub file_in : LinkAction → ControllerState → ℕ
+file_in NoAction c = busy_file (view_of (shown_device c.core) c.core).state
+file_in Disable c = busy_file (view_of (shown_device c.core) c.core).state
+file_in Comreset c = 0x7F
+
+abbrev pub file_of : ControllerState → ℕ
+file_of c = file_in (action_of c.link.control) c
+
+-- it shows neither BSY nor DRQ
+abbrev pub is_idle : ControllerState → Bool
+is_idle c = not (has_bit (file_of c) 7) && not (has_bit (file_of c) 3)
 
 -- PxIS, PxIE and PxSERR.DIAG are those of the interrupts, PxSSTS and PxSCTL of the link. PxCI shows also the slots whose commands
 -- are still being read, and those of bad commands. PxTFD, PxSIG, PxSACT, PxSNTF and PxFBS are the core's.
@@ -34,7 +50,7 @@ shown PxFbu c = c.own.area.upper
 shown PxIs c = c.latch.lines.status
 shown PxIe c = c.latch.lines.mask
 shown PxCmd c = cmd_shown c.own c.core.registers
-shown PxTfd c = busy_file (view_of (shown_device c.core) c.core).state
+shown PxTfd c = file_of c
 shown PxSig c = value_of on_port.Sig c.core
 shown PxSsts c = status_of (detected_by (action_of c.link.control))
 shown PxSctl c = c.link.control

@@ -36,7 +36,7 @@ pub record AreCounted (wants : Wants) : Type 0 where
 
 -- of the parts of a controller
 pub record AreParts (core : Port) (wants : Wants) (fetches : List (Option Fetching)) (commands : List (Option Fetched))
-    (payload : Option Carried) : Type 0 where
+    (payload : Option Carried) (starts : Bool) : Type 0 where
   pub long : length commands ≡ 32
   -- what was issued last in a slot is kept as it was supplied
   pub kept : (slot : ℕ) → IsOffered (last_command core.commands slot) (slice_index_or commands slot None)
@@ -44,10 +44,10 @@ pub record AreParts (core : Port) (wants : Wants) (fetches : List (Option Fetchi
   pub unread : (slot : ℕ) → slot < 32 → has_bit wants.pending slot ≡ false → IsUnread wants fetches slot
   -- and then nothing is issued in it
   pub free : (slot : ℕ) → slot < 32 → has_bit wants.pending slot ≡ true → issue_at core.slots slot ≡ None
-  -- while the port is stopped none is
-  pub stopped : core.registers.started ≡ false → wants.pending ≡ 0
+  -- while ST is 0 and the port is stopped none is
+  pub stopped : core.registers.started ≡ false → starts ≡ false → wants.pending ≡ 0
   pub counted : AreCounted wants
   pub carried : IfSome payload (IsCarried wants commands)
 
 abbrev pub IsRuled : ControllerState → Type 0
-IsRuled c = AreParts c.core c.wants c.fetches c.commands c.writes.payload
+IsRuled c = AreParts c.core c.wants c.fetches c.commands c.writes.payload c.own.starts

@@ -25,6 +25,8 @@ pub record ControllerState : Type 0 where
   -- what is to be written to the guest
   pub writes : Writes
   pub circle : Circle
+  -- by device: where its next Data begin among the bytes of their command
+  pub cursors : List ℕ
 
 -- what has come of the command of a slot
 abbrev pub fetch_at : ControllerState → ℕ → Option Fetching
@@ -33,3 +35,6 @@ fetch_at c slot = slice_index_or c.fetches slot None
 -- the command that was issued last in a slot
 abbrev pub kept : ControllerState → ℕ → Option Fetched
 kept c slot = slice_index_or c.commands slot None
+
+abbrev pub cursor : ControllerState → ℕ → ℕ
+cursor c dev = slice_index_or c.cursors dev 0

@@ -1,10 +1,16 @@
 -- A FIS of a device is taken: AHCI 1.3.1, sections 3.3.7 (FRE), 3.3.12 (PxSERR), 4.2.1 (Received FIS Structure), 4.2.2 (PRDBC),
 -- 5.3.13 and 6.1; of the rows of the received area section 9.3.
 use Rattle.std.specs.Prelude.{◌≡◌, ℕ, ◌+◌, ◌-◌, ◌^◌, ◌==◌, ◌&&◌, ◌||◌, nat_lt, Bool, true, false, not, if◌then◌else◌}
-use Rattle.std.specs.Prelude.{List, length, Option, Some, None, is_some, bit_or, unwrap_or}
+use Rattle.std.specs.Prelude.{List, length, Option, Some, None, is_some, bit_or, unwrap_or, min, Result, Ok, slice_set}
 use Rattle.std.specs.Option.{option_map}
 use Rattle.fis_view.specs.Seen.{seen}
-use Rattle.guest_fetch.specs.Places.{reach_of}
+use Rattle.fis_view.specs.Table as table
+use Rattle.fis_view.specs.Table.{field}
+use Rattle.fis_view.specs.declared.view.Fis.{Fis}
+use Rattle.fis_view.specs.declared.view.Fis.TheVariants as kind
+use Rattle.fis_view.specs.declared.view.FisFault.{FisFault}
+use Rattle.guest_fetch.specs.Commands.{Fetched}
+use Rattle.guest_fetch.specs.Places.{reach_of, room_at}
 use Rattle.guest_fetch.specs.declared.moves.Move.{Move}
 use Rattle.slots.specs.Data.{receiving_slot}
 use Rattle.slots.specs.Slots.{context_of, match_some, slots_of}
@@ -35,7 +41,7 @@ use Rattle.ahci_controller.specs.Causes.{causes_since}
 use Rattle.ahci_controller.specs.Latch.{edge, latched}
 use Rattle.ahci_controller.specs.Moving.{commands_after, counted_after, processed_by}
 use Rattle.ahci_controller.specs.Own.{area_of, is_failed}
-use Rattle.ahci_controller.specs.States.{ControllerState, kept}
+use Rattle.ahci_controller.specs.States.{ControllerState, cursor, kept}
 use Rattle.ahci_controller.specs.declared.own.OwnRegisters.{OwnRegisters}
 use Rattle.ahci_controller.specs.declared.taking.Hindrance.{Hindrance}
 use Rattle.ahci_controller.specs.declared.taking.Hindrance.TheVariants as why
@@ -97,6 +103,55 @@ writes_of c switching frame report slots = record {
   counted = slots;
 }
 
+-- ---- Data that go past their table
+
+-- The bytes of Data that a frame has; of all other frames none.
+abbrev pub payload_of : Result Fis FisFault → ℕ
+payload_of (Ok (kind.Payload f)) = length f - 4
+payload_of fis = 0
+
+-- The last of them go past the table: the first ones still have a place, if there are any.
+abbrev pub part_in : Fetched → (slot offset len : ℕ) → Option Wrote
+part_in command slot offset len =
+    if room_at command.table offset len == 0 || room_at command.table offset len == len then None
+    else Some (record { slot = slot; offset = offset; len = room_at command.table offset len })
+
+-- of the command for which a device sends Data, from where they begin
+abbrev pub part_of : ControllerState → (dev len : ℕ) → Option Wrote
+part_of c dev len = match_some (receiving_slot (context_of c.core.slots dev)) None (λ slot.
+    match_some (kept c slot) None (λ command. part_in command slot (cursor c dev) len))
+
+abbrev pub is_overflow : Option DeviceCause → Bool
+is_overflow None = false
+is_overflow (Some Overflow) = true
+is_overflow (Some cause) = false
+
+-- What a frame brings to the guest: what the core says, and where that is an overflow those bytes that have a place (3.3.5, OFS:
+-- more bytes came than the table has room for).
+abbrev pub brought : ControllerState → List ℕ → TakeReport → Option Wrote
+brought c frame report = if is_overflow report.fault then part_of c (port_of frame) (payload_of (seen frame)) else report.wrote
+
+-- the report with it
+abbrev pub filled : ControllerState → List ℕ → TakeReport → TakeReport
+filled c frame report = record report { wrote = brought c frame report }
+
+-- ---- where Data begin
+
+-- the offset of a DMA Setup (Serial ATA 3.x, 10.5, DMA Buffer Offset)
+abbrev pub set_at : Result Fis FisFault → Option ℕ
+set_at (Ok (kind.DmaSetup f)) = Some (field table.Setup table.Offset f)
+set_at fis = None
+
+-- Behind the bytes that came, or where a setup says that is accepted.
+abbrev pub cursor_from : (was : ℕ) → (set : Option ℕ) → TakeReport → ℕ
+cursor_from was set report = match_some report.wrote
+    (if report.ignored || is_some report.fault || is_some report.stopped then was else unwrap_or set was)
+    (λ w. min (w.offset + w.len) 4294967295)
+
+abbrev pub cursors_after : ControllerState → List ℕ → TakeReport → List ℕ
+cursors_after c frame report =
+    slice_set c.cursors (port_of frame) (cursor_from (cursor c (port_of frame)) (set_at (seen frame)) report)
+
 -- ---- what it tells
 
 -- PxSERR.ERR: a protocol error (P, bit 10) of a device, but for one that its task file or an overflow tells, and an internal
@@ -136,6 +191,7 @@ settled c was switching frame report = record c {
   wants = record c.wants { feeding = without c.wants.feeding (2 ^ port_of frame) };
   commands = commands_after c report.wrote;
   writes = writes_of c switching frame report (counted_after c report.wrote);
+  cursors = cursors_after c frame report;
 }
 
 -- ---- the call
@@ -169,8 +225,9 @@ why_ignored port frame false = None
 pub record Hears (old : ControllerState) (frame : List ℕ) (result : Took) (new : ControllerState) : Type 0 where
   pub core : CoreHears old frame result.report new.core
   pub why : result.ignored ≡ why_ignored old.core frame result.report.ignored
-  pub told : result.message
-      ≡ is_due old.latch.lines (Caused (told_by old (value_of on_port.Is old.core) new.core result.report))
+  pub brought_is : result.brought ≡ brought old frame result.report
+  pub told : result.message ≡ is_due old.latch.lines
+      (Caused (told_by old (value_of on_port.Is old.core) new.core (filled old frame result.report)))
   pub line : result.line ≡ edge old.latch new.latch
   pub rest : new ≡ settled (record old { core = new.core }) (value_of on_port.Is old.core) old.core.registers.switching
-      frame result.report
+      frame (filled old frame result.report)

@@ -1,5 +1,5 @@
 -- What a write of a register leaves: AHCI 1.3.1, sections 3.1 and 3.3. No write is an error.
-use Rattle.std.specs.Prelude.{◌≡◌, ℕ, ◌+◌, ◌-◌, ◌*◌, ◌/◌, ◌%◌, ◌==◌, ◌&&◌, Bool, true, false, not, if◌then◌else◌, bit_and, bit_or}
+use Rattle.std.specs.Prelude.{◌≡◌, ℕ, ◌+◌, ◌-◌, ◌*◌, ◌/◌, ◌%◌, ◌==◌, ◌&&◌, ◌||◌, Bool, true, false, not, if◌then◌else◌, bit_and, bit_or}
 use Rattle.std.specs.Prelude.{Option, Some, None, MatchOption}
 use Rattle.slots.specs.Slots.{has_bit, mask_of}
 use Rattle.ahci_registers.specs.Bits as line_bits
@@ -35,6 +35,7 @@ use Rattle.ahci_controller.specs.Latch.{edge, latched}
 use Rattle.ahci_controller.specs.Offers.{offer_in, offers_nothing}
 use Rattle.ahci_controller.specs.Own as own_words
 use Rattle.ahci_controller.specs.Own.{commanded, engine_of, falls, own_area, own_list, reset_own}
+use Rattle.ahci_controller.specs.Reading.{is_idle}
 use Rattle.ahci_controller.specs.States.{ControllerState}
 use Rattle.ahci_controller.specs.Wants.{dropped}
 use Rattle.ahci_controller.specs.declared.latch.Edge.TheVariants.{Steady}
@@ -128,26 +129,35 @@ pub record ClearsBusy (old : ControllerState) (value : ℕ) (new : ControllerSta
   pub core : ClearsIf (clears_busy old value) old.core new.core
   pub rest : new ≡ record old { core = new.core }
 
-abbrev pub engine : ControllerState → ℕ → ℕ
-engine c value = engine_of (commanded c.own value) c.core.registers
+-- PxTFD is idle as the port is to start: CLO comes first
+abbrev pub idle_for : ControllerState → ℕ → Bool
+idle_for c value = clears_busy c value || is_idle c
 
--- ST, FRE and PMA. As ST falls nothing is wanted of the guest any more.
-pub record StartsPort (old : ControllerState) (value : ℕ) (ignored : Option WriteError) (new : ControllerState)
-    : Type 0 where
-  pub ignored_is : ignored ≡ own_refusal_by on_port.Cmd old.core.registers (engine old value)
-  pub core : MatchOption (own_refusal_by on_port.Cmd old.core.registers (engine old value))
-      (SetsCmd old.core (engine old value) new.core) (λ e. new.core ≡ old.core)
-  pub rest : new ≡ record (if falls old.core.registers new.core.registers then dropped old else old) {
+abbrev pub engine : ControllerState → (idle : Bool) → ℕ → ℕ
+engine c idle value = engine_of (commanded c.own value) idle c.core.registers
+
+-- The port starts or stops, as these registers say and the task file lets it. As ST falls nothing is wanted of the guest any
+-- more.
+pub record Restarts (old : ControllerState) (idle : Bool) (own : OwnRegisters) (ignored : Option WriteError)
+    (new : ControllerState) : Type 0 where
+  pub ignored_is : ignored ≡ own_refusal_by on_port.Cmd old.core.registers (engine_of own idle old.core.registers)
+  pub core : MatchOption (own_refusal_by on_port.Cmd old.core.registers (engine_of own idle old.core.registers))
+      (SetsCmd old.core (engine_of own idle old.core.registers) new.core) (λ e. new.core ≡ old.core)
+  pub rest : new ≡ record (if falls old.own own old.core.registers new.core.registers then dropped old else old) {
     core = new.core;
-    own = own_words.latched (commanded old.own value) old.own old.core.registers new.core.registers;
+    own = own_words.latched own old.own old.core.registers new.core.registers;
   }
+
+-- ST, FRE and PMA
+abbrev pub StartsPort : ControllerState → (idle : Bool) → ℕ → Option WriteError → ControllerState → Type 0
+StartsPort old idle value ignored new = Restarts old idle (commanded old.own value) ignored new
 
 -- CLO first
 pub record Commands (old : ControllerState) (value : ℕ) (ignored : Option WriteError) (new : ControllerState)
     : Type 0 where
   pub middle : ControllerState
   pub clears : ClearsBusy old value middle
-  pub starts : StartsPort middle value ignored new
+  pub starts : StartsPort middle (idle_for old value) value ignored new
 
 -- ---- values for the core
 
@@ -169,9 +179,9 @@ fresh_slots c value = without (without (without value (mask_of (is_busy c.core.s
 abbrev pub stopped_if : (started : Bool) → ℕ → Option WriteError
 stopped_if started value = if not started && not (value == 0) then Some refusal.Stopped else None
 
--- while the port is stopped, none is
+-- While ST is 0, none is. (3.3.14: software sets a bit only while ST is 1. So while ST is held bits are set, and wait.)
 abbrev pub asked_state : ControllerState → ℕ → ControllerState
-asked_state c value = if c.core.registers.started
+asked_state c value = if c.own.starts
     then record c { wants = record c.wants { pending = bit_or c.wants.pending (fresh_slots c value) } } else c
 
 -- ---- the write
@@ -212,7 +222,7 @@ Leaves PxSerr old value result new =
 Leaves PxSact old value result new =
     Tells old on_port.Sact (armed_by old.core value) old.latch old.own result.ignored new × Quiet result false
 Leaves PxCi old value result new =
-    (new ≡ asked_state old value) × (result ≡ quietly false (stopped_if old.core.registers.started value))
+    (new ≡ asked_state old value) × (result ≡ quietly false (stopped_if old.own.starts value))
 Leaves PxSntf old value result new =
     Tells old on_port.Sntf value old.latch old.own result.ignored new × Quiet result false
 Leaves PxFbs old value result new =

@@ -6,7 +6,7 @@ ghost use Rattle.ahci_controller.specs.Feeding.{Gathers, LosesSlot, MissesData, 
 
 use crate::bits::has_bit;
 use crate::causes::interrupts;
-use crate::controller::Controller;
+use crate::parts::Parts;
 use crate::issuing::slot_bit;
 use crate::latch::Edge;
 use crate::moving::sent;
@@ -36,7 +36,7 @@ pub enum Fed {
     },
 }
 
-impl Controller {
+impl Parts {
     /// Where bytes of the command lie that was issued in a slot last, None where there was none. Bytes past the end of its
     /// table lie nowhere.
     pub fn places(&self, slot: u8, offset: u32, len: u32) -> Option<Moves<'_>>

@@ -5,7 +5,7 @@ ghost use Rattle.guest_fetch.specs.Fetching.{part_at, refused_for, want_of};
 ghost use Rattle.ahci_controller.specs.Fetching.{Answers, AnswersTo, Asks, GoesOn, Misses, asked as asked_of, fetch_of, is_asked as is_asked_of, missing_in, want_at, with_fetch, without_fetch};
 
 use crate::bits::{has_bit, without};
-use crate::controller::Controller;
+use crate::parts::Parts;
 use crate::issuing::{NotTaken, Supply, slot_bit};
 use crate::wants::Wants;
 use guest_fetch::{Fetch, Refusal, Supplied, Want};
@@ -51,7 +51,7 @@ fn taken(fetches: &mut [Option<Fetch>; 32], slot: u8) -> Option<Fetch>
     fetches[slot as usize].take()
 }
 
-impl Controller {
+impl Parts {
     // The bytes that are wanted next for the command of a slot.
     fn want(&self, slot: u8) -> Want
         requires { slot < 32 }

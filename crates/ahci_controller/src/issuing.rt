@@ -8,7 +8,7 @@ ghost use Rattle.ahci_controller.specs.Offers.{CanBeOffered, moves_some as moves
 
 use crate::bits::without;
 use crate::causes::interrupts;
-use crate::controller::Controller;
+use crate::parts::Parts;
 use crate::latch::Edge;
 use crate::offer::Offered;
 use ahci_registers::PortInterrupts;
@@ -131,7 +131,7 @@ fn offered(dev: u8, work: Work, cfis: [u8; 20]) -> Offered
     }
 }
 
-impl Controller {
+impl Parts {
     /// The command of a slot is not taken.
     pub(crate) fn refuse(&mut self, slot: u8, why: NotTaken) -> Supply
         requires { slot < 32 }

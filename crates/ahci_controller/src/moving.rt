@@ -6,7 +6,7 @@ ghost use Rattle.guest_fetch.specs.Moves.{any_told};
 ghost use Rattle.ahci_controller.specs.Moving.{commands_after, count_of, counted_after, moved as moved_by, moved_on, processed_by, processed_in, sent_by};
 
 use crate::bits::bits_if;
-use crate::controller::Controller;
+use crate::parts::Parts;
 use crate::issuing::slot_bit;
 use guest_fetch::{ByteCount, Command, Moves};
 use hba_fbs::{Turn, Wrote};
@@ -60,7 +60,7 @@ pub(crate) fn sent(turn: &Turn) -> Option<Wrote>
     }
 }
 
-impl Controller {
+impl Parts {
     /// The bit of PxIS that tells of bytes that were moved: DPS, where the last byte of an entry with I is among them.
     pub(crate) fn processed(&self, wrote: Option<Wrote>) -> u32
         ensures { result ≡ processed_by self.now wrote }

@@ -2,11 +2,11 @@
 
 ghost use Rattle.std.specs.Prelude.{◌≡◌, ◌<◌, true, slice_get, IfSome};
 ghost use Rattle.hba_fbs.specs.Choosing.{may_feed as may_feed_device, may_order as may_order_slot};
-ghost use Rattle.ahci_controller.specs.Next.{FeedsTo, Frames, OrdersSlot, Reads, Turns, after_count as after_count_of, after_rest as after_rest_of, counted_slot as counted_slot_of, fed as fed_of, is_fed as is_fed_of, is_halted as is_halted_of, left as left_of, next_device as next_device_of, next_read as next_read_of, next_slot as next_slot_of, next_write as next_write_of, payload_step, rest as rest_of, run_of, writes_next};
+ghost use Rattle.ahci_controller.specs.Next.{FeedsTo, Frames, GoesIf, OrdersSlot, Reads, RestsNow, RunsNow, StartsUp, Turns, after_count as after_count_of, after_rest as after_rest_of, counted_slot as counted_slot_of, cursors_for, fed as fed_of, is_fed as is_fed_of, is_halted as is_halted_of, left as left_of, may_start as may_start_of, next_device as next_device_of, next_read as next_read_of, next_slot as next_slot_of, next_write as next_write_of, payload_step, rest as rest_of, run_of, writes_next};
 
 use crate::bits::{has_bit, without};
 use crate::circle::{Circle, device_after, slot_after};
-use crate::controller::Controller;
+use crate::parts::Parts;
 use crate::fetching::Ask;
 use crate::issuing::slot_bit;
 use crate::moving::count;
@@ -26,7 +26,7 @@ pub enum Next {
     Posted(Move),
     /// PRDBC goes to the guest's memory.
     Counted(ByteCount),
-    /// Bytes of a command are wanted: [`supply`](Controller::supply) or [`no_memory`](Controller::no_memory) answers it.
+    /// Bytes of a command are wanted: [`supply`](Parts::supply) or [`no_memory`](Parts::no_memory) answers it.
     Read(Ask),
     /// A command FIS goes to a device.
     Order {
@@ -37,8 +37,8 @@ pub enum Next {
         /// The FIS.
         fis: [u8; 20],
     },
-    /// A Data FIS is to go to a device: its bytes are wanted, which lie where [`places`](Controller::places) says.
-    /// [`gathered`](Controller::gathered) or [`not_there`](Controller::not_there) answers it.
+    /// A Data FIS is to go to a device: its bytes are wanted, which lie where [`places`](Parts::places) says.
+    /// [`gathered`](Parts::gathered) or [`not_there`](Parts::not_there) answers it.
     Feed {
         /// The device.
         dev: u8,
@@ -144,9 +144,9 @@ impl Wants {
     }
 }
 
-impl Controller {
+impl Parts {
     // The next run of a payload, whose bytes lie one after another at the guest.
-    fn run(&self, carried: Carried) -> Option<Move>
+    fn run_of(&self, carried: Carried) -> Option<Move>
         ensures { result ≡ run_of self.now carried }
     {
         if carried.slot >= 32 {
@@ -163,7 +163,7 @@ impl Controller {
         ensures { result ≡ payload_step self.now }
     {
         let carried = self.writes.payload?;
-        let run = self.run(carried)?;
+        let run = self.run_of(carried)?;
         Some(Step {
             write: Move {
                 from: carried.from as usize,
@@ -205,11 +205,20 @@ impl Controller {
         rest
     }
 
-    // Whether nothing goes on: the link is down, or a command that cannot be served stopped the port.
+    // Whether the port is to start now, where it does not run.
+    fn may_start(&self) -> bool
+        ensures { result ≡ may_start_of self.now }
+    {
+        self.own.is_ready(self.is_idle(), self.core.registers())
+    }
+
+    // Whether nothing goes on: the link is down, a command that cannot be served stopped the port, or it does not run.
     fn is_halted(&self) -> bool
         ensures { result ≡ is_halted_of self.now }
     {
-        self.link.action() != LinkAction::NoAction || self.own.is_failed()
+        self.link.action() != LinkAction::NoAction
+            || self.own.is_failed()
+            || !(self.core.registers().started || self.may_start())
     }
 
     // The slot for which bytes are wanted next.
@@ -263,6 +272,17 @@ impl Controller {
         }
     }
 
+    // A command that is not queued begins with its first byte.
+    fn begin(&mut self, turn: &Turn)
+        ensures { self.new ≡ record self.old { cursors = cursors_for self.old.cursors turn.now } }
+    {
+        if let Turn::Orders { dev, command, .. } = *turn {
+            if dev < 16 && !command.work.kind.is_queued() {
+                self.cursors[dev as usize] = 0;
+            }
+        }
+    }
+
     // The command of a slot goes.
     fn order(&mut self, slot: u8) -> Next
         requires slot { slot < 32 }
@@ -270,6 +290,7 @@ impl Controller {
         ensures { OrdersSlot self.old slot result self.new }
     {
         let turn = self.core.turn_of_slot(slot);
+        self.begin(&turn);
         self.core.goes(turn);
         self.circle = Circle {
             slot,
@@ -325,8 +346,30 @@ impl Controller {
         }
     }
 
-    /// What is next to do. What is to be written to the guest for the frame that was taken last comes first. Then commands are
-    /// read, slot by slot in a circle. Then Data and commands go in turns, each in a circle: over devices and over slots.
+    // What the port does that runs.
+    fn run(&mut self) -> Next
+        ensures { RunsNow self.old result self.new }
+    {
+        match self.next_read() {
+            Some(slot) => self.read_for(slot),
+            None => self.next_frame(),
+        }
+    }
+
+    // The port starts, ST having been held.
+    fn start_up(&mut self) -> Next
+        ensures { StartsUp self.old result self.new }
+    {
+        let idle = self.is_idle();
+        let _ = self.restart(idle, self.own);
+        match self.next_read() {
+            Some(slot) => self.read_for(slot),
+            None => Next::Nothing,
+        }
+    }
+
+    /// What is next to do. What is to be written to the guest for the frame that was taken last comes first. Then the port starts
+    /// whose ST was held until PxTFD was idle. Then commands are read, slot by slot in a circle. Then Data and commands go in turns, each in a circle: over devices and over slots.
     pub fn next(&mut self) -> Next
         ensures { Turns self.old result self.new }
     {
@@ -336,9 +379,10 @@ impl Controller {
         if self.is_halted() {
             return Next::Nothing;
         }
-        match self.next_read() {
-            Some(slot) => self.read_for(slot),
-            None => self.next_frame(),
+        if self.core.registers().started {
+            self.run()
+        } else {
+            self.start_up()
         }
     }
 }

@@ -1,7 +1,7 @@
 //! The registers of the port that the controller has beside those of the core.
 
 ghost use Rattle.std.specs.Prelude.{◌≡◌, ◌+◌, ◌≤◌, ◌^◌};
-ghost use Rattle.ahci_controller.specs.Own.{area_of, cmd_shown, commanded, engine_of, is_failed as is_failed_of, latched, list_of, opening_own, own_area, own_list, reset_own};
+ghost use Rattle.ahci_controller.specs.Own.{area_of, cmd_shown, commanded, engine_of, falls as falls_of, is_failed as is_failed_of, is_ready as is_ready_of, latched, list_of, opening_own, own_area, own_list, receives_now, reset_own};
 
 use crate::bits::{FRE, PMA, ST, bits_if, has_bit};
 use hba_fbs::Registers;
@@ -136,13 +136,35 @@ impl OwnRegisters {
         }
     }
 
-    /// What is written to PxCMD of the core: its FRE stays 1 until its ST falls, and ST is held until FRE is 1.
-    pub(crate) fn engine(self, registers: Registers) -> u32
-        ensures { result ≡ engine_of self registers }
+    // FRE of the core: it stays 1 until its ST falls.
+    fn receives(self, registers: Registers) -> bool
+        ensures { result ≡ receives_now self registers }
     {
-        let receives = self.receives || self.starts && registers.started;
-        let starts = self.starts && receives;
+        self.receives || self.starts && registers.started
+    }
+
+    /// Whether the port runs from here on. ST is held until FRE is 1 and PxTFD is idle.
+    pub(crate) fn is_ready(self, idle: bool, registers: Registers) -> bool
+        ensures { result ≡ is_ready_of self idle registers }
+    {
+        self.starts && self.receives(registers) && (registers.started || idle)
+    }
+
+    /// What is written to PxCMD of the core.
+    pub(crate) fn engine(self, idle: bool, registers: Registers) -> u32
+        ensures { result ≡ engine_of self idle registers }
+    {
+        let starts = self.is_ready(idle, registers);
+        let receives = self.receives(registers);
         bits_if(starts, 1) + bits_if(receives, 0x10) + bits_if(self.multiplied, 0x2_0000)
+    }
+
+    /// Whether ST falls, as these registers come from `before`, and those of the core from `was` to `is`: it ran, or ST was
+    /// held.
+    pub(crate) fn falls(self, before: OwnRegisters, was: Registers, is: Registers) -> bool
+        ensures { result ≡ falls_of before self was is }
+    {
+        !is.started && (was.started || before.starts && !self.starts)
     }
 
     /// After a write of PxCMD by which these registers came from `before`, and those of the core from `was` to `is`: a list
@@ -157,7 +179,7 @@ impl OwnRegisters {
         if self.receives && !before.receives {
             own.area_used = self.area;
         }
-        if was.started && !is.started {
+        if self.falls(before, was, is) {
             own.bad = 0;
             own.current = 0;
         }

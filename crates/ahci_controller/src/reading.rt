@@ -3,10 +3,11 @@
 ghost use Rattle.std.specs.Prelude.{◌≡◌};
 ghost use Rattle.hba_fbs.specs.Reading.{value_of};
 ghost use Rattle.ahci_controller.specs.Latch.{raised};
-ghost use Rattle.ahci_controller.specs.Reading.{read_at, shown};
+ghost use Rattle.ahci_controller.specs.Reading.{file_of, is_idle as is_idle_of, read_at, shown};
 
-use crate::controller::Controller;
-use ahci_registers::Register;
+use crate::bits::has_bit;
+use crate::parts::Parts;
+use ahci_registers::{LinkAction, Register};
 use hba_fbs::PortCore;
 
 /// What a register of the core reads.
@@ -19,7 +20,25 @@ pub(crate) fn port_value(core: &PortCore, register: hba_fbs::Register) -> u32
     }
 }
 
-impl Controller {
+impl Parts {
+    // PxTFD: 7Fh during a COMRESET.
+    fn task_file(&self) -> u32
+        ensures { result ≡ file_of self.now }
+    {
+        match self.link.action() {
+            LinkAction::Comreset => 0x7F,
+            LinkAction::NoAction | LinkAction::Disable => self.core.task_file(),
+        }
+    }
+
+    /// Whether PxTFD shows neither BSY nor DRQ.
+    pub(crate) fn is_idle(&self) -> bool
+        ensures { result ≡ is_idle_of self.now }
+    {
+        let file = self.task_file();
+        !has_bit(file, 7) && !has_bit(file, 3)
+    }
+
     /// What a register reads.
     #[tactic(auto, unfolding(crate::specs::Reading::shown))]
     pub(crate) fn value(&self, register: Register) -> u32
@@ -38,7 +57,7 @@ impl Controller {
             Register::PxIs => self.latch.lines.pxis(),
             Register::PxIe => self.latch.lines.pxie(),
             Register::PxCmd => self.own.cmd(self.core.registers()),
-            Register::PxTfd => self.core.task_file(),
+            Register::PxTfd => self.task_file(),
             Register::PxSig => port_value(&self.core, hba_fbs::Register::Sig),
             Register::PxSsts => self.link.status(),
             Register::PxSctl => self.link.control(),

@@ -16,7 +16,7 @@ ghost use Rattle.ahci_controller.specs.Taking.{Hears, hindrance as hindrance_of}
 ghost use Rattle.ahci_controller.specs.Wide.{WritesAt, WritesWide, read_wide};
 
 use crate::access::Width;
-use crate::controller::Controller as Parts;
+use crate::parts::Parts;
 use crate::feeding::Fed;
 use crate::issuing::Supply;
 use crate::next::Next;

@@ -5,18 +5,21 @@ ghost use Rattle.std.specs.Result.{result_err};
 ghost use Rattle.hba_fbs.specs.Bits.{without as without_of};
 ghost use Rattle.ahci_registers.specs.Lines.{LineEvent, is_due};
 ghost use Rattle.ahci_controller.specs.Causes.{causes_since};
+ghost use Rattle.fis_view.specs.Seen.{seen};
+ghost use Rattle.hba_fbs.specs.Taking.{port_of};
+ghost use Rattle.ahci_controller.specs.States.{cursor as cursor_of};
 ghost use Rattle.ahci_controller.specs.Latch.{latched};
-ghost use Rattle.ahci_controller.specs.Taking.{CoreHears, Hears, blamed as blamed_by, blamed_state, carried_by, error_bits, hindrance as hindrance_of, is_any as is_any_of, is_up as is_up_of, move_to as move_to_of, posting_at, room_for, row_in, settled, told_by, why_ignored, writes_of};
+ghost use Rattle.ahci_controller.specs.Taking.{CoreHears, Hears, blamed as blamed_by, blamed_state, carried_by, error_bits, brought as brought_of, cursor_from, cursors_after, filled as filled_of, hindrance as hindrance_of, is_any as is_any_of, is_overflow as is_overflow_of, is_up as is_up_of, move_to as move_to_of, part_in as part_in_of, part_of, payload_of, posting_at, room_for, row_in, set_at as set_at_of, settled, told_by, why_ignored, writes_of};
 
 use crate::bits::without;
 use crate::causes::{interrupts, new_bits, status};
-use crate::controller::Controller;
+use crate::parts::Parts;
 use crate::latch::Edge;
 use crate::own::OwnRegisters;
 use crate::wants::{Carried, Wants, Writes};
 use ahci_registers::LinkAction;
-use fis_view::Frame;
-use guest_fetch::Move;
+use fis_view::{Fis, Frame};
+use guest_fetch::{Command, Move};
 use hba_fbs::{Ignored, Room, TakeReport, Wrote};
 use port_errors::DeviceCause;
 use rx_area::Posted;
@@ -41,6 +44,9 @@ pub struct Took {
     pub report: TakeReport,
     /// Why it was ignored, if it was.
     pub ignored: Option<Ignored>,
+    /// The bytes that it brings to the guest. Of Data that go past their table, which the report calls an overflow, those that
+    /// have a place.
+    pub brought: Option<Wrote>,
     /// A message is due, where messages stand for the line.
     pub message: bool,
     /// What it did to the line.
@@ -159,7 +165,79 @@ impl OwnRegisters {
     }
 }
 
-impl Controller {
+// The bytes of Data that a frame has.
+fn payload(frame: &Frame) -> u32
+    ensures { result ≡ payload_of (seen frame.now.bytes) }
+{
+    match frame.fis() {
+        Ok(Fis::Payload(fis)) => fis.payload().len() as u32,
+        _ => 0,
+    }
+}
+
+// Where an accepted setup says that the next Data begin.
+fn set(frame: &Frame) -> Option<u32>
+    ensures { result ≡ set_at_of (seen frame.now.bytes) }
+{
+    match frame.fis() {
+        Ok(Fis::DmaSetup(fis)) => Some(fis.offset()),
+        _ => None,
+    }
+}
+
+// Of Data whose last bytes go past the table, those that have a place.
+fn part(command: &Command, slot: u8, offset: u32, len: u32) -> Option<Wrote>
+    ensures { result ≡ part_in_of command.now slot offset len }
+{
+    let room = len.min(command.table().reach().saturating_sub(offset));
+    if room == 0 || room == len {
+        return None;
+    }
+    Some(Wrote {
+        slot,
+        offset,
+        len: room,
+    })
+}
+
+fn is_overflow(fault: Option<DeviceCause>) -> bool
+    ensures { result ≡ is_overflow_of fault }
+{
+    fault == Some(DeviceCause::Overflow)
+}
+
+// Where the next Data of a device begin, after a report.
+fn cursor(was: u32, set: Option<u32>, report: &TakeReport) -> u32
+    ensures { result ≡ cursor_from was set report.now }
+{
+    match report.wrote {
+        Some(wrote) => wrote.offset.saturating_add(wrote.len),
+        None if report.ignored || report.fault.is_some() || report.stopped.is_some() => was,
+        None => set.unwrap_or(was),
+    }
+}
+
+impl Parts {
+    // Of Data of a device that go past their table, the bytes that have a place.
+    fn part(&self, dev: u8, len: u32) -> Option<Wrote>
+        requires { dev < 16 }
+        ensures { result ≡ part_of self.now dev len }
+    {
+        let slot = self.core.receiving(dev)?;
+        let offset = self.cursors[dev as usize];
+        match &self.commands[slot as usize] {
+            Some(command) => part(command, slot, offset, len),
+            None => None,
+        }
+    }
+
+    // Of a frame that is to be taken, the bytes that it brings should the core call it an overflow.
+    fn spare(&self, frame: &Frame) -> Option<Wrote>
+        ensures { result ≡ part_of self.now (port_of frame.now.bytes) (payload_of (seen frame.now.bytes)) }
+    {
+        self.part(frame.pm_port(), payload(frame))
+    }
+
     // How many bytes the table has places for of the command for which a device sends Data.
     fn room(&self, dev: u8) -> Room
         requires { dev < 16 }
@@ -252,6 +330,14 @@ impl Controller {
         self.own = self.own.blamed(report, self.core.concerned(dev));
     }
 
+    // The next Data of the frame's device begin elsewhere.
+    fn advance(&mut self, frame: &Frame, report: &TakeReport)
+        ensures { self.new ≡ record self.old { cursors = cursors_after self.old frame.now.bytes report.now } }
+    {
+        let dev = frame.pm_port() as usize;
+        self.cursors[dev] = cursor(self.cursors[dev], set(frame), report);
+    }
+
     // The bits that the core set in its PxIS since that read `was` become causes, and these. Answers whether a message is due.
     fn cause(&mut self, was: u32, processed: u32) -> bool
         ensures after { self.new ≡ record self.old {
@@ -274,6 +360,7 @@ impl Controller {
         self.moved(report.wrote);
         let writes = self.writes_for(switching, frame, report, self.writes.counted);
         self.hold(writes);
+        self.advance(frame, report);
         self.blame(frame.pm_port(), report);
         self.cause(was, processed)
     }
@@ -285,19 +372,30 @@ impl Controller {
         let level = self.line();
         let was = status(&self.core);
         let switching = self.core.registers().switching;
+        let spare = self.spare(frame);
         let report = self.give(frame);
         let ignored = self.why(frame, &report);
-        let message = self.settle(was, switching, frame, &report);
+        let brought = if is_overflow(report.fault) {
+            spare
+        } else {
+            report.wrote
+        };
+        let filled = TakeReport {
+            wrote: brought,
+            ..report
+        };
+        let message = self.settle(was, switching, frame, &filled);
         Took {
             report,
             ignored,
+            brought,
             message,
             line: Edge::between(level, self.line()),
         }
     }
 
     /// Takes a FIS of a device, or of the control port. What is to be written to the guest for it is answered by
-    /// [`next`](Controller::next), before anything else; as long as its payload is, the caller holds the frame. The guest is to
+    /// [`next`](Parts::next), before anything else; as long as its payload is, the caller holds the frame. The guest is to
     /// see its registers only after that.
     pub fn take(&mut self, frame: &Frame) -> Result<Took, Hindrance>
         ensures hindrance { result_err result ≡ hindrance_of self.old }

@@ -4,7 +4,7 @@ ghost use Rattle.std.specs.Prelude.{◌≡◌};
 ghost use Rattle.ahci_controller.specs.Wide.{WritesAt, WritesPart, WritesWide, read_wide};
 
 use crate::access::{Width, high, low, merged, pair, spread};
-use crate::controller::Controller;
+use crate::parts::Parts;
 use crate::writing::Written;
 use ahci_registers::Register;
 
@@ -17,7 +17,7 @@ pub struct WideWritten {
     pub high: Written,
 }
 
-impl Controller {
+impl Parts {
     /// What the registers read at an offset. An access that crosses a boundary of eight bytes reads 0.
     pub fn read(&self, offset: u32, width: Width) -> u64
         ensures { result ≡ read_wide self.now offset width }

@@ -4,11 +4,11 @@ ghost use Rattle.std.specs.Prelude.{◌≡◌, Option, Some, None, false};
 ghost use Rattle.slots.specs.Slots.{mask_of};
 ghost use Rattle.hba_fbs.specs.Issuing.{is_busy};
 ghost use Rattle.ahci_registers.specs.Link.{action_of, causes_of, effect_of, written as written_of};
-ghost use Rattle.ahci_controller.specs.Writing.{Leaves, ResetsLink, StartsPort, Tells, WritesRegister, at_stake as at_stake_of, may_end as may_end_of, plain, under_way as under_way_of, clears_busy as clears_busy_of, fresh_slots, line_of, quietly as quietly_of, switched_by, ClearsBusy, stopped_if};
+ghost use Rattle.ahci_controller.specs.Writing.{Leaves, ResetsLink, StartsPort, Tells, WritesRegister, at_stake as at_stake_of, may_end as may_end_of, plain, under_way as under_way_of, clears_busy as clears_busy_of, fresh_slots, line_of, quietly as quietly_of, switched_by, ClearsBusy, Restarts, idle_for, stopped_if};
 
 use crate::bits::{CLO, bits_if, has_bit, without};
 use crate::causes::next_bits;
-use crate::controller::{CONTROL, Controller};
+use crate::parts::{CONTROL, Parts};
 use crate::latch::Edge;
 use crate::offer::nothing;
 use crate::own::OwnRegisters;
@@ -86,7 +86,7 @@ fn stopped(started: bool, value: u32) -> Option<WriteError>
     (!started && value != 0).then_some(WriteError::Stopped)
 }
 
-impl Controller {
+impl Parts {
     // Writes a register of the core, PxCMD and PxCI apart. What that refuses is ignored.
     fn tell(&mut self, register: hba_fbs::Register, value: u32) -> Option<WriteError>
         ensures { Tells self.old register value self.old.latch self.old.own result self.new }
@@ -116,37 +116,51 @@ impl Controller {
         }
     }
 
-    // CLO: the device that PxTFD shows is no longer busy, while ST is 0.
+    // Whether CLO acts: while the port does not run.
+    fn clears_busy(&self, value: u32) -> bool
+        ensures { result ≡ clears_busy_of self.now value }
+    {
+        has_bit(value, CLO) && !self.core.registers().started
+    }
+
+    // CLO: the device that PxTFD shows is no longer busy.
     fn clear_busy(&mut self, value: u32)
         ensures { ClearsBusy self.old value self.new }
     {
-        if has_bit(value, CLO) && !self.core.registers().started {
+        if self.clears_busy(value) {
             let dev = self.core.shown_device();
             self.core.override_busy(dev);
         }
     }
 
-    // ST, FRE and PMA.
-    fn start(&mut self, value: u32) -> Option<WriteError>
-        ensures { StartsPort self.old value result self.new }
+    /// The port starts or stops, as these registers say and the task file lets it.
+    pub(crate) fn restart(&mut self, idle: bool, own: OwnRegisters) -> Option<WriteError>
+        ensures { Restarts self.old idle own result self.new }
     {
         let before = self.own;
         let was = self.core.registers();
-        let own = self.own.commanded(value);
-        let told = self.core.write_cmd(own.engine(was));
+        let told = self.core.write_cmd(own.engine(idle, was));
         let is = self.core.registers();
-        if was.started && !is.started {
+        if own.falls(before, was, is) {
             self.drop_wants();
         }
         self.own = own.latched(before, was, is);
         told.err()
     }
 
+    // ST, FRE and PMA.
+    fn start(&mut self, idle: bool, value: u32) -> Option<WriteError>
+        ensures { StartsPort self.old idle value result self.new }
+    {
+        self.restart(idle, self.own.commanded(value))
+    }
+
     fn write_pxcmd(&mut self, value: u32) -> Written
         ensures { Leaves Register.PxCmd self.old value result self.new }
     {
+        let idle = self.clears_busy(value) || self.is_idle();
         self.clear_busy(value);
-        let ignored = self.start(value);
+        let ignored = self.start(idle, value);
         Written::quietly(false, ignored)
     }
 
@@ -250,7 +264,7 @@ impl Controller {
     fn write_pxci(&mut self, value: u32) -> Written
         ensures { Leaves Register.PxCi self.old value result self.new }
     {
-        let started = self.core.registers().started;
+        let started = self.own.starts;
         if started {
             self.wants.pending |= self.fresh(value);
         }

@@ -27,7 +27,8 @@ use Rattle.sata_disk.specs.Sending.{IsOut, after_sent}
 use Rattle.sata_disk.specs.State.{DiskState}
 use Rattle.sata_disk.specs.declared.out.Out.{Out}
 use Rattle.sata_disk.specs.declared.unheard.Unheard.{Unheard}
-use Rattle.ahci_machine.specs.Bays.{begun, with_heard, with_unit}
+use Rattle.ahci_machine.specs.Asked.{request_of}
+use Rattle.ahci_machine.specs.Bays.{BayDoes, begun}
 use Rattle.ahci_machine.specs.Gathers.{Awaits, GatheringState, asked_for, frame_of, host_stamp, opening_gathering}
 use Rattle.ahci_machine.specs.States.{MachineState, bay_at, gathering_at}
 use Rattle.ahci_machine.specs.declared.act.Act.{Act}
@@ -35,10 +36,14 @@ use Rattle.ahci_machine.specs.declared.act.Act.TheVariants as act
 use Rattle.ahci_machine.specs.declared.bay.Bay.{Bay}
 use Rattle.ahci_machine.specs.declared.bay.Unit.{Unit as Inside}
 use Rattle.ahci_machine.specs.declared.bay.Unit.TheVariants as inside
+use Rattle.ahci_machine.specs.declared.gathering.Feed.{Feed}
+use Rattle.ahci_machine.specs.declared.gathering.Waits.{Waits}
 use Rattle.ahci_machine.specs.declared.gathering.Waits.TheVariants as waits
 use Rattle.ahci_machine.specs.declared.machine.Lent.{Lent}
 use Rattle.ahci_machine.specs.declared.machine.Lent.TheVariants as lent
 use Rattle.ahci_machine.specs.declared.request.GuestRead.{GuestRead}
+use Rattle.ahci_machine.specs.declared.request.Request.{Request}
+use Rattle.ahci_machine.specs.declared.request.Request.TheVariants as request
 
 -- ---- the controller
 
@@ -130,34 +135,48 @@ GoesBy (fed.Goes message line) g old new =
     new ≡ record old { message = old.message || message; writing = true; outgoing = frame_of g }
 GoesBy other g old new = new ≡ old
 
--- all of its bytes came: it goes, if it is still due
-pub record GathersNext (dev : ℕ) (answer : Fed) (old new : MachineState) : Type 0 where
-  pub place : ℕ
-  pub gathering : GatheringState
+pub record GathersOf (g : GatheringState) (dev : ℕ) (answer : Fed) (old new : MachineState) : Type 0 where
   pub after : ControllerState
-  pub there : gathering_at old place ≡ Some gathering
-  pub is : dev ≡ gathering.feed.dev
-  pub whole : Awaits gathering old.controller waits.Whole
-  pub free : old.outgoing ≡ None
-  pub gathers : Gathers old.controller dev gathering.feed.number answer after
-  pub goes : GoesBy answer gathering (with_gathering (with_controller old after) place None) new
+  pub is : dev ≡ g.feed.dev
+  pub gathers : Gathers old.controller dev g.feed.number answer after
+  pub goes : GoesBy answer g (with_controller old after) new
+
+abbrev pub GathersBy : GatheringState → MachineState → Act → MachineState → Type 0
+GathersBy g old (act.Gathers dev answer) new = GathersOf g dev answer old new
+GathersBy g old other new = ⊥
 
 abbrev pub missed_message : Fed → Bool
 missed_message (fed.Missed message line) = message
 missed_message other = false
 
--- some of them are no memory, or have no place
-pub record MissesOf (dev number : ℕ) (answer : Fed) (old new : MachineState) : Type 0 where
-  pub misses : MissesData old.controller dev number answer new.controller
+pub record MissesOf (f : Feed) (dev : ℕ) (answer : Fed) (old new : MachineState) : Type 0 where
+  pub is : dev ≡ f.dev
+  pub misses : MissesData old.controller f.dev f.number answer new.controller
   pub rest : new ≡ record old { controller = new.controller; message = old.message || missed_message answer }
 
+abbrev pub MissesBy : Feed → MachineState → Act → MachineState → Type 0
+MissesBy f old (act.Misses dev answer) new = MissesOf f dev answer old new
+MissesBy f old other new = ⊥
+
+abbrev pub AwaitsAt : MachineState → (dev : ℕ) → Waits → Type 0
+AwaitsAt m dev w = MatchOption (gathering_at m dev) ⊥ (λ g. Awaits g m.controller w)
+
+-- all of its bytes came: it goes, if it is still due
+pub record GathersNext (dev : ℕ) (answer : Fed) (old new : MachineState) : Type 0 where
+  pub place : ℕ
+  pub gathering : GatheringState
+  pub there : gathering_at old place ≡ Some gathering
+  pub whole : Awaits gathering old.controller waits.Whole
+  pub free : old.outgoing ≡ None
+  pub gathers : GathersOf gathering dev answer (with_gathering old place None) new
+
+-- some of them have no place
 pub record MissesNext (dev : ℕ) (answer : Fed) (old new : MachineState) : Type 0 where
   pub place : ℕ
   pub gathering : GatheringState
   pub there : gathering_at old place ≡ Some gathering
-  pub is : dev ≡ gathering.feed.dev
   pub nowhere : Awaits gathering old.controller waits.Nowhere
-  pub misses : MissesOf dev gathering.feed.number answer (with_gathering old place None) new
+  pub misses : MissesOf gathering.feed dev answer (with_gathering old place None) new
 
 -- ---- frames of the devices
 
@@ -182,7 +201,7 @@ pub record TakesNext (took : Took) (old new : MachineState) : Type 0 where
 pub record LosesNext (why : Hindrance) (old new : MachineState) : Type 0 where
   pub there : is_some old.incoming ≡ true
   pub once : old.taken ≡ false
-  pub why : hindrance old.controller ≡ Some why
+  pub is : hindrance old.controller ≡ Some why
   pub rest : new ≡ record old { incoming = None }
 
 -- ---- the ports
@@ -244,7 +263,16 @@ pub record Steps (old : MachineState) (act : Act) (new : MachineState) : Type 0 
   pub does : Does old act middle
   pub turns : new ≡ turned middle new.first new.turn
 
+-- the same where there may be none
+abbrev pub MayStep : MachineState → Option Act → MachineState → Type 0
+MayStep old None new = new ≡ old
+MayStep old (Some act) new = Steps old act new
+
 -- ---- a call
+
+-- what was lent before is lent no more
+abbrev pub unlent : MachineState → MachineState
+unlent m = record m { lent = lent.Nothing }
 
 pub record ThenSteps (Before : MachineState → Type 0) (new : MachineState) : Type 0 where
   pub middle : MachineState
@@ -261,3 +289,14 @@ StepsBy (suc count) old new = ThenSteps (StepsBy count old) new
 pub record Moves (old new : MachineState) : Type 0 where
   pub count : ℕ
   pub steps : StepsBy count old new
+
+-- moves that ask nothing, and then one that asks this; or the budget is spent
+pub record AsksAtLast (old : MachineState) (asked : Request) (new : MachineState) : Type 0 where
+  pub middle : MachineState
+  pub act : Act
+  pub quiet : Moves old middle
+  pub last : Steps middle act new
+  pub is : request_of act ≡ Some asked
+
+abbrev pub Asks : MachineState → Request → MachineState → Type 0
+Asks old asked new = AsksAtLast old asked new ⊎ ((asked ≡ request.Again) × Moves old new)

@@ -3,13 +3,13 @@
 use Rattle.std.specs.Prelude.{◌≡◌, ◌↔◌, ℕ, Bool, true, false, Option, Some, None, Result, Ok, Err, MatchOption}
 use Rattle.fis_view.specs.Frames.{Stamped}
 use Rattle.fis_view.specs.Seen.{seen}
-use Rattle.pm_ports.specs.declared.port.Offered.{Offered}
+use Rattle.pm_ports.specs.declared.port.Offered.TheVariants.{Held}
 use Rattle.block_engine.specs.Engine.{IsEngineStart, IsRequested, started}
 use Rattle.block_engine.specs.declared.request.Request.{Request}
 use Rattle.fan_out.specs.FanOuts.{GivesDownThere, Offers, wants_at}
 use Rattle.fan_out.specs.declared.fan_out.FanOut.{FanOut}
 use Rattle.sata_disk.specs.Hearing.{fis_heard, fis_unheard, plugged}
-use Rattle.sata_disk.specs.Sending.{IsOut, after_sent}
+use Rattle.sata_disk.specs.Sending.{IsFis, IsOut, after_sent}
 use Rattle.sata_disk.specs.State.{DiskState}
 use Rattle.sata_disk.specs.declared.out.Out.{Out}
 use Rattle.sata_disk.specs.declared.unheard.Unheard.{Unheard}
@@ -70,7 +70,7 @@ pub record Speaks (port : ℕ) (out : Out) (fan : FanOut) (old : Bay) (after : F
   pub there : old.unit ≡ Disk disk
   pub room : wants_at fan port ≡ true
   pub next : IsOut disk (Some out)
-  pub bytes : frame.bytes ≡ frame_bytes disk out
+  pub bytes : IsFis disk out frame.bytes
   pub offers : Offers fan port frame (Ok Held) after
   pub rest : new ≡ with_unit old (Disk (after_sent disk out))
 

@@ -69,7 +69,7 @@ with_part g part = record {
 -- the bytes that were asked for come, if these are they and the FIS has room for them
 pub record Supplies (old : GatheringState) (number done : ℕ) (part : List ℕ) (new : GatheringState) : Type 0 where
   pub other : is_asked old number done ≡ false → new ≡ old
-  pub length : old.asked ≢ Some (length part) → new ≡ old
+  pub size : old.asked ≢ Some (length part) → new ≡ old
   pub comes : is_asked old number done ≡ true → old.asked ≡ Some (length part)
       → 4 + old.done + length part ≤ length old.bytes → new ≡ with_part old part
 

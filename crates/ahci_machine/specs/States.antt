@@ -1,10 +1,11 @@
 -- A machine as its callers see it: a controller of one port (AHCI 1.3.1), what is behind it (Serial ATA 3.x, 13 and 16), and what is
 -- on its way between them.
-use Rattle.std.specs.Prelude.{◌≡◌, ℕ, Bool, false, List, replicate, Option, None, slice_index_or}
+use Rattle.std.specs.Prelude.{◌≡◌, ℕ, zero, suc, min, Bool, false, List, replicate, Option, None, slice_index_or}
 use Rattle.fis_view.specs.Frames.{Stamped}
 use Rattle.ahci_controller.specs.Opening.{IsOpening}
 use Rattle.ahci_controller.specs.States.{ControllerState}
 use Rattle.ahci_controller.specs.declared.next.Next.{Next}
+use Rattle.fan_out.specs.FanOuts.{port_count}
 use Rattle.fan_out.specs.Fans.{opening_fan}
 use Rattle.fan_out.specs.Straights.{opening_straight}
 use Rattle.fan_out.specs.declared.fan_out.FanOut.{FanOut}
@@ -57,5 +58,25 @@ bay_at m port = slice_index_or m.bays port empty_bay
 
 -- one device straight behind the controller, or a multiplier with so many ports
 abbrev pub opening_end : (ports : ℕ) → (legacy : Bool) → FanOut
-opening_end 0 legacy = Device opening_straight
-opening_end ports legacy = Multiplier (opening_fan ports legacy false)
+opening_end zero legacy = Device opening_straight
+opening_end (suc ports) legacy = Multiplier (opening_fan (suc ports) legacy false)
+
+-- A machine whose controller opens: nothing is at its ports, and nothing on its way.
+pub record IsOpeningMachine (ports : ℕ) (legacy : Bool) (m : MachineState) : Type 0 where
+  pub controller : IsOpening m.controller
+  pub rest : m ≡ record {
+    controller = m.controller;
+    fan = opening_end (min ports 15) legacy;
+    bays = replicate (port_count (opening_end (min ports 15) legacy)) empty_bay;
+    incoming = None;
+    taken = false;
+    writing = false;
+    outgoing = None;
+    kept = None;
+    gathering = no_gathering;
+    lent = lent.Nothing;
+    told = false;
+    message = false;
+    first = false;
+    turn = 0;
+  }

@@ -1,5 +1,8 @@
 //! The moves of a machine, and what its caller is asked.
 
+ghost use Rattle.std.specs.Prelude.{◌≡◌};
+ghost use Rattle.ahci_machine.specs.Asked.{request_of};
+
 use crate::request::{GuestRead, MediumId, Request};
 use ahci_controller::{Fed, Hindrance, Next, Took};
 use block_engine::Request as Asked;
@@ -87,7 +90,9 @@ pub enum Act {
 
 impl Act {
     /// What the caller is asked by it.
-    pub fn request(self) -> Option<Request> {
+    pub fn request(self) -> Option<Request>
+        ensures { result ≡ request_of self }
+    {
         match self {
             Act::Rests => Some(Request::Nothing),
             Act::Writes(Next::Payload(write) | Next::Posted(write)) => {

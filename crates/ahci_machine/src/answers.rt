@@ -1,5 +1,9 @@
 //! What the caller answers.
 
+ghost use Rattle.std.specs.Prelude.{◌≡◌, ◌<◌, ◌||◌, IfSome, IsTrue, MatchOption, option_copied};
+ghost use Rattle.ahci_machine.specs.Answers.{AnswersMachine, Holds, MissesFor, MissesMachine, OffersFrame, SuppliesMachine, TakesFrame, disk_at, is_wanted as is_wanted_of, ranges_in, supply_message, IsToldBy};
+ghost use Rattle.ahci_machine.specs.States.{gathering_at};
+
 use crate::bay::Unit;
 use crate::machine::Machine;
 use crate::request::{MediumId, Wanted};
@@ -24,7 +28,10 @@ pub enum MediumError {
 
 impl Machine {
     // Bytes of a command came, or are no memory.
-    fn supplied(&mut self, supply: Supply) -> Result<(), AllocError> {
+    fn supplied(&mut self, supply: Supply) -> Result<(), AllocError>
+        ensures is { IsToldBy supply result }
+        ensures rest { self.new ≡ record self.old { message = self.old.message || supply_message supply } }
+    {
         match supply {
             Supply::OutOfMemory => Err(AllocError),
             Supply::NotTaken { message, .. } => {
@@ -37,7 +44,9 @@ impl Machine {
 
     /// The bytes that are wanted are these. What is wanted no more, or is not so many bytes, changes nothing. Where memory is
     /// refused, the same bytes are wanted again.
-    pub fn supply(&mut self, alloc: Global, wanted: Wanted, bytes: &[u8]) -> Result<(), AllocError> {
+    pub fn supply(&mut self, alloc: Global, wanted: Wanted, bytes: &[u8]) -> Result<(), AllocError>
+        ensures { SuppliesMachine wanted bytes.now self.old result self.new }
+    {
         match wanted {
             Wanted::Command { slot, number } => {
                 let supply = self.controller.supply(alloc, slot, number, bytes);
@@ -52,22 +61,42 @@ impl Machine {
         }
     }
 
+    // Whether bytes of a Data FIS were asked for, and have not come.
+    fn is_wanted(&self, dev: u8, number: u64, done: usize) -> bool
+        ensures value { result ≡ is_wanted_of self.now dev number done }
+        ensures low { IsTrue result → dev < 16 }
+    {
+        if dev >= 16 {
+            return false;
+        }
+        match &self.gathering[usize::from(dev)] {
+            Some(gathering) => gathering.is_asked(number, done),
+            None => false,
+        }
+    }
+
+    // They are not memory.
+    fn miss(&mut self, dev: u8)
+        requires { dev < 16 }
+        ensures { MatchOption (gathering_at self.old dev) (self.new ≡ self.old) (λ g. MissesFor g dev self.old self.new) }
+    {
+        if let Some(gathering) = self.gathering[usize::from(dev)].take() {
+            self.missed(gathering.feed);
+        }
+    }
+
     /// Some of the bytes that are wanted are not memory.
-    pub fn no_memory(&mut self, wanted: Wanted) -> Result<(), AllocError> {
+    pub fn no_memory(&mut self, wanted: Wanted) -> Result<(), AllocError>
+        ensures { MissesMachine wanted self.old result self.new }
+    {
         match wanted {
             Wanted::Command { slot, number } => {
                 let supply = self.controller.no_memory(slot, number);
                 self.supplied(supply)
             }
             Wanted::Data { dev, number, done } => {
-                if let Some(place) = self.gathering.get_mut(usize::from(dev)) {
-                    if let Some(gathering) = place.take() {
-                        if gathering.is_asked(number, done) {
-                            self.missed(gathering.feed);
-                        } else {
-                            *place = Some(gathering);
-                        }
-                    }
+                if self.is_wanted(dev, number, done) {
+                    self.miss(dev);
                 }
                 Ok(())
             }
@@ -75,7 +104,9 @@ impl Machine {
     }
 
     // The disk that asked, if it is there still.
-    fn disk(&self, id: MediumId) -> Option<&SataDisk> {
+    fn disk(&self, id: MediumId) -> Option<&SataDisk>
+        ensures { option_copied result ≡ disk_at self.now id }
+    {
         let bay = self.bays.get(usize::from(id.port))?;
         match &bay.unit {
             Unit::Disk(disk) if bay.disk == id.disk => Some(disk),
@@ -84,7 +115,9 @@ impl Machine {
     }
 
     /// A medium answers a request.
-    pub fn answer(&mut self, id: MediumId, answer: Answer) -> Result<(), MediumError> {
+    pub fn answer(&mut self, id: MediumId, answer: Answer) -> Result<(), MediumError>
+        ensures { AnswersMachine id answer self.old result self.new }
+    {
         let Some(bay) = self.bays.get_mut(usize::from(id.port)) else {
             return Err(MediumError::OtherDisk);
         };
@@ -98,7 +131,9 @@ impl Machine {
     }
 
     /// The bytes of a store, until it is answered.
-    pub fn stored(&self, id: MediumId, place: u8) -> Option<&[u8]> {
+    pub fn stored(&self, id: MediumId, place: u8) -> Option<&[u8]>
+        ensures { IfSome result (λ bytes. Holds self.now id place bytes.now) }
+    {
         if place >= 33 {
             return None;
         }
@@ -106,7 +141,9 @@ impl Machine {
     }
 
     /// The sectors of a discard, until it is answered.
-    pub fn discarded(&self, id: MediumId) -> &[Range] {
+    pub fn discarded(&self, id: MediumId) -> &[Range]
+        ensures { result.now ≡ ranges_in (disk_at self.now id) }
+    {
         match self.disk(id) {
             Some(disk) => disk.ranges(),
             None => &[],
@@ -114,7 +151,9 @@ impl Machine {
     }
 
     /// The FIS for the device of the caller's own at a port.
-    pub fn take_frame(&mut self, port: u8) -> Option<Frame> {
+    pub fn take_frame(&mut self, port: u8) -> Option<Frame>
+        ensures { TakesFrame port self.old result self.new }
+    {
         let bay = self.bays.get_mut(usize::from(port))?;
         match bay.unit {
             Unit::Own => {
@@ -127,7 +166,9 @@ impl Machine {
 
     /// A FIS of the device of the caller's own at a port. It is given back where another waits, and where no such device is
     /// plugged in.
-    pub fn offer(&mut self, port: u8, frame: Frame) -> Result<(), Frame> {
+    pub fn offer(&mut self, port: u8, frame: Frame) -> Result<(), Frame>
+        ensures { OffersFrame port frame self.old result self.new }
+    {
         let Some(bay) = self.bays.get(usize::from(port)) else {
             return Err(frame);
         };

@@ -1,5 +1,9 @@
 //! What is at a port.
 
+ghost use Rattle.std.specs.Prelude.{◌≡◌, IfOk, OnErr, replicate};
+ghost use Rattle.ahci_machine.specs.Bays.{BayMayDo, begun};
+ghost use Rattle.ahci_machine.specs.States.{empty_bay};
+
 use crate::act::Act;
 use crate::gathering::host_stamp;
 use crate::request::MediumId;
@@ -32,7 +36,9 @@ pub struct Bay {
 }
 
 impl Bay {
-    fn empty() -> Bay {
+    fn empty() -> Bay
+        ensures { result ≡ empty_bay }
+    {
         Bay {
             unit: Unit::Empty,
             disk: 0,
@@ -42,7 +48,9 @@ impl Bay {
     }
 
     /// So many, with nothing at them.
-    pub(crate) fn many(alloc: Global, count: u8) -> Result<Vec<Bay>, AllocError> {
+    pub(crate) fn many(alloc: Global, count: u8) -> Result<Vec<Bay>, AllocError>
+        ensures { IfOk result (λ bays. bays.items ≡ replicate count empty_bay) }
+    {
         let mut bays = Vec::with_capacity(alloc, usize::from(count))?;
         for _ in 0..count {
             bays.push(Bay::empty())?;
@@ -51,7 +59,9 @@ impl Bay {
     }
 
     /// What it had to do is gone: it was pulled, or begins anew.
-    pub(crate) fn drops_all(&mut self, alloc: Global) {
+    pub(crate) fn drops_all(&mut self, alloc: Global)
+        ensures { self.new ≡ begun self.old }
+    {
         self.down = None;
         self.told = false;
         match &mut self.unit {
@@ -61,7 +71,10 @@ impl Bay {
     }
 
     /// The next FIS of the host is there.
-    pub(crate) fn fall(&mut self, fan: &mut FanOut, port: u8) -> Option<Act> {
+    #[tactic(auto, using(crate::proofs::FanLemmas::none_down))]
+    pub(crate) fn fall(&mut self, fan: &mut FanOut, port: u8) -> Option<Act>
+        ensures { BayMayDo port fan.old self.old result fan.new self.new }
+    {
         if self.down.is_some() {
             return None;
         }
@@ -73,7 +86,10 @@ impl Bay {
     }
 
     /// The FIS that is there is heard, or the caller is told of it.
-    pub(crate) fn hear(&mut self, alloc: Global, port: u8) -> Result<Option<Act>, AllocError> {
+    pub(crate) fn hear(&mut self, alloc: Global, port: u8) -> Result<Option<Act>, AllocError>
+        ensures ok { IfOk result (λ act. (fan : FanOut) → BayMayDo port fan self.old act fan self.new) }
+        ensures err { OnErr result (self.new ≡ self.old) }
+    {
         let Some(frame) = &self.down else {
             return Ok(None);
         };
@@ -96,7 +112,10 @@ impl Bay {
     }
 
     /// The next FIS of a disk goes, where there is room.
-    pub(crate) fn speak(&mut self, alloc: Global, fan: &mut FanOut, port: u8) -> Result<Option<Act>, AllocError> {
+    pub(crate) fn speak(&mut self, alloc: Global, fan: &mut FanOut, port: u8) -> Result<Option<Act>, AllocError>
+        ensures ok { IfOk result (λ act. BayMayDo port fan.old self.old act fan.new self.new) }
+        ensures err { OnErr result ((self.new ≡ self.old) × (fan.new ≡ fan.old)) }
+    {
         let Unit::Disk(disk) = &mut self.unit else {
             return Ok(None);
         };
@@ -115,7 +134,10 @@ impl Bay {
     }
 
     /// A command of a disk starts.
-    pub(crate) fn start(&mut self, port: u8) -> Result<Option<Act>, AllocError> {
+    pub(crate) fn start(&mut self, port: u8) -> Result<Option<Act>, AllocError>
+        ensures ok { IfOk result (λ act. (fan : FanOut) → BayMayDo port fan self.old act fan self.new) }
+        ensures err { OnErr result (self.new ≡ self.old) }
+    {
         let Unit::Disk(disk) = &mut self.unit else {
             return Ok(None);
         };
@@ -126,7 +148,9 @@ impl Bay {
     }
 
     /// A disk asks its medium.
-    pub(crate) fn ask(&mut self, port: u8) -> Option<Act> {
+    pub(crate) fn ask(&mut self, port: u8) -> Option<Act>
+        ensures { (fan : FanOut) → BayMayDo port fan self.old result fan self.new }
+    {
         let Unit::Disk(disk) = &mut self.unit else {
             return None;
         };

@@ -1,15 +1,24 @@
 //! What the controller has to do.
 
+ghost use Rattle.std.specs.Prelude.{◌≡◌, ◌<◌, None, Some, IfNone, IfOk, IfSome, OnErr, OnOk, slice_set};
+ghost use Rattle.std.specs.Option.{option_map};
+ghost use Rattle.ahci_machine.specs.Acts.{AwaitsAt, GathersBy, MayDo, MissesBy, TurnsNext, feeding, lent_by};
+ghost use Rattle.ahci_machine.specs.Gathers.{asked_for, host_stamp as host_stamp_of};
+ghost use Rattle.ahci_machine.specs.States.{gathering_at};
+
 use crate::act::Act;
 use crate::gathering::{Feed, Gathering, Waits, host_stamp};
 use crate::machine::{Lent, Machine};
+use crate::request::GuestRead;
 use ahci_controller::{Fed, Hindrance, Next};
 use fis_view::Frame;
 use multiplier::PmRefusal;
 use std::alloc::{AllocError, Global};
 
 // What of a write is lent.
-fn lent(write: Next) -> Lent {
+fn lent(write: Next) -> Lent
+    ensures { result ≡ lent_by write }
+{
     match write {
         Next::Payload(step) | Next::Posted(step) => Lent::Frame {
             from: step.from,
@@ -22,7 +31,9 @@ fn lent(write: Next) -> Lent {
 
 impl Machine {
     /// What is to be written to the guest for the frame that was taken last, and for bytes that moved.
-    pub(crate) fn write_next(&mut self) -> Option<Act> {
+    pub(crate) fn write_next(&mut self) -> Option<Act>
+        ensures { MayDo self.old result self.new }
+    {
         if !self.writing {
             return None;
         }
@@ -43,7 +54,9 @@ impl Machine {
     }
 
     /// What the caller is to know of the interrupt.
-    pub(crate) fn tell_next(&mut self) -> Option<Act> {
+    pub(crate) fn tell_next(&mut self) -> Option<Act>
+        ensures { MayDo self.old result self.new }
+    {
         let line = self.controller.line();
         if line != self.told {
             self.told = line;
@@ -57,7 +70,10 @@ impl Machine {
     }
 
     /// What the controller says to do next.
-    pub(crate) fn turn_next(&mut self) -> Next {
+    pub(crate) fn turn_next(&mut self) -> Next
+        requires { self.old.kept ≡ None }
+        ensures { TurnsNext result self.old self.new }
+    {
         let next = self.controller.next();
         self.kept = match next {
             Next::Nothing => None,
@@ -67,7 +83,10 @@ impl Machine {
     }
 
     // A command FIS is on its way to a device.
-    fn order(&mut self, alloc: Global, dev: u8, fis: [u8; 20]) -> Result<(), AllocError> {
+    fn order(&mut self, alloc: Global, dev: u8, fis: [u8; 20]) -> Result<(), AllocError>
+        ensures ok { OnOk result (self.new ≡ record self.old { outgoing = Some (record { bytes = fis; stamp = host_stamp_of dev }) }) }
+        ensures err { OnErr result (self.new ≡ self.old) }
+    {
         match Frame::from_bytes(alloc, &fis, host_stamp(dev)) {
             Ok(frame) => {
                 self.outgoing = Some(frame);
@@ -78,7 +97,10 @@ impl Machine {
     }
 
     // The bytes of a Data FIS are to be read.
-    fn feed(&mut self, alloc: Global, feed: Feed) -> Result<(), AllocError> {
+    fn feed(&mut self, alloc: Global, feed: Feed) -> Result<(), AllocError>
+        ensures ok { OnOk result (self.new ≡ record self.old { gathering = feeding self.old feed.dev feed.number feed.slot feed.offset feed.len }) }
+        ensures err { OnErr result (self.new ≡ self.old) }
+    {
         if feed.dev < 16 {
             self.gathering[usize::from(feed.dev)] = Some(Gathering::new(alloc, feed)?);
         }
@@ -86,7 +108,10 @@ impl Machine {
     }
 
     /// What the controller said to do next is done, where no frame is on its way to the devices.
-    pub(crate) fn do_next(&mut self, alloc: Global) -> Result<Option<Act>, AllocError> {
+    pub(crate) fn do_next(&mut self, alloc: Global) -> Result<Option<Act>, AllocError>
+        ensures ok { IfOk result (λ act. MayDo self.old act self.new) }
+        ensures err { OnErr result (self.new ≡ self.old) }
+    {
         let Some(next) = self.kept else {
             return Ok(None);
         };
@@ -117,7 +142,11 @@ impl Machine {
     }
 
     /// The frame on its way goes to the devices, where there is room.
-    pub(crate) fn send_next(&mut self, alloc: Global) -> Result<Option<Act>, AllocError> {
+    #[tactic(auto, using(crate::proofs::FanLemmas::sends_back))]
+    pub(crate) fn send_next(&mut self, alloc: Global) -> Result<Option<Act>, AllocError>
+        ensures ok { IfOk result (λ act. MayDo self.old act self.new) }
+        ensures err { OnErr result (self.new ≡ self.old) }
+    {
         let Some(frame) = self.outgoing.take() else {
             return Ok(None);
         };
@@ -134,19 +163,28 @@ impl Machine {
     }
 
     // The Data FIS of a device is whole: it goes, if it is still due.
-    fn gathered(&mut self, gathering: Gathering) -> Act {
+    fn gathered(&mut self, gathering: Gathering) -> Act
+        ensures { GathersBy gathering self.old result self.new }
+    {
         let dev = gathering.feed.dev;
         let fed = self.controller.gathered(dev, gathering.feed.number);
-        if let Fed::Goes { message, .. } = fed {
-            self.message = self.message || message;
-            self.writing = true;
-            self.outgoing = gathering.into_frame();
+        match fed {
+            Fed::Goes { message, .. } => {
+                self.message = self.message || message;
+                self.writing = true;
+                self.outgoing = gathering.into_frame();
+            }
+            Fed::Stale => {}
+            Fed::Ended => {}
+            Fed::Missed { .. } => {}
         }
         Act::Gathers { dev, fed }
     }
 
     /// Some of the bytes of a Data FIS are no memory, or have no place.
-    pub(crate) fn missed(&mut self, feed: Feed) -> Act {
+    pub(crate) fn missed(&mut self, feed: Feed) -> Act
+        ensures { MissesBy feed self.old result self.new }
+    {
         let fed = self.controller.not_there(feed.dev, feed.number);
         if let Fed::Missed { message, .. } = fed {
             self.message = self.message || message;
@@ -154,27 +192,57 @@ impl Machine {
         Act::Misses { dev: feed.dev, fed }
     }
 
+    // What the Data FIS of a device waits for, if there is one.
+    fn waits(&self, dev: u8) -> Option<Waits>
+        requires { dev < 16 }
+        ensures none { IfNone result (gathering_at self.now dev ≡ None) }
+        ensures some { IfSome result (λ waits. AwaitsAt self.now dev waits) }
+    {
+        match &self.gathering[usize::from(dev)] {
+            Some(gathering) => Some(gathering.waits(&self.controller)),
+            None => None,
+        }
+    }
+
+    // These bytes of it are asked for.
+    fn want(&mut self, dev: u8, read: GuestRead)
+        requires { dev < 16 }
+        ensures { self.new ≡ record self.old { gathering = slice_set self.old.gathering dev (option_map (λ g. asked_for g read.len) (gathering_at self.old dev)) } }
+    {
+        if let Some(gathering) = &mut self.gathering[usize::from(dev)] {
+            gathering.ask(read.len);
+        }
+    }
+
     /// The Data FIS of a device goes on: its next bytes are wanted, or it goes where no other frame is on its way.
-    pub(crate) fn gather_next(&mut self, dev: u8) -> Option<Act> {
-        let place = &mut self.gathering[usize::from(dev)];
-        let mut gathering = place.take()?;
-        match gathering.waits(&self.controller) {
+    pub(crate) fn gather_next(&mut self, dev: u8) -> Option<Act>
+        requires { dev < 16 }
+        ensures { MayDo self.old result self.new }
+    {
+        match self.waits(dev)? {
+            Waits::Asked => None,
+            Waits::Whole if self.outgoing.is_some() => None,
             Waits::Wants(read) => {
-                gathering.ask(read.len);
-                *place = Some(gathering);
+                self.want(dev, read);
                 Some(Act::Wants(read))
             }
-            Waits::Whole if self.outgoing.is_none() => Some(self.gathered(gathering)),
-            Waits::Nowhere => Some(self.missed(gathering.feed)),
-            Waits::Whole | Waits::Asked => {
-                *place = Some(gathering);
-                None
+            Waits::Whole => {
+                let gathering = self.gathering[usize::from(dev)].take()?;
+                Some(self.gathered(gathering))
+            }
+            Waits::Nowhere => {
+                let gathering = self.gathering[usize::from(dev)].take()?;
+                Some(self.missed(gathering.feed))
             }
         }
     }
 
     /// The next frame of the devices is on its way to the controller, where none is.
-    pub(crate) fn rise_next(&mut self, alloc: Global) -> Result<Option<Act>, AllocError> {
+    #[tactic(auto, using(crate::proofs::FanLemmas::none_up, crate::proofs::FanLemmas::refused_up))]
+    pub(crate) fn rise_next(&mut self, alloc: Global) -> Result<Option<Act>, AllocError>
+        ensures ok { IfOk result (λ act. MayDo self.old act self.new) }
+        ensures err { OnErr result (self.new ≡ self.old) }
+    {
         if self.incoming.is_some() {
             return Ok(None);
         }
@@ -186,7 +254,9 @@ impl Machine {
     }
 
     /// The controller takes the frame on its way, if it may. One that comes while the link is down is lost.
-    pub(crate) fn take_next(&mut self) -> Option<Act> {
+    pub(crate) fn take_next(&mut self) -> Option<Act>
+        ensures { MayDo self.old result self.new }
+    {
         if self.taken {
             return None;
         }

@@ -1,9 +1,13 @@
 //! The bytes of a Data FIS to a device come from the guest's memory, part by part.
 
+ghost use Rattle.std.specs.Prelude.{◌≡◌, IfOk, IfSome};
+ghost use Rattle.ahci_machine.specs.Gathers.{Awaits, Reads, Supplies, asked_for, frame_of, host_stamp as host_stamp_of, is_asked as is_asked_of, opening_gathering};
+
 use crate::request::{GuestRead, Wanted};
 use ahci_controller::Controller;
 use fis_view::{Frame, Stamp, is_frame_length};
 use std::alloc::{AllocError, Global};
+use std::marker::Model;
 
 /// Data that are due for a device.
 #[derive(Clone, Copy, Debug, PartialEq, Eq)]
@@ -30,6 +34,14 @@ pub struct Gathering {
     asked: Option<usize>,
 }
 
+impl Model for Gathering {
+    ghost use Rattle.ahci_machine.specs.Gathers.{GatheringState};
+
+    ghost Value = { GatheringState };
+
+    ghost view = { λ g. record { feed = g.feed; bytes = g.bytes.items; done = g.done; asked = g.asked } };
+}
+
 /// What a Data FIS waits for.
 #[derive(Clone, Copy, Debug, PartialEq, Eq)]
 pub enum Waits {
@@ -44,7 +56,9 @@ pub enum Waits {
 }
 
 /// The stamp of a frame of the host.
-pub(crate) fn host_stamp(dev: u8) -> Stamp {
+pub(crate) fn host_stamp(dev: u8) -> Stamp
+    ensures { result ≡ host_stamp_of dev }
+{
     Stamp {
         port: dev,
         conn: 0,
@@ -55,7 +69,9 @@ pub(crate) fn host_stamp(dev: u8) -> Stamp {
 
 impl Gathering {
     /// None of the bytes has come.
-    pub(crate) fn new(alloc: Global, feed: Feed) -> Result<Gathering, AllocError> {
+    pub(crate) fn new(alloc: Global, feed: Feed) -> Result<Gathering, AllocError>
+        ensures { IfOk result (λ g. g ≡ opening_gathering feed) }
+    {
         let len = 4 + feed.len as usize;
         let mut bytes = Vec::with_capacity(alloc, len)?;
         bytes.extend_from_slice(&[0x46, feed.dev, 0, 0])?;
@@ -69,7 +85,9 @@ impl Gathering {
     }
 
     // The bytes that are wanted next, where the table of the command has places for them.
-    fn next_read(&self, controller: &Controller) -> Option<GuestRead> {
+    fn next_read(&self, controller: &Controller) -> Option<GuestRead>
+        ensures { IfSome result (λ read. Reads self.now controller.now read) }
+    {
         if self.feed.slot >= 32 || self.done > self.feed.len as usize {
             return None;
         }
@@ -89,7 +107,9 @@ impl Gathering {
     }
 
     /// What it waits for.
-    pub(crate) fn waits(&self, controller: &Controller) -> Waits {
+    pub(crate) fn waits(&self, controller: &Controller) -> Waits
+        ensures { Awaits self.now controller.now result }
+    {
         if self.asked.is_some() {
             return Waits::Asked;
         }
@@ -103,13 +123,19 @@ impl Gathering {
     }
 
     /// So many bytes were asked for.
-    pub(crate) fn ask(&mut self, len: usize) {
+    pub(crate) fn ask(&mut self, len: usize)
+        ensures { self.new ≡ asked_for self.old len }
+    {
         self.asked = Some(len);
     }
 
     /// These bytes came, behind `done` others. If they are not those that were asked for, nothing changes.
-    pub(crate) fn supply(&mut self, number: u64, done: usize, bytes: &[u8]) {
-        let from = 4 + self.done;
+    pub(crate) fn supply(&mut self, number: u64, done: usize, bytes: &[u8])
+        ensures { Supplies self.old number done bytes.now self.new }
+    {
+        let Some(from) = self.done.checked_add(4) else {
+            return;
+        };
         if number != self.feed.number || done != self.done || self.asked != Some(bytes.len()) {
             return;
         }
@@ -122,12 +148,16 @@ impl Gathering {
     }
 
     /// Whether such bytes were asked for.
-    pub(crate) fn is_asked(&self, number: u64, done: usize) -> bool {
+    pub(crate) fn is_asked(&self, number: u64, done: usize) -> bool
+        ensures { result ≡ is_asked_of self.now number done }
+    {
         self.asked.is_some() && number == self.feed.number && done == self.done
     }
 
     /// The Data FIS, if it has a length of one.
-    pub(crate) fn into_frame(self) -> Option<Frame> {
+    pub(crate) fn into_frame(self) -> Option<Frame>
+        ensures { result ≡ frame_of self }
+    {
         if !is_frame_length(&self.bytes) {
             return None;
         }

@@ -1,5 +1,10 @@
 //! The machine, and its registers.
 
+ghost use Rattle.std.specs.Prelude.{◌≡◌, IfOk};
+ghost use Rattle.ahci_controller.specs.Wide.{read_wide};
+ghost use Rattle.ahci_machine.specs.Registers.{WritesMachine, lent_bytes, part_of, renewed};
+ghost use Rattle.ahci_machine.specs.States.{IsOpeningMachine, no_gathering as no_gathering_of};
+
 use crate::bay::Bay;
 use crate::gathering::Gathering;
 use ahci_controller::{Controller, Next, WideWritten, Width};
@@ -7,6 +12,7 @@ use ahci_registers::Effect;
 use fan_out::FanOut;
 use fis_view::Frame;
 use std::alloc::{AllocError, Global};
+use std::marker::Model;
 
 /// What is lent to be written to the guest.
 #[derive(Clone, Copy, Debug, PartialEq, Eq)]
@@ -55,7 +61,17 @@ pub struct Machine {
     pub(crate) turn: u8,
 }
 
-fn no_gathering() -> [Option<Gathering>; 16] {
+impl Model for Machine {
+    ghost use Rattle.ahci_machine.specs.States.{MachineState};
+
+    ghost Value = { MachineState };
+
+    ghost view = { λ m. record { controller = m.controller; fan = m.fan; bays = m.bays.items; incoming = m.incoming; taken = m.taken; writing = m.writing; outgoing = m.outgoing; kept = m.kept; gathering = m.gathering; lent = m.lent; told = m.told; message = m.message; first = m.first; turn = m.turn } };
+}
+
+fn no_gathering() -> [Option<Gathering>; 16]
+    ensures { result ≡ no_gathering_of }
+{
     Default::default()
 }
 
@@ -63,7 +79,9 @@ impl Machine {
     /// A machine whose controller opens, with nothing at its ports. With 0 ports one device may be straight behind it, else a
     /// multiplier with so many ports is, 15 at most; `legacy` has port 0 of that open from the start, for software that knows no
     /// multipliers.
-    pub fn new(alloc: Global, ports: u8, legacy: bool) -> Result<Machine, AllocError> {
+    pub fn new(alloc: Global, ports: u8, legacy: bool) -> Result<Machine, AllocError>
+        ensures { IfOk result (λ m. IsOpeningMachine ports legacy m) }
+    {
         let fan = if ports == 0 {
             FanOut::straight()
         } else {
@@ -89,12 +107,17 @@ impl Machine {
     }
 
     /// What the registers read at an offset. An access that crosses a boundary of eight bytes reads 0.
-    pub fn read(&self, offset: u32, width: Width) -> u64 {
+    pub fn read(&self, offset: u32, width: Width) -> u64
+        ensures { result ≡ read_wide self.now.controller offset width }
+    {
         self.controller.read(offset, width)
     }
 
-    // The link was reset: nothing is on its way any more, and each device begins anew.
-    fn renew(&mut self) {
+    /// What is behind the controller begins anew, as at power-up, and as a write does that resets the link: nothing is on its way
+    /// any more, and each device that is plugged in begins. With `legacy` the one at port 0 is reached at once.
+    pub fn power_on(&mut self)
+        ensures { self.new ≡ renewed self.old }
+    {
         self.incoming = None;
         self.taken = false;
         self.writing = false;
@@ -107,17 +130,21 @@ impl Machine {
 
     /// Writes to the registers at an offset, the lower dword first. A write that resets the link, or has it up again, has what is
     /// behind it begin anew.
-    pub fn write(&mut self, offset: u32, width: Width, value: u64) -> WideWritten {
+    pub fn write(&mut self, offset: u32, width: Width, value: u64) -> WideWritten
+        ensures { WritesMachine offset width value self.old result self.new }
+    {
         let written = self.controller.write(offset, width, value);
         self.message = self.message || written.low.message || written.high.message;
         if written.low.effect != Effect::Nothing || written.high.effect != Effect::Nothing {
-            self.renew();
+            self.power_on();
         }
         written
     }
 
     /// The bytes that [`WriteGuest`](crate::Request::WriteGuest) is about, until the next call that changes the machine.
-    pub fn lent(&self) -> &[u8] {
+    pub fn lent(&self) -> &[u8]
+        ensures { result.now ≡ lent_bytes self.now }
+    {
         match &self.lent {
             Lent::Nothing => &[],
             Lent::Count(bytes) => bytes,
@@ -130,7 +157,9 @@ impl Machine {
 }
 
 // So many bytes from one on, if they are there.
-fn part(bytes: &[u8], from: usize, len: usize) -> &[u8] {
+fn part(bytes: &[u8], from: usize, len: usize) -> &[u8]
+    ensures { result.now ≡ part_of bytes.now from len }
+{
     if from > bytes.len() || len > bytes.len() - from {
         return &[];
     }

@@ -1,5 +1,8 @@
 //! What is at the ports comes and goes.
 
+ghost use Rattle.std.specs.Prelude.{◌≡◌};
+ghost use Rattle.ahci_machine.specs.Ports.{PlugsMachine, PullsMachine, Puts, Removes};
+
 use crate::bay::Unit;
 use crate::machine::Machine;
 use fan_out::PlugError;
@@ -29,7 +32,9 @@ pub enum PortFault {
 
 impl Machine {
     /// A disk, or a device of the caller's own, is put at a port. It is not plugged in yet. It is given back where it cannot be.
-    pub fn put(&mut self, port: u8, unit: Unit) -> Result<(), (Unit, PortFault)> {
+    pub fn put(&mut self, port: u8, unit: Unit) -> Result<(), (Unit, PortFault)>
+        ensures { Puts port unit self.old result self.new }
+    {
         let Some(bay) = self.bays.get_mut(usize::from(port)) else {
             return Err((unit, PortFault::NoPort));
         };
@@ -44,7 +49,9 @@ impl Machine {
     }
 
     /// What is at a port is plugged in: it begins anew.
-    pub fn plug(&mut self, port: u8) -> Result<(), PortFault> {
+    pub fn plug(&mut self, port: u8) -> Result<(), PortFault>
+        ensures { PlugsMachine port self.old result self.new }
+    {
         let Some(bay) = self.bays.get(usize::from(port)) else {
             return Err(PortFault::NoPort);
         };
@@ -60,13 +67,15 @@ impl Machine {
     }
 
     /// What is at a port is pulled: all that it had to do is gone, and the guest hears nothing more of it.
-    pub fn pull(&mut self, alloc: Global, port: u8) -> Result<(), PortFault> {
-        let Some(bay) = self.bays.get_mut(usize::from(port)) else {
+    pub fn pull(&mut self, alloc: Global, port: u8) -> Result<(), PortFault>
+        ensures { PullsMachine port self.old result self.new }
+    {
+        if usize::from(port) >= self.bays.len() {
             return Err(PortFault::NoPort);
-        };
+        }
         match self.fan.pull(port) {
             Ok(()) => {
-                bay.drops_all(alloc);
+                self.bays[usize::from(port)].drops_all(alloc);
                 Ok(())
             }
             Err(_) => Err(PortFault::NotThere),
@@ -74,7 +83,9 @@ impl Machine {
     }
 
     /// What is at a port is taken away, and pulled before where it is plugged in.
-    pub fn remove(&mut self, alloc: Global, port: u8) -> Result<Unit, PortFault> {
+    pub fn remove(&mut self, alloc: Global, port: u8) -> Result<Unit, PortFault>
+        ensures { Removes port self.old result self.new }
+    {
         let _ = self.pull(alloc, port);
         let Some(bay) = self.bays.get_mut(usize::from(port)) else {
             return Err(PortFault::NoPort);

@@ -1,5 +1,8 @@
 //! What the caller is asked.
 
+ghost use Rattle.std.specs.Prelude.{◌≡◌};
+ghost use Rattle.ahci_machine.specs.Asked.{read_of};
+
 use ahci_controller::Ask;
 use block_engine::What;
 
@@ -38,7 +41,9 @@ pub struct GuestRead {
 
 impl GuestRead {
     /// Bytes of a command.
-    pub(crate) fn of(ask: Ask) -> GuestRead {
+    pub(crate) fn of(ask: Ask) -> GuestRead
+        ensures { result ≡ read_of ask }
+    {
         GuestRead {
             wanted: Wanted::Command {
                 slot: ask.slot,

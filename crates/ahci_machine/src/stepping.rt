@@ -1,5 +1,8 @@
 //! What is next to do.
 
+ghost use Rattle.std.specs.Prelude.{◌≡◌, IfOk, OnErr};
+ghost use Rattle.ahci_machine.specs.Acts.{Asks, MayDo, Moves, Steps, unlent};
+
 use crate::act::Act;
 use crate::machine::{Lent, Machine};
 use crate::request::Request;
@@ -11,7 +14,9 @@ const BUDGET: u32 = 64;
 
 impl Machine {
     // The Data FISes whose bytes are read go on.
-    fn gather_any(&mut self) -> Option<Act> {
+    fn gather_any(&mut self) -> Option<Act>
+        ensures { MayDo self.old result self.new }
+    {
         for dev in 0..16_u8 {
             if let Some(act) = self.gather_next(dev) {
                 return Some(act);
@@ -21,7 +26,9 @@ impl Machine {
     }
 
     // What comes before all else: writes to the guest, and the line.
-    fn urgent(&mut self) -> Option<Act> {
+    fn urgent(&mut self) -> Option<Act>
+        ensures { MayDo self.old result self.new }
+    {
         if let Some(act) = self.write_next() {
             return Some(act);
         }
@@ -29,7 +36,10 @@ impl Machine {
     }
 
     // What is on its way goes on.
-    fn carry_next(&mut self, alloc: Global) -> Result<Option<Act>, AllocError> {
+    fn carry_next(&mut self, alloc: Global) -> Result<Option<Act>, AllocError>
+        ensures ok { IfOk result (λ act. MayDo self.old act self.new) }
+        ensures err { OnErr result (self.new ≡ self.old) }
+    {
         if let Some(act) = self.rise_next(alloc)? {
             return Ok(Some(act));
         }
@@ -49,7 +59,10 @@ impl Machine {
     }
 
     // What the ports do, or else what the controller has to do: they take turns.
-    fn turn_or_serve(&mut self, alloc: Global) -> Result<Act, AllocError> {
+    fn turn_or_serve(&mut self, alloc: Global) -> Result<Act, AllocError>
+        ensures ok { IfOk result (λ act. Steps self.old act self.new) }
+        ensures err { OnErr result (self.new ≡ self.old) }
+    {
         if self.first && self.kept.is_none() {
             self.first = false;
             return Ok(Act::Turns(self.turn_next()));
@@ -68,7 +81,10 @@ impl Machine {
     }
 
     /// Makes one move. Where memory is refused, nothing changes.
-    pub fn step(&mut self, alloc: Global) -> Result<Act, AllocError> {
+    pub fn step(&mut self, alloc: Global) -> Result<Act, AllocError>
+        ensures ok { IfOk result (λ act. Steps self.old act self.new) }
+        ensures err { OnErr result (self.new ≡ self.old) }
+    {
         if let Some(act) = self.urgent() {
             return Ok(act);
         }
@@ -79,7 +95,11 @@ impl Machine {
     }
 
     /// Makes moves until one asks something of the caller, but at most 64.
-    pub fn next(&mut self, alloc: Global) -> Result<Request, AllocError> {
+    #[tactic(auto, using(crate::proofs::MoveLemmas::no_moves, crate::proofs::MoveLemmas::one_more))]
+    pub fn next(&mut self, alloc: Global) -> Result<Request, AllocError>
+        ensures ok { IfOk result (λ request. Asks (unlent self.old) request self.new) }
+        ensures err { OnErr result (Moves (unlent self.old) self.new) }
+    {
         self.lent = Lent::Nothing;
         for _ in 0..BUDGET {
             if let Some(request) = self.step(alloc)?.request() {

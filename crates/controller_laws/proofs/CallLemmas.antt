@@ -25,7 +25,7 @@ use Rattle.ahci_controller.specs.Feeding.{GathersIf, Loses, LosesIf, MissesIf as
 use Rattle.ahci_controller.specs.Fetching.{GoesOn, MissesIf, SuppliesIf, answered, fits, is_asked, next_number, without_fetch}
 use Rattle.ahci_controller.specs.Access.{fits as fits_width}
 use Rattle.ahci_controller.specs.Issuing.{PlacesSlot, RefusesSlot, device_of, not_issued, not_taken as not_taken_as, offered_command}
-use Rattle.ahci_controller.specs.Next.{FeedsTo, Frames, FramesFor, OrdersSlot, Reads, TurnsIf, count_next, counted_slot, feed_next, is_fed, is_halted, next_device, next_read, next_slot, next_write, order_next, rest, run_of, step_of, step_with, turn_to, written}
+use Rattle.ahci_controller.specs.Next.{FeedsTo, Frames, FramesFor, GoesIf, OrdersSlot, Reads, RestsNow, StartsUp, TurnsIf, count_next, counted_slot, feed_next, is_fed, is_halted, next_device, next_read, next_slot, next_write, order_next, rest, run_of, step_of, step_with, turn_to, written}
 use Rattle.ahci_controller.specs.Moving.{count_of}
 use Rattle.ahci_controller.specs.Offers.{offer_in}
 use Rattle.ahci_controller.specs.States.{ControllerState, kept}
@@ -42,11 +42,16 @@ use Rattle.ahci_controller.specs.declared.wants.Carried.{Carried}
 use Rattle.ahci_controller.specs.declared.taking.Hindrance.TheVariants as why
 use Rattle.hba_fbs.specs.declared.greeting.Listens.TheVariants as listens
 use Rattle.ahci_controller.specs.declared.taking.Took.{Took}
-use Rattle.controller_laws.specs.CoreEvents.{AreCoreEvents, no_tables, of_all, of_event, of_fed, of_frame, of_next, of_supply}
+use Rattle.controller_laws.specs.CoreEvents.{AreCoreEvents, no_tables, of_all, of_event, commanded_with, of_fed, of_frame, of_next, of_supply, of_turn}
 use Rattle.controller_laws.specs.Events as event
 use Rattle.controller_laws.specs.Events.{Does, Event, IsController, IsWhole, Runs, Takes}
 use Rattle.controller_laws.proofs.ListLemmas.{as_list, core_kept, no_core_event, one_core_event, then_core_events}
-use Rattle.controller_laws.proofs.RegisterLemmas.{wide_are, write_are}
+use Rattle.controller_laws.proofs.RegisterLemmas.{started_as, wide_are, write_are}
+use Rattle.hba_fbs.specs.Registers.{own_refusal_by}
+use Rattle.hba_fbs.specs.Stopping.{SetsCmd}
+use Rattle.hba_fbs.specs.declared.register.Register.TheVariants as on_port
+use Rattle.ahci_controller.specs.Own.{engine_of}
+use Rattle.ahci_controller.specs.Reading.{is_idle}
 
 -- ---- supplies
 
@@ -194,13 +199,27 @@ reads_are : (read : Option ℕ) (base old new : ControllerState) (next : Next) �
 reads_are None base old new next same ok ok_new h = frames_are (next_device base) (next_slot base) base.circle.fed base old new next same ok ok_new h
 reads_are (Some slot) base old new next same ok ok_new h = no_next old new next (next_step.Read _) ok (ap (λ (c : ControllerState). c.core) h.1 ∙ same) h.0 refl
 
-turns_if : (halted : Bool) (base old new : ControllerState) (next : Next) → base.core ≡ old.core → IsCore old.core → IsCore new.core → TurnsIf halted base next new → AreCoreEvents old.core (of_next next old) new.core
-turns_if true base old new next same ok ok_new h = no_next old new next next_step.Nothing ok (ap (λ (c : ControllerState). c.core) h.0 ∙ same) h.1 refl
-turns_if false base old new next same ok ok_new h = reads_are (next_read base) base old new next same ok ok_new h
+-- the port starts
+rests_core : (o : Option ℕ) (base new : ControllerState) (next : Next) → MatchOption o (RestsNow base next new) (λ slot. Reads base slot next new) → new.core ≡ base.core
+rests_core None base new next h = ap (λ (c : ControllerState). c.core) h.0
+rests_core (Some slot) base new next h = ap (λ (c : ControllerState). c.core) h.1
+
+starts_are : (old new : ControllerState) (next : Next) → IsCore old.core → IsCore new.core → StartsUp (written old) next new → AreCoreEvents old.core (commanded_with old.core.registers (engine_of old.own (is_idle old) old.core.registers)) new.core
+starts_are old new next ok ok_new h =
+    let value : ℕ = engine_of old.own (is_idle old) old.core.registers in
+    let same : new.core ≡ h.middle.core = rests_core (next_read h.middle) h.middle new next h.reads in
+    started_as (own_refusal_by on_port.Cmd old.core.registers value) value old.core new.core refl ok ok_new
+    (subst (λ (p : Port). MatchOption (own_refusal_by on_port.Cmd old.core.registers value) (SetsCmd old.core value p) (λ e. p ≡ old.core)) (sym same) h.starts.core)
+
+turns_if : (halted started : Bool) (old new : ControllerState) (next : Next) → (written old).core.registers.started ≡ started → IsCore old.core → IsCore new.core → TurnsIf halted (written old) next new → AreCoreEvents old.core (of_turn halted started next old) new.core
+turns_if true started old new next is ok ok_new h = no_next old new next next_step.Nothing ok (ap (λ (c : ControllerState). c.core) h.0) h.1 refl
+turns_if false true old new next is ok ok_new h =
+    reads_are (next_read (written old)) (written old) old new next refl ok ok_new (subst (λ (b : Bool). GoesIf b (written old) next new) is h)
+turns_if false false old new next is ok ok_new h = starts_are old new next ok ok_new (subst (λ (b : Bool). GoesIf b (written old) next new) is h)
 
 turns_by : (write : Option Next) (old new : ControllerState) (next : Next) → next_write old ≡ write → IsCore old.core → IsCore new.core → MatchOption write (TurnsIf (is_halted (written old)) (written old) next new) (λ w. (next ≡ w) × (new ≡ written old))
-    → AreCoreEvents old.core (of_next next old) new.core
-turns_by None old new next is ok ok_new h = turns_if (is_halted (written old)) (written old) old new next refl ok ok_new h
+    → AreCoreEvents old.core (match_some write (of_turn (is_halted (written old)) old.core.registers.started next old) (λ w. of_next next old)) new.core
+turns_by None old new next is ok ok_new h = turns_if (is_halted (written old)) old.core.registers.started old new next refl ok ok_new h
 turns_by (Some w) old new next is ok ok_new h =
     no_next old new next w ok (ap (λ (c : ControllerState). c.core) h.1) h.0 (write_calm old old.writes.payload w is)
 

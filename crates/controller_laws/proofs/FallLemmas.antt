@@ -1,5 +1,5 @@
 -- What becomes of a slot that is being read, or of one whose command is a bad one.
-use Rattle.std.proofs.Common.{◌≡◌, ◌≢◌, ℕ, ◌<◌, ◌^◌, ◌&&◌, Bool, true, false, not, List, length, get_or, refl, sym, ap, ◌∙◌, inl, inr, arith, Option, Some, None, bit_or}
+use Rattle.std.proofs.Common.{◌≡◌, ◌≢◌, ℕ, ◌<◌, ◌^◌, ◌&&◌, ◌||◌, Bool, true, false, not, List, length, get_or, refl, sym, ap, ◌∙◌, inl, inr, arith, Option, Some, None, bit_or}
 use Rattle.std.specs.Prelude.{◌⊎◌, MatchOption, is_some, nat_lt, if◌then◌else◌}
 use Rattle.std.proofs.lemmas.List.{length-map}
 use Rattle.std.proofs.lemmas.List.FromFn.{get_or-map-range_with_len}
@@ -32,16 +32,17 @@ use Rattle.ahci_controller.specs.Access.{merged}
 use Rattle.ahci_controller.specs.Feeding.{GathersIf, Loses, LosesIf, LosesSlot, MissesIf as MissesDataIf, SendsIf, without_feeding}
 use Rattle.ahci_controller.specs.Fetching.{GoesOn, MissesIf, SuppliesIf, answered, fits, is_asked, without_fetch}
 use Rattle.ahci_controller.specs.Issuing.{PlacesSlot, RefusesSlot, device_of, not_issued, offered_command}
-use Rattle.ahci_controller.specs.Next.{FeedsTo, Frames, FramesFor, OrdersSlot, Reads as ReadsSlot, TurnsIf, is_halted, next_device, next_read, next_slot, turn_to, written}
+use Rattle.ahci_controller.specs.Next.{FeedsTo, Frames, FramesFor, GoesIf, OrdersSlot, Reads as ReadsSlot, RestsNow, StartsUp, TurnsIf, is_halted, next_device, next_read, next_slot, turn_to, written}
 use Rattle.ahci_controller.specs.Offers.{offer_in}
 use Rattle.ahci_controller.specs.Own as own_words
+use Rattle.ahci_controller.specs.Own.{commanded}
 use Rattle.ahci_controller.specs.Reading.{shown}
 use Rattle.ahci_controller.specs.States.{ControllerState}
 use Rattle.ahci_controller.specs.Taking.{Hears}
 use Rattle.ahci_controller.specs.declared.taking.Took.{Took}
 use Rattle.ahci_controller.specs.Wants.{dropped}
 use Rattle.ahci_controller.specs.Wide.{WritesAt, WritesFitting, WritesIf}
-use Rattle.ahci_controller.specs.Writing.{Commands, Leaves, ResetsBy, StartsPort, Tells, WritesGlobal, WritesRegister, asked_state, fresh_slots, link_effect, link_moved, plain}
+use Rattle.ahci_controller.specs.Writing.{Commands, Leaves, ResetsBy, StartsPort, Tells, WritesGlobal, WritesRegister, asked_state, fresh_slots, idle_for, link_effect, link_moved, plain}
 use Rattle.ahci_controller.specs.declared.access.Width.{Width}
 use Rattle.ahci_controller.specs.declared.feeding.Fed.{Fed}
 use Rattle.ahci_controller.specs.declared.issuing.NotTaken.{NotTaken}
@@ -89,26 +90,22 @@ linked effect.LinkUp s old new h was = unmoved s old new h was
 told : (register : port_register.Register) (value s : ℕ) (old new : ControllerState) (latch : Latch) (own : OwnRegisters) (ignored : Option WriteError) → own.bad ≡ old.own.bad → Tells old register value latch own ignored new → Stands s old → Keeps s new
 told register value s old new latch own ignored bad h was = still s old new (ap (λ (c : ControllerState). c.wants.pending) h.rest) (ap (λ (c : ControllerState). c.own.bad) h.rest ∙ bad) was
 
-fall_stops : (was now : Bool) → (was && not now) ≡ true → now ≡ false
-fall_stops was true h = absurd (false≢true (sym (and_not was) ∙ h))
-  where
-    and_not : (b : Bool) → (b && false) ≡ false
-    and_not true = refl
-    and_not false = refl
-fall_stops was false h = refl
+fall_stops : (was before own now : Bool) → (not now && (was || before && not own)) ≡ true → now ≡ false
+fall_stops was before own true h = absurd (false≢true h)
+fall_stops was before own false h = refl
 
-started : (fall : Bool) (value s : ℕ) (old new : ControllerState) → own_words.falls old.core.registers new.core.registers ≡ fall
-    → new.wants ≡ (if fall then dropped old else old).wants → new.own.bad ≡ (if fall then 0 else old.own.bad) → Stands s old → Keeps s new
-started true value s old new is wants bad was = Stopped (fall_stops old.core.registers.started new.core.registers.started is)
-started false value s old new is wants bad was = still s old new (ap (λ (w : Wants). w.pending) wants) bad was
+started : (fall : Bool) (own : OwnRegisters) (s : ℕ) (old new : ControllerState) → own_words.falls old.own own old.core.registers new.core.registers ≡ fall
+    → new.wants ≡ (if fall then dropped old else old).wants → new.own.bad ≡ (if fall then 0 else own.bad) → own.bad ≡ old.own.bad → Stands s old → Keeps s new
+started true own s old new is wants bad same was = Stopped (fall_stops old.core.registers.started old.own.starts own.starts new.core.registers.started is)
+started false own s old new is wants bad same was = still s old new (ap (λ (w : Wants). w.pending) wants) (bad ∙ same) was
 
-starts : (value s : ℕ) (old new : ControllerState) (ignored : Option WriteError) → StartsPort old value ignored new → Stands s old → Keeps s new
-starts value s old new ignored h was =
-    started (own_words.falls old.core.registers new.core.registers) value s old new refl (ap (λ (c : ControllerState). c.wants) h.rest) (ap (λ (c : ControllerState). c.own.bad) h.rest) was
+starts : (idle : Bool) (value s : ℕ) (old new : ControllerState) (ignored : Option WriteError) → StartsPort old idle value ignored new → Stands s old → Keeps s new
+starts idle value s old new ignored h was =
+    started (own_words.falls old.own (commanded old.own value) old.core.registers new.core.registers) (commanded old.own value) s old new refl (ap (λ (c : ControllerState). c.wants) h.rest) (ap (λ (c : ControllerState). c.own.bad) h.rest) refl was
 
 commands : (value s : ℕ) (old new : ControllerState) (ignored : Option WriteError) → Commands old value ignored new → Stands s old → Keeps s new
 commands value s old new ignored h was =
-    starts value s h.middle new ignored h.starts (stands_same s old h.middle (ap (λ (c : ControllerState). c.wants.pending) h.clears.rest) (ap (λ (c : ControllerState). c.own.bad) h.clears.rest) was)
+    starts (idle_for old value) value s h.middle new ignored h.starts (stands_same s old h.middle (ap (λ (c : ControllerState). c.wants.pending) h.clears.rest) (ap (λ (c : ControllerState). c.own.bad) h.clears.rest) was)
 
 asked : (running : Bool) (value s : ℕ) (old : ControllerState) → Stands s old → Stands s (if running then record old { wants = record old.wants { pending = bit_or old.wants.pending (fresh_slots old value) } } else old)
 asked true value s old (Reads h) = Reads (or_left old.wants.pending (fresh_slots old value) s h)
@@ -135,7 +132,7 @@ register ahci.PxSsts value s old new result h was = unmoved s old new h.0 was
 register ahci.PxSctl value s old new result h was = linked (link_effect old value) s (link_moved old value) new h.0 (stands_same s old (link_moved old value) refl refl was)
 register ahci.PxSerr value s old new result h was = told _ _ s old new _ _ result.ignored refl h.0 was
 register ahci.PxSact value s old new result h was = told _ _ s old new _ _ result.ignored refl h.0 was
-register ahci.PxCi value s old new result h was = unmoved s (asked_state old value) new h.0 (asked old.core.registers.started value s old was)
+register ahci.PxCi value s old new result h was = unmoved s (asked_state old value) new h.0 (asked old.own.starts value s old was)
 register ahci.PxSntf value s old new result h was = told _ _ s old new _ _ result.ignored refl h.0 was
 register ahci.PxFbs value s old new result h was = told _ _ s (record old { wants = record old.wants { feeding = 0 } }) new _ _ result.ignored refl h.0 (stands_same s old (record old { wants = record old.wants { feeding = 0 } }) refl refl was)
 
@@ -262,9 +259,34 @@ reads : (o : Option ℕ) (s : ℕ) (base new : ControllerState) (next : Next) �
 reads None s base new next h was = frames (next_device base) (next_slot base) base.circle.fed s base new next h was
 reads (Some slot) s base new next h was = stands_same s base new (ap (λ (c : ControllerState). c.wants.pending) h.1) (ap (λ (c : ControllerState). c.own.bad) h.1) was
 
+-- the port starts
+no_fall : (was starts now : Bool) → was ≡ false → (not now && (was || starts && not starts)) ≡ false
+no_fall true starts now f = absurd (false≢true (sym f))
+no_fall false true true f = refl
+no_fall false true false f = refl
+no_fall false false true f = refl
+no_fall false false false f = refl
+
+rests : (o : Option ℕ) (s : ℕ) (base new : ControllerState) (next : Next) → MatchOption o (RestsNow base next new) (λ slot. ReadsSlot base slot next new) → Stands s base → Stands s new
+rests None s base new next h was = same_stands s base new h.0 was
+rests (Some slot) s base new next h was = stands_same s base new (ap (λ (c : ControllerState). c.wants.pending) h.1) (ap (λ (c : ControllerState). c.own.bad) h.1) was
+
+starts_up : (s : ℕ) (base new : ControllerState) (next : Next) → base.core.registers.started ≡ false → StartsUp base next new → Stands s base → Stands s new
+starts_up s base new next stopped h was =
+    let none : own_words.falls base.own base.own base.core.registers h.middle.core.registers ≡ false = no_fall base.core.registers.started base.own.starts h.middle.core.registers.started stopped in
+    let pending : h.middle.wants.pending ≡ base.wants.pending =
+    ap (λ (c : ControllerState). c.wants.pending) h.starts.rest ∙ ap (λ (fall : Bool). (if fall then dropped base else base).wants.pending) none in
+    let bad : h.middle.own.bad ≡ base.own.bad =
+    ap (λ (c : ControllerState). c.own.bad) h.starts.rest ∙ ap (λ (fall : Bool). if fall then 0 else base.own.bad) none in
+    rests (next_read h.middle) s h.middle new next h.reads (stands_same s base h.middle pending bad was)
+
+goes : (started : Bool) (s : ℕ) (base new : ControllerState) (next : Next) → base.core.registers.started ≡ started → GoesIf started base next new → Stands s base → Stands s new
+goes true s base new next is h was = reads (next_read base) s base new next h was
+goes false s base new next is h was = starts_up s base new next is h was
+
 turns_if : (halted : Bool) (s : ℕ) (base new : ControllerState) (next : Next) → TurnsIf halted base next new → Stands s base → Stands s new
 turns_if true s base new next h was = same_stands s base new h.0 was
-turns_if false s base new next h was = reads (next_read base) s base new next h was
+turns_if false s base new next h was = goes base.core.registers.started s base new next refl h was
 
 pub turn_stands : (o : Option Next) (s : ℕ) (old new : ControllerState) (next : Next) → MatchOption o (TurnsIf (is_halted (written old)) (written old) next new) (λ write. (next ≡ write) × (new ≡ written old)) → Stands s old → Stands s new
 turn_stands None s old new next h was = turns_if (is_halted (written old)) s (written old) new next h (stands_same s old (written old) refl refl was)

@@ -9,7 +9,7 @@ use Rattle.guest_fetch.specs.Moves.{move_of, moves_at, moves_of}
 use Rattle.guest_fetch.specs.Places.{place, room_at}
 use Rattle.guest_fetch.specs.declared.entry.Entry.{Entry}
 use Rattle.guest_fetch.specs.declared.moves.Move.{Move}
-use Rattle.ahci_controller.specs.Next.{Frames, FramesFor, Reads, count_next, counted_slot, TurnsIf, feed_next, first_run, is_halted, left, next_device, next_read, next_slot, next_write, order_next, rest, run_of, step_of, step_with, turn_to, written}
+use Rattle.ahci_controller.specs.Next.{Frames, FramesFor, GoesIf, Reads, RestsNow, count_next, counted_slot, TurnsIf, feed_next, first_run, is_halted, left, next_device, next_read, next_slot, next_write, order_next, rest, run_of, step_of, step_with, turn_to, written}
 use Rattle.ahci_controller.specs.Moving.{count_of}
 use Rattle.ahci_controller.specs.States.{ControllerState, kept}
 use Rattle.ahci_controller.specs.declared.next.Next.{Next}
@@ -130,9 +130,17 @@ reads_unwritten : (c : ControllerState) (o : Option ℕ) (base new : ControllerS
 reads_unwritten c None base new next h = frames_unwritten c (next_device base) (next_slot base) base.circle.fed base new next h
 reads_unwritten c (Some slot) base new next h = subst (IsWritten c) (sym h.0) tt
 
+rests_unwritten : (c : ControllerState) (o : Option ℕ) (base new : ControllerState) (next : Next) → MatchOption o (RestsNow base next new) (λ slot. Reads base slot next new) → IsWritten c next
+rests_unwritten c None base new next h = subst (IsWritten c) (sym h.1) tt
+rests_unwritten c (Some slot) base new next h = subst (IsWritten c) (sym h.0) tt
+
+goes_unwritten : (c : ControllerState) (started : Bool) (base new : ControllerState) (next : Next) → GoesIf started base next new → IsWritten c next
+goes_unwritten c true base new next h = reads_unwritten c (next_read base) base new next h
+goes_unwritten c false base new next h = rests_unwritten c (next_read h.middle) h.middle new next h.reads
+
 turns_unwritten : (c : ControllerState) (halted : Bool) (base new : ControllerState) (next : Next) → TurnsIf halted base next new → IsWritten c next
 turns_unwritten c true base new next h = subst (IsWritten c) (sym h.1) tt
-turns_unwritten c false base new next h = reads_unwritten c (next_read base) base new next h
+turns_unwritten c false base new next h = goes_unwritten c base.core.registers.started base new next h
 
 turns_placed : (o : Option Next) (old new : ControllerState) (next : Next) → next_write old ≡ o → MatchOption o (TurnsIf (is_halted (written old)) (written old) next new) (λ write. (next ≡ write) × (new ≡ written old)) → IsWritten old next
 turns_placed None old new next is h = turns_unwritten old (is_halted (written old)) (written old) new next h

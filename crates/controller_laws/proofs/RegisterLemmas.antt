@@ -27,13 +27,13 @@ use Rattle.ahci_controller.specs.Own.{commanded, engine_of}
 use Rattle.ahci_controller.specs.Reading.{shown}
 use Rattle.ahci_controller.specs.States.{ControllerState}
 use Rattle.ahci_controller.specs.Wide.{WritesAt, WritesFitting, WritesIf, WritesPart, block_of}
-use Rattle.ahci_controller.specs.Writing.{ClearsIf, Commands, Leaves, ResetsBy, Tells, WritesGlobal, WritesRegister, asked_state, clears_busy, engine, link_effect, link_moved, plain, told_refusal}
+use Rattle.ahci_controller.specs.Writing.{ClearsIf, Commands, Leaves, ResetsBy, Tells, WritesGlobal, WritesRegister, asked_state, clears_busy, engine, idle_for, link_effect, link_moved, plain, told_refusal}
 use Rattle.ahci_controller.specs.declared.access.Width.{Width}
 use Rattle.ahci_controller.specs.declared.latch.Latch.{Latch}
 use Rattle.ahci_controller.specs.declared.own.OwnRegisters.{OwnRegisters}
 use Rattle.ahci_controller.specs.declared.wide.WideWritten.{WideWritten}
 use Rattle.ahci_controller.specs.declared.writing.Written.{Written}
-use Rattle.controller_laws.specs.CoreEvents.{AreCoreEvents, commanded_by, no_tables, of_part, of_register, of_wide, of_write, overridden_by, relinked_by, reset_by, told}
+use Rattle.controller_laws.specs.CoreEvents.{AreCoreEvents, commanded_by, commanded_with, no_tables, of_part, of_register, of_wide, of_write, overridden_by, relinked_by, reset_by, told}
 use Rattle.controller_laws.proofs.ListLemmas.{as_list, link_kept, no_core_event, one_core_event, then_core_events, whole_kept}
 
 core_is : (old new : ControllerState) → new ≡ old → new.core ≡ old.core
@@ -97,26 +97,28 @@ overridden_are false old new ok h = record {
   registers = ap (λ (p : Port). p.registers) h;
 }
 
-started_as : (o : Option WriteError) (value : ℕ) (old new : Port) → own_refusal_by on_port.Cmd old.registers value ≡ o → IsCore old → IsCore new → MatchOption o (SetsCmd old value new) (λ e. new ≡ old)
+pub started_as : (o : Option WriteError) (value : ℕ) (old new : Port) → own_refusal_by on_port.Cmd old.registers value ≡ o → IsCore old → IsCore new → MatchOption o (SetsCmd old value new) (λ e. new ≡ old)
     → AreCoreEvents old (match_some o (core.Commanded value ∷ []) (λ e. [])) new
 started_as None value old new is ok ok_new h = one_core_event (core.Commanded value) old new ok ok_new tt (is, h)
 started_as (Some e) value old new is ok ok_new h = no_core_event old new ok h
 
 -- CLO and what is kept of PxCMD leave the registers of the core
-same_command : (old middle : ControllerState) (value : ℕ) → middle ≡ record old { core = middle.core } → middle.core.registers ≡ old.core.registers → commanded_by old value ≡ commanded_by middle value
-same_command old middle value rest same =
+same_command : (old middle : ControllerState) (idle : Bool) (value : ℕ) → middle ≡ record old { core = middle.core } → middle.core.registers ≡ old.core.registers
+    → commanded_with old.core.registers (engine old idle value) ≡ commanded_with middle.core.registers (engine middle idle value)
+same_command old middle idle value rest same =
     let own : middle.own ≡ old.own = ap (λ (c : ControllerState). c.own) rest in
-    let text : OwnRegisters → Registers → List CoreEvent = λ o r. match_some (own_refusal_by on_port.Cmd r (engine_of (commanded o value) r)) (core.Commanded (engine_of (commanded o value) r) ∷ []) (λ e. []) in
+    let text : OwnRegisters → Registers → List CoreEvent = λ o r. commanded_with r (engine_of (commanded o value) idle r) in
     ap (λ (o : OwnRegisters). text o old.core.registers) (sym own) ∙ ap (λ (r : Registers). text middle.own r) (sym same)
 
 commands_are : (value : ℕ) (old new : ControllerState) (ignored : Option WriteError) → IsCore old.core → IsCore new.core → Commands old value ignored new
     → AreCoreEvents old.core (overridden_by (clears_busy old value) old.core ++ commanded_by old value) new.core
 commands_are value old new ignored ok ok_new h =
     let first : Overridden (clears_busy old value) old.core h.middle.core = overridden_are (clears_busy old value) old.core h.middle.core ok h.clears.core in
-    let second : AreCoreEvents h.middle.core (commanded_by h.middle value) new.core =
-    started_as (own_refusal_by on_port.Cmd h.middle.core.registers (engine h.middle value)) (engine h.middle value) h.middle.core new.core refl first.kept ok_new h.starts.core in
+    let idle : Bool = idle_for old value in
+    let second : AreCoreEvents h.middle.core (commanded_with h.middle.core.registers (engine h.middle idle value)) new.core =
+    started_as (own_refusal_by on_port.Cmd h.middle.core.registers (engine h.middle idle value)) (engine h.middle idle value) h.middle.core new.core refl first.kept ok_new h.starts.core in
     then_core_events (overridden_by (clears_busy old value) old.core) (commanded_by old value) old.core h.middle.core new.core first.are
-    (as_list (commanded_by h.middle value) (commanded_by old value) h.middle.core new.core (same_command old h.middle value h.clears.rest first.registers) second)
+    (as_list (commanded_with h.middle.core.registers (engine h.middle idle value)) (commanded_by old value) h.middle.core new.core (same_command old h.middle idle value h.clears.rest first.registers) second)
 
 -- ---- all registers
 
@@ -144,7 +146,7 @@ register_are ahci.PxSsts value old new result ok ok_new h = no_core_event old.co
 register_are ahci.PxSctl value old new result ok ok_new h = linked_are (link_effect old value) value old new ok ok_new h.0
 register_are ahci.PxSerr value old new result ok ok_new h = told_are on_port.Serr value old new _ _ result.ignored ok ok_new h.0
 register_are ahci.PxSact value old new result ok ok_new h = told_are on_port.Sact _ old new _ _ result.ignored ok ok_new h.0
-register_are ahci.PxCi value old new result ok ok_new h = no_core_event old.core new.core ok (core_is (asked_state old value) new h.0 ∙ asked_core old.core.registers.started old _ refl)
+register_are ahci.PxCi value old new result ok ok_new h = no_core_event old.core new.core ok (core_is (asked_state old value) new h.0 ∙ asked_core old.own.starts old _ refl)
 register_are ahci.PxSntf value old new result ok ok_new h = told_are on_port.Sntf value old new _ _ result.ignored ok ok_new h.0
 register_are ahci.PxFbs value old new result ok ok_new h =
     told_are on_port.Fbs _ (record old { wants = record old.wants { feeding = 0 } }) new _ _ result.ignored ok ok_new h.0

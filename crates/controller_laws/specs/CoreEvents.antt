@@ -18,19 +18,21 @@ use Rattle.hba_fbs.specs.Views.{Port}
 use Rattle.hba_fbs.specs.declared.greeting.Line.TheVariants as on_line
 use Rattle.hba_fbs.specs.declared.register.Register as port_register
 use Rattle.hba_fbs.specs.declared.register.Register.TheVariants as on_port
+use Rattle.hba_fbs.specs.declared.registers.Registers.{Registers}
 use Rattle.hba_fbs.specs.declared.report.TakeReport.{TakeReport}
 use Rattle.hba_laws.specs.Cores as core
 use Rattle.hba_laws.specs.Cores.{CoreEvent, RunsBy}
 use Rattle.hba_laws.specs.CoreHistories.{AreSoundBy}
 use Rattle.ahci_controller.specs.Access.{fits, high_of, low_of, merged, ones_of, spread_of}
 use Rattle.ahci_controller.specs.Issuing.{device_of, offered_command}
-use Rattle.ahci_controller.specs.Next.{turn_to}
+use Rattle.ahci_controller.specs.Next.{is_halted, next_write, turn_to, written}
 use Rattle.ahci_controller.specs.Offers.{offer_in, offers_nothing}
-use Rattle.ahci_controller.specs.Reading.{shown}
+use Rattle.ahci_controller.specs.Own.{engine_of}
+use Rattle.ahci_controller.specs.Reading.{is_idle, shown}
 use Rattle.ahci_controller.specs.States.{ControllerState, kept}
 use Rattle.ahci_controller.specs.Taking.{room_for}
 use Rattle.ahci_controller.specs.Wide.{WritesFitting, block_of}
-use Rattle.ahci_controller.specs.Writing.{armed_by, clears_busy, control_after, engine, line_of, link_effect, switched_by, told_refusal}
+use Rattle.ahci_controller.specs.Writing.{armed_by, clears_busy, control_after, engine, idle_for, line_of, link_effect, switched_by, told_refusal}
 use Rattle.ahci_controller.specs.declared.access.Width.{Width}
 use Rattle.ahci_controller.specs.declared.feeding.Fed.{Fed}
 use Rattle.ahci_controller.specs.declared.feeding.Fed.TheVariants as fed_answer
@@ -69,9 +71,13 @@ abbrev pub overridden_by : (clears : Bool) → Port → List CoreEvent
 overridden_by true port = core.Overrode (shown_device port) ∷ []
 overridden_by false port = []
 
+-- what is written to PxCMD of the core, unless it refuses it
+abbrev pub commanded_with : Registers → ℕ → List CoreEvent
+commanded_with registers engine_is =
+    match_some (own_refusal_by on_port.Cmd registers engine_is) (core.Commanded engine_is ∷ []) (λ e. [])
+
 abbrev pub commanded_by : ControllerState → ℕ → List CoreEvent
-commanded_by c value = match_some (own_refusal_by on_port.Cmd c.core.registers (engine c value))
-    (core.Commanded (engine c value) ∷ []) (λ e. [])
+commanded_by c value = commanded_with c.core.registers (engine c (idle_for c value) value)
 
 abbrev pub of_register : Register → ControllerState → ℕ → List CoreEvent
 of_register ahci.Ghc c value = reset_by (line_bits.has_bit value 0)
@@ -120,6 +126,16 @@ abbrev pub of_next : Next → ControllerState → List CoreEvent
 of_next (next_step.Order dev slot fis) old = core.Chose (orders old.core slot) fis ∷ []
 of_next next old = []
 
+-- ST was held, and the port starts: nothing goes to a device then
+abbrev pub of_turn : (halted started : Bool) → Next → ControllerState → List CoreEvent
+of_turn true started next old = of_next next old
+of_turn false true next old = of_next next old
+of_turn false false next old = commanded_with old.core.registers (engine_of old.own (is_idle old) old.core.registers)
+
+abbrev pub of_turned : Next → ControllerState → List CoreEvent
+of_turned next old = match_some (next_write old)
+    (of_turn (is_halted (written old)) old.core.registers.started next old) (λ write. of_next next old)
+
 abbrev pub of_fed : Fed → ControllerState → (dev : ℕ) → List ℕ → List CoreEvent
 of_fed (fed_answer.Goes message line) old dev frame = core.Chose (turn_to old dev) frame ∷ []
 of_fed fed old dev frame = []
@@ -133,7 +149,7 @@ of_event old (Supplied slot number bytes supply) new does = of_supply supply slo
 of_event old (Missed slot number supply) new does = []
 of_event old (Took frame took) new does = of_frame old.core.registers.started old frame took.report ∷ []
 of_event old (Left frame why) new does = []
-of_event old (Turned next) new does = of_next next old
+of_event old (Turned next) new does = of_turned next old
 of_event old (Gathered dev number frame fed) new does = of_fed fed old dev frame
 of_event old (NotThere dev number fed) new does = []
 

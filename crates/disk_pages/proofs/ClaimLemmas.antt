@@ -1,6 +1,10 @@
 use Rattle.std.proofs.Common.{ℕ, ◌+◌, Bool, true, false, IsTrue, refl, Option, Some, None}
-use Rattle.disk_pages.specs.Claims.{AreWhole, is_covered}
-use Rattle.disk_pages.specs.Identity.{bits_if, feature_word, identity_word, name_bit, place_word}
+use Rattle.ata_command.specs.declared.settings.TransferMode.{TransferMode}
+use Rattle.ata_command.specs.declared.settings.TransferMode.TheVariants.{Multiword0, Multiword1, Multiword2}
+use Rattle.ata_command.specs.declared.settings.TransferMode.TheVariants.{Ultra0, Ultra1, Ultra2, Ultra3, Ultra4, Ultra5, Ultra6}
+use Rattle.disk_pages.specs.Claims.{AreWhole, is_covered, is_settable}
+use Rattle.disk_pages.specs.Identity.{bits_if, feature_word, identity_word, name_bit, place_word, transfer_word}
+use Rattle.disk_pages.specs.Modes.{multiword_bits, ultra_bits}
 use Rattle.disk_pages.specs.declared.profile.Profile.{Profile}
 use Rattle.ata_command.specs.declared.settings.Settings.{Settings}
 
@@ -12,6 +16,38 @@ trimmed : (trim : Bool) → IsTrue (is_covered 169 (bits_if trim 1))
 trimmed true = refl
 trimmed false = refl
 
+multiword : (mode : TransferMode) → IsTrue (is_settable 63 (0x0007 + multiword_bits mode))
+multiword Multiword0 = refl
+multiword Multiword1 = refl
+multiword Multiword2 = refl
+multiword Ultra0 = refl
+multiword Ultra1 = refl
+multiword Ultra2 = refl
+multiword Ultra3 = refl
+multiword Ultra4 = refl
+multiword Ultra5 = refl
+multiword Ultra6 = refl
+
+ultra : (mode : TransferMode) → IsTrue (is_settable 88 (0x007F + ultra_bits mode))
+ultra Multiword0 = refl
+ultra Multiword1 = refl
+ultra Multiword2 = refl
+ultra Ultra0 = refl
+ultra Ultra1 = refl
+ultra Ultra2 = refl
+ultra Ultra3 = refl
+ultra Ultra4 = refl
+ultra Ultra5 = refl
+ultra Ultra6 = refl
+
 pub whole : (p : Profile) (s : Settings) → AreWhole p s
-unfolding identity_word feature_word place_word
-whole p s = record { in_82 = refl; in_83 = refl; in_84 = named p.wwn; in_169 = trimmed p.trim }
+unfolding identity_word feature_word place_word transfer_word
+whole p s = record {
+  in_82 = refl;
+  in_83 = refl;
+  in_84 = named p.wwn;
+  in_169 = trimmed p.trim;
+  in_63 = multiword s.mode;
+  in_78 = refl;
+  in_88 = ultra s.mode;
+}

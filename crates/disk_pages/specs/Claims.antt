@@ -1,8 +1,14 @@
 -- What the IDENTIFY DEVICE data claim, and which commands a disk that claims it has to serve (ACS-3, 4, feature sets, and
 -- 7.12.7; Serial ATA 3.x, 13.6). A decoder cites `AreServed`: what is claimed is served.
-use Rattle.std.specs.Prelude.{ℕ, ◌/◌, ◌%◌, ◌^◌, ◌==◌, ◌&&◌, ◌||◌, not, Bool, IsTrue, List, [], ◌∷◌}
+use Rattle.std.specs.Prelude.{ℕ, ◌/◌, ◌%◌, ◌^◌, ◌==◌, ◌&&◌, ◌||◌, not, Bool, true, false, IsTrue, List, [], ◌∷◌, if◌then◌else◌, is_none}
 use Rattle.std.specs.List.{list_all, list_any, range_with_len}
+use Rattle.ata_command.specs.Asks.{DiskFacts, asked, setting_of}
+use Rattle.ata_command.specs.Modes.{power_on}
+use Rattle.ata_command.specs.declared.asked.Asked.{Asked}
+use Rattle.ata_command.specs.declared.asked.Asked.TheVariants.{Refused}
+use Rattle.ata_command.specs.declared.settings.Multiple.TheVariants.{One}
 use Rattle.disk_pages.specs.Identity.{identity_word}
+use Rattle.disk_pages.specs.Profiles.{facts_of}
 use Rattle.disk_pages.specs.declared.profile.Profile.{Profile}
 use Rattle.ata_command.specs.declared.settings.Settings.{Settings}
 
@@ -63,9 +69,64 @@ has_claim n b = list_any (λ (c : Claim). (c.word == n) && (c.bit == b)) claims
 abbrev pub is_covered : (number word : ℕ) → Bool
 is_covered n word = list_all (λ b. has_claim n b || not (bit_of b word)) (range_with_len 0 16)
 
--- no feature is claimed in words 82 to 84 and 169 that has no claim here
+-- a bit that says that something can be set, and the Features and the Count of the SET FEATURES that sets it
+pub record Subcommand : Type 0 where
+  pub word : ℕ
+  pub bit : ℕ
+  pub features : ℕ
+  pub count : ℕ
+
+abbrev pub sets : (word bit features count : ℕ) → Subcommand
+sets w b features count = record { word = w; bit = b; features = features; count = count }
+
+-- Words 63 and 88: the modes of multiword and Ultra DMA. 78: DMA Setup auto-activate. 82: write cache, look-ahead.
+abbrev pub subcommands : List Subcommand
+subcommands =
+    sets 63 0 0x03 0x20 ∷ sets 63 1 0x03 0x21 ∷ sets 63 2 0x03 0x22
+    ∷ sets 88 0 0x03 0x40 ∷ sets 88 1 0x03 0x41 ∷ sets 88 2 0x03 0x42 ∷ sets 88 3 0x03 0x43 ∷ sets 88 4 0x03 0x44 ∷ sets 88 5 0x03 0x45
+    ∷ sets 88 6 0x03 0x46
+    ∷ sets 78 2 0x10 0x02 ∷ sets 78 2 0x90 0x02
+    ∷ sets 82 5 0x02 0 ∷ sets 82 5 0x82 0 ∷ sets 82 6 0x55 0 ∷ sets 82 6 0xAA 0 ∷ []
+
+abbrev pub has_subcommand : (word bit : ℕ) → Bool
+has_subcommand n b = list_any (λ (c : Subcommand). (c.word == n) && (c.bit == b)) subcommands
+
+-- each of the first 8 bits of this word that is set has its subcommand
+abbrev pub is_settable : (number word : ℕ) → Bool
+is_settable n word = list_all (λ b. has_subcommand n b || not (bit_of b word)) (range_with_len 0 8)
+
+-- no feature is claimed in words 82 to 84 and 169 that has no claim here, and no mode and no feature of Serial ATA in words 63, 78
+-- and 88 that has no subcommand
 pub record AreWhole (p : Profile) (s : Settings) : Type 0 where
   pub in_82 : IsTrue (is_covered 82 (identity_word p s 82))
   pub in_83 : IsTrue (is_covered 83 (identity_word p s 83))
   pub in_84 : IsTrue (is_covered 84 (identity_word p s 84))
   pub in_169 : IsTrue (is_covered 169 (identity_word p s 169))
+  pub in_63 : IsTrue (is_settable 63 (identity_word p s 63))
+  pub in_78 : IsTrue (is_settable 78 (identity_word p s 78))
+  pub in_88 : IsTrue (is_settable 88 (identity_word p s 88))
+
+-- ## What the decoder serves
+
+-- a command with this code: of one sector, with the tag 0; SET FEATURES 02h, SMART ENABLE OPERATIONS, and TRIM of one block
+abbrev pub example : (code : ℕ) → List ℕ
+example code =
+    0x27 ∷ 0x80 ∷ code ∷ (if code == 0xEF then 0x02 else (if code == 0xB0 then 0xD8 else 0x01))
+    ∷ 0 ∷ (if code == 0xB0 then 0x4F else 0) ∷ (if code == 0xB0 then 0xC2 else 0) ∷ 0x40
+    ∷ 0 ∷ 0 ∷ 0 ∷ 0 ∷ 1 ∷ 0 ∷ 0 ∷ 0 ∷ 0 ∷ 0 ∷ 0 ∷ 0 ∷ []
+
+abbrev pub is_refused : Asked → Bool
+is_refused (Refused r) = true
+is_refused _ = false
+
+-- the decoder of this disk refuses a command with this code not always: READ MULTIPLE and WRITE MULTIPLE want SET MULTIPLE MODE first
+abbrev pub is_served : DiskFacts → (code : ℕ) → Bool
+is_served d code = not (is_refused (asked (example code) d (record power_on { multiple = One })))
+
+abbrev pub is_set : Settings → Subcommand → Bool
+is_set s c = not (is_none (setting_of s.mode c.features c.count))
+
+-- What the data of this disk claim, the decoder serves, and SET FEATURES sets.
+pub record AreDecoded (p : Profile) (s : Settings) : Type 0 where
+  pub commands : AreServed p s (is_served (facts_of p))
+  pub settings : IsTrue (list_all (is_set s) subcommands)

@@ -5,6 +5,7 @@ use Rattle.std.specs.Prelude.{List, [], ◌∷◌, ◌++◌, Option, Some, None}
 use Rattle.ata_command.specs.Modes.{sectors_in}
 use Rattle.disk_pages.specs.Texts.{pair}
 use Rattle.disk_pages.specs.Modes.{multiword_bits, ultra_bits}
+use Rattle.disk_pages.specs.Profiles.{trim_blocks}
 use Rattle.disk_pages.specs.Bytes.{bytes_of, closed}
 use Rattle.disk_pages.specs.declared.profile.Profile.{Profile}
 use Rattle.disk_pages.specs.declared.profile.PhysicalSector.{PhysicalSector}
@@ -110,7 +111,7 @@ place_word p n =
     (if n == 100 then p.capacity % 0x10000
     else (if n == 101 then p.capacity / 0x10000 % 0x10000
     else (if n == 102 then p.capacity / 0x100000000 % 0x10000
-    else (if n == 105 then bits_if p.trim 8
+    else (if n == 105 then trim_blocks p.trim
     else (if n == 106 then physical_word p.physical
     else (if n == 108 then wwn_number p.wwn / 0x1000000000000
     else (if n == 109 then wwn_number p.wwn / 0x100000000 % 0x10000

@@ -1,5 +1,7 @@
 -- The numbers that a disk's profile may have (ACS-3, IDENTIFY DEVICE data, words 75, 100 to 103 and 217).
-use Rattle.std.specs.Prelude.{ℕ, nat_le, nat_lt, ◌&&◌, if◌then◌else◌, Result, Ok, Err}
+use Rattle.std.specs.Prelude.{ℕ, nat_le, nat_lt, ◌&&◌, Bool, if◌then◌else◌, Result, Ok, Err}
+use Rattle.ata_command.specs.Asks.{DiskFacts}
+use Rattle.disk_pages.specs.declared.profile.Profile.{Profile}
 use Rattle.disk_pages.specs.declared.profile.NumberFault.{NumberFault}
 use Rattle.disk_pages.specs.declared.profile.NumberFault.TheVariants.{Sectors, Depth, Speed}
 
@@ -11,3 +13,11 @@ depth_of n = if nat_le 1 n && nat_le n 32 then Ok n else Err Depth
 
 abbrev pub rpm_of : ℕ → Result ℕ NumberFault
 rpm_of n = if nat_le 0x401 n && nat_le n 0xFFFE then Ok n else Err Speed
+
+-- word 105: the blocks of ranges that DATA SET MANAGEMENT takes at most
+abbrev pub trim_blocks : (trim : Bool) → ℕ
+trim_blocks trim = if trim then 8 else 0
+
+-- what the decoder of its commands has to know
+abbrev pub facts_of : Profile → DiskFacts
+facts_of p = record { sectors = p.capacity; depth = p.depth; trim_blocks = trim_blocks p.trim }

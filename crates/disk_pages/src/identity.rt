@@ -8,7 +8,7 @@ ghost use Rattle.disk_pages.specs.Modes.{multiword_bits, ultra_bits};
 ghost use Rattle.disk_pages.specs.Identity.{name_bit, name_word, physical_word, place_word, rotation_word, transfer_word, wwn_number};
 
 use crate::bytes::close;
-use crate::profile::{PhysicalSector, Profile, Rotation};
+use crate::profile::{PhysicalSector, Profile, Rotation, trim_blocks};
 use ata_command::{Multiple, Settings, TransferMode};
 
 fn bits_if(b: bool, bits: u16) -> u16
@@ -185,7 +185,7 @@ fn place_word(profile: &Profile, n: usize) -> u16
         100 => (sectors % 0x1_0000) as u16,
         101 => (sectors / 0x1_0000 % 0x1_0000) as u16,
         102 => (sectors / 0x1_0000_0000 % 0x1_0000) as u16,
-        105 => bits_if(profile.trim, 8),
+        105 => trim_blocks(profile.trim),
         106 => physical_word(profile.physical),
         108 => (wwn / 0x1_0000_0000_0000) as u16,
         109 => (wwn / 0x1_0000_0000 % 0x1_0000) as u16,

@@ -11,11 +11,11 @@ mod readings;
 mod smart;
 mod text;
 
-pub use claims::claims_are_whole;
+pub use claims::{claims_are_decoded, claims_are_whole};
 pub use identity::identify;
 pub use log::{LogPage, reads_log};
 pub use ncq_error::NcqError;
 pub use profile::{Capacity, NumberFault, PhysicalSector, Profile, QueueDepth, Rotation, Rpm};
 pub use readings::identity_is_read;
-pub use smart::{Health, SmartAnswer, smart_answer, smart_page};
+pub use smart::smart_page;
 pub use text::{FirmwareRevision, IdentityText, ModelNumber, SerialNumber, TextFault};

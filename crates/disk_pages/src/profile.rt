@@ -1,9 +1,10 @@
 //! What a disk is: what its IDENTIFY DEVICE data say and no command changes.
 
 ghost use Rattle.std.specs.Prelude.{◌≡◌, ◌<◌, ◌≤◌, Ok, Err, IfOk, IfErr, IsErrOf};
-ghost use Rattle.disk_pages.specs.Profiles.{capacity_of, depth_of, rpm_of};
+ghost use Rattle.disk_pages.specs.Profiles.{capacity_of, depth_of, facts_of, rpm_of, trim_blocks};
 
 use crate::text::{FirmwareRevision, ModelNumber, SerialNumber};
+use ata_command::Facts;
 use std::marker::Model;
 use thiserror::Error;
 
@@ -179,4 +180,27 @@ pub struct Profile {
     pub physical: PhysicalSector,
     /// Whether it takes DATA SET MANAGEMENT with TRIM.
     pub trim: bool,
+}
+
+/// The blocks of ranges that DATA SET MANAGEMENT takes at most.
+pub(crate) fn trim_blocks(trim: bool) -> u16
+    ensures { result ≡ trim_blocks trim }
+{
+    if trim { 8 } else { 0 }
+}
+
+impl Profile {
+    /// What the decoder of its commands has to know: what the IDENTIFY DEVICE data say.
+    pub fn facts(&self) -> Facts
+        ensures { result ≡ facts_of self.now }
+    {
+        match Facts::new(
+            self.capacity.sectors(),
+            self.depth.commands(),
+            trim_blocks(self.trim),
+        ) {
+            Some(facts) => facts,
+            None => unreachable!(),
+        }
+    }
 }

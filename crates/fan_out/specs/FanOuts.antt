@@ -1,6 +1,6 @@
 -- What is behind the port of a host: a link is of two ends (Serial ATA 3.x, 13), and at the other one is a device or a port
 -- multiplier (16.3).
-use Rattle.std.specs.Prelude.{◌≡◌, ◌&&◌, ℕ, nat_lt, Bool, false, Option, None, Result, Ok, Err, MatchResult}
+use Rattle.std.specs.Prelude.{◌≡◌, ◌&&◌, ℕ, nat_lt, Bool, Option, None, Result, Ok, Err, MatchResult}
 use Rattle.std.specs.Bool.{MatchBool}
 use Rattle.std.specs.declared.alloc.AllocError.{AllocError}
 use Rattle.fis_view.specs.Frames.{Stamped}
@@ -21,6 +21,11 @@ use Rattle.fan_out.specs.declared.seat.PlugError.TheVariants.{NoPort}
 abbrev pub port_count : FanOut → ℕ
 port_count (Device s) = 1
 port_count (Multiplier f) = f.multiplier.registers.ports
+
+-- what holds for every one
+abbrev pub IsEnd : FanOut → Type 0
+IsEnd (Device s) = straight.IsStraight s
+IsEnd (Multiplier f) = fan.IsFan f
 
 abbrev pub has_port : FanOut → ℕ → Bool
 has_port end n = nat_lt n (port_count end)

@@ -1,6 +1,6 @@
 -- A port multiplier whose devices come and go, and are reset by their ports (Serial ATA 3.x, 16.3, port multiplier; 16.4.2, PSCR[2]
 -- is SControl of the port; 14.1.3, SControl: DET 1 resets the device for as long as it stands there).
-use Rattle.std.specs.Prelude.{◌≡◌, ◌≤◌, ◌<◌, ◌==◌, ◌&&◌, ◌+◌, ◌%◌, ℕ, zero, suc, nat_lt, Bool, true, false, not, if◌then◌else◌}
+use Rattle.std.specs.Prelude.{◌≡◌, ◌≤◌, ◌==◌, ◌&&◌, ℕ, zero, suc, nat_lt, Bool, true, false, if◌then◌else◌}
 use Rattle.std.specs.Prelude.{List, length, replicate, slice_index_or, slice_set, Option, Some, None, is_none, is_some, MatchOption, MatchResult, Result, Ok, Err}
 use Rattle.std.specs.Bool.{MatchBool}
 use Rattle.std.specs.List.{find, range_with_len}
@@ -14,7 +14,7 @@ use Rattle.pm_control.specs.declared.request.Request.TheVariants.{Write}
 use Rattle.pm_ports.specs.Port as port
 use Rattle.pm_ports.specs.declared.port.Offered.{Offered}
 use Rattle.pm_ports.specs.declared.port.Offered.TheVariants.{Held, Dropped}
-use Rattle.multiplier.specs.Rules.{FromHostRule, with_device, without_device}
+use Rattle.multiplier.specs.Rules.{FromHostRule, KeepsPorts, with_device, without_device}
 use Rattle.multiplier.specs.State as pm
 use Rattle.multiplier.specs.declared.multiplier.Passed.{Passed}
 use Rattle.multiplier.specs.declared.multiplier.PmRefusal.{PmRefusal}
@@ -41,20 +41,31 @@ pub record IsFan (f : FanState) : Type 0 where
   pub present : (n : ℕ) → (pm.port_at f.multiplier n).present ≡ connection (seat_at f n)
   pub last : (n : ℕ) → (pm.port_at f.multiplier n).last ≡ (seat_at f n).last
 
--- a new one; a device may be at port 0 from the start, as connection 1, where that is open
+-- a new multiplier, of which port 0 is open from the start or not, with a device there or none
+abbrev pub opening_multiplier : ℕ → Bool → Bool → pm.PmState
+opening_multiplier ports legacy is_there =
+    if legacy then pm.opening_with_port_0 ports (if is_there then Some 1 else None) else pm.opening ports
+
+-- no device came, or one as connection 1 to the first seat, where port 0 is open from the start
+abbrev pub opening_seats : Bool → Bool → List Seat
+opening_seats legacy is_there =
+    if legacy && is_there then slice_set (replicate 15 empty_seat) 0 (seated 1) else replicate 15 empty_seat
+
+-- a new fan; a device may be at port 0 from the start, as connection 1, where that port is open
 abbrev pub opening_fan : ℕ → Bool → Bool → FanState
 opening_fan ports legacy is_there = record {
-  multiplier = (if legacy then pm.opening_with_port_0 ports (if is_there then Some 1 else None) else pm.opening ports);
+  multiplier = opening_multiplier ports legacy is_there;
   legacy = legacy;
-  seats = (if legacy && is_there then slice_set (replicate 15 empty_seat) 0 (seated 1) else replicate 15 empty_seat);
+  seats = opening_seats legacy is_there;
 }
 
 abbrev pub on : FanState → pm.PmState → FanState
 on f m = record { multiplier = m; legacy = f.legacy; seats = f.seats }
 
--- a call of the multiplier alone
+-- a call of the multiplier alone, by its rule; who is where stays
 abbrev pub Through : (pm.PmState → pm.PmState → Type 0) → FanState → FanState → Type 0
-Through Rule old new = Rule old.multiplier new.multiplier × (new ≡ on old new.multiplier)
+Through Rule old new =
+    Rule old.multiplier new.multiplier × KeepsPorts old.multiplier new.multiplier × (new ≡ on old new.multiplier)
 
 abbrev pub with_seat : FanState → ℕ → Seat → FanState
 with_seat f n seat = record { multiplier = f.multiplier; legacy = f.legacy; seats = slice_set f.seats n seat }
@@ -91,23 +102,22 @@ PullsFan old n result new =
     MatchResult result (λ _. ((seat_at old n).is_there ≡ true) × (new ≡ parted old n))
     (λ _. ((seat_at old n).is_there ≡ false) × (new ≡ old))
 
--- The device of a port is there on its next connection, and is to begin anew: what it sent before is dropped.
+-- The device of a port goes and comes again, as the next connection: what it sent before is dropped, and it is to begin anew. After
+-- the last connection nothing happens.
 abbrev pub rejoined : FanState → ℕ → FanState
 rejoined f n =
     if (seat_at f n).is_there && nat_lt (seat_at f n).last pm.largest
-    then record {
-      multiplier = with_device (without_device f.multiplier n (seat_at f n).last) n (next_connection (seat_at f n));
-      legacy = f.legacy;
-      seats = slice_set f.seats n (seated (next_connection (seat_at f n)));
-    }
+    then joined (parted f n) n (next_connection (seat_at f n))
     else f
 
--- those devices come to the first ports, as connection 1
-unfoldable pub all_joined : List Seat → ℕ → FanState → FanState
+-- the device of this seat, if there was one, comes to a port as connection 1
+abbrev pub joined_again : FanState → ℕ → Seat → FanState
+joined_again f n seat = if seat.is_there then joined f n 1 else f
+
+-- the devices of these seats come to the first ports, one after another
+abbrev pub all_joined : List Seat → ℕ → FanState → FanState
 all_joined seats zero f = f
-all_joined seats (suc n) f =
-    let g : FanState = all_joined seats n f in
-    (if (slice_index_or seats n empty_seat).is_there then joined g n 1 else g)
+all_joined seats (suc n) f = joined_again (all_joined seats n f) n (slice_index_or seats n empty_seat)
 
 -- the link was reset: all is as at first, and the same devices are plugged in
 abbrev pub renewed : FanState → FanState
@@ -153,7 +163,7 @@ heeded f n = if is_in_reset f.multiplier n then f else rejoined f n
 -- The multiplier takes the frame. Where that ends the reset of a port, its device begins anew.
 abbrev pub SendsFan : FanState → Stamped → Result Passed (Stamped × PmRefusal) → FanState → Type 0
 SendsFan old frame result new =
-    (mid : pm.PmState) × FromHostRule old.multiplier frame result mid
+    (mid : pm.PmState) × FromHostRule old.multiplier frame result mid × KeepsPorts old.multiplier mid
     × MatchOption (held_in_reset old.multiplier frame) (new ≡ on old mid) (λ n. new ≡ heeded (on old mid) n)
 
 -- ---- to the host
@@ -166,16 +176,17 @@ wants f n = (seat_at f n).is_there && is_none (pm.port_at f.multiplier n).up
 abbrev pub waiting : FanState → ℕ → Stamped → Stamped
 waiting f n frame = sent_from n (seat_at f n) frame
 
+-- the fan with it
+abbrev pub held_fan : FanState → ℕ → Stamped → FanState
+held_fan f n frame = record {
+  multiplier = pm.with_port f.multiplier n (port.with_up (pm.port_at f.multiplier n) (Some (waiting f n frame)));
+  legacy = f.legacy;
+  seats = slice_set f.seats n (after_sent (seat_at f n));
+}
+
 abbrev pub OffersFan : FanState → ℕ → Stamped → Result Offered Stamped → FanState → Type 0
 OffersFan old n frame result new =
     MatchBool (seat_at old n).is_there
-    (MatchBool (is_none (pm.port_at old.multiplier n).up)
-    ((result ≡ Ok Held)
-    × (new ≡ record {
-      multiplier =
-          pm.with_port old.multiplier n (port.with_up (pm.port_at old.multiplier n) (Some (waiting old n frame)));
-      legacy = old.legacy;
-      seats = slice_set old.seats n (after_sent (seat_at old n));
-    }))
+    (MatchBool (is_none (pm.port_at old.multiplier n).up) ((result ≡ Ok Held) × (new ≡ held_fan old n frame))
     ((result ≡ Err frame) × (new ≡ old)))
     ((result ≡ Ok Dropped) × (new ≡ old))

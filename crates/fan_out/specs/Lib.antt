@@ -2,3 +2,4 @@ pub mod Seats
 pub mod Straights
 pub mod Fans
 pub mod FanOuts
+pub mod Calls

@@ -1,8 +1,7 @@
 -- A place for a device, and the connections that come to it, numbered from 1 on. A frame of a device has its connection in its
 -- stamp, and its number among the frames of this connection (a stamp is no part of the standard: see fis_view).
-use Rattle.std.specs.Prelude.{◌≡◌, ℕ, ◌+◌, ◌==◌, Bool, true, false, if◌then◌else◌, Option, Some, None, replicate}
+use Rattle.std.specs.Prelude.{ℕ, ◌+◌, ◌==◌, true, false, if◌then◌else◌, Option, Some, None, replicate}
 use Rattle.fis_view.specs.Frames.{Stamped}
-use Rattle.fis_view.specs.declared.frame.Stamp.{Stamp}
 use Rattle.multiplier.specs.State.{counted, largest}
 use Rattle.fan_out.specs.declared.seat.Seat.{Seat}
 use Rattle.fan_out.specs.declared.seat.PlugError.{PlugError}

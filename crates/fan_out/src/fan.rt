@@ -3,7 +3,7 @@
 ghost use Rattle.std.specs.Prelude.{◌≡◌, ◌<◌, ◌≤◌, false, true, IfSome, Some};
 ghost use Rattle.pm_control.specs.Requests.{requested};
 ghost use Rattle.multiplier.specs.Rules.{FromHostRule, NextDownRule, NextUpRule};
-ghost use Rattle.fan_out.specs.Fans.{OffersFan, PlugsFan, PullsFan, SendsFan, TellsFan, Through, all_joined, controlled, controlled_by, first_begun, heeded, held_in_reset, is_in_reset, joined, opening_fan, parted, rejoined, renewed, seat_at, wants};
+ghost use Rattle.fan_out.specs.Fans.{IsFan, OffersFan, PlugsFan, PullsFan, SendsFan, TellsFan, Through, all_joined, controlled, controlled_by, first_begun, heeded, held_in_reset, is_in_reset, joined, joined_again, opening_fan, opening_multiplier, opening_seats, parted, rejoined, renewed, seat_at, wants};
 
 use crate::seat::{NotThere, PlugError, Seat};
 use fis_view::{Fis, Frame, RegH2D};
@@ -61,6 +61,30 @@ fn controlled(frame: &Frame) -> Option<u8>
     }
 }
 
+// A multiplier with this many device ports, of which port 0 is open from the start or not, with a device there or none.
+fn opening_multiplier(ports: u8, legacy: bool, is_there: bool) -> Multiplier
+    requires some { 1 ≤ ports }
+    requires at_most { ports ≤ 15 }
+    ensures { result ≡ opening_multiplier ports legacy is_there }
+{
+    if legacy {
+        Multiplier::with_port_0_open(ports, if is_there { Some(1) } else { None })
+    } else {
+        Multiplier::new(ports)
+    }
+}
+
+// Seats to which no device came, or one as connection 1 to the first.
+fn opening_seats(legacy: bool, is_there: bool) -> [Seat; 15]
+    ensures { result ≡ opening_seats legacy is_there }
+{
+    let mut seats = [Seat::empty(); 15];
+    if legacy && is_there {
+        seats[0] = Seat::of(1);
+    }
+    seats
+}
+
 impl Fan {
     // With this many device ports. Where port 0 is open from the start, a device may be there as connection 1.
     pub(crate) fn new(ports: u8, legacy: bool, is_there: bool) -> Fan
@@ -68,42 +92,39 @@ impl Fan {
         requires at_most { ports ≤ 15 }
         ensures { result ≡ opening_fan ports legacy is_there }
     {
-        let mut seats = [Seat::empty(); 15];
-        if !legacy {
-            return Fan {
-                multiplier: Multiplier::new(ports),
-                ports,
-                legacy,
-                seats,
-            };
-        }
-        let device = if is_there { Some(1) } else { None };
-        if is_there {
-            seats[0] = Seat::of(1);
-        }
         Fan {
-            multiplier: Multiplier::with_port_0_open(ports, device),
+            multiplier: opening_multiplier(ports, legacy, is_there),
             ports,
             legacy,
-            seats,
+            seats: opening_seats(legacy, is_there),
         }
     }
 
     // How many device ports there are.
     pub(crate) fn ports(&self) -> u8
         ensures value { result ≡ self.now.multiplier.registers.ports }
-        ensures most { result ≤ 15 }
+        ensures sound { IsFan self.now }
     {
         self.ports
+    }
+
+    // What is known of the device at a port.
+    fn seat(&self, n: u8) -> Seat
+        requires { n < self.now.multiplier.registers.ports }
+        ensures { result ≡ seat_at self.now n }
+    {
+        self.seats[usize::from(n)]
     }
 
     // A device comes to a port, as this connection, where the port takes it.
     fn join(&mut self, n: u8, conn: u32)
         requires { n < self.old.multiplier.registers.ports }
-        ensures { self.new ≡ joined self.old n conn }
+        ensures value { self.new ≡ joined self.old n conn }
+        ensures ports { self.new.multiplier.registers.ports ≡ self.old.multiplier.registers.ports }
     {
-        if self.multiplier.came(n, conn).is_ok() {
-            self.seats[usize::from(n)] = Seat::of(conn);
+        match self.multiplier.came(n, conn) {
+            Ok(()) => self.seats[usize::from(n)] = Seat::of(conn),
+            Err(_) => {}
         }
     }
 
@@ -113,7 +134,7 @@ impl Fan {
         requires present { (seat_at self.old n).is_there ≡ true }
         ensures { self.new ≡ parted self.old n }
     {
-        let seat = self.seats[usize::from(n)];
+        let seat = self.seat(n);
         match self.multiplier.gone(n, seat.last) {
             Ok(()) => {}
             Err(_) => unreachable!(),
@@ -148,21 +169,30 @@ impl Fan {
         requires { n < self.old.multiplier.registers.ports }
         ensures { self.new ≡ rejoined self.old n }
     {
-        let seat = self.seats[usize::from(n)];
+        let seat = self.seat(n);
         if seat.is_there && seat.last < u32::MAX {
             self.part(n);
             self.join(n, seat.last + 1);
         }
     }
 
-    // The devices that were there come to the first ports, as connection 1.
+    // The device of this seat, if there was one, comes to a port as connection 1.
+    fn join_again(&mut self, n: u8, seat: Seat)
+        requires { n < self.old.multiplier.registers.ports }
+        ensures value { self.new ≡ joined_again self.old n seat }
+        ensures ports { self.new.multiplier.registers.ports ≡ self.old.multiplier.registers.ports }
+    {
+        if seat.is_there {
+            self.join(n, 1);
+        }
+    }
+
+    // The devices of these seats come to the ports, one after another.
     fn join_all(&mut self, seats: [Seat; 15])
         ensures { self.new ≡ all_joined seats self.old.multiplier.registers.ports self.old }
     {
         for n in 0..self.ports {
-            if seats[usize::from(n)].is_there {
-                self.join(n, 1);
-            }
+            self.join_again(n, seats[usize::from(n)]);
         }
     }
 
@@ -200,11 +230,7 @@ impl Fan {
     }
 
     // Takes a frame of the host, or gives it back. A write of SControl may have a device begin anew.
-    pub(crate) fn send(
-        &mut self,
-        alloc: Global,
-        frame: Frame,
-    ) -> Result<Passed, (Frame, PmRefusal)>
+    pub(crate) fn send(&mut self, alloc: Global, frame: Frame) -> Result<Passed, (Frame, PmRefusal)>
         ensures { SendsFan self.old frame result self.new }
     {
         let held = self.held_in_reset(&frame);
@@ -217,8 +243,7 @@ impl Fan {
 
     // Takes a frame of the host, or gives it back.
     fn pass(&mut self, alloc: Global, frame: Frame) -> Result<Passed, (Frame, PmRefusal)>
-        ensures rule { Through (λ old new. FromHostRule old frame result new) self.old self.new }
-        ensures ports { self.new.multiplier.registers.ports ≡ self.old.multiplier.registers.ports }
+        ensures { Through (λ old new. FromHostRule old frame result new) self.old self.new }
     {
         self.multiplier.from_host(alloc, frame)
     }
@@ -254,7 +279,7 @@ impl Fan {
         requires { n < self.old.multiplier.registers.ports }
         ensures { OffersFan self.old n frame result self.new }
     {
-        let seat = self.seats[usize::from(n)];
+        let seat = self.seat(n);
         if !seat.is_there {
             return Ok(Offered::Dropped);
         }
@@ -287,10 +312,11 @@ impl Fan {
 
     // Says which device is to begin anew, each once.
     pub(crate) fn next_begun(&mut self) -> Option<u8>
-        ensures { TellsFan self.old result self.new }
+        ensures rule { TellsFan self.old result self.new }
+        ensures there { IfSome result (λ n. n < self.old.multiplier.registers.ports) }
     {
         let n = self.first_begun()?;
-        self.seats[usize::from(n)] = self.seats[usize::from(n)].told();
+        self.seats[usize::from(n)] = self.seat(n).told();
         Some(n)
     }
 }

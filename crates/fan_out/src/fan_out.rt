@@ -1,8 +1,8 @@
 //! What is behind the port of a host.
 
-ghost use Rattle.std.specs.Prelude.{◌≡◌, ◌≤◌, IfSome, IsTrue, Ok, true, ◌<◌};
+ghost use Rattle.std.specs.Prelude.{false, true, ◌≡◌, ◌≤◌, ◌<◌, IfSome, Ok};
 ghost use Rattle.pm_ports.specs.declared.port.Offered.TheVariants.{Held};
-ghost use Rattle.fan_out.specs.FanOuts.{GivesDownThere, GivesUpThere, Offers, Plugs, Pulls, Sends, Tells, port_count, renewed_end, wants_at};
+ghost use Rattle.fan_out.specs.FanOuts.{IsEnd, GivesDownThere, GivesUpThere, Offers, Plugs, Pulls, Sends, Tells, port_count, renewed_end, wants_at};
 ghost use Rattle.fan_out.specs.Fans.{opening_fan};
 ghost use Rattle.fan_out.specs.Straights.{opening_straight};
 
@@ -43,10 +43,11 @@ impl FanOut {
 
     /// How many device ports there are: 1 without a multiplier.
     pub fn ports(&self) -> u8
-        ensures { result ≡ port_count self.now }
+        ensures value { result ≡ port_count self.now }
+        ensures sound { IsEnd self.now }
     {
         match self {
-            FanOut::Device(_) => 1,
+            FanOut::Device(straight) => straight.ports(),
             FanOut::Multiplier(fan) => fan.ports(),
         }
     }

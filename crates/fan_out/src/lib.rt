@@ -7,10 +7,12 @@
 
 mod fan;
 mod fan_out;
+mod laws;
 mod seat;
 mod straight;
 
 pub use fan::Fan;
 pub use fan_out::FanOut;
+pub use laws::{a_reset_ends_the_connection, fans_pass_in_order};
 pub use seat::{NotThere, PlugError, Seat};
 pub use straight::Straight;

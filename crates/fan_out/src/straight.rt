@@ -1,7 +1,7 @@
 //! One device at the other end of the link.
 
-ghost use Rattle.std.specs.Prelude.{◌≡◌, ◌<◌, is_none};
-ghost use Rattle.fan_out.specs.Straights.{GivesDown, GivesUp, OffersStraight, PlugsStraight, PullsStraight, SendsStraight, TellsStraight, addressed, joined, opening_straight, pointed, renewed, wants};
+ghost use Rattle.std.specs.Prelude.{false, ◌≡◌, ◌<◌};
+ghost use Rattle.fan_out.specs.Straights.{GivesDown, GivesUp, IsStraight, OffersStraight, PlugsStraight, PullsStraight, SendsStraight, TellsStraight, addressed, joined, opening_straight, pointed, renewed, wants};
 
 use crate::seat::{NotThere, PlugError, Seat};
 use fis_view::{Frame, Stamp};
@@ -57,6 +57,15 @@ impl Straight {
             seat: Seat::empty(),
             asked: 0,
         }
+    }
+
+    // A device alone is at port 0.
+    pub(crate) fn ports(&self) -> u8
+        ensures value { result ≡ 1 }
+        ensures sound { IsStraight self.now }
+    {
+        let _ = &self.port;
+        1
     }
 
     // A device comes, as this connection.

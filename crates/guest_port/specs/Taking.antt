@@ -61,7 +61,7 @@ taken_by took = record { took = took; posted = None; counted = None }
 
 -- what it heard is kept as what came, and drained
 pub record HeardBy (took : Took) (old : PortState) (result : Taken) (new : PortState) : Type 0 where
-  pub drains : Drains (record old { brought = took.report.wrote }) (taken_by took) result new
+  pub drains : Drains (record old { brought = took.brought }) (taken_by took) result new
 
 -- The controller hears the FIS. Then it answers in turns what is to be written, and the result has it.
 pub record TakesPort (old : PortState) (frame : List ℕ) (result : Taken) (new : PortState) : Type 0 where

@@ -55,14 +55,14 @@ impl Taken {
 
     // Whether something of the FIS is to be written to the guest.
     fn is_any(&self) -> bool {
-        self.took.report.wrote.is_some() || self.took.report.posted != Posted::Nothing
+        self.took.brought.is_some() || self.took.report.posted != Posted::Nothing
     }
 
     // Whether nothing is left to be written after this: PRDBC comes last, and where no bytes came the FIS.
     fn ends_with(&self, next: Next) -> bool {
         match next {
             Next::Payload(_) => false,
-            Next::Posted(_) => self.took.report.wrote.is_none(),
+            Next::Posted(_) => self.took.brought.is_none(),
             _ => true,
         }
     }
@@ -119,7 +119,7 @@ impl GuestPort {
     fn heard(&mut self, took: Took) -> Taken
         ensures { HeardBy took self.old result self.new }
     {
-        self.brought = took.report.wrote;
+        self.brought = took.brought;
         let taken = Taken::of(took);
         if taken.is_any() {
             self.drain(taken)

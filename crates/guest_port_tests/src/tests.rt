@@ -30,7 +30,7 @@ static OPENS: [Step; 12] = [
 ];
 
 /// What is ignored, and what is held until it may be.
-static HOLDS: [Step; 22] = [
+static HOLDS: [Step; 24] = [
     Writes(0x100, 0x63FF),
     Writes(0x108, 0x64FF),
     Writes(0x138, 1),
@@ -43,7 +43,10 @@ static HOLDS: [Step; 22] = [
     // ST without FRE
     Writes(0x118, 1),
     Reads(0x118, 0x40_0007),
+    // ST is held until the signature, or CLO
     Writes(0x118, 0x11),
+    Reads(0x118, 0x40_4017),
+    Writes(0x118, 0x19),
     Reads(0x118, 0x40_C017),
     // FR falls with FRE, and EN stays until ST falls
     Writes(0x118, 1),

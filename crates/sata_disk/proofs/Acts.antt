@@ -80,14 +80,14 @@ smart_beside smart.ReadThresholds s e = e
 smart_beside smart.Nothing s e = e
 smart_beside smart.ReturnStatus s e = e
 
-standby_may : (f : Front) (s : AsideStage) (b : Bool) (yes no : Heard) → May s yes → May s no → May s (if b then yes else no)
-standby_may f s true yes no y n = y
-standby_may f s false yes no y n = n
+either_may : (s : AsideStage) (b : Bool) (x y : Heard) → May s x → May s y → May s (if b then x else y)
+either_may s true x y m n = m
+either_may s false x y m n = n
 
 power_may : (f : Front) (t : PowerTask) (s : AsideStage) → s ≡ stages.Idle → May s (taken_power f t)
 power_may f power.Check s e = e
 power_may f power.Idle s e = e
-power_may f power.Standby s e = standby_may f s f.settings.write_cache _ _ (e, tt) e
+power_may f power.Standby s e = either_may s f.settings.write_cache _ _ (e, tt) e
 
 refused_may : (f : Front) (r : Refusal) (tag : Option ℕ) (s : AsideStage) → s ≡ stages.Idle → May s (refused_by f r tag)
 refused_may f r None s e = e
@@ -127,3 +127,68 @@ pub control_may : (f : Front) (srst : Bool) (s : AsideStage) → IsBeside f.task
     → MayAct s (controlled f srst).front.task (controlled f srst).act
 control_may f true s beside reset = tt
 control_may f false s beside reset = control_case f s f.in_reset refl beside reset
+
+-- ## While SRST is set nothing is heard
+
+not_reset : (reset : Bool) (t : Task) (fault : Option Fault) (tags : ℕ) (a : Asked)
+    → (course a (if reset then stand.Reset else standing_by t fault tags) ≡ Drop → ⊥) → reset ≡ false
+not_reset true t fault tags a heard = absurd (heard refl)
+not_reset false t fault tags a heard = refl
+
+set_resets : (f : Front) (x : Setting) → (set_by f x).front.in_reset ≡ f.in_reset
+set_resets f (set.WriteCache false) = refl
+set_resets f (set.WriteCache true) = refl
+set_resets f (set.LookAhead on) = refl
+set_resets f (set.AutoActivate on) = refl
+set_resets f (set.Mode mode) = refl
+set_resets f (set.Reverts on) = refl
+
+either_reset : (b : Bool) (x y : Heard) (r : Bool) → x.front.in_reset ≡ r → y.front.in_reset ≡ r → (if b then x else y).front.in_reset ≡ r
+either_reset true x y r e f = e
+either_reset false x y r e f = f
+
+power_resets : (f : Front) (t : PowerTask) → (taken_power f t).front.in_reset ≡ f.in_reset
+power_resets f power.Check = refl
+power_resets f power.Idle = refl
+power_resets f power.Standby = either_reset f.settings.write_cache _ _ _ refl refl
+
+refused_resets : (f : Front) (r : Refusal) (tag : Option ℕ) → (refused_by f r tag).front.in_reset ≡ f.in_reset
+refused_resets f r None = refl
+refused_resets f r (Some tag) = refl
+
+taken_resets : (f : Front) (a : Asked) → (taken f a).front.in_reset ≡ f.in_reset
+taken_resets f (ask.Moves m) = refl
+taken_resets f ask.Flushes = refl
+taken_resets f (ask.Sets x) = set_resets f x
+taken_resets f (ask.SetsMultiple m) = refl
+taken_resets f (ask.Trims blocks) = refl
+taken_resets f ask.Identifies = refl
+taken_resets f (ask.ReadsLog p) = refl
+taken_resets f (ask.Smart t) = refl
+taken_resets f (ask.Power t) = power_resets f t
+taken_resets f (ask.Refused r) = refused_resets f r r.tag
+
+not_here : (f : Front) (x y : Bool) (t : Task) → x ≡ y → y ≡ false → x ≡ true → t ≡ Idle
+not_here f x y t e clear is = absurd (cc)
+
+course_reset : (f : Front) (a : Asked) (x : Course) → (f.in_reset ≡ true → f.task ≡ Idle) → ((x ≡ Drop → ⊥) → f.in_reset ≡ false)
+    → (commanded_by f a x).front.in_reset ≡ true → (commanded_by f a x).front.task ≡ Idle
+course_reset f a Drop idle clear is = idle is
+course_reset f a Refuse idle clear is = not_here f _ _ _ refl (clear (λ e. absurd (cc))) is
+course_reset f a AbortAll idle clear is = not_here f _ _ _ refl (clear (λ e. absurd (cc))) is
+course_reset f a Take idle clear is = not_here f _ _ _ (taken_resets f a) (clear (λ e. absurd (cc))) is
+
+pub command_reset : (f : Front) (a : Asked) (tags : ℕ) → (f.in_reset ≡ true → f.task ≡ Idle)
+    → (commanded f a tags).front.in_reset ≡ true → (commanded f a tags).front.task ≡ Idle
+command_reset f a tags idle is = course_reset f a _ idle (λ heard. not_reset f.in_reset f.task f.fault tags a heard) is
+
+cleared_case : (f : Front) (b : Bool) → (f.in_reset ≡ true → f.task ≡ Idle) → f.in_reset ≡ b
+    → (if b then record f { task = Owes reply.Signature; in_reset = false } else f).in_reset ≡ true
+    → (if b then record f { task = Owes reply.Signature; in_reset = false } else f).task ≡ Idle
+cleared_case f true idle e is = absurd (cc)
+cleared_case f false idle e is = idle is
+
+pub control_reset : (f : Front) (srst : Bool) → (f.in_reset ≡ true → f.task ≡ Idle)
+    → (controlled f srst).front.in_reset ≡ true → (controlled f srst).front.task ≡ Idle
+control_reset f true idle is = refl
+control_reset f false idle is = cleared_case f f.in_reset idle refl is

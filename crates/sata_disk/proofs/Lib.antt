@@ -1,1 +1,6 @@
 mod Acts
+mod First
+mod PageLemmas
+mod Came
+mod Kept
+mod Outs

@@ -1,5 +1,5 @@
 -- The pages that a disk gives of itself: IDENTIFY DEVICE, READ LOG EXT, SMART READ DATA (ACS-3, 7.12, 7.24, 7.46 and 9).
-use Rattle.std.specs.Prelude.{ℕ, ◌≡◌, ◌%◌, ◌^◌, List, Option, Some, None}
+use Rattle.std.specs.Prelude.{ℕ, ◌≡◌, ◌%◌, ◌^◌, List, replicate, Option, Some, None}
 use Rattle.ata_reply.specs.Replies.{code_of}
 use Rattle.ata_front.specs.declared.front.Front.{Front}
 use Rattle.ata_front.specs.declared.task.Fault.{Fault}
@@ -7,7 +7,6 @@ use Rattle.ata_front.specs.declared.task.Fault.TheVariants as faults
 use Rattle.ata_front.specs.declared.task.Page.{Page}
 use Rattle.ata_front.specs.declared.task.Page.TheVariants as pages
 use Rattle.ata_front.specs.declared.task.Trouble.{Trouble}
-use Rattle.disk_pages.specs.Bytes.{blank}
 use Rattle.disk_pages.specs.Identity.{identity}
 use Rattle.disk_pages.specs.Logs.{error_log, log_bytes, log_named}
 use Rattle.disk_pages.specs.Smart.{smart_data}
@@ -36,7 +35,7 @@ IsErrorLog (Some faults.Mixed) b = b ≡ error_log None
 IsErrorLog (Some (faults.Queued tag t)) b = (e : ncq.NcqError) → IsErrorOf e tag t → b ≡ error_log (Some e)
 
 abbrev pub IsLog : Profile → Front → Option LogPage → List ℕ → Type 0
-IsLog p f None b = b ≡ blank
+IsLog p f None b = b ≡ replicate 512 0
 IsLog p f (Some logs.NcqError) b = IsErrorLog f.fault b
 IsLog p f (Some l) b = b ≡ log_bytes p f.settings None l
 

@@ -5,7 +5,8 @@ ghost use Rattle.std.specs.Result.{result_err};
 ghost use Rattle.fis_view.specs.Seen.{seen};
 ghost use Rattle.block_queue.specs.Line.{command_at, may_send};
 ghost use Rattle.block_engine.specs.Engine.{IsEngineStart, IsRequested, answer_refusal, answered, started};
-ghost use Rattle.ata_front.specs.Fronts.{heard_data, standing};
+ghost use Rattle.ata_front.specs.Fronts.{heard_data, owed, standing};
+ghost use Rattle.ata_front.specs.declared.task.Task.TheVariants as tasks;
 ghost use Rattle.sata_disk.specs.State.{DiskState, commands, new_disk, tags_of};
 ghost use Rattle.sata_disk.specs.Hearing.{MayAct, acted, command_unheard, commanded_by, data_heard, data_unheard, discarding, fis_heard, fis_unheard, plugged, ranges_of, register_heard, register_unheard};
 ghost use Rattle.sata_disk.specs.Sending.{IsFis, IsOut, after_sent, beside_reply, command_sent, out_at, part_at};
@@ -60,7 +61,8 @@ impl SataDisk {
 
     /// What it is to its host, and what becomes of its commands.
     fn act(&mut self, alloc: Global, heard: Heard)
-        requires { MayAct self.old.engine.stage heard.front.task heard.act }
+        requires may { MayAct self.old.engine.stage heard.front.task heard.act }
+        requires reset { heard.front.in_reset ≡ true → heard.front.task ≡ tasks.Idle }
         ensures { self.new ≡ acted self.old heard }
     {
         self.front = heard.front;
@@ -140,11 +142,7 @@ impl SataDisk {
 
     /// A FIS of the host comes. If it is not heard, the answer says why, and the disk stays as it is. If memory is refused, the
     /// disk stays as it is, too, and the FIS may be given again.
-    pub fn on_frame(
-        &mut self,
-        alloc: Global,
-        frame: &Frame,
-    ) -> Result<Option<Unheard>, AllocError>
+    pub fn on_frame(&mut self, alloc: Global, frame: &Frame) -> Result<Option<Unheard>, AllocError>
         ensures unheard { IfOk result (λ unheard. unheard ≡ fis_unheard self.old (seen frame.now.bytes)) }
         ensures ok { OnOk result (self.new ≡ fis_heard self.old (seen frame.now.bytes)) }
         ensures err { OnErr result (self.new ≡ self.old) }
@@ -213,17 +211,27 @@ impl SataDisk {
             .over(is_done(self.engine.stage()), trouble_at(&self.engine, 32))
     }
 
+    /// The FIS of the commands that goes next.
+    #[tactic(auto, using(crate::proofs::Outs::out_is))]
+    fn commands_out(&self) -> Option<Out>
+        requires { owed self.now.front.task ≡ None }
+        ensures { IsOut self.now result }
+    {
+        match self.engine.next_fis() {
+            None => None,
+            Some(EngineFis::Ends(tags)) => Some(Out::Ends(tags)),
+            Some(EngineFis::Aside) => Some(Out::Beside(self.beside_reply())),
+            Some(EngineFis::Of(place)) => self.command_out(place),
+        }
+    }
+
     /// The FIS that goes next: what the disk owes of itself, or else what its commands say.
     pub fn next_out(&self) -> Option<Out>
         ensures { IsOut self.now result }
     {
-        if let Some(owed) = self.front.owed() {
-            return Some(own_of(owed));
-        }
-        match self.engine.next_fis()? {
-            EngineFis::Ends(tags) => Some(Out::Ends(tags)),
-            EngineFis::Aside => Some(Out::Beside(self.beside_reply())),
-            EngineFis::Of(place) => self.command_out(place),
+        match self.front.owed() {
+            Some(owed) => Some(own_of(owed)),
+            None => self.commands_out(),
         }
     }
 

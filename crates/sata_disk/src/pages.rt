@@ -29,19 +29,18 @@ fn told(fault: Option<Fault>) -> Option<NcqError>
 }
 
 /// Writes a page of a log.
+#[tactic(auto, using(crate::proofs::PageLemmas::log_written))]
 fn write_log(profile: &Profile, front: Front, page: LogPage, bytes: &mut [u8])
     requires { length bytes.old ≡ 512 }
     ensures { IsLog profile.now front (Some page) bytes.new }
 {
-    let error = match page {
-        LogPage::NcqError => told(front.fault),
-        _ => None,
-    };
-    page.write(profile, &front.settings, error, bytes);
+    match page {
+        LogPage::NcqError => page.write(profile, &front.settings, told(front.fault), bytes),
+        _ => page.write(profile, &front.settings, None, bytes),
+    }
 }
 
 /// Writes a page of 512 bytes. A log that is not there has only zeros.
-#[tactic(auto)]
 pub(crate) fn write_page(profile: &Profile, front: Front, page: Page, bytes: &mut [u8])
     requires { length bytes.old ≡ 512 }
     ensures { IsPage profile.now front page bytes.new }

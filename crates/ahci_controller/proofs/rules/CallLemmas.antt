@@ -91,7 +91,7 @@ placed_free offer dev slot s old new ok h ne free = free_at old new s ok (λ n b
 
 refused : (slot : ℕ) (reason : NotTaken) (base new : ControllerState) (supply : Supply) → slot < 32 → IsUnread base.wants base.fetches slot → IsRuled base → RefusesSlot base slot reason supply new → IsRuled new
 refused slot reason base new supply below unread was h =
-    subst IsRuled (sym h.rest) (parts.refuses base.core base.wants base.fetches base.commands base.writes.payload was slot below unread)
+    subst IsRuled (sym h.rest) (parts.refuses base.core base.wants base.fetches base.commands base.writes.payload base.own.starts was slot below unread)
 
 placed : (slot : ℕ) (f : Fetched) (base new : ControllerState) (supply : Supply) → slot < 32 → IsUnread base.wants base.fetches slot → IsTable new.core.slots → IsRuled base → PlacesSlot base slot f supply new → IsRuled new
 placed slot f base new supply below unread ok was h =
@@ -101,7 +101,7 @@ placed slot f base new supply below unread ok was h =
     subst (λ (l : List (Option Command)). IsOffered (last_command l s) (get_or (set base.commands slot (Some f)) s None)) (sym h.core.commands)
     (offered_in slot f k base.core.commands base.commands (rw was.long below) refl was.kept s) in
     subst IsRuled (sym h.rest)
-    (parts.places base.core base.wants base.fetches base.commands base.writes.payload was new.core slot f below unread offered (λ s ne. placed_free offer (device_of f) slot s base.core new.core ok h.core ne)
+    (parts.places base.core base.wants base.fetches base.commands base.writes.payload base.own.starts was new.core slot f below unread offered (λ s ne. placed_free offer (device_of f) slot s base.core new.core ok h.core ne)
     (λ e. sym (ap (λ (r : Registers). r.started) h.core.registers) ∙ e))
 
 issues : (slot : ℕ) (f : Fetched) (o : Option NotTaken) (base new : ControllerState) (supply : Supply) → slot < 32 → IsUnread base.wants base.fetches slot → IsTable new.core.slots → IsRuled base
@@ -112,9 +112,9 @@ issues slot f (Some reason) base new supply below unread ok was h = refused slot
 goes_on : (slot : ℕ) (came : Supplied) (base new : ControllerState) (supply : Supply) → slot < 32 → has_bit base.wants.pending slot ≡ true → IsUnread base.wants base.fetches slot → IsTable new.core.slots → IsRuled base
     → GoesOn base slot came supply new → IsRuled new
 goes_on slot (supplied.More f) base new supply below here unread ok was h =
-    subst IsRuled (sym h.0) (parts.fetches_on base.core base.wants base.fetches base.commands base.writes.payload was slot f here)
+    subst IsRuled (sym h.0) (parts.fetches_on base.core base.wants base.fetches base.commands base.writes.payload base.own.starts was slot f here)
 goes_on slot (supplied.OutOfMemory f) base new supply below here unread ok was h =
-    subst IsRuled (sym h.0) (parts.fetches_on base.core base.wants base.fetches base.commands base.writes.payload was slot f here)
+    subst IsRuled (sym h.0) (parts.fetches_on base.core base.wants base.fetches base.commands base.writes.payload base.own.starts was slot f here)
 goes_on slot (supplied.Refused r) base new supply below here unread ok was h = refused slot _ base new supply below unread was h
 goes_on slot (supplied.Whole f) base new supply below here unread ok was h = issues slot f (not_issued base.core slot f) base new supply below unread ok was h
 
@@ -138,11 +138,11 @@ asked_is c slot number was h =
 
 -- its bytes came, or never will
 taken_out : (c : ControllerState) (slot : ℕ) → IsRuled c → IsRuled (without_fetch (answered c slot) slot)
-taken_out c slot was = parts.answers c.core c.wants c.fetches c.commands c.writes.payload was slot
+taken_out c slot was = parts.answers c.core c.wants c.fetches c.commands c.writes.payload c.own.starts was slot
 
 unread_now : (c : ControllerState) (slot : ℕ) → slot < 32 → IsRuled c → IsUnread (answered c slot).wants (set c.fetches slot None) slot
 unread_now c slot below was = record {
-  fetch = parts.fetch_gone c.core c.wants c.fetches c.commands c.writes.payload was slot;
+  fetch = parts.fetch_gone c.core c.wants c.fetches c.commands c.writes.payload c.own.starts was slot;
   out = bits.slot_taken c.wants.out slot below;
 }
 

@@ -32,13 +32,13 @@ no_number = 0
 abbrev no_kept : Option Fetched
 no_kept = None
 
-opened : (core : Port) → core.commands ≡ replicate 32 None → AreParts core opening_wants (replicate 32 None) (replicate 32 None) None
-opened core none = record {
+opened : (core : Port) (starts : Bool) → core.commands ≡ replicate 32 None → AreParts core opening_wants (replicate 32 None) (replicate 32 None) None starts
+opened core starts none = record {
   long = length-replicate 32 no_kept;
   kept = λ s. subst (λ (o : Option Command). IsOffered o (get_or (replicate 32 no_kept) s None)) (sym (ap (λ (l : List (Option Command)). last_command l s) none ∙ all_same 32 s no_command)) tt;
   unread = λ slot below pending. record { fetch = all_same 32 slot None; out = bits.none_set slot };
   free = λ slot below here. absurd (false≢true (sym (bits.none_set slot) ∙ here));
-  stopped = λ e. refl;
+  stopped = λ e f. refl;
   counted = record {
     slots = λ slot. let zero = all_same 32 slot no_number in omega (arith, zero);
     devices = λ dev. let zero = all_same 16 dev no_number in omega (arith, zero);
@@ -49,8 +49,8 @@ opened core none = record {
 
 pub opening_rules : (c : ControllerState) → IsOpening c → IsRuled c
 opening_rules c h =
-    let a : AreParts c.core opening_wants (replicate 32 None) (replicate 32 None) None = opened c.core h.core.commands in
-    let b : AreParts c.core c.wants (replicate 32 None) (replicate 32 None) None = subst (λ (w : Wants). AreParts c.core w (replicate 32 None) (replicate 32 None) None) (sym h.wants) a in
-    let d : AreParts c.core c.wants c.fetches (replicate 32 None) None = subst (λ (l : List (Option Fetching)). AreParts c.core c.wants l (replicate 32 None) None) (sym h.fetches) b in
-    let e : AreParts c.core c.wants c.fetches c.commands None = subst (λ (l : List (Option Fetched)). AreParts c.core c.wants c.fetches l None) (sym h.commands) d in
-    subst (λ (w : Writes). AreParts c.core c.wants c.fetches c.commands w.payload) (sym h.writes) e
+    let a : AreParts c.core opening_wants (replicate 32 None) (replicate 32 None) None c.own.starts = opened c.core c.own.starts h.core.commands in
+    let b : AreParts c.core c.wants (replicate 32 None) (replicate 32 None) None c.own.starts = subst (λ (w : Wants). AreParts c.core w (replicate 32 None) (replicate 32 None) None c.own.starts) (sym h.wants) a in
+    let d : AreParts c.core c.wants c.fetches (replicate 32 None) None c.own.starts = subst (λ (l : List (Option Fetching)). AreParts c.core c.wants l (replicate 32 None) None c.own.starts) (sym h.fetches) b in
+    let e : AreParts c.core c.wants c.fetches c.commands None c.own.starts = subst (λ (l : List (Option Fetched)). AreParts c.core c.wants c.fetches l None c.own.starts) (sym h.commands) d in
+    subst (λ (w : Writes). AreParts c.core c.wants c.fetches c.commands w.payload c.own.starts) (sym h.writes) e

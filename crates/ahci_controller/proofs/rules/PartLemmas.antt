@@ -25,11 +25,11 @@ no_fetch = None
 abbrev no_command : Option Fetched
 no_command = None
 
-module _ (core : Port) (wants : Wants) (fetches : List (Option Fetching)) (commands : List (Option Fetched)) (payload : Option Carried) (was : AreParts core wants fetches commands payload) where
+module _ (core : Port) (wants : Wants) (fetches : List (Option Fetching)) (commands : List (Option Fetched)) (payload : Option Carried) (starts : Bool) (was : AreParts core wants fetches commands payload starts) where
   -- ---- the core
 
-  pub core_moves : (new : Port) → new.commands ≡ core.commands → KeepsFree core.slots new.slots → (new.registers.started ≡ false → wants.pending ≡ 0) → AreParts new wants fetches commands payload
-  core_moves new same frees stops = record {
+  pub restarts : (new : Port) (next : Bool) → new.commands ≡ core.commands → KeepsFree core.slots new.slots → (new.registers.started ≡ false → next ≡ false → wants.pending ≡ 0) → AreParts new wants fetches commands payload next
+  restarts new next same frees stops = record {
     long = was.long;
     kept = λ slot. subst (λ (l : List (Option Command)). IsOffered (last_command l slot) (get_or commands slot None)) (sym same) (was.kept slot);
     unread = was.unread;
@@ -39,9 +39,12 @@ module _ (core : Port) (wants : Wants) (fetches : List (Option Fetching)) (comma
     carried = was.carried;
   }
 
+  pub core_moves : (new : Port) → new.commands ≡ core.commands → KeepsFree core.slots new.slots → (new.registers.started ≡ false → starts ≡ false → wants.pending ≡ 0) → AreParts new wants fetches commands payload starts
+  core_moves new same frees stops = restarts new starts same frees stops
+
   -- ---- what is to be written
 
-  pub payload_is : (next : Option Carried) → IfSome next (IsCarried wants commands) → AreParts core wants fetches commands next
+  pub payload_is : (next : Option Carried) → IfSome next (IsCarried wants commands) → AreParts core wants fetches commands next starts
   payload_is next carried = record {
     long = was.long;
     kept = was.kept;
@@ -54,7 +57,7 @@ module _ (core : Port) (wants : Wants) (fetches : List (Option Fetching)) (comma
 
   -- ---- numbers
 
-  renumbered : (next : Wants) → next.pending ≡ wants.pending → next.out ≡ wants.out → AreCounted next → AreParts core next fetches commands payload
+  renumbered : (next : Wants) → next.pending ≡ wants.pending → next.out ≡ wants.out → AreCounted next → AreParts core next fetches commands payload starts
   renumbered next pending out counted = record {
     long = was.long;
     kept = was.kept;
@@ -62,7 +65,7 @@ module _ (core : Port) (wants : Wants) (fetches : List (Option Fetching)) (comma
         let old : IsUnread wants fetches slot = was.unread slot below (ap (λ (n : ℕ). has_bit n slot) (sym pending) ∙ none) in
         record { fetch = old.fetch; out = ap (λ (n : ℕ). has_bit n slot) out ∙ old.out };
     free = λ slot below here. was.free slot below (ap (λ (n : ℕ). has_bit n slot) (sym pending) ∙ here);
-    stopped = λ e. pending ∙ was.stopped e;
+    stopped = λ e f. pending ∙ was.stopped e f;
     counted = counted;
     carried = moved payload was.carried;
   }
@@ -86,14 +89,14 @@ module _ (core : Port) (wants : Wants) (fetches : List (Option Fetching)) (comma
   most_next : next_number wants ≤ 18446744073709551615
   most_next = omega arith
 
-  pub feeds : (dev : ℕ) → AreParts core (fed wants dev) fetches commands payload
+  pub feeds : (dev : ℕ) → AreParts core (fed wants dev) fetches commands payload starts
   feeds dev = renumbered (fed wants dev) refl refl (record {
     slots = λ slot. let old = was.counted.slots slot in let up = more in omega (arith, old, up);
     devices = λ d. let old = was.counted.devices d in let up = more in set_most wants.devices dev d (next_number wants) (next_number wants) (omega (arith, old, up)) (omega arith);
     most = most_next;
   })
 
-  pub feeding_is : (mask : ℕ) → AreParts core (record wants { feeding = mask }) fetches commands payload
+  pub feeding_is : (mask : ℕ) → AreParts core (record wants { feeding = mask }) fetches commands payload starts
   feeding_is mask = renumbered (record wants { feeding = mask }) refl refl (record { slots = was.counted.slots; devices = was.counted.devices; most = was.counted.most })
 
   -- ---- reading
@@ -101,7 +104,7 @@ module _ (core : Port) (wants : Wants) (fetches : List (Option Fetching)) (comma
   not_slot : (slot s : ℕ) → has_bit wants.pending slot ≡ true → has_bit wants.pending s ≡ false → s ≢ slot
   not_slot slot s here none = λ same. true≢false (sym here ∙ ap (has_bit wants.pending) (sym same) ∙ none)
 
-  pub asks : (slot : ℕ) → has_bit wants.pending slot ≡ true → AreParts core (asked wants slot) fetches commands None
+  pub asks : (slot : ℕ) → has_bit wants.pending slot ≡ true → AreParts core (asked wants slot) fetches commands None starts
   asks slot here = record {
     long = was.long;
     kept = was.kept;
@@ -138,7 +141,7 @@ module _ (core : Port) (wants : Wants) (fetches : List (Option Fetching)) (comma
   quieter slot (Some w) h = record { slot = h.slot; kept = h.kept; out = bits.left_none wants.out (2 ^ slot) w.slot h.out }
 
   -- an answer came, and what had come of the command is taken out
-  pub answers : (slot : ℕ) → AreParts core (heard slot) (set fetches slot None) commands payload
+  pub answers : (slot : ℕ) → AreParts core (heard slot) (set fetches slot None) commands payload starts
   answers slot = record {
     long = was.long;
     kept = was.kept;
@@ -151,7 +154,7 @@ module _ (core : Port) (wants : Wants) (fetches : List (Option Fetching)) (comma
     carried = quieter slot payload was.carried;
   }
 
-  pub fetches_on : (slot : ℕ) (f : Fetching) → has_bit wants.pending slot ≡ true → AreParts core wants (set fetches slot (Some f)) commands payload
+  pub fetches_on : (slot : ℕ) (f : Fetching) → has_bit wants.pending slot ≡ true → AreParts core wants (set fetches slot (Some f)) commands payload starts
   fetches_on slot f here = record {
     long = was.long;
     kept = was.kept;
@@ -184,13 +187,13 @@ module _ (core : Port) (wants : Wants) (fetches : List (Option Fetching)) (comma
   same_out slot None h = tt
   same_out slot (Some w) h = record { slot = h.slot; kept = h.kept; out = h.out }
 
-  pub refuses : (slot : ℕ) → slot < 32 → IsUnread wants fetches slot → AreParts core (settled slot) fetches commands payload
+  pub refuses : (slot : ℕ) → slot < 32 → IsUnread wants fetches slot → AreParts core (settled slot) fetches commands payload starts
   refuses slot below unread = record {
     long = was.long;
     kept = was.kept;
     unread = no_longer slot below unread;
     free = λ s lt here. was.free s lt (bits.left_was wants.pending (2 ^ slot) s here);
-    stopped = λ e. none_pending slot (was.stopped e);
+    stopped = λ e f. none_pending slot (was.stopped e f);
     counted = record { slots = was.counted.slots; devices = was.counted.devices; most = was.counted.most };
     carried = same_out slot payload was.carried;
   }
@@ -210,7 +213,7 @@ module _ (core : Port) (wants : Wants) (fetches : List (Option Fetching)) (comma
       → ((s : ℕ) → IsOffered (last_command new.commands s) (get_or (set commands slot (Some f)) s None))
       → ((s : ℕ) → s ≢ slot → issue_at core.slots s ≡ None → issue_at new.slots s ≡ None)
       → (new.registers.started ≡ false → core.registers.started ≡ false)
-      → AreParts new (settled slot) fetches (set commands slot (Some f)) payload
+      → AreParts new (settled slot) fetches (set commands slot (Some f)) payload starts
   places new slot f below unread offered frees stops = record {
     long = length-set commands slot (Some f) ∙ was.long;
     kept = offered;
@@ -218,7 +221,7 @@ module _ (core : Port) (wants : Wants) (fetches : List (Option Fetching)) (comma
     free = λ s lt here.
         let ne : s ≢ slot = λ same. false≢true (sym (bits.slot_taken wants.pending slot below) ∙ ap (has_bit (settled slot).pending) (sym same) ∙ here) in
         frees s ne (was.free s lt (bits.left_was wants.pending (2 ^ slot) s here));
-    stopped = λ e. none_pending slot (was.stopped (stops e));
+    stopped = λ e f. none_pending slot (was.stopped (stops e) f);
     counted = record { slots = was.counted.slots; devices = was.counted.devices; most = was.counted.most };
     carried = kept_out slot f payload below was.carried;
   }
@@ -234,20 +237,20 @@ module _ (core : Port) (wants : Wants) (fetches : List (Option Fetching)) (comma
     | inr ge ↦ get_or_past (replicate 32 no_fetch) slot None (let long = length-replicate 32 no_fetch in omega (arith, long, ge))
   ]
 
-  pub drops : (new : Port) → ((s : ℕ) → IsOffered (last_command new.commands s) (get_or commands s None)) → AreParts new (without_wants wants) (replicate 32 None) commands None
-  drops new offered = record {
+  pub drops : (new : Port) (next : Bool) → ((s : ℕ) → IsOffered (last_command new.commands s) (get_or commands s None)) → AreParts new (without_wants wants) (replicate 32 None) commands None next
+  drops new next offered = record {
     long = was.long;
     kept = offered;
     unread = λ slot below none. record { fetch = nothing_fetched slot; out = bits.none_set slot };
     free = λ slot below here. absurd (no_bit slot here);
-    stopped = λ e. refl;
+    stopped = λ e f. refl;
     counted = record { slots = was.counted.slots; devices = was.counted.devices; most = was.counted.most };
     carried = tt;
   }
 
   -- ---- more slots are pending
 
-  pub pends : (fresh : ℕ) → core.registers.started ≡ true → ((s : ℕ) → s < 32 → has_bit fresh s ≡ true → issue_at core.slots s ≡ None) → AreParts core (record wants { pending = bit_or wants.pending fresh }) fetches commands payload
+  pub pends : (fresh : ℕ) → starts ≡ true → ((s : ℕ) → s < 32 → has_bit fresh s ≡ true → issue_at core.slots s ≡ None) → AreParts core (record wants { pending = bit_or wants.pending fresh }) fetches commands payload starts
   pends fresh runs frees = record {
     long = was.long;
     kept = was.kept;
@@ -258,7 +261,7 @@ module _ (core : Port) (wants : Wants) (fetches : List (Option Fetching)) (comma
       | inl pending ↦ was.free slot below pending
       | inr none ↦ frees slot below (bits.or_other wants.pending fresh slot here none)
     ];
-    stopped = λ e. absurd (false≢true (sym e ∙ runs));
+    stopped = λ e f. absurd (false≢true (sym f ∙ runs));
     counted = record { slots = was.counted.slots; devices = was.counted.devices; most = was.counted.most };
     carried = same payload was.carried;
   }
@@ -271,7 +274,7 @@ module _ (core : Port) (wants : Wants) (fetches : List (Option Fetching)) (comma
 
   pub counts : (slot : ℕ) (f : Fetched) (next : Option Carried) → slot < 32 → ((k : Option Command) → IsOffered k (get_or commands slot None) → IsOffered k (Some f))
       → IfSome next (IsCarried wants (set commands slot (Some f)))
-      → AreParts core wants fetches (set commands slot (Some f)) next
+      → AreParts core wants fetches (set commands slot (Some f)) next starts
   counts slot f next below offers carried = record {
     long = length-set commands slot (Some f) ∙ was.long;
     kept = λ s. elim (cases_eq s slot) [

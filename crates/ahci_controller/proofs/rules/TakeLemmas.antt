@@ -1,11 +1,14 @@
 -- The rules of a controller stay true as a frame is taken.
 use Rattle.std.proofs.Common.{◌≡◌, ℕ, ◌<◌, ◌^◌, ◌||◌, Bool, true, false, List, get_or, set, length, refl, sym, ap, subst, ◌∙◌, inl, inr, Option, Some, None, get_or-set_same}
-use Rattle.std.specs.Prelude.{IfSome, MatchOption, is_some, nat_lt, if◌then◌else◌}
+use Rattle.std.specs.Prelude.{IfSome, MatchOption, is_some, nat_lt, ◌==◌, if◌then◌else◌}
 use Rattle.std.proofs.lemmas.Bool.{cases_Bool, false≢true, lt-ltb, true≢false}
 use Rattle.fis_view.specs.Seen.{seen}
 use Rattle.fis_view.specs.declared.view.Fis.{Fis}
 use Rattle.fis_view.specs.declared.view.Fis.TheVariants as view
-use Rattle.slots.specs.Slots.{Issue, KeepsFree, has_bit, issue_at, match_some}
+use Rattle.slots.specs.Data.{receiving_slot}
+use Rattle.slots.specs.Slots.{Issue, KeepsFree, context_of, has_bit, issue_at, match_some}
+use Rattle.slots.specs.declared.table.Context.{Context}
+use Rattle.guest_fetch.specs.Places.{room_at}
 use Rattle.slots.specs.Table.{IsTable}
 use Rattle.guest_fetch.specs.Commands.{Fetched}
 use Rattle.hba_commands.specs.declared.command.Command.{Command}
@@ -21,9 +24,9 @@ use Rattle.hba_fbs.specs.declared.registers.Registers.{Registers}
 use Rattle.hba_fbs.specs.declared.report.TakeReport.{TakeReport}
 use Rattle.hba_fbs.specs.declared.report.Wrote.{Wrote}
 use Rattle.ahci_controller.specs.Rules.{AreParts, IsCarried, IsOffered, IsRuled}
-use Rattle.ahci_controller.specs.States.{ControllerState, kept}
+use Rattle.ahci_controller.specs.States.{ControllerState, cursor, kept}
 use Rattle.ahci_controller.specs.Moving.{commands_after, moved_on}
-use Rattle.ahci_controller.specs.Taking.{CoreHearsIf, Hears, carried, carried_by, room_for}
+use Rattle.ahci_controller.specs.Taking.{CoreHearsIf, Hears, brought, carried, carried_by, is_overflow, part_in, part_of, payload_of, room_for}
 use Rattle.ahci_controller.specs.declared.taking.Took.{Took}
 use Rattle.ahci_controller.specs.declared.wants.Carried.{Carried}
 use Rattle.ahci_controller.specs.declared.wants.Wants.{Wants}
@@ -32,7 +35,7 @@ use Rattle.ahci_controller.proofs.rules.FreeLemmas.{same_free, slots_free}
 use Rattle.ahci_controller.proofs.rules.PartLemmas as parts
 use Rattle.ahci_controller.proofs.rules.TurnLemmas.{offers_on}
 use Rattle.ahci_controller.proofs.rules.Words.{IsOfIssue}
-use Rattle.ahci_controller.proofs.rules.WroteLemmas.{decided_wrote, greeted_wrote, passed_wrote}
+use Rattle.ahci_controller.proofs.rules.WroteLemmas.{decided_wrote, greeted_wrote, of_issue, passed_wrote}
 
 -- ---- the core
 
@@ -131,17 +134,17 @@ busy_out c slot below was busy = elim (cases_Bool (has_bit c.wants.pending slot)
 ]
 
 heard_ruled : (dev : ℕ) (old : ControllerState) (new : Port) (o : Option Wrote) → IsCorePort old.core → IsRuled old → new.commands ≡ old.core.commands → KeepsFree old.core.slots new.slots → new.registers.started ≡ old.core.registers.started
-    → IfSome o (IsOfIssue old.core) → AreParts new (record old.wants { feeding = without old.wants.feeding (2 ^ dev) }) old.fetches (commands_after (record old { core = new }) o) (carried_by o)
+    → IfSome o (IsOfIssue old.core) → AreParts new (record old.wants { feeding = without old.wants.feeding (2 ^ dev) }) old.fetches (commands_after (record old { core = new }) o) (carried_by o) old.own.starts
 heard_ruled dev old new None rules was commands frees started wrote =
-    let fed : IsRuled (record old { wants = record old.wants { feeding = without old.wants.feeding (2 ^ dev) } }) = parts.feeding_is old.core old.wants old.fetches old.commands old.writes.payload was (without old.wants.feeding (2 ^ dev)) in
-    let moved : AreParts new (record old.wants { feeding = without old.wants.feeding (2 ^ dev) }) old.fetches old.commands old.writes.payload =
-    parts.core_moves old.core _ old.fetches old.commands old.writes.payload fed new commands frees (λ e. was.stopped (sym started ∙ e)) in
-    parts.payload_is new _ old.fetches old.commands old.writes.payload moved None tt
+    let fed : IsRuled (record old { wants = record old.wants { feeding = without old.wants.feeding (2 ^ dev) } }) = parts.feeding_is old.core old.wants old.fetches old.commands old.writes.payload old.own.starts was (without old.wants.feeding (2 ^ dev)) in
+    let moved : AreParts new (record old.wants { feeding = without old.wants.feeding (2 ^ dev) }) old.fetches old.commands old.writes.payload old.own.starts =
+    parts.core_moves old.core _ old.fetches old.commands old.writes.payload old.own.starts fed new commands frees (λ e. was.stopped (sym started ∙ e)) in
+    parts.payload_is new _ old.fetches old.commands old.writes.payload old.own.starts moved None tt
 heard_ruled dev old new (Some w) rules was commands frees started wrote =
     let wants : Wants = record old.wants { feeding = without old.wants.feeding (2 ^ dev) } in
-    let fed : IsRuled (record old { wants = wants }) = parts.feeding_is old.core old.wants old.fetches old.commands old.writes.payload was (without old.wants.feeding (2 ^ dev)) in
-    let moved : AreParts new wants old.fetches old.commands old.writes.payload =
-    parts.core_moves old.core wants old.fetches old.commands old.writes.payload fed new commands frees (λ e. was.stopped (sym started ∙ e)) in
+    let fed : IsRuled (record old { wants = wants }) = parts.feeding_is old.core old.wants old.fetches old.commands old.writes.payload old.own.starts was (without old.wants.feeding (2 ^ dev)) in
+    let moved : AreParts new wants old.fetches old.commands old.writes.payload old.own.starts =
+    parts.core_moves old.core wants old.fetches old.commands old.writes.payload old.own.starts fed new commands frees (λ e. was.stopped (sym started ∙ e)) in
     let k : HasKept old w.slot = has_kept old w.slot was rules.commands wrote.busy in
     let f : Fetched = moved_on w k.command in
     let now : List (Option Fetched) = set old.commands w.slot (Some f) in
@@ -153,11 +156,43 @@ heard_ruled dev old new (Some w) rules was commands frees started wrote =
       kept = ap is_some (get_or-set_same old.commands w.slot (Some f) None (rw was.long wrote.below));
       out = busy_out old w.slot wrote.below was wrote.busy;
     } in
-    subst (λ (l : List (Option Fetched)). AreParts new wants old.fetches l (carried_by (Some w))) (sym is)
-    (parts.counts new wants old.fetches old.commands old.writes.payload moved w.slot f (Some (carried w)) wrote.below
+    subst (λ (l : List (Option Fetched)). AreParts new wants old.fetches l (carried_by (Some w)) old.own.starts) (sym is)
+    (parts.counts new wants old.fetches old.commands old.writes.payload old.own.starts moved w.slot f (Some (carried w)) wrote.below
     (λ command h. offers_on w k.command command (subst (λ (o : Option Fetched). IsOffered command o) k.here h)) brought)
+
+-- ---- Data that go past their table
+
+-- what a device's last setup is for, is issued
+setup_issue : (port : Port) (dev : ℕ) (o : Option Context) (slot : ℕ) (w : Wrote) → IsTable port.slots → context_of port.slots dev ≡ o → receiving_slot o ≡ Some slot → w.slot ≡ slot → IsOfIssue port w
+setup_issue port dev None slot w ok now h same = cc
+setup_issue port dev (Some c) slot w ok now h same = of_issue port dev w ok (record { context = c; now = now; slot = same ∙ by c.to_host h })
+  where
+    by : (b : Bool) → (if b then Some c.slot else None) ≡ Some slot → slot ≡ c.slot
+    by true e = cc
+    by false e = cc
+
+part_is : (f : Fetched) (slot offset len : ℕ) (b : Bool) (port : Port) → ((w : Wrote) → w.slot ≡ slot → IsOfIssue port w) → IfSome (if b then None else Some (record { slot = slot; offset = offset; len = room_at f.table offset len })) (IsOfIssue port)
+part_is f slot offset len true port own = tt
+part_is f slot offset len false port own = own (record { slot = slot; offset = offset; len = room_at f.table offset len }) refl
+
+part_issue : (c : ControllerState) (dev len : ℕ) → IsTable c.core.slots → IfSome (part_of c dev len) (IsOfIssue c.core)
+part_issue c dev len ok = by (receiving_slot (context_of c.core.slots dev)) refl
+  where
+    of_command : (slot : ℕ) (o : Option Fetched) → receiving_slot (context_of c.core.slots dev) ≡ Some slot → IfSome (match_some o None (λ command. part_in command slot (cursor c dev) len)) (IsOfIssue c.core)
+    of_command slot None is = tt
+    of_command slot (Some f) is = part_is f slot (cursor c dev) len (room_at f.table (cursor c dev) len == 0 || room_at f.table (cursor c dev) len == len) c.core (λ w same. setup_issue c.core dev (context_of c.core.slots dev) slot w ok refl is same)
+
+    by : (o : Option ℕ) → receiving_slot (context_of c.core.slots dev) ≡ o → IfSome (match_some o None (λ slot. match_some (kept c slot) None (λ command. part_in command slot (cursor c dev) len))) (IsOfIssue c.core)
+    by None is = tt
+    by (Some slot) is = of_command slot (kept c slot) is
+
+brought_issue : (over : Bool) (c : ControllerState) (dev len : ℕ) (wrote : Option Wrote) → IsTable c.core.slots → IfSome wrote (IsOfIssue c.core) → IfSome (if over then part_of c dev len else wrote) (IsOfIssue c.core)
+brought_issue true c dev len wrote ok h = part_issue c dev len ok
+brought_issue false c dev len wrote ok h = h
 
 pub take_rules : (frame : List ℕ) (old new : ControllerState) (took : Took) → IsCorePort old.core → IsTable old.core.slots → IsRuled old → Hears old frame took new → IsRuled new
 take_rules frame old new took rules ok was h =
     let heard : HearsAs old.core new.core took.report = hears_as old.core.registers.started old new.core frame took.report ok h.core in
-    subst IsRuled (sym h.rest) (heard_ruled (port_of frame) old new.core took.report.wrote rules was heard.commands heard.frees heard.started heard.wrote)
+    subst IsRuled (sym h.rest)
+    (heard_ruled (port_of frame) old new.core (brought old frame took.report) rules was heard.commands heard.frees heard.started
+    (brought_issue (is_overflow took.report.fault) old (port_of frame) (payload_of (seen frame)) took.report.wrote ok heard.wrote))

@@ -26,7 +26,7 @@ use Rattle.hba_fbs.specs.declared.turn.Turn.TheVariants.{Feeds, Orders, Rests}
 use Rattle.ahci_controller.specs.Circle.{first_behind, is_behind}
 use Rattle.ahci_controller.specs.Feeding.{Gathers, GathersIf, Loses, LosesIf, MissesData, MissesIf, SendsIf, sent_to, without_feeding}
 use Rattle.ahci_controller.specs.Fetching.{asked as asked_of}
-use Rattle.ahci_controller.specs.Next.{FeedsTo, Frames, FramesFor, OrdersSlot, Reads, Turns, TurnsIf, after_count, after_rest, counted_slot, is_fed, is_halted, left, next_device, next_read, next_slot, next_write, payload_step, rest, run_of, step_of, step_with, turn_to, writes_next, written}
+use Rattle.ahci_controller.specs.Next.{FeedsTo, Frames, FramesFor, GoesIf, OrdersSlot, Reads, RestsNow, StartsUp, Turns, TurnsIf, after_count, after_rest, counted_slot, is_fed, is_halted, left, next_device, next_read, next_slot, next_write, payload_step, rest, run_of, step_of, step_with, turn_to, writes_next, written}
 use Rattle.ahci_controller.specs.Moving.{command_of, moved, moved_on}
 use Rattle.ahci_controller.specs.Outbox.{no_writes}
 use Rattle.ahci_controller.specs.Rules.{AreParts, IsCarried, IsOffered, IsRuled, IsUnread}
@@ -40,7 +40,11 @@ use Rattle.ahci_controller.specs.declared.wants.Writes.{Writes}
 use Rattle.ahci_controller.proofs.rules.BitLemmas as bits
 use Rattle.ahci_controller.proofs.rules.FreeLemmas.{chosen_free, same_free, slots_free}
 use Rattle.ahci_controller.proofs.rules.PartLemmas as parts
+use Rattle.ahci_controller.specs.Own.{falls}
+use Rattle.ahci_controller.specs.Reading.{is_idle}
+use Rattle.ahci_controller.specs.Wants.{dropped}
 use Rattle.ahci_controller.proofs.rules.CallLemmas.{same_ruled}
+use Rattle.ahci_controller.proofs.rules.WriteLemmas.{restarts_ruled}
 
 -- ---- what is to be written to the guest
 
@@ -70,7 +74,7 @@ next_carried c (Some w) is = by (run_of c w)
     by (Some m) = left_carried c w m is
 
 written_ruled : (c : ControllerState) → IsRuled c → IsRuled (written c)
-written_ruled c was = parts.payload_is c.core c.wants c.fetches c.commands c.writes.payload was (writes_next c).payload (next_carried c c.writes.payload was.carried)
+written_ruled c was = parts.payload_is c.core c.wants c.fetches c.commands c.writes.payload c.own.starts was (writes_next c).payload (next_carried c c.writes.payload c.own.starts was.carried)
 
 -- nothing is left of it
 pub written_rules : (old new : ControllerState) → IsRuled old → new ≡ written old → IsRuled new
@@ -97,7 +101,7 @@ chosen_commands (Orders dev slot command) old new h = h.commands
 
 chosen_ruled : (turn : Turn) (c : ControllerState) (new : Port) → IsTable new.slots → Chooses turn c.core new → IsRuled c → IsRuled (record c { core = new })
 chosen_ruled turn c new ok h was =
-    parts.core_moves c.core c.wants c.fetches c.commands c.writes.payload was new (chosen_commands turn c.core new h) (chosen_free turn c.core new ok h)
+    parts.core_moves c.core c.wants c.fetches c.commands c.writes.payload c.own.starts was new (chosen_commands turn c.core new h) (chosen_free turn c.core new ok h)
     (λ e. was.stopped (stays_stopped c.core new (chosen_registers turn c.core new h) e))
 
 -- ---- what is next
@@ -113,10 +117,10 @@ reads_ruled slot c new next empty is was h =
     let pending : has_bit c.wants.pending slot ≡ true =
     bits.left_was c.wants.pending c.wants.out slot (found (without c.wants.pending c.wants.out) c.circle.read slot (lowest_below (λ step. has_bit (without c.wants.pending c.wants.out) (is_behind 32 c.circle.read step)) 32) refl is) in
     subst IsRuled (sym h.1)
-    (subst (λ (p : Option Carried). AreParts c.core (asked_of c.wants slot) c.fetches c.commands p) (sym empty) (parts.asks c.core c.wants c.fetches c.commands c.writes.payload was slot pending))
+    (subst (λ (p : Option Carried). AreParts c.core (asked_of c.wants slot) c.fetches c.commands p c.own.starts) (sym empty) (parts.asks c.core c.wants c.fetches c.commands c.writes.payload c.own.starts was slot pending))
 
 feeds_ruled : (dev : ℕ) (c new : ControllerState) (next : Next) → IsRuled c → FeedsTo c dev next new → IsRuled new
-feeds_ruled dev c new next was h = subst IsRuled (sym h.rest) (parts.feeds c.core c.wants c.fetches c.commands c.writes.payload was dev)
+feeds_ruled dev c new next was h = subst IsRuled (sym h.rest) (parts.feeds c.core c.wants c.fetches c.commands c.writes.payload c.own.starts was dev)
 
 orders_ruled : (slot : ℕ) (c new : ControllerState) (next : Next) → IsTable new.core.slots → IsRuled c → OrdersSlot c slot next new → IsRuled new
 orders_ruled slot c new next ok was h = subst IsRuled (sym h.rest) (chosen_ruled (orders c.core slot) c new.core ok h.core was)
@@ -132,9 +136,33 @@ read_ruled : (o : Option ℕ) (c new : ControllerState) (next : Next) → next_r
 read_ruled None c new next is empty ok was h = frames_ruled (next_device c) (next_slot c) c.circle.fed c new next ok was h
 read_ruled (Some slot) c new next is empty ok was h = reads_ruled slot c new next empty is was h
 
+-- the port starts
+empty_still : (fall : Bool) (c : ControllerState) → c.writes.payload ≡ None → (if fall then dropped c else c).writes.payload ≡ None
+empty_still true c empty = refl
+empty_still false c empty = empty
+
+rests_core : (o : Option ℕ) (c new : ControllerState) (next : Next) → MatchOption o (RestsNow c next new) (λ slot. Reads c slot next new) → new.core ≡ c.core
+rests_core None c new next h = ap (λ (s : ControllerState). s.core) h.0
+rests_core (Some slot) c new next h = ap (λ (s : ControllerState). s.core) h.1
+
+rests_ruled : (o : Option ℕ) (c new : ControllerState) (next : Next) → next_read c ≡ o → c.writes.payload ≡ None → IsRuled c → MatchOption o (RestsNow c next new) (λ slot. Reads c slot next new) → IsRuled new
+rests_ruled None c new next is empty was h = same_ruled c new h.0 was
+rests_ruled (Some slot) c new next is empty was h = reads_ruled slot c new next empty is was h
+
+starts_up : (c new : ControllerState) (next : Next) → c.writes.payload ≡ None → IsTable new.core.slots → IsRuled c → StartsUp c next new → IsRuled new
+starts_up c new next empty ok was h =
+    let ok_middle : IsTable h.middle.core.slots = subst (λ (p : Port). IsTable p.slots) (rests_core (next_read h.middle) h.middle new next h.reads) ok in
+    let ruled : IsRuled h.middle = restarts_ruled (is_idle c) c.own c h.middle h.ignored ok_middle was h.starts in
+    let none : h.middle.writes.payload ≡ None = ap (λ (s : ControllerState). s.writes.payload) h.starts.rest ∙ empty_still (falls c.own c.own c.core.registers h.middle.core.registers) c empty in
+    rests_ruled (next_read h.middle) h.middle new next refl none ruled h.reads
+
+goes_ruled : (started : Bool) (c new : ControllerState) (next : Next) → c.writes.payload ≡ None → IsTable new.core.slots → IsRuled c → GoesIf started c next new → IsRuled new
+goes_ruled true c new next empty ok was h = read_ruled (next_read c) c new next refl empty ok was h
+goes_ruled false c new next empty ok was h = starts_up c new next empty ok was h
+
 turn_ruled : (halted : Bool) (c new : ControllerState) (next : Next) → c.writes.payload ≡ None → IsTable new.core.slots → IsRuled c → TurnsIf halted c next new → IsRuled new
 turn_ruled true c new next empty ok was h = same_ruled c new h.0 was
-turn_ruled false c new next empty ok was h = read_ruled (next_read c) c new next refl empty ok was h
+turn_ruled false c new next empty ok was h = goes_ruled c.core.registers.started c new next empty ok was h
 
 turns_as : (o : Option Next) (old new : ControllerState) (next : Next) → next_write old ≡ o → IsTable new.core.slots → IsRuled old → MatchOption o (TurnsIf (is_halted (written old)) (written old) next new) (λ write. (next ≡ write) × (new ≡ written old))
     → IsRuled new
@@ -155,21 +183,21 @@ is_below : (w : Wrote) (b : Bool) (o : Option Fetched) (f : Fetched) → (if b t
 is_below w true o f h = (refl, h)
 is_below w false o f h = cc
 
-moved_as : (c : ControllerState) (w : Wrote) (o : Option Fetched) → command_of c w ≡ o → IsRuled c → AreParts c.core c.wants c.fetches (match_some o c.commands (λ command. set c.commands w.slot (Some (moved_on w command)))) c.writes.payload
+moved_as : (c : ControllerState) (w : Wrote) (o : Option Fetched) → command_of c w ≡ o → IsRuled c → AreParts c.core c.wants c.fetches (match_some o c.commands (λ command. set c.commands w.slot (Some (moved_on w command)))) c.writes.payload c.own.starts
 moved_as c w None is was = was
 moved_as c w (Some f) is was =
     let parts_of = is_below w (nat_lt w.slot 32) (kept c w.slot) f is in
     let below : w.slot < 32 = ltb-true w.slot 32 parts_of.0 in
-    parts.counts c.core c.wants c.fetches c.commands c.writes.payload was w.slot (moved_on w f) c.writes.payload below
+    parts.counts c.core c.wants c.fetches c.commands c.writes.payload c.own.starts was w.slot (moved_on w f) c.writes.payload below
     (λ command h. offers_on w f command (subst (λ (o : Option Fetched). IsOffered command o) parts_of.1 h))
-    (parts.carried_on c.core c.wants c.fetches c.commands c.writes.payload was w.slot (moved_on w f) c.writes.payload below was.carried)
+    (parts.carried_on c.core c.wants c.fetches c.commands c.writes.payload c.own.starts was w.slot (moved_on w f) c.writes.payload below was.carried)
 
 moved_ruled : (c : ControllerState) (o : Option Wrote) → IsRuled c → IsRuled (moved c o)
 moved_ruled c None was = was
 moved_ruled c (Some w) was = moved_as c w (command_of c w) refl was
 
 unfed : (dev : ℕ) (c : ControllerState) → IsRuled c → IsRuled (without_feeding c dev)
-unfed dev c was = parts.feeding_is c.core c.wants c.fetches c.commands c.writes.payload was (without c.wants.feeding (2 ^ dev))
+unfed dev c was = parts.feeding_is c.core c.wants c.fetches c.commands c.writes.payload c.own.starts was (without c.wants.feeding (2 ^ dev))
 
 sends_ruled : (due : Bool) (dev : ℕ) (c new : ControllerState) (fed : Fed) → IsTable new.core.slots → IsRuled c → SendsIf due c dev fed new → IsRuled new
 sends_ruled false dev c new fed ok was h = same_ruled c new h.0 was

@@ -1,5 +1,5 @@
 -- The rules of a controller stay true over writes of registers.
-use Rattle.std.proofs.Common.{◌≡◌, ℕ, ◌+◌, ◌<◌, ◌&&◌, bit_or, Bool, true, false, not, List, get_or, replicate, refl, sym, ap, subst, ◌∙◌, inl, inr, Option, Some, None, arith}
+use Rattle.std.proofs.Common.{◌≡◌, ℕ, ◌+◌, ◌<◌, ◌&&◌, ◌||◌, bit_or, Bool, true, false, not, List, get_or, replicate, refl, sym, ap, subst, ◌∙◌, inl, inr, Option, Some, None, arith}
 use Rattle.std.specs.Prelude.{IfSome, MatchOption, is_some, ◌==◌, if◌then◌else◌}
 use Rattle.std.proofs.lemmas.Bool.{cases_Bool, cases_lt, false≢true, true≢false}
 use Rattle.std.proofs.lemmas.List.{get_or-replicate, get_or_past, length-replicate}
@@ -35,7 +35,9 @@ use Rattle.ahci_controller.specs.Rules.{AreParts, IsOffered, IsRuled}
 use Rattle.ahci_controller.specs.States.{ControllerState}
 use Rattle.ahci_controller.specs.Wants.{dropped}
 use Rattle.ahci_controller.specs.Wide.{WritesAt, WritesFitting, WritesIf, WritesPart, WritesWide}
-use Rattle.ahci_controller.specs.Writing.{ClearsBusy, ClearsIf, Commands, Leaves, ResetsBy, ResetsLink, StartsPort, Tells, WritesGlobal, WritesRegister, asked_state, clears_busy, engine, fresh_slots, link_effect, link_moved, plain, told_refusal}
+use Rattle.ahci_controller.specs.Outbox.{without_wants}
+use Rattle.ahci_controller.specs.Own.{commanded, engine_of}
+use Rattle.ahci_controller.specs.Writing.{ClearsBusy, ClearsIf, Commands, Leaves, ResetsBy, ResetsLink, Restarts, Tells, WritesGlobal, WritesRegister, asked_state, clears_busy, fresh_slots, idle_for, link_effect, link_moved, plain, told_refusal}
 use Rattle.ahci_controller.specs.declared.access.Width.{Width}
 use Rattle.ahci_controller.specs.declared.latch.Latch.{Latch}
 use Rattle.ahci_controller.specs.declared.own.OwnRegisters.{OwnRegisters}
@@ -77,13 +79,15 @@ fbs_calm = record { none = fbs_none; commands = λ offer value port. refl; start
 told_as : (register : port_register.Register) (o : Option WriteError) (value : ℕ) (c : ControllerState) (new : Port) → IsCalm register → IsTable new.slots → IsRuled c
     → MatchOption o (AcceptsBy c.core (offer_in offers_nothing) register value new) (λ e. new ≡ c.core) → IsRuled (record c { core = new })
 told_as register None value c new calm ok was h =
-    parts.core_moves c.core c.wants c.fetches c.commands c.writes.payload was new (h.commands ∙ calm.commands (offer_in offers_nothing) value c.core)
+    parts.core_moves c.core c.wants c.fetches c.commands c.writes.payload c.own.starts was new (h.commands ∙ calm.commands (offer_in offers_nothing) value c.core)
     (accepted_free register (offer_in offers_nothing) value c.core new calm.none ok h)
     (λ e. was.stopped (sym (ap (λ (r : Registers). r.started) h.registers ∙ calm.started value c.core.registers) ∙ e))
 told_as register (Some error) value c new calm ok was h = subst (λ (p : Port). IsRuled (record c { core = p })) (sym h) was
 
-told_ruled : (register : port_register.Register) (value : ℕ) (c new : ControllerState) (latch : Latch) (own : OwnRegisters) (ignored : Option WriteError) → IsCalm register → IsTable new.core.slots → IsRuled c → Tells c register value latch own ignored new → IsRuled new
-told_ruled register value c new latch own ignored calm ok was h = subst IsRuled (sym h.rest) (told_as register (told_refusal c register value) value c new.core calm ok was h.core)
+told_ruled : (register : port_register.Register) (value : ℕ) (c new : ControllerState) (latch : Latch) (own : OwnRegisters) (ignored : Option WriteError) → own.starts ≡ c.own.starts → IsCalm register → IsTable new.core.slots → IsRuled c → Tells c register value latch own ignored new → IsRuled new
+told_ruled register value c new latch own ignored same calm ok was h =
+    subst IsRuled (sym h.rest)
+    (subst (λ (b : Bool). AreParts new.core c.wants c.fetches c.commands c.writes.payload b) (sym same) (told_as register (told_refusal c register value) value c new.core calm ok was h.core))
 
 -- ---- resets
 
@@ -97,25 +101,25 @@ no_command_at slot = elim (cases_lt slot 32) [
     none : Option Command
     none = None
 
-reset_ruled : (c : ControllerState) (port new : Port) (line : Line) → port.commands ≡ replicate 32 None → Hangs port 15 line new → IsRuled c → IsRuled (record (dropped c) { core = new })
-reset_ruled c port new line none h was =
-    parts.drops c.core c.wants c.fetches c.commands c.writes.payload was new (λ s.
+reset_ruled : (c : ControllerState) (port new : Port) (line : Line) (starts : Bool) → port.commands ≡ replicate 32 None → Hangs port 15 line new → IsRuled c → AreParts new (without_wants c.wants) (replicate 32 None) c.commands None starts
+reset_ruled c port new line starts none h was =
+    parts.drops c.core c.wants c.fetches c.commands c.writes.payload c.own.starts was new starts (λ s.
     subst (λ (o : Option Command). IsOffered o (get_or c.commands s None)) (sym (ap (λ (l : List (Option Command)). last_command l s) (h.commands ∙ none) ∙ no_command_at s)) tt)
 
 global_ruled : (resets : Bool) (value : ℕ) (c new : ControllerState) → IsRuled c → WritesGlobal resets c value new → IsRuled new
-global_ruled true value c new was h = subst IsRuled (sym h.rest) (reset_ruled c (whole_reset c.core) new.core _ refl h.core was)
+global_ruled true value c new was h = subst IsRuled (sym h.rest) (reset_ruled c (whole_reset c.core) new.core _ false refl h.core was)
 global_ruled false value c new was h = subst IsRuled (sym h) was
 
 linked_ruled : (e : Effect) (c new : ControllerState) → IsRuled c → ResetsBy e c new → IsRuled new
 linked_ruled effect.Nothing c new was h = same_ruled c new h was
-linked_ruled effect.LinkReset c new was h = subst IsRuled (sym h.rest) (reset_ruled c (link_reset c.core) new.core _ refl h.core was)
+linked_ruled effect.LinkReset c new was h = subst IsRuled (sym h.rest) (reset_ruled c (link_reset c.core) new.core _ c.own.starts refl h.core was)
 linked_ruled effect.LinkUp c new was h = same_ruled c new h was
 
 -- ---- PxCMD
 
 cleared_as : (clears : Bool) (c : ControllerState) (new : Port) → IsRuled c → ClearsIf clears c.core new → IsRuled (record c { core = new })
 cleared_as true c new was h =
-    parts.core_moves c.core c.wants c.fetches c.commands c.writes.payload was new h.commands (slots_free c.core new h.slots) (λ e. was.stopped (sym (ap (λ (r : Registers). r.started) h.registers) ∙ e))
+    parts.core_moves c.core c.wants c.fetches c.commands c.writes.payload c.own.starts was new h.commands (slots_free c.core new h.slots) (λ e. was.stopped (sym (ap (λ (r : Registers). r.started) h.registers) ∙ e))
 cleared_as false c new was h = subst (λ (p : Port). IsRuled (record c { core = p })) (sym h) was
 
 commands_same : (o : Option WriteError) (value : ℕ) (old new : Port) → MatchOption o (SetsCmd old value new) (λ e. new ≡ old) → new.commands ≡ old.commands
@@ -126,28 +130,34 @@ cmd_free : (o : Option WriteError) (value : ℕ) (old new : Port) → IsTable ne
 cmd_free None value old new ok h = set_cmd_free value old new ok h
 cmd_free (Some e) value old new ok h = same_free old new h
 
--- it stops now, or was stopped before
-fell : (was now : Bool) → (was && not now) ≡ false → now ≡ false → was ≡ false
-fell true true f n = absurd (true≢false n)
-fell true false f n = absurd (true≢false f)
-fell false now f n = refl
+-- it stops now, or was stopped before, and ST was 0
+fell : (was before own now : Bool) → (not now && (was || before && not own)) ≡ false → now ≡ false → own ≡ false → (was ≡ false) × (before ≡ false)
+fell was before own true f n s = absurd (true≢false n)
+fell was before true false f n s = absurd (true≢false s)
+fell true before false false f n s = absurd (true≢false f)
+fell false true false false f n s = absurd (true≢false f)
+fell false false false false f n s = (refl, refl)
 
-started_as : (fall : Bool) (c : ControllerState) (new : Port) → own_words.falls c.core.registers new.registers ≡ fall → new.commands ≡ c.core.commands → KeepsFree c.core.slots new.slots → IsRuled c → IsRuled (record (if fall then dropped c else c) { core = new })
-started_as true c new is same frees was =
-    parts.drops c.core c.wants c.fetches c.commands c.writes.payload was new (λ s. subst (λ (l : List (Option Command)). IsOffered (last_command l s) (get_or c.commands s None)) (sym same) (was.kept s))
-started_as false c new is same frees was =
-    parts.core_moves c.core c.wants c.fetches c.commands c.writes.payload was new same frees (λ e. was.stopped (fell c.core.registers.started new.registers.started is e))
+started_as : (fall : Bool) (own : OwnRegisters) (c : ControllerState) (new : Port) → own_words.falls c.own own c.core.registers new.registers ≡ fall → new.commands ≡ c.core.commands → KeepsFree c.core.slots new.slots → IsRuled c
+    → IsRuled (record (if fall then dropped c else c) { core = new; own = own_words.latched own c.own c.core.registers new.registers })
+started_as true own c new is same frees was =
+    parts.drops c.core c.wants c.fetches c.commands c.writes.payload c.own.starts was new own.starts (λ s. subst (λ (l : List (Option Command)). IsOffered (last_command l s) (get_or c.commands s None)) (sym same) (was.kept s))
+started_as false own c new is same frees was =
+    parts.restarts c.core c.wants c.fetches c.commands c.writes.payload c.own.starts was new own.starts same frees (λ e f.
+    let before = fell c.core.registers.started c.own.starts own.starts new.registers.started is e f in
+    was.stopped before.0 before.1)
 
-starts_ruled : (value : ℕ) (c new : ControllerState) (ignored : Option WriteError) → IsTable new.core.slots → IsRuled c → StartsPort c value ignored new → IsRuled new
-starts_ruled value c new ignored ok was h =
-    let o : Option WriteError = own_refusal_by on_port.Cmd c.core.registers (engine c value) in
+pub restarts_ruled : (idle : Bool) (own : OwnRegisters) (c new : ControllerState) (ignored : Option WriteError) → IsTable new.core.slots → IsRuled c → Restarts c idle own ignored new → IsRuled new
+restarts_ruled idle own c new ignored ok was h =
+    let value : ℕ = engine_of own idle c.core.registers in
+    let o : Option WriteError = own_refusal_by on_port.Cmd c.core.registers value in
     subst IsRuled (sym h.rest)
-    (started_as (own_words.falls c.core.registers new.core.registers) c new.core refl (commands_same o (engine c value) c.core new.core h.core) (cmd_free o (engine c value) c.core new.core ok h.core) was)
+    (started_as (own_words.falls c.own own c.core.registers new.core.registers) own c new.core refl (commands_same o value c.core new.core h.core) (cmd_free o value c.core new.core ok h.core) was)
 
 commands_ruled : (value : ℕ) (c new : ControllerState) (ignored : Option WriteError) → IsTable new.core.slots → IsRuled c → Commands c value ignored new → IsRuled new
 commands_ruled value c new ignored ok was h =
     let middle : IsRuled h.middle = subst IsRuled (sym h.clears.rest) (cleared_as (clears_busy c value) c h.middle.core was h.clears.core) in
-    starts_ruled value h.middle new ignored ok middle h.starts
+    restarts_ruled (idle_for c value) (commanded h.middle.own value) h.middle new ignored ok middle h.starts
 
 -- ---- PxCI
 
@@ -165,8 +175,8 @@ fresh_free c value s below here =
     ] in
     free_is (issue_at c.core.slots s) none
 
-asked_ruled : (started : Bool) (value : ℕ) (c : ControllerState) → c.core.registers.started ≡ started → IsRuled c → IsRuled (if started then record c { wants = record c.wants { pending = bit_or c.wants.pending (fresh_slots c value) } } else c)
-asked_ruled true value c is was = parts.pends c.core c.wants c.fetches c.commands c.writes.payload was (fresh_slots c value) is (fresh_free c value)
+asked_ruled : (started : Bool) (value : ℕ) (c : ControllerState) → c.own.starts ≡ started → IsRuled c → IsRuled (if started then record c { wants = record c.wants { pending = bit_or c.wants.pending (fresh_slots c value) } } else c)
+asked_ruled true value c is was = parts.pends c.core c.wants c.fetches c.commands c.writes.payload c.own.starts was (fresh_slots c value) is (fresh_free c value)
 asked_ruled false value c is was = was
 
 -- ---- all registers
@@ -182,19 +192,19 @@ register_rules ahci.PxClb value c new result ok was h = subst IsRuled (sym h.0) 
 register_rules ahci.PxClbu value c new result ok was h = subst IsRuled (sym h.0) was
 register_rules ahci.PxFb value c new result ok was h = subst IsRuled (sym h.0) was
 register_rules ahci.PxFbu value c new result ok was h = subst IsRuled (sym h.0) was
-register_rules ahci.PxIs value c new result ok was h = told_ruled on_port.Is value c new _ _ result.ignored is_calm ok was h.0
+register_rules ahci.PxIs value c new result ok was h = told_ruled on_port.Is value c new _ _ result.ignored refl is_calm ok was h.0
 register_rules ahci.PxIe value c new result ok was h = subst IsRuled (sym h.0) was
 register_rules ahci.PxCmd value c new result ok was h = commands_ruled value c new result.ignored ok was h.0
 register_rules ahci.PxTfd value c new result ok was h = same_ruled c new h.0 was
 register_rules ahci.PxSig value c new result ok was h = same_ruled c new h.0 was
 register_rules ahci.PxSsts value c new result ok was h = same_ruled c new h.0 was
 register_rules ahci.PxSctl value c new result ok was h = linked_ruled (link_effect c value) (link_moved c value) new was h.0
-register_rules ahci.PxSerr value c new result ok was h = told_ruled on_port.Serr value c new _ _ result.ignored serr_calm ok was h.0
-register_rules ahci.PxSact value c new result ok was h = told_ruled on_port.Sact _ c new _ _ result.ignored sact_calm ok was h.0
-register_rules ahci.PxCi value c new result ok was h = same_ruled (asked_state c value) new h.0 (asked_ruled c.core.registers.started value c refl was)
-register_rules ahci.PxSntf value c new result ok was h = told_ruled on_port.Sntf value c new _ _ result.ignored sntf_calm ok was h.0
+register_rules ahci.PxSerr value c new result ok was h = told_ruled on_port.Serr value c new _ _ result.ignored refl serr_calm ok was h.0
+register_rules ahci.PxSact value c new result ok was h = told_ruled on_port.Sact _ c new _ _ result.ignored refl sact_calm ok was h.0
+register_rules ahci.PxCi value c new result ok was h = same_ruled (asked_state c value) new h.0 (asked_ruled c.own.starts value c refl was)
+register_rules ahci.PxSntf value c new result ok was h = told_ruled on_port.Sntf value c new _ _ result.ignored refl sntf_calm ok was h.0
 register_rules ahci.PxFbs value c new result ok was h =
-    told_ruled on_port.Fbs _ (record c { wants = record c.wants { feeding = 0 } }) new _ _ result.ignored fbs_calm ok (parts.feeding_is c.core c.wants c.fetches c.commands c.writes.payload was 0) h.0
+    told_ruled on_port.Fbs _ (record c { wants = record c.wants { feeding = 0 } }) new _ _ result.ignored refl fbs_calm ok (parts.feeding_is c.core c.wants c.fetches c.commands c.writes.payload c.own.starts was 0) h.0
 
 -- ---- accesses
 

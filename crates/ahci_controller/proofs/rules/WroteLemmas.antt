@@ -120,7 +120,7 @@ brought own (happening.PioSetUp count to_host) x = tt
 brought own happening.Activated x = tt
 brought own (happening.Carried wrote finishes) x = x
 
-of_issue : (port : Port) (dev : ℕ) (wrote : Wrote) → IsTable port.slots → BringsFor (view_of dev port).slots wrote → IsOfIssue port wrote
+pub of_issue : (port : Port) (dev : ℕ) (wrote : Wrote) → IsTable port.slots → BringsFor (view_of dev port).slots wrote → IsOfIssue port wrote
 of_issue port dev wrote ok b =
     let context : IsContext dev port.slots b.context = subst (λ (o : Option Context). MatchOption o (Unit {0}) (IsContext dev port.slots)) b.now (ok.contexts dev) in
     record { below = subst (λ (s : ℕ). s < 32) (sym b.slot) context.0; busy = subst (λ (s : ℕ). is_some (issue_at port.slots s) ≡ true) (sym b.slot) (there (issue_at port.slots b.context.slot) context.1) }

@@ -46,8 +46,11 @@ static READS_WHAT_FITS: [Step; 8] = [
 
 static READS_MORE: [Step; 4] = [TakesData(10, 8192), IsSilent, TakesData(10, 8192), IsSilent];
 
-static RUNS_OVER: [Step; 4] = [
+static RUNS_OVER: [Step; 6] = [
+    // the last 1,194 bytes of the table are filled
     TakesData(10, 8192),
+    Moves(0x12_3554, 4, 1194),
+    Counts(BASE + 0x1C4, 66730),
     // OFS with IFS, and PxCI shows it still
     IsSilent,
     Reads(0x110, 0x900_0000),

@@ -211,7 +211,8 @@ const OF_2: &str = "2782250000000040000000000100000000000000";
 const OF_3: &str = "2783250000000040000000000100000000000000";
 
 static TAKES_TURNS: [Step; 15] = [
-    Writes(0x118, 0x2_0017),
+    // CLO: no signature has come
+    Writes(0x118, 0x2_001F),
     Command(0, 2, 1, OF_2),
     Entry(0, 0, BUFFER, 512),
     Command(1, 3, 1, OF_3),

@@ -2,7 +2,7 @@
 
 use super::rig::{AREA, BASE, BUFFER};
 use super::steps::Step::{
-    Command, Entry, Gets, Hinders, Holds, IsSilent, Line, Links, Puts, Reads, Sends, Takes,
+    Command, Ends, Entry, Gets, Hinders, Holds, IsSilent, Line, Links, Puts, Reads, Sends, Takes,
     TakesSector, Writes,
 };
 use super::steps::{Step, play};
@@ -123,15 +123,16 @@ fn a_boot_loader_starts(rt: HostRuntime) -> Result<(), Fail> {
     )
 }
 
-static RESETS_THE_LINK: [Step; 10] = [
+static RESETS_THE_LINK: [Step; 11] = [
     Writes(0x118, 0x16),
     Takes(SIGNATURE),
     IsSilent,
     Links(0x12C, 0x301, Effect::LinkReset),
     Reads(0x128, 0),
-    Reads(0x120, 0x80),
+    Reads(0x120, 0x7F),
     Hinders(SIGNATURE, Hindrance::LinkDown),
     Links(0x12C, 0x300, Effect::LinkUp),
+    Reads(0x120, 0x80),
     Takes(SIGNATURE),
     Reads(0x120, 0x150),
 ];
@@ -139,6 +140,43 @@ static RESETS_THE_LINK: [Step; 10] = [
 #[test]
 fn a_comreset_ends_with_a_signature(rt: HostRuntime) -> Result<(), Fail> {
     play(&rt, rt.alloc(), &[&OPENS, &RESETS_THE_LINK])
+}
+
+// ST and FRE at once, before the signature. ST is held, and so is a command whose bit is set.
+static STARTS_TOO_EARLY: [Step; 15] = [
+    Writes(0x118, 0x17),
+    Reads(0x118, 0x40_4017),
+    IsSilent,
+    Command(0, 0, 1, IDENTIFY),
+    Entry(0, 0, BUFFER, 512),
+    Writes(0x138, 1),
+    Reads(0x138, 1),
+    IsSilent,
+    Takes(SIGNATURE),
+    Reads(0x120, 0x150),
+    Reads(0x124, 0x101),
+    Sends(IDENTIFY),
+    Reads(0x118, 0x40_C017),
+    Reads(0x138, 1),
+    Takes(PIO),
+];
+
+// A command that waits for ST ends as ST falls.
+static STOPS_TOO_EARLY: [Step; 7] = [
+    Writes(0x118, 0x17),
+    Ends(0x138, 3, 0),
+    Reads(0x138, 3),
+    Ends(0x118, 0x16, 3),
+    Reads(0x138, 0),
+    Takes(SIGNATURE),
+    IsSilent,
+];
+
+/// U-Boot writes ST and FRE at once after a reset of the controller, and then waits for the signature.
+#[test]
+fn a_start_waits_for_the_signature(rt: HostRuntime) -> Result<(), Fail> {
+    play(&rt, rt.alloc(), &[&OPENS, &STARTS_TOO_EARLY])?;
+    play(&rt, rt.alloc(), &[&OPENS, &STOPS_TOO_EARLY])
 }
 
 static WIDTHS: [Step; 12] = [

@@ -111,7 +111,8 @@ const SECOND: &str = "2782F80000000040000000000000000000000000";
 static ONE_DEVICE: [Step; 22] = [
     Writes(0x118, 0x2_0010),
     Writes(0x140, 0),
-    Writes(0x118, 0x2_0011),
+    // CLO: no signature has come
+    Writes(0x118, 0x2_0019),
     Reads(0x140, 0xF000),
     Command(0, 1, 0, FIRST),
     Command(1, 2, 0, SECOND),

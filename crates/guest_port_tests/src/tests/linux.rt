@@ -33,8 +33,9 @@ static STARTS: [Step; 26] = [
     Writes(0x108, 0x400),
     Writes(0x118, 0x40_0016),
     Reads(0x118, 0x40_4016),
+    // ST is held until the signature
     Writes(0x118, 0x40_4017),
-    Reads(0x118, 0x40_C017),
+    Reads(0x118, 0x40_4017),
     Reads(0x140, 0xF000),
     Writes(0x114, 0x7840_007F),
     Line(false),
@@ -54,7 +55,7 @@ static RESETS_THE_LINK: [Step; 18] = [
     Reads(0x130, 0x401_0000),
     Writes(0x130, 0x401_0000),
     Writes(0x118, 0x40_4017),
-    Reads(0x118, 0x40_C017),
+    Reads(0x118, 0x40_4017),
     Reads(0x124, 0xFFFF_FFFF),
     Reads(0x110, 0),
     Writes(0x08, 1),
@@ -65,7 +66,7 @@ static RESETS_THE_LINK: [Step; 18] = [
 /// The engine is stopped, CLO is written, and the engine is started (ahci_kick_engine).
 static KICKS: [Step; 7] = [
     Reads(0x120, 0x80),
-    Writes(0x118, 0x40_C016),
+    Writes(0x118, 0x40_4016),
     Reads(0x118, 0x40_4016),
     Writes(0x118, 0x40_401E),
     Reads(0x118, 0x40_4016),

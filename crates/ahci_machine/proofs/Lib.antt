@@ -1,0 +1,4 @@
+pub mod MoveLemmas
+pub mod FanLemmas
+pub mod OpeningLemmas
+pub mod BayLemmas

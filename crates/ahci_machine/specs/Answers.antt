@@ -1,0 +1,142 @@
+-- What the caller answers: bytes of its guest (AHCI 1.3.1, 5.3, what a port fetches), and what its media did.
+use Rattle.std.specs.Bool.{MatchBool}
+use Rattle.std.specs.Prelude.{◌≡◌, ◌≢◌, ◌||◌, ◌&&◌, ◌==◌, ℕ, nat_lt, Bool, true, false, if◌then◌else◌, List, [], length, slice_set, Option, Some, None, MatchOption, Result, Ok, Err, MatchResult, IsOk, OnOk, OnErr}
+use Rattle.std.specs.Result.{IsErrOf}
+use Rattle.std.specs.declared.alloc.AllocError.{AllocError}
+use Rattle.fis_view.specs.Frames.{Stamped}
+use Rattle.pm_ports.specs.declared.port.Offered.{Offered}
+use Rattle.block_engine.specs.Engine.{answer_refusal, answered}
+use Rattle.block_engine.specs.declared.request.Answer.{Answer}
+use Rattle.ahci_controller.specs.Fetching.{AnswersTo, Misses}
+use Rattle.ahci_controller.specs.States.{ControllerState}
+use Rattle.ahci_controller.specs.declared.issuing.Supply.{Supply}
+use Rattle.ahci_controller.specs.declared.issuing.Supply.TheVariants as supply
+use Rattle.block_engine.specs.declared.request.Range.{Range}
+use Rattle.block_queue.specs.Line.{command_at}
+use Rattle.slots.specs.Slots.{match_some}
+use Rattle.fan_out.specs.FanOuts.{Offers, wants_at}
+use Rattle.sata_disk.specs.State.{DiskState, commands}
+use Rattle.ahci_machine.specs.Acts.{MissesBy, with_gathering}
+use Rattle.ahci_machine.specs.Bays.{with_unit}
+use Rattle.ahci_machine.specs.Gathers.{GatheringState, Supplies, is_asked}
+use Rattle.ahci_machine.specs.States.{MachineState, bay_at, gathering_at}
+use Rattle.ahci_machine.specs.declared.act.Act.{Act}
+use Rattle.ahci_machine.specs.declared.answers.MediumError.{MediumError}
+use Rattle.ahci_machine.specs.declared.answers.MediumError.TheVariants as medium
+use Rattle.ahci_machine.specs.declared.bay.Bay.{Bay}
+use Rattle.ahci_machine.specs.declared.bay.Unit.{Unit as Inside}
+use Rattle.ahci_machine.specs.declared.bay.Unit.TheVariants.{Empty, Disk, Own}
+use Rattle.ahci_machine.specs.declared.request.MediumId.{MediumId}
+use Rattle.ahci_machine.specs.declared.request.Wanted.{Wanted}
+use Rattle.ahci_machine.specs.declared.request.Wanted.TheVariants.{Command, Data}
+
+-- ---- bytes of the guest
+
+abbrev pub supply_message : Supply → Bool
+supply_message (supply.NotTaken why message line) = message
+supply_message other = false
+
+-- memory was refused: the same bytes are wanted again
+abbrev pub is_refused : Supply → Bool
+is_refused supply.OutOfMemory = true
+is_refused other = false
+
+abbrev pub IsToldBy : Supply → Result (Unit {0}) AllocError → Type 0
+IsToldBy answer result = MatchResult result (λ _. is_refused answer ≡ false) (λ _. is_refused answer ≡ true)
+
+-- bytes of a command
+pub record Fetches (Rule : ControllerState → Supply → ControllerState → Type 0) (old : MachineState)
+    (result : Result (Unit {0}) AllocError) (new : MachineState) : Type 0 where
+  pub answer : Supply
+  pub rule : Rule old.controller answer new.controller
+  pub rest : new ≡ record old { controller = new.controller; message = old.message || supply_message answer }
+  pub is : IsToldBy answer result
+
+-- bytes of a Data FIS
+pub record SuppliesData (g : GatheringState) (dev number done : ℕ) (bytes : List ℕ) (old new : MachineState) : Type 0 where
+  pub after : GatheringState
+  pub supplies : Supplies g number done bytes after
+  pub rest : new ≡ with_gathering old dev (Some after)
+
+abbrev pub SuppliesMachine : Wanted → List ℕ → MachineState → Result (Unit {0}) AllocError → MachineState → Type 0
+SuppliesMachine (Command slot number) bytes old result new =
+    Fetches (λ before answer after. AnswersTo before slot number bytes answer after) old result new
+SuppliesMachine (Data dev number done) bytes old result new =
+    IsOk result
+    × MatchOption (gathering_at old dev) (new ≡ old) (λ g. SuppliesData g dev number done bytes old new)
+
+-- whether bytes of it were asked for, and have not come
+abbrev pub is_wanted : MachineState → (dev number done : ℕ) → Bool
+is_wanted m dev number done = nat_lt dev 16 && match_some (gathering_at m dev) false (λ g. is_asked g number done)
+
+pub record MissesFor (g : GatheringState) (dev : ℕ) (old new : MachineState) : Type 0 where
+  pub act : Act
+  pub misses : MissesBy g.feed (with_gathering old dev None) act new
+
+-- they are no memory
+abbrev pub MissesMachine : Wanted → MachineState → Result (Unit {0}) AllocError → MachineState → Type 0
+MissesMachine (Command slot number) old result new =
+    Fetches (λ before answer after. Misses before slot number answer after) old result new
+MissesMachine (Data dev number done) old result new =
+    IsOk result
+    × MatchBool (is_wanted old dev number done)
+    (MatchOption (gathering_at old dev) ⊥ (λ g. MissesFor g dev old new)) (new ≡ old)
+
+-- ---- media
+
+-- the disk that asked, if it is there still
+abbrev pub disk_in : Inside → Option DiskState
+disk_in (Disk d) = Some d
+disk_in other = None
+
+abbrev pub disk_at : MachineState → MediumId → Option DiskState
+disk_at m id = if (bay_at m id.port).disk == id.disk then disk_in (bay_at m id.port).unit else None
+
+-- the bytes of a store are those of its command
+abbrev pub Holds : MachineState → MediumId → (place : ℕ) → List ℕ → Type 0
+Holds m id place bytes = MatchOption (disk_at m id) ⊥ (λ d. MatchOption (command_at (commands d) place) ⊥ (λ c. bytes ≡ c.bytes))
+
+-- and the sectors of a discard the disk's
+abbrev pub ranges_in : Option DiskState → List Range
+ranges_in None = []
+ranges_in (Some d) = d.engine.ranges
+
+-- it takes the answer by its own rule
+pub record AnswersDisk (id : MediumId) (answer : Answer) (d : DiskState) (old : MachineState) (result : Result (Unit {0}) MediumError)
+    (new : MachineState) : Type 0 where
+  pub is : MatchOption (answer_refusal d.engine id.number answer) (IsOk result) (λ error. IsErrOf result (medium.Answer error))
+  pub ok : OnOk result (new ≡ record old {
+    bays = slice_set old.bays id.port (with_unit (bay_at old id.port)
+        (Disk (record d { engine = answered d.engine id.number answer })));
+  })
+  pub err : OnErr result (new ≡ old)
+
+abbrev pub AnswersMachine : MediumId → Answer → MachineState → Result (Unit {0}) MediumError → MachineState → Type 0
+AnswersMachine id answer old result new =
+    MatchOption (disk_at old id) (IsErrOf result medium.OtherDisk × (new ≡ old)) (λ d. AnswersDisk id answer d old result new)
+
+-- ---- devices of the caller's own
+
+abbrev pub given_in : Inside → Option Stamped → Option Stamped
+given_in Own down = down
+given_in other down = None
+
+-- the FIS that is there for it, which is there no more
+abbrev pub taken_bay : Bay → Bay
+taken_bay b = record { unit = b.unit; disk = b.disk; down = None; told = false }
+
+abbrev pub is_own : Inside → Bool
+is_own Own = true
+is_own other = false
+
+pub record TakesFrame (port : ℕ) (old : MachineState) (result : Option Stamped) (new : MachineState) : Type 0 where
+  pub is : result ≡ given_in (bay_at old port).unit (bay_at old port).down
+  pub rest : new ≡ (if is_own (bay_at old port).unit then record old { bays = slice_set old.bays port (taken_bay (bay_at old port)) } else old)
+
+-- a FIS of it goes where there is room, or is given back
+pub record OffersFrame (port : ℕ) (frame : Stamped) (old : MachineState) (result : Result (Unit {0}) Stamped) (new : MachineState)
+    : Type 0 where
+  pub back : MatchResult result (λ _. (offered : Offered) × Offers old.fan port frame (Ok offered) new.fan)
+      (λ given. (given ≡ frame) × (new ≡ old))
+  pub own : MatchResult result (λ _. (is_own (bay_at old port).unit ≡ true) × (wants_at old.fan port ≡ true)) (λ _. Unit {0})
+  pub rest : new ≡ record old { fan = new.fan }

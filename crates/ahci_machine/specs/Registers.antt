@@ -1,0 +1,67 @@
+-- Registers of a machine: those of its controller (AHCI 1.3.1, 3). A write that resets the link has what is behind it begin anew (10.4.2,
+-- port reset).
+use Rattle.std.specs.Prelude.{◌≡◌, ◌+◌, ◌||◌, ◌&&◌, ℕ, nat_le, Bool, true, false, if◌then◌else◌, List, [], take, drop, length, Option, Some, None}
+use Rattle.fis_view.specs.Frames.{Stamped}
+use Rattle.ahci_controller.specs.Wide.{WritesWide}
+use Rattle.ahci_controller.specs.declared.access.Width.{Width}
+use Rattle.ahci_controller.specs.declared.wide.WideWritten.{WideWritten}
+use Rattle.ahci_registers.specs.declared.link.Effect.{Effect}
+use Rattle.ahci_registers.specs.declared.link.Effect.TheVariants.{Nothing, LinkReset, LinkUp}
+use Rattle.fan_out.specs.FanOuts.{renewed_end}
+use Rattle.ahci_machine.specs.States.{MachineState, no_gathering}
+use Rattle.ahci_machine.specs.declared.machine.Lent.{Lent}
+use Rattle.ahci_machine.specs.declared.machine.Lent.TheVariants as lent
+
+-- nothing is on its way any more, and each device begins anew
+abbrev pub renewed : MachineState → MachineState
+renewed m = record {
+  controller = m.controller;
+  fan = renewed_end m.fan;
+  bays = m.bays;
+  incoming = None;
+  taken = false;
+  writing = false;
+  outgoing = None;
+  kept = None;
+  gathering = no_gathering;
+  lent = lent.Nothing;
+  told = m.told;
+  message = m.message;
+  first = m.first;
+  turn = m.turn;
+}
+
+abbrev pub stays : Effect → Bool
+stays Nothing = true
+stays LinkReset = false
+stays LinkUp = false
+
+abbrev pub link_stays : WideWritten → Bool
+link_stays w = stays w.low.effect && stays w.high.effect
+
+abbrev pub message_of : WideWritten → Bool
+message_of w = w.low.message || w.high.message
+
+pub record WritesMachine (offset : ℕ) (width : Width) (value : ℕ) (old : MachineState) (result : WideWritten) (new : MachineState)
+    : Type 0 where
+  pub writes : WritesWide old.controller offset width value result new.controller
+  pub rest : new ≡ (let m : MachineState = record old { controller = new.controller; message = old.message || message_of result } in
+      if link_stays result then m else renewed m)
+
+-- ---- what is lent
+
+-- so many bytes from one on, if they are there
+abbrev pub part_of : List ℕ → (from len : ℕ) → List ℕ
+part_of bytes from len = if nat_le (from + len) (length bytes) then take len (drop from bytes) else []
+
+abbrev pub lent_of : Option Stamped → (from len : ℕ) → List ℕ
+lent_of None from len = []
+lent_of (Some frame) from len = part_of frame.bytes from len
+
+abbrev pub lent_by : Lent → Option Stamped → List ℕ
+lent_by lent.Nothing incoming = []
+lent_by (lent.Count bytes) incoming = bytes
+lent_by (lent.Frame from len) incoming = lent_of incoming from len
+
+abbrev pub lent_bytes : MachineState → List ℕ
+lent_bytes m = lent_by m.lent m.incoming

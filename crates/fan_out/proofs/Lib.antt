@@ -1,0 +1,3 @@
+mod FanLemmas
+mod OrderLemmas
+mod ResetLemmas
