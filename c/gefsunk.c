@@ -51,6 +51,7 @@ uint32_t gefsunk_machine_put_disk(gef_machine *machine, uint8_t port, const stru
                                   size_t firmware_len);
 uint32_t gefsunk_machine_put_device(gef_machine *machine, uint8_t port);
 uint32_t gefsunk_machine_plug(gef_machine *machine, uint8_t port);
+uint32_t gefsunk_machine_power_on(gef_machine *machine);
 uint32_t gefsunk_machine_pull(gef_machine *machine, uint8_t port);
 uint32_t gefsunk_machine_remove(gef_machine *machine, uint8_t port);
 uint32_t gefsunk_machine_next(gef_machine *machine, gef_event *event);
@@ -274,6 +275,10 @@ gef_status gef_machine_plug(gef_machine *machine, uint8_t port) {
     return machine ? (gef_status)gefsunk_machine_plug(machine, port) : GEF_NULL;
 }
 
+gef_status gef_machine_power_on(gef_machine *machine) {
+    return machine ? (gef_status)gefsunk_machine_power_on(machine) : GEF_NULL;
+}
+
 gef_status gef_machine_pull(gef_machine *machine, uint8_t port) {
     return machine ? (gef_status)gefsunk_machine_pull(machine, port) : GEF_NULL;
 }
@@ -312,12 +317,14 @@ gef_status gef_machine_answer_failed(gef_machine *machine, const gef_request *re
 
 gef_status gef_machine_stored(gef_machine *machine, const gef_request *request, size_t from, uint8_t *bytes, size_t room,
                               size_t *len) {
-    return machine && request && bytes && len ? (gef_status)gefsunk_machine_stored(machine, request, from, bytes, room, len) : GEF_NULL;
+    if (!machine || !request || !bytes || !len) return GEF_NULL;
+    return (gef_status)gefsunk_machine_stored(machine, request, from, bytes, room, len);
 }
 
 gef_status gef_machine_discarded(gef_machine *machine, const gef_request *request, size_t from, gef_range *ranges, size_t room,
                                  size_t *count) {
-    return machine && request && ranges && count ? (gef_status)gefsunk_machine_discarded(machine, request, from, ranges, room, count) : GEF_NULL;
+    if (!machine || !request || !ranges || !count) return GEF_NULL;
+    return (gef_status)gefsunk_machine_discarded(machine, request, from, ranges, room, count);
 }
 
 gef_status gef_machine_take_frame(gef_machine *machine, uint8_t port, uint8_t *fis, size_t room, size_t *len) {

@@ -417,6 +417,7 @@ gef_status gef_hba_next_out(gef_hba *hba, const gef_memory *memory, uint8_t *fis
  *     gef_machine_new(&m, 15, 1);                  // a multiplier with fifteen ports, port 0 open from the start
  *     gef_machine_put_disk(&m, 0, &profile);       // a disk
  *     gef_machine_plug(&m, 0);
+ *     gef_machine_power_on(&m);
  *
  *     the guest reads:    gef_machine_read
  *     the guest writes:   gef_machine_write, and then what is to be done:
@@ -499,11 +500,17 @@ gef_status gef_machine_put_device(gef_machine *machine, uint8_t port);
 
 /*
  * What is at a port is plugged in, and begins anew. A multiplier says that to its host as of any device that comes: no FIS of it goes
- * up before the host has opened the port, and has cleared its SError. For disks that are there as power comes, plug them in first,
- * and then reset the controller, gef_machine_write(machine, 4, 4, 0x80000001): a port 0 that is open from the start passes then.
+ * up before the host has opened the port, and has cleared its SError. For disks that are there as power comes call
+ * gef_machine_power_on behind the last of them.
  * Can return GEF_CLOSED, GEF_NO_PORT, GEF_NOT_THERE, GEF_PLUGGED_IN, GEF_SPENT.
  */
 gef_status gef_machine_plug(gef_machine *machine, uint8_t port);
+
+/*
+ * Power comes to what is behind the controller: each disk and device that is plugged in begins anew, and the one at a port 0 that is
+ * open from the start passes at once. Can return GEF_CLOSED.
+ */
+gef_status gef_machine_power_on(gef_machine *machine);
 
 /*
  * What is at a port is pulled, and stays at hand: all that it had to do is gone, and the guest hears nothing more of it. A store

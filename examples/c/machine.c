@@ -127,7 +127,7 @@ int main(void) {
     check("new", gef_machine_new(&machine, 2, 1));
     add_disk(0);
     add_disk(1);
-    write_register(4, 0x80000001u); /* GHC.HR: the disks are there as power comes */
+    check("power", gef_machine_power_on(&machine));
     write_register(CLB, LIST);
     write_register(FB, AREA);
     write_register(CMD, 0x20010); /* PMA and FRE */

@@ -42,7 +42,7 @@ OBJECT_DECLARE_SIMPLE_TYPE(GefsunkDisk, GEFSUNK_DISK)
 #define DISK_LIMIT (4u << 20) /* the most bytes that the commands of a disk hold */
 #define MSI 0x80   /* where capabilities stand */
 #define POWER 0x70
-enum { GHC = 4, GHC_AE_HR = 0x80000001u, CAP_FBSS = 0x10000, D3HOT = 3 };
+enum { CAP_FBSS = 0x10000, D3HOT = 3 };
 
 /* Something that a disk's medium is to do. */
 typedef struct Work {
@@ -453,10 +453,7 @@ static void init_bus_class(ObjectClass *klass, void *data)
     HOTPLUG_HANDLER_CLASS(klass)->unplug = qdev_simple_device_unplug_cb;
 }
 
-/*
- * A new machine, whose disks are those of the bus. They are there as power comes: so the controller is reset once they are
- * plugged in, and the one at port 0 needs no host that opens its port.
- */
+/* A new machine, whose disks are those of the bus. They are there as power comes. */
 static void make(GefsunkAhci *s)
 {
     must(gef_machine_new(&s->machine, s->ports, s->port0_open));
@@ -465,7 +462,7 @@ static void make(GefsunkAhci *s)
             must(put(s, s->disks[port]));
         }
     }
-    must(gef_machine_write(&s->machine, GHC, 4, GHC_AE_HR));
+    must(gef_machine_power_on(&s->machine));
     s->has_event = s->is_up = false;
     set_line(s);
 }

@@ -1,5 +1,8 @@
 //! What a machine asks, as C sees it.
 
+ghost use Rattle.std.specs.Prelude.{◌≡◌};
+ghost use Rattle.gefsunk.specs.Machines.{event_of, id_named, medium_shown, no_request, no_wanted, place_named, plain, request_shown, wanted_named, wanted_shown};
+
 use ahci_machine::{GuestRead, MediumId, Request, Wanted};
 use block_engine::What;
 
@@ -77,7 +80,9 @@ pub struct Event {
 }
 
 impl WantedBytes {
-    fn none() -> WantedBytes {
+    fn none() -> WantedBytes
+        ensures { result ≡ no_wanted }
+    {
         WantedBytes {
             kind: 0,
             owner: 0,
@@ -86,7 +91,9 @@ impl WantedBytes {
         }
     }
 
-    fn shown(wanted: Wanted) -> WantedBytes {
+    fn shown(wanted: Wanted) -> WantedBytes
+        ensures { result ≡ wanted_shown wanted }
+    {
         match wanted {
             Wanted::Command { slot, number } => WantedBytes {
                 kind: OF_COMMAND,
@@ -104,7 +111,9 @@ impl WantedBytes {
     }
 
     /// What the machine calls it, if an event can have it.
-    pub fn named(self) -> Option<Wanted> {
+    pub fn named(self) -> Option<Wanted>
+        ensures { result ≡ wanted_named self }
+    {
         if self.kind == OF_COMMAND && self.owner < 32 {
             return Some(Wanted::Command {
                 slot: self.owner as u8,
@@ -123,7 +132,9 @@ impl WantedBytes {
 }
 
 impl MediumRequest {
-    fn none() -> MediumRequest {
+    fn none() -> MediumRequest
+        ensures { result ≡ no_request }
+    {
         MediumRequest {
             port: 0,
             place: 0,
@@ -132,7 +143,9 @@ impl MediumRequest {
         }
     }
 
-    fn shown(id: MediumId, place: Option<u8>) -> MediumRequest {
+    fn shown(id: MediumId, place: Option<u8>) -> MediumRequest
+        ensures { result ≡ request_shown id place }
+    {
         MediumRequest {
             port: u32::from(id.port),
             place: match place {
@@ -145,7 +158,9 @@ impl MediumRequest {
     }
 
     /// The machine's name of it, if there can be such a port.
-    pub fn id(self) -> Option<MediumId> {
+    pub fn id(self) -> Option<MediumId>
+        ensures { result ≡ id_named self }
+    {
         if self.port >= 15 {
             return None;
         }
@@ -157,7 +172,9 @@ impl MediumRequest {
     }
 
     /// The place of its command, if it has one.
-    pub fn place(self) -> Option<u8> {
+    pub fn place(self) -> Option<u8>
+        ensures { result ≡ place_named self }
+    {
         if self.place >= NO_PLACE {
             return None;
         }
@@ -167,7 +184,9 @@ impl MediumRequest {
 
 impl Event {
     /// One of this kind, with nothing else in it.
-    pub fn of(kind: u32) -> Event {
+    pub fn of(kind: u32) -> Event
+        ensures { result ≡ plain kind }
+    {
         Event {
             kind,
             port: 0,
@@ -181,14 +200,18 @@ impl Event {
         }
     }
 
-    fn at_port(kind: u32, port: u8) -> Event {
+    fn at_port(kind: u32, port: u8) -> Event
+        ensures { result ≡ record (plain kind) { port = port } }
+    {
         Event {
             port: u32::from(port),
             ..Event::of(kind)
         }
     }
 
-    fn read(read: GuestRead) -> Event {
+    fn read(read: GuestRead) -> Event
+        ensures { result ≡ record (plain 2) { at = read.at; len = read.len; wanted = wanted_shown read.wanted } }
+    {
         Event {
             at: read.at,
             len: read.len,
@@ -197,7 +220,9 @@ impl Event {
         }
     }
 
-    fn medium(id: MediumId, place: Option<u8>, what: What) -> Event {
+    fn medium(id: MediumId, place: Option<u8>, what: What) -> Event
+        ensures { result ≡ medium_shown id place what }
+    {
         let (kind, lba, count) = match what {
             What::Load { lba, count } => (LOAD, lba, count),
             What::Store { lba, count } => (STORE, lba, count),
@@ -213,7 +238,9 @@ impl Event {
     }
 
     /// What the machine asks. `lent` is how many bytes it lends.
-    pub fn shown(request: Request, lent: usize) -> Event {
+    pub fn shown(request: Request, lent: usize) -> Event
+        ensures { result ≡ event_of request lent }
+    {
         match request {
             Request::Nothing => Event::of(NOTHING),
             Request::Again => Event::of(AGAIN),

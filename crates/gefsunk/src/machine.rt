@@ -1,7 +1,9 @@
 //! The exports of a machine: a controller with what is behind it. `include/gefsunk.h` says what each call does.
 
-ghost use Rattle.std.specs.Prelude.{◌≡◌, ◌≢◌, ◌≤◌, drop, length, true};
-ghost use Rattle.gefsunk.specs.Machines.{AnyMachine, AtMachine, FreedMachine, MadeMachine};
+ghost use Rattle.std.specs.Prelude.{◌≡◌, ◌≢◌, ◌≤◌, drop, length, take, true};
+ghost use Rattle.block_engine.specs.declared.request.Answer.TheVariants.{Done as WasDone};
+ghost use Rattle.ahci_machine.specs.declared.bay.Unit.TheVariants.{Own};
+ghost use Rattle.gefsunk.specs.Machines.{AnswerRule, AtMachine, DiscardedRule, FailRule, FreedMachine, LentRule, LoadedRule, MadeMachine, NextRule, NoMemoryRule, OfferRule, PlugRule, PowerRule, PullRule, PutDiskRule, PutRule, ReadRule, RemoveRule, StoredRule, SupplyRule, TakeFrameRule, WriteRule, fault_of, width_of};
 ghost use Rattle.gefsunk.specs.Statuses.{is_code, status_of};
 ghost use Rattle.gefsunk.specs.declared.status.Status.TheVariants as status;
 
@@ -10,14 +12,16 @@ use crate::handle::Handle;
 use crate::kept::Kept;
 use crate::medium::{self, SectorRange};
 use crate::pm::{copied, refused, stamp};
-use crate::profile::{DiskNumbers, new_disk};
+use crate::profile::{DiskNumbers, DiskTexts, new_disk};
 use crate::status::Status;
 use ahci_controller::Width;
 use ahci_machine::{Machine, PortFault, Unit};
 use fis_view::Frame;
 use std::alloc::Global;
 
-fn fault_status(fault: PortFault) -> Status {
+fn fault_status(fault: PortFault) -> Status
+    ensures { result ≡ fault_of fault }
+{
     match fault {
         PortFault::NoPort => Status::NoPort,
         PortFault::Taken => Status::AlreadyThere,
@@ -27,7 +31,9 @@ fn fault_status(fault: PortFault) -> Status {
     }
 }
 
-fn width_of(bytes: u32) -> Option<Width> {
+fn width_of(bytes: u32) -> Option<Width>
+    ensures { result ≡ width_of bytes }
+{
     match bytes {
         1 => Some(Width::Byte),
         2 => Some(Width::Word),
@@ -37,21 +43,89 @@ fn width_of(bytes: u32) -> Option<Width> {
     }
 }
 
-fn put(machine: &mut Machine, port: u8, unit: Unit) -> Status {
+fn read(machine: &Machine, offset: u32, width: u32, value: &mut u64) -> Status
+    ensures rule { ReadRule machine.now offset width result value.new }
+    ensures kept { result ≢ Status.Done → value.new ≡ value.old }
+{
+    let Some(width) = width_of(width) else {
+        return Status::BadWidth;
+    };
+    *value = machine.read(offset, width);
+    Status::Done
+}
+
+fn write(machine: &mut Machine, offset: u32, width: u32, value: u64) -> Status
+    ensures { WriteRule machine.old offset width value result machine.new }
+{
+    let Some(width) = width_of(width) else {
+        return Status::BadWidth;
+    };
+    machine.write(offset, width, value);
+    Status::Done
+}
+
+fn power_on(machine: &mut Machine) -> Status
+    ensures { PowerRule machine.old result machine.new }
+{
+    machine.power_on();
+    Status::Done
+}
+
+fn put_disk(
+    machine: &mut Machine,
+    alloc: Global,
+    port: u8,
+    numbers: &DiskNumbers,
+    texts: &DiskTexts<'_>,
+) -> Status
+    ensures { PutDiskRule machine.old port numbers.now texts.now.model.now texts.now.serial.now texts.now.firmware.now
+        result machine.new }
+{
+    match new_disk(alloc, numbers, texts) {
+        Ok(disk) => put(machine, port, Unit::Disk(disk)),
+        Err(status) => status,
+    }
+}
+
+fn plug(machine: &mut Machine, port: u8) -> Status
+    ensures { PlugRule machine.old port result machine.new }
+{
+    match machine.plug(port) {
+        Ok(()) => Status::Done,
+        Err(fault) => fault_status(fault),
+    }
+}
+
+fn pull(machine: &mut Machine, alloc: Global, port: u8) -> Status
+    ensures { PullRule machine.old port result machine.new }
+{
+    match machine.pull(alloc, port) {
+        Ok(()) => Status::Done,
+        Err(fault) => fault_status(fault),
+    }
+}
+
+fn put(machine: &mut Machine, port: u8, unit: Unit) -> Status
+    ensures { PutRule machine.old port unit result machine.new }
+{
     match machine.put(port, unit) {
         Ok(()) => Status::Done,
         Err((_, fault)) => fault_status(fault),
     }
 }
 
-fn remove(machine: &mut Machine, alloc: Global, port: u8) -> Status {
+fn remove(machine: &mut Machine, alloc: Global, port: u8) -> Status
+    ensures { RemoveRule machine.old port result machine.new }
+{
     match machine.remove(alloc, port) {
         Ok(_) => Status::Done,
         Err(fault) => fault_status(fault),
     }
 }
 
-fn offer(machine: &mut Machine, alloc: Global, port: u8, fis: &[u8]) -> Status {
+fn offer(machine: &mut Machine, alloc: Global, port: u8, fis: &[u8]) -> Status
+    ensures { OfferRule machine.old port fis.now result machine.new }
+{
     let frame = match Frame::from_bytes(alloc, fis, stamp(0, 0)) {
         Ok(frame) => frame,
         Err(error) => return refused(error),
@@ -62,7 +136,12 @@ fn offer(machine: &mut Machine, alloc: Global, port: u8, fis: &[u8]) -> Status {
     }
 }
 
-fn take_frame(machine: &mut Machine, port: u8, room: &mut [u8], len: &mut usize) -> Status {
+fn take_frame(machine: &mut Machine, port: u8, room: &mut [u8], len: &mut usize) -> Status
+    ensures rule { TakeFrameRule machine.old port (length room.old) result (take len.new room.new) machine.new }
+    ensures within { result ≡ Status.Done → len.new ≤ length room.old }
+    ensures kept { result ≢ Status.Done → (room.new ≡ room.old) × (len.new ≡ len.old) }
+    ensures rest { drop len.new room.new ≡ drop len.new room.old }
+{
     if room.len() < Frame::LONGEST {
         return Status::TooShort;
     }
@@ -75,7 +154,12 @@ fn take_frame(machine: &mut Machine, port: u8, room: &mut [u8], len: &mut usize)
     }
 }
 
-fn lent(machine: &Machine, room: &mut [u8], len: &mut usize) -> Status {
+fn lent(machine: &Machine, room: &mut [u8], len: &mut usize) -> Status
+    ensures rule { LentRule machine.now (length room.old) result (take len.new room.new) }
+    ensures within { result ≡ Status.Done → len.new ≤ length room.old }
+    ensures kept { result ≢ Status.Done → (room.new ≡ room.old) × (len.new ≡ len.old) }
+    ensures rest { drop len.new room.new ≡ drop len.new room.old }
+{
     let bytes = machine.lent();
     if bytes.is_empty() {
         return Status::Nothing;
@@ -87,7 +171,10 @@ fn lent(machine: &Machine, room: &mut [u8], len: &mut usize) -> Status {
     Status::Done
 }
 
-fn next(machine: &mut Machine, alloc: Global, event: &mut Event) -> Status {
+fn next(machine: &mut Machine, alloc: Global, event: &mut Event) -> Status
+    ensures rule { NextRule machine.old result event.new machine.new }
+    ensures kept { result ≢ Status.Done → event.new ≡ event.old }
+{
     let Ok(request) = machine.next(alloc) else {
         return Status::NoMemory;
     };
@@ -95,7 +182,9 @@ fn next(machine: &mut Machine, alloc: Global, event: &mut Event) -> Status {
     Status::Done
 }
 
-fn supply(machine: &mut Machine, alloc: Global, wanted: &WantedBytes, bytes: &[u8]) -> Status {
+fn supply(machine: &mut Machine, alloc: Global, wanted: &WantedBytes, bytes: &[u8]) -> Status
+    ensures { SupplyRule machine.old wanted.now bytes.now result machine.new }
+{
     let Some(wanted) = wanted.named() else {
         return Status::NotWanted;
     };
@@ -105,7 +194,9 @@ fn supply(machine: &mut Machine, alloc: Global, wanted: &WantedBytes, bytes: &[u
     }
 }
 
-fn no_memory(machine: &mut Machine, wanted: &WantedBytes) -> Status {
+fn no_memory(machine: &mut Machine, wanted: &WantedBytes) -> Status
+    ensures { NoMemoryRule machine.old wanted.now result machine.new }
+{
     let Some(wanted) = wanted.named() else {
         return Status::NotWanted;
     };
@@ -167,7 +258,8 @@ pub extern "C" fn gefsunk_machine_read(
     width: u32,
     value: &mut u64,
 ) -> u32
-    ensures stays { AtMachine handle.old.held.value (status_of result) handle.new.held.value (λ old new. new ≡ old) }
+    ensures rule { AtMachine handle.old.held.value (status_of result) handle.new.held.value
+        (λ old new. ReadRule old offset width (status_of result) value.new × (new ≡ old)) }
     ensures known { is_code result ≡ true }
     ensures kept { status_of result ≢ status.Done → value.new ≡ value.old }
 {
@@ -175,13 +267,7 @@ pub extern "C" fn gefsunk_machine_read(
         return Status::Closed.code();
     };
     let status = match &*kept {
-        Kept::Machine(machine) => match width_of(width) {
-            Some(width) => {
-                *value = machine.read(offset, width);
-                Status::Done
-            }
-            None => Status::BadWidth,
-        },
+        Kept::Machine(machine) => read(machine, offset, width, value),
         Kept::Pm(_) | Kept::Disk(_) | Kept::Hba(_) => Status::Closed,
     };
     *handle = Handle::open(kept);
@@ -197,20 +283,15 @@ pub extern "C" fn gefsunk_machine_write(
     width: u32,
     value: u64,
 ) -> u32
-    ensures stays { AtMachine handle.old.held.value (status_of result) handle.new.held.value AnyMachine }
+    ensures rule { AtMachine handle.old.held.value (status_of result) handle.new.held.value
+        (λ old new. WriteRule old offset width value (status_of result) new) }
     ensures known { is_code result ≡ true }
 {
     let Some(mut kept) = handle.take(alloc) else {
         return Status::Closed.code();
     };
     let status = match &mut *kept {
-        Kept::Machine(machine) => match width_of(width) {
-            Some(width) => {
-                machine.write(offset, width, value);
-                Status::Done
-            }
-            None => Status::BadWidth,
-        },
+        Kept::Machine(machine) => write(machine, offset, width, value),
         Kept::Pm(_) | Kept::Disk(_) | Kept::Hba(_) => Status::Closed,
     };
     *handle = Handle::open(kept);
@@ -228,17 +309,20 @@ pub extern "C" fn gefsunk_machine_put_disk(
     serial: &[u8],
     firmware: &[u8],
 ) -> u32
-    ensures stays { AtMachine handle.old.held.value (status_of result) handle.new.held.value AnyMachine }
+    ensures rule { AtMachine handle.old.held.value (status_of result) handle.new.held.value
+        (λ old new. PutDiskRule old port numbers.now model.now serial.now firmware.now (status_of result) new) }
     ensures known { is_code result ≡ true }
 {
     let Some(mut kept) = handle.take(alloc) else {
         return Status::Closed.code();
     };
+    let texts = DiskTexts {
+        model,
+        serial,
+        firmware,
+    };
     let status = match &mut *kept {
-        Kept::Machine(machine) => match new_disk(alloc, numbers, model, serial, firmware) {
-            Ok(disk) => put(machine, port, Unit::Disk(disk)),
-            Err(status) => status,
-        },
+        Kept::Machine(machine) => put_disk(machine, alloc, port, numbers, &texts),
         Kept::Pm(_) | Kept::Disk(_) | Kept::Hba(_) => Status::Closed,
     };
     *handle = Handle::open(kept);
@@ -252,7 +336,8 @@ pub extern "C" fn gefsunk_machine_put_device(
     alloc: Global,
     port: u8,
 ) -> u32
-    ensures stays { AtMachine handle.old.held.value (status_of result) handle.new.held.value AnyMachine }
+    ensures rule { AtMachine handle.old.held.value (status_of result) handle.new.held.value
+        (λ old new. PutRule old port Own (status_of result) new) }
     ensures known { is_code result ≡ true }
 {
     let Some(mut kept) = handle.take(alloc) else {
@@ -273,17 +358,15 @@ pub extern "C" fn gefsunk_machine_plug(
     alloc: Global,
     port: u8,
 ) -> u32
-    ensures stays { AtMachine handle.old.held.value (status_of result) handle.new.held.value AnyMachine }
+    ensures rule { AtMachine handle.old.held.value (status_of result) handle.new.held.value
+        (λ old new. PlugRule old port (status_of result) new) }
     ensures known { is_code result ≡ true }
 {
     let Some(mut kept) = handle.take(alloc) else {
         return Status::Closed.code();
     };
     let status = match &mut *kept {
-        Kept::Machine(machine) => match machine.plug(port) {
-            Ok(()) => Status::Done,
-            Err(fault) => fault_status(fault),
-        },
+        Kept::Machine(machine) => plug(machine, port),
         Kept::Pm(_) | Kept::Disk(_) | Kept::Hba(_) => Status::Closed,
     };
     *handle = Handle::open(kept);
@@ -297,17 +380,15 @@ pub extern "C" fn gefsunk_machine_pull(
     alloc: Global,
     port: u8,
 ) -> u32
-    ensures stays { AtMachine handle.old.held.value (status_of result) handle.new.held.value AnyMachine }
+    ensures rule { AtMachine handle.old.held.value (status_of result) handle.new.held.value
+        (λ old new. PullRule old port (status_of result) new) }
     ensures known { is_code result ≡ true }
 {
     let Some(mut kept) = handle.take(alloc) else {
         return Status::Closed.code();
     };
     let status = match &mut *kept {
-        Kept::Machine(machine) => match machine.pull(alloc, port) {
-            Ok(()) => Status::Done,
-            Err(fault) => fault_status(fault),
-        },
+        Kept::Machine(machine) => pull(machine, alloc, port),
         Kept::Pm(_) | Kept::Disk(_) | Kept::Hba(_) => Status::Closed,
     };
     *handle = Handle::open(kept);
@@ -321,7 +402,8 @@ pub extern "C" fn gefsunk_machine_remove(
     alloc: Global,
     port: u8,
 ) -> u32
-    ensures stays { AtMachine handle.old.held.value (status_of result) handle.new.held.value AnyMachine }
+    ensures rule { AtMachine handle.old.held.value (status_of result) handle.new.held.value
+        (λ old new. RemoveRule old port (status_of result) new) }
     ensures known { is_code result ≡ true }
 {
     let Some(mut kept) = handle.take(alloc) else {
@@ -335,6 +417,24 @@ pub extern "C" fn gefsunk_machine_remove(
     status.code()
 }
 
+/// What is behind the controller begins anew.
+#[unsafe(no_mangle)]
+pub extern "C" fn gefsunk_machine_power_on(handle: &mut Handle, alloc: Global) -> u32
+    ensures rule { AtMachine handle.old.held.value (status_of result) handle.new.held.value
+        (λ old new. PowerRule old (status_of result) new) }
+    ensures known { is_code result ≡ true }
+{
+    let Some(mut kept) = handle.take(alloc) else {
+        return Status::Closed.code();
+    };
+    let status = match &mut *kept {
+        Kept::Machine(machine) => power_on(machine),
+        Kept::Pm(_) | Kept::Disk(_) | Kept::Hba(_) => Status::Closed,
+    };
+    *handle = Handle::open(kept);
+    status.code()
+}
+
 /// Says what is to be done next.
 #[unsafe(no_mangle)]
 pub extern "C" fn gefsunk_machine_next(
@@ -342,7 +442,8 @@ pub extern "C" fn gefsunk_machine_next(
     alloc: Global,
     event: &mut Event,
 ) -> u32
-    ensures stays { AtMachine handle.old.held.value (status_of result) handle.new.held.value AnyMachine }
+    ensures rule { AtMachine handle.old.held.value (status_of result) handle.new.held.value
+        (λ old new. NextRule old (status_of result) event.new new) }
     ensures known { is_code result ≡ true }
     ensures kept { status_of result ≢ status.Done → event.new ≡ event.old }
 {
@@ -365,7 +466,8 @@ pub extern "C" fn gefsunk_machine_lent(
     room: &mut [u8],
     len: &mut usize,
 ) -> u32
-    ensures stays { AtMachine handle.old.held.value (status_of result) handle.new.held.value (λ old new. new ≡ old) }
+    ensures rule { AtMachine handle.old.held.value (status_of result) handle.new.held.value
+        (λ old new. LentRule old (length room.old) (status_of result) (take len.new room.new) × (new ≡ old)) }
     ensures known { is_code result ≡ true }
     ensures kept { status_of result ≢ status.Done → (room.new ≡ room.old) × (len.new ≡ len.old) }
     ensures within { status_of result ≡ status.Done → len.new ≤ length room.old }
@@ -390,7 +492,8 @@ pub extern "C" fn gefsunk_machine_supply(
     wanted: &WantedBytes,
     bytes: &[u8],
 ) -> u32
-    ensures stays { AtMachine handle.old.held.value (status_of result) handle.new.held.value AnyMachine }
+    ensures rule { AtMachine handle.old.held.value (status_of result) handle.new.held.value
+        (λ old new. SupplyRule old wanted.now bytes.now (status_of result) new) }
     ensures known { is_code result ≡ true }
 {
     let Some(mut kept) = handle.take(alloc) else {
@@ -411,7 +514,8 @@ pub extern "C" fn gefsunk_machine_no_memory(
     alloc: Global,
     wanted: &WantedBytes,
 ) -> u32
-    ensures stays { AtMachine handle.old.held.value (status_of result) handle.new.held.value AnyMachine }
+    ensures rule { AtMachine handle.old.held.value (status_of result) handle.new.held.value
+        (λ old new. NoMemoryRule old wanted.now (status_of result) new) }
     ensures known { is_code result ≡ true }
 {
     let Some(mut kept) = handle.take(alloc) else {
@@ -433,7 +537,8 @@ pub extern "C" fn gefsunk_machine_answer_loaded(
     request: &MediumRequest,
     bytes: &[u8],
 ) -> u32
-    ensures stays { AtMachine handle.old.held.value (status_of result) handle.new.held.value AnyMachine }
+    ensures rule { AtMachine handle.old.held.value (status_of result) handle.new.held.value
+        (λ old new. LoadedRule old request.now bytes.now (status_of result) new) }
     ensures known { is_code result ≡ true }
 {
     let Some(mut kept) = handle.take(alloc) else {
@@ -454,7 +559,8 @@ pub extern "C" fn gefsunk_machine_answer_done(
     alloc: Global,
     request: &MediumRequest,
 ) -> u32
-    ensures stays { AtMachine handle.old.held.value (status_of result) handle.new.held.value AnyMachine }
+    ensures rule { AtMachine handle.old.held.value (status_of result) handle.new.held.value
+        (λ old new. AnswerRule old request.now WasDone (status_of result) new) }
     ensures known { is_code result ≡ true }
 {
     let Some(mut kept) = handle.take(alloc) else {
@@ -477,7 +583,8 @@ pub extern "C" fn gefsunk_machine_answer_failed(
     error: u32,
     lba: u64,
 ) -> u32
-    ensures stays { AtMachine handle.old.held.value (status_of result) handle.new.held.value AnyMachine }
+    ensures rule { AtMachine handle.old.held.value (status_of result) handle.new.held.value
+        (λ old new. FailRule old request.now error lba (status_of result) new) }
     ensures known { is_code result ≡ true }
 {
     let Some(mut kept) = handle.take(alloc) else {
@@ -501,7 +608,8 @@ pub extern "C" fn gefsunk_machine_stored(
     room: &mut [u8],
     len: &mut usize,
 ) -> u32
-    ensures stays { AtMachine handle.old.held.value (status_of result) handle.new.held.value (λ old new. new ≡ old) }
+    ensures rule { AtMachine handle.old.held.value (status_of result) handle.new.held.value
+        (λ old new. StoredRule old request.now from (length room.old) (status_of result) (take len.new room.new) × (new ≡ old)) }
     ensures known { is_code result ≡ true }
     ensures kept { status_of result ≢ status.Done → (room.new ≡ room.old) × (len.new ≡ len.old) }
     ensures within { status_of result ≡ status.Done → len.new ≤ length room.old }
@@ -528,7 +636,8 @@ pub extern "C" fn gefsunk_machine_discarded(
     room: &mut [SectorRange],
     count: &mut usize,
 ) -> u32
-    ensures stays { AtMachine handle.old.held.value (status_of result) handle.new.held.value (λ old new. new ≡ old) }
+    ensures rule { AtMachine handle.old.held.value (status_of result) handle.new.held.value
+        (λ old new. DiscardedRule old request.now from (length room.old) (status_of result) (take count.new room.new) × (new ≡ old)) }
     ensures known { is_code result ≡ true }
     ensures kept { status_of result ≢ status.Done → (room.new ≡ room.old) × (count.new ≡ count.old) }
     ensures within { status_of result ≡ status.Done → count.new ≤ length room.old }
@@ -554,7 +663,8 @@ pub extern "C" fn gefsunk_machine_take_frame(
     room: &mut [u8],
     len: &mut usize,
 ) -> u32
-    ensures stays { AtMachine handle.old.held.value (status_of result) handle.new.held.value AnyMachine }
+    ensures rule { AtMachine handle.old.held.value (status_of result) handle.new.held.value
+        (λ old new. TakeFrameRule old port (length room.old) (status_of result) (take len.new room.new) new) }
     ensures known { is_code result ≡ true }
     ensures kept { status_of result ≢ status.Done → (room.new ≡ room.old) × (len.new ≡ len.old) }
     ensures within { status_of result ≡ status.Done → len.new ≤ length room.old }
@@ -579,7 +689,8 @@ pub extern "C" fn gefsunk_machine_offer(
     port: u8,
     fis: &[u8],
 ) -> u32
-    ensures stays { AtMachine handle.old.held.value (status_of result) handle.new.held.value AnyMachine }
+    ensures rule { AtMachine handle.old.held.value (status_of result) handle.new.held.value
+        (λ old new. OfferRule old port fis.now (status_of result) new) }
     ensures known { is_code result ≡ true }
 {
     let Some(mut kept) = handle.take(alloc) else {

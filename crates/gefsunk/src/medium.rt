@@ -1,5 +1,9 @@
 //! What C answers for the media of a machine, and what it reads of their requests.
 
+ghost use Rattle.std.specs.Prelude.{◌≡◌, ◌≢◌, ◌≤◌, drop, length, take};
+ghost use Rattle.block_engine.specs.declared.request.Answer.TheVariants.{Done as WasDone};
+ghost use Rattle.gefsunk.specs.Machines.{AnswerRule, DiscardedRule, FailRule, LoadedRule, StoredRule, piece, range_shown, refusal_of};
+
 use crate::event::MediumRequest;
 use crate::status::Status;
 use ahci_machine::{Machine, MediumError};
@@ -17,7 +21,9 @@ pub struct SectorRange {
     pub count: u64,
 }
 
-fn refused(error: MediumError) -> Status {
+fn refused(error: MediumError) -> Status
+    ensures { result ≡ refusal_of error }
+{
     match error {
         MediumError::OtherDisk => Status::OtherDisk,
         MediumError::Answer(AnswerError::NotOut) => Status::NotOut,
@@ -27,7 +33,9 @@ fn refused(error: MediumError) -> Status {
     }
 }
 
-fn answer(machine: &mut Machine, request: &MediumRequest, answer: Answer) -> Status {
+fn answer(machine: &mut Machine, request: &MediumRequest, answer: Answer) -> Status
+    ensures { AnswerRule machine.old request.now answer result machine.new }
+{
     let Some(id) = request.id() else {
         return Status::OtherDisk;
     };
@@ -38,7 +46,9 @@ fn answer(machine: &mut Machine, request: &MediumRequest, answer: Answer) -> Sta
 }
 
 /// The sectors of a load.
-pub fn loaded(machine: &mut Machine, alloc: Global, request: &MediumRequest, bytes: &[u8]) -> Status {
+pub fn loaded(machine: &mut Machine, alloc: Global, request: &MediumRequest, bytes: &[u8]) -> Status
+    ensures { LoadedRule machine.old request.now bytes.now result machine.new }
+{
     match Vec::from_slice(alloc, bytes) {
         Ok(bytes) => answer(machine, request, Answer::Loaded(bytes)),
         Err(_) => Status::NoMemory,
@@ -46,12 +56,16 @@ pub fn loaded(machine: &mut Machine, alloc: Global, request: &MediumRequest, byt
 }
 
 /// A store, a flush or a discard was done.
-pub fn done(machine: &mut Machine, request: &MediumRequest) -> Status {
+pub fn done(machine: &mut Machine, request: &MediumRequest) -> Status
+    ensures { AnswerRule machine.old request.now WasDone result machine.new }
+{
     answer(machine, request, Answer::Done)
 }
 
 /// A request could not be done.
-pub fn failed(machine: &mut Machine, request: &MediumRequest, error: u32, lba: u64) -> Status {
+pub fn failed(machine: &mut Machine, request: &MediumRequest, error: u32, lba: u64) -> Status
+    ensures { FailRule machine.old request.now error lba result machine.new }
+{
     let error = match error {
         0x40 => ErrorKind::Uncorrectable,
         0x10 => ErrorKind::NotFound,
@@ -62,7 +76,11 @@ pub fn failed(machine: &mut Machine, request: &MediumRequest, error: u32, lba: u
 }
 
 /// Copies bytes from an offset on into the room, as many as there are and fit, and says how many.
-pub fn copied(bytes: &[u8], from: usize, room: &mut [u8]) -> usize {
+pub fn copied(bytes: &[u8], from: usize, room: &mut [u8]) -> usize
+    ensures is { take result room.new ≡ piece bytes.now from (length room.old) }
+    ensures within { result ≤ length room.old }
+    ensures rest { drop result room.new ≡ drop result room.old }
+{
     if from >= bytes.len() {
         return 0;
     }
@@ -83,7 +101,12 @@ pub fn stored(
     from: usize,
     room: &mut [u8],
     len: &mut usize,
-) -> Status {
+) -> Status
+    ensures rule { StoredRule machine.now request.now from (length room.old) result (take len.new room.new) }
+    ensures within { result ≡ Status.Done → len.new ≤ length room.old }
+    ensures kept { result ≢ Status.Done → (room.new ≡ room.old) × (len.new ≡ len.old) }
+    ensures rest { drop len.new room.new ≡ drop len.new room.old }
+{
     let Some(id) = request.id() else {
         return Status::OtherDisk;
     };
@@ -99,7 +122,9 @@ pub fn stored(
     }
 }
 
-fn shown(range: Range) -> SectorRange {
+fn shown(range: Range) -> SectorRange
+    ensures { result ≡ range_shown range }
+{
     SectorRange {
         lba: range.lba,
         count: u64::from(range.count),
@@ -113,7 +138,12 @@ pub fn discarded(
     from: usize,
     room: &mut [SectorRange],
     count: &mut usize,
-) -> Status {
+) -> Status
+    ensures rule { DiscardedRule machine.now request.now from (length room.old) result (take count.new room.new) }
+    ensures within { result ≡ Status.Done → count.new ≤ length room.old }
+    ensures kept { result ≢ Status.Done → (room.new ≡ room.old) × (count.new ≡ count.old) }
+    ensures rest { drop count.new room.new ≡ drop count.new room.old }
+{
     let Some(id) = request.id() else {
         return Status::OtherDisk;
     };

@@ -1,5 +1,11 @@
 //! A disk of a machine, as C describes it.
 
+ghost use Rattle.std.specs.Prelude.{◌≡◌, IfErr, IfOk, None, Ok, Some};
+ghost use Rattle.std.specs.Result.{IsErr};
+ghost use Rattle.disk_pages.specs.Texts.{text_of};
+ghost use Rattle.disk_pages.specs.Profiles.{depth_of};
+ghost use Rattle.gefsunk.specs.Machines.{IsProfile, MakesDisk, ProfileRefused, physical_of, rotation_of};
+
 use crate::status::Status;
 use disk_pages::{Capacity, IdentityText, PhysicalSector, Profile, QueueDepth, Rotation, Rpm};
 use sata_disk::SataDisk;
@@ -28,7 +34,10 @@ pub struct DiskNumbers {
     pub limit: u32,
 }
 
-fn text<const N: usize>(bytes: &[u8]) -> Result<IdentityText<N>, Status> {
+fn text<const N: usize>(bytes: &[u8]) -> Result<IdentityText<N>, Status>
+    ensures is { IfOk result (λ text. text_of N bytes.now ≡ Ok text) }
+    ensures refused { IfErr result (λ e. (e ≡ Status.BadText) × IsErr (text_of N bytes.now)) }
+{
     let Ok(text) = str::from_utf8(bytes) else {
         return Err(Status::BadText);
     };
@@ -38,7 +47,9 @@ fn text<const N: usize>(bytes: &[u8]) -> Result<IdentityText<N>, Status> {
     }
 }
 
-fn rotation(number: u32) -> Result<Rotation, Status> {
+fn rotation(number: u32) -> Result<Rotation, Status>
+    ensures { result ≡ rotation_of number }
+{
     if number == 0 {
         return Ok(Rotation::Unknown);
     }
@@ -54,7 +65,10 @@ fn rotation(number: u32) -> Result<Rotation, Status> {
     }
 }
 
-fn physical(bytes: u32) -> Result<PhysicalSector, Status> {
+fn physical(bytes: u32) -> Result<PhysicalSector, Status>
+    ensures is { IfOk result (λ p. physical_of bytes ≡ Some p) }
+    ensures refused { IfErr result (λ e. (e ≡ Status.BadPhysical) × (physical_of bytes ≡ None)) }
+{
     match bytes {
         512 => Ok(PhysicalSector::Bytes512),
         4096 => Ok(PhysicalSector::Bytes4096),
@@ -62,7 +76,10 @@ fn physical(bytes: u32) -> Result<PhysicalSector, Status> {
     }
 }
 
-fn depth(commands: u32) -> Result<QueueDepth, Status> {
+fn depth(commands: u32) -> Result<QueueDepth, Status>
+    ensures is { IfOk result (λ d. depth_of commands ≡ Ok d) }
+    ensures refused { IfErr result (λ e. (e ≡ Status.BadDepth) × IsErr (depth_of commands)) }
+{
     if commands > 32 {
         return Err(Status::BadDepth);
     }
@@ -72,19 +89,29 @@ fn depth(commands: u32) -> Result<QueueDepth, Status> {
     }
 }
 
-fn profile(numbers: &DiskNumbers, model: &[u8], serial: &[u8], firmware: &[u8]) -> Result<Profile, Status> {
+/// What C says of a disk in words.
+pub struct DiskTexts<'a> {
+    /// The model number.
+    pub model: &'a [u8],
+    /// The serial number.
+    pub serial: &'a [u8],
+    /// The firmware revision.
+    pub firmware: &'a [u8],
+}
+
+fn profile(numbers: &DiskNumbers, texts: &DiskTexts<'_>) -> Result<Profile, Status>
+    ensures is { IfOk result (λ p. IsProfile numbers.now texts.now.model.now texts.now.serial.now texts.now.firmware.now p) }
+    ensures refused { IfErr result (λ e. ProfileRefused numbers.now texts.now.model.now texts.now.serial.now
+        texts.now.firmware.now e) }
+{
     let Ok(capacity) = Capacity::new(numbers.sectors) else {
         return Err(Status::BadSectors);
     };
     Ok(Profile {
-        model: text(model)?,
-        serial: text(serial)?,
-        firmware: text(firmware)?,
-        wwn: if numbers.wwn == 0 {
-            None
-        } else {
-            Some(numbers.wwn)
-        },
+        model: text(texts.model)?,
+        serial: text(texts.serial)?,
+        firmware: text(texts.firmware)?,
+        wwn: (numbers.wwn != 0).then_some(numbers.wwn),
         capacity,
         depth: depth(numbers.depth)?,
         rotation: rotation(numbers.rotation)?,
@@ -94,14 +121,12 @@ fn profile(numbers: &DiskNumbers, model: &[u8], serial: &[u8], firmware: &[u8]) 
 }
 
 /// A disk, if there can be one like this.
-pub fn new_disk(
-    alloc: Global,
-    numbers: &DiskNumbers,
-    model: &[u8],
-    serial: &[u8],
-    firmware: &[u8],
-) -> Result<SataDisk, Status> {
-    let profile = profile(numbers, model, serial, firmware)?;
+pub fn new_disk(alloc: Global, numbers: &DiskNumbers, texts: &DiskTexts<'_>) -> Result<SataDisk, Status>
+    ensures makes { IfOk result (λ d. MakesDisk numbers.now texts.now.model.now texts.now.serial.now texts.now.firmware.now d) }
+    ensures refused { IfErr result (λ e. ProfileRefused numbers.now texts.now.model.now texts.now.serial.now
+        texts.now.firmware.now e) }
+{
+    let profile = profile(numbers, texts)?;
     if numbers.limit < LEAST_LIMIT {
         return Err(Status::BadLimit);
     }
