@@ -7,8 +7,8 @@ ghost use Rattle.block_command.specs.Moments.{IsCommand};
 use block_command::{AnswerError, Command, Protocol, Turn};
 use block_engine::{
     Answer, AsideKind, AsideStage, Engine, EngineFis, ErrorKind, Failure, Range, Request, What,
-    asides_are_earned, data_are_named, discards_are_alone, ends_are_earned, numbers_are_fresh,
-    requests_are_apart, something_moves,
+    asides_are_earned, data_are_named, discards_are_alone, ends_are_earned, failures_are_own,
+    numbers_are_fresh, requests_are_apart, something_moves,
 };
 use std::alloc::{AllocError, Global};
 use std::process::Abort;
@@ -390,6 +390,7 @@ fn laws_hold(_rt: HostRuntime) {
     ends_are_earned();
     data_are_named();
     discards_are_alone();
+    failures_are_own();
     numbers_are_fresh();
     something_moves();
 }

@@ -2,3 +2,4 @@ pub mod Asides
 pub mod Asked
 pub mod Runs
 pub mod Alone
+pub mod Failures

@@ -61,7 +61,7 @@ answer_moved e (Some p) number (answers.Loaded bytes) is = ap (λ x. (loaded_at 
 answer_moved e (Some p) number answers.Done is = ap (λ x. (done_at e x number).schedule) is ∙ one_moves e.schedule _
 answer_moved e (Some p) number (answers.Failed f) is = ap (λ x. (failed_by e x number f).schedule) is ∙ one_moves e.schedule _
 
-moved : (e : EngineState) (s : Step) → (after_step e s).schedule ≡ after_moves e.schedule (moves_of e s)
+pub moved : (e : EngineState) (s : Step) → (after_step e s).schedule ≡ after_moves e.schedule (moves_of e s)
 moved e (Takes c) = one_moves e.schedule _
 moved e (TakesAside k ranges) = none_moves e.schedule
 moved e (Starts p) = one_moves e.schedule _
@@ -84,7 +84,7 @@ found_case : (n k : ℕ) (x : Option ℕ) (b : Bool) → (x ≡ Some k → k < n
 found_case n k None b low e = let same = found_here n k b e in omega (arith, same)
 found_case n k (Some j) b low e = let below = low e in omega (arith, below)
 
-found_low : (test : ℕ → Bool) (n k : ℕ) → first_below test n ≡ Some k → k < n
+pub found_low : (test : ℕ → Bool) (n k : ℕ) → first_below test n ≡ Some k → k < n
 unfolding first_below
 found_low test zero k e = absurd (cc)
 found_low test (suc n) k e = found_case n k _ _ (λ f. found_low test n k f) e
@@ -100,7 +100,7 @@ answer_are e (Some p) number (answers.Loaded bytes) low = ((low p refl, refl), t
 answer_are e (Some p) number answers.Done low = ((low p refl, done_answers _), tt)
 answer_are e (Some p) number (answers.Failed f) low = ((low p refl, refl), tt)
 
-step_are : (e : EngineState) (s : Step) → IsStep e s → moves.AreMoves e.schedule (moves_of e s)
+pub step_are : (e : EngineState) (s : Step) → IsStep e s → moves.AreMoves e.schedule (moves_of e s)
 step_are e (Takes c) is = (is, tt)
 step_are e (TakesAside k ranges) is = tt
 step_are e (Starts p) is = ((is.0, is.1), tt)

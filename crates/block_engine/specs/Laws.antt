@@ -1,12 +1,12 @@
 -- Runs of an engine: each call does to its scheduler what some calls of a scheduler do, so the laws of the scheduler hold of what an
 -- engine shows.
-use Rattle.std.specs.Prelude.{ℕ, ◌≡◌, ◌<◌, ◌≤◌, ◌⊎◌, nat_lt, true, false, List, [], ◌∷◌, ◌++◌, map, Option, Some, None, Bool}
+use Rattle.std.specs.Prelude.{ℕ, ◌≡◌, ◌<◌, ◌≤◌, ◌⊎◌, nat_lt, true, false, List, [], ◌∷◌, ◌++◌, map, Option, Some, None, Bool, not, ◌==◌, ◌&&◌, if◌then◌else◌, slice_index_or}
 use Rattle.block_command.specs.declared.command.Command.{Command}
-use Rattle.block_command.specs.Moments.{IsCommand, Moment, is_queued}
+use Rattle.block_command.specs.Moments.{IsCommand, is_queued}
 use Rattle.block_command.specs.Laws as command
 use Rattle.block_command.specs.Laws.{Comes}
 use Rattle.block_disk.specs.Table.{is_under_way, with_input}
-use Rattle.block_disk.specs.Requests.{AreSeenRightly, Rises, Seen, asks, no_books, none_queued, numbers_given, seen_by, with_table}
+use Rattle.block_disk.specs.Requests.{AreSeenRightly, Rises, Seen, asks, is_out, no_books, none_queued, numbers_given, seen_by, with_table}
 use Rattle.block_queue.specs.Line.{Line, command_at, may_send, may_start, with_queue, orphan}
 use Rattle.block_queue.specs.Deeds.{AllAreApart, AreNamed, Goes, act_of}
 use Rattle.block_scheduler.specs.Schedule.{ends_sent, line_sent}
@@ -16,7 +16,9 @@ use Rattle.block_engine.specs.declared.aside.AsideKind.{AsideKind}
 use Rattle.block_engine.specs.declared.aside.AsideStage.TheVariants.{Idle}
 use Rattle.block_engine.specs.declared.request.Answer.{Answer}
 use Rattle.block_engine.specs.declared.request.Answer.TheVariants as answers
+use Rattle.block_engine.specs.declared.request.Failure.{Failure}
 use Rattle.block_engine.specs.declared.request.Range.{Range}
+use Rattle.block_engine.specs.Aside.{asks_for}
 use Rattle.block_engine.specs.Engine.{EngineState, IsEngineStart, answer_refusal, answered, aside_asked, aside_due, aside_sent, aside_taken, discards, done_of, engine_reset, line, may_ask, none_engaged, on_line, place_asked, place_of, runs_at, started, taken, with_schedule}
 
 -- the calls of an engine that change it; a refused answer changes nothing and is none of them
@@ -151,3 +153,27 @@ pub record IsStill (l : Line) : Type 0 where
 abbrev pub DiscardsAreAlone : Type 0
 DiscardsAreAlone = (limit : ℕ) (steps : List Step) → AreSteps (none_engaged limit) steps
     → discards (after_steps (none_engaged limit) steps) ≡ true → IsStill (line (after_steps (none_engaged limit) steps))
+
+-- ## Failures are of the command that stands there
+
+-- the request of this number is out and is that of the command of the place, or of the command beside the queue
+abbrev pub is_own : EngineState → (place : ℕ) → (found : Option ℕ) → (number : ℕ) → Bool
+is_own e p None number = (p == 32) && asks_for e.stage number
+is_own e p (Some q) number = (p == q) && is_out (line e).queue.out q number
+
+-- what a step makes of the failure of the command of a place
+abbrev pub failure_after : EngineState → (place : ℕ) → Step → Option Failure → Option Failure
+failure_after e p (Takes c) f = if (p == c.place) && not (is_under_way (command_at (line e) p)) then None else f
+failure_after e p (TakesAside k ranges) f = if p == 32 then None else f
+failure_after e p (Answers number (answers.Failed g)) f = if is_own e p (place_of e number) number then Some g else f
+failure_after e p Resets f = None
+failure_after e p s f = f
+
+unfoldable pub failure_in : EngineState → (place : ℕ) → List Step → Option Failure → Option Failure
+failure_in e p [] f = f
+failure_in e p (s ∷ later) f = failure_in (after_step e s) p later (failure_after e p s f)
+
+-- What an engine keeps of a place is what the caller answered last to a request of the command that was taken last there.
+abbrev pub FailuresAreOwn : Type 0
+FailuresAreOwn = (limit : ℕ) (steps : List Step) (p : ℕ) → AreSteps (none_engaged limit) steps → p < 33
+    → slice_index_or (after_steps (none_engaged limit) steps).failures p None ≡ failure_in (none_engaged limit) p steps None

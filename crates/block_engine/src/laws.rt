@@ -1,6 +1,6 @@
 //! Laws over every run of an engine.
 
-ghost use Rattle.block_engine.specs.Laws.{DataAreNamed, DiscardsAreAlone, EndsAreEarned, NumbersAreFresh, RequestsAreApart, SomethingMoves};
+ghost use Rattle.block_engine.specs.Laws.{DataAreNamed, DiscardsAreAlone, EndsAreEarned, FailuresAreOwn, NumbersAreFresh, RequestsAreApart, SomethingMoves};
 
 /// A law; it runs no code. In every run, whatever is taken, sent, received, asked and answered: each request to load
 /// or to store is apart from all that were asked and are not answered. They have no sector in common, unless both are
@@ -38,4 +38,11 @@ pub fn something_moves()
 /// has started and no dropped store is out. So no load or store passes a discard.
 pub fn discards_are_alone()
     ensures { DiscardsAreAlone }
+{}
+
+/// A law; it runs no code. In every run, what [`Engine::failure`](crate::Engine::failure) says of a place is what the caller answered
+/// last to a request of the command that was taken last there, if that was a failure: nothing of an earlier command, and nothing of a
+/// store or a discard that a reset dropped.
+pub fn failures_are_own()
+    ensures { FailuresAreOwn }
 {}

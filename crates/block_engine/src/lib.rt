@@ -9,7 +9,7 @@ mod request;
 pub use aside::{AsideKind, AsideStage, asides_are_earned};
 pub use engine::{Engine, EngineFis};
 pub use laws::{
-    data_are_named, discards_are_alone, ends_are_earned, numbers_are_fresh, requests_are_apart,
-    something_moves,
+    data_are_named, discards_are_alone, ends_are_earned, failures_are_own, numbers_are_fresh,
+    requests_are_apart, something_moves,
 };
 pub use request::{Answer, ErrorKind, Failure, Range, Request, What};

@@ -141,7 +141,7 @@ lines_after : (ds : List Deed) (l : Line) → IsLine l → AreDeeds l ds → IsL
 lines_after [] l line are = line
 lines_after (d ∷ ds) l line are = lines_after ds (after_deed l d) (door.line_after l d line are.0) are.1
 
-line_of : (moves : List Move) (s : Schedule) → IsLine s.line → AreMoves s moves → IsLine (after_moves s moves).line
+pub line_of : (moves : List Move) (s : Schedule) → IsLine s.line → AreMoves s moves → IsLine (after_moves s moves).line
 unfolding after_moves
 line_of [] s line are = line
 line_of (m ∷ later) s line are = line_of later (after_move s m)
