@@ -2,3 +2,4 @@ mod Runs
 mod Exact
 mod Told
 mod Silent
+mod Beside

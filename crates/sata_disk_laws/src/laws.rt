@@ -1,5 +1,6 @@
 //! The laws.
 
+ghost use Rattle.sata_disk_laws.specs.Asides.{AsidesAreEarned};
 ghost use Rattle.sata_disk_laws.specs.Told.{FisesAreTold};
 ghost use Rattle.sata_disk_laws.specs.Laws.{DataAreNamed, DiscardsAreAlone, EndsAreEarned, NumbersAreFresh, RequestsAreApart, SilenceIsOwed, SomethingMoves};
 
@@ -66,4 +67,12 @@ pub fn silence_is_owed()
     ensures { SilenceIsOwed }
 {
     block_engine::something_moves();
+}
+
+/// A law. In every run a flush, what turns the write cache off, and a discard end well only after the caller answered, well, what was
+/// asked for since the command was taken. The stage by which `next_out` picks the end is that of the run.
+pub fn asides_are_earned()
+    ensures { AsidesAreEarned }
+{
+    block_engine::asides_are_earned();
 }

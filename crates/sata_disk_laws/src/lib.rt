@@ -4,6 +4,6 @@
 mod laws;
 
 pub use laws::{
-    data_are_named, discards_are_alone, ends_are_earned, fises_are_told, numbers_are_fresh,
-    requests_are_apart, silence_is_owed, something_moves,
+    asides_are_earned, data_are_named, discards_are_alone, ends_are_earned, fises_are_told,
+    numbers_are_fresh, requests_are_apart, silence_is_owed, something_moves,
 };
