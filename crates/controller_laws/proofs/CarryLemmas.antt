@@ -194,7 +194,7 @@ module _ (old new : ControllerState) (d : Carrying) (w : Carried) (k : IsControl
         count = was.count + m.len;
         few = fits;
         said = said_on d was.count (record m { from = w.from }) was.said l.from (omega (arith, fits, long))
-        (λ i below. p.here i below ∙ ap (λ (o : ℕ). place p.command.table.entries (o + i)) offset ∙ ap (λ (t : Places). place t.entries (d.wrote.offset + was.count + i)) table);
+            (λ i below. p.here i below ∙ ap (λ (o : ℕ). place p.command.table.entries (o + i)) offset ∙ ap (λ (t : Places). place t.entries (d.wrote.offset + was.count + i)) table);
         left = subst (λ (o : Option Carried). AreLeft o new (more d (record m { from = w.from } ∷ [])) (was.count + m.len)) (sym payload) (by (min m.len w.len == w.len) refl few fits);
         whole = whole;
         short = was.short;

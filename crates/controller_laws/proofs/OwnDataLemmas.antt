@@ -191,14 +191,16 @@ of_context c frame wrote context k now slot few =
     by : (o : Option Issue) → issue_at c.core.slots context.slot ≡ o → MatchOption o ⊥ (IsContextOf (port_of frame) context) → (own : IsOwnData c frame wrote) × (context.next + context.left ≤ own.issue.work.len)
     by None at x = absurd x
     by (Some i) at x =
-        let here : issue_at c.core.slots wrote.slot ≡ Some i = ap (issue_at c.core.slots) slot ∙ at in
-        (record {
-          issue = i;
-          is = here;
-          own = x.of_dev;
-          few = few;
-          command = command_there (issue_at c.core.slots wrote.slot) (last_command c.core.commands wrote.slot) (kept c wrote.slot) (ap is_some here) (k.port.commands wrote.slot) (k.rules.kept wrote.slot);
-        }, x.fits)
+        let here : issue_at c.core.slots wrote.slot ≡ Some i = ap (issue_at c.core.slots) slot ∙ at in (
+          record {
+            issue = i;
+            is = here;
+            own = x.of_dev;
+            few = few;
+            command = command_there (issue_at c.core.slots wrote.slot) (last_command c.core.commands wrote.slot) (kept c wrote.slot) (ap is_some here) (k.port.commands wrote.slot) (k.rules.kept wrote.slot);
+          },
+          x.fits,
+        )
 
 -- of a report
 most_of : (o : Option Issue) (i : Issue) → o ≡ Some i → MatchOption o (Unit {0}) IsIssue → i.work.len ≤ 33554432

@@ -351,7 +351,7 @@ moved_sources s sources old base new wrote same fetches commands long are = reco
   long = ap length fetches ∙ are.long;
   coming = subst (IsComing sources.coming) (sym (kept_fetch s old new fetches)) are.coming;
   issued = subst (λ (l : List (Option Fetched)). IsReadFrom sources.issued (get_or l s None)) (sym commands)
-  (moved_kept base wrote s sources.issued (ap length same ∙ long) (subst (IsReadFrom sources.issued) (sym (kept_command s old base same)) are.issued));
+      (moved_kept base wrote s sources.issued (ap length same ∙ long) (subst (IsReadFrom sources.issued) (sym (kept_command s old base same)) are.issued));
 }
 
 -- ---- Data to devices

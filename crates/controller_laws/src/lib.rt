@@ -7,4 +7,7 @@
 
 mod laws;
 
-pub use laws::{active_falls, bytes_go_to_their_places, commands_are_supplied, commands_come_round, events_are_core_events, issues_fall, line_is_told, writes_are_placed};
+pub use laws::{
+    active_falls, bytes_go_to_their_places, commands_are_supplied, commands_come_round,
+    events_are_core_events, issues_fall, line_is_told, writes_are_placed,
+};

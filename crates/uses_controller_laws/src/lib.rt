@@ -8,7 +8,9 @@ ghost use Rattle.controller_laws.specs.Interrupts.{line_after, line_shown};
 ghost use Rattle.controller_laws.specs.Places.{IsWritten};
 ghost use Rattle.uses_controller_laws.specs.Ended.{IsCall, Laws, OpensSo};
 
-use ahci_controller::{Controller, Edge, Hindrance, Next, Supply, Took, WideWritten, Width, Written};
+use ahci_controller::{
+    Controller, Edge, Hindrance, Next, Supply, Took, WideWritten, Width, Written,
+};
 use fis_view::Frame;
 use std::alloc::Global;
 
