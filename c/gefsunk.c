@@ -28,9 +28,12 @@ uint32_t gefsunk_disk_sector(gef_disk *disk, uint32_t lba, uint8_t *bytes, size_
 uint32_t gefsunk_hba_new(gef_hba *hba);
 uint32_t gefsunk_hba_free(gef_hba *hba);
 uint32_t gefsunk_hba_read32(gef_hba *hba, uint32_t offset, uint32_t *value);
+uint32_t gefsunk_hba_read(gef_hba *hba, uint32_t offset, uint32_t width, uint64_t *value);
 uint32_t gefsunk_hba_line(gef_hba *hba, uint32_t *raised);
 uint32_t gefsunk_hba_write32(gef_hba *hba, const uint8_t *memory, size_t len, uint64_t base, uint32_t offset,
                              uint32_t value, uint32_t *link, uint32_t *message);
+uint32_t gefsunk_hba_write(gef_hba *hba, const uint8_t *memory, size_t len, uint64_t base, uint32_t offset, uint32_t width,
+                           uint64_t value, uint32_t *link, uint32_t *message);
 uint32_t gefsunk_hba_take(gef_hba *hba, const uint8_t *fis, size_t len, gef_taken *taken);
 uint32_t gefsunk_hba_data(gef_hba *hba, gef_place *places, size_t room, size_t *count);
 uint32_t gefsunk_hba_next_out(gef_hba *hba, const uint8_t *memory, size_t memory_len, uint64_t base, uint8_t *fis,
@@ -62,6 +65,7 @@ const char *gef_status_text(gef_status status) {
     case GEF_BAD_DISK: return "no disk can be like this";
     case GEF_NO_SECTOR: return "no such sector";
     case GEF_NO_TAG: return "no such tag";
+    case GEF_BAD_WIDTH: return "no access has so many bytes";
     case GEF_IMAGE: return "the image failed";
     }
     return "no such answer";
@@ -164,6 +168,10 @@ gef_status gef_hba_read32(gef_hba *hba, uint32_t offset, uint32_t *value) {
     return hba && value ? (gef_status)gefsunk_hba_read32(hba, offset, value) : GEF_NULL;
 }
 
+gef_status gef_hba_read(gef_hba *hba, uint32_t offset, uint32_t width, uint64_t *value) {
+    return hba && value ? (gef_status)gefsunk_hba_read(hba, offset, width, value) : GEF_NULL;
+}
+
 gef_status gef_hba_line(gef_hba *hba, uint32_t *raised) {
     return hba && raised ? (gef_status)gefsunk_hba_line(hba, raised) : GEF_NULL;
 }
@@ -173,6 +181,13 @@ gef_status gef_hba_write32(gef_hba *hba, const gef_memory *memory, uint32_t offs
     if (!hba || !memory || !memory->bytes || !link || !message) return GEF_NULL;
     return (gef_status)gefsunk_hba_write32(hba, memory->bytes, memory->len, memory->address, offset, value, link,
                                            message);
+}
+
+gef_status gef_hba_write(gef_hba *hba, const gef_memory *memory, uint32_t offset, uint32_t width, uint64_t value,
+                         uint32_t *link, uint32_t *message) {
+    if (!hba || !memory || !memory->bytes || !link || !message) return GEF_NULL;
+    return (gef_status)gefsunk_hba_write(hba, memory->bytes, memory->len, memory->address, offset, width, value, link,
+                                         message);
 }
 
 gef_status gef_hba_take(gef_hba *hba, const uint8_t *fis, size_t len, gef_taken *taken) {

@@ -67,6 +67,7 @@ typedef enum gef_status {
     GEF_BAD_DISK = 17,      /* a disk cannot have this size, this chunk, these flags or so many bad sectors */
     GEF_NO_SECTOR = 18,     /* the disk has no such sector */
     GEF_NO_TAG = 19,        /* a queued command has a tag from 0 to 31 */
+    GEF_BAD_WIDTH = 20,     /* an access to registers has 1, 2, 4 or 8 bytes */
     GEF_IMAGE = 64          /* of gefsunk_image.h alone: an image was not read, written or flushed, or is of another size */
 } gef_status;
 
@@ -272,10 +273,11 @@ gef_status gef_disk_sector(gef_disk *disk, uint32_t lba, uint8_t *bytes, size_t 
 /*
  * An AHCI controller (AHCI 1.3.1) with one port, as a register file for unmodified drivers: FIS-based switching, native
  * command queuing, 32 slots, 64-bit addresses. Behind it you put a multiplier, or one device of your own, and in front of
- * it a guest: gef_hba_read32 and gef_hba_write32 are the accesses to its registers. The rules of a handle are those of
- * gef_pm. A controller takes a few KB, and 16 bytes for each entry of a table while its command is issued.
+ * it a guest: gef_hba_read32 and gef_hba_write32 are the accesses to its registers, gef_hba_read and gef_hba_write those of
+ * any width. The rules of a handle are those of gef_pm. A controller takes a few KB, and 16 bytes for each entry of a table
+ * while its command is issued.
  *
- *     on a write of a register:  gef_hba_write32; do what *link says; then pump, and set the line
+ *     on a write of a register:  gef_hba_write32 (or gef_hba_write); do what *link says; then pump, and set the line
  *     pump, until nothing moves: gef_hba_next_out gives a FIS: it goes to gef_pm_from_host
  *                                gef_pm_to_host gives one: it goes to gef_hba_take, and from there to guest memory.
  *                                After GEF_FULL you keep it, and pass it again
@@ -318,6 +320,12 @@ gef_status gef_hba_free(gef_hba *hba);
  */
 gef_status gef_hba_read32(gef_hba *hba, uint32_t offset, uint32_t *value);
 
+/*
+ * The same by an access of 1, 2, 4 or 8 bytes (width), the lowest byte first. One that crosses a boundary of eight bytes
+ * reads 0. Can return GEF_CLOSED, GEF_BAD_WIDTH.
+ */
+gef_status gef_hba_read(gef_hba *hba, uint32_t offset, uint32_t width, uint64_t *value);
+
 /* Whether the interrupt line is up: 1 or 0. It changes nothing. Can return GEF_CLOSED. */
 gef_status gef_hba_line(gef_hba *hba, uint32_t *raised);
 
@@ -335,6 +343,15 @@ gef_status gef_hba_line(gef_hba *hba, uint32_t *raised);
  */
 gef_status gef_hba_write32(gef_hba *hba, const gef_memory *memory, uint32_t offset, uint32_t value, uint32_t *link,
                            uint32_t *message);
+
+/*
+ * The same by an access of 1, 2, 4 or 8 bytes (width), those of the value that are lowest; of 8 the lower dword is written
+ * first. Bits outside the access stay, and where ones act (IS, PxIS, PxSERR, PxSNTF, PxSACT, PxCI) nothing is written to
+ * them. An access that crosses a boundary of eight bytes is ignored. Can return GEF_CLOSED, GEF_BAD_WIDTH; nothing has
+ * changed then.
+ */
+gef_status gef_hba_write(gef_hba *hba, const gef_memory *memory, uint32_t offset, uint32_t width, uint64_t value,
+                         uint32_t *link, uint32_t *message);
 
 /* What taking a FIS did. */
 typedef struct gef_taken {

@@ -152,7 +152,7 @@ abbrev pub cursors_for : List ℕ → turn_type.Turn → List ℕ
 cursors_for cursors turn.Rests = cursors
 cursors_for cursors (turn.Feeds to of offset len) = cursors
 cursors_for cursors (turn.Orders to of command) =
-    if is_queued command.work.kind then cursors else slice_set cursors to 0
+    if nat_lt to 16 && not (is_queued command.work.kind) then slice_set cursors to 0 else cursors
 
 -- it goes, and CCS is its slot
 pub record OrdersSlot (old : ControllerState) (slot : ℕ) (result : Next) (new : ControllerState) : Type 0 where

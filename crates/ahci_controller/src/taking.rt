@@ -203,7 +203,7 @@ fn part(command: &Command, slot: u8, offset: u32, len: u32) -> Option<Wrote>
 fn is_overflow(fault: Option<DeviceCause>) -> bool
     ensures { result ≡ is_overflow_of fault }
 {
-    fault == Some(DeviceCause::Overflow)
+    matches!(fault, Some(DeviceCause::Overflow))
 }
 
 // Where the next Data of a device begin, after a report.

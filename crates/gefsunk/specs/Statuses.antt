@@ -23,8 +23,9 @@ status_of n =
     else if n == 16 then status.Spent
     else if n == 17 then status.BadDisk
     else if n == 18 then status.NoSector
-    else status.NoTag
+    else if n == 19 then status.NoTag
+    else status.BadWidth
 
 -- the numbers that an export answers; 1 is the C side's
 abbrev pub is_code : ℕ → Bool
-is_code n = nat_lt n 20 && not (n == 1)
+is_code n = nat_lt n 21 && not (n == 1)

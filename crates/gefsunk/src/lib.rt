@@ -5,7 +5,7 @@
 ghost use Rattle.std.specs.Prelude.{◌≡◌, ◌≢◌, ◌≤◌, drop, length, take, true};
 ghost use Rattle.gefsunk.specs.Disks.{DiskFail, DiskFromHost, DiskPlug, DiskToHost, SectorRule};
 ghost use Rattle.gefsunk.specs.Exports.{AtDisk, AtHba, AtPm, FreedDisk, FreedHba, FreedPm, MadeDisk, MadeHba, MadeOpenPm, MadePm};
-ghost use Rattle.gefsunk.specs.Hbas.{DataRule, HbaRead, HbaTake, HbaWrite, LineRule, NextOut, block};
+ghost use Rattle.gefsunk.specs.Hbas.{DataRule, HbaRead, HbaReadAny, HbaTake, HbaWrite, HbaWriteAny, LineRule, NextOut, block};
 ghost use Rattle.gefsunk.specs.Pms.{FromDevice, FromHost, Plug, ReadRule, ToDevice, ToHost, Unplug};
 ghost use Rattle.gefsunk.specs.Statuses.{is_code, status_of};
 ghost use Rattle.gefsunk.specs.Texts.{TextRule};
@@ -489,6 +489,30 @@ pub extern "C" fn gefsunk_hba_read32(
     status.code()
 }
 
+/// Reads registers of the controller by an access of so many bytes.
+#[unsafe(no_mangle)]
+pub extern "C" fn gefsunk_hba_read(
+    handle: &mut Handle,
+    alloc: Global,
+    offset: u32,
+    count: u32,
+    value: &mut u64,
+) -> u32
+    ensures rule { AtHba handle.old.held.value (status_of result) handle.new.held.value
+        (λ old new. HbaReadAny old offset count (status_of result) value.new × (new ≡ old)) }
+    ensures kept { status_of result ≢ status.Done → value.new ≡ value.old }
+{
+    let Some(kept) = handle.take(alloc) else {
+        return Status::Closed.code();
+    };
+    let status = match &*kept {
+        Kept::Hba(port) => hba::read(port, offset, count, value),
+        Kept::Pm(_) | Kept::Disk(_) => Status::Closed,
+    };
+    *handle = Handle::open(kept);
+    status.code()
+}
+
 /// Says whether the interrupt line is raised.
 #[unsafe(no_mangle)]
 pub extern "C" fn gefsunk_hba_line(handle: &mut Handle, alloc: Global, raised: &mut u32) -> u32
@@ -529,6 +553,37 @@ pub extern "C" fn gefsunk_hba_write32(
     let guest = GuestBlock::new(base, memory);
     let status = match &mut *kept {
         Kept::Hba(port) => { hba::write32(port, alloc, &guest, offset, value, link, message) }
+        Kept::Pm(_) | Kept::Disk(_) => Status::Closed,
+    };
+    *handle = Handle::open(kept);
+    status.code()
+}
+
+/// The same by an access of so many bytes.
+#[unsafe(no_mangle)]
+pub extern "C" fn gefsunk_hba_write(
+    handle: &mut Handle,
+    alloc: Global,
+    memory: &[u8],
+    base: u64,
+    offset: u32,
+    count: u32,
+    value: u64,
+    link: &mut u32,
+    message: &mut u32,
+) -> u32
+    ensures rule { AtHba handle.old.held.value (status_of result) handle.new.held.value
+        (λ old new. HbaWriteAny old (block base memory.now) offset count value (status_of result) link.new message.new new) }
+    ensures kept { status_of result ≢ status.Done → (link.new ≡ link.old) × (message.new ≡ message.old) }
+{
+    let Some(mut kept) = handle.take(alloc) else {
+        return Status::Closed.code();
+    };
+    let guest = GuestBlock::new(base, memory);
+    let status = match &mut *kept {
+        Kept::Hba(port) => {
+            hba::write(port, alloc, &guest, offset, count, value, link, message)
+        }
         Kept::Pm(_) | Kept::Disk(_) => Status::Closed,
     };
     *handle = Handle::open(kept);

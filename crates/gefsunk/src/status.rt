@@ -42,6 +42,8 @@ pub enum Status {
     NoSector = 18,
     /// No command can have this tag.
     NoTag = 19,
+    /// No access to a register has so many bytes.
+    BadWidth = 20,
 }
 
 impl Status {

@@ -1,4 +1,3 @@
 pub mod Guest
-pub mod Entries
 pub mod Flat
 pub mod Moves

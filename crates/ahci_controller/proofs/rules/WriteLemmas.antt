@@ -84,8 +84,8 @@ told_as register None value c new calm ok was h =
     (λ e. was.stopped (sym (ap (λ (r : Registers). r.started) h.registers ∙ calm.started value c.core.registers) ∙ e))
 told_as register (Some error) value c new calm ok was h = subst (λ (p : Port). IsRuled (record c { core = p })) (sym h) was
 
-told_ruled : (register : port_register.Register) (value : ℕ) (c new : ControllerState) (latch : Latch) (own : OwnRegisters) (ignored : Option WriteError) → own.starts ≡ c.own.starts → IsCalm register → IsTable new.core.slots → IsRuled c → Tells c register value latch own ignored new → IsRuled new
-told_ruled register value c new latch own ignored same calm ok was h =
+told_ruled : (register : port_register.Register) (value : ℕ) (c new : ControllerState) (latch : Latch) (own : OwnRegisters) (ignored : Option WriteError) → IsCalm register → IsTable new.core.slots → IsRuled c → Tells c register value latch own ignored new → own.starts ≡ c.own.starts → IsRuled new
+told_ruled register value c new latch own ignored calm ok was h same =
     subst IsRuled (sym h.rest)
     (subst (λ (b : Bool). AreParts new.core c.wants c.fetches c.commands c.writes.payload b) (sym same) (told_as register (told_refusal c register value) value c new.core calm ok was h.core))
 
@@ -192,19 +192,19 @@ register_rules ahci.PxClb value c new result ok was h = subst IsRuled (sym h.0) 
 register_rules ahci.PxClbu value c new result ok was h = subst IsRuled (sym h.0) was
 register_rules ahci.PxFb value c new result ok was h = subst IsRuled (sym h.0) was
 register_rules ahci.PxFbu value c new result ok was h = subst IsRuled (sym h.0) was
-register_rules ahci.PxIs value c new result ok was h = told_ruled on_port.Is value c new _ _ result.ignored refl is_calm ok was h.0
+register_rules ahci.PxIs value c new result ok was h = told_ruled on_port.Is value c new _ _ result.ignored is_calm ok was h.0 refl
 register_rules ahci.PxIe value c new result ok was h = subst IsRuled (sym h.0) was
 register_rules ahci.PxCmd value c new result ok was h = commands_ruled value c new result.ignored ok was h.0
 register_rules ahci.PxTfd value c new result ok was h = same_ruled c new h.0 was
 register_rules ahci.PxSig value c new result ok was h = same_ruled c new h.0 was
 register_rules ahci.PxSsts value c new result ok was h = same_ruled c new h.0 was
 register_rules ahci.PxSctl value c new result ok was h = linked_ruled (link_effect c value) (link_moved c value) new was h.0
-register_rules ahci.PxSerr value c new result ok was h = told_ruled on_port.Serr value c new _ _ result.ignored refl serr_calm ok was h.0
-register_rules ahci.PxSact value c new result ok was h = told_ruled on_port.Sact _ c new _ _ result.ignored refl sact_calm ok was h.0
+register_rules ahci.PxSerr value c new result ok was h = told_ruled on_port.Serr value c new _ _ result.ignored serr_calm ok was h.0 refl
+register_rules ahci.PxSact value c new result ok was h = told_ruled on_port.Sact _ c new _ _ result.ignored sact_calm ok was h.0 refl
 register_rules ahci.PxCi value c new result ok was h = same_ruled (asked_state c value) new h.0 (asked_ruled c.own.starts value c refl was)
-register_rules ahci.PxSntf value c new result ok was h = told_ruled on_port.Sntf value c new _ _ result.ignored refl sntf_calm ok was h.0
+register_rules ahci.PxSntf value c new result ok was h = told_ruled on_port.Sntf value c new _ _ result.ignored sntf_calm ok was h.0 refl
 register_rules ahci.PxFbs value c new result ok was h =
-    told_ruled on_port.Fbs _ (record c { wants = record c.wants { feeding = 0 } }) new _ _ result.ignored refl fbs_calm ok (parts.feeding_is c.core c.wants c.fetches c.commands c.writes.payload c.own.starts was 0) h.0
+    told_ruled on_port.Fbs _ (record c { wants = record c.wants { feeding = 0 } }) new _ _ result.ignored fbs_calm ok (parts.feeding_is c.core c.wants c.fetches c.commands c.writes.payload c.own.starts was 0) h.0 refl
 
 -- ---- accesses
 

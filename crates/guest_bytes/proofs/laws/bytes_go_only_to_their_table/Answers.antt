@@ -1,5 +1,0 @@
-use Rattle.guest_bytes.proofs.MoveLemmas.{only_to_table}
-use Rattle.guest_bytes.proofs.laws.bytes_go_only_to_their_table.Goals as goal
-
-pub returns : goal.returns
-returns c = only_to_table
