@@ -1,5 +1,5 @@
--- What takes a bit out of PxSACT: AHCI 1.3.1, sections 3.3.13 (PxSACT), 3.3.16 (PxFBS.DEC) and 9.3; Serial ATA 3.x, 10.5 (Set Device
--- Bits) and 13.6 (native command queuing).
+-- What takes a bit out of PxSACT: AHCI 1.3.1, sections 3.3.13 (PxSACT), 3.3.16 (PxFBS.DEC) and 9.3; Serial ATA 3.x, 10.5 (Set
+-- Device Bits) and 13.6 (native command queuing).
 use Rattle.std.specs.Prelude.{◌≡◌, ◌<◌, ℕ, ◌⊎◌, Bool, true, false, List, Some}
 use Rattle.slots.specs.Slots.{Issue, has_bit, is_queued_issue, issue_at}
 use Rattle.ahci_registers.specs.declared.register.Register.TheVariants.{PxSact}

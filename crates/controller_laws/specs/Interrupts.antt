@@ -1,5 +1,5 @@
--- The interrupt line over a run, and IS: AHCI 1.3.1, sections 3.1.2 (GHC.IE, HR), 3.1.3 (IS, whose bits ones clear), 3.3.5 (PxIS),
--- 3.3.6 (PxIE) and 10.7.1 (an enabled cause sets IS.IPS; the line is raised while IS.IPS and GHC.IE are 1).
+-- The interrupt line over a run, and IS: AHCI 1.3.1, sections 3.1.2 (GHC.IE, HR), 3.1.3 (IS, whose bits ones clear), 3.3.5
+-- (PxIS), 3.3.6 (PxIE) and 10.7.1 (an enabled cause sets IS.IPS; the line is raised while IS.IPS and GHC.IE are 1).
 use Rattle.std.specs.Prelude.{◌≡◌, ℕ, ◌+◌, ◌%◌, ◌&&◌, ◌==◌, ◌⊎◌, Bool, true, false, if◌then◌else◌, bit_and, List, [], ◌∷◌, ◌++◌}
 use Rattle.slots.specs.Slots.{has_bit, match_some}
 use Rattle.ahci_registers.specs.Bits as line_bits
@@ -19,7 +19,8 @@ use Rattle.ahci_controller.specs.declared.issuing.Supply.TheVariants as supply_a
 use Rattle.ahci_controller.specs.declared.latch.Edge.{Edge}
 use Rattle.ahci_controller.specs.declared.latch.Edge.TheVariants.{Steady, Rising, Falling}
 use Rattle.ahci_controller.specs.declared.wide.WideWritten.{WideWritten}
-use Rattle.controller_laws.specs.Events.{Does, Event, Gathered, Left, Missed, NotThere, Runs, Supplied, Took, Turned, Wrote, WroteWide}
+use Rattle.controller_laws.specs.Events.{Does, Event, Gathered, Left, Missed, NotThere, Runs, Supplied, Took, Turned, Wrote}
+use Rattle.controller_laws.specs.Events.{WroteWide}
 
 -- ---- what registers show
 

@@ -1,6 +1,7 @@
--- What the command of a slot is: what was supplied for it since its bit of PxCI was written, header, FIS and entries, and nothing
--- else. AHCI 1.3.1, sections 3.3.14 (PxCI), 4.2.2, 4.2.3, 5.3.6 and 5.4 (a port fetches a command).
-use Rattle.std.specs.Prelude.{◌≡◌, ◌<◌, ℕ, ◌==◌, Bool, true, false, if◌then◌else◌, List, [], ◌∷◌, ◌++◌, length, Option, Some, None, MatchOption}
+-- What the command of a slot is: what was supplied for it since its bit of PxCI was written, header, FIS and entries, and
+-- nothing else. AHCI 1.3.1, sections 3.3.14 (PxCI), 4.2.2, 4.2.3, 5.3.6 and 5.4 (a port fetches a command).
+use Rattle.std.specs.Prelude.{◌≡◌, ◌<◌, ℕ, ◌==◌, Bool, true, false, if◌then◌else◌, List, [], ◌∷◌, ◌++◌, length}
+use Rattle.std.specs.Prelude.{Option, Some, None, MatchOption}
 use Rattle.slots.specs.Slots.{has_bit}
 use Rattle.guest_fetch.specs.Commands.{Fetched}
 use Rattle.guest_fetch.specs.Entries.{reached}
@@ -23,7 +24,8 @@ use Rattle.ahci_controller.specs.declared.access.Width.{Width}
 use Rattle.ahci_controller.specs.declared.issuing.Supply.{Supply}
 use Rattle.ahci_controller.specs.declared.issuing.Supply.TheVariants.{Issued, More, NotTaken, OutOfMemory, Stale}
 use Rattle.ahci_controller.specs.declared.wide.WideWritten.{WideWritten}
-use Rattle.controller_laws.specs.Events.{Does, Event, Gathered, IsController, Left, Missed, NotThere, Runs, Supplied, Took, Turned, Wrote, WroteWide}
+use Rattle.controller_laws.specs.Events.{Does, Event, Gathered, IsController, Left, Missed, NotThere, Runs, Supplied, Took}
+use Rattle.controller_laws.specs.Events.{Turned, Wrote, WroteWide}
 
 -- where a slot's header lies, by the command list in use, and what was supplied, one part after another
 pub record Source : Type 0 where

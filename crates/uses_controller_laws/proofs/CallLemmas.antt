@@ -27,7 +27,7 @@ pub ruled : (c : ControllerState) → IsCorePort c.core → IsTable c.core.slots
 ruled c port slots rules = record { port = port; slots = slots; rules = rules }
 
 -- one call is a run
-one : (old new : ControllerState) (e : Event) → IsController old → IsController new → Does old e new → Runs old (e ∷ []) new
+abbrev one : (old new : ControllerState) (e : Event) → IsController old → IsController new → Does old e new → Runs old (e ∷ []) new
 one old new e k k_new does = (k, (new, does, (k_new, refl)))
 
 pub is_call : Laws → (old new : ControllerState) (e : Event) → IsController old → IsController new → Does old e new → IsCall old e new

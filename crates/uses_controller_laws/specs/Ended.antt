@@ -39,7 +39,8 @@ pub record IsCall (old : ControllerState) (event : Event) (new : ControllerState
       → (s : ℕ) → s < 32 → has_bit (shown PxSact old) s ≡ true → has_bit (shown PxSact new) s ≡ false
       → ActiveFalls s past old event new does are.run
   -- the command of each slot goes on to be what was supplied for it
-  pub sources : (s : ℕ) → s < 32 → (was : Sources) → AreSources old s was → AreSources new s (sources_by s old event new does was)
+  pub sources : (s : ℕ) → s < 32 → (was : Sources) → AreSources old s was
+      → AreSources new s (sources_by s old event new does was)
   -- the bytes that are said of a FIS go on to be its first ones, at their places
   pub said : (was : Option Carrying) → AreSaid old was → AreSaid new (carrying_after_call old event new does was)
   -- what it tells of the line is what became of it
