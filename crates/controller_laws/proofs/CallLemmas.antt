@@ -204,9 +204,9 @@ rests_core : (o : Option ℕ) (base new : ControllerState) (next : Next) → Mat
 rests_core None base new next h = ap (λ (c : ControllerState). c.core) h.0
 rests_core (Some slot) base new next h = ap (λ (c : ControllerState). c.core) h.1
 
-starts_are : (old new : ControllerState) (next : Next) → IsCore old.core → IsCore new.core → StartsUp (written old) next new → AreCoreEvents old.core (commanded_with old.core.registers (engine_of old.own (is_idle old) old.core.registers)) new.core
+starts_are : (old new : ControllerState) (next : Next) → IsCore old.core → IsCore new.core → StartsUp (written old) next new → AreCoreEvents old.core (commanded_with old.core.registers (engine_of old.own (is_idle (written old)) old.core.registers)) new.core
 starts_are old new next ok ok_new h =
-    let value : ℕ = engine_of old.own (is_idle old) old.core.registers in
+    let value : ℕ = engine_of old.own (is_idle (written old)) old.core.registers in
     let same : new.core ≡ h.middle.core = rests_core (next_read h.middle) h.middle new next h.reads in
     started_as (own_refusal_by on_port.Cmd old.core.registers value) value old.core new.core refl ok ok_new
     (subst (λ (p : Port). MatchOption (own_refusal_by on_port.Cmd old.core.registers value) (SetsCmd old.core value p) (λ e. p ≡ old.core)) (sym same) h.starts.core)
