@@ -1,4 +1,4 @@
-//! The tests of `ahci_port`. They stand in a crate of their own, since a crate with tests is proved twice.
+//! The tests of `guest_port`. They stand in a crate of their own, since a crate with tests is proved twice.
 #![tactic(auto)]
 
 #[cfg(test)]
