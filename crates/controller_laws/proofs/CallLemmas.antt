@@ -4,7 +4,7 @@ use Rattle.std.specs.Prelude.{MatchOption, if◌then◌else◌, nat_lt}
 use Rattle.std.specs.Option.{option_map}
 use Rattle.std.proofs.lemmas.Bool.{and_parts, ltb-true}
 use Rattle.fis_view.specs.Frames.{IsFrame}
-use Rattle.slots.specs.Slots.{Issue, has_bit, issue_at, match_some}
+use Rattle.slots.specs.Slots.{Issue, issue_at, match_some}
 use Rattle.guest_fetch.specs.Commands.{Fetched}
 use Rattle.guest_fetch.specs.declared.fetch.Supplied.{Supplied}
 use Rattle.guest_fetch.specs.declared.fetch.Supplied.TheVariants as supplied
@@ -51,10 +51,7 @@ use Rattle.hba_fbs.specs.Registers.{own_refusal_by}
 use Rattle.hba_fbs.specs.Stopping.{SetsCmd}
 use Rattle.hba_fbs.specs.declared.register.Register.TheVariants as on_port
 use Rattle.ahci_controller.specs.Own.{engine_of}
-use Rattle.ahci_controller.specs.Reading.{file_in, is_idle}
-use Rattle.ahci_registers.specs.Link.{action_of}
-use Rattle.ahci_registers.specs.declared.link.LinkAction.{LinkAction}
-use Rattle.ahci_registers.specs.declared.link.LinkAction.TheVariants.{NoAction, Comreset, Disable}
+use Rattle.ahci_controller.specs.Reading.{is_idle}
 
 -- ---- supplies
 
@@ -207,23 +204,12 @@ rests_core : (o : Option ℕ) (base new : ControllerState) (next : Next) → Mat
 rests_core None base new next h = ap (λ (c : ControllerState). c.core) h.0
 rests_core (Some slot) base new next h = ap (λ (c : ControllerState). c.core) h.1
 
--- what is written leaves PxTFD
-file_same : (a : LinkAction) (c : ControllerState) → file_in a (written c) ≡ file_in a c
-file_same NoAction c = refl
-file_same Comreset c = refl
-file_same Disable c = refl
-
-idle_same : (c : ControllerState) → is_idle (written c) ≡ is_idle c
-idle_same c = ap (λ (n : ℕ). not (has_bit n 7) && not (has_bit n 3)) (file_same (action_of c.link.control) c)
-
-starts_are : (old new : ControllerState) (next : Next) → IsCore old.core → IsCore new.core → StartsUp (written old) next new → AreCoreEvents old.core (commanded_with old.core.registers (engine_of old.own (is_idle old) old.core.registers)) new.core
+starts_are : (old new : ControllerState) (next : Next) → IsCore old.core → IsCore new.core → StartsUp (written old) next new → AreCoreEvents old.core (commanded_with old.core.registers (engine_of old.own (is_idle (written old)) old.core.registers)) new.core
 starts_are old new next ok ok_new h =
-    let value : ℕ = engine_of old.own (is_idle old) old.core.registers in
+    let value : ℕ = engine_of old.own (is_idle (written old)) old.core.registers in
     let same : new.core ≡ h.middle.core = rests_core (next_read h.middle) h.middle new next h.reads in
-    let sets : MatchOption (own_refusal_by on_port.Cmd old.core.registers value) (SetsCmd old.core value h.middle.core) (λ e. h.middle.core ≡ old.core) =
-    subst (λ (b : Bool). MatchOption (own_refusal_by on_port.Cmd old.core.registers (engine_of old.own b old.core.registers)) (SetsCmd old.core (engine_of old.own b old.core.registers) h.middle.core) (λ e. h.middle.core ≡ old.core)) (idle_same old) h.starts.core in
     started_as (own_refusal_by on_port.Cmd old.core.registers value) value old.core new.core refl ok ok_new
-    (subst (λ (p : Port). MatchOption (own_refusal_by on_port.Cmd old.core.registers value) (SetsCmd old.core value p) (λ e. p ≡ old.core)) (sym same) sets)
+    (subst (λ (p : Port). MatchOption (own_refusal_by on_port.Cmd old.core.registers value) (SetsCmd old.core value p) (λ e. p ≡ old.core)) (sym same) h.starts.core)
 
 turns_if : (halted started : Bool) (old new : ControllerState) (next : Next) → (written old).core.registers.started ≡ started → IsCore old.core → IsCore new.core → TurnsIf halted (written old) next new → AreCoreEvents old.core (of_turn halted started next old) new.core
 turns_if true started old new next is ok ok_new h = no_next old new next next_step.Nothing ok (ap (λ (c : ControllerState). c.core) h.0) h.1 refl

@@ -130,7 +130,8 @@ of_next next old = []
 abbrev pub of_turn : (halted started : Bool) → Next → ControllerState → List CoreEvent
 of_turn true started next old = of_next next old
 of_turn false true next old = of_next next old
-of_turn false false next old = commanded_with old.core.registers (engine_of old.own (is_idle old) old.core.registers)
+of_turn false false next old =
+    commanded_with old.core.registers (engine_of old.own (is_idle (written old)) old.core.registers)
 
 abbrev pub of_turned : Next → ControllerState → List CoreEvent
 of_turned next old = match_some (next_write old)
