@@ -552,7 +552,7 @@ starts_calm (Some e) value p stopped = tt
 turn_calm : (halted started : Bool) (next : Next) (c : ControllerState) → c.core.registers.started ≡ started → IsCalm c.core (of_turn halted started next c)
 turn_calm true started next c is = next_calm next c
 turn_calm false true next c is = next_calm next c
-turn_calm false false next c is = starts_calm (own_refusal_by on_port.Cmd c.core.registers (engine_of c.own (is_idle c) c.core.registers)) (engine_of c.own (is_idle c) c.core.registers) c.core is
+turn_calm false false next c is = starts_calm (own_refusal_by on_port.Cmd c.core.registers (engine_of c.own (is_idle (written c)) c.core.registers)) (engine_of c.own (is_idle (written c)) c.core.registers) c.core is
 
 turned_calm : (next : Next) (c : ControllerState) → IsCalm c.core (of_turned next c)
 turned_calm next c = by (next_write c)
