@@ -6,10 +6,10 @@ ghost use Rattle.ahci_controller.specs.Feeding.{Gathers, LosesSlot, MissesData, 
 
 use crate::bits::has_bit;
 use crate::causes::interrupts;
-use crate::parts::Parts;
 use crate::issuing::slot_bit;
 use crate::latch::Edge;
 use crate::moving::sent;
+use crate::parts::Parts;
 use guest_fetch::Moves;
 use hba_fbs::Turn;
 

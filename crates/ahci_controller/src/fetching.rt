@@ -5,8 +5,8 @@ ghost use Rattle.guest_fetch.specs.Fetching.{part_at, refused_for, want_of};
 ghost use Rattle.ahci_controller.specs.Fetching.{Answers, AnswersTo, Asks, GoesOn, Misses, asked as asked_of, fetch_of, is_asked as is_asked_of, missing_in, want_at, with_fetch, without_fetch};
 
 use crate::bits::{has_bit, without};
-use crate::parts::Parts;
 use crate::issuing::{NotTaken, Supply, slot_bit};
+use crate::parts::Parts;
 use crate::wants::Wants;
 use guest_fetch::{Fetch, Refusal, Supplied, Want};
 use std::alloc::Global;

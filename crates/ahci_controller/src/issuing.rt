@@ -8,9 +8,9 @@ ghost use Rattle.ahci_controller.specs.Offers.{CanBeOffered, moves_some as moves
 
 use crate::bits::without;
 use crate::causes::interrupts;
-use crate::parts::Parts;
 use crate::latch::Edge;
 use crate::offer::Offered;
+use crate::parts::Parts;
 use ahci_registers::PortInterrupts;
 use guest_fetch::{Command, Refusal};
 use hba_fbs::IssueError;

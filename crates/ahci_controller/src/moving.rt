@@ -6,8 +6,8 @@ ghost use Rattle.guest_fetch.specs.Moves.{any_told};
 ghost use Rattle.ahci_controller.specs.Moving.{commands_after, count_of, counted_after, moved as moved_by, moved_on, processed_by, processed_in, sent_by};
 
 use crate::bits::bits_if;
-use crate::parts::Parts;
 use crate::issuing::slot_bit;
+use crate::parts::Parts;
 use guest_fetch::{ByteCount, Command, Moves};
 use hba_fbs::{Turn, Wrote};
 

@@ -6,10 +6,10 @@ ghost use Rattle.ahci_controller.specs.Next.{FeedsTo, Frames, GoesIf, OrdersSlot
 
 use crate::bits::{has_bit, without};
 use crate::circle::{Circle, device_after, slot_after};
-use crate::parts::Parts;
 use crate::fetching::Ask;
 use crate::issuing::slot_bit;
 use crate::moving::count;
+use crate::parts::Parts;
 use crate::wants::{Carried, Wants, Writes};
 use ahci_registers::LinkAction;
 use guest_fetch::{ByteCount, Move, Moves};

@@ -16,10 +16,10 @@ ghost use Rattle.ahci_controller.specs.Taking.{Hears, hindrance as hindrance_of}
 ghost use Rattle.ahci_controller.specs.Wide.{WritesAt, WritesWide, read_wide};
 
 use crate::access::Width;
-use crate::parts::Parts;
 use crate::feeding::Fed;
 use crate::issuing::Supply;
 use crate::next::Next;
+use crate::parts::Parts;
 use crate::taking::{Hindrance, Took};
 use crate::wide::WideWritten;
 use crate::writing::Written;

@@ -13,9 +13,9 @@ ghost use Rattle.ahci_controller.specs.Taking.{CoreHears, Hears, blamed as blame
 
 use crate::bits::without;
 use crate::causes::{interrupts, new_bits, status};
-use crate::parts::Parts;
 use crate::latch::Edge;
 use crate::own::OwnRegisters;
+use crate::parts::Parts;
 use crate::wants::{Carried, Wants, Writes};
 use ahci_registers::LinkAction;
 use fis_view::{Fis, Frame};

@@ -8,10 +8,10 @@ ghost use Rattle.ahci_controller.specs.Writing.{Leaves, ResetsLink, StartsPort, 
 
 use crate::bits::{CLO, bits_if, has_bit, without};
 use crate::causes::next_bits;
-use crate::parts::{CONTROL, Parts};
 use crate::latch::Edge;
 use crate::offer::nothing;
 use crate::own::OwnRegisters;
+use crate::parts::{CONTROL, Parts};
 use ahci_registers::{Effect, LinkAction, LinkControl, Register};
 use hba_fbs::{Line, PortCore, WriteError};
 

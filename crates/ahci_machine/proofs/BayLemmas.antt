@@ -1,5 +1,5 @@
 -- A move at a port is one of the machine, and where nothing moved there the machine stays.
-use Rattle.std.proofs.Common.{◌≡◌, ℕ, ◌<◌, Bool, true, false, List, get_or, length, set, refl, sym, ap, subst, ◌∙◌, absurd, arith, Option, None, Some}
+use Rattle.std.proofs.Common.{◌≡◌, ℕ, ◌<◌, Bool, true, false, List, get_or, length, set, refl, sym, ap, subst, ◌∙◌, arith, Option, None, Some}
 use Rattle.std.specs.Prelude.{nat_lt}
 use Rattle.std.proofs.lemmas.Bool.{ltb-true, lt-ltb}
 use Rattle.std.proofs.lemmas.List.{get_or-set_same, set-get_or}
@@ -58,3 +58,7 @@ moved old port (act.Begins n) fan bay inside h = absurd h
 pub served : (old new : MachineState) (port : ℕ) (a : Option Act) (fan : FanOut) (bay : Bay) → port < length old.bays → BayMayDo port old.fan (bay_at old port) a fan bay → new ≡ record old { fan = fan; bays = set old.bays port bay } → MayDo old a new
 served old new port None fan bay inside h is = is ∙ same old port fan bay h.0 h.1
 served old new port (Some a) fan bay inside h is = subst (λ (m : MachineState). MayDo old (Some a) m) (sym is) (moved old port a fan bay (lt-ltb port (length old.bays) inside) h)
+
+-- the same of a move that leaves what is behind the controller
+pub served_here : (old new : MachineState) (port : ℕ) (a : Option Act) (bay : Bay) → port < length old.bays → ((fan : FanOut) → BayMayDo port fan (bay_at old port) a fan bay) → new ≡ record old { bays = set old.bays port bay } → MayDo old a new
+served_here old new port a bay inside h is = served old new port a old.fan bay inside (h old.fan) is

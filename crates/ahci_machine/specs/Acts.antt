@@ -136,10 +136,9 @@ GoesBy (fed.Goes message line) g old new =
 GoesBy other g old new = new ≡ old
 
 pub record GathersOf (g : GatheringState) (dev : ℕ) (answer : Fed) (old new : MachineState) : Type 0 where
-  pub after : ControllerState
   pub is : dev ≡ g.feed.dev
-  pub gathers : Gathers old.controller dev g.feed.number answer after
-  pub goes : GoesBy answer g (with_controller old after) new
+  pub gathers : Gathers old.controller dev g.feed.number answer new.controller
+  pub goes : GoesBy answer g (with_controller old new.controller) new
 
 abbrev pub GathersBy : GatheringState → MachineState → Act → MachineState → Type 0
 GathersBy g old (act.Gathers dev answer) new = GathersOf g dev answer old new

@@ -63,7 +63,8 @@ SuppliesMachine (Command slot number) bytes old result new =
     Fetches (λ before answer after. AnswersTo before slot number bytes answer after) old result new
 SuppliesMachine (Data dev number done) bytes old result new =
     IsOk result
-    × MatchOption (gathering_at old dev) (new ≡ old) (λ g. SuppliesData g dev number done bytes old new)
+    × MatchBool (nat_lt dev 16)
+    (MatchOption (gathering_at old dev) (new ≡ old) (λ g. SuppliesData g dev number done bytes old new)) (new ≡ old)
 
 -- whether bytes of it were asked for, and have not come
 abbrev pub is_wanted : MachineState → (dev number done : ℕ) → Bool

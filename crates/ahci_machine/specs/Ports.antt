@@ -55,13 +55,16 @@ PlugsMachine port old result new =
     (IsErrOf result NoPort × (new ≡ old))
 
 -- all that it had to do is gone
+pub record PullsPart (port : ℕ) (old : MachineState) (answer : Result (Unit {0}) NotThere) (new : MachineState) : Type 0 where
+  pub pulls : Pulls old.fan port answer new.fan
+  pub rest : MatchResult answer
+      (λ _. new ≡ record old { fan = new.fan; bays = slice_set old.bays port (begun (bay_at old port)) })
+      (λ _. new ≡ record old { fan = new.fan })
+
 pub record PullsOut (port : ℕ) (old : MachineState) (result : Result (Unit {0}) PortFault) (new : MachineState) : Type 0 where
   pub answer : Result (Unit {0}) NotThere
-  pub pulls : Pulls old.fan port answer new.fan
-  pub is : MatchResult answer
-      (λ _. IsOk result
-      × (new ≡ record old { fan = new.fan; bays = slice_set old.bays port (begun (bay_at old port)) }))
-      (λ _. IsErrOf result Absent × (new ≡ record old { fan = new.fan }))
+  pub pulls : PullsPart port old answer new
+  pub is : MatchResult answer (λ _. IsOk result) (λ _. IsErrOf result Absent)
 
 abbrev pub PullsMachine : (port : ℕ) → MachineState → Result (Unit {0}) PortFault → MachineState → Type 0
 PullsMachine port old result new =

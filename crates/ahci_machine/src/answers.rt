@@ -1,7 +1,7 @@
 //! What the caller answers.
 
 ghost use Rattle.std.specs.Prelude.{◌≡◌, ◌<◌, ◌||◌, IfSome, IsTrue, MatchOption, option_copied};
-ghost use Rattle.ahci_machine.specs.Answers.{AnswersMachine, Holds, MissesFor, MissesMachine, OffersFrame, SuppliesMachine, TakesFrame, disk_at, is_wanted as is_wanted_of, ranges_in, supply_message, IsToldBy};
+ghost use Rattle.ahci_machine.specs.Answers.{AnswersMachine, Holds, MissesFor, MissesMachine, OffersFrame, SuppliesData, SuppliesMachine, TakesFrame, disk_at, is_wanted as is_wanted_of, ranges_in, supply_message, IsToldBy};
 ghost use Rattle.ahci_machine.specs.States.{gathering_at};
 
 use crate::bay::Unit;
@@ -42,6 +42,17 @@ impl Machine {
         }
     }
 
+    // Bytes of the Data FIS of a device came.
+    fn supply_data(&mut self, dev: u8, number: u64, done: usize, bytes: &[u8])
+        requires { dev < 16 }
+        ensures { MatchOption (gathering_at self.old dev) (self.new ≡ self.old)
+            (λ g. SuppliesData g dev number done bytes.now self.old self.new) }
+    {
+        if let Some(gathering) = &mut self.gathering[usize::from(dev)] {
+            gathering.supply(number, done, bytes);
+        }
+    }
+
     /// The bytes that are wanted are these. What is wanted no more, or is not so many bytes, changes nothing. Where memory is
     /// refused, the same bytes are wanted again.
     pub fn supply(&mut self, alloc: Global, wanted: Wanted, bytes: &[u8]) -> Result<(), AllocError>
@@ -53,8 +64,8 @@ impl Machine {
                 self.supplied(supply)
             }
             Wanted::Data { dev, number, done } => {
-                if let Some(Some(gathering)) = self.gathering.get_mut(usize::from(dev)) {
-                    gathering.supply(number, done, bytes);
+                if dev < 16 {
+                    self.supply_data(dev, number, done, bytes);
                 }
                 Ok(())
             }

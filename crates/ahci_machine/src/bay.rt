@@ -52,7 +52,8 @@ impl Bay {
         ensures { IfOk result (λ bays. bays.items ≡ replicate count empty_bay) }
     {
         let mut bays = Vec::with_capacity(alloc, usize::from(count))?;
-        for _ in 0..count {
+        for made in 0..count {
+            let _ = made;
             bays.push(Bay::empty())?;
         }
         Ok(bays)
@@ -112,7 +113,12 @@ impl Bay {
     }
 
     /// The next FIS of a disk goes, where there is room.
-    pub(crate) fn speak(&mut self, alloc: Global, fan: &mut FanOut, port: u8) -> Result<Option<Act>, AllocError>
+    pub(crate) fn speak(
+        &mut self,
+        alloc: Global,
+        fan: &mut FanOut,
+        port: u8,
+    ) -> Result<Option<Act>, AllocError>
         ensures ok { IfOk result (λ act. BayMayDo port fan.old self.old act fan.new self.new) }
         ensures err { OnErr result ((self.new ≡ self.old) × (fan.new ≡ fan.old)) }
     {

@@ -260,7 +260,9 @@ impl Machine {
         if self.taken {
             return None;
         }
-        let frame = self.incoming.as_ref()?;
+        let Some(frame) = &self.incoming else {
+            return None;
+        };
         match self.controller.take(frame) {
             Ok(took) => {
                 self.message = self.message || took.message;

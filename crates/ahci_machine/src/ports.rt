@@ -1,11 +1,11 @@
 //! What is at the ports comes and goes.
 
-ghost use Rattle.std.specs.Prelude.{◌≡◌};
-ghost use Rattle.ahci_machine.specs.Ports.{PlugsMachine, PullsMachine, Puts, Removes};
+ghost use Rattle.std.specs.Prelude.{◌<◌, length};
+ghost use Rattle.ahci_machine.specs.Ports.{PlugsMachine, PullsMachine, PullsPart, Puts, Removes};
 
 use crate::bay::Unit;
 use crate::machine::Machine;
-use fan_out::PlugError;
+use fan_out::{NotThere, PlugError};
 use std::alloc::Global;
 use std::mem;
 use thiserror::Error;
@@ -67,18 +67,30 @@ impl Machine {
     }
 
     /// What is at a port is pulled: all that it had to do is gone, and the guest hears nothing more of it.
+    #[tactic(auto, using(crate::proofs::PortLemmas::pulled))]
     pub fn pull(&mut self, alloc: Global, port: u8) -> Result<(), PortFault>
         ensures { PullsMachine port self.old result self.new }
     {
         if usize::from(port) >= self.bays.len() {
             return Err(PortFault::NoPort);
         }
+        match self.pull_out(alloc, port) {
+            Ok(()) => Ok(()),
+            Err(_) => Err(PortFault::NotThere),
+        }
+    }
+
+    // It is pulled, if it is plugged in.
+    fn pull_out(&mut self, alloc: Global, port: u8) -> Result<(), NotThere>
+        requires { port < length self.old.bays }
+        ensures { PullsPart port self.old result self.new }
+    {
         match self.fan.pull(port) {
             Ok(()) => {
                 self.bays[usize::from(port)].drops_all(alloc);
                 Ok(())
             }
-            Err(_) => Err(PortFault::NotThere),
+            Err(error) => Err(error),
         }
     }
 

@@ -29,13 +29,14 @@ impl Machine {
     }
 
     // It is heard.
-    #[tactic(auto, using(crate::proofs::BayLemmas::served))]
+    #[tactic(auto, using(crate::proofs::BayLemmas::served_here))]
     fn hear_at(&mut self, alloc: Global, port: u8) -> Result<Option<Act>, AllocError>
         requires { port < length self.old.bays }
         ensures ok { IfOk result (λ act. MayDo self.old act self.new) }
         ensures err { OnErr result (self.new ≡ self.old) }
     {
-        self.bays[usize::from(port)].hear(alloc, port)
+        let act = self.bays[usize::from(port)].hear(alloc, port)?;
+        Ok(act)
     }
 
     // A disk answers.
@@ -49,17 +50,18 @@ impl Machine {
     }
 
     // A command of a disk starts.
-    #[tactic(auto, using(crate::proofs::BayLemmas::served))]
+    #[tactic(auto, using(crate::proofs::BayLemmas::served_here))]
     fn start_at(&mut self, port: u8) -> Result<Option<Act>, AllocError>
         requires { port < length self.old.bays }
         ensures ok { IfOk result (λ act. MayDo self.old act self.new) }
         ensures err { OnErr result (self.new ≡ self.old) }
     {
-        self.bays[usize::from(port)].start(port)
+        let act = self.bays[usize::from(port)].start(port)?;
+        Ok(act)
     }
 
     // A disk asks its medium.
-    #[tactic(auto, using(crate::proofs::BayLemmas::served))]
+    #[tactic(auto, using(crate::proofs::BayLemmas::served_here))]
     fn ask_at(&mut self, port: u8) -> Option<Act>
         requires { port < length self.old.bays }
         ensures { MayDo self.old result self.new }
@@ -97,7 +99,8 @@ impl Machine {
     {
         let ports = self.fan.ports();
         let mut port = self.turn;
-        for _ in 0..ports {
+        for count in 0..ports {
+            let _ = count;
             if port >= ports {
                 port = 0;
             }

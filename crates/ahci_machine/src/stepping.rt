@@ -59,6 +59,7 @@ impl Machine {
     }
 
     // What the ports do, or else what the controller has to do: they take turns.
+    #[tactic(auto, using(crate::proofs::MoveLemmas::turns_first, crate::proofs::MoveLemmas::rests_same))]
     fn turn_or_serve(&mut self, alloc: Global) -> Result<Act, AllocError>
         ensures ok { IfOk result (λ act. Steps self.old act self.new) }
         ensures err { OnErr result (self.new ≡ self.old) }

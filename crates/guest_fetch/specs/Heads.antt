@@ -1,6 +1,6 @@
 -- The FIS of a command, with its header: Serial ATA 3.x, section 10.5.5 (Register Host to Device FIS); AHCI 1.3.1, section
 -- 4.2.3.1 (CFIS).
-use Rattle.std.specs.Prelude.{ℕ, ◌==◌, ◌&&◌, Bool, true, false, not, nat_le, if◌then◌else◌, List, length, take}
+use Rattle.std.specs.Prelude.{ℕ, ◌*◌, ◌==◌, ◌&&◌, ◌||◌, Bool, true, false, not, nat_le, if◌then◌else◌, List, length, take}
 use Rattle.std.specs.Prelude.{slice_index, Option, Some, None, Result, Ok}
 use Rattle.fis_view.specs.Seen.{seen}
 use Rattle.fis_view.specs.Table.{H2d, PmPort, C, Command, Features, Lba, Device, Count, Icc, Control, field}
@@ -8,7 +8,10 @@ use Rattle.fis_view.specs.declared.build.H2dFields.{H2dFields}
 use Rattle.fis_view.specs.declared.view.Fis.{Fis}
 use Rattle.fis_view.specs.declared.view.Fis.TheVariants as view
 use Rattle.fis_view.specs.declared.view.FisFault.{FisFault}
-use Rattle.hba_commands.specs.Requests.{request_of, work_of}
+use Rattle.hba_commands.specs.Requests.{request_of, sectors, work_of}
+use Rattle.slots.specs.declared.work.Kind.{Kind}
+use Rattle.slots.specs.declared.work.Kind.TheVariants.{DmaOut, PioOut}
+use Rattle.slots.specs.declared.work.Work.{Work}
 use Rattle.guest_fetch.specs.declared.head.Head.{Head}
 use Rattle.guest_fetch.specs.declared.header.Header.{Header}
 use Rattle.guest_fetch.specs.declared.refusal.Refusal.{Refusal}
@@ -47,11 +50,25 @@ fis_refusal header raw =
     then Some (refusal.PmPort (fields_in (cfis_of raw)).pm_port header.pm_port)
     else None
 
+-- Commands that move data beside those that `hba_commands` names (ACS-3, 7.5, DATA SET MANAGEMENT, 06h, 7.64, WRITE DMA FUA EXT, 3Dh, WRITE
+-- LOG DMA EXT, 57h, and by PIO WRITE LOG EXT, 3Fh, and WRITE MULTIPLE FUA EXT, CEh): as many blocks of 512 bytes as their Count says.
+abbrev pub other_kind : (command : ℕ) → Option Kind
+other_kind command =
+    if command == 0x06 || command == 0x3D || command == 0x57 then Some DmaOut
+    else if command == 0x3F || command == 0xCE then Some PioOut else None
+
+abbrev pub work_by : Option Kind → H2dFields → Work
+work_by None f = work_of (request_of f)
+work_by (Some kind) f = record { kind = kind; len = 512 * sectors f.count }
+
+abbrev pub asked_work : H2dFields → Work
+asked_work f = work_by (if f.c then other_kind f.command else None) f
+
 -- header and FIS as they were supplied, and what they ask for
 abbrev pub head_of : Header → List ℕ → Head
 head_of header raw = record {
   header = header;
   cfis = cfis_of raw;
   fields = fields_in (cfis_of raw);
-  work = work_of (request_of (fields_in (cfis_of raw)));
+  work = asked_work (fields_in (cfis_of raw));
 }

@@ -3,15 +3,15 @@
 ghost use Rattle.std.specs.Prelude.{◌≡◌, ◌<◌, ◌≤◌, nat_le, length, IfSome, is_some, IfOk};
 ghost use Rattle.std.specs.Result.{result_err};
 ghost use Rattle.fis_view.specs.Seen.{seen};
-ghost use Rattle.hba_commands.specs.Requests.{request_of, work_of};
-ghost use Rattle.guest_fetch.specs.Heads.{cfis_of, fields_in, fis_refusal, head_of, is_command_view};
+ghost use Rattle.hba_commands.specs.Requests.{request_of, sectors, work_of};
+ghost use Rattle.guest_fetch.specs.Heads.{asked_work, cfis_of, fields_in, fis_refusal, head_of, is_command_view, other_kind as other_kind_of};
 ghost use Rattle.guest_fetch.specs.Spans.{most_bytes};
 
 use crate::header::Header;
 use crate::refusal::Refusal;
 use fis_view::{Fis, H2dFields, RegH2D};
 use hba_commands::asked_by;
-use slots::Work;
+use slots::{Kind, Work};
 
 /// Header and FIS of a command, as they were supplied.
 #[derive(Clone, Copy, Debug)]
@@ -54,12 +54,54 @@ fn fields(cfis: &[u8; 20]) -> Option<H2dFields>
     }
 }
 
-// What a FIS with these fields asks for. It moves at most 65,536 sectors.
-fn work(fields: H2dFields) -> Work
+// A command that moves data beside those that `hba_commands` names.
+fn other_kind(command: u8) -> Option<Kind>
+    ensures { result ≡ other_kind_of command }
+{
+    match command {
+        0x06 | 0x3D | 0x57 => Some(Kind::DmaOut),
+        0x3F | 0xCE => Some(Kind::PioOut),
+        _ => None,
+    }
+}
+
+// The blocks that a Count of sixteen bits names.
+fn blocks(count: u16) -> u32
+    ensures is { result ≡ sectors count }
+    ensures few { result ≤ 65536 }
+{
+    if count == 0 {
+        0x1_0000
+    } else {
+        u32::from(count)
+    }
+}
+
+// What it asks for, if it is one that `hba_commands` names.
+fn known_work(fields: H2dFields) -> Work
     ensures is { result ≡ work_of (request_of fields) }
     ensures few { result.len ≤ most_bytes }
 {
     asked_by(&fields)
+}
+
+// What a FIS with these fields asks for. It moves at most 65,536 sectors.
+fn work(fields: H2dFields) -> Work
+    ensures is { result ≡ asked_work fields }
+    ensures few { result.len ≤ most_bytes }
+{
+    let other = if fields.c {
+        other_kind(fields.command)
+    } else {
+        None
+    };
+    match other {
+        Some(kind) => Work {
+            kind,
+            len: 512 * blocks(fields.count),
+        },
+        None => known_work(fields),
+    }
 }
 
 // The first 20 of these bytes, where there are as many.

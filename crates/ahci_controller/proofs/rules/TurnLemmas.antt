@@ -74,12 +74,12 @@ next_carried c (Some w) is = by (run_of c w)
     by (Some m) = left_carried c w m is
 
 written_ruled : (c : ControllerState) → IsRuled c → IsRuled (written c)
-written_ruled c was = parts.payload_is c.core c.wants c.fetches c.commands c.writes.payload c.own.starts was (writes_next c).payload (next_carried c c.writes.payload c.own.starts was.carried)
+written_ruled c was = parts.payload_is c.core c.wants c.fetches c.commands c.writes.payload c.own.starts was (writes_next c).payload (next_carried c c.writes.payload was.carried)
 
--- nothing is left of it
 pub written_rules : (old new : ControllerState) → IsRuled old → new ≡ written old → IsRuled new
 written_rules old new was is = same_ruled (written old) new is (written_ruled old was)
 
+-- nothing is left of it
 written_empty : (c : ControllerState) (s : Option Step) → match_some s (rest c) (λ x. Some (next_step.Payload x.write)) ≡ None → (match_some s (after_rest c.writes) (λ x. record c.writes { payload = x.left })).payload ≡ None
 written_empty c None none = after_empty c.writes
 written_empty c (Some x) none = cc

@@ -5,8 +5,11 @@ use std::test::Fail;
 
 /// The command list, the received area, a table, and a buffer.
 const CLB: usize = 0x1000;
+
 const FB: u32 = 0x2000;
+
 const TABLE: usize = 0x3000;
+
 pub const BUFFER: usize = 0x1_0000;
 
 /// A Register FIS of the host: command, features, LBA 31:0, count.
@@ -25,7 +28,22 @@ pub fn command(rig: &mut Rig, slot: u8, port: u8, writes: bool, fis: &[u8; 20], 
     let flags = if writes { 0x45 } else { 0x05 };
     let at = (table as u32).to_le_bytes();
     let header = [
-        flags, (port << 4), if len == 0 { 0 } else { 1 }, 0, 0, 0, 0, 0, at[0], at[1], at[2], at[3], 0, 0, 0, 0,
+        flags,
+        (port << 4),
+        if len == 0 { 0 } else { 1 },
+        0,
+        0,
+        0,
+        0,
+        0,
+        at[0],
+        at[1],
+        at[2],
+        at[3],
+        0,
+        0,
+        0,
+        0,
     ];
     rig.fills(CLB + usize::from(slot) * 32, &header);
     rig.fills(table, fis);
@@ -33,8 +51,8 @@ pub fn command(rig: &mut Rig, slot: u8, port: u8, writes: bool, fis: &[u8; 20], 
     let buffer = (BUFFER as u32).to_le_bytes();
     let count = len.wrapping_sub(1).to_le_bytes();
     let entry = [
-        buffer[0], buffer[1], buffer[2], buffer[3], 0, 0, 0, 0, 0, 0, 0, 0, count[0], count[1], count[2],
-        count[3],
+        buffer[0], buffer[1], buffer[2], buffer[3], 0, 0, 0, 0, 0, 0, 0, 0, count[0], count[1],
+        count[2], count[3],
     ];
     rig.fills(table + 128, &entry);
 }

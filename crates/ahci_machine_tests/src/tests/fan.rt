@@ -5,7 +5,13 @@ use super::rig::Rig;
 use std::test::Fail;
 
 /// Writes a register of a port of the multiplier: a value of which one byte is not 0, the lowest or the highest.
-fn writes_register(rig: &mut Rig, port: u8, register: u8, lowest: u8, highest: u8) -> Result<bool, Fail> {
+fn writes_register(
+    rig: &mut Rig,
+    port: u8,
+    register: u8,
+    lowest: u8,
+    highest: u8,
+) -> Result<bool, Fail> {
     let mut fis = h2d(0xE8, register, 0, u16::from(lowest));
     fis[6] = highest;
     fis[7] = port;
@@ -45,9 +51,12 @@ fn each_port_is_served(rt: HostRuntime) -> Result<(), Fail> {
     rig.writes(0x118, 0x2_0018)?;
     rig.writes(0x118, 0x2_0011)?;
     for port in 0..3 {
-        assert!(rt; opens(&mut rig, port)?, "{port} {} {} {} {} {}", rig.reads(0x110), rig.reads(0x120), rig.reads(0x138), rig.reads(0x118), rig.reads(0x140));
+        assert!(rt; opens(&mut rig, port)?, "{port}");
     }
     assert!(rt; reads_all(&mut rig, 3)?);
-    assert_eq!(rt; rig.holds(BUFFER, 1).first().copied(), rig.stores(2, 5 * 512));
+    assert_eq!(rt;
+        rig.holds(BUFFER, 1).first().copied(),
+        rig.stores(2, 5 * 512)
+    );
     Ok(())
 }

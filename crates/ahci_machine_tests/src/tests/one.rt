@@ -28,8 +28,10 @@ fn reads_dma(rig: &mut Rig) -> Result<bool, Fail> {
     let ok = rig.reads(0x138) == 0;
     let first = rig.stores(0, 5 * 512);
     let last = rig.stores(0, 7 * 512 - 1);
-    Ok(ok && rig.holds(BUFFER, 1).first().copied() == first
-        && rig.holds(BUFFER + 1023, 1).first().copied() == last)
+    Ok(
+        ok && rig.holds(BUFFER, 1).first().copied() == first
+            && rig.holds(BUFFER + 1023, 1).first().copied() == last,
+    )
 }
 
 #[test]

@@ -3,9 +3,7 @@
 use ahci_controller::Width;
 use ahci_machine::{GuestRead, Machine, MediumId, Request, Unit};
 use block_engine::{Answer, ErrorKind, Failure, What};
-use disk_pages::{
-    Capacity, IdentityText, PhysicalSector, Profile, QueueDepth, Rotation,
-};
+use disk_pages::{Capacity, IdentityText, PhysicalSector, Profile, QueueDepth, Rotation};
 use sata_disk::SataDisk;
 use std::alloc::{AllocError, Global};
 use std::marker::Model;
@@ -116,7 +114,10 @@ impl Rig {
     /// Where sectors of a port's medium lie.
     fn span(port: u8, lba: u64, count: u32) -> (usize, usize) {
         let from = usize::from(port) * 32_768 + (lba as usize).wrapping_mul(512);
-        (from, from.saturating_add((count as usize).wrapping_mul(512)))
+        (
+            from,
+            from.saturating_add((count as usize).wrapping_mul(512)),
+        )
     }
 
     fn load(&mut self, id: MediumId, lba: u64, count: u32) -> Result<(), AllocError> {
@@ -192,7 +193,11 @@ impl Rig {
 
     /// Writes bytes to the guest's memory.
     pub fn fills(&mut self, at: usize, bytes: &[u8]) {
-        if let Some(place) = self.memory.as_mut_slice().get_mut(at..at.saturating_add(bytes.len())) {
+        if let Some(place) = self
+            .memory
+            .as_mut_slice()
+            .get_mut(at..at.saturating_add(bytes.len()))
+        {
             if place.len() == bytes.len() {
                 place.copy_from_slice(bytes);
             }
@@ -206,6 +211,8 @@ impl Rig {
 
     /// A byte of a medium.
     pub fn stores(&self, port: u8, at: usize) -> Option<u8> {
-        self.media.get((usize::from(port) * 32_768).saturating_add(at)).copied()
+        self.media
+            .get((usize::from(port) * 32_768).saturating_add(at))
+            .copied()
     }
 }

@@ -1,7 +1,7 @@
 use Rattle.std.proofs.Common.{rules, ap, arith}
 use Rattle.slots.specs.declared.work.Work.{Work}
 use Rattle.guest_fetch.proofs.WorkLemmas.{work_few}
-use Rattle.guest_fetch.proofs.head.work.Goals as goal
+use Rattle.guest_fetch.proofs.head.known_work.Goals as goal
 
 pub returns-clause-few : goal.returns-clause-few
 returns-clause-few c =

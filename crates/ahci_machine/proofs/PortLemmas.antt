@@ -1,0 +1,17 @@
+-- What is at a port that is there is pulled.
+use Rattle.std.proofs.Common.{◌≡◌, ℕ, ◌<◌, length, Bool, true, Result, sym, subst}
+use Rattle.std.specs.Prelude.{MatchResult, IsOk, nat_lt}
+use Rattle.std.specs.Bool.{MatchBool}
+use Rattle.std.specs.Result.{IsErrOf}
+use Rattle.std.proofs.lemmas.Bool.{lt-ltb}
+use Rattle.fan_out.specs.declared.seat.NotThere.{NotThere}
+use Rattle.ahci_machine.specs.Ports.{PullsMachine, PullsOut, PullsPart, has_bay}
+use Rattle.ahci_machine.specs.States.{MachineState}
+use Rattle.ahci_machine.specs.declared.ports.PortFault.{PortFault}
+use Rattle.ahci_machine.specs.declared.ports.PortFault.TheVariants.{NoPort, NotThere as Absent}
+
+pub pulled : (old new : MachineState) (port : ℕ) (answer : Result (Unit {0}) NotThere) (result : Result (Unit {0}) PortFault) → port < length old.bays → PullsPart port old answer new → MatchResult answer (λ _. IsOk result) (λ _. IsErrOf result Absent) → PullsMachine port old result new
+pulled old new port answer result inside pulls is =
+    subst (λ (b : Bool). MatchBool b (PullsOut port old result new) (IsErrOf result NoPort × (new ≡ old)))
+    (sym (lt-ltb port (length old.bays) inside))
+    (record { answer = answer; pulls = pulls; is = is })
