@@ -1,5 +1,5 @@
 /*
- * gefsunk.h - an AHCI controller, a Serial ATA port multiplier, disks and a decoder of FISes, for C.
+ * gefsunk.h - an AHCI controller with disks, a Serial ATA port multiplier and a decoder of FISes, for C.
  *
  * Serial ATA devices and hosts send each other FISes (frame information structures): 4 to 8,196 bytes, a multiple of 4.
  * A port multiplier lets one host port serve up to fifteen devices. This library is its firmware at the level of the
@@ -683,6 +683,8 @@ gef_status gef_machine_offer(gef_machine *machine, uint8_t port, const uint8_t *
  *     write that ends is on the medium. After gef_disk_fail it sends what the comment of that call says, to the byte
  *     (`failing_disk`), and then goes on as a disk that was plugged in.
  *
+ * Not proved yet, though their contracts are written: gef_machine_*. What is said above of each call does not hold of them.
+ *
  * Not proved but tested: the words of gef_fis_text; that GEF_PLACES_ROOM is always room enough; that drivers of operating
  * systems work with the controller (guests/RESULTS.md says which did). Not claimed: that anything happens in the end, or
  * how fast.
@@ -695,6 +697,8 @@ gef_status gef_machine_offer(gef_machine *machine, uint8_t port, const uint8_t *
  *   - A FIS for gef_pm_from_device was sent by the device that is at the port, and by none before it.
  *   - The bytes of a gef_memory stay as they are during the call, and what the controller asks for is written before the
  *     guest goes on.
+ *   - The bytes for gef_machine_supply were read from the guest's memory at the place and in the number that the event has, those for
+ *     gef_machine_answer_loaded are the sectors that it has, and a request is answered once it was done, or could not be.
  *
  * What is trusted: the prover; the two compilers (the library's and yours); malloc and free; memcpy and the like; and
  * the file c/gefsunk.c, which tests pointers for null and passes each call on.

@@ -90,6 +90,7 @@ fn depth(commands: u32) -> Result<QueueDepth, Status>
 }
 
 /// What C says of a disk in words.
+#[derive(Drop)]
 pub struct DiskTexts<'a> {
     /// The model number.
     pub model: &'a [u8],
