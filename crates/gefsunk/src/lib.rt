@@ -514,7 +514,7 @@ pub extern "C" fn gefsunk_hba_read(
     };
     let status = match &*kept {
         Kept::Hba(port) => hba::read(port, offset, count, value),
-        Kept::Pm(_) | Kept::Disk(_) => Status::Closed,
+        Kept::Pm(_) | Kept::Disk(_) | Kept::Machine(_) => Status::Closed,
     };
     *handle = Handle::open(kept);
     status.code()
@@ -589,7 +589,7 @@ pub extern "C" fn gefsunk_hba_write(
     let guest = GuestBlock::new(base, memory);
     let status = match &mut *kept {
         Kept::Hba(port) => { hba::write(port, alloc, &guest, offset, count, value, link, message) }
-        Kept::Pm(_) | Kept::Disk(_) => Status::Closed,
+        Kept::Pm(_) | Kept::Disk(_) | Kept::Machine(_) => Status::Closed,
     };
     *handle = Handle::open(kept);
     status.code()
