@@ -581,9 +581,7 @@ pub extern "C" fn gefsunk_hba_write(
     };
     let guest = GuestBlock::new(base, memory);
     let status = match &mut *kept {
-        Kept::Hba(port) => {
-            hba::write(port, alloc, &guest, offset, count, value, link, message)
-        }
+        Kept::Hba(port) => { hba::write(port, alloc, &guest, offset, count, value, link, message) }
         Kept::Pm(_) | Kept::Disk(_) => Status::Closed,
     };
     *handle = Handle::open(kept);

@@ -23,15 +23,9 @@ fn holds(guest: &FlatGuest, at: usize, wanted: &[u8]) -> bool {
 /// Of two bytes for one place the later one stands.
 fn carries_out(guest: &mut FlatGuest) -> bool {
     let payload = [1, 2, 3, 4, 5, 6, 7, 8, 9];
-    guest
-        .carry_out(to(0x1_0000_0003, 0, 5), &payload)
-        .is_ok()
-        && guest
-            .carry_out(to(0x1_0000_0101, 5, 3), &payload)
-            .is_ok()
-        && guest
-            .carry_out(to(0x1_0000_0003, 8, 1), &payload)
-            .is_ok()
+    guest.carry_out(to(0x1_0000_0003, 0, 5), &payload).is_ok()
+        && guest.carry_out(to(0x1_0000_0101, 5, 3), &payload).is_ok()
+        && guest.carry_out(to(0x1_0000_0003, 8, 1), &payload).is_ok()
 }
 
 #[test]
