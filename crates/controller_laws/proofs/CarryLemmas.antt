@@ -22,7 +22,7 @@ use Rattle.ahci_controller.specs.Feeding.{GathersIf, Loses, LosesIf, MissesIf as
 use Rattle.ahci_controller.specs.Fetching.{GoesOn, MissesIf, SuppliesIf, answered, fits, is_asked, want_at, without_fetch}
 use Rattle.ahci_controller.specs.Issuing.{PlacesSlot, RefusesSlot, not_issued}
 use Rattle.ahci_controller.specs.Moving.{commands_after, moved_on}
-use Rattle.ahci_controller.specs.Next.{Turns, TurnsIf, after_count, after_rest, counted_slot, first_run, is_fed, is_halted, left, next_write, payload_step, rest, run_of, step_of, step_with, turn_to, writes_next, written}
+use Rattle.ahci_controller.specs.Next.{Turns, TurnsIf, after_count, after_rest, counted_slot, first_run, is_fed, is_halted, left, next_write, rest, run_of, step_of, step_with, turn_to, writes_next, written}
 use Rattle.ahci_controller.specs.Outbox.{no_writes}
 use Rattle.ahci_controller.specs.Own.{is_failed}
 use Rattle.ahci_controller.specs.Rules.{IsCarried}
@@ -35,7 +35,6 @@ use Rattle.ahci_controller.specs.declared.issuing.NotTaken.{NotTaken}
 use Rattle.ahci_controller.specs.declared.issuing.Supply.{Supply}
 use Rattle.ahci_controller.specs.declared.next.Next.{Next}
 use Rattle.ahci_controller.specs.declared.next.Next.TheVariants as next_step
-use Rattle.ahci_controller.specs.declared.next.Step.{Step}
 use Rattle.ahci_controller.specs.declared.taking.Hindrance.TheVariants as why
 use Rattle.ahci_controller.specs.declared.taking.Took.{Took}
 use Rattle.ahci_controller.specs.declared.wants.Carried.{Carried}
@@ -136,8 +135,18 @@ after_empty w = by w.posted (counted_slot w)
     by None (Some slot) = refl
     by (Some m) slot = refl
 
-abbrev payload_after : ControllerState → Option Step → Option Carried
-payload_after c o = (match_some o (after_rest c.writes) (λ s. record c.writes { payload = s.left })).payload
+-- by what was to be written, and by its first run
+abbrev after_payload : ControllerState → Option Carried → Option Carried
+after_payload c p = (match_some (match_some p None (step_of c)) (after_rest c.writes) (λ s. record c.writes { payload = s.left })).payload
+
+abbrev after_run : ControllerState → Carried → Option Move → Option Carried
+after_run c w run = (match_some (option_map (step_with w) run) (after_rest c.writes) (λ s. record c.writes { payload = s.left })).payload
+
+abbrev write_of : ControllerState → Option Carried → Option Next
+write_of c p = match_some (match_some p None (step_of c)) (rest c) (λ s. Some (next_step.Payload s.write))
+
+abbrev write_by : ControllerState → Carried → Option Move → Option Next
+write_by c w run = match_some (option_map (step_with w) run) (rest c) (λ s. Some (next_step.Payload s.write))
 
 no_moves : (c : ControllerState) (next : Next) → IsWritten c next → ((m : Move) → IsPlaced c m → ⊥) → moves_in next ≡ []
 no_moves c (next_step.Payload m) is none = absurd (none m is)
@@ -224,14 +233,12 @@ module _ (old new : ControllerState) (d : Carrying) (w : Carried) (k : IsControl
   -- by whether there is a run
   goes : (next : Next) → IsWritten old next → Turns old next new → (o : Option Move) → run_of old w ≡ o → IsSaid new (more d (moves_in next))
   goes next is h (Some m) run =
-      let step : payload_step old ≡ Some (step_with w m) = ap (λ (p : Option Carried). match_some p None (step_of old)) now ∙ ap (option_map (step_with w)) run in
-      let write : next_write old ≡ Some (next_step.Payload (record m { from = w.from })) = ap (λ (o : Option Step). match_some o (rest old) (λ s. Some (next_step.Payload s.write))) step in
+      let write : next_write old ≡ Some (next_step.Payload (record m { from = w.from })) = ap (write_of old) now ∙ ap (write_by old w) run in
       let told : next ≡ next_step.Payload (record m { from = w.from }) = (subst (λ (o : Option Next). MatchOption o (TurnsIf (is_halted (written old)) (written old) next new) (λ x. (next ≡ x) × (new ≡ written old))) write h).0 in
-      let payload : new.writes.payload ≡ left w m = ap (λ (x : Writes). x.payload) calm.writes ∙ ap (payload_after old) step in
+      let payload : new.writes.payload ≡ left w m = ap (λ (x : Writes). x.payload) calm.writes ∙ ap (after_payload old) now ∙ ap (after_run old w) run in
       subst (λ (n : Next). IsSaid new (more d (moves_in n))) (sym told) (run_on m (subst (IsWritten old) told is) payload)
   goes next is h None run =
-      let step : payload_step old ≡ None = ap (λ (p : Option Carried). match_some p None (step_of old)) now ∙ ap (option_map (step_with w)) run in
-      let payload : new.writes.payload ≡ None = ap (λ (x : Writes). x.payload) calm.writes ∙ ap (payload_after old) step ∙ after_empty old.writes in
+      let payload : new.writes.payload ≡ None = ap (λ (x : Writes). x.payload) calm.writes ∙ ap (after_payload old) now ∙ ap (after_run old w) run ∙ after_empty old.writes in
       let carried : IsCarried old.wants old.commands w = subst (λ (o : Option Carried). IfSome o (IsCarried old.wants old.commands)) now k.rules.carried in
       by_command (kept old w.slot) refl carried.kept (sym (ap (λ (b : Bool). if b then match_some (kept old w.slot) None (first_run w) else None) (lt-ltb w.slot 32 carried.slot)) ∙ run) payload
     where
@@ -257,9 +264,8 @@ module _ (old new : ControllerState) (d : Carrying) (w : Carried) (k : IsControl
 turned : (old new : ControllerState) (next : Next) (d : Carrying) (p : Option Carried) → old.writes.payload ≡ p → AreNumbered d → IsController old → Turns old next new → IsSaid old d → IsSaid new (more d (moves_in next))
 turned old new next d (Some w) now numbered k h was = goes old new d w k numbered was now (turn_calm old new next h) next (writes_are_placed old new next h) h (run_of old w) refl
 turned old new next d None now numbered k h was =
-    let step : payload_step old ≡ None = ap (λ (p : Option Carried). match_some p None (step_of old)) now in
     let calm : IsCalm old new = turn_calm old new next h in
-    none_more new next d was.count (no_moves old next (writes_are_placed old new next h) (λ m p. not_there p.carried (sym now ∙ p.is))) (ap (λ (x : Writes). x.payload) calm.writes ∙ ap (payload_after old) step ∙ after_empty old.writes)
+    none_more new next d was.count (no_moves old next (writes_are_placed old new next h) (λ m p. not_there p.carried (sym now ∙ p.is))) (ap (λ (x : Writes). x.payload) calm.writes ∙ ap (after_payload old) now ∙ after_empty old.writes)
     (subst (λ (o : Option Carried). AreLeft o old d was.count) now was.left) was.few was.said was.whole was.short
   where
     not_there : (w : Carried) → None ≡ Some w → ⊥
@@ -267,9 +273,7 @@ turned old new next d None now numbered k h was =
 
 turned_any : (old new : ControllerState) (next : Next) (was : Option Carrying) → IsController old → Turns old next new → AreSaid old was → AreSaid new (said_more (moves_in next) was)
 turned_any old new next (Some d) k h was = λ numbered. turned old new next d old.writes.payload refl numbered k h (was numbered)
-turned_any old new next None k h was =
-    let step : payload_step old ≡ None = ap (λ (p : Option Carried). match_some p None (step_of old)) was in
-    ap (λ (x : Writes). x.payload) (turn_calm old new next h).writes ∙ ap (payload_after old) step ∙ after_empty old.writes
+turned_any old new next None k h was = ap (λ (x : Writes). x.payload) (turn_calm old new next h).writes ∙ ap (after_payload old) was ∙ after_empty old.writes
 
 -- ---- other calls
 
