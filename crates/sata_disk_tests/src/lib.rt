@@ -1,0 +1,9 @@
+//! The tests of `sata_disk`. They have a crate of their own, because a crate with tests is proved twice.
+#![tactic(auto)]
+
+#[cfg(test)]
+mod host;
+#[cfg(test)]
+mod rounds;
+#[cfg(test)]
+mod rows;
