@@ -8,20 +8,32 @@ use block_engine::What;
 
 /// The kinds of events.
 const NOTHING: u32 = 0;
+
 const AGAIN: u32 = 1;
+
 const READ_GUEST: u32 = 2;
+
 const WRITE_GUEST: u32 = 3;
+
 const LOAD: u32 = 4;
+
 const STORE: u32 = 5;
+
 const FLUSH: u32 = 6;
+
 const DISCARD: u32 = 7;
+
 const LINE: u32 = 8;
+
 const MESSAGE: u32 = 9;
+
 const TO_DEVICE: u32 = 10;
+
 const BEGINS: u32 = 11;
 
 /// The kinds of bytes that are wanted of the guest.
 const OF_COMMAND: u32 = 1;
+
 const OF_DATA: u32 = 2;
 
 /// In place of a command's place: the request is of none.

@@ -25,8 +25,8 @@ mod status;
 mod text;
 
 use crate::guest::GuestBlock;
-use guest_port::GuestPort;
 pub use event::{Event, MediumRequest, WantedBytes};
+use guest_port::GuestPort;
 pub use handle::{Handle, Held};
 pub use hba::{DataPlace, FisSent, FisTaken};
 pub use kept::Kept;

@@ -208,7 +208,12 @@ fn no_memory(machine: &mut Machine, wanted: &WantedBytes) -> Status
 
 /// Makes a machine, and opens the handle.
 #[unsafe(no_mangle)]
-pub extern "C" fn gefsunk_machine_new(handle: &mut Handle, alloc: Global, ports: u8, port_0_open: u32) -> u32
+pub extern "C" fn gefsunk_machine_new(
+    handle: &mut Handle,
+    alloc: Global,
+    ports: u8,
+    port_0_open: u32,
+) -> u32
     ensures made { MadeMachine handle.old.held.value ports port_0_open (status_of result) handle.new.held.value }
     ensures known { is_code result ≡ true }
 {
@@ -331,11 +336,7 @@ pub extern "C" fn gefsunk_machine_put_disk(
 
 /// A device of the caller's own is put at a port.
 #[unsafe(no_mangle)]
-pub extern "C" fn gefsunk_machine_put_device(
-    handle: &mut Handle,
-    alloc: Global,
-    port: u8,
-) -> u32
+pub extern "C" fn gefsunk_machine_put_device(handle: &mut Handle, alloc: Global, port: u8) -> u32
     ensures rule { AtMachine handle.old.held.value (status_of result) handle.new.held.value
         (λ old new. PutRule old port Own (status_of result) new) }
     ensures known { is_code result ≡ true }
@@ -353,11 +354,7 @@ pub extern "C" fn gefsunk_machine_put_device(
 
 /// What is at a port is plugged in.
 #[unsafe(no_mangle)]
-pub extern "C" fn gefsunk_machine_plug(
-    handle: &mut Handle,
-    alloc: Global,
-    port: u8,
-) -> u32
+pub extern "C" fn gefsunk_machine_plug(handle: &mut Handle, alloc: Global, port: u8) -> u32
     ensures rule { AtMachine handle.old.held.value (status_of result) handle.new.held.value
         (λ old new. PlugRule old port (status_of result) new) }
     ensures known { is_code result ≡ true }
@@ -375,11 +372,7 @@ pub extern "C" fn gefsunk_machine_plug(
 
 /// What is at a port is pulled.
 #[unsafe(no_mangle)]
-pub extern "C" fn gefsunk_machine_pull(
-    handle: &mut Handle,
-    alloc: Global,
-    port: u8,
-) -> u32
+pub extern "C" fn gefsunk_machine_pull(handle: &mut Handle, alloc: Global, port: u8) -> u32
     ensures rule { AtMachine handle.old.held.value (status_of result) handle.new.held.value
         (λ old new. PullRule old port (status_of result) new) }
     ensures known { is_code result ≡ true }
@@ -397,11 +390,7 @@ pub extern "C" fn gefsunk_machine_pull(
 
 /// What is at a port is taken away.
 #[unsafe(no_mangle)]
-pub extern "C" fn gefsunk_machine_remove(
-    handle: &mut Handle,
-    alloc: Global,
-    port: u8,
-) -> u32
+pub extern "C" fn gefsunk_machine_remove(handle: &mut Handle, alloc: Global, port: u8) -> u32
     ensures rule { AtMachine handle.old.held.value (status_of result) handle.new.held.value
         (λ old new. RemoveRule old port (status_of result) new) }
     ensures known { is_code result ≡ true }
@@ -437,11 +426,7 @@ pub extern "C" fn gefsunk_machine_power_on(handle: &mut Handle, alloc: Global) -
 
 /// Says what is to be done next.
 #[unsafe(no_mangle)]
-pub extern "C" fn gefsunk_machine_next(
-    handle: &mut Handle,
-    alloc: Global,
-    event: &mut Event,
-) -> u32
+pub extern "C" fn gefsunk_machine_next(handle: &mut Handle, alloc: Global, event: &mut Event) -> u32
     ensures rule { AtMachine handle.old.held.value (status_of result) handle.new.held.value
         (λ old new. NextRule old (status_of result) event.new new) }
     ensures known { is_code result ≡ true }

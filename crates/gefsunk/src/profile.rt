@@ -122,7 +122,11 @@ fn profile(numbers: &DiskNumbers, texts: &DiskTexts<'_>) -> Result<Profile, Stat
 }
 
 /// A disk, if there can be one like this.
-pub fn new_disk(alloc: Global, numbers: &DiskNumbers, texts: &DiskTexts<'_>) -> Result<SataDisk, Status>
+pub fn new_disk(
+    alloc: Global,
+    numbers: &DiskNumbers,
+    texts: &DiskTexts<'_>,
+) -> Result<SataDisk, Status>
     ensures makes { IfOk result (λ d. MakesDisk numbers.now texts.now.model.now texts.now.serial.now texts.now.firmware.now d) }
     ensures refused { IfErr result (λ e. ProfileRefused numbers.now texts.now.model.now texts.now.serial.now
         texts.now.firmware.now e) }
