@@ -113,7 +113,7 @@ impl Rig {
 
     /// Where sectors of a port's medium lie.
     fn span(port: u8, lba: u64, count: u32) -> (usize, usize) {
-        let from = usize::from(port) * 32_768 + (lba as usize).wrapping_mul(512);
+        let from = (usize::from(port) * 32_768).wrapping_add((lba as usize).wrapping_mul(512));
         (
             from,
             from.saturating_add((count as usize).wrapping_mul(512)),
