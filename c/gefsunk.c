@@ -3,6 +3,13 @@
  * (crates/gefsunk). Nothing else is done here. The texts of the answers stand here, since no export can return a pointer.
  */
 #include "gefsunk.h"
+#include <string.h>
+
+/* A gef_disk_profile without its texts. */
+struct disk_numbers {
+    uint64_t sectors, wwn;
+    uint32_t physical, rotation, depth, trim, limit;
+};
 
 /* A slice is a pointer and a length. */
 uint32_t gefsunk_fis_text(const uint8_t *fis, size_t len, uint8_t *room, size_t room_len, size_t *text_len);
@@ -28,13 +35,40 @@ uint32_t gefsunk_disk_sector(gef_disk *disk, uint32_t lba, uint8_t *bytes, size_
 uint32_t gefsunk_hba_new(gef_hba *hba);
 uint32_t gefsunk_hba_free(gef_hba *hba);
 uint32_t gefsunk_hba_read32(gef_hba *hba, uint32_t offset, uint32_t *value);
+uint32_t gefsunk_hba_read(gef_hba *hba, uint32_t offset, uint32_t width, uint64_t *value);
 uint32_t gefsunk_hba_line(gef_hba *hba, uint32_t *raised);
 uint32_t gefsunk_hba_write32(gef_hba *hba, const uint8_t *memory, size_t len, uint64_t base, uint32_t offset,
                              uint32_t value, uint32_t *link, uint32_t *message);
+uint32_t gefsunk_hba_write(gef_hba *hba, const uint8_t *memory, size_t len, uint64_t base, uint32_t offset, uint32_t width,
+                           uint64_t value, uint32_t *link, uint32_t *message);
 uint32_t gefsunk_hba_take(gef_hba *hba, const uint8_t *fis, size_t len, gef_taken *taken);
 uint32_t gefsunk_hba_data(gef_hba *hba, gef_place *places, size_t room, size_t *count);
 uint32_t gefsunk_hba_next_out(gef_hba *hba, const uint8_t *memory, size_t memory_len, uint64_t base, uint8_t *fis,
                               size_t room, size_t *len, gef_sent *sent);
+uint32_t gefsunk_machine_new(gef_machine *machine, uint8_t ports, uint32_t port_0_open);
+uint32_t gefsunk_machine_free(gef_machine *machine);
+uint32_t gefsunk_machine_read(gef_machine *machine, uint32_t offset, uint32_t width, uint64_t *value);
+uint32_t gefsunk_machine_write(gef_machine *machine, uint32_t offset, uint32_t width, uint64_t value);
+uint32_t gefsunk_machine_put_disk(gef_machine *machine, uint8_t port, const struct disk_numbers *numbers, const uint8_t *model,
+                                  size_t model_len, const uint8_t *serial, size_t serial_len, const uint8_t *firmware,
+                                  size_t firmware_len);
+uint32_t gefsunk_machine_put_device(gef_machine *machine, uint8_t port);
+uint32_t gefsunk_machine_plug(gef_machine *machine, uint8_t port);
+uint32_t gefsunk_machine_power_on(gef_machine *machine);
+uint32_t gefsunk_machine_pull(gef_machine *machine, uint8_t port);
+uint32_t gefsunk_machine_remove(gef_machine *machine, uint8_t port);
+uint32_t gefsunk_machine_next(gef_machine *machine, gef_event *event);
+uint32_t gefsunk_machine_lent(gef_machine *machine, uint8_t *bytes, size_t room, size_t *len);
+uint32_t gefsunk_machine_supply(gef_machine *machine, const gef_wanted *wanted, const uint8_t *bytes, size_t len);
+uint32_t gefsunk_machine_no_memory(gef_machine *machine, const gef_wanted *wanted);
+uint32_t gefsunk_machine_answer_loaded(gef_machine *machine, const gef_request *request, const uint8_t *bytes, size_t len);
+uint32_t gefsunk_machine_answer_done(gef_machine *machine, const gef_request *request);
+uint32_t gefsunk_machine_answer_failed(gef_machine *machine, const gef_request *request, uint32_t error, uint64_t lba);
+uint32_t gefsunk_machine_stored(gef_machine *machine, const gef_request *request, size_t from, uint8_t *bytes, size_t room,
+                                size_t *len);
+uint32_t gefsunk_machine_discarded(gef_machine *machine, const gef_request *request, size_t number, gef_range *range);
+uint32_t gefsunk_machine_take_frame(gef_machine *machine, uint8_t port, uint8_t *fis, size_t room, size_t *len);
+uint32_t gefsunk_machine_offer(gef_machine *machine, uint8_t port, const uint8_t *fis, size_t len);
 
 const char *gef_version(void) {
     return GEF_VERSION;
@@ -62,6 +96,21 @@ const char *gef_status_text(gef_status status) {
     case GEF_BAD_DISK: return "no disk can be like this";
     case GEF_NO_SECTOR: return "no such sector";
     case GEF_NO_TAG: return "no such tag";
+    case GEF_BAD_WIDTH: return "an access has 1, 2, 4 or 8 bytes";
+    case GEF_BAD_SECTORS: return "no disk has so many sectors";
+    case GEF_BAD_TEXT: return "a text of the disk is too long or not printable";
+    case GEF_BAD_DEPTH: return "no queue has so many commands";
+    case GEF_BAD_ROTATION: return "no medium turns so fast";
+    case GEF_BAD_PHYSICAL: return "no physical sector has so many bytes";
+    case GEF_BAD_LIMIT: return "the bound in bytes is too low";
+    case GEF_PLUGGED_IN: return "it is plugged in already";
+    case GEF_NOT_WANTED: return "no event asks for such bytes";
+    case GEF_OTHER_DISK: return "the disk that asked is gone";
+    case GEF_NOT_OUT: return "no such request is out";
+    case GEF_OTHER_KIND: return "the request asked for something else";
+    case GEF_OTHER_LENGTH: return "the load asked for another length";
+    case GEF_OTHER_SECTOR: return "the request does not have this sector";
+    case GEF_BAD_ERROR: return "no request fails like this";
     case GEF_IMAGE: return "the image failed";
     }
     return "no such answer";
@@ -164,6 +213,10 @@ gef_status gef_hba_read32(gef_hba *hba, uint32_t offset, uint32_t *value) {
     return hba && value ? (gef_status)gefsunk_hba_read32(hba, offset, value) : GEF_NULL;
 }
 
+gef_status gef_hba_read(gef_hba *hba, uint32_t offset, uint32_t width, uint64_t *value) {
+    return hba && value ? (gef_status)gefsunk_hba_read(hba, offset, width, value) : GEF_NULL;
+}
+
 gef_status gef_hba_line(gef_hba *hba, uint32_t *raised) {
     return hba && raised ? (gef_status)gefsunk_hba_line(hba, raised) : GEF_NULL;
 }
@@ -173,6 +226,13 @@ gef_status gef_hba_write32(gef_hba *hba, const gef_memory *memory, uint32_t offs
     if (!hba || !memory || !memory->bytes || !link || !message) return GEF_NULL;
     return (gef_status)gefsunk_hba_write32(hba, memory->bytes, memory->len, memory->address, offset, value, link,
                                            message);
+}
+
+gef_status gef_hba_write(gef_hba *hba, const gef_memory *memory, uint32_t offset, uint32_t width, uint64_t value,
+                         uint32_t *link, uint32_t *message) {
+    if (!hba || !memory || !memory->bytes || !link || !message) return GEF_NULL;
+    return (gef_status)gefsunk_hba_write(hba, memory->bytes, memory->len, memory->address, offset, width, value, link,
+                                         message);
 }
 
 gef_status gef_hba_take(gef_hba *hba, const uint8_t *fis, size_t len, gef_taken *taken) {
@@ -187,4 +247,101 @@ gef_status gef_hba_next_out(gef_hba *hba, const gef_memory *memory, uint8_t *fis
                             gef_sent *sent) {
     if (!hba || !memory || !memory->bytes || !fis || !len || !sent) return GEF_NULL;
     return (gef_status)gefsunk_hba_next_out(hba, memory->bytes, memory->len, memory->address, fis, room, len, sent);
+}
+
+gef_status gef_machine_new(gef_machine *machine, uint8_t ports, uint32_t port_0_open) {
+    return machine ? (gef_status)gefsunk_machine_new(machine, ports, port_0_open) : GEF_NULL;
+}
+
+gef_status gef_machine_free(gef_machine *machine) {
+    return machine ? (gef_status)gefsunk_machine_free(machine) : GEF_NULL;
+}
+
+gef_status gef_machine_read(gef_machine *machine, uint32_t offset, uint32_t width, uint64_t *value) {
+    return machine && value ? (gef_status)gefsunk_machine_read(machine, offset, width, value) : GEF_NULL;
+}
+
+gef_status gef_machine_write(gef_machine *machine, uint32_t offset, uint32_t width, uint64_t value) {
+    return machine ? (gef_status)gefsunk_machine_write(machine, offset, width, value) : GEF_NULL;
+}
+
+gef_status gef_machine_put_disk(gef_machine *machine, uint8_t port, const gef_disk_profile *p) {
+    struct disk_numbers numbers;
+    if (!machine || !p || !p->model || !p->serial || !p->firmware) return GEF_NULL;
+    numbers.sectors = p->sectors;
+    numbers.wwn = p->wwn;
+    numbers.physical = p->physical;
+    numbers.rotation = p->rotation;
+    numbers.depth = p->depth;
+    numbers.trim = p->trim;
+    numbers.limit = p->limit;
+    return (gef_status)gefsunk_machine_put_disk(machine, port, &numbers, (const uint8_t *)p->model, strlen(p->model),
+                                                (const uint8_t *)p->serial, strlen(p->serial), (const uint8_t *)p->firmware,
+                                                strlen(p->firmware));
+}
+
+gef_status gef_machine_put_device(gef_machine *machine, uint8_t port) {
+    return machine ? (gef_status)gefsunk_machine_put_device(machine, port) : GEF_NULL;
+}
+
+gef_status gef_machine_plug(gef_machine *machine, uint8_t port) {
+    return machine ? (gef_status)gefsunk_machine_plug(machine, port) : GEF_NULL;
+}
+
+gef_status gef_machine_power_on(gef_machine *machine) {
+    return machine ? (gef_status)gefsunk_machine_power_on(machine) : GEF_NULL;
+}
+
+gef_status gef_machine_pull(gef_machine *machine, uint8_t port) {
+    return machine ? (gef_status)gefsunk_machine_pull(machine, port) : GEF_NULL;
+}
+
+gef_status gef_machine_remove(gef_machine *machine, uint8_t port) {
+    return machine ? (gef_status)gefsunk_machine_remove(machine, port) : GEF_NULL;
+}
+
+gef_status gef_machine_next(gef_machine *machine, gef_event *event) {
+    return machine && event ? (gef_status)gefsunk_machine_next(machine, event) : GEF_NULL;
+}
+
+gef_status gef_machine_lent(gef_machine *machine, uint8_t *bytes, size_t room, size_t *len) {
+    return machine && bytes && len ? (gef_status)gefsunk_machine_lent(machine, bytes, room, len) : GEF_NULL;
+}
+
+gef_status gef_machine_supply(gef_machine *machine, const gef_wanted *wanted, const uint8_t *bytes, size_t len) {
+    return machine && wanted && bytes ? (gef_status)gefsunk_machine_supply(machine, wanted, bytes, len) : GEF_NULL;
+}
+
+gef_status gef_machine_no_memory(gef_machine *machine, const gef_wanted *wanted) {
+    return machine && wanted ? (gef_status)gefsunk_machine_no_memory(machine, wanted) : GEF_NULL;
+}
+
+gef_status gef_machine_answer_loaded(gef_machine *machine, const gef_request *request, const uint8_t *bytes, size_t len) {
+    return machine && request && bytes ? (gef_status)gefsunk_machine_answer_loaded(machine, request, bytes, len) : GEF_NULL;
+}
+
+gef_status gef_machine_answer_done(gef_machine *machine, const gef_request *request) {
+    return machine && request ? (gef_status)gefsunk_machine_answer_done(machine, request) : GEF_NULL;
+}
+
+gef_status gef_machine_answer_failed(gef_machine *machine, const gef_request *request, uint32_t error, uint64_t lba) {
+    return machine && request ? (gef_status)gefsunk_machine_answer_failed(machine, request, error, lba) : GEF_NULL;
+}
+
+gef_status gef_machine_stored(gef_machine *machine, const gef_request *request, size_t from, uint8_t *bytes, size_t room,
+                              size_t *len) {
+    if (!machine || !request || !bytes || !len) return GEF_NULL;
+    return (gef_status)gefsunk_machine_stored(machine, request, from, bytes, room, len);
+}
+
+gef_status gef_machine_discarded(gef_machine *machine, const gef_request *request, size_t number, gef_range *range) {
+    return machine && request && range ? (gef_status)gefsunk_machine_discarded(machine, request, number, range) : GEF_NULL;
+}
+
+gef_status gef_machine_take_frame(gef_machine *machine, uint8_t port, uint8_t *fis, size_t room, size_t *len) {
+    return machine && fis && len ? (gef_status)gefsunk_machine_take_frame(machine, port, fis, room, len) : GEF_NULL;
+}
+
+gef_status gef_machine_offer(gef_machine *machine, uint8_t port, const uint8_t *fis, size_t len) {
+    return machine && fis ? (gef_status)gefsunk_machine_offer(machine, port, fis, len) : GEF_NULL;
 }

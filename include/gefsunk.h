@@ -1,5 +1,5 @@
 /*
- * gefsunk.h - an AHCI controller, a Serial ATA port multiplier, disks and a decoder of FISes, for C.
+ * gefsunk.h - an AHCI controller with disks, a Serial ATA port multiplier and a decoder of FISes, for C.
  *
  * Serial ATA devices and hosts send each other FISes (frame information structures): 4 to 8,196 bytes, a multiple of 4.
  * A port multiplier lets one host port serve up to fifteen devices. This library is its firmware at the level of the
@@ -67,6 +67,21 @@ typedef enum gef_status {
     GEF_BAD_DISK = 17,      /* a disk cannot have this size, this chunk, these flags or so many bad sectors */
     GEF_NO_SECTOR = 18,     /* the disk has no such sector */
     GEF_NO_TAG = 19,        /* a queued command has a tag from 0 to 31 */
+    GEF_BAD_WIDTH = 20,     /* an access to registers has 1, 2, 4 or 8 bytes */
+    GEF_BAD_SECTORS = 21,   /* a disk has 1 to 281,474,976,710,655 sectors (2 to the 48, less 1) */
+    GEF_BAD_TEXT = 22,      /* a text is longer than its field, or has a character that is not printable ASCII */
+    GEF_BAD_DEPTH = 23,     /* a queue has 1 to 32 commands */
+    GEF_BAD_ROTATION = 24,  /* a speed is 1,025 to 65,534 turns a minute; 0 says nothing, 1 that the medium does not turn */
+    GEF_BAD_PHYSICAL = 25,  /* a physical sector has 512 or 4,096 bytes */
+    GEF_BAD_LIMIT = 26,     /* the bound of what the commands of a disk hold is below GEF_LEAST_LIMIT */
+    GEF_PLUGGED_IN = 27,    /* what is at the port is plugged in already */
+    GEF_NOT_WANTED = 28,    /* no event asks for such bytes */
+    GEF_OTHER_DISK = 29,    /* the disk that asked is not at the port any more */
+    GEF_NOT_OUT = 30,       /* no such request is out: it was answered, or a reset ended it */
+    GEF_OTHER_KIND = 31,    /* the request asked for something else */
+    GEF_OTHER_LENGTH = 32,  /* the load asked for another number of bytes */
+    GEF_OTHER_SECTOR = 33,  /* the request does not have this sector */
+    GEF_BAD_ERROR = 34,     /* a request fails by GEF_UNC, GEF_IDNF or GEF_ABRT */
     GEF_IMAGE = 64          /* of gefsunk_image.h alone: an image was not read, written or flushed, or is of another size */
 } gef_status;
 
@@ -272,10 +287,11 @@ gef_status gef_disk_sector(gef_disk *disk, uint32_t lba, uint8_t *bytes, size_t 
 /*
  * An AHCI controller (AHCI 1.3.1) with one port, as a register file for unmodified drivers: FIS-based switching, native
  * command queuing, 32 slots, 64-bit addresses. Behind it you put a multiplier, or one device of your own, and in front of
- * it a guest: gef_hba_read32 and gef_hba_write32 are the accesses to its registers. The rules of a handle are those of
- * gef_pm. A controller takes a few KB, and 16 bytes for each entry of a table while its command is issued.
+ * it a guest: gef_hba_read32 and gef_hba_write32 are the accesses to its registers, gef_hba_read and gef_hba_write those of
+ * any width. The rules of a handle are those of gef_pm. A controller takes a few KB, and 16 bytes for each entry of a table
+ * while its command is issued.
  *
- *     on a write of a register:  gef_hba_write32; do what *link says; then pump, and set the line
+ *     on a write of a register:  gef_hba_write32 (or gef_hba_write); do what *link says; then pump, and set the line
  *     pump, until nothing moves: gef_hba_next_out gives a FIS: it goes to gef_pm_from_host
  *                                gef_pm_to_host gives one: it goes to gef_hba_take, and from there to guest memory.
  *                                After GEF_FULL you keep it, and pass it again
@@ -318,6 +334,12 @@ gef_status gef_hba_free(gef_hba *hba);
  */
 gef_status gef_hba_read32(gef_hba *hba, uint32_t offset, uint32_t *value);
 
+/*
+ * The same by an access of 1, 2, 4 or 8 bytes (width), the lowest byte first. One that crosses a boundary of eight bytes
+ * reads 0. Can return GEF_CLOSED, GEF_BAD_WIDTH.
+ */
+gef_status gef_hba_read(gef_hba *hba, uint32_t offset, uint32_t width, uint64_t *value);
+
 /* Whether the interrupt line is up: 1 or 0. It changes nothing. Can return GEF_CLOSED. */
 gef_status gef_hba_line(gef_hba *hba, uint32_t *raised);
 
@@ -335,6 +357,15 @@ gef_status gef_hba_line(gef_hba *hba, uint32_t *raised);
  */
 gef_status gef_hba_write32(gef_hba *hba, const gef_memory *memory, uint32_t offset, uint32_t value, uint32_t *link,
                            uint32_t *message);
+
+/*
+ * The same by an access of 1, 2, 4 or 8 bytes (width), those of the value that are lowest; of 8 the lower dword is written
+ * first. Bits outside the access stay, and where ones act (IS, PxIS, PxSERR, PxSNTF, PxSACT, PxCI) nothing is written to
+ * them. An access that crosses a boundary of eight bytes is ignored. Can return GEF_CLOSED, GEF_BAD_WIDTH; nothing has
+ * changed then.
+ */
+gef_status gef_hba_write(gef_hba *hba, const gef_memory *memory, uint32_t offset, uint32_t width, uint64_t value,
+                         uint32_t *link, uint32_t *message);
 
 /* What taking a FIS did. */
 typedef struct gef_taken {
@@ -391,6 +422,246 @@ typedef struct gef_sent {
 gef_status gef_hba_next_out(gef_hba *hba, const gef_memory *memory, uint8_t *fis, size_t room, size_t *len,
                             gef_sent *sent);
 
+/* ---- a machine ---------------------------------------------------------------------------------------------------- */
+
+/*
+ * An AHCI controller (AHCI 1.3.1) with one port and all that is behind it, as one part of a virtual machine: one device, or a
+ * port multiplier with up to fifteen. At each port is a disk whose sectors lie with you, or a device of your own. The machine
+ * does no input and no output of its own: you give it the guest's accesses to registers, ask what is to be done, and answer.
+ *
+ *     gef_machine m = GEF_MACHINE_CLOSED;
+ *     gef_machine_new(&m, 15, 1);                  // a multiplier with fifteen ports, port 0 open from the start
+ *     gef_machine_put_disk(&m, 0, &profile);       // a disk
+ *     gef_machine_plug(&m, 0);
+ *     gef_machine_power_on(&m);
+ *
+ *     the guest reads:    gef_machine_read
+ *     the guest writes:   gef_machine_write, and then what is to be done:
+ *
+ *     while (gef_machine_next(&m, &event) == GEF_OK && event.kind != GEF_EVENT_NOTHING)
+ *         switch (event.kind) {                    // each with the call that answers it
+ *         case GEF_EVENT_READ_GUEST:  ...          // gef_machine_supply, or gef_machine_no_memory
+ *         case GEF_EVENT_WRITE_GUEST: ...          // gef_machine_lent has the bytes
+ *         case GEF_EVENT_LOAD:        ...          // gef_machine_answer_loaded, at once or later
+ *         case GEF_EVENT_STORE:       ...          // gef_machine_stored has the bytes; gef_machine_answer_done
+ *         ...
+ *         }
+ *
+ * Ask again after each answer, and after each access of the guest that wrote. No call waits for a medium, and a disk that
+ * waits for its medium keeps no other from its turn. The rules of a handle are those of gef_pm. gefsunk_files.h answers for
+ * media that are files.
+ */
+typedef struct gef_machine {
+    uint32_t mark;
+    void *at;
+} gef_machine;
+
+#define GEF_MACHINE_CLOSED { 0, 0 }
+
+/*
+ * Makes a machine, and opens the handle: its controller is stopped, nothing is at its ports. With 0 ports there is no
+ * multiplier, and port 0 is the one port; else a multiplier has so many, 15 at most. Where port_0_open is not 0, port 0 of the
+ * multiplier is open from the start and from each reset on, for software that knows no multipliers (Serial ATA 3.x, 16.3.3).
+ * Can return GEF_OPEN (free it first), GEF_BAD_PORTS, GEF_NO_MEMORY.
+ */
+gef_status gef_machine_new(gef_machine *machine, uint8_t ports, uint32_t port_0_open);
+
+/* Frees the machine with all that is at its ports, and closes the handle. A second call returns GEF_CLOSED. */
+gef_status gef_machine_free(gef_machine *machine);
+
+/*
+ * The guest reads registers: width is 1, 2, 4 or 8 bytes at an offset (those of the port begin at 100h). 0 where no register is,
+ * and for an access that crosses a boundary of eight bytes. It changes nothing.
+ * Can return GEF_CLOSED, GEF_BAD_WIDTH.
+ */
+gef_status gef_machine_read(gef_machine *machine, uint32_t offset, uint32_t width, uint64_t *value);
+
+/*
+ * The guest writes registers. No write is an error: what may not be done is ignored. Ask gef_machine_next before the guest
+ * goes on, or soon after. Can return GEF_CLOSED, GEF_BAD_WIDTH.
+ */
+gef_status gef_machine_write(gef_machine *machine, uint32_t offset, uint32_t width, uint64_t value);
+
+/* ---- a machine: what is at its ports */
+
+/* The least bound in bytes of what the commands of a disk hold. */
+#define GEF_LEAST_LIMIT 1048576u
+
+/* What a disk says of itself (IDENTIFY DEVICE), and a bound. Texts end with a 0, and are padded with blanks. */
+typedef struct gef_disk_profile {
+    const char *model;    /* at most 40 characters */
+    const char *serial;   /* at most 20; give each disk of a guest its own */
+    const char *firmware; /* at most 8 */
+    uint64_t sectors;     /* of 512 bytes each */
+    uint64_t wwn;         /* the world wide name, 0 for none */
+    uint32_t physical;    /* bytes of a physical sector: 512 or 4,096 */
+    uint32_t rotation;    /* 0: nothing is said; 1: the medium does not turn; else its turns a minute */
+    uint32_t depth;       /* how many queued commands it takes: 1 to 32 */
+    uint32_t trim;        /* not 0: it takes DATA SET MANAGEMENT with TRIM, and may ask for a discard */
+    uint32_t limit;       /* the most bytes that its commands hold at a time: GEF_LEAST_LIMIT or more */
+} gef_disk_profile;
+
+/*
+ * Puts a disk at a port. It is not plugged in yet: the guest does not see it before gef_machine_plug.
+ * Can return GEF_CLOSED, GEF_NO_PORT, GEF_ALREADY_THERE (something is there: remove it first), GEF_BAD_SECTORS, GEF_BAD_TEXT,
+ * GEF_BAD_DEPTH, GEF_BAD_ROTATION, GEF_BAD_PHYSICAL, GEF_BAD_LIMIT, GEF_NO_MEMORY.
+ */
+gef_status gef_machine_put_disk(gef_machine *machine, uint8_t port, const gef_disk_profile *profile);
+
+/*
+ * Puts a device of your own at a port: FISes for it come by GEF_EVENT_TO_DEVICE, and gef_machine_offer takes those that it sends.
+ * Can return GEF_CLOSED, GEF_NO_PORT, GEF_ALREADY_THERE.
+ */
+gef_status gef_machine_put_device(gef_machine *machine, uint8_t port);
+
+/*
+ * What is at a port is plugged in, and begins anew. A multiplier says that to its host as of any device that comes: no FIS of it goes
+ * up before the host has opened the port, and has cleared its SError. For disks that are there as power comes call
+ * gef_machine_power_on behind the last of them.
+ * Can return GEF_CLOSED, GEF_NO_PORT, GEF_NOT_THERE, GEF_PLUGGED_IN, GEF_SPENT.
+ */
+gef_status gef_machine_plug(gef_machine *machine, uint8_t port);
+
+/*
+ * Power comes to what is behind the controller: each disk and device that is plugged in begins anew, and the one at a port 0 that is
+ * open from the start passes at once. Can return GEF_CLOSED.
+ */
+gef_status gef_machine_power_on(gef_machine *machine);
+
+/*
+ * What is at a port is pulled, and stays at hand: all that it had to do is gone, and the guest hears nothing more of it. A store
+ * that a disk asked for may still be done; its answer is refused, or dropped.
+ * Can return GEF_CLOSED, GEF_NO_PORT, GEF_NOT_THERE.
+ */
+gef_status gef_machine_pull(gef_machine *machine, uint8_t port);
+
+/* What is at a port is pulled if it is plugged in, and is gone. Can return GEF_CLOSED, GEF_NO_PORT, GEF_NOT_THERE. */
+gef_status gef_machine_remove(gef_machine *machine, uint8_t port);
+
+/* ---- a machine: what is to be done */
+
+/* What an event is. The fields that it has are named; those that it does not have are 0. */
+#define GEF_EVENT_NOTHING 0u     /* nothing, until the guest, a medium or a device does something */
+#define GEF_EVENT_AGAIN 1u       /* a budget of moves is spent, so that a call is short: ask again */
+#define GEF_EVENT_READ_GUEST 2u  /* `len` bytes of the guest's memory from `at` on are wanted: answer with `wanted` */
+#define GEF_EVENT_WRITE_GUEST 3u /* `len` bytes, which gef_machine_lent gives, go to the guest's memory from `at` on: write them */
+                                 /* before you ask anything else, and before the guest reads a register */
+#define GEF_EVENT_LOAD 4u        /* `count` sectors from `lba` on of the disk at `port` are wanted: answer with `request` */
+#define GEF_EVENT_STORE 5u       /* bytes, which gef_machine_stored gives, go to these sectors: answer with `request` */
+#define GEF_EVENT_FLUSH 6u       /* what was stored is to last a loss of power: answer with `request` */
+#define GEF_EVENT_DISCARD 7u     /* the sectors that gef_machine_discarded gives are not needed: answer with `request` */
+#define GEF_EVENT_LINE 8u        /* the interrupt line is up (`up` is 1), or down, from now on */
+#define GEF_EVENT_MESSAGE 9u     /* a message is due, where messages (MSI) stand for the line */
+#define GEF_EVENT_TO_DEVICE 10u  /* a FIS for your device at `port`: gef_machine_take_frame gives it */
+#define GEF_EVENT_BEGINS 11u     /* the device at `port` begins anew: yours forgets what it had to do, and sends its signature */
+
+/* What bytes of the guest are wanted for. Its fields belong to the library. */
+typedef struct gef_wanted {
+    uint32_t kind;
+    uint32_t owner;
+    uint64_t number;
+    size_t done;
+} gef_wanted;
+
+/* Which request of a disk an answer is for. Its fields belong to the library. */
+typedef struct gef_request {
+    uint32_t port;
+    uint32_t place;
+    uint64_t disk;
+    uint64_t number;
+} gef_request;
+
+typedef struct gef_event {
+    uint32_t kind; /* GEF_EVENT_NOTHING and so on */
+    uint32_t port;
+    uint32_t up;
+    uint32_t count; /* sectors of 512 bytes, at most 2,048 */
+    uint64_t lba;
+    uint64_t at;
+    size_t len;
+    gef_wanted wanted;
+    gef_request request;
+} gef_event;
+
+/*
+ * Says what is to be done next. GEF_NO_MEMORY: nothing is lost; ask again.
+ * Can return GEF_CLOSED, GEF_NO_MEMORY.
+ */
+gef_status gef_machine_next(gef_machine *machine, gef_event *event);
+
+/*
+ * Copies the bytes of the last GEF_EVENT_WRITE_GUEST into the room, and their number into *len. A room of 8,192 bytes is enough.
+ * They are there until the next call that changes the machine. Can return GEF_CLOSED, GEF_NOTHING, GEF_TOO_SHORT.
+ */
+gef_status gef_machine_lent(gef_machine *machine, uint8_t *bytes, size_t room, size_t *len);
+
+/*
+ * The bytes that are wanted of the guest's memory, as you read them. What is not wanted any more, as after a reset, or is not so
+ * many bytes, changes nothing, and is no error. GEF_NO_MEMORY: they are wanted still; pass them again.
+ * Can return GEF_CLOSED, GEF_NOT_WANTED (no event has such a `wanted`), GEF_NO_MEMORY.
+ */
+gef_status gef_machine_supply(gef_machine *machine, const gef_wanted *wanted, const uint8_t *bytes, size_t len);
+
+/* Some of the bytes that are wanted are not memory. Can return GEF_CLOSED, GEF_NOT_WANTED, GEF_NO_MEMORY. */
+gef_status gef_machine_no_memory(gef_machine *machine, const gef_wanted *wanted);
+
+/*
+ * The sectors of a load. Each request is answered once, when you can, in any order. After a reset, or where the disk was pulled,
+ * an answer is refused (GEF_NOT_OUT, GEF_OTHER_DISK): drop it. A load that is refused by GEF_OTHER_LENGTH is still out.
+ * Can return GEF_CLOSED, GEF_OTHER_DISK, GEF_NOT_OUT, GEF_OTHER_KIND, GEF_OTHER_LENGTH, GEF_NO_MEMORY.
+ */
+gef_status gef_machine_answer_loaded(gef_machine *machine, const gef_request *request, const uint8_t *bytes, size_t len);
+
+/*
+ * A store, a flush or a discard was done. From then on a load of these sectors must give what was stored.
+ * Can return GEF_CLOSED, GEF_OTHER_DISK, GEF_NOT_OUT, GEF_OTHER_KIND.
+ */
+gef_status gef_machine_answer_done(gef_machine *machine, const gef_request *request);
+
+/* How a request can fail: the bits of the Error that the guest sees. */
+#define GEF_UNC 0x40u  /* the sector cannot be read */
+#define GEF_IDNF 0x10u /* there is no such sector */
+#define GEF_ABRT 0x04u /* it cannot be done */
+
+/*
+ * A request could not be done, first at this sector (of a flush or a discard: 0). The guest is told. GEF_UNC is of loads alone:
+ * of another request it is refused by GEF_OTHER_KIND.
+ * Can return GEF_CLOSED, GEF_BAD_ERROR, GEF_OTHER_DISK, GEF_NOT_OUT, GEF_OTHER_KIND, GEF_OTHER_SECTOR.
+ */
+gef_status gef_machine_answer_failed(gef_machine *machine, const gef_request *request, uint32_t error, uint64_t lba);
+
+/*
+ * Copies bytes of a store into the room, from an offset on, as many as there are and fit, and their number into *len. They are
+ * there until the store is answered, or its disk is reset or pulled: copy them before you ask for the next event.
+ * Can return GEF_CLOSED, GEF_OTHER_DISK, GEF_NOT_OUT, GEF_OTHER_KIND.
+ */
+gef_status gef_machine_stored(gef_machine *machine, const gef_request *request, size_t from, uint8_t *bytes, size_t room,
+                              size_t *len);
+
+/* Sectors of a discard. */
+typedef struct gef_range {
+    uint64_t lba;
+    uint64_t count;
+} gef_range;
+
+/*
+ * Gives the range of a discard that has this number, counted from 0.
+ * Can return GEF_CLOSED, GEF_OTHER_DISK, GEF_NOTHING (it has no more).
+ */
+gef_status gef_machine_discarded(gef_machine *machine, const gef_request *request, size_t number, gef_range *range);
+
+/*
+ * Takes the FIS for your device at a port. The room must be GEF_FIS_ROOM. Can return GEF_CLOSED, GEF_TOO_SHORT, GEF_NOTHING
+ * (no FIS waits, or what is there is none of yours).
+ */
+gef_status gef_machine_take_frame(gef_machine *machine, uint8_t port, uint8_t *fis, size_t room, size_t *len);
+
+/*
+ * Your device at a port sends a FIS. GEF_FULL: another one waits there, or no device of yours is plugged in; pass it again later.
+ * Can return GEF_CLOSED, GEF_BAD_LENGTH, GEF_FULL, GEF_NO_MEMORY.
+ */
+gef_status gef_machine_offer(gef_machine *machine, uint8_t port, const uint8_t *fis, size_t len);
+
 /*
  * ---- What is proved, and what you must keep
  *
@@ -411,6 +682,8 @@ gef_status gef_hba_next_out(gef_hba *hba, const gef_memory *memory, uint8_t *fis
  *     write that ends is on the medium. After gef_disk_fail it sends what the comment of that call says, to the byte
  *     (`failing_disk`), and then goes on as a disk that was plugged in.
  *
+ * Not proved yet, though their contracts are written: gef_machine_*. What is said above of each call does not hold of them.
+ *
  * Not proved but tested: the words of gef_fis_text; that GEF_PLACES_ROOM is always room enough; that drivers of operating
  * systems work with the controller (guests/RESULTS.md says which did). Not claimed: that anything happens in the end, or
  * how fast.
@@ -423,6 +696,8 @@ gef_status gef_hba_next_out(gef_hba *hba, const gef_memory *memory, uint8_t *fis
  *   - A FIS for gef_pm_from_device was sent by the device that is at the port, and by none before it.
  *   - The bytes of a gef_memory stay as they are during the call, and what the controller asks for is written before the
  *     guest goes on.
+ *   - The bytes for gef_machine_supply were read from the guest's memory at the place and in the number that the event has, those for
+ *     gef_machine_answer_loaded are the sectors that it has, and a request is answered once it was done, or could not be.
  *
  * What is trusted: the prover; the two compilers (the library's and yours); malloc and free; memcpy and the like; and
  * the file c/gefsunk.c, which tests pointers for null and passes each call on.

@@ -185,6 +185,20 @@ static void put_command(uint8_t slot) {
     if (code & 0x80) table[next() & 0x8F] = next();
 }
 
+/* A read of any width has the bytes that reads of dwords have. */
+static int wide_read(gef_hba *hba, uint32_t offset, uint32_t width, int is_open) {
+    uint32_t half[2] = {0, 0}, place, i, is_width = width == 1 || width == 2 || width == 4 || width == 8;
+    uint64_t value = 2, wanted = 0;
+    gef_status status = gef_hba_read(hba, offset, width, &value);
+    if (!is_open || !is_width) return status == (is_open ? GEF_BAD_WIDTH : GEF_CLOSED) && value == 2;
+    if (gef_hba_read32(hba, offset & ~7u, &half[0]) || gef_hba_read32(hba, (offset & ~7u) + 4, &half[1])) return 0;
+    for (i = 0; i < width && (offset & 7) + width <= 8; i++) {
+        place = (offset & 7) + i;
+        wanted |= (uint64_t)(half[place >> 2] >> 8 * (place & 3) & 0xFF) << 8 * i;
+    }
+    return status == GEF_OK && value == wanted;
+}
+
 /* One call on a controller; 0 where its answer is none that the header allows. */
 static int call_hba(gef_hba *hba, int *is_open) {
     static uint8_t room[GEF_FIS_ROOM];
@@ -193,7 +207,7 @@ static int call_hba(gef_hba *hba, int *is_open) {
                                          0x12C, 0x130, 0x134, 0x138, 0x138, 0x13C, 0x140, 4};
     gef_memory guest = {memory, sizeof memory, 0};
     uint8_t what = next(), kind = next();
-    uint32_t closed = *is_open ? 0 : BIT(GEF_CLOSED), open = *is_open ? ~0u : 0, value = 2, message = 2;
+    uint32_t closed = *is_open ? 0 : BIT(GEF_CLOSED), open = *is_open ? ~0u : 0, value = 2, message = 2, width;
     size_t len = 0, at, room_len = kind & 1 ? sizeof room : next();
     gef_taken taken;
     gef_sent sent;
@@ -214,6 +228,7 @@ static int call_hba(gef_hba *hba, int *is_open) {
         *is_open = 0;
         return 1;
     case 2:
+        if (kind & 4) return wide_read(hba, (uint32_t)next() << (kind & 3), next() % 10, *is_open);
         status = gef_hba_read32(hba, (uint32_t)next() << (kind & 3), &value);
         return allowed(status, closed | (open & BIT(GEF_OK)));
     case 3:
@@ -222,7 +237,14 @@ static int call_hba(gef_hba *hba, int *is_open) {
         guest.len = kind & 0x20 ? (size_t)next() << 6 : guest.len;
         at = next();
         at = at & 0xE0 ? offsets[at & 15] : at << (kind & 3);
-        status = gef_hba_write32(hba, &guest, (uint32_t)at, value_of(next()), &value, &message);
+        width = kind & 0x40 ? next() % 10u : 4u;
+        if (kind & 0x40)
+            status = gef_hba_write(hba, &guest, (uint32_t)at, width, (uint64_t)value_of(next()) << (kind & 0x1F), &value,
+                                   &message);
+        else
+            status = gef_hba_write32(hba, &guest, (uint32_t)at, value_of(next()), &value, &message);
+        if (width != 1 && width != 2 && width != 4 && width != 8)
+            return allowed(status, closed | (open & BIT(GEF_BAD_WIDTH)));
         if (status == GEF_OK && (value > 2 || message > 1)) return 0;
         return allowed(status, closed | (open & BIT(GEF_OK)));
     case 6:

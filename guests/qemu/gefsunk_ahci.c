@@ -1,75 +1,89 @@
 /*
- * An AHCI controller with a port multiplier and up to fifteen disks behind it, for QEMU 7.2: the pump of gefsunk_pump.h as
- * a PCI function.
+ * An AHCI controller with a Serial ATA port multiplier, or none, and the disks on its bus, for QEMU 7.2.
  *
- *   -device gefsunk-ahci,disks=15,sectors=65536,log=FILE,record=FILE
- *   -device gefsunk-ahci,multiplier=off,disks=1
- *   -device gefsunk-ahci,port0=on                   port 0 is open, for a guest that knows no multipliers
- *   -device gefsunk-ahci,images=A:B:..              port 0 has the sectors of the file A, port 1 those of B, and so on
- *   -device gefsunk-ahci,faults=on                  BAR 0 has a register for fault injection
+ *   -device gefsunk-ahci,id=sata
+ *   -drive if=none,id=d0,file=disk.qcow2 -device gefsunk-disk,bus=sata.0,port=0,drive=d0,serial=one
  *
- * BAR 5 has the registers of AHCI. With `faults=on` BAR 0 has one register, by which the guest pulls a disk, plugs in a new
- * one, or holds all FISes back for a while. All else is the pump's and the library's. Here bytes are written to the guest's
- * memory where the pump says, and the interrupt is raised. While bus mastering is off, no FIS moves, and the controller finds
- * no memory where it looks for the commands that the guest issues.
+ * The controller has one port. With `ports=N`, 1 to 15 (15 by default), a multiplier with N device ports is behind it, whose
+ * port 0 is open from each reset on, unless `port0-open=off` is given; with `ports=0` one disk is. Disks come and go by
+ * device_add and device_del. Without `port` a disk takes the first port that is free.
  *
- * Not for a guest that is not trusted: the controller reads the guest's memory past the bus, so no IOMMU and no SMM bounds it,
- * and while the processors run. The state of the device is not migrated or saved.
- *
- * What a guest wrote to a disk with a file is in the file when the guest hears that the write ended. A write that the file
- * does not take fails, and the guest hears that.
- *
- * `log` gets the FISes on the link, at most `lines` of them, and `record` what the driver does (gefsunk_record.h). With
- * `accesses=on` the log has each register that the driver reads or writes, too, with the time in seconds.
+ * All that moves is gef_machine's (gefsunk.h). This file gives it the guest's accesses to registers, and does what it asks:
+ * the guest's memory is read and written by the function's own DMA, so that bus mastering and an IOMMU count, and the sectors
+ * of disks are those of block backends.
  */
 #include "qemu/osdep.h"
 #include "qapi/error.h"
 #include "qemu/error-report.h"
-#include "qemu/units.h"
 #include "qemu/main-loop.h"
+#include "qemu/memalign.h"
 #include "qemu/module.h"
-#include "qemu/timer.h"
-#include "hw/boards.h"
-#include "hw/pci/pci.h"
+#include "hw/block/block.h"
+#include "hw/hotplug.h"
 #include "hw/pci/msi.h"
+#include "hw/pci/pci.h"
 #include "hw/qdev-properties.h"
+#include "hw/qdev-properties-system.h"
 #include "migration/vmstate.h"
-#include "gefsunk_pump.h"
-#include "gefsunk_record.h"
+#include "sysemu/block-backend.h"
+#include "sysemu/runstate.h"
+#include "sysemu/sysemu.h"
+#include "gefsunk.h"
 
 #define TYPE_GEFSUNK_AHCI "gefsunk-ahci"
 OBJECT_DECLARE_SIMPLE_TYPE(GefsunkAhci, GEFSUNK_AHCI)
+#define TYPE_GEFSUNK_BUS "gefsunk-bus"
+#define TYPE_GEFSUNK_DISK "gefsunk-disk"
+OBJECT_DECLARE_SIMPLE_TYPE(GefsunkDisk, GEFSUNK_DISK)
 
-#define ROUNDS 64 /* rounds of the pump before others have their turn */
-#define CAP_FBSS 0x10000u
-#define PXTFD 0x120
-#define POWER 0x70 /* the power management capability */
-#define D3HOT 3
+#define MOST_PORTS 15
+#define EVENTS 256           /* that are done before others have their turn */
+#define DISK_LIMIT (4u << 20) /* the most bytes that the commands of a disk hold */
+#define MSI 0x80   /* where capabilities stand */
+#define POWER 0x70
+enum { CAP_FBSS = 0x10000, D3HOT = 3 };
 
-/* The file of a disk, which may take nothing for a while. */
-typedef struct {
-    int at;
-    bool is_failing;
-} File;
+/* Something that a disk's medium is to do. */
+typedef struct Work {
+    GefsunkDisk *disk;
+    gef_event event;
+    uint8_t *bytes; /* of a load or a store */
+    QEMUIOVector vector;
+    BlockAcctCookie account;
+    size_t at; /* of a discard: the number of its range */
+    QTAILQ_ENTRY(Work) next;
+} Work;
+
+struct GefsunkDisk {
+    DeviceState parent_obj;
+    BlockConf conf;
+    VMChangeStateEntry *changes;
+    QTAILQ_HEAD(, Work) stopped; /* what goes on as the machine does, after an error */
+    /* properties */
+    int32_t port;
+    uint32_t depth;
+    uint16_t rotation_rate;
+    uint64_t wwn;
+    char *serial, *model, *firmware;
+};
 
 struct GefsunkAhci {
     PCIDevice parent_obj;
-    MemoryRegion registers, fault_register;
+    BusState bus;
+    GefsunkDisk *disks[MOST_PORTS];
+    MemoryRegion registers;
     QEMUBH *later;
-    gef_pump pump;
-    gef_image images[GEF_PUMP_PORTS];
-    File files[GEF_PUMP_PORTS];
-    bool is_held, is_busy, is_reset_due;
-    uint32_t serial, logged, raised;
-    FILE *out;
-    Recording recording;
+    gef_machine machine;
+    gef_event event;
+    bool has_event;        /* `event` waits for bus mastering */
+    bool is_busy, is_held; /* an event is being done; none begins */
+    bool is_up;            /* the interrupt line */
     /* properties */
-    uint32_t ports, disks, sectors, chunk, flags, lines;
-    bool fbs, multiplier, port0, accesses, faults;
-    char *log, *record, *names;
+    uint8_t ports;
+    bool port0_open, fbs;
 };
 
-/* Anything but this is a mistake of this file. */
+/* Anything but this is a mistake of this file, or there is no memory left. */
 static void must(gef_status status)
 {
     if (status != GEF_OK) {
@@ -78,458 +92,498 @@ static void must(gef_status status)
     }
 }
 
-/* Memory may be refused: then what was under way is kept, and goes on with a later round. */
-static bool went_on(GefsunkAhci *s, gef_status status)
+static GefsunkAhci *controller_of(GefsunkDisk *disk)
 {
-    if (status == GEF_NO_MEMORY) {
-        warn_report_once("gefsunk-ahci: %s", gef_status_text(status));
-        qemu_bh_schedule(s->later);
-        return false;
+    return GEFSUNK_AHCI(qdev_get_parent_bus(DEVICE(disk))->parent);
+}
+
+static void run(void *opaque);
+
+static void end_work(Work *work)
+{
+    qemu_vfree(work->bytes);
+    g_free(work);
+}
+
+/* The disk is told. It may refuse that, since a reset ends requests: then nobody waits for it. */
+static void answer(Work *work, bool is_done)
+{
+    GefsunkAhci *s = controller_of(work->disk);
+    const gef_event *e = &work->event;
+    bool is_load = e->kind == GEF_EVENT_LOAD;
+    gef_status status =
+        !is_done ? gef_machine_answer_failed(&s->machine, &e->request, is_load ? GEF_UNC : GEF_ABRT, e->lba) :
+        is_load ? gef_machine_answer_loaded(&s->machine, &e->request, work->bytes, work->vector.size) :
+        gef_machine_answer_done(&s->machine, &e->request);
+    if (status != GEF_NOT_OUT && status != GEF_OTHER_DISK) {
+        must(status);
     }
-    must(status);
-    return true;
+    end_work(work);
+    run(s);
 }
 
-/* Whether the guest lets the controller at its memory, by bus mastering. If not, the pump sees none. */
-static bool reaches_memory(GefsunkAhci *s)
-{
-    bool is_master = pci_get_word(PCI_DEVICE(s)->config + PCI_COMMAND) & PCI_COMMAND_MASTER;
-    s->pump.len = s->recording.memory.len = is_master ? current_machine->ram_size : 0;
-    return is_master;
-}
+static void begin_work(Work *work);
 
-/* After a reset of the machine: a new controller, and all behind it begins anew. The media stay. False: memory is refused. */
-static bool has_begun(GefsunkAhci *s)
+/* The backend did it, or did not: then the guest is told, or not, or the machine stops, as rerror and werror say. */
+static void worked(void *opaque, int ret)
 {
-    if (s->is_reset_due) {
-        gef_hba_free(&s->pump.hba);
-        if (!went_on(s, gef_hba_new(&s->pump.hba))) {
-            return false;
+    Work *work = opaque;
+    BlockBackend *blk = work->disk->conf.blk;
+    bool is_read = work->event.kind == GEF_EVENT_LOAD;
+    BlockErrorAction action = BLOCK_ERROR_ACTION_IGNORE;
+    if (ret < 0) {
+        action = blk_get_error_action(blk, is_read, -ret);
+        block_acct_failed(blk_get_stats(blk), &work->account);
+        if (action == BLOCK_ERROR_ACTION_STOP) {
+            QTAILQ_INSERT_TAIL(&work->disk->stopped, work, next);
         }
-        went_on(s, gef_pump_reset(&s->pump));
-        s->raised = s->pump.message = 0;
-        s->is_reset_due = false;
+        blk_error_action(blk, action, is_read, -ret);
+    } else {
+        block_acct_done(blk_get_stats(blk), &work->account);
     }
-    return true;
-}
-
-/* The pump shows a FIS. */
-static void show(void *context, int is_out, const uint8_t *fis, size_t len)
-{
-    GefsunkAhci *s = context;
-    char text[GEF_TEXT_ROOM];
-    if (s->out && s->logged < s->lines) {
-        s->logged++;
-        gef_fis_text(fis, len, text, sizeof text);
-        fprintf(s->out, "%s %s\n", is_out ? "out" : "in ", text);
+    if (action == BLOCK_ERROR_ACTION_REPORT) {
+        answer(work, false);
+    } else if (action == BLOCK_ERROR_ACTION_IGNORE && work->event.kind == GEF_EVENT_DISCARD) {
+        work->at++;
+        begin_work(work);
+    } else if (action == BLOCK_ERROR_ACTION_IGNORE) {
+        answer(work, true);
     }
 }
 
-/* An access of the driver to a register, with the seconds since the emulator's host began. */
-static void show_access(GefsunkAhci *s, const char *way, hwaddr at, uint64_t value)
+/* The next range of a discard, if there is one. */
+static void begin_discard(Work *work)
 {
-    if (s->accesses && s->out && s->logged < s->lines) {
-        s->logged++;
-        fprintf(s->out, "%.6f %s %" PRIx64 " %08" PRIx64 "\n", g_get_monotonic_time() / 1e6, way, at, value);
+    BlockBackend *blk = work->disk->conf.blk;
+    GefsunkAhci *s = controller_of(work->disk);
+    gef_range range;
+    int64_t at, len;
+    if (gef_machine_discarded(&s->machine, &work->event.request, work->at, &range) != GEF_OK) {
+        answer(work, true);
+        return;
+    }
+    at = range.lba * BDRV_SECTOR_SIZE;
+    len = range.count * BDRV_SECTOR_SIZE;
+    block_acct_start(blk_get_stats(blk), &work->account, len, BLOCK_ACCT_UNMAP);
+    blk_aio_pdiscard(blk, at, len, worked, work);
+}
+
+static void begin_work(Work *work)
+{
+    BlockBackend *blk = work->disk->conf.blk;
+    uint32_t kind = work->event.kind;
+    int64_t at = work->event.lba * BDRV_SECTOR_SIZE;
+    if (kind == GEF_EVENT_DISCARD) {
+        begin_discard(work);
+        return;
+    }
+    block_acct_start(blk_get_stats(blk), &work->account, work->vector.size,
+                     kind == GEF_EVENT_LOAD ? BLOCK_ACCT_READ :
+                     kind == GEF_EVENT_STORE ? BLOCK_ACCT_WRITE : BLOCK_ACCT_FLUSH);
+    if (kind == GEF_EVENT_LOAD) {
+        blk_aio_preadv(blk, at, &work->vector, 0, worked, work);
+    } else if (kind == GEF_EVENT_STORE) {
+        blk_aio_pwritev(blk, at, &work->vector, 0, worked, work);
+    } else {
+        blk_aio_flush(blk, worked, work);
     }
 }
 
-/* The pump writes to the guest's memory. */
-static void bring(void *context, uint64_t at, const uint8_t *bytes, size_t len)
+/* A disk asks its medium. */
+static void ask_medium(GefsunkAhci *s, const gef_event *event)
 {
-    GefsunkAhci *s = context;
-    pci_dma_write(PCI_DEVICE(s), at, bytes, len);
-    record_place(&s->recording, at, len);
+    Work *work = g_new0(Work, 1);
+    size_t len = (size_t)event->count * BDRV_SECTOR_SIZE, filled = 0;
+    work->disk = s->disks[event->port];
+    work->event = *event;
+    if (len) {
+        work->bytes = blk_blockalign(work->disk->conf.blk, len);
+        qemu_iovec_init_buf(&work->vector, work->bytes, len);
+    }
+    if (event->kind == GEF_EVENT_STORE) {
+        must(gef_machine_stored(&s->machine, &event->request, 0, work->bytes, len, &filled));
+        assert(filled == len);
+    }
+    begin_work(work);
+}
+
+static void read_guest(GefsunkAhci *s, const gef_event *event)
+{
+    g_autofree uint8_t *bytes = g_malloc(event->len);
+    bool is_there = pci_dma_read(PCI_DEVICE(s), event->at, bytes, event->len) == MEMTX_OK;
+    must(is_there ? gef_machine_supply(&s->machine, &event->wanted, bytes, event->len)
+                  : gef_machine_no_memory(&s->machine, &event->wanted));
+}
+
+/* There is nothing to write any more where a reset of the link came between. */
+static void write_guest(GefsunkAhci *s, const gef_event *event)
+{
+    uint8_t bytes[GEF_FIS_ROOM];
+    size_t len;
+    if (gef_machine_lent(&s->machine, bytes, sizeof bytes, &len) == GEF_OK) {
+        pci_dma_write(PCI_DEVICE(s), event->at, bytes, len);
+    }
 }
 
 static void set_line(GefsunkAhci *s)
 {
-    PCIDevice *dev = PCI_DEVICE(s);
-    if (s->pump.message || s->pump.raised > s->raised) {
-        record_raised(&s->recording);
-    }
-    if (!msi_enabled(dev)) {
-        pci_set_irq(dev, s->pump.raised);
-    } else if (s->pump.message) {
-        msi_notify(dev, 0);
-    }
-    s->raised = s->pump.raised;
-    s->pump.message = 0;
+    pci_set_irq(PCI_DEVICE(s), s->is_up && !msi_enabled(PCI_DEVICE(s)));
 }
 
-/*
- * Rounds until nothing moves. The guest may come between some of them, but not while it is recorded. In a round nothing begins
- * another one, even if the guest has the controller write to its own registers.
- */
-static void run_pump(void *opaque)
+static void do_event(GefsunkAhci *s, const gef_event *event)
+{
+    switch (event->kind) {
+    case GEF_EVENT_READ_GUEST:
+        read_guest(s, event);
+        break;
+    case GEF_EVENT_WRITE_GUEST:
+        write_guest(s, event);
+        break;
+    case GEF_EVENT_LINE:
+        s->is_up = event->up;
+        set_line(s);
+        break;
+    case GEF_EVENT_MESSAGE:
+        if (msi_enabled(PCI_DEVICE(s))) {
+            msi_notify(PCI_DEVICE(s), 0);
+        }
+        break;
+    default:
+        if (event->kind >= GEF_EVENT_LOAD && event->kind <= GEF_EVENT_DISCARD) {
+            ask_medium(s, event);
+        }
+    }
+}
+
+/* The next event, if there is one that can be done. What is of the guest's memory waits for bus mastering. */
+static bool has_next(GefsunkAhci *s)
+{
+    if (!s->has_event) {
+        must(gef_machine_next(&s->machine, &s->event));
+    }
+    s->has_event = (s->event.kind == GEF_EVENT_READ_GUEST || s->event.kind == GEF_EVENT_WRITE_GUEST) &&
+                   !(pci_get_word(PCI_DEVICE(s)->config + PCI_COMMAND) & PCI_COMMAND_MASTER);
+    return s->event.kind != GEF_EVENT_NOTHING && !s->has_event;
+}
+
+/* Does what is to be done. Nothing that it does begins it anew, even if the guest has the function write to its own registers. */
+static void run(void *opaque)
 {
     GefsunkAhci *s = opaque;
-    unsigned round = 0;
-    bool moved = !s->is_held && reaches_memory(s);
-    if (s->is_busy || !has_begun(s)) {
+    unsigned count = 0;
+    if (s->is_busy || s->is_held) {
         return;
     }
-    while (moved && (round++ < ROUNDS || s->recording.out)) {
-        gef_status status;
-        s->is_busy = true;
-        status = gef_pump_step(&s->pump);
-        s->is_busy = false;
-        if (status == GEF_IMAGE) {
-            warn_report_once("gefsunk-ahci: %s", gef_status_text(status));
-            must(gef_pump_fail(&s->pump));
-        } else if (!went_on(s, status)) {
-            break;
-        }
-        moved = s->pump.moved;
-        record_round(&s->recording, moved);
+    s->is_busy = true;
+    for (; count < EVENTS && has_next(s); count++) {
+        do_event(s, &s->event);
     }
-    set_line(s);
-    if (moved) {
+    s->is_busy = false;
+    if (count == EVENTS) {
         qemu_bh_schedule(s->later);
     }
-}
-
-static int read_file(void *context, uint64_t at, uint8_t *bytes, size_t len)
-{
-    const File *file = context;
-    return pread(file->at, bytes, len, at) != (ssize_t)len;
-}
-
-static int write_file(void *context, uint64_t at, const uint8_t *bytes, size_t len)
-{
-    const File *file = context;
-    return file->is_failing || pwrite(file->at, bytes, len, at) != (ssize_t)len;
-}
-
-static int flush_file(void *context)
-{
-    const File *file = context;
-    return fdatasync(file->at);
-}
-
-/* The disk of a port has the sectors of a file. */
-static void open_image(GefsunkAhci *s, unsigned port, const char *name, Error **errp)
-{
-    gef_image *image = &s->images[port];
-    uint32_t bad[GEF_IMAGE_BAD];
-    struct stat about;
-    size_t bads;
-    s->files[port].at = open(name, O_RDWR);
-    if (s->files[port].at < 0 || fstat(s->files[port].at, &about) || about.st_size / 512 > 268435455 || about.st_size < 512) {
-        error_setg(errp, "%s: no file with 1 to 268,435,455 sectors", name);
-        return;
-    }
-    image->read = read_file;
-    image->write = write_file;
-    image->flush = flush_file;
-    image->context = &s->files[port];
-    image->sectors = about.st_size / 512;
-    image->changed = g_malloc0((image->sectors + 7) / 8);
-    if (gef_image_unread(image, bad, &bads) != GEF_OK) {
-        error_setg(errp, "%s: more than %u sectors cannot be read", name, GEF_IMAGE_BAD);
-        return;
-    }
-    s->pump.images[port] = image;
-}
-
-/* Files for the first ports, their names one after another with colons between them. */
-static void open_images(GefsunkAhci *s, Error **errp)
-{
-    char **names = g_strsplit(s->names ? s->names : "", ":", 0);
-    unsigned port;
-    for (port = 0; names[port] && !*errp; port++) {
-        if (port < s->disks) {
-            open_image(s, port, names[port], errp);
-        } else {
-            error_setg(errp, "more images than disks");
-        }
-    }
-    g_strfreev(names);
 }
 
 static uint64_t read_register(void *opaque, hwaddr at, unsigned size)
 {
     GefsunkAhci *s = opaque;
-    uint32_t value = 0;
-    if (!has_begun(s)) {
-        return UINT32_MAX;
-    }
-    if (at / 4 * 4 == PXTFD) {
-        run_pump(s);
-    }
-    must(gef_hba_read32(&s->pump.hba, at / 4 * 4, &value));
-    record_read(&s->recording, at, value);
-    show_access(s, "read", at, value);
-    value = at < 4 && !s->fbs ? value & ~CAP_FBSS : value;
-    return value >> 8 * (at % 4);
+    uint64_t value;
+    must(gef_machine_read(&s->machine, at, size, &value));
+    return at == 0 && !s->fbs ? value & ~(uint64_t)CAP_FBSS : value;
 }
 
-/* A write of less than a dword is ignored. */
 static void write_register(void *opaque, hwaddr at, uint64_t value, unsigned size)
 {
     GefsunkAhci *s = opaque;
-    if (s->is_busy || size < 4 || !has_begun(s)) {
-        return;
+    if (!s->is_busy) {
+        must(gef_machine_write(&s->machine, at, size, value));
+        run(s);
     }
-    reaches_memory(s);
-    record_issue(&s->recording, &s->pump.hba, at, value);
-    show_access(s, "write", at, value);
-    went_on(s, gef_pump_write32(&s->pump, at, value));
-    record_write(&s->recording, at, value, s->pump.link);
-    set_line(s);
-    qemu_bh_schedule(s->later);
 }
 
-/*
- * A new disk at a port. All its sectors can be read, or all but one; or, if it has a file, all that can be read there. False:
- * there is none, as the message says.
- */
-static bool plug(GefsunkAhci *s, unsigned port, bool is_bad, Error **errp)
-{
-    uint32_t bad[GEF_IMAGE_BAD] = {5000};
-    size_t bads = is_bad;
-    gef_image *image = s->pump.images[port];
-    gef_disk *disk = &s->pump.disks[port];
-    uint32_t sectors = image ? image->sectors : s->sectors, flags = s->flags | GEF_DISK_STOCK;
-    gef_status status = s->chunk > UINT16_MAX ? GEF_BAD_DISK : GEF_OK;
-    if (status == GEF_OK && image) {
-        status = gef_image_unread(image, bad, &bads);
-    }
-    if (status == GEF_OK) {
-        status = gef_disk_new(disk, sectors, s->chunk, flags, s->serial++, bad, bads);
-    }
-    if (status == GEF_OK && image) {
-        status = gef_image_load_but(image, disk, bad, bads);
-    }
-    if (status == GEF_OK) {
-        status = gef_pump_plug(&s->pump, port);
-    }
-    if (status != GEF_OK) {
-        gef_disk_free(disk);
-        error_setg(errp, "port %u, sectors=%u, chunk=%u, flags=%u: %s", port, sectors, s->chunk, s->flags,
-                   gef_status_text(status));
-    }
-    return status == GEF_OK;
-}
-
-/* A disk that is pulled loses what a guest was not told to be on it. */
-static void pull(GefsunkAhci *s, unsigned port)
-{
-    must(gef_pump_unplug(&s->pump, port));
-    must(gef_disk_free(&s->pump.disks[port]));
-}
-
-/*
- * Fault injection: bits 7:0 are the port, bits 15:8 what is done. 1 pulls the disk, 2 plugs in one, 3 one with a bad sector. 4
- * holds all FISes back, and 5 lets them go. 6 has the disk's file take nothing, 7 has it take all again.
- */
-static void inject(void *opaque, hwaddr at, uint64_t value, unsigned size)
-{
-    GefsunkAhci *s = opaque;
-    unsigned port = value & 0xFF, what = value >> 8 & 0xFF;
-    bool is_there = port < s->ports && s->pump.plugged >> port & 1;
-    Error *err = NULL;
-    if (port >= s->ports || at || s->is_busy) {
-        return;
-    }
-    record_end(&s->recording, "A fault is injected.");
-    if (what == 1 && is_there) {
-        pull(s, port);
-    } else if ((what == 2 || what == 3) && !is_there && !plug(s, port, what == 3, &err)) {
-        warn_report_err(err);
-    }
-    s->files[port].is_failing = what == 6 || (s->files[port].is_failing && what != 7);
-    s->is_held = what == 4 || (s->is_held && what != 5);
-    qemu_bh_schedule(s->later);
-}
-
-/* Reads which disks are there, a bit each. */
-static uint64_t read_plugged(void *opaque, hwaddr at, unsigned size)
-{
-    return GEFSUNK_AHCI(opaque)->pump.plugged;
-}
-
-/* An access of eight bytes to the controller's registers comes as two, the lower dword first. */
 static const MemoryRegionOps register_ops = {
     .read = read_register,
     .write = write_register,
     .endianness = DEVICE_LITTLE_ENDIAN,
     .valid = { 1, 8 },
-    .impl = { 1, 4 },
-};
-static const MemoryRegionOps fault_ops = {
-    .read = read_plugged,
-    .write = inject,
-    .endianness = DEVICE_LITTLE_ENDIAN,
-    .valid = { 4, 4 },
-    .impl = { 4, 4 },
+    .impl = { 1, 8 },
 };
 
-/* The machine is reset. */
-static void begin(DeviceState *dev)
+static gef_status put(GefsunkAhci *s, GefsunkDisk *disk)
 {
-    GefsunkAhci *s = GEFSUNK_AHCI(dev);
-    record_reset(&s->recording);
-    s->is_reset_due = true;
-    has_begun(s);
-    pci_set_irq(PCI_DEVICE(s), 0);
-    pci_set_word(PCI_DEVICE(s)->config + POWER + PCI_PM_CTRL, 0);
+    gef_disk_profile profile = {
+        .model = disk->model, .serial = disk->serial, .firmware = disk->firmware, .wwn = disk->wwn,
+        .sectors = blk_getlength(disk->conf.blk) / BDRV_SECTOR_SIZE,
+        .physical = disk->conf.physical_block_size, .rotation = disk->rotation_rate, .depth = disk->depth,
+        .trim = disk->conf.discard_granularity != 0, .limit = DISK_LIMIT,
+    };
+    gef_status status = gef_machine_put_disk(&s->machine, disk->port, &profile);
+    if (status == GEF_OK) {
+        must(gef_machine_plug(&s->machine, disk->port));
+    }
+    return status;
 }
 
-/*
- * The power state is D0 or D3hot, and a write of another one is ignored. From D3hot the function comes back reset: bit
- * No_Soft_Reset is 0 (PCI Power Management 1.2, 3.2.4).
- */
-static void change_power(PCIDevice *dev, uint16_t was)
+/* The virtual machine goes on: so does what was stopped by an error. */
+static void changed(void *opaque, bool is_running, RunState state)
 {
-    uint16_t now = pci_get_word(dev->config + POWER + PCI_PM_CTRL);
-    if (now != 0 && now != D3HOT) {
-        pci_set_word(dev->config + POWER + PCI_PM_CTRL, was);
-    } else if (was == D3HOT && now == 0) {
-        pci_device_reset(dev);
+    GefsunkDisk *disk = opaque;
+    Work *work;
+    while (is_running && (work = QTAILQ_FIRST(&disk->stopped))) {
+        QTAILQ_REMOVE(&disk->stopped, work, next);
+        begin_work(work);
     }
 }
 
-/* If the guest lets the controller at its memory now, what waited for that goes on. */
-static void write_config(PCIDevice *dev, uint32_t at, uint32_t value, int len)
+/* All that the medium has to do is done, and its answers are given. */
+static void settle(GefsunkAhci *s, GefsunkDisk *disk)
 {
-    GefsunkAhci *s = GEFSUNK_AHCI(dev);
-    uint16_t was = pci_get_word(dev->config + POWER + PCI_PM_CTRL);
-    if (s->is_busy) {
+    Work *work;
+    s->is_held = true;
+    blk_drain(disk->conf.blk);
+    s->is_held = false;
+    while ((work = QTAILQ_FIRST(&disk->stopped))) {
+        QTAILQ_REMOVE(&disk->stopped, work, next);
+        end_work(work);
+    }
+}
+
+/* The port that the user named, or the first that is free. */
+static bool has_port(GefsunkAhci *s, GefsunkDisk *disk, Error **errp)
+{
+    int32_t ports = MAX(s->ports, 1), port = MAX(disk->port, 0);
+    while (disk->port < 0 && port < ports && s->disks[port]) {
+        port++;
+    }
+    if (port >= ports || s->disks[port]) {
+        error_setg(errp, "port %d has a disk, or is none of the %d ports", port, ports);
+        return false;
+    }
+    disk->port = port;
+    return true;
+}
+
+static bool has_medium(GefsunkDisk *disk, Error **errp)
+{
+    BlockBackend *blk = disk->conf.blk;
+    if (!blk || !blk_is_inserted(blk) || !blk_supports_write_perm(blk)) {
+        error_setg(errp, "a disk needs a drive with a medium that can be written");
+        return false;
+    }
+    if (!blkconf_blocksizes(&disk->conf, errp)) {
+        return false;
+    }
+    if (disk->conf.logical_block_size != BDRV_SECTOR_SIZE) {
+        error_setg(errp, "logical_block_size must be 512");
+        return false;
+    }
+    return blkconf_apply_backend_options(&disk->conf, false, true, errp);
+}
+
+static void realize_disk(DeviceState *dev, Error **errp)
+{
+    GefsunkDisk *disk = GEFSUNK_DISK(dev);
+    GefsunkAhci *s = controller_of(disk);
+    static unsigned serials;
+    gef_status status;
+    QTAILQ_INIT(&disk->stopped);
+    if (!has_port(s, disk, errp) || !has_medium(disk, errp)) {
         return;
     }
-    pci_default_write_config(dev, at, value, len);
-    change_power(dev, was);
+    disk->serial = disk->serial ?: g_strdup_printf("GF%05u", ++serials);
+    disk->model = disk->model ?: g_strdup("GEFSUNK DISK");
+    disk->firmware = disk->firmware ?: g_strdup("1");
+    status = put(s, disk);
+    if (status != GEF_OK) {
+        error_setg(errp, "%s", gef_status_text(status));
+        return;
+    }
+    s->disks[disk->port] = disk;
+    disk->changes = qdev_add_vm_change_state_handler(dev, changed, disk);
+    blk_iostatus_enable(disk->conf.blk);
+    add_boot_device_path(disk->conf.bootindex, dev, "/disk@0");
+    run(s);
+}
+
+static void unrealize_disk(DeviceState *dev)
+{
+    GefsunkDisk *disk = GEFSUNK_DISK(dev);
+    GefsunkAhci *s = controller_of(disk);
+    settle(s, disk);
+    qemu_del_vm_change_state_handler(disk->changes);
+    del_boot_device_path(dev, "/disk@0");
+    s->disks[disk->port] = NULL;
+    must(gef_machine_remove(&s->machine, disk->port));
+    run(s);
+}
+
+static void init_disk(Object *obj)
+{
+    GefsunkDisk *disk = GEFSUNK_DISK(obj);
+    device_add_bootindex_property(obj, &disk->conf.bootindex, "bootindex", "/disk@0", DEVICE(obj));
+}
+
+static Property disk_properties[] = {
+    DEFINE_BLOCK_PROPERTIES(GefsunkDisk, conf),
+    DEFINE_BLOCK_ERROR_PROPERTIES(GefsunkDisk, conf),
+    DEFINE_PROP_INT32("port", GefsunkDisk, port, -1),
+    DEFINE_PROP_UINT32("depth", GefsunkDisk, depth, 32),
+    DEFINE_PROP_UINT16("rotation_rate", GefsunkDisk, rotation_rate, 0),
+    DEFINE_PROP_UINT64("wwn", GefsunkDisk, wwn, 0),
+    DEFINE_PROP_STRING("serial", GefsunkDisk, serial),
+    DEFINE_PROP_STRING("model", GefsunkDisk, model),
+    DEFINE_PROP_STRING("ver", GefsunkDisk, firmware),
+    DEFINE_PROP_END_OF_LIST(),
+};
+
+static char *firmware_path(DeviceState *dev)
+{
+    return g_strdup_printf("drive@%x", GEFSUNK_DISK(dev)->port);
+}
+
+static void init_bus_class(ObjectClass *klass, void *data)
+{
+    BUS_CLASS(klass)->get_fw_dev_path = firmware_path;
+    HOTPLUG_HANDLER_CLASS(klass)->unplug = qdev_simple_device_unplug_cb;
+}
+
+/* A new machine, whose disks are those of the bus. They are there as power comes. */
+static void make(GefsunkAhci *s)
+{
+    must(gef_machine_new(&s->machine, s->ports, s->port0_open));
+    for (unsigned port = 0; port < MOST_PORTS; port++) {
+        if (s->disks[port]) {
+            must(put(s, s->disks[port]));
+        }
+    }
+    must(gef_machine_power_on(&s->machine));
+    s->has_event = s->is_up = false;
+    set_line(s);
+}
+
+static void reset(DeviceState *dev)
+{
+    GefsunkAhci *s = GEFSUNK_AHCI(dev);
+    for (unsigned port = 0; port < MOST_PORTS; port++) {
+        if (s->disks[port]) {
+            settle(s, s->disks[port]);
+        }
+    }
+    must(gef_machine_free(&s->machine));
+    make(s);
+    pci_set_word(PCI_DEVICE(s)->config + POWER + PCI_PM_CTRL, 0);
     qemu_bh_schedule(s->later);
 }
 
-static void begin_recording(GefsunkAhci *s)
+/*
+ * What waited for bus mastering may go on, and messages may stand for the line. The power state is D0 or D3hot, and a write of
+ * another one is ignored. From D3hot the function comes back reset: No_Soft_Reset is 0 (PCI Power Management 1.2, 3.2.4).
+ */
+static void write_config(PCIDevice *dev, uint32_t at, uint32_t value, int len)
 {
-    gef_memory memory = { s->pump.memory, s->pump.len, s->pump.address };
-    unsigned port;
-    record_begin(&s->recording, s->record, memory, s->multiplier ? s->ports : 0);
-    for (port = 0; port < s->disks; port++) {
-        record_disk(&s->recording, port, s->sectors, s->chunk, s->flags);
+    GefsunkAhci *s = GEFSUNK_AHCI(dev);
+    uint8_t *power = dev->config + POWER + PCI_PM_CTRL;
+    uint16_t was = pci_get_word(power), now;
+    pci_default_write_config(dev, at, value, len);
+    now = pci_get_word(power);
+    if (now != 0 && now != D3HOT) {
+        pci_set_word(power, was);
+    } else if (was == D3HOT && now == 0) {
+        pci_device_reset(dev);
     }
-    for (port = 0; port < s->disks; port++) {
-        record_came(&s->recording, port);
-    }
-}
-
-/* The controller with its disks. */
-static void make(GefsunkAhci *s, Error **errp)
-{
-    ERRP_GUARD();
-    static uint32_t controllers;
-    gef_status status;
-    unsigned port;
-    s->pump.memory = memory_region_get_ram_ptr(current_machine->ram);
-    s->pump.len = current_machine->ram_size;
-    s->pump.write = bring;
-    s->pump.show = show;
-    s->pump.context = s;
-    s->pump.port_0_open = s->port0;
-    s->serial = controllers++ << 16;
-    open_images(s, errp);
-    if (*errp) {
-        return;
-    }
-    status = gef_pump_open(&s->pump, s->multiplier ? s->ports : 0);
-    if (status != GEF_OK) {
-        error_setg(errp, "%s", gef_status_text(status));
-    }
-    for (port = 0; port < s->disks && !*errp; port++) {
-        plug(s, port, false, errp);
-    }
+    set_line(s);
+    qemu_bh_schedule(s->later);
 }
 
 static void realize(PCIDevice *dev, Error **errp)
 {
-    ERRP_GUARD();
     GefsunkAhci *s = GEFSUNK_AHCI(dev);
-    s->ports = s->multiplier ? s->ports : 1;
-    if (s->ports < 1 || s->ports > GEF_PUMP_PORTS || s->disks > s->ports) {
-        error_setg(errp, "1 to 15 ports, and no more disks than ports: 1 with no multiplier");
+    if (s->ports > MOST_PORTS) {
+        error_setg(errp, "ports is 0 to %d: 0 for one disk and no multiplier", MOST_PORTS);
         return;
     }
-    /* The controller reads the guest's memory as one block from address 0 on. */
-    if (!memory_region_is_ram(current_machine->ram) || current_machine->ram_size > 2 * GiB) {
-        error_setg(errp, "the guest's memory must be one block, of 2 GiB at most");
-        return;
-    }
-    make(s, errp);
-    if (*errp) {
-        return;
-    }
-    s->out = s->log ? fopen(s->log, "w") : NULL;
-    begin_recording(s);
-    if ((s->log && !s->out) || (s->record && !s->recording.out)) {
-        error_setg(errp, "%s cannot be written", s->log && !s->out ? s->log : s->record);
-        return;
-    }
-    s->later = qemu_bh_new(run_pump, s);
-    pci_config_set_prog_interface(dev->config, 1);
-    pci_config_set_interrupt_pin(dev->config, 1);
-    memory_region_init_io(&s->registers, OBJECT(s), &register_ops, s, "gefsunk-ahci", 4096);
-    pci_register_bar(dev, 5, PCI_BASE_ADDRESS_SPACE_MEMORY, &s->registers);
-    if (s->faults) {
-        memory_region_init_io(&s->fault_register, OBJECT(s), &fault_ops, s, "gefsunk-faults", 16);
-        pci_register_bar(dev, 0, PCI_BASE_ADDRESS_SPACE_MEMORY, &s->fault_register);
-    }
-    msi_init(dev, 0x80, 1, true, false, NULL);
+    msi_init(dev, MSI, 1, true, false, NULL); /* a board without messages has the line */
     /* It is the last to be added, so the list of capabilities begins with it (AHCI 1.3.1, 2.1.14). */
-    pci_add_capability(dev, PCI_CAP_ID_PM, POWER, PCI_PM_SIZEOF, errp);
+    if (pci_add_capability(dev, PCI_CAP_ID_PM, POWER, PCI_PM_SIZEOF, errp) < 0) {
+        return;
+    }
     pci_set_word(dev->config + POWER + PCI_PM_PMC, PCI_PM_CAP_VER_1_2);
     pci_set_word(dev->wmask + POWER + PCI_PM_CTRL, PCI_PM_CTRL_STATE_MASK);
+    pci_config_set_prog_interface(dev->config, 1);
+    pci_config_set_interrupt_pin(dev->config, 1);
+    memory_region_init_io(&s->registers, OBJECT(s), &register_ops, s, TYPE_GEFSUNK_AHCI, 4096);
+    pci_register_bar(dev, 5, PCI_BASE_ADDRESS_SPACE_MEMORY, &s->registers);
+    qbus_init(&s->bus, sizeof s->bus, TYPE_GEFSUNK_BUS, DEVICE(dev), NULL);
+    qbus_set_bus_hotplug_handler(&s->bus);
+    s->later = qemu_bh_new_guarded(run, s, &DEVICE(dev)->mem_reentrancy_guard);
+    make(s);
+}
+
+static void leave(PCIDevice *dev)
+{
+    GefsunkAhci *s = GEFSUNK_AHCI(dev);
+    qemu_bh_delete(s->later);
+    gef_machine_free(&s->machine);
+    msi_uninit(dev);
 }
 
 static Property properties[] = {
-    DEFINE_PROP_UINT32("ports", GefsunkAhci, ports, GEF_PUMP_PORTS),
-    DEFINE_PROP_UINT32("disks", GefsunkAhci, disks, GEF_PUMP_PORTS),
-    DEFINE_PROP_UINT32("sectors", GefsunkAhci, sectors, 65536),
-    DEFINE_PROP_UINT32("chunk", GefsunkAhci, chunk, 8192),
-    DEFINE_PROP_UINT32("flags", GefsunkAhci, flags, 0),
-    DEFINE_PROP_UINT32("lines", GefsunkAhci, lines, 100000),
+    DEFINE_PROP_UINT8("ports", GefsunkAhci, ports, MOST_PORTS),
+    DEFINE_PROP_BOOL("port0-open", GefsunkAhci, port0_open, true),
     DEFINE_PROP_BOOL("fbs", GefsunkAhci, fbs, true),
-    DEFINE_PROP_BOOL("multiplier", GefsunkAhci, multiplier, true),
-    DEFINE_PROP_BOOL("port0", GefsunkAhci, port0, false),
-    DEFINE_PROP_BOOL("accesses", GefsunkAhci, accesses, false),
-    DEFINE_PROP_BOOL("faults", GefsunkAhci, faults, false),
-    DEFINE_PROP_STRING("log", GefsunkAhci, log),
-    DEFINE_PROP_STRING("record", GefsunkAhci, record),
-    DEFINE_PROP_STRING("images", GefsunkAhci, names),
     DEFINE_PROP_END_OF_LIST(),
 };
 
 static const VMStateDescription not_migrated = { .name = TYPE_GEFSUNK_AHCI, .unmigratable = 1 };
 
-static void class_init(ObjectClass *klass, void *data)
+static void init_class(ObjectClass *klass, void *data)
 {
     DeviceClass *dc = DEVICE_CLASS(klass);
     PCIDeviceClass *k = PCI_DEVICE_CLASS(klass);
     k->realize = realize;
+    k->exit = leave;
     k->config_write = write_config;
-    k->vendor_id = 0x1b36;
+    k->vendor_id = PCI_VENDOR_ID_REDHAT;
     k->device_id = 0x00f0;
     k->class_id = PCI_CLASS_STORAGE_SATA;
-    dc->reset = begin;
+    dc->reset = reset;
     dc->vmsd = &not_migrated;
-    dc->hotpluggable = false;
     device_class_set_props(dc, properties);
     set_bit(DEVICE_CATEGORY_STORAGE, dc->categories);
 }
 
-static const TypeInfo info = {
-    .name = TYPE_GEFSUNK_AHCI,
-    .parent = TYPE_PCI_DEVICE,
-    .instance_size = sizeof(GefsunkAhci),
-    .class_init = class_init,
-    .interfaces = (InterfaceInfo[]) { { INTERFACE_CONVENTIONAL_PCI_DEVICE }, { } },
-};
-
-static void register_it(void)
+static void init_disk_class(ObjectClass *klass, void *data)
 {
-    type_register_static(&info);
+    DeviceClass *dc = DEVICE_CLASS(klass);
+    dc->bus_type = TYPE_GEFSUNK_BUS;
+    dc->realize = realize_disk;
+    dc->unrealize = unrealize_disk;
+    device_class_set_props(dc, disk_properties);
+    set_bit(DEVICE_CATEGORY_STORAGE, dc->categories);
 }
 
-type_init(register_it)
+static const TypeInfo types[] = {
+    {
+        .name = TYPE_GEFSUNK_AHCI,
+        .parent = TYPE_PCI_DEVICE,
+        .instance_size = sizeof(GefsunkAhci),
+        .class_init = init_class,
+        .interfaces = (InterfaceInfo[]) { { INTERFACE_CONVENTIONAL_PCI_DEVICE }, { } },
+    },
+    {
+        .name = TYPE_GEFSUNK_BUS,
+        .parent = TYPE_BUS,
+        .instance_size = sizeof(BusState),
+        .class_init = init_bus_class,
+        .interfaces = (InterfaceInfo[]) { { TYPE_HOTPLUG_HANDLER }, { } },
+    },
+    {
+        .name = TYPE_GEFSUNK_DISK,
+        .parent = TYPE_DEVICE,
+        .instance_size = sizeof(GefsunkDisk),
+        .instance_init = init_disk,
+        .class_init = init_disk_class,
+    },
+};
+
+DEFINE_TYPES(types)

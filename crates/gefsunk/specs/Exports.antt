@@ -16,9 +16,11 @@ abbrev pub AtPm : Option Kept → Status → Option Kept → (Pm → Pm → Type
 AtPm (Some (kept.Pm old)) answer (Some (kept.Pm new)) rule = rule old new
 AtPm (Some (kept.Pm old)) answer (Some (kept.Disk new)) rule = ⊥
 AtPm (Some (kept.Pm old)) answer (Some (kept.Hba new)) rule = ⊥
+AtPm (Some (kept.Pm old)) answer (Some (kept.Machine new)) rule = ⊥
 AtPm (Some (kept.Pm old)) answer None rule = ⊥
 AtPm (Some (kept.Disk old)) answer new rule = (answer ≡ status.Closed) × (new ≡ Some (kept.Disk old))
 AtPm (Some (kept.Hba old)) answer new rule = (answer ≡ status.Closed) × (new ≡ Some (kept.Hba old))
+AtPm (Some (kept.Machine old)) answer new rule = (answer ≡ status.Closed) × (new ≡ Some (kept.Machine old))
 AtPm None answer new rule = (answer ≡ status.Closed) × (new ≡ None)
 
 -- a call on the disk behind the handle, by its rule
@@ -26,9 +28,11 @@ abbrev pub AtDisk : Option Kept → Status → Option Kept → (FailingValue →
 AtDisk (Some (kept.Disk old)) answer (Some (kept.Disk new)) rule = rule old new
 AtDisk (Some (kept.Disk old)) answer (Some (kept.Pm new)) rule = ⊥
 AtDisk (Some (kept.Disk old)) answer (Some (kept.Hba new)) rule = ⊥
+AtDisk (Some (kept.Disk old)) answer (Some (kept.Machine new)) rule = ⊥
 AtDisk (Some (kept.Disk old)) answer None rule = ⊥
 AtDisk (Some (kept.Pm old)) answer new rule = (answer ≡ status.Closed) × (new ≡ Some (kept.Pm old))
 AtDisk (Some (kept.Hba old)) answer new rule = (answer ≡ status.Closed) × (new ≡ Some (kept.Hba old))
+AtDisk (Some (kept.Machine old)) answer new rule = (answer ≡ status.Closed) × (new ≡ Some (kept.Machine old))
 AtDisk None answer new rule = (answer ≡ status.Closed) × (new ≡ None)
 
 -- a call on the controller behind the handle, by its rule
@@ -37,9 +41,11 @@ abbrev pub AtHba :
 AtHba (Some (kept.Hba old)) answer (Some (kept.Hba new)) rule = rule old new
 AtHba (Some (kept.Hba old)) answer (Some (kept.Pm new)) rule = ⊥
 AtHba (Some (kept.Hba old)) answer (Some (kept.Disk new)) rule = ⊥
+AtHba (Some (kept.Hba old)) answer (Some (kept.Machine new)) rule = ⊥
 AtHba (Some (kept.Hba old)) answer None rule = ⊥
 AtHba (Some (kept.Pm old)) answer new rule = (answer ≡ status.Closed) × (new ≡ Some (kept.Pm old))
 AtHba (Some (kept.Disk old)) answer new rule = (answer ≡ status.Closed) × (new ≡ Some (kept.Disk old))
+AtHba (Some (kept.Machine old)) answer new rule = (answer ≡ status.Closed) × (new ≡ Some (kept.Machine old))
 AtHba None answer new rule = (answer ≡ status.Closed) × (new ≡ None)
 
 -- a multiplier is made behind a closed handle
@@ -64,6 +70,7 @@ abbrev pub HasDisk : (sectors size flags serial : ℕ) → List ℕ → Option K
 HasDisk sectors size flags serial bads (Some (kept.Disk disk)) = IsDiskOf sectors size flags serial bads disk
 HasDisk sectors size flags serial bads (Some (kept.Pm pm)) = ⊥
 HasDisk sectors size flags serial bads (Some (kept.Hba hba)) = ⊥
+HasDisk sectors size flags serial bads (Some (kept.Machine machine)) = ⊥
 HasDisk sectors size flags serial bads None = ⊥
 
 -- a disk is made behind a closed handle
@@ -78,6 +85,7 @@ abbrev pub FreedPm : Option Kept → Status → Option Kept → Type 0
 FreedPm (Some (kept.Pm old)) answer new = (answer ≡ status.Done) × (new ≡ None)
 FreedPm (Some (kept.Disk old)) answer new = (answer ≡ status.Closed) × (new ≡ Some (kept.Disk old))
 FreedPm (Some (kept.Hba old)) answer new = (answer ≡ status.Closed) × (new ≡ Some (kept.Hba old))
+FreedPm (Some (kept.Machine old)) answer new = (answer ≡ status.Closed) × (new ≡ Some (kept.Machine old))
 FreedPm None answer new = (answer ≡ status.Closed) × (new ≡ None)
 
 -- the disk is freed
@@ -85,6 +93,7 @@ abbrev pub FreedDisk : Option Kept → Status → Option Kept → Type 0
 FreedDisk (Some (kept.Disk old)) answer new = (answer ≡ status.Done) × (new ≡ None)
 FreedDisk (Some (kept.Pm old)) answer new = (answer ≡ status.Closed) × (new ≡ Some (kept.Pm old))
 FreedDisk (Some (kept.Hba old)) answer new = (answer ≡ status.Closed) × (new ≡ Some (kept.Hba old))
+FreedDisk (Some (kept.Machine old)) answer new = (answer ≡ status.Closed) × (new ≡ Some (kept.Machine old))
 FreedDisk None answer new = (answer ≡ status.Closed) × (new ≡ None)
 
 -- a new controller
@@ -92,6 +101,7 @@ abbrev pub HasHba : Option Kept → Type 0
 HasHba (Some (kept.Hba hba)) = IsOpeningPort hba
 HasHba (Some (kept.Pm pm)) = ⊥
 HasHba (Some (kept.Disk disk)) = ⊥
+HasHba (Some (kept.Machine machine)) = ⊥
 HasHba None = ⊥
 
 -- a controller is made behind a closed handle
@@ -106,4 +116,5 @@ abbrev pub FreedHba : Option Kept → Status → Option Kept → Type 0
 FreedHba (Some (kept.Hba old)) answer new = (answer ≡ status.Done) × (new ≡ None)
 FreedHba (Some (kept.Pm old)) answer new = (answer ≡ status.Closed) × (new ≡ Some (kept.Pm old))
 FreedHba (Some (kept.Disk old)) answer new = (answer ≡ status.Closed) × (new ≡ Some (kept.Disk old))
+FreedHba (Some (kept.Machine old)) answer new = (answer ≡ status.Closed) × (new ≡ Some (kept.Machine old))
 FreedHba None answer new = (answer ≡ status.Closed) × (new ≡ None)

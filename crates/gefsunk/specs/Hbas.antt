@@ -1,6 +1,6 @@
 -- What the calls on a controller do, by its rules (AHCI 1.3.1, sections 3, 4.2 and 5.3).
 use Rattle.std.specs.Prelude.{◌≡◌, ℕ, ◌<◌, ◌==◌, ◌⊎◌, Bool, true, false, if◌then◌else◌, List, length}
-use Rattle.std.specs.Prelude.{Option, None, Some, map}
+use Rattle.std.specs.Prelude.{Option, None, Some, MatchOption, map}
 use Rattle.fis_view.specs.Frames.{is_frame}
 use Rattle.fis_view.specs.declared.frame.Stamp.{Stamp}
 use Rattle.guest_bytes.specs.Flat.{Block, MayMiss, MayRead}
@@ -10,12 +10,17 @@ use Rattle.ahci_registers.specs.declared.link.Effect.{Effect}
 use Rattle.ahci_registers.specs.declared.link.Effect.TheVariants.{Nothing, LinkReset, LinkUp}
 use Rattle.ahci_controller.specs.Latch.{raised}
 use Rattle.ahci_controller.specs.Reading.{read_at}
+use Rattle.ahci_controller.specs.States.{ControllerState}
+use Rattle.ahci_controller.specs.Wide.{read_wide}
+use Rattle.ahci_controller.specs.declared.access.Width.{Width}
+use Rattle.ahci_controller.specs.declared.access.Width.TheVariants.{Byte, Word, Dword, Qword}
 use Rattle.ahci_controller.specs.declared.taking.Hindrance.{Hindrance}
 use Rattle.ahci_controller.specs.declared.taking.Hindrance.TheVariants as why
+use Rattle.ahci_controller.specs.declared.wide.WideWritten.{WideWritten}
 use Rattle.guest_port.specs.Sending.{PausesPort, SendsPort}
 use Rattle.guest_port.specs.States.{PortState}
 use Rattle.guest_port.specs.Taking.{Brings, TakesPort, hindrance_of}
-use Rattle.guest_port.specs.Writing.{WritesDword, WritesPort, effect_in, message_in}
+use Rattle.guest_port.specs.Writing.{WritesAny, WritesDword, WritesPort, effect_in, message_in}
 use Rattle.guest_port.specs.declared.access.Access.{Access}
 use Rattle.guest_port.specs.declared.sending.Sent.{Sent}
 use Rattle.guest_port.specs.declared.taking.Taken.{Taken}
@@ -52,16 +57,37 @@ HbaRead hba offset answer value = (answer ≡ status.Done) × (value ≡ read_at
 abbrev pub LineRule : PortState → Status → ℕ → Type 0
 LineRule hba answer raises = (answer ≡ status.Done) × (raises ≡ number_of (raised hba.controller.latch))
 
--- the register is written, and commands are read
-pub record WritesHba (old : PortState) (guest : Block) (offset value link message : ℕ) (new : PortState) : Type 0 where
+-- registers are written by this rule, and commands are read
+pub record WritesHba (old : PortState) (guest : Block) (Rule : ControllerState → WideWritten → ControllerState → Type 0)
+    (link message : ℕ) (new : PortState) : Type 0 where
   pub access : Access
-  pub writes : WritesPort (MayRead guest) (MayMiss guest) old (WritesDword offset value) access new
+  pub writes : WritesPort (MayRead guest) (MayMiss guest) old Rule access new
   pub link_is : link_of link ≡ effect_in access.written
   pub message_is : yes message ≡ message_in access
 
+abbrev pub HbaWrote : PortState → Block → (ControllerState → WideWritten → ControllerState → Type 0) → Status
+    → (link message : ℕ) → PortState → Type 0
+HbaWrote old guest Rule answer link message new =
+    (answer ≡ status.Done) × (link < 3) × Tells message × WritesHba old guest Rule link message new
+
 abbrev pub HbaWrite : PortState → Block → (offset value : ℕ) → Status → (link message : ℕ) → PortState → Type 0
 HbaWrite old guest offset value answer link message new =
-    (answer ≡ status.Done) × (link < 3) × Tells message × WritesHba old guest offset value link message new
+    HbaWrote old guest (WritesDword offset value) answer link message new
+
+-- ---- accesses of all widths: of 1, 2, 4 or 8 bytes, and no others
+
+abbrev pub width_of : ℕ → Option Width
+width_of count = if count == 1 then Some Byte else if count == 2 then Some Word else if count == 4 then Some Dword
+    else if count == 8 then Some Qword else None
+
+abbrev pub HbaReadAny : PortState → (offset count : ℕ) → Status → ℕ → Type 0
+HbaReadAny hba offset count answer value = MatchOption (width_of count) (answer ≡ status.BadWidth)
+    (λ width. (answer ≡ status.Done) × (value ≡ read_wide hba.controller offset width))
+
+unfoldable pub HbaWriteAny : PortState → Block → (offset count value : ℕ) → Status → (link message : ℕ) → PortState → Type 0
+HbaWriteAny old guest offset count value answer link message new =
+    MatchOption (width_of count) ((answer ≡ status.BadWidth) × (new ≡ old))
+    (λ width. HbaWrote old guest (WritesAny offset width value) answer link message new)
 
 -- ---- a FIS of a device
 

@@ -23,8 +23,23 @@ status_of n =
     else if n == 16 then status.Spent
     else if n == 17 then status.BadDisk
     else if n == 18 then status.NoSector
-    else status.NoTag
+    else if n == 19 then status.NoTag
+    else if n == 20 then status.BadWidth
+    else if n == 21 then status.BadSectors
+    else if n == 22 then status.BadText
+    else if n == 23 then status.BadDepth
+    else if n == 24 then status.BadRotation
+    else if n == 25 then status.BadPhysical
+    else if n == 26 then status.BadLimit
+    else if n == 27 then status.PluggedIn
+    else if n == 28 then status.NotWanted
+    else if n == 29 then status.OtherDisk
+    else if n == 30 then status.NotOut
+    else if n == 31 then status.OtherKind
+    else if n == 32 then status.OtherLength
+    else if n == 33 then status.OtherSector
+    else status.BadError
 
 -- the numbers that an export answers; 1 is the C side's
 abbrev pub is_code : ℕ → Bool
-is_code n = nat_lt n 20 && not (n == 1)
+is_code n = nat_lt n 35 && not (n == 1)

@@ -1,16 +1,17 @@
 //! A controller as the library for C keeps it.
 
 ghost use Rattle.std.specs.Prelude.{◌≡◌, ◌≢◌, ◌≤◌, ◌<◌, drop, length, take};
-ghost use Rattle.gefsunk.specs.Hbas.{DataRule, HbaRead, HbaTake, HbaWrite, Hinders, LineRule, NextOut, Shows, ShowsSent, dropped_fis, link_of, number_of, place_of};
+ghost use Rattle.gefsunk.specs.Hbas.{DataRule, HbaRead, HbaReadAny, HbaTake, HbaWrite, HbaWriteAny, Hinders, LineRule, NextOut, Shows, ShowsSent, Tells, dropped_fis, link_of, number_of, place_of, width_of, yes};
+ghost use Rattle.guest_port.specs.Writing.{effect_in, message_in};
 
 use crate::guest::GuestBlock;
 use crate::pm::{copied, refused, stamp};
 use crate::status::Status;
-use ahci_controller::Hindrance;
+use ahci_controller::{Hindrance, Width};
 use ahci_registers::Effect;
 use fis_view::Frame;
 use guest_fetch::Move;
-use guest_port::{GuestPort, Sent, Taken};
+use guest_port::{Access, GuestPort, Sent, Taken};
 use std::alloc::Global;
 
 /// What taking a FIS did, as C sees it.
@@ -83,12 +84,46 @@ pub fn read32(port: &GuestPort, offset: u32, value: &mut u32) -> Status
     Status::Done
 }
 
+/// The width of an access of so many bytes.
+fn width(count: u32) -> Option<Width>
+    ensures { result ≡ width_of count }
+{
+    match count {
+        1 => Some(Width::Byte),
+        2 => Some(Width::Word),
+        4 => Some(Width::Dword),
+        8 => Some(Width::Qword),
+        _ => None,
+    }
+}
+
+/// What the registers read at an offset, by an access of 1, 2, 4 or 8 bytes.
+pub fn read(port: &GuestPort, offset: u32, count: u32, value: &mut u64) -> Status
+    ensures rule { HbaReadAny port.now offset count result value.new }
+    ensures kept { result ≢ Status.Done → value.new ≡ value.old }
+{
+    let Some(width) = width(count) else {
+        return Status::BadWidth;
+    };
+    *value = port.read(offset, width);
+    Status::Done
+}
+
 /// Whether the interrupt line is raised.
 pub fn line(port: &GuestPort, raised: &mut u32) -> Status
     ensures { LineRule port.now result raised.new }
 {
     *raised = number(port.line());
     Status::Done
+}
+
+// What a write does to the link, and whether a message is due.
+fn tell(access: &Access, link: &mut u32, message: &mut u32)
+    ensures link { (link.new < 3) × (link_of link.new ≡ effect_in access.now.written) }
+    ensures message { Tells message.new × (yes message.new ≡ message_in access.now) }
+{
+    *link = link_number(access.effect());
+    *message = number(access.message());
 }
 
 /// Writes a register. Says what that does to the link, and whether a message is due.
@@ -104,8 +139,30 @@ pub fn write32(
     ensures { HbaWrite port.old guest.now offset value result link.new message.new port.new }
 {
     let access = port.write32(alloc, guest, offset, value);
-    *link = link_number(access.effect());
-    *message = number(access.message());
+    tell(&access, link, message);
+    Status::Done
+}
+
+/// The same by an access of 1, 2, 4 or 8 bytes.
+#[tactic(auto, unfolding(crate::specs::Hbas::HbaWriteAny))]
+pub fn write(
+    port: &mut GuestPort,
+    alloc: Global,
+    guest: &GuestBlock<'_>,
+    offset: u32,
+    count: u32,
+    value: u64,
+    link: &mut u32,
+    message: &mut u32,
+) -> Status
+    ensures rule { HbaWriteAny port.old guest.now offset count value result link.new message.new port.new }
+    ensures kept { result ≢ Status.Done → (link.new ≡ link.old) × (message.new ≡ message.old) }
+{
+    let Some(width) = width(count) else {
+        return Status::BadWidth;
+    };
+    let access = port.write(alloc, guest, offset, width, value);
+    tell(&access, link, message);
     Status::Done
 }
 

@@ -1,6 +1,7 @@
 //! What a handle can have behind it.
 
 use crate::pm::Pm;
+use ahci_machine::Machine;
 use failing_disk::FailingDisk;
 use guest_port::GuestPort;
 
@@ -14,4 +15,6 @@ pub enum Kept {
     Disk(FailingDisk),
     /// A controller of one port.
     Hba(GuestPort),
+    /// A controller with what is behind it.
+    Machine(Machine),
 }

@@ -5,27 +5,34 @@
 ghost use Rattle.std.specs.Prelude.{◌≡◌, ◌≢◌, ◌≤◌, drop, length, take, true};
 ghost use Rattle.gefsunk.specs.Disks.{DiskFail, DiskFromHost, DiskPlug, DiskToHost, SectorRule};
 ghost use Rattle.gefsunk.specs.Exports.{AtDisk, AtHba, AtPm, FreedDisk, FreedHba, FreedPm, MadeDisk, MadeHba, MadeOpenPm, MadePm};
-ghost use Rattle.gefsunk.specs.Hbas.{DataRule, HbaRead, HbaTake, HbaWrite, LineRule, NextOut, block};
+ghost use Rattle.gefsunk.specs.Hbas.{DataRule, HbaRead, HbaReadAny, HbaTake, HbaWrite, HbaWriteAny, LineRule, NextOut, block};
 ghost use Rattle.gefsunk.specs.Pms.{FromDevice, FromHost, Plug, ReadRule, ToDevice, ToHost, Unplug};
 ghost use Rattle.gefsunk.specs.Statuses.{is_code, status_of};
 ghost use Rattle.gefsunk.specs.Texts.{TextRule};
 ghost use Rattle.gefsunk.specs.declared.status.Status.TheVariants as status;
 
 mod disk;
+mod event;
 mod guest;
 mod handle;
 mod hba;
 mod kept;
+mod machine;
+mod medium;
 mod pm;
+mod profile;
 mod status;
 mod text;
 
 use crate::guest::GuestBlock;
+pub use event::{Event, MediumRequest, WantedBytes};
 use guest_port::GuestPort;
 pub use handle::{Handle, Held};
 pub use hba::{DataPlace, FisSent, FisTaken};
 pub use kept::Kept;
+pub use medium::SectorRange;
 pub use pm::Pm;
+pub use profile::DiskNumbers;
 pub use status::Status;
 use std::alloc::Global;
 
@@ -98,7 +105,7 @@ pub extern "C" fn gefsunk_pm_free(handle: &mut Handle, alloc: Global) -> u32
     };
     match &*kept {
         Kept::Pm(_) => Status::Done.code(),
-        Kept::Disk(_) | Kept::Hba(_) => {
+        Kept::Disk(_) | Kept::Hba(_) | Kept::Machine(_) => {
             *handle = Handle::open(kept);
             Status::Closed.code()
         }
@@ -116,7 +123,7 @@ pub extern "C" fn gefsunk_pm_plug(handle: &mut Handle, alloc: Global, port: u8) 
     };
     let status = match &mut *kept {
         Kept::Pm(pm) => pm.plug(port),
-        Kept::Disk(_) | Kept::Hba(_) => Status::Closed,
+        Kept::Disk(_) | Kept::Hba(_) | Kept::Machine(_) => Status::Closed,
     };
     *handle = Handle::open(kept);
     status.code()
@@ -133,7 +140,7 @@ pub extern "C" fn gefsunk_pm_unplug(handle: &mut Handle, alloc: Global, port: u8
     };
     let status = match &mut *kept {
         Kept::Pm(pm) => pm.unplug(port),
-        Kept::Disk(_) | Kept::Hba(_) => Status::Closed,
+        Kept::Disk(_) | Kept::Hba(_) | Kept::Machine(_) => Status::Closed,
     };
     *handle = Handle::open(kept);
     status.code()
@@ -150,7 +157,7 @@ pub extern "C" fn gefsunk_pm_from_host(handle: &mut Handle, alloc: Global, fis: 
     };
     let status = match &mut *kept {
         Kept::Pm(pm) => pm.from_host(alloc, fis),
-        Kept::Disk(_) | Kept::Hba(_) => Status::Closed,
+        Kept::Disk(_) | Kept::Hba(_) | Kept::Machine(_) => Status::Closed,
     };
     *handle = Handle::open(kept);
     status.code()
@@ -172,7 +179,7 @@ pub extern "C" fn gefsunk_pm_from_device(
     };
     let status = match &mut *kept {
         Kept::Pm(pm) => pm.from_device(alloc, port, fis),
-        Kept::Disk(_) | Kept::Hba(_) => Status::Closed,
+        Kept::Disk(_) | Kept::Hba(_) | Kept::Machine(_) => Status::Closed,
     };
     *handle = Handle::open(kept);
     status.code()
@@ -199,7 +206,7 @@ pub extern "C" fn gefsunk_pm_to_host(
     };
     let status = match &mut *kept {
         Kept::Pm(pm) => pm.to_host(alloc, room, len, port),
-        Kept::Disk(_) | Kept::Hba(_) => Status::Closed,
+        Kept::Disk(_) | Kept::Hba(_) | Kept::Machine(_) => Status::Closed,
     };
     *handle = Handle::open(kept);
     status.code()
@@ -225,7 +232,7 @@ pub extern "C" fn gefsunk_pm_to_device(
     };
     let status = match &mut *kept {
         Kept::Pm(pm) => pm.to_device(port, room, len),
-        Kept::Disk(_) | Kept::Hba(_) => Status::Closed,
+        Kept::Disk(_) | Kept::Hba(_) | Kept::Machine(_) => Status::Closed,
     };
     *handle = Handle::open(kept);
     status.code()
@@ -249,7 +256,7 @@ pub extern "C" fn gefsunk_pm_read(
     };
     let status = match &*kept {
         Kept::Pm(pm) => pm.read(port, number, value),
-        Kept::Disk(_) | Kept::Hba(_) => Status::Closed,
+        Kept::Disk(_) | Kept::Hba(_) | Kept::Machine(_) => Status::Closed,
     };
     *handle = Handle::open(kept);
     status.code()
@@ -270,7 +277,7 @@ pub extern "C" fn gefsunk_pm_dropped(handle: &mut Handle, alloc: Global, count: 
             *count = pm.multiplier.dropped();
             Status::Done
         }
-        Kept::Disk(_) | Kept::Hba(_) => Status::Closed,
+        Kept::Disk(_) | Kept::Hba(_) | Kept::Machine(_) => Status::Closed,
     };
     *handle = Handle::open(kept);
     status.code()
@@ -317,7 +324,7 @@ pub extern "C" fn gefsunk_disk_free(handle: &mut Handle, alloc: Global) -> u32
     };
     match &*kept {
         Kept::Disk(_) => Status::Done.code(),
-        Kept::Pm(_) | Kept::Hba(_) => {
+        Kept::Pm(_) | Kept::Hba(_) | Kept::Machine(_) => {
             *handle = Handle::open(kept);
             Status::Closed.code()
         }
@@ -335,7 +342,7 @@ pub extern "C" fn gefsunk_disk_plug(handle: &mut Handle, alloc: Global) -> u32
     };
     let status = match &mut *kept {
         Kept::Disk(disk) => disk::plug(disk, alloc),
-        Kept::Pm(_) | Kept::Hba(_) => Status::Closed,
+        Kept::Pm(_) | Kept::Hba(_) | Kept::Machine(_) => Status::Closed,
     };
     *handle = Handle::open(kept);
     status.code()
@@ -352,7 +359,7 @@ pub extern "C" fn gefsunk_disk_from_host(handle: &mut Handle, alloc: Global, fis
     };
     let status = match &mut *kept {
         Kept::Disk(disk) => disk::from_host(disk, alloc, fis),
-        Kept::Pm(_) | Kept::Hba(_) => Status::Closed,
+        Kept::Pm(_) | Kept::Hba(_) | Kept::Machine(_) => Status::Closed,
     };
     *handle = Handle::open(kept);
     status.code()
@@ -377,7 +384,7 @@ pub extern "C" fn gefsunk_disk_to_host(
     };
     let status = match &mut *kept {
         Kept::Disk(disk) => disk::to_host(disk, alloc, room, len),
-        Kept::Pm(_) | Kept::Hba(_) => Status::Closed,
+        Kept::Pm(_) | Kept::Hba(_) | Kept::Machine(_) => Status::Closed,
     };
     *handle = Handle::open(kept);
     status.code()
@@ -400,7 +407,7 @@ pub extern "C" fn gefsunk_disk_fail(
     };
     let status = match &mut *kept {
         Kept::Disk(disk) => disk::fail(disk, alloc, tag, error, lba),
-        Kept::Pm(_) | Kept::Hba(_) => Status::Closed,
+        Kept::Pm(_) | Kept::Hba(_) | Kept::Machine(_) => Status::Closed,
     };
     *handle = Handle::open(kept);
     status.code()
@@ -425,7 +432,7 @@ pub extern "C" fn gefsunk_disk_sector(
     };
     let status = match &*kept {
         Kept::Disk(disk) => disk::sector(disk, lba, room),
-        Kept::Pm(_) | Kept::Hba(_) => Status::Closed,
+        Kept::Pm(_) | Kept::Hba(_) | Kept::Machine(_) => Status::Closed,
     };
     *handle = Handle::open(kept);
     status.code()
@@ -459,7 +466,7 @@ pub extern "C" fn gefsunk_hba_free(handle: &mut Handle, alloc: Global) -> u32
     };
     match &*kept {
         Kept::Hba(_) => Status::Done.code(),
-        Kept::Pm(_) | Kept::Disk(_) => {
+        Kept::Pm(_) | Kept::Disk(_) | Kept::Machine(_) => {
             *handle = Handle::open(kept);
             Status::Closed.code()
         }
@@ -483,7 +490,31 @@ pub extern "C" fn gefsunk_hba_read32(
     };
     let status = match &*kept {
         Kept::Hba(port) => hba::read32(port, offset, value),
-        Kept::Pm(_) | Kept::Disk(_) => Status::Closed,
+        Kept::Pm(_) | Kept::Disk(_) | Kept::Machine(_) => Status::Closed,
+    };
+    *handle = Handle::open(kept);
+    status.code()
+}
+
+/// Reads registers of the controller by an access of so many bytes.
+#[unsafe(no_mangle)]
+pub extern "C" fn gefsunk_hba_read(
+    handle: &mut Handle,
+    alloc: Global,
+    offset: u32,
+    count: u32,
+    value: &mut u64,
+) -> u32
+    ensures rule { AtHba handle.old.held.value (status_of result) handle.new.held.value
+        (λ old new. HbaReadAny old offset count (status_of result) value.new × (new ≡ old)) }
+    ensures kept { status_of result ≢ status.Done → value.new ≡ value.old }
+{
+    let Some(kept) = handle.take(alloc) else {
+        return Status::Closed.code();
+    };
+    let status = match &*kept {
+        Kept::Hba(port) => hba::read(port, offset, count, value),
+        Kept::Pm(_) | Kept::Disk(_) | Kept::Machine(_) => Status::Closed,
     };
     *handle = Handle::open(kept);
     status.code()
@@ -501,7 +532,7 @@ pub extern "C" fn gefsunk_hba_line(handle: &mut Handle, alloc: Global, raised: &
     };
     let status = match &*kept {
         Kept::Hba(port) => hba::line(port, raised),
-        Kept::Pm(_) | Kept::Disk(_) => Status::Closed,
+        Kept::Pm(_) | Kept::Disk(_) | Kept::Machine(_) => Status::Closed,
     };
     *handle = Handle::open(kept);
     status.code()
@@ -529,7 +560,36 @@ pub extern "C" fn gefsunk_hba_write32(
     let guest = GuestBlock::new(base, memory);
     let status = match &mut *kept {
         Kept::Hba(port) => { hba::write32(port, alloc, &guest, offset, value, link, message) }
-        Kept::Pm(_) | Kept::Disk(_) => Status::Closed,
+        Kept::Pm(_) | Kept::Disk(_) | Kept::Machine(_) => Status::Closed,
+    };
+    *handle = Handle::open(kept);
+    status.code()
+}
+
+/// The same by an access of so many bytes.
+#[unsafe(no_mangle)]
+pub extern "C" fn gefsunk_hba_write(
+    handle: &mut Handle,
+    alloc: Global,
+    memory: &[u8],
+    base: u64,
+    offset: u32,
+    count: u32,
+    value: u64,
+    link: &mut u32,
+    message: &mut u32,
+) -> u32
+    ensures rule { AtHba handle.old.held.value (status_of result) handle.new.held.value
+        (λ old new. HbaWriteAny old (block base memory.now) offset count value (status_of result) link.new message.new new) }
+    ensures kept { status_of result ≢ status.Done → (link.new ≡ link.old) × (message.new ≡ message.old) }
+{
+    let Some(mut kept) = handle.take(alloc) else {
+        return Status::Closed.code();
+    };
+    let guest = GuestBlock::new(base, memory);
+    let status = match &mut *kept {
+        Kept::Hba(port) => { hba::write(port, alloc, &guest, offset, count, value, link, message) }
+        Kept::Pm(_) | Kept::Disk(_) | Kept::Machine(_) => Status::Closed,
     };
     *handle = Handle::open(kept);
     status.code()
@@ -552,7 +612,7 @@ pub extern "C" fn gefsunk_hba_take(
     };
     let status = match &mut *kept {
         Kept::Hba(port) => hba::take(port, alloc, fis, taken),
-        Kept::Pm(_) | Kept::Disk(_) => Status::Closed,
+        Kept::Pm(_) | Kept::Disk(_) | Kept::Machine(_) => Status::Closed,
     };
     *handle = Handle::open(kept);
     status.code()
@@ -577,7 +637,7 @@ pub extern "C" fn gefsunk_hba_data(
     };
     let status = match &*kept {
         Kept::Hba(port) => hba::data(port, room, count),
-        Kept::Pm(_) | Kept::Disk(_) => Status::Closed,
+        Kept::Pm(_) | Kept::Disk(_) | Kept::Machine(_) => Status::Closed,
     };
     *handle = Handle::open(kept);
     status.code()
@@ -609,7 +669,7 @@ pub extern "C" fn gefsunk_hba_next_out(
     let guest = GuestBlock::new(base, memory);
     let status = match &mut *kept {
         Kept::Hba(port) => hba::next_out(port, alloc, &guest, room, len, sent),
-        Kept::Pm(_) | Kept::Disk(_) => Status::Closed,
+        Kept::Pm(_) | Kept::Disk(_) | Kept::Machine(_) => Status::Closed,
     };
     *handle = Handle::open(kept);
     status.code()

@@ -42,6 +42,36 @@ pub enum Status {
     NoSector = 18,
     /// No command can have this tag.
     NoTag = 19,
+    /// An access to registers cannot have this many bytes.
+    BadWidth = 20,
+    /// A disk cannot have this many sectors.
+    BadSectors = 21,
+    /// The text is longer than its field, or has a character that is not printable.
+    BadText = 22,
+    /// A queue cannot have this many commands.
+    BadDepth = 23,
+    /// No medium turns at this speed.
+    BadRotation = 24,
+    /// A physical sector cannot have this many bytes.
+    BadPhysical = 25,
+    /// The commands of a disk cannot be bounded by this many bytes.
+    BadLimit = 26,
+    /// What is at the port is plugged in already.
+    PluggedIn = 27,
+    /// No event asks for such bytes.
+    NotWanted = 28,
+    /// The disk that asked is not at the port any more.
+    OtherDisk = 29,
+    /// No request of this number is out.
+    NotOut = 30,
+    /// The request asked for something else.
+    OtherKind = 31,
+    /// The load asked for another number of bytes.
+    OtherLength = 32,
+    /// The request does not have this sector.
+    OtherSector = 33,
+    /// A request cannot fail in this way.
+    BadError = 34,
 }
 
 impl Status {

@@ -2,7 +2,7 @@
 //! plays the driver, and reads a sector of each disk with both commands issued before either is answered.
 
 use gefsunk::{
-    fis_text, Controller, Disk, DiskPlan, Error, FisRoom, GuestMemory, Multiplier, FIS_ROOM,
+    fis_text, Controller, Disk, DiskPlan, Error, FisRoom, GuestMemory, Multiplier, Width, FIS_ROOM,
 };
 
 /// Registers of the controller and of its port.
@@ -78,7 +78,10 @@ impl Machine {
     }
 
     fn read(&mut self, offset: u32) -> Result<u32, Error> {
-        self.controller.read32(offset)
+        let value = self.controller.read32(offset)?;
+        let wide = self.controller.read(offset, Width::Dword)?;
+        assert_eq!(wide, u64::from(value), "an access of any width");
+        Ok(value)
     }
 
     fn write(&mut self, offset: u32, value: u32) -> Result<(), Error> {

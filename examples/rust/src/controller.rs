@@ -39,6 +39,19 @@ pub enum Link {
     Up,
 }
 
+/// How many bytes an access to registers has.
+#[derive(Debug, Clone, Copy, PartialEq, Eq)]
+pub enum Width {
+    /// 1.
+    Byte = 1,
+    /// 2.
+    Word = 2,
+    /// 4.
+    Dword = 4,
+    /// 8.
+    Qword = 8,
+}
+
 /// What a write of a register did.
 #[derive(Debug, Clone, Copy, PartialEq, Eq)]
 pub struct Written {
@@ -46,6 +59,19 @@ pub struct Written {
     pub link: Link,
     /// Whether a message (MSI) is due.
     pub message: bool,
+}
+
+impl Written {
+    fn of(link: u32, message: u32) -> Written {
+        Written {
+            link: match link {
+                1 => Link::Reset,
+                2 => Link::Up,
+                _ => Link::Stays,
+            },
+            message: message != 0,
+        }
+    }
 }
 
 /// PRDBC of a command: the bytes that came over so far.
@@ -146,6 +172,20 @@ impl Controller {
         Ok(value)
     }
 
+    /// What the registers read at an offset, by an access of this width, the lowest byte first. One that crosses a boundary of
+    /// eight bytes reads 0.
+    ///
+    /// # Errors
+    /// None that these bindings leave possible.
+    pub fn read(&mut self, offset: u32, width: Width) -> Result<u64, Error> {
+        let mut value = 0;
+        // SAFETY: as in `read32`.
+        Error::check(unsafe {
+            ffi::gef_hba_read(&mut self.handle, offset, width as u32, &mut value)
+        })?;
+        Ok(value)
+    }
+
     /// Whether the interrupt line is up.
     ///
     /// # Errors
@@ -180,15 +220,35 @@ impl Controller {
                 &mut message,
             )
         })?;
-        let link = match link {
-            1 => Link::Reset,
-            2 => Link::Up,
-            _ => Link::Stays,
-        };
-        Ok(Written {
-            link,
-            message: message != 0,
-        })
+        Ok(Written::of(link, message))
+    }
+
+    /// The same by an access of this width, the lower dword first. Bits outside it stay, and where ones act nothing is written
+    /// to them. An access that crosses a boundary of eight bytes is ignored.
+    ///
+    /// # Errors
+    /// None that these bindings leave possible.
+    pub fn write(
+        &mut self,
+        memory: GuestMemory<'_>,
+        offset: u32,
+        width: Width,
+        value: u64,
+    ) -> Result<Written, Error> {
+        let (mut link, mut message) = (0, 0);
+        // SAFETY: as in `write32`.
+        Error::check(unsafe {
+            ffi::gef_hba_write(
+                &mut self.handle,
+                &memory.raw(),
+                offset,
+                width as u32,
+                value,
+                &mut link,
+                &mut message,
+            )
+        })?;
+        Ok(Written::of(link, message))
     }
 
     /// A FIS of a device arrives, with its port in PM Port.

@@ -106,12 +106,22 @@ extern "C" {
     pub(crate) fn gef_hba_new(hba: *mut Hba) -> c_int;
     pub(crate) fn gef_hba_free(hba: *mut Hba) -> c_int;
     pub(crate) fn gef_hba_read32(hba: *mut Hba, offset: u32, value: *mut u32) -> c_int;
+    pub(crate) fn gef_hba_read(hba: *mut Hba, offset: u32, width: u32, value: *mut u64) -> c_int;
     pub(crate) fn gef_hba_line(hba: *mut Hba, raised: *mut u32) -> c_int;
     pub(crate) fn gef_hba_write32(
         hba: *mut Hba,
         memory: *const Memory,
         offset: u32,
         value: u32,
+        link: *mut u32,
+        message: *mut u32,
+    ) -> c_int;
+    pub(crate) fn gef_hba_write(
+        hba: *mut Hba,
+        memory: *const Memory,
+        offset: u32,
+        width: u32,
+        value: u64,
         link: *mut u32,
         message: *mut u32,
     ) -> c_int;

@@ -14,7 +14,9 @@ mod multiplier;
 
 use core::ffi::{c_char, CStr};
 
-pub use controller::{ByteCount, Controller, GuestMemory, Link, Out, Place, Taken, Written};
+pub use controller::{
+    ByteCount, Controller, GuestMemory, Link, Out, Place, Taken, Width, Written,
+};
 pub use disk::{Disk, DiskPlan};
 pub use error::Error;
 pub use multiplier::{Multiplier, CONTROL_PORT};
