@@ -2,7 +2,7 @@
 -- parts stay (AHCI 1.3.1, 5.3, a port's state machine; Serial ATA 3.x, 16.3, frame transmission by a port multiplier).
 use Rattle.std.specs.Prelude.{◌≡◌, ◌≢◌, ◌⊎◌, ◌||◌, ℕ, zero, suc, nat_lt, length, Bool, true, false, if◌then◌else◌, List, slice_set, slice_index_or, Option, Some, None, is_some, Result, Ok, Err, MatchOption, IfSome}
 use Rattle.std.specs.Int.{to_le_bytes, w32}
-use Rattle.fis_view.specs.Frames.{Stamped}
+use Rattle.fis_view.specs.Frames.{IsFrame, Stamped}
 use Rattle.fis_view.specs.Seen.{seen}
 use Rattle.multiplier.specs.declared.multiplier.Passed.{Passed}
 use Rattle.pm_ports.specs.declared.port.Offered.TheVariants.{Held}
@@ -188,7 +188,9 @@ pub record RisesNext (old new : MachineState) : Type 0 where
 pub record TakesNext (took : Took) (old new : MachineState) : Type 0 where
   pub frame : Stamped
   pub on : old.incoming ≡ Some frame
+  pub framed : IsFrame frame.bytes
   pub once : old.taken ≡ false
+  pub free : hindrance old.controller ≡ None
   pub hears : Hears old.controller frame.bytes took new.controller
   pub rest : new ≡ record old {
     controller = new.controller;

@@ -8,7 +8,7 @@ use Rattle.block_engine.specs.Engine.{IsEngineStart, IsRequested, started}
 use Rattle.block_engine.specs.declared.request.Request.{Request}
 use Rattle.fan_out.specs.FanOuts.{GivesDownThere, Offers, wants_at}
 use Rattle.fan_out.specs.declared.fan_out.FanOut.{FanOut}
-use Rattle.sata_disk.specs.Hearing.{fis_heard, fis_unheard, plugged}
+use Rattle.sata_disk.specs.Hearing.{MayHear, fis_heard, fis_unheard, plugged}
 use Rattle.sata_disk.specs.Sending.{IsFis, IsOut, after_sent}
 use Rattle.sata_disk.specs.State.{DiskState}
 use Rattle.sata_disk.specs.declared.out.Out.{Out}
@@ -49,6 +49,7 @@ pub record Hears (unheard : Option Unheard) (old new : Bay) : Type 0 where
   pub frame : Stamped
   pub there : old.unit ≡ Disk disk
   pub given : old.down ≡ Some frame
+  pub may : MayHear disk (seen frame.bytes)
   pub why : unheard ≡ fis_unheard disk (seen frame.bytes)
   pub rest : new ≡ with_heard old (Disk (fis_heard disk (seen frame.bytes)))
 

@@ -263,6 +263,7 @@ impl Machine {
         let Some(frame) = &self.incoming else {
             return None;
         };
+        let _ = frame.bytes();
         match self.controller.take(frame) {
             Ok(took) => {
                 self.message = self.message || took.message;

@@ -1,6 +1,9 @@
 //! The machine, and its registers.
 
 ghost use Rattle.std.specs.Prelude.{◌≡◌, IfOk};
+ghost use Rattle.slots.specs.Table.{IsTable};
+ghost use Rattle.hba_fbs.specs.Views.{IsCorePort};
+ghost use Rattle.ahci_controller.specs.Rules.{IsRuled};
 ghost use Rattle.ahci_controller.specs.Wide.{read_wide};
 ghost use Rattle.ahci_machine.specs.Registers.{WritesMachine, lent_bytes, part_of, renewed};
 ghost use Rattle.ahci_machine.specs.States.{IsOpeningMachine, no_gathering as no_gathering_of};
@@ -104,6 +107,15 @@ impl Machine {
             first: false,
             turn: 0,
         })
+    }
+
+    /// What every machine keeps: the rules of its controller, of which the laws over runs speak. The call has no effect.
+    pub fn keeps_rules(&self)
+        ensures port { IsCorePort self.now.controller.core }
+        ensures slots { IsTable self.now.controller.core.slots }
+        ensures rules { IsRuled self.now.controller }
+    {
+        self.controller.keeps_rules();
     }
 
     /// What the registers read at an offset. An access that crosses a boundary of eight bytes reads 0.

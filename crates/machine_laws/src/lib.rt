@@ -1,0 +1,9 @@
+//! Laws over every run of a machine (`ahci_machine`): whatever its guest, its devices and its media do.
+//!
+//! Each function here is a law: its clauses hold of every machine, and it runs no code. What happens to a machine is a list of its
+//! calls and of its own moves; what that is to each of its parts is a list of calls of that part, so the laws of the parts hold.
+#![tactic(auto)]
+
+mod laws;
+
+pub use laws::{disks_go_on, ports_are_apart};
