@@ -1,26 +1,23 @@
 -- What is done at one port leaves what is at another.
-use Rattle.std.proofs.Common.{◌≡◌, ℕ, Bool, true, false, List, get_or, length, set, Option, Some, None, Result, Ok, Err, refl, sym, ap, subst, ◌∙◌, inl, inr}
+use Rattle.std.proofs.Common.{◌≡◌, ℕ, Bool, true, false, List, get_or, length, set, None, Result, Ok, Err, refl, ap, ◌∙◌, inl, inr}
 use Rattle.std.specs.Prelude.{if◌then◌else◌, ◌==◌, ◌||◌, MatchOption, MatchResult, IsOk, OnErr, OnOk, nat_lt}
 use Rattle.std.specs.Bool.{MatchBool}
 use Rattle.std.specs.Result.{IsErrOf}
 use Rattle.std.specs.declared.alloc.AllocError.{AllocError}
-use Rattle.fis_view.specs.Frames.{Stamped}
 use Rattle.block_engine.specs.Engine as engine
 use Rattle.block_engine.specs.declared.request.Answer.{Answer}
-use Rattle.ahci_controller.specs.declared.access.Width.{Width}
 use Rattle.ahci_controller.specs.declared.feeding.Fed.{Fed}
 use Rattle.ahci_controller.specs.declared.feeding.Fed.TheVariants as fed
 use Rattle.ahci_controller.specs.declared.next.Next.{Next}
 use Rattle.ahci_controller.specs.declared.next.Next.TheVariants as next
-use Rattle.ahci_controller.specs.declared.wide.WideWritten.{WideWritten}
 use Rattle.sata_disk.specs.State.{DiskState}
 use Rattle.ahci_machine.specs.Acts as acts
 use Rattle.ahci_machine.specs.Acts.{DoesBy, GoesBy, ServesNext, feeding, with_bay, with_controller}
-use Rattle.ahci_machine.specs.Answers.{AnswersDisk, AnswersMachine, MissesMachine, MissesFor, SuppliesData, SuppliesMachine, OffersFrame, TakesFrame, disk_at, is_own, is_wanted, taken_bay}
+use Rattle.ahci_machine.specs.Answers.{AnswersDisk, AnswersMachine, MissesMachine, MissesFor, SuppliesData, SuppliesMachine, disk_at, is_own, is_wanted, taken_bay}
 use Rattle.ahci_machine.specs.Bays.{begun, with_unit}
 use Rattle.ahci_machine.specs.Gathers.{GatheringState}
-use Rattle.ahci_machine.specs.Ports.{PlugsIn, PlugsMachine, PullsMachine, PullsOut, PullsPart, Puts, Removes, TakesUnit, filled, has_bay, is_empty, on_bay}
-use Rattle.ahci_machine.specs.Registers.{WritesMachine, link_stays, message_of, renewed}
+use Rattle.ahci_machine.specs.Ports.{PlugsIn, PlugsMachine, PullsMachine, PullsOut, Puts, TakesUnit, filled, has_bay, is_empty, on_bay}
+use Rattle.ahci_machine.specs.Registers.{link_stays, message_of, renewed}
 use Rattle.ahci_machine.specs.States.{MachineState, bay_at, empty_bay, gathering_at}
 use Rattle.ahci_machine.specs.declared.act.Act.{Act}
 use Rattle.ahci_machine.specs.declared.act.Act.TheVariants as act
@@ -36,8 +33,8 @@ use Rattle.ahci_machine.specs.declared.request.MediumId.{MediumId}
 use Rattle.ahci_machine.specs.declared.request.Wanted.{Wanted}
 use Rattle.ahci_machine.specs.declared.request.Wanted.TheVariants.{Command, Data}
 use Rattle.machine_laws.proofs.Cases.{by_bool, by_option, other_bay}
-use Rattle.machine_laws.specs.Deeds.{Deed, Does, Moved, Unlent, Wrote, Powered, Supplied, Missed, Answered, Put, Plugged, Pulled, Removed, FrameTaken, FrameOffered}
-use Rattle.machine_laws.specs.Ports.{PortsAreApart, is_at, is_move_at}
+use Rattle.machine_laws.specs.Deeds.{Moved, Unlent, Wrote, Powered, Supplied, Missed, Answered, Put, Plugged, Pulled, Removed, FrameTaken, FrameOffered}
+use Rattle.machine_laws.specs.Ports.{PortsAreApart, is_move_at}
 
 abbrev Same : MachineState → MachineState → ℕ → Type 0
 Same old new port = bay_at new port ≡ bay_at old port

@@ -1,10 +1,9 @@
 -- Answers by cases, each with what it stands for.
-use Rattle.std.proofs.Common.{◌≡◌, ℕ, ◌<◌, Bool, true, false, List, length, get_or, set, Option, Some, None, Result, Ok, Err, refl, sym, ap, subst, ◌∙◌}
-use Rattle.std.specs.Prelude.{if◌then◌else◌, ◌==◌, MatchOption, MatchResult, nat_lt}
+use Rattle.std.proofs.Common.{◌≡◌, ℕ, Bool, true, false, List, length, get_or, set, Option, Some, None, refl, sym, ap}
+use Rattle.std.specs.Prelude.{◌==◌, MatchOption, nat_lt}
 use Rattle.std.specs.Bool.{MatchBool}
 use Rattle.std.proofs.lemmas.Bool.{eqb-false, ltb-true}
 use Rattle.std.proofs.lemmas.List.{get_or-set_same, get_or-set_other}
-use Rattle.ahci_machine.specs.Acts.{with_bay}
 use Rattle.ahci_machine.specs.States.{MachineState, bay_at, empty_bay}
 use Rattle.ahci_machine.specs.declared.bay.Bay.{Bay}
 

@@ -1,5 +1,5 @@
 -- What happens to a machine is to each of its disks a list of that disk's own calls.
-use Rattle.std.proofs.Common.{◌≡◌, ℕ, ◌<◌, Bool, true, false, List, [], ◌∷◌, length, get_or, set, Option, Some, None, Result, Ok, Err, refl, sym, ap, subst, ◌∙◌}
+use Rattle.std.proofs.Common.{◌≡◌, ℕ, Bool, true, false, List, [], ◌∷◌, length, get_or, set, Option, Some, None, Result, Ok, Err, refl, sym, ap, subst, ◌∙◌}
 use Rattle.std.specs.Prelude.{if◌then◌else◌, ◌==◌, MatchOption, MatchResult, IsOk, OnErr, OnOk, nat_lt}
 use Rattle.std.specs.Bool.{MatchBool}
 use Rattle.std.specs.Result.{IsErrOf}
@@ -12,7 +12,6 @@ use Rattle.block_engine.specs.Engine as engine
 use Rattle.block_engine.specs.Engine.{EngineState, IsAskedOf, IsRequested, answer_refusal}
 use Rattle.block_engine.specs.declared.request.Answer.{Answer}
 use Rattle.block_engine.specs.declared.request.Request.{Request}
-use Rattle.sata_disk.specs.Hearing.{fis_heard}
 use Rattle.sata_disk.specs.State.{DiskState}
 use Rattle.sata_disk.specs.declared.out.Out.{Out}
 use Rattle.sata_disk.specs.declared.unheard.Unheard.{Unheard}
@@ -21,7 +20,7 @@ use Rattle.sata_disk_laws.specs.Calls.{AreCalls, Call, IsCall, after_call, after
 use Rattle.sata_disk_laws.specs.Calls as call
 use Rattle.ahci_machine.specs.Acts as acts
 use Rattle.ahci_machine.specs.Acts.{ServesNext}
-use Rattle.ahci_machine.specs.Answers.{AnswersDisk, AnswersMachine, TakesFrame, disk_at, disk_in, is_own, taken_bay}
+use Rattle.ahci_machine.specs.Answers.{AnswersDisk, AnswersMachine, disk_at, disk_in, is_own, taken_bay}
 use Rattle.ahci_machine.specs.Bays as bays
 use Rattle.ahci_machine.specs.Bays.{begun, with_unit}
 use Rattle.ahci_machine.specs.Ports.{PullsMachine, PullsOut, Puts, filled, has_bay, is_empty, on_bay}
@@ -39,7 +38,7 @@ use Rattle.ahci_machine.specs.declared.request.MediumId.{MediumId}
 use Rattle.machine_laws.proofs.Cases.{by_bool, by_option, this_bay}
 use Rattle.machine_laws.proofs.Apart.{apart, moved, plugged_same}
 use Rattle.machine_laws.specs.Deeds.{Deed, Does, Moved, Unlent, Wrote, Powered, Supplied, Missed, Answered, Put, Plugged, Pulled, Removed, FrameTaken, FrameOffered}
-use Rattle.machine_laws.specs.Disks.{DisksGoOn, GoesOn, at_port, calls_at, calls_by, heard, is_removed, unless_refused}
+use Rattle.machine_laws.specs.Disks.{DisksGoOn, GoesOn, at_port, calls_by, heard, unless_refused}
 use Rattle.machine_laws.specs.Ports.{is_at}
 
 pub goes_one : (d : DiskState) (c : Call) (now : Inside) → IsCall d c → now ≡ Disk (after_call d c) → GoesOn d (c ∷ []) now
@@ -56,7 +55,7 @@ the_disk d (Disk e) = e
 the_disk d Empty = d
 the_disk d Own = d
 
-one_disk : (d e : DiskState) → Disk d ≡ Disk e → d ≡ e
+pub one_disk : (d e : DiskState) → Disk d ≡ Disk e → d ≡ e
 one_disk d e is = ap (the_disk d) is
 
 -- ---- at this port, or at another
@@ -134,11 +133,11 @@ inside_by true m port d is there = is
 inside_by false m port d is there =
     absurd (no_disk d (sym (ap (λ (b : Bay). b.unit) (get_or_past m.bays port empty_bay (ltb-false port (length m.bays) is))) ∙ there))
 
-inside : (m : MachineState) (port : ℕ) (d : DiskState) → (bay_at m port).unit ≡ Disk d → nat_lt port (length m.bays) ≡ true
+pub inside : (m : MachineState) (port : ℕ) (d : DiskState) → (bay_at m port).unit ≡ Disk d → nat_lt port (length m.bays) ≡ true
 inside m port d there = inside_by (nat_lt port (length m.bays)) m port d refl there
 
 -- what is there afterwards
-here : (old new : MachineState) (port : ℕ) (b : Bay) → nat_lt port (length old.bays) ≡ true → new.bays ≡ set old.bays port b → bay_at new port ≡ b
+pub here : (old new : MachineState) (port : ℕ) (b : Bay) → nat_lt port (length old.bays) ≡ true → new.bays ≡ set old.bays port b → bay_at new port ≡ b
 here old new port b low is = ap (λ (l : List Bay). get_or l port empty_bay) is ∙ this_bay old.bays port b low
 
 begun_unit : (b : Bay) (d : DiskState) → b.unit ≡ Disk d → (begun b).unit ≡ Disk (after_call d call.Plugs)
@@ -170,7 +169,7 @@ serve a calls n port old new d there h is by does =
     (λ off. left old new port d there (moved a old new port does (is ∙ off)))
 
 -- either way the same is so
-either_way : (X : Type 0) (b : Bool) (n port : ℕ) → (n == port) ≡ b → (n ≡ port → X) → ((n == port) ≡ false → X) → X
+pub either_way : (X : Type 0) (b : Bool) (n port : ℕ) → (n == port) ≡ b → (n ≡ port → X) → ((n == port) ≡ false → X) → X
 either_way X true n port is here there = here (eqb-true n port is)
 either_way X false n port is here there = there is
 
@@ -313,7 +312,7 @@ pulled_ok old new port d (Ok x) (Err e) low there is told = absurd (false≢true
 pulled_ok old new port d (Err x) told low there is by =
     refused told Absent (call.Plugs ∷ []) d (bay_at new port).unit by (left old new port d there (ap (λ (m : MachineState). bay_at m port) is))
 
-pulled_here : (old new : MachineState) (told : Result (Unit {0}) PortFault) (port : ℕ) (d : DiskState) → (bay_at old port).unit ≡ Disk d
+pub pulled_here : (old new : MachineState) (told : Result (Unit {0}) PortFault) (port : ℕ) (d : DiskState) → (bay_at old port).unit ≡ Disk d
     → PullsMachine port old told new → GoesOn d (unless_refused told (call.Plugs ∷ [])) (bay_at new port).unit
 pulled_here old new told port d there h =
     by_bool (GoesOn d (unless_refused told (call.Plugs ∷ [])) (bay_at new port).unit) (PullsOut port old told new)

@@ -1,3 +1,4 @@
 pub mod Cases
 pub mod Apart
 pub mod GoOn
+pub mod Reach

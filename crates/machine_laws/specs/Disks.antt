@@ -1,9 +1,8 @@
 -- Each disk of a machine goes by its own calls alone: those that are of its port (ACS-3, and `sata_disk_laws` for what they are).
-use Rattle.std.specs.Prelude.{◌≡◌, ◌==◌, ◌&&◌, ◌⊎◌, ℕ, Bool, true, false, if◌then◌else◌, List, [], ◌∷◌, Option, Some, None, Result, Ok, Err}
+use Rattle.std.specs.Prelude.{◌≡◌, ◌==◌, ℕ, Bool, false, if◌then◌else◌, List, [], ◌∷◌, Option, Some, None, Result, Ok, Err}
 use Rattle.fis_view.specs.Frames.{Stamped}
 use Rattle.block_disk.specs.Requests.{AreSeenRightly, no_books}
 use Rattle.block_queue.specs.Deeds.{AllAreApart, AreNamed}
-use Rattle.block_engine.specs.declared.request.Answer.{Answer}
 use Rattle.disk_pages.specs.declared.profile.Profile.{Profile}
 use Rattle.sata_disk.specs.State.{DiskState, new_disk}
 use Rattle.sata_disk_laws.specs.Calls.{AreCalls, Call, after_calls}
@@ -12,9 +11,8 @@ use Rattle.sata_disk_laws.specs.Laws.{seen_in}
 use Rattle.ahci_machine.specs.States.{IsOpeningMachine, MachineState, bay_at}
 use Rattle.ahci_machine.specs.declared.act.Act.{Act}
 use Rattle.ahci_machine.specs.declared.act.Act.TheVariants as act
-use Rattle.ahci_machine.specs.declared.bay.Bay.{Bay}
 use Rattle.ahci_machine.specs.declared.bay.Unit.{Unit as Inside}
-use Rattle.ahci_machine.specs.declared.bay.Unit.TheVariants.{Empty, Disk, Own}
+use Rattle.ahci_machine.specs.declared.bay.Unit.TheVariants.{Disk}
 use Rattle.machine_laws.specs.Deeds.{Deed, Does, Runs, Moved, Answered, Put, Pulled, Removed}
 
 -- the FIS that was given

@@ -6,4 +6,4 @@
 
 mod laws;
 
-pub use laws::{disks_go_on, ports_are_apart};
+pub use laws::{disks_go_on, disks_have_their_laws, ports_are_apart};
