@@ -148,14 +148,9 @@ abbrev pub missed_message : Fed → Bool
 missed_message (fed.Missed message line) = message
 missed_message other = false
 
-pub record MissesOf (f : Feed) (dev : ℕ) (answer : Fed) (old new : MachineState) : Type 0 where
-  pub is : dev ≡ f.dev
+pub record MissesOf (f : Feed) (answer : Fed) (old new : MachineState) : Type 0 where
   pub misses : MissesData old.controller f.dev f.number answer new.controller
   pub rest : new ≡ record old { controller = new.controller; message = old.message || missed_message answer }
-
-abbrev pub MissesBy : Feed → MachineState → Act → MachineState → Type 0
-MissesBy f old (act.Misses dev answer) new = MissesOf f dev answer old new
-MissesBy f old other new = ⊥
 
 abbrev pub AwaitsAt : MachineState → (dev : ℕ) → Waits → Type 0
 AwaitsAt m dev w = MatchOption (gathering_at m dev) ⊥ (λ g. Awaits g m.controller w)
@@ -170,12 +165,13 @@ pub record GathersNext (dev : ℕ) (answer : Fed) (old new : MachineState) : Typ
   pub gathers : GathersOf gathering dev answer (with_gathering old place None) new
 
 -- some of them have no place
-pub record MissesNext (dev : ℕ) (answer : Fed) (old new : MachineState) : Type 0 where
+pub record MissesNext (slot : ℕ) (answer : Fed) (old new : MachineState) : Type 0 where
   pub place : ℕ
   pub gathering : GatheringState
+  pub is : slot ≡ gathering.feed.slot
   pub there : gathering_at old place ≡ Some gathering
   pub nowhere : Awaits gathering old.controller waits.Nowhere
-  pub misses : MissesOf gathering.feed dev answer (with_gathering old place None) new
+  pub misses : MissesOf gathering.feed answer (with_gathering old place None) new
 
 -- ---- frames of the devices
 
@@ -237,7 +233,7 @@ Does old (act.Does said) new = DoesNext said old new
 Does old (act.Sends passed) new = SendsNext passed old new
 Does old (act.Wants read) new = WantsNext read old new
 Does old (act.Gathers dev answer) new = GathersNext dev answer old new
-Does old (act.Misses dev answer) new = MissesNext dev answer old new
+Does old (act.Misses slot answer) new = MissesNext slot answer old new
 Does old act.Rises new = RisesNext old new
 Does old (act.Takes took) new = TakesNext took old new
 Does old (act.Loses why) new = LosesNext why old new

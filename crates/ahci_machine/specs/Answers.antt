@@ -9,6 +9,7 @@ use Rattle.block_engine.specs.Engine.{answer_refusal, answered}
 use Rattle.block_engine.specs.declared.request.Answer.{Answer}
 use Rattle.ahci_controller.specs.Fetching.{AnswersTo, Misses}
 use Rattle.ahci_controller.specs.States.{ControllerState}
+use Rattle.ahci_controller.specs.declared.feeding.Fed.{Fed}
 use Rattle.ahci_controller.specs.declared.issuing.Supply.{Supply}
 use Rattle.ahci_controller.specs.declared.issuing.Supply.TheVariants as supply
 use Rattle.block_engine.specs.declared.request.Range.{Range}
@@ -16,13 +17,14 @@ use Rattle.block_queue.specs.Line.{command_at}
 use Rattle.slots.specs.Slots.{match_some}
 use Rattle.fan_out.specs.FanOuts.{Offers, wants_at}
 use Rattle.sata_disk.specs.State.{DiskState, commands}
-use Rattle.ahci_machine.specs.Acts.{MissesBy, with_gathering}
+use Rattle.ahci_machine.specs.Acts.{MissesOf, with_gathering}
 use Rattle.ahci_machine.specs.Bays.{with_unit}
 use Rattle.ahci_machine.specs.Gathers.{GatheringState, Supplies, is_asked}
 use Rattle.ahci_machine.specs.States.{MachineState, bay_at, gathering_at}
-use Rattle.ahci_machine.specs.declared.act.Act.{Act}
 use Rattle.ahci_machine.specs.declared.answers.MediumError.{MediumError}
 use Rattle.ahci_machine.specs.declared.answers.MediumError.TheVariants as medium
+use Rattle.ahci_machine.specs.declared.answers.Told.{Told}
+use Rattle.ahci_machine.specs.declared.answers.Told.TheVariants as told
 use Rattle.ahci_machine.specs.declared.bay.Bay.{Bay}
 use Rattle.ahci_machine.specs.declared.bay.Unit.{Unit as Inside}
 use Rattle.ahci_machine.specs.declared.bay.Unit.TheVariants.{Empty, Disk, Own}
@@ -36,52 +38,70 @@ abbrev pub supply_message : Supply → Bool
 supply_message (supply.NotTaken why message line) = message
 supply_message other = false
 
--- memory was refused: the same bytes are wanted again
-abbrev pub is_refused : Supply → Bool
-is_refused supply.OutOfMemory = true
-is_refused other = false
+-- what it says of the command of a slot; where memory was refused, the same bytes are wanted again
+abbrev pub told_by : (slot : ℕ) → Supply → Option Told
+told_by slot supply.Stale = Some told.Stale
+told_by slot supply.More = Some told.Kept
+told_by slot (supply.Issued dev) = Some (told.Issued slot dev)
+told_by slot (supply.NotTaken why message line) = Some (told.NotTaken slot why)
+told_by slot supply.OutOfMemory = None
 
-abbrev pub IsToldBy : Supply → Result (Unit {0}) AllocError → Type 0
-IsToldBy answer result = MatchResult result (λ _. is_refused answer ≡ false) (λ _. is_refused answer ≡ true)
+abbrev pub IsToldBy : (slot : ℕ) → Supply → Result Told AllocError → Type 0
+IsToldBy slot answer result = MatchResult result (λ it. told_by slot answer ≡ Some it) (λ _. told_by slot answer ≡ None)
 
--- bytes of a command
-pub record Fetches (Rule : ControllerState → Supply → ControllerState → Type 0) (old : MachineState)
-    (result : Result (Unit {0}) AllocError) (new : MachineState) : Type 0 where
+-- bytes of the command of a slot
+pub record Fetches (Rule : ControllerState → Supply → ControllerState → Type 0) (slot : ℕ) (old : MachineState)
+    (result : Result Told AllocError) (new : MachineState) : Type 0 where
   pub answer : Supply
   pub rule : Rule old.controller answer new.controller
   pub rest : new ≡ record old { controller = new.controller; message = old.message || supply_message answer }
-  pub is : IsToldBy answer result
+  pub is : IsToldBy slot answer result
 
 -- bytes of a Data FIS
-pub record SuppliesData (g : GatheringState) (dev number done : ℕ) (bytes : List ℕ) (old new : MachineState) : Type 0 where
+abbrev pub told_of : (kept : Bool) → Told
+told_of kept = if kept then told.Kept else told.Stale
+
+pub record SuppliesData (g : GatheringState) (dev number done : ℕ) (bytes : List ℕ) (old : MachineState) (it : Told) (new : MachineState)
+    : Type 0 where
   pub after : GatheringState
-  pub supplies : Supplies g number done bytes after
+  pub kept : Bool
+  pub supplies : Supplies g number done bytes kept after
+  pub is : it ≡ told_of kept
   pub rest : new ≡ with_gathering old dev (Some after)
 
-abbrev pub SuppliesMachine : Wanted → List ℕ → MachineState → Result (Unit {0}) AllocError → MachineState → Type 0
+-- nothing of the kind is wanted
+abbrev pub IsStale : MachineState → Told → MachineState → Type 0
+IsStale old it new = (it ≡ told.Stale) × (new ≡ old)
+
+abbrev pub SuppliesMachine : Wanted → List ℕ → MachineState → Result Told AllocError → MachineState → Type 0
 SuppliesMachine (Command slot number) bytes old result new =
-    Fetches (λ before answer after. AnswersTo before slot number bytes answer after) old result new
+    Fetches (λ before answer after. AnswersTo before slot number bytes answer after) slot old result new
 SuppliesMachine (Data dev number done) bytes old result new =
-    IsOk result
-    × MatchBool (nat_lt dev 16)
-    (MatchOption (gathering_at old dev) (new ≡ old) (λ g. SuppliesData g dev number done bytes old new)) (new ≡ old)
+    MatchResult result
+    (λ it. MatchBool (nat_lt dev 16)
+    (MatchOption (gathering_at old dev) (IsStale old it new) (λ g. SuppliesData g dev number done bytes old it new))
+    (IsStale old it new))
+    (λ _. ⊥)
 
 -- whether bytes of it were asked for, and have not come
 abbrev pub is_wanted : MachineState → (dev number done : ℕ) → Bool
 is_wanted m dev number done = nat_lt dev 16 && match_some (gathering_at m dev) false (λ g. is_asked g number done)
 
-pub record MissesFor (g : GatheringState) (dev : ℕ) (old new : MachineState) : Type 0 where
-  pub act : Act
-  pub misses : MissesBy g.feed (with_gathering old dev None) act new
+pub record MissesFor (g : GatheringState) (dev : ℕ) (old : MachineState) (it : Told) (new : MachineState) : Type 0 where
+  pub answer : Fed
+  pub misses : MissesOf g.feed answer (with_gathering old dev None) new
+  pub is : it ≡ told.Missed g.feed.slot answer
 
 -- they are no memory
-abbrev pub MissesMachine : Wanted → MachineState → Result (Unit {0}) AllocError → MachineState → Type 0
+abbrev pub MissesMachine : Wanted → MachineState → Result Told AllocError → MachineState → Type 0
 MissesMachine (Command slot number) old result new =
-    Fetches (λ before answer after. Misses before slot number answer after) old result new
+    Fetches (λ before answer after. Misses before slot number answer after) slot old result new
 MissesMachine (Data dev number done) old result new =
-    IsOk result
-    × MatchBool (is_wanted old dev number done)
-    (MatchOption (gathering_at old dev) ⊥ (λ g. MissesFor g dev old new)) (new ≡ old)
+    MatchResult result
+    (λ it. MatchBool (is_wanted old dev number done)
+    (MatchOption (gathering_at old dev) ⊥ (λ g. MissesFor g dev old it new))
+    (IsStale old it new))
+    (λ _. ⊥)
 
 -- ---- media
 

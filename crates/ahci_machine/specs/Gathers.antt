@@ -66,12 +66,13 @@ with_part g part = record {
   asked = None;
 }
 
--- the bytes that were asked for come, if these are they and the FIS has room for them
-pub record Supplies (old : GatheringState) (number done : ℕ) (part : List ℕ) (new : GatheringState) : Type 0 where
-  pub other : is_asked old number done ≡ false → new ≡ old
-  pub size : old.asked ≢ Some (length part) → new ≡ old
+-- the bytes that were asked for come, if these are they and the FIS has room for them; else they are not kept
+pub record Supplies (old : GatheringState) (number done : ℕ) (part : List ℕ) (kept : Bool) (new : GatheringState) : Type 0 where
+  pub other : is_asked old number done ≡ false → kept ≡ false
+  pub size : old.asked ≢ Some (length part) → kept ≡ false
   pub comes : is_asked old number done ≡ true → old.asked ≡ Some (length part)
-      → 4 + old.done + length part ≤ length old.bytes → new ≡ with_part old part
+      → 4 + old.done + length part ≤ length old.bytes → kept ≡ true
+  pub rest : new ≡ (if kept then with_part old part else old)
 
 -- the FIS, if its length is one
 abbrev pub frame_of : GatheringState → Option Stamped

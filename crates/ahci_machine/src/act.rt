@@ -39,8 +39,8 @@ pub enum Act {
     },
     /// Some of the bytes of a Data FIS are no memory, or have no place.
     Misses {
-        /// Its device.
-        dev: u8,
+        /// The slot of its command.
+        slot: u8,
         /// What comes of it.
         fed: Fed,
     },

@@ -7,13 +7,43 @@ ghost use Rattle.ahci_machine.specs.States.{gathering_at};
 use crate::bay::Unit;
 use crate::machine::Machine;
 use crate::request::{MediumId, Wanted};
-use ahci_controller::Supply;
+use ahci_controller::{Fed, NotTaken, Supply};
 use block_command::AnswerError;
 use block_engine::{Answer, Range};
 use fis_view::Frame;
 use sata_disk::SataDisk;
 use std::alloc::{AllocError, Global};
 use thiserror::Error;
+
+/// What an answer to a want of the guest's bytes did.
+#[derive(Clone, Copy, Debug, PartialEq, Eq)]
+pub enum Told {
+    /// Nothing: no such bytes are wanted, or not so many.
+    Stale,
+    /// They came. If they are not the last of their command or of their Data FIS, more are wanted.
+    Kept,
+    /// The command of a slot is issued.
+    Issued {
+        /// The slot.
+        slot: u8,
+        /// Its device.
+        dev: u8,
+    },
+    /// The command of a slot is not taken.
+    NotTaken {
+        /// The slot.
+        slot: u8,
+        /// Why.
+        why: NotTaken,
+    },
+    /// Bytes of a Data FIS are not memory.
+    Missed {
+        /// The slot of its command.
+        slot: u8,
+        /// What comes of it.
+        fed: Fed,
+    },
+}
 
 /// Why an answer of a medium is refused. Nothing changes.
 #[derive(Clone, Copy, Debug, PartialEq, Eq, Error)]
@@ -27,48 +57,56 @@ pub enum MediumError {
 }
 
 impl Machine {
-    // Bytes of a command came, or are no memory.
-    fn supplied(&mut self, supply: Supply) -> Result<(), AllocError>
-        ensures is { IsToldBy supply result }
+    // Bytes of the command of a slot came, or are no memory.
+    fn supplied(&mut self, slot: u8, supply: Supply) -> Result<Told, AllocError>
+        ensures is { IsToldBy slot supply result }
         ensures rest { self.new ≡ record self.old { message = self.old.message || supply_message supply } }
     {
         match supply {
             Supply::OutOfMemory => Err(AllocError),
-            Supply::NotTaken { message, .. } => {
+            Supply::NotTaken { why, message, .. } => {
                 self.message = self.message || message;
-                Ok(())
+                Ok(Told::NotTaken { slot, why })
             }
-            Supply::Stale | Supply::More | Supply::Issued { .. } => Ok(()),
+            Supply::Stale => Ok(Told::Stale),
+            Supply::More => Ok(Told::Kept),
+            Supply::Issued { dev } => Ok(Told::Issued { slot, dev }),
         }
     }
 
     // Bytes of the Data FIS of a device came.
-    fn supply_data(&mut self, dev: u8, number: u64, done: usize, bytes: &[u8])
+    fn supply_data(&mut self, dev: u8, number: u64, done: usize, bytes: &[u8]) -> Told
         requires { dev < 16 }
-        ensures { MatchOption (gathering_at self.old dev) (self.new ≡ self.old)
-            (λ g. SuppliesData g dev number done bytes.now self.old self.new) }
+        ensures { MatchOption (gathering_at self.old dev) ((result ≡ Told.Stale) × (self.new ≡ self.old))
+            (λ g. SuppliesData g dev number done bytes.now self.old result self.new) }
     {
-        if let Some(gathering) = &mut self.gathering[usize::from(dev)] {
-            gathering.supply(number, done, bytes);
+        let Some(gathering) = &mut self.gathering[usize::from(dev)] else {
+            return Told::Stale;
+        };
+        if gathering.supply(number, done, bytes) {
+            Told::Kept
+        } else {
+            Told::Stale
         }
     }
 
     /// The bytes that are wanted are these. What is wanted no more, or is not so many bytes, changes nothing. Where memory is
     /// refused, the same bytes are wanted again.
-    pub fn supply(&mut self, alloc: Global, wanted: Wanted, bytes: &[u8]) -> Result<(), AllocError>
+    pub fn supply(
+        &mut self,
+        alloc: Global,
+        wanted: Wanted,
+        bytes: &[u8],
+    ) -> Result<Told, AllocError>
         ensures { SuppliesMachine wanted bytes.now self.old result self.new }
     {
         match wanted {
             Wanted::Command { slot, number } => {
                 let supply = self.controller.supply(alloc, slot, number, bytes);
-                self.supplied(supply)
+                self.supplied(slot, supply)
             }
-            Wanted::Data { dev, number, done } => {
-                if dev < 16 {
-                    self.supply_data(dev, number, done, bytes);
-                }
-                Ok(())
-            }
+            Wanted::Data { dev, .. } if dev >= 16 => Ok(Told::Stale),
+            Wanted::Data { dev, number, done } => Ok(self.supply_data(dev, number, done, bytes)),
         }
     }
 
@@ -87,29 +125,34 @@ impl Machine {
     }
 
     // They are not memory.
-    fn miss(&mut self, dev: u8)
+    fn miss(&mut self, dev: u8) -> Told
         requires { dev < 16 }
-        ensures { MatchOption (gathering_at self.old dev) (self.new ≡ self.old) (λ g. MissesFor g dev self.old self.new) }
+        ensures { MatchOption (gathering_at self.old dev) ((result ≡ Told.Stale) × (self.new ≡ self.old))
+            (λ g. MissesFor g dev self.old result self.new) }
     {
-        if let Some(gathering) = self.gathering[usize::from(dev)].take() {
-            self.missed(gathering.feed);
+        match self.gathering[usize::from(dev)].take() {
+            Some(gathering) => Told::Missed {
+                slot: gathering.feed.slot,
+                fed: self.missed(gathering.feed),
+            },
+            None => Told::Stale,
         }
     }
 
     /// Some of the bytes that are wanted are not memory.
-    pub fn no_memory(&mut self, wanted: Wanted) -> Result<(), AllocError>
+    pub fn no_memory(&mut self, wanted: Wanted) -> Result<Told, AllocError>
         ensures { MissesMachine wanted self.old result self.new }
     {
         match wanted {
             Wanted::Command { slot, number } => {
                 let supply = self.controller.no_memory(slot, number);
-                self.supplied(supply)
+                self.supplied(slot, supply)
             }
             Wanted::Data { dev, number, done } => {
                 if self.is_wanted(dev, number, done) {
-                    self.miss(dev);
+                    return Ok(self.miss(dev));
                 }
-                Ok(())
+                Ok(Told::Stale)
             }
         }
     }

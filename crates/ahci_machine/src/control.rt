@@ -2,7 +2,7 @@
 
 ghost use Rattle.std.specs.Prelude.{◌≡◌, ◌<◌, None, Some, IfNone, IfOk, IfSome, OnErr, OnOk, slice_set};
 ghost use Rattle.std.specs.Option.{option_map};
-ghost use Rattle.ahci_machine.specs.Acts.{AwaitsAt, GathersBy, MayDo, MissesBy, TurnsNext, feeding, lent_by};
+ghost use Rattle.ahci_machine.specs.Acts.{AwaitsAt, GathersBy, MayDo, MissesOf, TurnsNext, feeding, lent_by};
 ghost use Rattle.ahci_machine.specs.Gathers.{asked_for, host_stamp as host_stamp_of};
 ghost use Rattle.ahci_machine.specs.States.{gathering_at};
 
@@ -182,14 +182,14 @@ impl Machine {
     }
 
     /// Some of the bytes of a Data FIS are no memory, or have no place.
-    pub(crate) fn missed(&mut self, feed: Feed) -> Act
-        ensures { MissesBy feed self.old result self.new }
+    pub(crate) fn missed(&mut self, feed: Feed) -> Fed
+        ensures { MissesOf feed result self.old self.new }
     {
         let fed = self.controller.not_there(feed.dev, feed.number);
         if let Fed::Missed { message, .. } = fed {
             self.message = self.message || message;
         }
-        Act::Misses { dev: feed.dev, fed }
+        fed
     }
 
     // What the Data FIS of a device waits for, if there is one.
@@ -231,8 +231,11 @@ impl Machine {
                 Some(self.gathered(gathering))
             }
             Waits::Nowhere => {
-                let gathering = self.gathering[usize::from(dev)].take()?;
-                Some(self.missed(gathering.feed))
+                let feed = self.gathering[usize::from(dev)].take()?.feed;
+                Some(Act::Misses {
+                    slot: feed.slot,
+                    fed: self.missed(feed),
+                })
             }
         }
     }

@@ -129,22 +129,23 @@ impl Gathering {
         self.asked = Some(len);
     }
 
-    /// These bytes came, behind `done` others. If they are not those that were asked for, nothing changes.
-    pub(crate) fn supply(&mut self, number: u64, done: usize, bytes: &[u8])
-        ensures { Supplies self.old number done bytes.now self.new }
+    /// These bytes came, behind `done` others. Whether they are kept: if they are not those that were asked for, nothing changes.
+    pub(crate) fn supply(&mut self, number: u64, done: usize, bytes: &[u8]) -> bool
+        ensures { Supplies self.old number done bytes.now result self.new }
     {
         let Some(from) = self.done.checked_add(4) else {
-            return;
+            return false;
         };
         if number != self.feed.number || done != self.done || self.asked != Some(bytes.len()) {
-            return;
+            return false;
         }
         if from > self.bytes.len() || bytes.len() > self.bytes.len() - from {
-            return;
+            return false;
         }
         self.bytes[from..from + bytes.len()].copy_from_slice(bytes);
         self.done += bytes.len();
         self.asked = None;
+        true
     }
 
     /// Whether such bytes were asked for.

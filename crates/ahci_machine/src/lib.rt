@@ -17,7 +17,7 @@ mod serving;
 mod stepping;
 
 pub use act::Act;
-pub use answers::MediumError;
+pub use answers::{MediumError, Told};
 pub use bay::Unit;
 pub use machine::Machine;
 pub use ports::PortFault;

@@ -1,8 +1,9 @@
 //! The machine, and its registers.
 
-ghost use Rattle.std.specs.Prelude.{◌≡◌, IfOk};
+ghost use Rattle.std.specs.Prelude.{◌≡◌, IfOk, option_copied};
 ghost use Rattle.slots.specs.Table.{IsTable};
 ghost use Rattle.hba_fbs.specs.Views.{IsCorePort};
+ghost use Rattle.ahci_controller.specs.Latch.{raised};
 ghost use Rattle.ahci_controller.specs.Rules.{IsRuled};
 ghost use Rattle.ahci_controller.specs.Wide.{read_wide};
 ghost use Rattle.ahci_machine.specs.Registers.{WritesMachine, lent_bytes, part_of, renewed};
@@ -151,6 +152,27 @@ impl Machine {
             self.power_on();
         }
         written
+    }
+
+    /// The frame on its way to the controller, or of which something is still to be written to the guest.
+    pub fn incoming(&self) -> Option<&Frame>
+        ensures { option_copied result ≡ self.now.incoming }
+    {
+        self.incoming.as_ref()
+    }
+
+    /// The frame on its way to the devices.
+    pub fn outgoing(&self) -> Option<&Frame>
+        ensures { option_copied result ≡ self.now.outgoing }
+    {
+        self.outgoing.as_ref()
+    }
+
+    /// Whether the interrupt line is raised.
+    pub fn line(&self) -> bool
+        ensures { result ≡ raised self.now.controller.latch }
+    {
+        self.controller.line()
     }
 
     /// The bytes that [`WriteGuest`](crate::Request::WriteGuest) is about, until the next call that changes the machine.

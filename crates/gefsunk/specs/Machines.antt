@@ -34,6 +34,7 @@ use Rattle.ahci_machine.specs.Registers.{WritesMachine, lent_bytes, renewed}
 use Rattle.ahci_machine.specs.States.{IsOpeningMachine, MachineState}
 use Rattle.ahci_machine.specs.declared.answers.MediumError.{MediumError}
 use Rattle.ahci_machine.specs.declared.answers.MediumError.TheVariants as medium
+use Rattle.ahci_machine.specs.declared.answers.Told.{Told}
 use Rattle.ahci_machine.specs.declared.bay.Unit.{Unit as Inside}
 use Rattle.ahci_machine.specs.declared.bay.Unit.TheVariants.{Disk, Own}
 use Rattle.ahci_machine.specs.declared.ports.PortFault.{PortFault}
@@ -236,7 +237,7 @@ LentRule m room status.Nothing got = lent_bytes m ≡ []
 LentRule m room _ got = ⊥
 
 pub record Supplied (old : MachineState) (wanted : Wanted) (bytes : List ℕ) (answer : Status) (new : MachineState) : Type 0 where
-  pub told : Result (Unit {0}) AllocError
+  pub told : Result Told AllocError
   pub supplies : SuppliesMachine wanted bytes old told new
   pub is : MatchResult told (λ _. answer ≡ status.Done) (λ _. answer ≡ status.NoMemory)
 
@@ -245,7 +246,7 @@ SupplyRule old wanted bytes answer new =
     MatchOption (wanted_named wanted) ((answer ≡ status.NotWanted) × (new ≡ old)) (λ w. Supplied old w bytes answer new)
 
 pub record Missed (old : MachineState) (wanted : Wanted) (answer : Status) (new : MachineState) : Type 0 where
-  pub told : Result (Unit {0}) AllocError
+  pub told : Result Told AllocError
   pub misses : MissesMachine wanted old told new
   pub is : MatchResult told (λ _. answer ≡ status.Done) (λ _. answer ≡ status.NoMemory)
 

@@ -198,7 +198,7 @@ fn supply_named(machine: &mut Machine, alloc: Global, wanted: Wanted, bytes: &[u
     ensures { Supplied machine.old wanted bytes.now result machine.new }
 {
     match machine.supply(alloc, wanted, bytes) {
-        Ok(()) => Status::Done,
+        Ok(_) => Status::Done,
         Err(_) => Status::NoMemory,
     }
 }
@@ -217,7 +217,7 @@ fn no_memory_named(machine: &mut Machine, wanted: Wanted) -> Status
     ensures { Missed machine.old wanted result machine.new }
 {
     match machine.no_memory(wanted) {
-        Ok(()) => Status::Done,
+        Ok(_) => Status::Done,
         Err(_) => Status::NoMemory,
     }
 }

@@ -13,7 +13,7 @@ use Rattle.ahci_controller.specs.declared.next.Next.TheVariants as next
 use Rattle.sata_disk.specs.State.{DiskState}
 use Rattle.ahci_machine.specs.Acts as acts
 use Rattle.ahci_machine.specs.Acts.{DoesBy, GoesBy, ServesNext, feeding, with_bay, with_controller}
-use Rattle.ahci_machine.specs.Answers.{AnswersDisk, AnswersMachine, MissesMachine, MissesFor, SuppliesData, SuppliesMachine, disk_at, is_own, is_wanted, taken_bay}
+use Rattle.ahci_machine.specs.Answers.{AnswersDisk, AnswersMachine, MissesMachine, IsStale, MissesFor, SuppliesData, SuppliesMachine, disk_at, is_own, is_wanted, taken_bay}
 use Rattle.ahci_machine.specs.Bays.{begun, with_unit}
 use Rattle.ahci_machine.specs.Gathers.{GatheringState}
 use Rattle.ahci_machine.specs.Ports.{PlugsIn, PlugsMachine, PullsMachine, PullsOut, Puts, TakesUnit, filled, has_bay, is_empty, on_bay}
@@ -22,6 +22,7 @@ use Rattle.ahci_machine.specs.States.{MachineState, bay_at, empty_bay, gathering
 use Rattle.ahci_machine.specs.declared.act.Act.{Act}
 use Rattle.ahci_machine.specs.declared.act.Act.TheVariants as act
 use Rattle.ahci_machine.specs.declared.answers.MediumError.{MediumError}
+use Rattle.ahci_machine.specs.declared.answers.Told.{Told}
 use Rattle.ahci_machine.specs.declared.answers.MediumError.TheVariants.{OtherDisk}
 use Rattle.ahci_machine.specs.declared.bay.Bay.{Bay}
 use Rattle.ahci_machine.specs.declared.bay.Unit.{Unit as Inside}
@@ -112,49 +113,30 @@ wrote_by : (stays : Bool) (old m new : MachineState) → m.bays ≡ old.bays →
 wrote_by true old m new same is = ap (λ (x : MachineState). x.bays) is ∙ same
 wrote_by false old m new same is = ap (λ (x : MachineState). x.bays) is ∙ same
 
-supplied_by : (w : Wanted) (bytes : List ℕ) (old new : MachineState) (answer : Result (Unit {0}) AllocError)
+stale : (old new : MachineState) (it : Told) → IsStale old it new → new.bays ≡ old.bays
+stale old new it h = bays_of new old h.1
+
+supplied_by : (w : Wanted) (bytes : List ℕ) (old new : MachineState) (answer : Result Told AllocError)
     → SuppliesMachine w bytes old answer new → new.bays ≡ old.bays
 supplied_by (Command slot number) bytes old new answer h = ap (λ (x : MachineState). x.bays) h.rest
-supplied_by (Data dev number done) bytes old new answer h =
-    by_bool (new.bays ≡ old.bays) (MatchOption (gathering_at old dev) (new ≡ old) (λ g. SuppliesData g dev number done bytes old new)) (new ≡ old)
-    (nat_lt dev 16) h.1
-    (λ low some. by_option GatheringState (new.bays ≡ old.bays) (new ≡ old) (λ g. SuppliesData g dev number done bytes old new) (gathering_at old dev) some
-    (λ none is. bays_of new old is) (λ g there s. ap (λ (x : MachineState). x.bays) s.rest))
-    (λ high is. bays_of new old is)
+supplied_by (Data dev number done) bytes old new (Ok it) h =
+    by_bool (new.bays ≡ old.bays)
+    (MatchOption (gathering_at old dev) (IsStale old it new) (λ g. SuppliesData g dev number done bytes old it new)) (IsStale old it new)
+    (nat_lt dev 16) h
+    (λ low some. by_option GatheringState (new.bays ≡ old.bays) (IsStale old it new) (λ g. SuppliesData g dev number done bytes old it new)
+        (gathering_at old dev) some (λ none is. stale old new it is) (λ g there s. ap (λ (x : MachineState). x.bays) s.rest))
+    (λ high is. stale old new it is)
+supplied_by (Data dev number done) bytes old new (Err e) h = absurd h
 
-missed_for : (g : GatheringState) (dev : ℕ) (a : Act) (old new : MachineState)
-    → acts.MissesBy g.feed (acts.with_gathering old dev None) a new → new.bays ≡ old.bays
-missed_for g dev (act.Misses d answer) old new h = ap (λ (x : MachineState). x.bays) h.rest
-missed_for g dev act.Rests old new h = absurd h
-missed_for g dev (act.Writes w) old new h = absurd h
-missed_for g dev act.LetsGo old new h = absurd h
-missed_for g dev (act.Line b) old new h = absurd h
-missed_for g dev act.Message old new h = absurd h
-missed_for g dev (act.Turns said) old new h = absurd h
-missed_for g dev (act.Does said) old new h = absurd h
-missed_for g dev (act.Sends passed) old new h = absurd h
-missed_for g dev (act.Wants read) old new h = absurd h
-missed_for g dev (act.Gathers d answer) old new h = absurd h
-missed_for g dev act.Rises old new h = absurd h
-missed_for g dev (act.Takes took) old new h = absurd h
-missed_for g dev (act.Loses why) old new h = absurd h
-missed_for g dev (act.Begins n) old new h = absurd h
-missed_for g dev (act.Falls n) old new h = absurd h
-missed_for g dev (act.Hears n unheard) old new h = absurd h
-missed_for g dev (act.Points n) old new h = absurd h
-missed_for g dev (act.Drops n) old new h = absurd h
-missed_for g dev (act.Speaks n out) old new h = absurd h
-missed_for g dev (act.Starts n place) old new h = absurd h
-missed_for g dev (act.Asks id request) old new h = absurd h
-
-missed_by : (w : Wanted) (old new : MachineState) (answer : Result (Unit {0}) AllocError) → MissesMachine w old answer new → new.bays ≡ old.bays
+missed_by : (w : Wanted) (old new : MachineState) (answer : Result Told AllocError) → MissesMachine w old answer new → new.bays ≡ old.bays
 missed_by (Command slot number) old new answer h = ap (λ (x : MachineState). x.bays) h.rest
-missed_by (Data dev number done) old new answer h =
-    by_bool (new.bays ≡ old.bays) (MatchOption (gathering_at old dev) ⊥ (λ g. MissesFor g dev old new)) (new ≡ old)
-    (is_wanted old dev number done) h.1
-    (λ low some. by_option GatheringState (new.bays ≡ old.bays) ⊥ (λ g. MissesFor g dev old new) (gathering_at old dev) some
-    (λ none off. absurd off) (λ g there s. missed_for g dev s.act old new s.misses))
-    (λ high is. bays_of new old is)
+missed_by (Data dev number done) old new (Ok it) h =
+    by_bool (new.bays ≡ old.bays) (MatchOption (gathering_at old dev) ⊥ (λ g. MissesFor g dev old it new)) (IsStale old it new)
+    (is_wanted old dev number done) h
+    (λ low some. by_option GatheringState (new.bays ≡ old.bays) ⊥ (λ g. MissesFor g dev old it new) (gathering_at old dev) some
+        (λ none off. absurd off) (λ g there s. ap (λ (x : MachineState). x.bays) s.misses.rest))
+    (λ high is. stale old new it is)
+missed_by (Data dev number done) old new (Err e) h = absurd h
 
 answered_ok : (old new : MachineState) (id : MediumId) (b : Bay) (port : ℕ) (told : Result (Unit {0}) MediumError) → (id.port == port) ≡ false
     → OnOk told (new ≡ record old { bays = set old.bays id.port b })

@@ -13,6 +13,7 @@ use Rattle.ahci_machine.specs.Registers.{WritesMachine, renewed}
 use Rattle.ahci_machine.specs.States.{MachineState}
 use Rattle.ahci_machine.specs.declared.act.Act.{Act}
 use Rattle.ahci_machine.specs.declared.answers.MediumError.{MediumError}
+use Rattle.ahci_machine.specs.declared.answers.Told.{Told}
 use Rattle.ahci_machine.specs.declared.bay.Unit.{Unit as Inside}
 use Rattle.ahci_machine.specs.declared.ports.PortFault.{PortFault}
 use Rattle.ahci_machine.specs.declared.request.MediumId.{MediumId}
@@ -42,11 +43,11 @@ pub data Deed : Type 0 where
   FrameOffered : (port : ℕ) → Stamped → Result (Unit {0}) Stamped → Deed
 
 pub record Supplying (wanted : Wanted) (bytes : List ℕ) (old new : MachineState) : Type 0 where
-  pub answer : Result (Unit {0}) AllocError
+  pub answer : Result Told AllocError
   pub supplies : SuppliesMachine wanted bytes old answer new
 
 pub record Missing (wanted : Wanted) (old new : MachineState) : Type 0 where
-  pub answer : Result (Unit {0}) AllocError
+  pub answer : Result Told AllocError
   pub misses : MissesMachine wanted old answer new
 
 -- what each leaves: the contracts of the calls

@@ -1,148 +1,122 @@
-//! A controller, the memory of its guest, and what is behind the link.
+//! A controller with what is behind it, the memory of its guest, and the media of the disks.
 
-ghost use Rattle.std.specs.Prelude.{◌≡◌, ◌≤◌, IfOk, length};
-
-use crate::bay::Bay;
-use crate::text::{Ignored, Lost, Moved, NotIssued, Outcome};
+use crate::medium::Medium;
+use crate::tracer::Tracer;
+use ahci_controller::Width;
+use ahci_machine::{Act, GuestRead, Machine, MediumId, Request};
 use ahci_registers::Effect;
-use fis_view::Frame;
+use block_engine::{Answer, ErrorKind, What};
 use guest_bytes::{FlatGuest, Guest, NotThere};
-use guest_port::{Access, GuestPort, Refused, Sent, bring, bring_count};
-use multiplier::{Multiplier, PmRefusal};
-use std::alloc::{AllocError, Global};
+use std::alloc::Global;
 use std::fs::OpenFile;
 use std::io::{Read, Seek, Write};
-use trace_text::{Failure, Media};
+use trace_text::Failure;
 
-/// A controller, the memory of its guest, a port multiplier, and a disk for each of its ports.
+/// The disk of a port, as the scenario knows it.
 #[derive(Drop)]
-pub struct Board {
-    port: GuestPort,
-    memory: FlatGuest,
-    ports: u8,
-    multiplier: Multiplier,
-    bays: Vec<Bay>,
-    /// A FIS that the controller gave and the multiplier had no room for.
-    down: Option<Frame>,
-    /// A FIS that waits until the guest receives some.
-    up: Option<Frame>,
-    /// Whether each FIS on the link is written.
-    is_traced: bool,
-    ghost has_ports: { (1 ≤ ports) × (ports ≤ 15) },
-    ghost has_bays: { length bays.items ≡ ports },
-    ghost has_registers: { multiplier.registers.ports ≡ ports },
+pub struct Seat<F: Drop> {
+    medium: Medium<F>,
+    is_there: bool,
+    /// How often it was plugged in or its link was reset, which is the number of its connection.
+    conn: u32,
 }
 
-impl Board {
-    /// A board of these disks, none of them plugged in.
-    pub fn new(memory: FlatGuest, ports: u8, bays: Vec<Bay>, is_traced: bool) -> Board
-        requires some { 1 ≤ ports }
-        requires at_most { ports ≤ 15 }
-        requires each { length bays.items ≡ ports }
-    {
-        Board {
-            port: GuestPort::new(),
-            memory,
-            ports,
-            multiplier: Multiplier::new(ports),
-            bays,
-            down: None,
-            up: None,
-            is_traced,
+impl<F: Read + Write + Seek + OpenFile + Drop> Seat<F> {
+    /// A disk that is not plugged in.
+    pub fn new(medium: Medium<F>) -> Seat<F> {
+        Seat {
+            medium,
+            is_there: false,
+            conn: 0,
         }
     }
 
-    /// Each disk gets the sectors of its file, if it has one.
-    pub fn load<F: Read + Write + Seek + OpenFile + Drop>(
-        &mut self,
-        alloc: Global,
-        media: &mut Media<F>,
-    ) -> Result<(), Failure> {
-        for port in 0..15_u8 {
-            let i = usize::from(port);
-            if i < self.bays.len() {
-                let bay = &mut self.bays[i];
-                bay.load(alloc, port, media)?;
-            }
+    /// Its connection begins anew. Says its number.
+    fn connect(&mut self) -> u32 {
+        self.conn = self.conn.saturating_add(1);
+        self.conn
+    }
+}
+
+/// A machine with a disk at each of its ports, the memory of its guest, and the media of the disks.
+#[derive(Drop)]
+pub struct Board<F: Drop> {
+    machine: Machine,
+    memory: FlatGuest,
+    seats: Vec<Seat<F>>,
+    tracer: Tracer,
+}
+
+/// Whether a FIS went over the link between the controller and what is behind it.
+fn is_passage(act: Act) -> bool {
+    matches!(act, Act::Sends(_) | Act::Takes(_) | Act::Loses(_))
+}
+
+impl<F: Read + Write + Seek + OpenFile + Drop> Board<F> {
+    /// A board of this machine, which has a disk at each port that has a seat, none of them plugged in.
+    pub fn new(
+        machine: Machine,
+        memory: FlatGuest,
+        seats: Vec<Seat<F>>,
+        is_traced: bool,
+    ) -> Board<F> {
+        Board {
+            machine,
+            memory,
+            seats,
+            tracer: Tracer::new(is_traced),
         }
-        Ok(())
     }
 
     /// The disk at this port is plugged in. Says the number of its connection, and None if it was there
     /// already.
-    pub fn plug(&mut self, alloc: Global, port: u8) -> Result<Option<u32>, AllocError> {
-        let i = usize::from(port);
-        if i >= self.bays.len() {
-            return Ok(None);
-        }
-        let bay = &mut self.bays[i];
-        if bay.is_there() {
-            return Ok(None);
-        }
-        Ok(Some(bay.plug(alloc, port, &mut self.multiplier)?))
+    pub fn plug(&mut self, port: u8) -> Option<u32> {
+        let seat = self.seats.get_mut(usize::from(port))?;
+        self.machine.plug(port).ok()?;
+        seat.is_there = true;
+        Some(seat.connect())
     }
 
     /// The disk at this port is pulled. Says the number of its connection, and None if it was not there.
-    pub fn pull(&mut self, port: u8) -> Option<u32> {
-        let i = usize::from(port);
-        if i >= self.bays.len() {
-            return None;
-        }
-        let bay = &mut self.bays[i];
-        if !bay.is_there() {
-            return None;
-        }
-        Some(bay.pull(port, &mut self.multiplier))
+    pub fn pull(&mut self, alloc: Global, port: u8) -> Option<u32> {
+        let seat = self.seats.get_mut(usize::from(port))?;
+        self.machine.pull(alloc, port).ok()?;
+        seat.is_there = false;
+        Some(seat.conn)
     }
 
-    /// What the register at an offset reads.
+    /// What the register at an offset reads: 0 where none begins.
     pub fn read(&self, offset: u32) -> u32 {
-        self.port.read32(offset)
+        if offset % 4 != 0 {
+            return 0;
+        }
+        self.machine.read(offset, Width::Dword) as u32
     }
 
     /// Whether the interrupt line is up.
     pub fn line(&self) -> bool {
-        self.port.line()
+        self.machine.line()
     }
 
-    /// Writes the register at an offset. Says what that does to the link.
+    /// Writes the register at an offset, where one begins. Says what that does to the link.
     pub fn write<W: Write>(
         &mut self,
-        alloc: Global,
         offset: u32,
         value: u32,
         out: &mut W,
     ) -> Result<Effect, Failure> {
-        let access = self.port.write32(alloc, &self.memory, offset, value);
-        self.tell_access(&access, out)?;
-        if access.effect() != Effect::Nothing {
-            self.reset_link(alloc)?;
+        if offset % 4 != 0 {
+            return Ok(Effect::Nothing);
         }
-        Ok(access.effect())
-    }
-
-    /// What is behind the link begins anew, but for what is on the media. FISes on their way are lost.
-    fn reset_link(&mut self, alloc: Global) -> Result<(), AllocError> {
-        self.down = None;
-        self.up = None;
-        self.multiplier = Multiplier::new(self.ports);
-        for port in 0..15_u8 {
-            self.plug_again(alloc, port)?;
+        let both = self.machine.write(offset, Width::Dword, u64::from(value));
+        let written = if offset % 8 == 0 { both.low } else { both.high };
+        self.tracer.tell_write(&written, out)?;
+        if written.effect != Effect::Nothing {
+            for seat in self.seats.iter_mut().filter(|seat| seat.is_there) {
+                seat.connect();
+            }
         }
-        Ok(())
-    }
-
-    /// The connection of the disk at this port begins anew, if the disk is there.
-    fn plug_again(&mut self, alloc: Global, port: u8) -> Result<(), AllocError> {
-        let i = usize::from(port);
-        if i >= self.bays.len() {
-            return Ok(());
-        }
-        let bay = &mut self.bays[i];
-        if bay.is_there() {
-            bay.plug(alloc, port, &mut self.multiplier)?;
-        }
-        Ok(())
+        Ok(written.effect)
     }
 
     /// The guest writes bytes to its memory, from an address on.
@@ -155,173 +129,87 @@ impl Board {
         self.memory.read(at, into)
     }
 
-    /// Moves what can move, round by round, at most this many. Says whether a round came in which nothing
-    /// did.
-    pub fn settle<F: Read + Write + Seek + OpenFile + Drop, W: Write>(
+    /// Moves what can move, until more FISes than these would go over the link. Says whether nothing can move
+    /// any more.
+    pub fn settle<W: Write>(
         &mut self,
         alloc: Global,
-        media: &mut Media<F>,
-        rounds: u64,
+        fises: u64,
         out: &mut W,
     ) -> Result<bool, Failure> {
-        for _ in 0..rounds {
-            if !self.round(alloc, media, out)? {
+        let mut gone = 0;
+        for _ in 0..u64::MAX {
+            if gone >= fises && self.tracer.is_next(&self.machine) {
+                return Ok(false);
+            }
+            let act = self.machine.step(alloc)?;
+            self.tracer.tell(alloc, &self.machine, act, out)?;
+            if act == Act::Rests {
                 return Ok(true);
             }
+            gone = gone.saturating_add(u64::from(is_passage(act)));
+            self.answer(alloc, act, out)?;
         }
         Ok(false)
     }
 
-    /// Moves a FIS out of the controller, one down to each disk and one up from it, and one into the
-    /// controller. Says whether one moved.
-    fn round<F: Read + Write + Seek + OpenFile + Drop, W: Write>(
-        &mut self,
-        alloc: Global,
-        media: &mut Media<F>,
-        out: &mut W,
-    ) -> Result<bool, Failure> {
-        let mut is_moved = self.move_out(alloc, out)?;
-        for port in 0..15_u8 {
-            is_moved |= self.move_at(alloc, port, media)?;
-        }
-        is_moved |= self.move_in(alloc, out)?;
-        Ok(is_moved)
-    }
-
-    /// What the controller gives next, as it is told.
-    fn next_down<W: Write>(
-        &mut self,
-        alloc: Global,
-        out: &mut W,
-    ) -> Result<Option<Frame>, Failure> {
-        let sent = self.port.next_out(alloc, &self.memory)?;
-        if let Some(count) = sent.counted {
-            bring_count(count, &mut self.memory);
-        }
-        self.tell_sent(&sent, out)?;
-        Ok(sent.frame)
-    }
-
-    /// From the controller to the multiplier.
-    fn move_out<W: Write>(&mut self, alloc: Global, out: &mut W) -> Result<bool, Failure> {
-        let frame = match self.down.take() {
-            Some(frame) => frame,
-            None => match self.next_down(alloc, out)? {
-                Some(frame) => frame,
-                None => return Ok(false),
-            },
-        };
-        match self.multiplier.from_host(alloc, frame) {
-            Ok(_) => Ok(true),
-            Err((frame, PmRefusal::HoldFull)) => {
-                self.down = Some(frame);
-                Ok(false)
+    /// Does what a move asks.
+    fn answer<W: Write>(&mut self, alloc: Global, act: Act, out: &mut W) -> Result<(), Failure> {
+        match act.request() {
+            Some(Request::ReadGuest(read)) => self.supply(alloc, read, out),
+            Some(Request::WriteGuest { at }) => {
+                // Bytes for a place that is not all memory are lost.
+                let _ = self.memory.put(at, self.machine.lent());
+                Ok(())
             }
-            Err((_, PmRefusal::OutOfMemory)) => Err(Failure::OutOfMemory),
+            Some(Request::Medium { id, place, what }) => self.serve(alloc, id, place, what),
+            _ => Ok(()),
         }
     }
 
-    /// Between the multiplier and the disk at this port, both ways.
-    fn move_at<F: Read + Write + Seek + OpenFile + Drop>(
+    /// Bytes of the guest's memory are wanted.
+    fn supply<W: Write>(
         &mut self,
         alloc: Global,
-        port: u8,
-        media: &mut Media<F>,
-    ) -> Result<bool, Failure> {
-        let i = usize::from(port);
-        if i >= self.bays.len() {
-            return Ok(false);
-        }
-        let bay = &mut self.bays[i];
-        let is_taken = bay.take(alloc, port, &mut self.multiplier, media)?;
-        let is_sent = bay.send(alloc, port, &mut self.multiplier)?;
-        Ok(is_taken || is_sent)
-    }
-
-    /// From the multiplier to the controller, and what comes of it to the guest's memory. While the guest receives none, a
-    /// FIS waits.
-    fn move_in<W: Write>(&mut self, alloc: Global, out: &mut W) -> Result<bool, Failure> {
-        if let Some(frame) = self.up.take() {
-            return self.take(frame, true, out);
-        }
-        match self.multiplier.next_up(alloc)? {
-            Some(frame) => self.take(frame, false, out),
-            None => Ok(false),
-        }
-    }
-
-    /// The controller takes a FIS, which has waited or not. Says whether it is gone.
-    fn take<W: Write>(
-        &mut self,
-        frame: Frame,
-        has_waited: bool,
-        out: &mut W,
-    ) -> Result<bool, Failure> {
-        let outcome = match self.port.take(&frame) {
-            Ok(taken) => {
-                bring(&self.port, &frame, taken, &mut self.memory);
-                match taken.took.ignored {
-                    Some(why) => Outcome::Ignored(why),
-                    None => Outcome::Heard,
-                }
-            }
-            Err(why) => Outcome::Hindered(why),
-        };
-        let waits = outcome.waits();
-        if !(waits && has_waited) {
-            let way = if waits { "waits" } else { "up" };
-            self.tell(way, &frame, outcome, out)?;
-        }
-        if waits {
-            self.up = Some(frame);
-        }
-        Ok(!waits)
-    }
-
-    /// Writes why a write of a register was ignored, or a command is not taken, if that is asked for.
-    fn tell_access<W: Write>(&self, access: &Access, out: &mut W) -> Result<(), Failure> {
-        if let (true, Some(why)) = (self.is_traced, access.written.low.ignored) {
-            writeln!(out, "{}", Ignored { why })?;
-        }
-        self.tell_refused(access.refused, out)
-    }
-
-    /// Writes what the controller gave, if that is asked for.
-    fn tell_sent<W: Write>(&self, sent: &Sent, out: &mut W) -> Result<(), Failure> {
-        self.tell_refused(sent.refused, out)?;
-        if let (true, Some(slot)) = (self.is_traced, sent.missed) {
-            writeln!(out, "{}", Lost { slot })?;
-        }
-        match &sent.frame {
-            Some(frame) => self.tell("down", frame, Outcome::Heard, out),
-            None => Ok(()),
-        }
-    }
-
-    /// Writes why a command is not taken, if that is asked for.
-    fn tell_refused<W: Write>(&self, refused: Option<Refused>, out: &mut W) -> Result<(), Failure> {
-        if let (true, Some(refused)) = (self.is_traced, refused) {
-            writeln!(out, "{}", NotIssued { refused })?;
-        }
-        Ok(())
-    }
-
-    /// Writes a FIS that went over the link, if that is asked for.
-    fn tell<W: Write>(
-        &self,
-        way: &str,
-        frame: &Frame,
-        outcome: Outcome,
+        read: GuestRead,
         out: &mut W,
     ) -> Result<(), Failure> {
-        if self.is_traced {
-            let moved = Moved {
-                way,
-                frame,
-                outcome,
-            };
-            writeln!(out, "{moved}")?;
-        }
+        let mut bytes = vec![in alloc; 0; read.len]?;
+        let told = match self.memory.read(read.at, &mut bytes) {
+            Ok(()) => self.machine.supply(alloc, read.wanted, &bytes)?,
+            Err(NotThere) => self.machine.no_memory(read.wanted)?,
+        };
+        self.tracer.tell_answer(told, out)
+    }
+
+    /// A disk asks its medium.
+    fn serve(
+        &mut self,
+        alloc: Global,
+        id: MediumId,
+        place: Option<u8>,
+        what: What,
+    ) -> Result<(), Failure> {
+        let Some(seat) = self.seats.get_mut(usize::from(id.port)) else {
+            return Ok(());
+        };
+        let answer = match what {
+            What::Load { lba, count } => seat.medium.load(alloc, lba, count)?,
+            What::Store { lba, count } => {
+                let bytes = match place {
+                    Some(place) => self.machine.stored(id, place).unwrap_or(&[]),
+                    None => &[],
+                };
+                seat.medium.store(lba, count, bytes)
+            }
+            What::Flush => seat.medium.flush(),
+            // No disk of a scenario says that it takes TRIM.
+            What::Discard => Answer::Failed(block_engine::Failure {
+                error: ErrorKind::Aborted,
+                lba: 0,
+            }),
+        };
+        let _ = self.machine.answer(id, answer);
         Ok(())
     }
 }

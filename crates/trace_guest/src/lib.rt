@@ -1,14 +1,15 @@
 //! Scenarios in which the lines play a driver: [`play_guest`] reads and writes the registers of an AHCI
 //! controller and the memory of its guest, line after line. Behind the controller stand a port multiplier
-//! and its disks.
+//! and its disks, whose sectors are in memory or in files.
 #![tactic(auto)]
 
-mod bay;
 mod board;
+mod disk;
+mod medium;
 mod opening;
 mod parse;
 mod run;
 mod text;
-mod writes;
+mod tracer;
 
 pub use run::play_guest;

@@ -2,13 +2,13 @@
 
 ghost use Rattle.std.specs.Prelude.{◌≡◌, ◌≤◌, IfOk, length};
 
-use crate::bay::Bay;
-use crate::board::Board;
-use failing_disk::FailingDisk;
+use crate::board::{Board, Seat};
+use crate::disk::{Built, Shape};
+use ahci_machine::{Machine, Unit};
 use guest_bytes::{FlatError, FlatGuest};
 use std::alloc::{AllocError, Global};
-use stock_disk::StockDisk;
-use trace_text::Shape;
+use std::fs::OpenFile;
+use std::io::{Read, Seek, Write};
 
 /// How large a board is.
 #[derive(Clone, Copy)]
@@ -24,23 +24,23 @@ pub struct Sizes {
 
 /// What a line says about the board before it is built.
 #[derive(Drop)]
-pub enum Setting {
+pub enum Setting<F: Drop> {
     /// It is to have these sizes, which differ in the number of ports alone.
     Ports(Sizes),
     /// It is to have these sizes, which differ in the guest's memory alone, and this is that memory.
     Memory(Sizes, FlatGuest),
     /// The disk of this port is to be this one.
-    Disk(u8, Shape),
+    Disk(u8, Shape<F>),
 }
 
 /// A board that is not built yet.
 #[derive(Drop)]
-pub struct Opening {
+pub struct Opening<F: Drop> {
     sizes: Sizes,
     /// The guest's memory, once a line has said where it lies.
     memory: Option<FlatGuest>,
     /// What was said about each port's disk. Nothing was said about ports past the last of them.
-    disks: Vec<Option<Shape>>,
+    disks: Vec<Option<Shape<F>>>,
     is_begun: bool,
 }
 
@@ -55,22 +55,9 @@ fn plain_memory(alloc: Global) -> Result<FlatGuest, AllocError> {
     }
 }
 
-/// The disk of a port about which this was said, not plugged in.
-fn bay_of(alloc: Global, said: Option<Shape>) -> Result<Bay, AllocError> {
-    let Shape { sectors, plan } = match said {
-        Some(shape) => shape,
-        None => Shape::plain(),
-    };
-    // A shape has a size that a disk may have, so nothing but memory is refused.
-    let Ok(disk) = StockDisk::new(alloc, sectors, plan) else {
-        return Err(AllocError);
-    };
-    Ok(Bay::new(FailingDisk::new(disk)))
-}
-
-impl Opening {
+impl<F: Read + Write + Seek + OpenFile + Drop> Opening<F> {
     /// A board about which nothing was said.
-    pub fn new(alloc: Global) -> Opening {
+    pub fn new(alloc: Global) -> Opening<F> {
         Opening {
             sizes: Sizes {
                 ports: 1,
@@ -105,8 +92,16 @@ impl Opening {
         matches!(self.disks.get(usize::from(port)), Some(Some(_)))
     }
 
+    /// Whether a line has said that the sectors of a disk are in the file of this path.
+    pub fn has_path(&self, path: &[u8]) -> bool {
+        self.disks.iter().any(|shape| match shape {
+            Some(shape) => shape.has_path(path),
+            None => false,
+        })
+    }
+
     /// Takes in what one more line says.
-    pub fn set(&mut self, setting: Setting) -> Result<(), AllocError> {
+    pub fn set(&mut self, setting: Setting<F>) -> Result<(), AllocError> {
         self.is_begun = true;
         match setting {
             Setting::Ports(sizes) => self.sizes = sizes,
@@ -120,7 +115,7 @@ impl Opening {
     }
 
     /// What was said about the disk of this port.
-    fn disk(&mut self, port: u8) -> Result<&mut Option<Shape>, AllocError> {
+    fn disk(&mut self, port: u8) -> Result<&mut Option<Shape<F>>, AllocError> {
         let port = usize::from(port);
         if self.disks.len() <= port {
             self.disks.resize_with(port + 1, || None)?;
@@ -129,7 +124,7 @@ impl Opening {
     }
 
     /// The board.
-    pub fn into_board(self, alloc: Global, is_traced: bool) -> Result<Board, AllocError> {
+    pub fn into_board(self, alloc: Global, is_traced: bool) -> Result<Board<F>, AllocError> {
         let Opening {
             sizes,
             memory,
@@ -140,18 +135,36 @@ impl Opening {
             Some(memory) => memory,
             None => plain_memory(alloc)?,
         };
-        let bays = bays_of(alloc, sizes.ports, disks)?;
-        Ok(Board::new(memory, sizes.ports, bays, is_traced))
+        let mut machine = Machine::new(alloc, sizes.ports, false)?;
+        let seats = seats_of(alloc, &mut machine, shapes_of(sizes.ports, disks)?)?;
+        Ok(Board::new(machine, memory, seats, is_traced))
     }
 }
 
-/// The disks of this many ports.
-fn bays_of(alloc: Global, ports: u8, mut disks: Vec<Option<Shape>>) -> Result<Vec<Bay>, AllocError>
-    ensures { IfOk result (λ bays. length bays.items ≡ ports) }
+/// What was said about the disks of this many ports.
+fn shapes_of<F: Drop>(
+    ports: u8,
+    mut disks: Vec<Option<Shape<F>>>,
+) -> Result<Vec<Option<Shape<F>>>, AllocError>
+    ensures { IfOk result (λ shapes. length shapes.items ≡ ports) }
 {
     disks.resize_with(usize::from(ports), || None)?;
-    disks
-        .into_iter()
-        .map(|said| bay_of(alloc, said))
-        .try_collect(alloc)
+    Ok(disks)
+}
+
+/// A disk is put at each port of a machine, as this was said.
+fn seats_of<F: Read + Write + Seek + OpenFile + Drop>(
+    alloc: Global,
+    machine: &mut Machine,
+    shapes: Vec<Option<Shape<F>>>,
+) -> Result<Vec<Seat<F>>, AllocError> {
+    let mut seats = Vec::new(alloc);
+    let mut port = 0_u8;
+    for said in shapes {
+        let Built { disk, medium } = said.unwrap_or_else(Shape::plain).into_disk(alloc, port)?;
+        let _ = machine.put(port, Unit::Disk(disk));
+        seats.push(Seat::new(medium))?;
+        port = port.saturating_add(1);
+    }
+    Ok(seats)
 }

@@ -1,14 +1,23 @@
 //! What a line of a scenario asks for.
 
+use crate::disk::Shape;
 use crate::opening::{Opening, Setting, Sizes};
 use fis_view::Bytes;
 use guest_bytes::{FlatError, FlatGuest};
 use std::alloc::Global;
+use std::fs::OpenFile;
+use std::io::{Read, Seek, Write};
 use std::rt::Files;
-use trace_text::{Failure, Filed, Media, Quantity, Refusal, Shape, Wanted, Words, read_filed};
+use trace_text::{DiskFile, Failure, Keyword, Quantity, Refusal, Wanted, Words};
 
-/// The most rounds of one line.
-const MOST_ROUNDS: u64 = 1_000_000;
+/// The most FISes that one line moves over the link.
+const MOST_FISES: u64 = 1_000_000;
+
+/// The most sectors of a disk in memory.
+const MOST_SECTORS: u64 = 65_536;
+
+/// The most sectors of a disk in a file.
+const MOST_FILE_SECTORS: u64 = 0xFFFF_FFFF_FFFF;
 
 /// The most bytes of a guest's memory.
 const MOST_BYTES: u64 = 67_108_864;
@@ -28,20 +37,21 @@ pub enum Action {
     Put(u64, Bytes),
     /// To see this many bytes of the guest's memory, from this address on.
     Show(u64, u32),
-    /// To move what can move, at most this many rounds.
+    /// To move what can move, until more FISes than these would go over the link.
     Settle(u64),
     /// To see whether the interrupt line is up.
     Line,
 }
 
-impl Setting {
+impl<F: Read + Write + Seek + OpenFile + Drop> Setting<F> {
     /// Reads a line of this name, word by word; None if the name is not that of a setting.
-    pub fn read(
+    pub fn read<H: Files<File = F>>(
+        files: &H,
         alloc: Global,
         name: &[u8],
         words: &mut Words<'_>,
-        opening: &Opening,
-    ) -> Result<Option<Setting>, Failure> {
+        opening: &Opening<F>,
+    ) -> Result<Option<Setting<F>>, Failure> {
         let setting = match name {
             b"ports" if opening.is_begun() => {
                 return Err(words.refused(Refusal::Order, Wanted::PortsFirst));
@@ -51,7 +61,7 @@ impl Setting {
             }
             b"ports" => Setting::Ports(ports(words, opening.sizes())?),
             b"memory" => memory(alloc, words, opening.sizes())?,
-            b"disk" => disk(words, opening)?,
+            b"disk" => disk(files, alloc, words, opening)?,
             _ => return Ok(None),
         };
         words.end()?;
@@ -67,7 +77,11 @@ fn ports(words: &mut Words<'_>, sizes: Sizes) -> Result<Sizes, Failure> {
 }
 
 /// The words after `memory`: an address and how many bytes.
-fn memory(alloc: Global, words: &mut Words<'_>, sizes: Sizes) -> Result<Setting, Failure> {
+fn memory<F: Drop>(
+    alloc: Global,
+    words: &mut Words<'_>,
+    sizes: Sizes,
+) -> Result<Setting<F>, Failure> {
     let base = words.long_address()?;
     let len = words.number(Quantity::GuestBytes, 1, MOST_BYTES)? as u32;
     let ports = sizes.ports;
@@ -79,36 +93,37 @@ fn memory(alloc: Global, words: &mut Words<'_>, sizes: Sizes) -> Result<Setting,
 }
 
 /// The words after `disk`.
-fn disk(words: &mut Words<'_>, opening: &Opening) -> Result<Setting, Failure> {
+fn disk<H: Files>(
+    files: &H,
+    alloc: Global,
+    words: &mut Words<'_>,
+    opening: &Opening<H::File>,
+) -> Result<Setting<H::File>, Failure> {
     let port = free_port(words, opening)?;
-    Ok(Setting::Disk(port, Shape::read(words, port)?))
+    if words.takes(b"file") {
+        let path = words.path()?;
+        if opening.has_path(path) {
+            return Err(words.refused(Refusal::File, Wanted::OtherFile));
+        }
+        let file = DiskFile::open(files, alloc, words, path, MOST_FILE_SECTORS)?;
+        let shape = Shape::read(words, file.sectors(), Some(file))?;
+        return Ok(Setting::Disk(port, shape));
+    }
+    words.keyword(Keyword::Sectors)?;
+    let sectors = words.number(Quantity::Sectors, 1, MOST_SECTORS)?;
+    Ok(Setting::Disk(port, Shape::read(words, sectors, None)?))
 }
 
 /// A port of whose disk no line has spoken.
-fn free_port(words: &mut Words<'_>, opening: &Opening) -> Result<u8, Failure> {
+fn free_port<F: Read + Write + Seek + OpenFile + Drop>(
+    words: &mut Words<'_>,
+    opening: &Opening<F>,
+) -> Result<u8, Failure> {
     let port = words.port(opening.sizes().ports - 1)?;
     if opening.has_disk(port) {
         return Err(words.refused(Refusal::Order, Wanted::FreePort));
     }
     Ok(port)
-}
-
-/// A line `disk N file ..` of this name: the port and its disk, whose file is opened; None if the line is another.
-pub fn filed_disk<H: Files>(
-    files: &H,
-    alloc: Global,
-    name: &[u8],
-    words: &mut Words<'_>,
-    opening: &Opening,
-    media: &Media<H::File>,
-) -> Result<Option<(u8, Filed<H::File>)>, Failure> {
-    if name != b"disk".as_slice() || !words.has_second(b"file") {
-        return Ok(None);
-    }
-    let port = free_port(words, opening)?;
-    let filed = read_filed(files, alloc, words, port, media)?;
-    words.end()?;
-    Ok(Some((port, filed)))
 }
 
 impl Action {
@@ -128,7 +143,7 @@ impl Action {
                 words.long_address()?,
                 words.number(Quantity::Length, 0, MOST_BYTES)? as u32,
             ),
-            b"settle" => Action::Settle(rounds(words)?),
+            b"settle" => Action::Settle(fises(words)?),
             b"line" => Action::Line,
             b"ports" | b"memory" | b"disk" => {
                 return Err(words.refused(Refusal::Order, Wanted::EarlierThanGuest));
@@ -152,10 +167,10 @@ fn access(words: &mut Words<'_>) -> Result<Action, Failure> {
     }
 }
 
-/// The words after `settle`: how many rounds at most, or none.
-fn rounds(words: &mut Words<'_>) -> Result<u64, Failure> {
+/// The words after `settle`: how many FISes at most, or none.
+fn fises(words: &mut Words<'_>) -> Result<u64, Failure> {
     if words.is_at_end() {
-        return Ok(MOST_ROUNDS);
+        return Ok(MOST_FISES);
     }
-    words.number(Quantity::Rounds, 1, MOST_ROUNDS)
+    words.number(Quantity::Fises, 1, MOST_FISES)
 }

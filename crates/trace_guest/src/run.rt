@@ -2,16 +2,14 @@
 
 use crate::board::Board;
 use crate::opening::{Opening, Setting};
-use crate::parse::{Action, filed_disk};
+use crate::parse::Action;
 use crate::text::Reply;
 use std::alloc::Global;
 use std::fs::OpenFile;
 use std::io::{Eprint, Read, Seek, Write};
 use std::mem;
 use std::rt::Files;
-use trace_text::{
-    Failure, Filed, Lines, Media, Printer, Refusal, Wanted, Words, is_skipped, play_aside,
-};
+use trace_text::{Failure, Lines, Printer, Refusal, Wanted, Words, is_skipped, play_aside};
 
 /// Plays the scenario line by line and writes what each line prints. A refused line ends it; the
 /// lines before it have acted and printed. A line that prints something else than was expected ends
@@ -37,11 +35,9 @@ pub fn play_guest<H: Files + Eprint, W: Write>(
 #[derive(Drop)]
 struct Scenario<F: Drop> {
     is_traced: bool,
-    opening: Opening,
-    /// The files of disks.
-    media: Media<F>,
+    opening: Opening<F>,
     /// The board, once it is built.
-    scene: Option<Scene>,
+    scene: Option<Scene<F>>,
 }
 
 impl<F: Read + Write + Seek + OpenFile + Drop> Scenario<F> {
@@ -49,7 +45,6 @@ impl<F: Read + Write + Seek + OpenFile + Drop> Scenario<F> {
         Scenario {
             is_traced,
             opening: Opening::new(alloc),
-            media: Media::new(alloc),
             scene: None,
         }
     }
@@ -91,23 +86,12 @@ impl<F: Read + Write + Seek + OpenFile + Drop> Scenario<F> {
         out: &mut W,
     ) -> Result<(), Failure> {
         if let Some(scene) = &mut self.scene {
-            return scene.play_line(alloc, name, words, &mut self.media, printer, out);
+            return scene.play_line(alloc, name, words, printer, out);
         }
-        let (opening, media) = (&self.opening, &self.media);
-        if let Some((port, filed)) = filed_disk(files, alloc, name, &mut words, opening, media)? {
-            return self.set_filed(port, filed);
-        }
-        match Setting::read(alloc, name, &mut words, &self.opening)? {
+        match Setting::read(files, alloc, name, &mut words, &self.opening)? {
             Some(setting) => Ok(self.opening.set(setting)?),
             None => self.begin(alloc, name, words, printer, out),
         }
-    }
-
-    /// Takes in what a line says about a disk that has its sectors in a file.
-    fn set_filed(&mut self, port: u8, filed: Filed<F>) -> Result<(), Failure> {
-        let Filed { shape, file } = filed;
-        self.opening.set(Setting::Disk(port, shape))?;
-        Ok(self.media.set(port, file)?)
     }
 
     /// Builds the board at the first line that is not a setting, even if that line is refused, and
@@ -125,14 +109,13 @@ impl<F: Read + Write + Seek + OpenFile + Drop> Scenario<F> {
     ) -> Result<(), Failure> {
         let opening = self.close_opening(alloc);
         let mut scene = Scene::open(alloc, self.is_traced, opening, printer, out)?;
-        scene.board.load(alloc, &mut self.media)?;
-        scene.play_line(alloc, name, words, &mut self.media, printer, out)?;
+        scene.play_line(alloc, name, words, printer, out)?;
         self.scene = Some(scene);
         Ok(())
     }
 
     /// What was said about the board, which is said once.
-    fn close_opening(&mut self, alloc: Global) -> Opening {
+    fn close_opening(&mut self, alloc: Global) -> Opening<F> {
         mem::replace(&mut self.opening, Opening::new(alloc))
     }
 
@@ -153,21 +136,21 @@ impl<F: Read + Write + Seek + OpenFile + Drop> Scenario<F> {
 
 /// A board that is built.
 #[derive(Drop)]
-struct Scene {
-    board: Board,
+struct Scene<F: Drop> {
+    board: Board<F>,
     /// Its last port.
     last: u8,
 }
 
-impl Scene {
+impl<F: Read + Write + Seek + OpenFile + Drop> Scene<F> {
     /// Builds the board and writes its sizes.
     fn open<W: Write>(
         alloc: Global,
         is_traced: bool,
-        opening: Opening,
+        opening: Opening<F>,
         printer: &mut Printer<'_>,
         out: &mut W,
-    ) -> Result<Scene, Failure> {
+    ) -> Result<Scene<F>, Failure> {
         let sizes = opening.sizes();
         let board = opening.into_board(alloc, is_traced)?;
         printer.print(alloc, &Reply::Board(sizes), out)?;
@@ -178,36 +161,34 @@ impl Scene {
     }
 
     /// Does what one line asks of the board.
-    fn play_line<F: Read + Write + Seek + OpenFile + Drop, W: Write>(
+    fn play_line<W: Write>(
         &mut self,
         alloc: Global,
         name: &[u8],
         mut words: Words<'_>,
-        media: &mut Media<F>,
         printer: &mut Printer<'_>,
         out: &mut W,
     ) -> Result<(), Failure> {
         let action = Action::read(alloc, name, &mut words, self.last)?;
-        let reply = self.act(alloc, action, &words, media, out)?;
+        let reply = self.act(alloc, action, &words, out)?;
         printer.print(alloc, &reply, out)
     }
 
     /// Does what one line asks, and gives what is printed about it. A place that is not all memory is
     /// `range`; a disk that comes where it is, or goes where it is not, is `order`.
-    fn act<F: Read + Write + Seek + OpenFile + Drop, W: Write>(
+    fn act<W: Write>(
         &mut self,
         alloc: Global,
         action: Action,
         words: &Words<'_>,
-        media: &mut Media<F>,
         out: &mut W,
     ) -> Result<Reply, Failure> {
         let reply = match action {
-            Action::Came(port) => match self.board.plug(alloc, port)? {
+            Action::Came(port) => match self.board.plug(port) {
                 Some(conn) => Reply::Came { port, conn },
                 None => return Err(words.refused_at(2, Refusal::Order, Wanted::DiskAway)),
             },
-            Action::Gone(port) => match self.board.pull(port) {
+            Action::Gone(port) => match self.board.pull(alloc, port) {
                 Some(conn) => Reply::Gone { port, conn },
                 None => return Err(words.refused_at(2, Refusal::Order, Wanted::DiskThere)),
             },
@@ -216,14 +197,14 @@ impl Scene {
                 Reply::Read { offset, value }
             }
             Action::Write(offset, value) => {
-                Reply::Written(self.board.write(alloc, offset, value, out)?)
+                Reply::Written(self.board.write(offset, value, out)?)
             }
             Action::Put(at, bytes) => match self.board.put(at, bytes.as_slice()) {
                 Ok(()) => Reply::Put,
                 Err(_) => return Err(words.refused_at(2, Refusal::Range, Wanted::GuestArea)),
             },
             Action::Show(at, len) => self.show(alloc, at, len, words)?,
-            Action::Settle(rounds) => match self.board.settle(alloc, media, rounds, out)? {
+            Action::Settle(fises) => match self.board.settle(alloc, fises, out)? {
                 true => Reply::Settled,
                 false => Reply::Unsettled,
             },

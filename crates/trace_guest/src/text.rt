@@ -4,8 +4,8 @@ use crate::opening::Sizes;
 use ahci_controller::{Hindrance, NotTaken};
 use ahci_registers::Effect;
 use fis_view::Frame;
-use guest_port::Refused;
 use hba_fbs::{Ignored as Why, WriteError};
+use sata_disk::Unheard as NotHeard;
 use std::fmt;
 use trace_text::FrameShort;
 
@@ -142,14 +142,16 @@ impl fmt::Display for Ignored {
 /// A command that is not issued.
 #[derive(Drop)]
 pub struct NotIssued {
-    /// Which, and why.
-    pub refused: Refused,
+    /// Its slot.
+    pub slot: u8,
+    /// Why.
+    pub why: NotTaken,
 }
 
 impl fmt::Display for NotIssued {
     fn fmt<W: fmt::Write>(&self, f: &mut fmt::Formatter<W>) -> fmt::Result {
-        write!(f, "slot {} not taken: ", self.refused.slot)?;
-        match self.refused.why {
+        write!(f, "slot {} not taken: ", self.slot)?;
+        match self.why {
             NotTaken::Read(refusal) => write!(f, "{refusal}"),
             NotTaken::Bytes { found } => write!(f, "it moves {found} bytes"),
             NotTaken::Issue(error) => write!(f, "{error}"),
@@ -167,5 +169,20 @@ pub struct Lost {
 impl fmt::Display for Lost {
     fn fmt<W: fmt::Write>(&self, f: &mut fmt::Formatter<W>) -> fmt::Result {
         write!(f, "slot {} fails: no memory for its data", self.slot)
+    }
+}
+
+/// A FIS that a disk does not hear.
+#[derive(Drop)]
+pub struct Unheard {
+    /// The port of the disk.
+    pub port: u8,
+    /// Why.
+    pub why: NotHeard,
+}
+
+impl fmt::Display for Unheard {
+    fn fmt<W: fmt::Write>(&self, f: &mut fmt::Formatter<W>) -> fmt::Result {
+        write!(f, "disk {}: unheard: {}", self.port, self.why)
     }
 }

@@ -106,14 +106,16 @@ pub enum Wanted {
     Keyword(Keyword),
     /// The path of a file.
     Path,
-    /// A file that can be read and written, and has as many bytes as a disk.
-    DiskFile,
+    /// A file that can be read and written, and has 1 sector to so many.
+    DiskFile(u64),
     /// A file that no other disk has.
     OtherFile,
     /// `oldest` or `newest`.
     Order,
     /// The words of a disk's plan.
     Plan,
+    /// The words about a disk of a guest.
+    GuestDisk,
     /// At most 16 bad sectors.
     FewerBad,
     /// A decimal number within these limits.
@@ -159,6 +161,10 @@ impl fmt::Display for Wanted {
         match self {
             Wanted::Keyword(keyword) => write!(f, "wanted `{}`{}", keyword.word(), keyword.hint()),
             Wanted::Number(what, least, most) => write_number(*what, *least, *most, f),
+            Wanted::DiskFile(most) => write!(
+                f,
+                "wanted a file to read and write, of 1 to {most} sectors of 512 bytes"
+            ),
             other => f.write_str(other.sentence()),
         }
     }
@@ -178,7 +184,9 @@ impl Wanted {
     /// What is wanted, if it has no word and no number of its own.
     fn sentence(self) -> &'static str {
         match self {
-            Wanted::Nothing | Wanted::Keyword(_) | Wanted::Number(..) => "wanted no word more",
+            Wanted::Nothing | Wanted::Keyword(_) | Wanted::Number(..) | Wanted::DiskFile(_) => {
+                "wanted no word more"
+            }
             Wanted::Size => "wanted at most 20000 bytes in a line, and 16777216 in the input",
             Wanted::RunLine => RUN_LINES,
             Wanted::ThreadsLine => THREADS_LINES,
@@ -192,14 +200,12 @@ impl Wanted {
             Wanted::DiskThere => "the disk of this port is not there",
             Wanted::FreePort => "a line before has said what stands at this port",
             Wanted::Path => "wanted the path of a file",
-            Wanted::DiskFile => {
-                "wanted a file to read and write, of 1 to 65536 sectors of 512 bytes"
-            }
             Wanted::OtherFile => "another disk has this file",
             Wanted::Order => "wanted `oldest` or `newest`",
             Wanted::Plan => {
                 "wanted `order`, `chunk`, `lastfirst`, `bad`, `auto` or `stock`, each but `bad` once"
             }
+            Wanted::GuestDisk => "wanted `bad` or `stock`, and `stock` once",
             Wanted::FewerBad => "wanted at most 16 sectors that cannot be read",
             Wanted::WholeSectors => "wanted a multiple of 512",
             Wanted::Address => "wanted an address, at most 8 hexadecimal digits without 0x",

@@ -147,6 +147,14 @@ impl<'a> Words<'a> {
         }
     }
 
+    /// The next word as the path of a file.
+    pub fn path(&mut self) -> Result<&'a [u8], Failure> {
+        match self.next_word() {
+            Some(word) => Ok(word),
+            None => Err(self.refused(Refusal::Number, Wanted::Path)),
+        }
+    }
+
     /// The next word as an address and a number of bytes, with a colon between them.
     pub fn prd(&mut self) -> Result<Prd, Failure> {
         let Some(word) = self.next_word() else {

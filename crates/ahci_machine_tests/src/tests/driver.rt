@@ -8,7 +8,7 @@ const CLB: usize = 0x1000;
 
 const FB: u32 = 0x2000;
 
-const TABLE: usize = 0x3000;
+pub const TABLE: usize = 0x3000;
 
 pub const BUFFER: usize = 0x1_0000;
 

@@ -1,7 +1,9 @@
 //! One disk, straight behind the controller.
 
-use super::driver::{BUFFER, command, h2d, starts};
+use super::driver::{BUFFER, TABLE, command, h2d, starts};
 use super::rig::Rig;
+use ahci_controller::Fed;
+use ahci_machine::Told;
 use std::test::Fail;
 
 /// IDENTIFY DEVICE, in slot 0.
@@ -57,5 +59,39 @@ fn sectors_are_written(rt: HostRuntime) -> Result<(), Fail> {
     let mut rig = Rig::new(rt.alloc(), 0)?;
     assert!(rt; starts(&mut rig)?);
     assert!(rt; writes_queued(&mut rig)?);
+    Ok(())
+}
+
+/// A command whose FIS is none of a host, in slot 5.
+fn is_not_taken(rig: &mut Rig) -> Result<bool, Fail> {
+    let mut fis = h2d(0x25, 0, 5, 1);
+    fis[0] = 0x34;
+    command(rig, 5, 0, false, &fis, 512);
+    rig.writes(0x138, 32)?;
+    Ok(matches!(rig.refused(), Some(Told::NotTaken { slot: 5, .. })))
+}
+
+/// A write whose bytes are no memory, in slot 6.
+fn is_missed(rig: &mut Rig) -> Result<bool, Fail> {
+    command(rig, 6, 0, true, &h2d(0x35, 0, 9, 1), 512);
+    rig.fills(TABLE + 6 * 256 + 131, &[0x7F]);
+    rig.writes(0x138, 64)?;
+    Ok(matches!(
+        rig.refused(),
+        Some(Told::Missed {
+            slot: 6,
+            fed: Fed::Missed { .. }
+        })
+    ))
+}
+
+#[test]
+fn callers_are_told_why_commands_are_not_served(rt: HostRuntime) -> Result<(), Fail> {
+    let mut rig = Rig::new(rt.alloc(), 0)?;
+    assert!(rt; starts(&mut rig)?);
+    assert!(rt; is_not_taken(&mut rig)?);
+    let mut rig = Rig::new(rt.alloc(), 0)?;
+    assert!(rt; starts(&mut rig)?);
+    assert!(rt; is_missed(&mut rig)?);
     Ok(())
 }

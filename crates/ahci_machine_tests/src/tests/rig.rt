@@ -1,7 +1,7 @@
 //! A guest with a memory, and media that answer.
 
 use ahci_controller::Width;
-use ahci_machine::{GuestRead, Machine, MediumId, Request, Unit};
+use ahci_machine::{GuestRead, Machine, MediumId, Request, Told, Unit};
 use block_engine::{Answer, ErrorKind, Failure, What};
 use disk_pages::{Capacity, IdentityText, PhysicalSector, Profile, QueueDepth, Rotation};
 use sata_disk::SataDisk;
@@ -20,6 +20,7 @@ pub struct Rig {
     memory: Vec<u8>,
     media: Vec<u8>,
     line: bool,
+    refused: Option<Told>,
 }
 
 impl Model for Rig {
@@ -88,16 +89,27 @@ impl Rig {
             memory,
             media,
             line: false,
+            refused: None,
         })
     }
 
     fn supply(&mut self, read: GuestRead) -> Result<(), AllocError> {
         let at = read.at as usize;
         let end = at.saturating_add(read.len);
-        match self.memory.get(at..end) {
-            Some(bytes) => self.machine.supply(self.alloc, read.wanted, bytes),
-            None => self.machine.no_memory(read.wanted),
+        let told = match self.memory.get(at..end) {
+            Some(bytes) => self.machine.supply(self.alloc, read.wanted, bytes)?,
+            None => self.machine.no_memory(read.wanted)?,
+        };
+        match told {
+            Told::NotTaken { .. } | Told::Missed { .. } => self.refused = Some(told),
+            Told::Stale | Told::Kept | Told::Issued { .. } => {}
         }
+        Ok(())
+    }
+
+    /// What the machine said last of a command that it does not take, or cannot serve.
+    pub fn refused(&self) -> Option<Told> {
+        self.refused
     }
 
     fn write(&mut self, at: u64) {

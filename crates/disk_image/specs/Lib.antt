@@ -1,3 +1,0 @@
-pub mod Media
-pub mod Failures
-pub mod Loads
