@@ -3,13 +3,14 @@
 ghost use Rattle.std.specs.Prelude.{◌≡◌, ◌≤◌, ◌<◌, length};
 ghost use Rattle.sata_disk.specs.Sending.{IsOut};
 
+use crate::memory::{append, copied, data, push, register, zeros};
 use block_command::AnswerError;
 use block_engine::{Answer, Range, Request, What};
 use disk_pages::{
     Capacity, FirmwareRevision, ModelNumber, PhysicalSector, Profile, QueueDepth, Rotation,
     SerialNumber,
 };
-use fis_view::{Fis, Frame, H2dFields, Stamp, h2d, payload};
+use fis_view::{Fis, Frame, H2dFields, Stamp};
 use sata_disk::{SataDisk, Unheard};
 use std::alloc::Global;
 use std::process::Abort;
@@ -40,6 +41,8 @@ pub struct Bench {
     pub frames: Vec<Frame>,
     /// Flushes that were answered.
     pub flushes: u32,
+    /// All numbers of requests are below it.
+    pub asked: u64,
 }
 
 /// A profile with TRIM and 32 queued commands.
@@ -59,11 +62,11 @@ pub fn profile(rt: &impl Abort) -> Profile {
 
 /// So many bytes, each of its own.
 pub fn some_bytes(rt: &impl Abort, alloc: Global, len: usize, seed: u64) -> Vec<u8> {
-    let mut bytes = Vec::new(alloc);
+    let mut bytes = zeros(rt, alloc, len);
     let mut seed = seed;
-    for _ in 0..len {
+    for byte in &mut bytes {
         seed = next(seed);
-        bytes.push((seed >> 33 & 0xFF) as u8).expect(rt, "memory");
+        *byte = (seed >> 33 & 0xFF) as u8;
     }
     bytes
 }
@@ -131,33 +134,115 @@ fn asked_bytes(frame: &Frame) -> Option<usize> {
     }
 }
 
+/// A medium that is all zeros.
+pub fn blank(rt: &impl Abort, alloc: Global) -> Vec<u8> {
+    zeros(rt, alloc, SECTORS as usize * 512)
+}
+
+/// Sectors of a medium.
+pub fn sectors_of<'a>(rt: &impl Abort, medium: &'a [u8], lba: u64, count: u32) -> &'a [u8] {
+    let span = span_of(rt, medium, lba, count);
+    &medium[span.from..span.to]
+}
+
+/// Puts sectors onto a medium.
+pub fn put_sectors(rt: &impl Abort, medium: &mut [u8], lba: u64, bytes: &[u8]) {
+    assert!(rt; bytes.len() / 512 < 1 << 32);
+    let span = span_of(rt, medium, lba, (bytes.len() / 512) as u32);
+    assert!(rt; bytes.len() == span.to - span.from);
+    let sectors = &mut medium[span.from..span.to];
+    sectors.copy_from_slice(bytes);
+}
+
+/// Makes sectors of a medium zeros.
+pub fn clear_sectors(rt: &impl Abort, medium: &mut [u8], lba: u64, count: u32) {
+    let span = span_of(rt, medium, lba, count);
+    let sectors = &mut medium[span.from..span.to];
+    sectors.fill(0);
+}
+
+/// How a command that is not queued ended.
+#[derive(Clone, Copy, Debug, PartialEq, Eq)]
+pub struct Ending {
+    /// The Status register.
+    pub status: u8,
+    /// The Error register.
+    pub error: u8,
+    /// The LBA.
+    pub lba: u64,
+    /// The Count register.
+    pub count: u16,
+}
+
+/// The end of a command that went well, and says nothing more.
+pub const WELL: Ending = Ending {
+    status: 0x50,
+    error: 0,
+    lba: 0,
+    count: 0,
+};
+
+/// The end of a command that was refused for itself.
+pub const ABORTED: Ending = Ending {
+    status: 0x51,
+    error: 4,
+    lba: 0,
+    count: 0,
+};
+
+/// The end that a FIS is: a Register FIS with its interrupt, or the last PIO Setup FIS of a read.
+fn ending_of(frame: &Frame) -> Option<Ending> {
+    match frame.fis() {
+        Ok(Fis::RegD2H(fis)) if fis.i() => Some(Ending {
+            status: fis.status(),
+            error: fis.error(),
+            lba: fis.lba(),
+            count: fis.count(),
+        }),
+        Ok(Fis::PioSetup(fis)) if fis.d() && fis.e_status() & 0x88 == 0 => Some(Ending {
+            status: fis.e_status(),
+            error: fis.error(),
+            lba: fis.lba(),
+            count: fis.count(),
+        }),
+        _ => None,
+    }
+}
+
 impl Bench {
     /// A disk that was plugged in, with a medium that is all zeros.
     pub fn new(rt: &impl Abort, alloc: Global) -> Bench {
-        let mut medium = Vec::new(alloc);
-        medium
-            .resize(SECTORS as usize * 512, 0)
-            .expect(rt, "memory");
-        let mut disk = SataDisk::new(alloc, profile(rt), 4 << 20).expect(rt, "memory");
+        Bench::with_limit(rt, alloc, 4 << 20)
+    }
+
+    /// A disk that was plugged in and holds at most so many bytes, with a medium that is all zeros.
+    pub fn with_limit(rt: &impl Abort, alloc: Global, limit: u32) -> Bench
+        requires { 1048576 ≤ limit }
+    {
+        let mut disk = match SataDisk::new(alloc, profile(rt), limit) {
+            Ok(disk) => disk,
+            Err(_) => SataDisk::new(alloc, profile(rt), limit).expect(rt, "memory"),
+        };
         disk.plugged(alloc);
         Bench {
             disk,
-            medium,
+            medium: blank(rt, alloc),
             data: Vec::new(alloc),
             gone: 0,
             frames: Vec::new(alloc),
             flushes: 0,
+            asked: 0,
         }
     }
 
     /// The host sends a Register FIS. Where memory is refused, it sends it again.
     pub fn gives(&mut self, rt: &impl Abort, alloc: Global, fields: H2dFields) -> Option<Unheard> {
-        let frame = h2d(alloc, &fields, STAMP).expect(rt, "memory");
+        let frame = register(rt, alloc, &fields, STAMP);
         self.hears(rt, alloc, &frame)
     }
 
     /// A FIS of the host comes; it is given again where memory is refused.
-    fn hears(&mut self, rt: &impl Abort, alloc: Global, frame: &Frame) -> Option<Unheard> {
+    pub fn hears(&mut self, rt: &impl Abort, alloc: Global, frame: &Frame) -> Option<Unheard> {
         match self.disk.on_frame(alloc, frame) {
             Ok(unheard) => unheard,
             Err(_) => self.disk.on_frame(alloc, frame).expect(rt, "memory"),
@@ -169,16 +254,15 @@ impl Bench {
         let len = self.data.len().saturating_sub(self.gone).min(most);
         assert!(rt; self.gone <= self.data.len());
         let part = &self.data[self.gone..self.gone + len];
-        let frame = payload(alloc, 0, part, STAMP).expect(rt, "whole dwords");
+        let frame = data(rt, alloc, part, STAMP);
         assert!(rt; self.hears(rt, alloc, &frame).is_none());
         self.gone = self.gone.saturating_add(len);
     }
 
     /// The sectors of a load.
     fn load(&self, rt: &impl Abort, alloc: Global, lba: u64, count: u32) -> Answer {
-        let span = span_of(rt, &self.medium, lba, count);
-        let bytes = self.medium[span.from..span.to].to_vec(alloc);
-        Answer::Loaded(bytes.expect(rt, "memory"))
+        let bytes = sectors_of(rt, &self.medium, lba, count);
+        Answer::Loaded(copied(rt, alloc, bytes))
     }
 
     /// Stores the bytes of the command of a place.
@@ -186,19 +270,15 @@ impl Bench {
         let place = place.expect(rt, "a place");
         assert!(rt; place < 33);
         let bytes = self.disk.get(place).expect(rt, "a command").bytes();
-        let span = span_of(rt, &self.medium, lba, count);
-        assert!(rt; bytes.len() == span.to - span.from);
-        let sectors = &mut self.medium[span.from..span.to];
-        sectors.copy_from_slice(bytes);
+        assert!(rt; bytes.len() == count as usize * 512);
+        put_sectors(rt, &mut self.medium, lba, bytes);
     }
 
     /// Makes the discarded sectors zeros.
     fn discard(&mut self, rt: &impl Abort) {
         for range in self.disk.ranges() {
             let Range { lba, count } = *range;
-            let span = span_of(rt, &self.medium, lba, count);
-            let sectors = &mut self.medium[span.from..span.to];
-            sectors.fill(0);
+            clear_sectors(rt, &mut self.medium, lba, count);
         }
     }
 
@@ -224,18 +304,24 @@ impl Bench {
         }
     }
 
-    /// The disk sends the FIS that is next, if there is one; the host keeps it, and sends Data where it asks for them.
-    pub fn sends(&mut self, rt: &impl Abort, alloc: Global) -> bool {
-        let Some(out) = self.disk.next_out() else {
-            return false;
-        };
+    /// The FIS that goes next, if there is one.
+    pub fn next_frame(&mut self, rt: &impl Abort, alloc: Global) -> Option<Frame> {
+        let out = self.disk.next_out()?;
         let frame = match self.disk.frame(alloc, out, STAMP) {
             Ok(frame) => frame,
             Err(_) => self.disk.frame(alloc, out, STAMP).expect(rt, "memory"),
         };
         self.disk.sent(out);
+        Some(frame)
+    }
+
+    /// The disk sends the FIS that is next, if there is one; the host keeps it, and sends Data where it asks for them.
+    pub fn sends(&mut self, rt: &impl Abort, alloc: Global) -> bool {
+        let Some(frame) = self.next_frame(rt, alloc) else {
+            return false;
+        };
         let asked = asked_bytes(&frame);
-        self.frames.push(frame).expect(rt, "memory");
+        push(rt, &mut self.frames, frame);
         if let Some(most) = asked {
             self.gives_data(rt, alloc, most);
         }
@@ -263,5 +349,37 @@ impl Bench {
             }
         }
         panic!(rt; "it goes on");
+    }
+
+    /// A command that is not queued goes to its end.
+    pub fn runs(&mut self, rt: &impl Abort, alloc: Global, fields: H2dFields) -> Ending {
+        self.frames = Vec::new(alloc);
+        self.gone = 0;
+        assert!(rt; self.gives(rt, alloc, fields).is_none());
+        self.settles(rt, alloc);
+        self.ending(rt)
+    }
+
+    /// How the command ended: once.
+    pub fn ending(&self, rt: &impl Abort) -> Ending {
+        let mut ending = None;
+        for frame in &self.frames {
+            if let Some(end) = ending_of(frame) {
+                assert!(rt; ending.is_none());
+                ending = Some(end);
+            }
+        }
+        ending.expect(rt, "an end")
+    }
+
+    /// The bytes of the Data FISes of the disk.
+    pub fn came(&self, rt: &impl Abort, alloc: Global) -> Vec<u8> {
+        let mut bytes = Vec::new(alloc);
+        for frame in &self.frames {
+            if let Ok(Fis::Payload(fis)) = frame.fis() {
+                append(rt, &mut bytes, fis.payload());
+            }
+        }
+        bytes
     }
 }

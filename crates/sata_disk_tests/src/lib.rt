@@ -2,7 +2,15 @@
 #![tactic(auto)]
 
 #[cfg(test)]
+mod caller;
+#[cfg(test)]
 mod host;
+#[cfg(test)]
+mod hosts;
+#[cfg(test)]
+mod memory;
+#[cfg(test)]
+mod queue;
 #[cfg(test)]
 mod rounds;
 #[cfg(test)]

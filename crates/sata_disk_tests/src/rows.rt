@@ -1,6 +1,7 @@
 //! Worked rows: commands, and each FIS of the disk.
 
 use crate::host::{Bench, command, queued, some_bytes};
+use crate::memory::zeros;
 use block_engine::{Answer, ErrorKind, Failure, What};
 use fis_view::H2dFields;
 use sata_disk::Unheard;
@@ -29,7 +30,10 @@ const NEXT_OUT: &str = "5f4058000000000000000000000000d000020000";
 fn has_sent(rt: &impl Abort, alloc: Global, bench: &mut Bench, wanted: &[&str]) {
     assert!(rt; bench.frames.len() == wanted.len());
     for (frame, want) in bench.frames.iter().zip(wanted) {
-        let text = hex::encode(alloc, frame.bytes()).expect(rt, "memory");
+        let text = match hex::encode(alloc, frame.bytes()) {
+            Ok(text) => text,
+            Err(_) => hex::encode(alloc, frame.bytes()).expect(rt, "memory"),
+        };
         assert!(rt; text.as_str().starts_with(*want));
     }
     bench.frames = Vec::new(alloc);
@@ -43,26 +47,13 @@ fn plugged(rt: &impl Abort, alloc: Global) -> Bench {
     bench
 }
 
-/// The bytes of the Data FISes that the disk sent.
-fn data(rt: &impl Abort, alloc: Global, bench: &Bench) -> Vec<u8> {
-    let mut bytes = Vec::new(alloc);
-    for frame in &bench.frames {
-        if frame.bytes()[0] == 0x46 {
-            bytes
-                .extend_from_slice(&frame.bytes()[4..])
-                .expect(rt, "memory");
-        }
-    }
-    bytes
-}
-
 #[test]
 fn identity_by_pio(rt: HostRuntime) {
     let alloc = rt.alloc();
     let mut bench = plugged(&rt, alloc);
     assert!(rt; bench.gives(&rt, alloc, command(0xEC, 0, 0)).is_none());
     bench.settles(&rt, alloc);
-    let page = data(&rt, alloc, &bench);
+    let page = bench.came(&rt, alloc);
     assert!(rt; page.len() == 512);
     // the signature of the page, 32 commands, and 4,096 sectors
     assert!(rt; page[510] == 0xA5 && page[150] == 31 && page[200] == 0 && page[201] == 0x10);
@@ -91,7 +82,7 @@ fn queued_write_and_read(rt: HostRuntime) {
     assert!(rt; bench.medium[3584..4608] == bench.data[..]);
     assert!(rt; bench.gives(&rt, alloc, queued(0x60, 7, 2, 5)).is_none());
     bench.settles(&rt, alloc);
-    assert!(rt; data(&rt, alloc, &bench)[..] == bench.data[..]);
+    assert!(rt; bench.came(&rt, alloc)[..] == bench.data[..]);
     has_sent(
         &rt,
         alloc,
@@ -239,8 +230,8 @@ fn ranges_are_discarded(rt: HostRuntime) {
     assert!(rt; bench.medium.len() > 5120);
     assert!(rt; bench.medium[4608..5120] == bench.data[..]);
     // one sector from sector 9 on
-    let mut ranges = Vec::new(alloc);
-    ranges.resize(512, 0).expect(&rt, "memory");
+    let mut ranges = zeros(&rt, alloc, 512);
+    assert!(rt; ranges.len() == 512);
     ranges[0] = 9;
     ranges[6] = 1;
     bench.data = ranges;

@@ -2,27 +2,22 @@
 
 use super::runs::{is_done, reading_of};
 use super::setups::{Door, ran, setup_of};
-use disk_model::{DiskPlan, Profile};
+use disk_model::{Disk, DiskPlan};
 use pm_threads::Links;
 use std::alloc::Global;
 use std::test::Fail;
-use stock_disk::StockDisk;
 
-/// This many disks, each behind its front.
-fn stock_disks(alloc: Global, count: u8) -> Result<Vec<StockDisk>, Fail> {
+/// This many disks, with no type around them.
+fn disks(alloc: Global, count: u8) -> Result<Vec<Disk>, Fail> {
     let mut units = Vec::new(alloc);
-    for number in 0..count {
-        let plan = DiskPlan {
-            profile: Profile::Stock(u32::from(number)),
-            ..DiskPlan::plain()
-        };
-        units.push(StockDisk::new(alloc, 16, plan)?)?;
+    for _ in 0..count {
+        units.push(Disk::new(alloc, 16, DiskPlan::plain())?)?;
     }
     Ok(units)
 }
 
 /// Whether sector 0 of the first device holds what was written.
-fn is_written(units: &[StockDisk]) -> bool {
+fn is_written(units: &[Disk]) -> bool {
     units
         .first()
         .and_then(|disk| disk.sector(0))
@@ -30,8 +25,8 @@ fn is_written(units: &[StockDisk]) -> bool {
 }
 
 #[test]
-fn stock_disks_are_read(rt: HostRuntime) -> Result<(), Fail> {
-    let units = stock_disks(rt.alloc(), 2)?;
+fn disks_of_their_own_type_are_read(rt: HostRuntime) -> Result<(), Fail> {
+    let units = disks(rt.alloc(), 2)?;
     let setup = reading_of(rt.alloc(), setup_of(rt.alloc(), units), 2)?;
     let mut links = Links::new(rt.alloc(), 2, 4)?;
     let summary = ran(&rt, rt.alloc(), &mut links, setup, &Door { open: true })?;
