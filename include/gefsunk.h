@@ -39,7 +39,7 @@ extern "C" {
 #endif
 
 /* The version of this header. The first two numbers are those of the calls and of what they mean. */
-#define GEF_VERSION "0.1.0"
+#define GEF_VERSION "0.2.0"
 
 /* That of the library that runs, never null. */
 const char *gef_version(void);
