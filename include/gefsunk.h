@@ -39,7 +39,7 @@ extern "C" {
 #endif
 
 /* The version of this header. The first two numbers are those of the calls and of what they mean. */
-#define GEF_VERSION "0.1.0"
+#define GEF_VERSION "0.2.0"
 
 /* That of the library that runs, never null. */
 const char *gef_version(void);
@@ -64,9 +64,6 @@ typedef enum gef_status {
     GEF_NOT_THERE = 14,     /* no device is at the port */
     GEF_NO_REGISTER = 15,   /* the port has no such register */
     GEF_SPENT = 16,         /* 4,294,967,295 devices came to this port: it takes no more */
-    GEF_BAD_DISK = 17,      /* a disk cannot have this size, this chunk, these flags or so many bad sectors */
-    GEF_NO_SECTOR = 18,     /* the disk has no such sector */
-    GEF_NO_TAG = 19,        /* a queued command has a tag from 0 to 31 */
     GEF_BAD_WIDTH = 20,     /* an access to registers has 1, 2, 4 or 8 bytes */
     GEF_BAD_SECTORS = 21,   /* a disk has 1 to 281,474,976,710,655 sectors (2 to the 48, less 1) */
     GEF_BAD_TEXT = 22,      /* a text is longer than its field, or has a character that is not printable ASCII */
@@ -81,8 +78,7 @@ typedef enum gef_status {
     GEF_OTHER_KIND = 31,    /* the request asked for something else */
     GEF_OTHER_LENGTH = 32,  /* the load asked for another number of bytes */
     GEF_OTHER_SECTOR = 33,  /* the request does not have this sector */
-    GEF_BAD_ERROR = 34,     /* a request fails by GEF_UNC, GEF_IDNF or GEF_ABRT */
-    GEF_IMAGE = 64          /* of gefsunk_image.h alone: an image was not read, written or flushed, or is of another size */
+    GEF_BAD_ERROR = 34      /* a request fails by GEF_UNC, GEF_IDNF or GEF_ABRT */
 } gef_status;
 
 /* A sentence for a log, never null. It stays valid as long as the program runs. */
@@ -203,13 +199,93 @@ gef_status gef_pm_dropped(gef_pm *pm, uint32_t *count);
 
 /* ---- a disk ------------------------------------------------------------------------------------------------------ */
 
+/* The least bound in bytes of what the commands of a disk hold. */
+#define GEF_LEAST_LIMIT 1048576u
+
+/* What a disk says of itself (IDENTIFY DEVICE), and a bound. Texts end with a 0, and are padded with blanks. */
+typedef struct gef_disk_profile {
+    const char *model;    /* at most 40 characters */
+    const char *serial;   /* at most 20; give each disk of a guest its own */
+    const char *firmware; /* at most 8 */
+    uint64_t sectors;     /* of 512 bytes each */
+    uint64_t wwn;         /* the world wide name, 0 for none */
+    uint32_t physical;    /* bytes of a physical sector: 512 or 4,096 */
+    uint32_t rotation;    /* 0: nothing is said; 1: the medium does not turn; else its turns a minute */
+    uint32_t depth;       /* how many queued commands it takes: 1 to 32 */
+    uint32_t trim;        /* not 0: it takes DATA SET MANAGEMENT with TRIM, and may ask for a discard */
+    uint32_t limit;       /* the most bytes that its commands hold at a time: GEF_LEAST_LIMIT or more */
+} gef_disk_profile;
+
+/* What an event is. Its part of the union is named with it; those without one have none. */
+#define GEF_EVENT_NOTHING 0u     /* nothing, until the guest, a medium or a device does something */
+#define GEF_EVENT_AGAIN 1u       /* a budget of moves is spent, so that a call is short: ask again */
+#define GEF_EVENT_READ_GUEST 2u  /* `read`: `len` bytes of the guest's memory from `at` on are wanted: answer with `wanted` */
+#define GEF_EVENT_WRITE_GUEST 3u /* `write`: `len` bytes, which gef_machine_lent gives, go to the guest's memory from `at` on: */
+                                 /* write them before you ask anything else, and before the guest reads a register */
+#define GEF_EVENT_LOAD 4u        /* `medium`: `count` sectors from `lba` on of the disk at `port` are wanted */
+#define GEF_EVENT_STORE 5u       /* `medium`: bytes, which gef_machine_stored or gef_disk_stored gives, go to these sectors */
+#define GEF_EVENT_FLUSH 6u       /* `medium`: what was stored is to last a loss of power */
+#define GEF_EVENT_DISCARD 7u     /* `medium`: sectors, which gef_machine_discarded or gef_disk_discarded gives, are not needed */
+#define GEF_EVENT_LINE 8u        /* `up`: the interrupt line is up (1), or down (0), from now on */
+#define GEF_EVENT_MESSAGE 9u     /* a message is due, where messages (MSI) stand for the line */
+#define GEF_EVENT_TO_DEVICE 10u  /* a FIS for your device at `port`: gef_machine_take_frame gives it */
+#define GEF_EVENT_BEGINS 11u     /* the device at `port` begins anew: yours forgets what it had to do, and sends its signature */
+
+/* What bytes of the guest are wanted for. Its fields belong to the library. */
+typedef struct gef_wanted {
+    uint32_t kind;
+    uint32_t owner;
+    uint64_t number;
+    size_t done;
+} gef_wanted;
+
+/* Which request of a disk an answer is for. Its fields belong to the library. */
+typedef struct gef_request {
+    uint32_t port;
+    uint32_t place;
+    uint64_t disk;
+    uint64_t number;
+} gef_request;
+
+typedef struct gef_event {
+    uint32_t kind; /* GEF_EVENT_NOTHING and so on */
+    uint32_t port; /* of a disk of a machine, or of a device; else 0 */
+    union {
+        struct {
+            uint64_t at;
+            size_t len;
+            gef_wanted wanted;
+        } read;
+        struct {
+            uint64_t at;
+            size_t len;
+        } write;
+        struct {
+            uint64_t lba;
+            uint32_t count; /* sectors of 512 bytes, at most 2,048 */
+            gef_request request;
+        } medium;
+        uint32_t up;
+    } u;
+} gef_event;
+
+/* How a request can fail: the bits of the Error that the host sees. */
+#define GEF_UNC 0x40u  /* the sector cannot be read */
+#define GEF_IDNF 0x10u /* there is no such sector */
+#define GEF_ABRT 0x04u /* it cannot be done */
+
+/* Sectors of a discard. */
+typedef struct gef_range {
+    uint64_t lba;
+    uint64_t count;
+} gef_range;
+
 /*
- * A disk with native command queuing, its sectors in memory. They are read and written by READ FPDMA QUEUED (60h) and
- * WRITE FPDMA QUEUED (61h), and with GEF_DISK_STOCK, chunks of 8,192 bytes and without GEF_DISK_LAST_FIRST also by READ
- * DMA and WRITE DMA (C8h, 25h, CAh, 35h). All others that read or write end with Status 51h, Error 04h. docs/FORMATS.md has
- * all the commands that it knows. Put it behind a port of a multiplier (gef_pm_to_device gives what gef_disk_from_host
- * takes, and gef_disk_to_host what gef_pm_from_device takes), or at the other end of a link of your own. The rules of a
- * handle are those of gef_pm. A handle of another kind returns GEF_CLOSED, and stays as it was.
+ * A SATA disk with native command queuing whose sectors lie with you: FISes come and go, and events say what is to be loaded and
+ * stored. docs/FORMATS.md has the commands that it knows. Put it behind a port of a multiplier (gef_pm_to_device gives what
+ * gef_disk_from_host takes, and gef_disk_to_host what gef_pm_from_device takes), or at the other end of a link of your own. In a
+ * gef_machine it is a disk that gef_machine_put_disk puts there. The rules of a handle are those of gef_pm. A handle of another
+ * kind returns GEF_CLOSED, and stays as it was.
  */
 typedef struct gef_disk {
     uint32_t mark;
@@ -218,209 +294,75 @@ typedef struct gef_disk {
 
 #define GEF_DISK_CLOSED { 0, 0 }
 
-/* How a disk goes about its commands, and what it says of itself: flags, to be added. */
-#define GEF_DISK_NEWEST 1u     /* the newest queued command is started first; without it the oldest */
-#define GEF_DISK_LAST_FIRST 2u /* the chunks of a command go downwards, from its last sectors */
-#define GEF_DISK_AUTO 4u       /* auto-activate: no DMA Activate FIS is sent */
-#define GEF_DISK_STOCK 8u      /* IDENTIFY DEVICE data that drivers of operating systems read, and the answers they expect: */
-                               /* commands after an error are aborted until its log is read; STANDBY, IDLE, SLEEP, FLUSH */
-                               /* CACHE, CHECK POWER MODE, SET FEATURES, READ VERIFY, READ SECTORS and SMART are answered */
-                               /* (docs/FORMATS.md) */
-
 /*
- * Makes a disk with 1 to 65,536 sectors of 512 bytes, with GEF_DISK_STOCK up to 268,435,455 (512 bytes less than 128 GiB),
- * and opens the handle. Byte i of sector L is (L + i) modulo 256 at first; gefsunk_image.h gives a disk sectors of yours.
- * chunk is the most bytes that one DMA Setup moves: a multiple of 512, from 512 to 8,192. serial ends the serial number of a
- * stock disk, as eight hexadecimal digits: give each disk of a guest its own. bad lists bad_count sectors, at most 16, that
- * cannot be read; it may be null if bad_count is 0. Memory for all sectors is taken at once.
- * Can return GEF_OPEN (free it first), GEF_BAD_DISK, GEF_NO_MEMORY.
+ * Makes a disk, and opens the handle.
+ * Can return GEF_OPEN (free it first), GEF_BAD_SECTORS, GEF_BAD_TEXT, GEF_BAD_DEPTH, GEF_BAD_ROTATION, GEF_BAD_PHYSICAL,
+ * GEF_BAD_LIMIT, GEF_NO_MEMORY.
  */
-gef_status gef_disk_new(gef_disk *disk, uint32_t sectors, uint16_t chunk, uint32_t flags, uint32_t serial,
-                        const uint32_t *bad, size_t bad_count);
+gef_status gef_disk_new(gef_disk *disk, const gef_disk_profile *profile);
 
 /* Frees the disk, and closes the handle. A second call returns GEF_CLOSED. */
 gef_status gef_disk_free(gef_disk *disk);
 
 /*
- * The disk is plugged in, as power comes: its queue and its answers are dropped, its medium stays, and it sends its
- * signature next. A new disk sends nothing by itself before this call. Can return GEF_CLOSED.
+ * The disk is plugged in, as power comes: what was under way is dropped, and it sends its signature next. A new disk sends nothing
+ * by itself before this call. A store that it asked for may still be done; its answer is refused. Can return GEF_CLOSED.
  */
 gef_status gef_disk_plug(gef_disk *disk);
 
 /*
- * A FIS arrives from the host. The disk ignores FISes that it does not know, and refuses commands that it does not know
- * (Status 51h, Error 04h). GEF_NO_MEMORY: it was not taken; pass it again.
- * Can return GEF_CLOSED, GEF_BAD_LENGTH, GEF_NO_MEMORY.
+ * A FIS arrives from the host. A command that the disk does not know it refuses (Status 51h, Error 04h). GEF_DROPPED: it does not hear
+ * the FIS (none of a host's, a command in software reset or while another one is to be answered first, Data that it did not ask
+ * for). GEF_NO_MEMORY: it was not taken; pass it again.
+ * Can return GEF_CLOSED, GEF_BAD_LENGTH, GEF_DROPPED, GEF_NO_MEMORY.
  */
 gef_status gef_disk_from_host(gef_disk *disk, const uint8_t *fis, size_t len);
 
 /*
  * Takes the next FIS of the disk: its bytes go into fis, and their number into *len. Its PM Port is 0. The room must be
- * GEF_FIS_ROOM. GEF_NOTHING: the disk owes nothing, or waits for data of the host.
+ * GEF_FIS_ROOM. GEF_NOTHING: the disk owes nothing, or waits for data of the host or for an answer of yours.
  * Can return GEF_CLOSED, GEF_TOO_SHORT, GEF_NOTHING, GEF_NO_MEMORY.
  */
 gef_status gef_disk_to_host(gef_disk *disk, uint8_t *fis, size_t room, size_t *len);
 
-/* In place of a tag: the command is not queued. */
-#define GEF_NOT_QUEUED 32u
+/*
+ * Says what is to be done to the medium next: GEF_EVENT_LOAD, GEF_EVENT_STORE, GEF_EVENT_FLUSH, GEF_EVENT_DISCARD, or
+ * GEF_EVENT_NOTHING. Ask after each FIS of the host, each FIS that went to it, and each answer. GEF_NO_MEMORY: nothing is lost; ask
+ * again. Can return GEF_CLOSED, GEF_NO_MEMORY.
+ */
+gef_status gef_disk_next(gef_disk *disk, gef_event *event);
 
 /*
- * A command failed: where you keep the sectors of the disk, what it wrote could not be kept, or what it reads could not be
- * read. Give the tag of a queued command, or GEF_NOT_QUEUED, the Error that its host is to see (04h is ABRT, 40h UNC), and
- * the sector. Call it before the host can hear that the command has ended: drop what you hold of the disk's FISes.
- * The disk then forgets all that was asked of it, and the host hears the error next. A queued command ends all queued
- * commands, by a Set Device Bits FIS with ERR; each command is aborted until the host has read the log (READ LOG EXT, 10h),
- * which names the tag, the error and the sector. Another command ends by its Register FIS with ERR. The sectors in the
- * disk's memory stay as they are. While a failure is not done with, another changes nothing.
- * Can return GEF_CLOSED, GEF_NO_TAG, GEF_NO_SECTOR.
+ * The sectors of a load. Each request is answered once, when you can, in any order. After a reset an answer is refused
+ * (GEF_NOT_OUT): drop it. A load that is refused by GEF_OTHER_LENGTH is still out.
+ * Can return GEF_CLOSED, GEF_NOT_OUT, GEF_OTHER_KIND, GEF_OTHER_LENGTH, GEF_NO_MEMORY.
  */
-gef_status gef_disk_fail(gef_disk *disk, uint8_t tag, uint8_t error, uint32_t lba);
+gef_status gef_disk_answer_loaded(gef_disk *disk, const gef_request *request, const uint8_t *bytes, size_t len);
 
 /*
- * Copies the 512 bytes of a sector, as they are on the medium, into the first 512 bytes of the room.
- * Can return GEF_CLOSED, GEF_NO_SECTOR, GEF_TOO_SHORT.
+ * A store, a flush or a discard was done. From then on a load of these sectors must give what was stored.
+ * Can return GEF_CLOSED, GEF_NOT_OUT, GEF_OTHER_KIND.
  */
-gef_status gef_disk_sector(gef_disk *disk, uint32_t lba, uint8_t *bytes, size_t room);
-
-/* ---- a controller ------------------------------------------------------------------------------------------------ */
+gef_status gef_disk_answer_done(gef_disk *disk, const gef_request *request);
 
 /*
- * An AHCI controller (AHCI 1.3.1) with one port, as a register file for unmodified drivers: FIS-based switching, native
- * command queuing, 32 slots, 64-bit addresses. Behind it you put a multiplier, or one device of your own, and in front of
- * it a guest: gef_hba_read32 and gef_hba_write32 are the accesses to its registers, gef_hba_read and gef_hba_write those of
- * any width. The rules of a handle are those of gef_pm. A controller takes a few KB, and 16 bytes for each entry of a table
- * while its command is issued.
- *
- *     on a write of a register:  gef_hba_write32 (or gef_hba_write); do what *link says; then pump, and set the line
- *     pump, until nothing moves: gef_hba_next_out gives a FIS: it goes to gef_pm_from_host
- *                                gef_pm_to_host gives one: it goes to gef_hba_take, and from there to guest memory.
- *                                After GEF_FULL you keep it, and pass it again
- *     after each of them:        gef_hba_line says whether the interrupt line is up
- *
- * gefsunk_pump.h has this loop, for a multiplier with disks of this library.
+ * A request could not be done, first at this sector (of a flush or a discard: 0). The host is told. GEF_UNC is of loads alone:
+ * of another request it is refused by GEF_OTHER_KIND.
+ * Can return GEF_CLOSED, GEF_BAD_ERROR, GEF_NOT_OUT, GEF_OTHER_KIND, GEF_OTHER_SECTOR.
  */
-typedef struct gef_hba {
-    uint32_t mark;
-    void *at;
-} gef_hba;
-
-#define GEF_HBA_CLOSED { 0, 0 }
+gef_status gef_disk_answer_failed(gef_disk *disk, const gef_request *request, uint32_t error, uint64_t lba);
 
 /*
- * The guest's memory, for one call: len bytes, the first of them at this address of the guest. What lies outside is no
- * memory to the controller. All of them must be readable, those of a hole in the guest's memory, too: the guest says where
- * the controller reads. Nobody may write to the bytes while the call runs. A guest's driver keeps to that: it leaves
- * the commands that it has issued, and data on their way out, as they are. If you do not trust your guest, stop its
- * processors for the time of the call, or give a copy.
- *
- * The controller never writes there. Its calls say what is to be written, and you write it: so a virtual machine's own
- * means for that (a log of changed pages, for one) see each write.
+ * Copies bytes of a store into the room, from an offset on, as many as there are and fit, and their number into *len. They are
+ * there until the store is answered, or the disk is reset or plugged in: copy them before you ask for the next event.
+ * Can return GEF_CLOSED, GEF_NOT_OUT, GEF_OTHER_KIND.
  */
-typedef struct gef_memory {
-    const uint8_t *bytes;
-    size_t len;
-    uint64_t address;
-} gef_memory;
-
-/* Makes a controller, and opens the handle: stopped, the link up. Can return GEF_OPEN, GEF_NO_MEMORY. */
-gef_status gef_hba_new(gef_hba *hba);
-
-/* Frees the controller, and closes the handle. A second call returns GEF_CLOSED. */
-gef_status gef_hba_free(gef_hba *hba);
+gef_status gef_disk_stored(gef_disk *disk, const gef_request *request, size_t from, uint8_t *bytes, size_t room, size_t *len);
 
 /*
- * Reads the register at an offset (those of the port begin at 100h): 0 where no register begins. It changes nothing.
- * Can return GEF_CLOSED.
+ * Gives the range of a discard that has this number, counted from 0. Can return GEF_CLOSED, GEF_NOTHING (it has no more).
  */
-gef_status gef_hba_read32(gef_hba *hba, uint32_t offset, uint32_t *value);
-
-/*
- * The same by an access of 1, 2, 4 or 8 bytes (width), the lowest byte first. One that crosses a boundary of eight bytes
- * reads 0. Can return GEF_CLOSED, GEF_BAD_WIDTH.
- */
-gef_status gef_hba_read(gef_hba *hba, uint32_t offset, uint32_t width, uint64_t *value);
-
-/* Whether the interrupt line is up: 1 or 0. It changes nothing. Can return GEF_CLOSED. */
-gef_status gef_hba_line(gef_hba *hba, uint32_t *raised);
-
-/* What a write does to the link. */
-#define GEF_LINK_STAYS 0u /* nothing */
-#define GEF_LINK_RESET 1u /* it goes down: drop what is on its way, and make the multiplier and what is behind it anew */
-#define GEF_LINK_UP 2u    /* it is up again: what is behind it begins anew now, and sends its signature */
-
-/*
- * Writes the register at an offset. No write is an error: what may not be done is ignored, or held until it may be. Ones
- * written to PxCI issue commands; their headers, FISes and tables are read from the guest's memory in this call, and never
- * again (in gef_hba_next_out, where the allocator refuses memory here, or a FIS is still due for which it did). *link says
- * what the write does to the link. *message is 1 if a message is due (where messages, MSI, stand for the line), else 0.
- * Can return GEF_CLOSED.
- */
-gef_status gef_hba_write32(gef_hba *hba, const gef_memory *memory, uint32_t offset, uint32_t value, uint32_t *link,
-                           uint32_t *message);
-
-/*
- * The same by an access of 1, 2, 4 or 8 bytes (width), those of the value that are lowest; of 8 the lower dword is written
- * first. Bits outside the access stay, and where ones act (IS, PxIS, PxSERR, PxSNTF, PxSACT, PxCI) nothing is written to
- * them. An access that crosses a boundary of eight bytes is ignored. Can return GEF_CLOSED, GEF_BAD_WIDTH; nothing has
- * changed then.
- */
-gef_status gef_hba_write(gef_hba *hba, const gef_memory *memory, uint32_t offset, uint32_t width, uint64_t value,
-                         uint32_t *link, uint32_t *message);
-
-/* What taking a FIS did. */
-typedef struct gef_taken {
-    uint32_t is_posted;  /* 1: the FIS goes to the guest's memory, all of it, from post_at on */
-    uint32_t is_counted; /* 1: count goes there, as 4 bytes, least significant first, at count_at */
-    uint64_t post_at;
-    uint64_t count_at;
-    uint32_t count;
-    uint32_t message; /* 1: a message is due */
-} gef_taken;
-
-/*
- * A FIS arrives from the multiplier, or from a device of yours, with its port in PM Port. A device with no multiplier before
- * it has that of the FIS which it took last: drivers reset it at port 15, and the answer is awaited from there. Before the
- * guest goes on, write to its memory, in this order: the bytes of a Data FIS (gef_hba_data), the FIS (is_posted), the count
- * (is_counted). While the link is down a FIS is lost, and after a command that cannot be served until the guest clears
- * PxCMD.ST. GEF_FULL: the guest receives none yet (PxCMD.FRE is 0), or gef_hba_next_out returned GEF_NO_MEMORY and was not
- * called since. The FIS waits: pass it again later. Where the link is reset, drop it.
- * Can return GEF_CLOSED, GEF_BAD_LENGTH, GEF_NO_MEMORY, GEF_FULL.
- */
-gef_status gef_hba_take(gef_hba *hba, const uint8_t *fis, size_t len, gef_taken *taken);
-
-/* Bytes of a Data FIS, and where they go: those from fis + 4 + from on, len of them, to this address of the guest. */
-typedef struct gef_place {
-    uint64_t at;
-    size_t from;
-    size_t len;
-} gef_place;
-
-/* Room for the places of any Data FIS: each has a byte of it at least. */
-#define GEF_PLACES_ROOM 8192
-
-/*
- * Where the bytes of the FIS that gef_hba_take took last go: the places into the room, their number into *count. It changes
- * nothing. GEF_NOTHING: it brought no bytes, or a register was written since.
- * Can return GEF_CLOSED, GEF_TOO_SHORT, GEF_NOTHING. After GEF_TOO_SHORT the room has some of the places.
- */
-gef_status gef_hba_data(gef_hba *hba, gef_place *places, size_t room, size_t *count);
-
-/* What else is to be done as a FIS goes out. */
-typedef struct gef_sent {
-    uint32_t is_counted; /* 1: count goes there, as 4 bytes, least significant first, at count_at */
-    uint32_t message;    /* 1: a message is due */
-    uint64_t count_at;
-    uint32_t count;
-} gef_sent;
-
-/*
- * Takes the next FIS that goes out, with its PM Port: its bytes go into fis, and their number into *len. The room must be
- * GEF_FIS_ROOM. Bytes of a write are read from the guest's memory in this call. *sent is filled after GEF_NOTHING, too. Before
- * the guest goes on, write the count to its memory.
- * Can return GEF_CLOSED, GEF_TOO_SHORT, GEF_NOTHING, GEF_NO_MEMORY (pass it again).
- */
-gef_status gef_hba_next_out(gef_hba *hba, const gef_memory *memory, uint8_t *fis, size_t room, size_t *len,
-                            gef_sent *sent);
+gef_status gef_disk_discarded(gef_disk *disk, size_t number, gef_range *range);
 
 /* ---- a machine ---------------------------------------------------------------------------------------------------- */
 
@@ -484,23 +426,6 @@ gef_status gef_machine_write(gef_machine *machine, uint32_t offset, uint32_t wid
 
 /* ---- a machine: what is at its ports */
 
-/* The least bound in bytes of what the commands of a disk hold. */
-#define GEF_LEAST_LIMIT 1048576u
-
-/* What a disk says of itself (IDENTIFY DEVICE), and a bound. Texts end with a 0, and are padded with blanks. */
-typedef struct gef_disk_profile {
-    const char *model;    /* at most 40 characters */
-    const char *serial;   /* at most 20; give each disk of a guest its own */
-    const char *firmware; /* at most 8 */
-    uint64_t sectors;     /* of 512 bytes each */
-    uint64_t wwn;         /* the world wide name, 0 for none */
-    uint32_t physical;    /* bytes of a physical sector: 512 or 4,096 */
-    uint32_t rotation;    /* 0: nothing is said; 1: the medium does not turn; else its turns a minute */
-    uint32_t depth;       /* how many queued commands it takes: 1 to 32 */
-    uint32_t trim;        /* not 0: it takes DATA SET MANAGEMENT with TRIM, and may ask for a discard */
-    uint32_t limit;       /* the most bytes that its commands hold at a time: GEF_LEAST_LIMIT or more */
-} gef_disk_profile;
-
 /*
  * Puts a disk at a port. It is not plugged in yet: the guest does not see it before gef_machine_plug.
  * Can return GEF_CLOSED, GEF_NO_PORT, GEF_ALREADY_THERE (something is there: remove it first), GEF_BAD_SECTORS, GEF_BAD_TEXT,
@@ -540,49 +465,6 @@ gef_status gef_machine_remove(gef_machine *machine, uint8_t port);
 
 /* ---- a machine: what is to be done */
 
-/* What an event is. The fields that it has are named; those that it does not have are 0. */
-#define GEF_EVENT_NOTHING 0u     /* nothing, until the guest, a medium or a device does something */
-#define GEF_EVENT_AGAIN 1u       /* a budget of moves is spent, so that a call is short: ask again */
-#define GEF_EVENT_READ_GUEST 2u  /* `len` bytes of the guest's memory from `at` on are wanted: answer with `wanted` */
-#define GEF_EVENT_WRITE_GUEST 3u /* `len` bytes, which gef_machine_lent gives, go to the guest's memory from `at` on: write them */
-                                 /* before you ask anything else, and before the guest reads a register */
-#define GEF_EVENT_LOAD 4u        /* `count` sectors from `lba` on of the disk at `port` are wanted: answer with `request` */
-#define GEF_EVENT_STORE 5u       /* bytes, which gef_machine_stored gives, go to these sectors: answer with `request` */
-#define GEF_EVENT_FLUSH 6u       /* what was stored is to last a loss of power: answer with `request` */
-#define GEF_EVENT_DISCARD 7u     /* the sectors that gef_machine_discarded gives are not needed: answer with `request` */
-#define GEF_EVENT_LINE 8u        /* the interrupt line is up (`up` is 1), or down, from now on */
-#define GEF_EVENT_MESSAGE 9u     /* a message is due, where messages (MSI) stand for the line */
-#define GEF_EVENT_TO_DEVICE 10u  /* a FIS for your device at `port`: gef_machine_take_frame gives it */
-#define GEF_EVENT_BEGINS 11u     /* the device at `port` begins anew: yours forgets what it had to do, and sends its signature */
-
-/* What bytes of the guest are wanted for. Its fields belong to the library. */
-typedef struct gef_wanted {
-    uint32_t kind;
-    uint32_t owner;
-    uint64_t number;
-    size_t done;
-} gef_wanted;
-
-/* Which request of a disk an answer is for. Its fields belong to the library. */
-typedef struct gef_request {
-    uint32_t port;
-    uint32_t place;
-    uint64_t disk;
-    uint64_t number;
-} gef_request;
-
-typedef struct gef_event {
-    uint32_t kind; /* GEF_EVENT_NOTHING and so on */
-    uint32_t port;
-    uint32_t up;
-    uint32_t count; /* sectors of 512 bytes, at most 2,048 */
-    uint64_t lba;
-    uint64_t at;
-    size_t len;
-    gef_wanted wanted;
-    gef_request request;
-} gef_event;
-
 /*
  * Says what is to be done next. GEF_NO_MEMORY: nothing is lost; ask again.
  * Can return GEF_CLOSED, GEF_NO_MEMORY.
@@ -618,11 +500,6 @@ gef_status gef_machine_answer_loaded(gef_machine *machine, const gef_request *re
  */
 gef_status gef_machine_answer_done(gef_machine *machine, const gef_request *request);
 
-/* How a request can fail: the bits of the Error that the guest sees. */
-#define GEF_UNC 0x40u  /* the sector cannot be read */
-#define GEF_IDNF 0x10u /* there is no such sector */
-#define GEF_ABRT 0x04u /* it cannot be done */
-
 /*
  * A request could not be done, first at this sector (of a flush or a discard: 0). The guest is told. GEF_UNC is of loads alone:
  * of another request it is refused by GEF_OTHER_KIND.
@@ -637,12 +514,6 @@ gef_status gef_machine_answer_failed(gef_machine *machine, const gef_request *re
  */
 gef_status gef_machine_stored(gef_machine *machine, const gef_request *request, size_t from, uint8_t *bytes, size_t room,
                               size_t *len);
-
-/* Sectors of a discard. */
-typedef struct gef_range {
-    uint64_t lba;
-    uint64_t count;
-} gef_range;
 
 /*
  * Gives the range of a discard that has this number, counted from 0.

@@ -4,7 +4,6 @@
  *     static uint8_t room[GEF_FILES_ROOM];
  *     gef_disk_profile profile = { "A DISK", "1", "1", 0, 0, 512, 1, 32, 1, GEF_LEAST_LIMIT };
  *     int file = open("disk.img", O_RDWR);
- *
  *     gef_files_sectors(file, &profile.sectors);
  *     gef_machine_put_disk(&machine, port, &profile);
  *     ...
@@ -21,6 +20,7 @@
 #ifndef GEFSUNK_FILES_H
 #define GEFSUNK_FILES_H
 
+#include <errno.h>
 #include <fcntl.h>
 #include <sys/stat.h>
 #include <sys/types.h>
@@ -47,61 +47,70 @@ static inline int gef_files_is_for(const gef_event *event) {
     return event->kind >= GEF_EVENT_LOAD && event->kind <= GEF_EVENT_DISCARD;
 }
 
-/* The sectors of a load: a sector that cannot be read is named, and one behind the file's end is none. */
+/* The sectors of a load: one that cannot be read is named, and one behind the file's end is none. */
 static inline gef_status gef_files_load(gef_machine *machine, int file, uint8_t *room, const gef_event *event) {
-    size_t len = event->count * (size_t)512, done = 0;
+    const gef_request *request = &event->u.medium.request;
+    uint64_t lba = event->u.medium.lba;
+    size_t len = event->u.medium.count * (size_t)512, done = 0;
     while (done < len) {
-        ssize_t got = pread(file, room + done, len - done, (off_t)(event->lba * 512 + done));
-        if (got <= 0)
-            return gef_machine_answer_failed(machine, &event->request, got ? GEF_UNC : GEF_IDNF, event->lba + done / 512);
+        ssize_t got = pread(file, room + done, len - done, (off_t)(lba * 512 + done));
+        if (got < 0 && errno == EINTR) continue;
+        if (got <= 0) return gef_machine_answer_failed(machine, request, got ? GEF_UNC : GEF_IDNF, lba + done / 512);
         done += (size_t)got;
     }
-    return gef_machine_answer_loaded(machine, &event->request, room, len);
+    return gef_machine_answer_loaded(machine, request, room, len);
 }
 
 /* The bytes of a store. */
 static inline gef_status gef_files_store(gef_machine *machine, int file, uint8_t *room, const gef_event *event) {
+    const gef_request *request = &event->u.medium.request;
+    uint64_t lba = event->u.medium.lba;
     size_t len = 0, done = 0;
-    gef_status status = gef_machine_stored(machine, &event->request, 0, room, GEF_FILES_ROOM, &len);
+    gef_status status = gef_machine_stored(machine, request, 0, room, GEF_FILES_ROOM, &len);
     if (status != GEF_OK) return status;
     while (done < len) {
-        ssize_t put = pwrite(file, room + done, len - done, (off_t)(event->lba * 512 + done));
-        if (put <= 0) return gef_machine_answer_failed(machine, &event->request, GEF_ABRT, event->lba + done / 512);
+        ssize_t put = pwrite(file, room + done, len - done, (off_t)(lba * 512 + done));
+        if (put < 0 && errno == EINTR) continue;
+        if (put <= 0) return gef_machine_answer_failed(machine, request, GEF_ABRT, lba + done / 512);
         done += (size_t)put;
     }
-    return gef_machine_answer_done(machine, &event->request);
+    return gef_machine_answer_done(machine, request);
+}
+
+/* What was stored is to last. */
+static inline gef_status gef_files_flush(gef_machine *machine, int file, const gef_event *event) {
+    const gef_request *request = &event->u.medium.request;
+    return fdatasync(file) ? gef_machine_answer_failed(machine, request, GEF_ABRT, 0) : gef_machine_answer_done(machine, request);
 }
 
 /* Holes in the file. One that cannot be made is none: what a discard leaves behind is open. */
 static inline gef_status gef_files_discard(gef_machine *machine, int file, const gef_event *event) {
+    const gef_request *request = &event->u.medium.request;
 #ifdef FALLOC_FL_PUNCH_HOLE
     gef_range range;
-    size_t number = 0;
     gef_status status;
-    while ((status = gef_machine_discarded(machine, &event->request, number++, &range)) == GEF_OK)
+    size_t at = 0;
+    while ((status = gef_machine_discarded(machine, request, at++, &range)) == GEF_OK)
         (void)!fallocate(file, FALLOC_FL_PUNCH_HOLE | FALLOC_FL_KEEP_SIZE, (off_t)(range.lba * 512), (off_t)(range.count * 512));
     if (status != GEF_NOTHING) return status;
 #else
     (void)file;
 #endif
-    return gef_machine_answer_done(machine, &event->request);
+    return gef_machine_answer_done(machine, request);
 }
 
 /*
- * Does what an event asks of a medium that is this file, and answers. The room has GEF_FILES_ROOM bytes. It returns what the
- * machine says of the answer: GEF_OK, or GEF_OTHER_DISK or GEF_NOT_OUT where nobody waits for it any more, or GEF_NO_MEMORY:
- * then call it again.
+ * Does what an event asks of a medium that is this file, and answers. The room has GEF_FILES_ROOM bytes. It returns what the machine
+ * says: GEF_OK; GEF_OTHER_DISK or GEF_NOT_OUT where nobody waits any more; GEF_NO_MEMORY: then call it again with the event.
  */
 static inline gef_status gef_files_serve(gef_machine *machine, int file, uint8_t *room, const gef_event *event) {
     switch (event->kind) {
     case GEF_EVENT_LOAD: return gef_files_load(machine, file, room, event);
     case GEF_EVENT_STORE: return gef_files_store(machine, file, room, event);
-    case GEF_EVENT_FLUSH:
-        if (fdatasync(file)) return gef_machine_answer_failed(machine, &event->request, GEF_ABRT, 0);
-        return gef_machine_answer_done(machine, &event->request);
+    case GEF_EVENT_FLUSH: return gef_files_flush(machine, file, event);
     case GEF_EVENT_DISCARD: return gef_files_discard(machine, file, event);
+    default: return GEF_NOTHING;
     }
-    return GEF_NOTHING;
 }
 
 #ifdef __cplusplus

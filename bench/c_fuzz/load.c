@@ -1,127 +1,87 @@
 /*
- * How long a slot waits behind a pump of gefsunk_pump.h, where a guest keeps all slots of fifteen disks busy.
+ * How long a slot waits, where a guest keeps all slots of a machine with fifteen disks busy.
  *
  *     load small    reads and writes of 1 to 4 sectors; what a read brings is compared
  *     load large    writes of 128 KiB
  *
- * The guest acts after each round, or after each 64th: it issues a command in each slot whose last one ended. Each command must
- * end within 200 rounds, or 1,000 for a large one. Status 1 where one does not, or where a read brings other bytes.
+ * The guest acts after each event, or after each 64th: it issues a command in each slot whose last one ended. The media answer at
+ * once. The controller sends the commands of its slots in a circle, so one that may go waits for at most 31 others; so no slot may see
+ * more than LATER others accepted, and MOST others ended, from its issue to its own. Status 1 where one does, or where a read
+ * brings other bytes.
  */
-#include <stdio.h>
-#include <stdlib.h>
-#include <string.h>
-#include "gefsunk_pump.h"
+#define SLOT_BYTES 0x20000
+#include "driver.h"
 
-enum { CLB = 0x100, FB = 0x108, CMD = 0x118, SACT = 0x134, CI = 0x138, FBS = 0x140 };
-enum { LIST = 0x400, AREA = 0x1000, TABLES = 0x2000, TABLE = 0x100, DATA = 0x10000, LONGEST = 0x20000 };
-enum { PORTS = 15, SLOTS = 32, MEMORY = DATA + SLOTS * LONGEST };
+enum { PORTS = 15, SECTORS = 4096 };
 
-/* The sectors of a command at least and at most, those of a disk, how many commands, and how many rounds one may take. */
+/* The sectors of a command at least and at most, those of a disk, and how many commands. */
 typedef struct {
-    uint32_t least, most, sectors, commands, rounds;
+    uint32_t least, most, sectors, commands;
 } load;
 
-static const load small = {1, 4, 256, 20000, 200}, large = {256, 256, 4096, 1000, 1000};
+static const load small = {1, 4, 256, 20000}, large = {256, 256, SECTORS, 1000};
 
 /* The command of a slot. */
 typedef struct {
-    int is_busy, is_write;
+    int is_busy, is_write, is_accepted;
     uint32_t port, lba, count;
-    unsigned long since; /* the round in which it was issued */
+    unsigned long accepted, ended; /* how many others were accepted, and ended, since it was issued */
 } slot;
 
-static uint8_t memory[MEMORY];
-static gef_pump pump;
 static slot slots[SLOTS];
-static uint32_t versions[PORTS][4096]; /* what was written to each sector last, 0: nothing */
-static uint64_t state = 1234567;
+static uint8_t media[PORTS][512 * SECTORS];
+static uint32_t versions[PORTS][SECTORS]; /* what was written to each sector last, 0: nothing */
+static unsigned long events, most_accepted, most_ended;
 
-static uint32_t pick(uint32_t below) {
-    state ^= state << 13;
-    state ^= state >> 7;
-    state ^= state << 17;
-    return (uint32_t)(state >> 20) % below;
+/* ---- the machine's loop ------------------------------------------------------------------------------------------- */
+
+static void serve(const gef_event *event) {
+    const gef_request *request = &event->u.medium.request;
+    uint8_t *bytes = media[event->port] + 512 * event->u.medium.lba;
+    size_t len = 512 * (size_t)event->u.medium.count;
+    if (event->kind == GEF_EVENT_LOAD) {
+        must("loaded", gef_machine_answer_loaded(&machine, request, bytes, len));
+        return;
+    }
+    if (event->kind == GEF_EVENT_STORE) must("stored", gef_machine_stored(&machine, request, 0, bytes, len, &len));
+    must("done", gef_machine_answer_done(&machine, request));
 }
 
-static void fail(const char *what, unsigned long number) {
-    printf("%s: %lu\n", what, number);
-    exit(1);
+/* One event. 0 where there is none. */
+static int step(void) {
+    gef_event event;
+    must("next", gef_machine_next(&machine, &event));
+    if (event.kind == GEF_EVENT_READ_GUEST) read_guest(&event);
+    if (event.kind == GEF_EVENT_WRITE_GUEST) write_guest(&event);
+    if (event.kind >= GEF_EVENT_LOAD && event.kind <= GEF_EVENT_DISCARD) serve(&event);
+    events++;
+    return event.kind != GEF_EVENT_NOTHING;
 }
 
-static void must(const char *what, gef_status status) {
-    if (status != GEF_OK) fail(what, (unsigned long)status);
+static void settle(void) {
+    while (step()) continue;
 }
 
-/* ---- a driver ---------------------------------------------------------------------------------------------------- */
-
-static void put32(size_t at, uint32_t value) {
-    size_t byte;
-    for (byte = 0; byte < 4; byte++) memory[at + byte] = (uint8_t)(value >> 8 * byte);
-}
-
-static void write_register(uint32_t offset, uint32_t value) {
-    must("write", gef_pump_write32(&pump, offset, value));
-}
-
-static uint32_t read_register(uint32_t offset) {
-    uint32_t value;
-    must("read", gef_hba_read32(&pump.hba, offset, &value));
-    return value;
-}
-
-/* Issues a command with one PRD, or, if it moves no bytes, none. */
-static void issue(uint32_t number, uint32_t port, const uint8_t *fis, uint32_t bytes, int is_write) {
-    uint32_t header = LIST + 32 * number, table = TABLES + TABLE * number;
-    put32(header, 5 | (is_write ? 0x40u : 0) | port << 12 | (bytes ? 1u << 16 : 0));
-    put32(header + 8, table);
-    memcpy(memory + table, fis, 20);
-    memory[table + 1] = (uint8_t)(0x80 | port);
-    put32(table + 0x80, DATA + LONGEST * number);
-    put32(table + 0x8C, bytes - 1);
-    write_register(FBS, 1 | port << 8);
-    if (bytes) write_register(SACT, 1u << number);
-    write_register(CI, 1u << number);
-}
-
-/* Writes a register of the multiplier, and waits for the answer. */
-static void write_multiplier(uint32_t port, uint8_t number, uint32_t value) {
-    uint8_t fis[20] = {0x27, 0x80, 0xE8};
-    fis[3] = number;
-    fis[4] = (uint8_t)(value >> 8);
-    fis[5] = (uint8_t)(value >> 16);
-    fis[6] = (uint8_t)(value >> 24);
-    fis[7] = (uint8_t)port;
-    fis[12] = (uint8_t)value;
-    issue(0, 15, fis, 0, 0);
-    must("settle", gef_pump_settle(&pump, 100));
-}
-
-static void bring_up(const load *of) {
+static void begin(const load *of) {
+    gef_disk_profile profile = {"LOAD", 0, "1", 0, 0, 512, 1, 32, 0, GEF_LEAST_LIMIT};
+    char serial[] = "DISK A";
     uint8_t port;
-    memset(&pump, 0, sizeof pump);
     memset(memory, 0, sizeof memory);
     memset(slots, 0, sizeof slots);
     memset(versions, 0, sizeof versions);
-    pump.memory = memory;
-    pump.len = sizeof memory;
-    must("open", gef_pump_open(&pump, PORTS));
+    profile.serial = serial;
+    profile.sectors = of->sectors;
+    must("new", gef_machine_new(&machine, PORTS, 0));
     for (port = 0; port < PORTS; port++) {
-        uint32_t flags = GEF_DISK_STOCK | (port & 1 ? GEF_DISK_AUTO : 0);
-        must("disk", gef_disk_new(&pump.disks[port], of->sectors, 8192, flags, port, 0, 0));
-        must("plug", gef_pump_plug(&pump, port));
+        serial[5] = (char)('A' + port);
+        must("put", gef_machine_put_disk(&machine, port, &profile));
+        must("plug", gef_machine_plug(&machine, port));
     }
-    write_register(CLB, LIST);
-    write_register(FB, AREA);
-    write_register(CMD, 0x20018); /* CLO: no signature came */
-    write_register(FBS, 1);
-    write_register(CMD, 0x20011);
-    for (port = 0; port < PORTS; port++) {
-        write_multiplier(port, 2, 0);
-        write_multiplier(port, 1, 0xFFFFFFFFu);
-    }
+    must("power", gef_machine_power_on(&machine));
+    bring_up(PORTS);
 }
 
-/* ---- the load ---------------------------------------------------------------------------------------------------- */
+/* ---- the load ----------------------------------------------------------------------------------------------------- */
 
 /* A sector of each version of each place has bytes of its own. */
 static void fill(uint8_t *bytes, uint32_t port, uint32_t lba, uint32_t version) {
@@ -139,26 +99,22 @@ static int is_taken(const slot *wanted) {
 }
 
 /* A command in a free slot, unless another one is under way at a sector of it. */
-static void refill(const load *of, uint32_t number, unsigned long round) {
-    uint8_t fis[20] = {0x27, 0x80, 0, 0, 0, 0, 0, 0x40}, *bytes = memory + DATA + LONGEST * number;
-    slot wanted = {1, 1, 0, 0, 0, 0};
+static void refill(const load *of, uint32_t number) {
+    uint8_t fis[20], *bytes = memory + data_of(number);
+    slot wanted = {1, 1, 0, 0, 0, 0, 0, 0};
     uint32_t at;
     wanted.is_write = of == &large || pick(2);
     wanted.port = pick(PORTS);
     wanted.count = of->least + pick(of->most - of->least + 1);
     wanted.lba = pick(of->sectors - wanted.count + 1);
-    wanted.since = round;
     if (is_taken(&wanted)) return;
     slots[number] = wanted;
-    fis[2] = wanted.is_write ? 0x61 : 0x60;
-    fis[3] = (uint8_t)wanted.count;
-    fis[4] = (uint8_t)wanted.lba;
-    fis[5] = (uint8_t)(wanted.lba >> 8);
-    fis[11] = (uint8_t)(wanted.count >> 8);
-    fis[12] = (uint8_t)(number << 3);
-    for (at = 0; at < wanted.count && wanted.is_write && of == &small; at++)
+    for (at = 0; at < wanted.count && wanted.is_write; at++)
         fill(bytes + 512 * at, wanted.port, wanted.lba + at, ++versions[wanted.port][wanted.lba + at]);
-    issue(number, wanted.port, fis, 512 * wanted.count, wanted.is_write);
+    queued_fis(fis, number, wanted.is_write ? 0x61 : 0x60, wanted.lba, wanted.count);
+    put_command(number, wanted.port, fis, wanted.is_write, 1);
+    put_entry(number, 0, data_of(number), 512 * wanted.count);
+    issue(number, wanted.port, 1);
 }
 
 /* The command of a slot ended. */
@@ -166,35 +122,61 @@ static void look(uint32_t number) {
     const slot *it = &slots[number];
     uint8_t bytes[512];
     uint32_t at;
-    for (at = it->lba; at < it->lba + it->count && !it->is_write; at++) {
-        fill(bytes, it->port, at, versions[it->port][at]);
-        if (versions[it->port][at] && memcmp(bytes, memory + DATA + LONGEST * number + 512 * (at - it->lba), 512))
+    for (at = it->lba; at < it->lba + it->count; at++) {
+        uint32_t version = versions[it->port][at];
+        fill(bytes, it->port, at, version);
+        if (it->is_write && memcmp(bytes, media[it->port] + 512 * at, 512)) fail("a write brought other bytes", at);
+        if (!it->is_write && version && memcmp(bytes, memory + data_of(number) + 512 * (at - it->lba), 512))
             fail("a read brought other bytes", at);
     }
 }
 
-static void play(const load *of, unsigned long between) {
-    unsigned long round = 0, worst = 0;
-    uint32_t done = 0, number;
-    bring_up(of);
-    for (; done < of->commands; round++) {
-        uint32_t left;
-        for (number = 0; number < SLOTS && round % between == 0; number++)
-            if (!slots[number].is_busy) refill(of, number, round);
-        must("step", gef_pump_step(&pump));
-        left = read_register(SACT) | read_register(CI);
-        for (number = 0; number < SLOTS; number++) {
-            if (!slots[number].is_busy) continue;
-            if (round - slots[number].since > worst) worst = round - slots[number].since;
-            if (worst > of->rounds) fail("a slot waits for too many rounds", number);
-            if (left >> number & 1) continue;
-            look(number);
-            slots[number].is_busy = 0;
-            done++;
-        }
+/* A slot was accepted, or ended: the others waited for it. */
+static void count(uint32_t number, int has_ended) {
+    uint32_t other;
+    for (other = 0; other < SLOTS; other++) {
+        if (other == number || !slots[other].is_busy) continue;
+        if (has_ended && ++slots[other].ended > most_ended) most_ended = slots[other].ended;
+        if (!has_ended && !slots[other].is_accepted && ++slots[other].accepted > most_accepted) most_accepted = slots[other].accepted;
     }
-    printf("%lu rounds between acts: %lu commands in %lu rounds, none longer than %lu\n", between, (unsigned long)done, round, worst);
-    gef_pump_close(&pump);
+}
+
+/* What became of the slots. Answers how many ended. */
+static uint32_t settle_slots(void) {
+    uint32_t issued = read_register(CI), left = read_register(SACT) | issued, number, done = 0;
+    for (number = 0; number < SLOTS; number++) {
+        if (!slots[number].is_busy) continue;
+        if (!slots[number].is_accepted && !(issued >> number & 1)) {
+            slots[number].is_accepted = 1;
+            count(number, 0);
+        }
+        if (left >> number & 1) continue;
+        look(number);
+        slots[number].is_busy = 0;
+        count(number, 1);
+        done++;
+    }
+    return done;
+}
+
+enum { LATER = 46, MOST = 400 };
+
+static void play(const load *of, unsigned long between) {
+    uint32_t done = 0, number;
+    unsigned long acts = 0;
+    begin(of);
+    events = most_accepted = most_ended = 0;
+    while (done < of->commands) {
+        for (number = 0; number < SLOTS && acts % between == 0; number++)
+            if (!slots[number].is_busy) refill(of, number);
+        acts = step() ? acts + 1 : 0; /* where nothing is left to do the guest acts */
+        done += settle_slots();
+        if (most_accepted > LATER) fail("a command waits for too many others to be accepted", most_accepted);
+        if (most_ended > MOST) fail("a slot waits for too many others to end", most_ended);
+    }
+    printf("%lu events between acts: %lu commands in %lu events; ", between, (unsigned long)done, events);
+    printf("none waited for more than %lu others to be accepted, and %lu to end\n", most_accepted, most_ended);
+    must("free", gef_machine_free(&machine));
 }
 
 int main(int count, char **words) {

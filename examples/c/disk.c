@@ -1,127 +1,120 @@
 /*
- * Two disks behind a multiplier. The program plays the host: it opens both ports, asks the first disk who it is, writes a
- * sector of the second disk and reads it back, and asks for a sector that cannot be read.
+ * A disk by FISes, whose sectors lie in an array of this program. The program plays the host at the other end of the link: it asks who
+ * the disk is, writes a sector by a queued command and reads it again, and meets one that cannot be read.
  */
 #include <stdio.h>
 #include <string.h>
 #include "gefsunk.h"
 
-static gef_pm pm = GEF_PM_CLOSED;
-static gef_disk disks[2] = {GEF_DISK_CLOSED, GEF_DISK_CLOSED};
+enum { SECTORS = 64, LOST = 9 };
 
-/* The data of the last Data FIS that came up, and its length. */
-static uint8_t data[GEF_FIS_ROOM];
-static size_t data_len;
+static uint8_t medium[512 * SECTORS];
+static gef_disk disk = GEF_DISK_CLOSED;
+
+/* What the host has to write, and the bytes of the last Data FIS that it got. */
+static uint8_t written[4 + 512] = {0x46}, got[GEF_FIS_ROOM];
 
 static void check(const char *what, gef_status status) {
     if (status != GEF_OK) printf("%s: %s\n", what, gef_status_text(status));
 }
 
-/* Shows a FIS that goes up; of a Data FIS its port and length. */
-static void show(const uint8_t *fis, size_t len) {
+/* ---- the medium --------------------------------------------------------------------------------------------------- */
+
+static void load(const gef_request *request, uint64_t lba, uint32_t count) {
+    int has_lost = lba <= LOST && LOST < lba + count;
+    check("load", has_lost ? gef_disk_answer_failed(&disk, request, GEF_UNC, LOST)
+                           : gef_disk_answer_loaded(&disk, request, medium + 512 * lba, 512 * (size_t)count));
+}
+
+static void store(const gef_request *request, uint64_t lba, uint32_t count) {
+    size_t len;
+    check("stored", gef_disk_stored(&disk, request, 0, medium + 512 * lba, 512 * (size_t)count, &len));
+    check("done", gef_disk_answer_done(&disk, request));
+}
+
+/* What the disk asks of its medium. This medium answers at once; another one may do so later, in any order. */
+static void serve(const gef_event *event) {
+    static const char *const names[] = {"load", "store", "flush", "discard"};
+    const gef_request *request = &event->u.medium.request;
+    printf("%s %u from %u\n", names[event->kind - GEF_EVENT_LOAD], event->u.medium.count, (unsigned)event->u.medium.lba);
+    switch (event->kind) {
+    case GEF_EVENT_LOAD: load(request, event->u.medium.lba, event->u.medium.count); break;
+    case GEF_EVENT_STORE: store(request, event->u.medium.lba, event->u.medium.count); break;
+    default: check("done", gef_disk_answer_done(&disk, request)); break;
+    }
+}
+
+/* ---- the host ----------------------------------------------------------------------------------------------------- */
+
+/* A FIS came. The host sends the data of a write as it is asked to: by DMA Activate, or by DMA Setup with bit A. */
+static void hear(const uint8_t *fis, size_t len) {
     char text[GEF_TEXT_ROOM];
     if (fis[0] == 0x46) {
-        data_len = len - 4;
-        memcpy(data, fis + 4, data_len);
-        printf("up payload port %d bytes %d\n", fis[1] & 15, (int)data_len);
+        memcpy(got, fis + 4, len - 4);
+        printf("data of %u bytes\n", (unsigned)(len - 4));
         return;
     }
     check("text", gef_fis_text(fis, len, text, sizeof text));
-    printf("up %s\n", text);
+    puts(text);
+    if (fis[0] == 0x39 || (fis[0] == 0x41 && fis[1] & 0x80)) check("data", gef_disk_from_host(&disk, written, sizeof written));
 }
 
-/* Moves FISes until none can move: up to the multiplier and the host, down to the disks. */
+/* All that the disk sends goes up, and all that it asks for is done. */
 static void settle(void) {
     static uint8_t fis[GEF_FIS_ROOM];
-    int moved = 1;
-    while (moved) {
-        uint8_t port;
-        size_t len;
-        moved = 0;
-        for (port = 0; port < 2; port++) {
-            if (gef_pm_to_device(&pm, port, fis, sizeof fis, &len) == GEF_OK) {
-                check("disk", gef_disk_from_host(&disks[port], fis, len));
-                moved = 1;
-            }
-            if (gef_disk_to_host(&disks[port], fis, sizeof fis, &len) == GEF_OK) {
-                /* A FIS that finds its place taken would be kept here: the loop below empties it first. */
-                check("up", gef_pm_from_device(&pm, port, fis, len));
-                moved = 1;
-            }
-            while (gef_pm_to_host(&pm, fis, sizeof fis, &len, &port) == GEF_OK) {
-                if (port != 15) show(fis, len);
-                moved = 1;
-                if (port == 15) port = 0;
-            }
+    gef_event event;
+    size_t len;
+    for (;;) {
+        gef_status status = gef_disk_to_host(&disk, fis, sizeof fis, &len);
+        if (status == GEF_OK) {
+            hear(fis, len);
+            continue;
         }
+        if (status != GEF_NOTHING) check("to host", status);
+        check("next", gef_disk_next(&disk, &event));
+        if (event.kind == GEF_EVENT_NOTHING) return;
+        serve(&event);
     }
 }
 
-static void send(const uint8_t *fis, size_t len) {
-    check("down", gef_pm_from_host(&pm, fis, len));
-    settle();
-}
-
-/* The host writes a register of a port: WRITE PORT MULTIPLIER, to the control port. */
-static void write_register(uint8_t port, uint8_t number, uint32_t value) {
-    uint8_t fis[20] = {0x27, 0x8F, 0xE8};
-    fis[3] = number;
-    fis[4] = (uint8_t)(value >> 8);
-    fis[5] = (uint8_t)(value >> 16);
-    fis[6] = (uint8_t)(value >> 24);
-    fis[7] = port;
-    fis[12] = (uint8_t)value;
-    send(fis, sizeof fis);
-}
-
-/* A queued command of one sector, with tag 3. */
-static void queued(uint8_t port, uint8_t command, uint8_t lba) {
-    uint8_t fis[20] = {0x27, 0x80, 0, 1, 0, 0, 0, 0x40};
-    fis[1] |= port;
-    fis[2] = command;
+/* A command of one sector, or of one page of a log; of a queued one the number stands in Features, and the tag, 3, in Count. */
+static void command(const char *what, uint8_t code, uint8_t lba) {
+    uint8_t fis[20] = {0x27, 0x80, 0, 0, 0, 0, 0, 0x40, 0, 0, 0, 0, 1};
+    printf("%s\n", what);
+    fis[2] = code;
     fis[4] = lba;
-    fis[12] = 3 << 3;
-    send(fis, sizeof fis);
+    if (code == 0x60 || code == 0x61) {
+        fis[3] = 1;
+        fis[12] = 3 << 3;
+    }
+    check("command", gef_disk_from_host(&disk, fis, sizeof fis));
+    settle();
 }
 
 /* Characters of the IDENTIFY DEVICE data: the first of each two is in the high byte of its word. */
 static void words(const char *what, size_t first, size_t last) {
     size_t at;
-    printf("%s", what);
-    for (at = 2 * first; at < 2 * (last + 1); at++) putchar(data[at ^ 1]);
-    putchar('\n');
+    printf("%s |", what);
+    for (at = 2 * first; at < 2 * (last + 1); at++) putchar(got[at ^ 1]);
+    puts("|");
 }
 
 int main(void) {
-    static const uint8_t identify[20] = {0x27, 0x80, 0xEC};
-    static const uint32_t bad[] = {9};
-    uint8_t sector[512], fis[516] = {0x46, 1};
-    uint8_t port;
-
-    check("new", gef_pm_new(&pm, 2));
-    check("disk 0", gef_disk_new(&disks[0], 65536, 8192, GEF_DISK_STOCK, 0xD15C0000u, 0, 0));
-    check("disk 1", gef_disk_new(&disks[1], 64, 8192, 0, 0, bad, 1));
-    for (port = 0; port < 2; port++) {
-        check("plug", gef_pm_plug(&pm, port));
-        check("plug", gef_disk_plug(&disks[port]));
-        write_register(port, 2, 0);
-        write_register(port, 1, 0xFFFFFFFFu);
-    }
-
-    send(identify, sizeof identify);
-    words("serial ", 10, 19);
-    words("model ", 27, 46);
-
-    queued(1, 0x61, 5);
-    memset(fis + 4, 0xA5, 512);
-    send(fis, sizeof fis);
-    check("sector", gef_disk_sector(&disks[1], 5, sector, sizeof sector));
-    printf("the medium has %02x %02x\n", sector[0], sector[511]);
-    queued(1, 0x60, 5);
-    printf("the host has %02x %02x\n", data[0], data[511]);
-    queued(1, 0x60, 9);
-
-    for (port = 0; port < 2; port++) check("free", gef_disk_free(&disks[port]));
-    check("free", gef_pm_free(&pm));
+    gef_disk_profile profile = {"EXAMPLE DISK", "ONE", "1.0", SECTORS, 0, 512, 1, 32, 0, GEF_LEAST_LIMIT};
+    check("new", gef_disk_new(&disk, &profile));
+    check("plug", gef_disk_plug(&disk));
+    settle();
+    command("IDENTIFY DEVICE", 0xEC, 0);
+    words("model", 27, 46);
+    words("serial", 10, 19);
+    memset(written + 4, 0xA5, 512);
+    command("WRITE FPDMA QUEUED, sector 5", 0x61, 5);
+    printf("the medium has %02x .. %02x\n", medium[512 * 5], medium[512 * 5 + 511]);
+    command("READ FPDMA QUEUED, sector 5", 0x60, 5);
+    printf("the host has %02x .. %02x\n", got[0], got[511]);
+    command("READ FPDMA QUEUED, sector 9", 0x60, LOST);
+    command("READ LOG EXT, log 10h", 0x2F, 0x10);
+    printf("tag %u, Error %02x, sector %u\n", got[0] & 31, got[3], got[4]);
+    check("free", gef_disk_free(&disk));
     return 0;
 }

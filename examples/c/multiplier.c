@@ -1,81 +1,136 @@
 /*
- * A device of one's own behind the multiplier. The program plays the host and the device: the host opens port 0, the
- * device tells its signature, and is asked for a sector, whose data it sends.
+ * A port multiplier with two disks behind it, all by FISes. The program plays the host: it opens both ports, gets the disks' signatures,
+ * writes a sector of the disk at port 1 by a queued command, and reads it again. Then that disk goes.
  */
 #include <stdio.h>
 #include <string.h>
 #include "gefsunk.h"
 
+enum { PORTS = 2, SECTORS = 64 };
+
+static uint8_t media[PORTS][512 * SECTORS];
 static gef_pm pm = GEF_PM_CLOSED;
+static gef_disk disks[PORTS];
+
+/* What the host has to write to port 1, and the bytes of the last Data FIS that it got. */
+static uint8_t written[4 + 512] = {0x46, 1}, got[GEF_FIS_ROOM];
 
 static void check(const char *what, gef_status status) {
     if (status != GEF_OK) printf("%s: %s\n", what, gef_status_text(status));
 }
 
-/* Prints a FIS that goes on. */
-static void show(const char *way, const uint8_t *fis, size_t len) {
+/* What a disk asks of its medium, which is an array of this program. */
+static void serve(unsigned port, const gef_event *event) {
+    const gef_request *request = &event->u.medium.request;
+    uint8_t *bytes = media[port] + 512 * event->u.medium.lba;
+    size_t len = 512 * (size_t)event->u.medium.count;
+    if (event->kind == GEF_EVENT_LOAD) {
+        check("loaded", gef_disk_answer_loaded(&disks[port], request, bytes, len));
+        return;
+    }
+    if (event->kind == GEF_EVENT_STORE) check("stored", gef_disk_stored(&disks[port], request, 0, bytes, len, &len));
+    check("done", gef_disk_answer_done(&disks[port], request));
+}
+
+/* A FIS came up to the host. It sends the data of its write as it is asked to. */
+static void hear(const uint8_t *fis, size_t len) {
     char text[GEF_TEXT_ROOM];
+    if (fis[0] == 0x46) {
+        memcpy(got, fis + 4, len - 4);
+        printf("up: data of port %u, %u bytes\n", fis[1] & 15u, (unsigned)(len - 4));
+        return;
+    }
     check("text", gef_fis_text(fis, len, text, sizeof text));
-    printf("%s %s\n", way, text);
+    printf("up: %s\n", text);
+    if (fis[0] == 0x39 || (fis[0] == 0x41 && fis[1] & 0x80)) check("data", gef_pm_from_host(&pm, written, sizeof written));
 }
 
-/* All that may go up now goes up to the host. */
-static void serve_host(void) {
-    uint8_t fis[GEF_FIS_ROOM], port;
+/* What can move between the multiplier and a disk: one FIS down, what is asked of the medium, one FIS up. */
+static int move(uint8_t port) {
+    static uint8_t fis[GEF_FIS_ROOM];
+    gef_event event;
     size_t len;
-    gef_status status;
-    while ((status = gef_pm_to_host(&pm, fis, sizeof fis, &len, &port)) == GEF_OK) show("up", fis, len);
-    if (status != GEF_NOTHING) check("to host", status);
+    int has_moved = 0;
+    if (gef_pm_to_device(&pm, port, fis, sizeof fis, &len) == GEF_OK) {
+        check("disk", gef_disk_from_host(&disks[port], fis, len));
+        has_moved = 1;
+    }
+    while (gef_disk_next(&disks[port], &event) == GEF_OK && event.kind != GEF_EVENT_NOTHING) serve(port, &event);
+    if (gef_disk_to_host(&disks[port], fis, sizeof fis, &len) == GEF_OK) {
+        /* The place is empty, since all goes up before the next round. Else the FIS would be kept, and passed again later. */
+        check("up", gef_pm_from_device(&pm, port, fis, len));
+        has_moved = 1;
+    }
+    return has_moved;
 }
 
-/* The host writes a register of port 0: WRITE PORT MULTIPLIER, to the control port. */
-static void write_register(uint8_t number, uint32_t value) {
+/* Rounds until nothing moves. */
+static void settle(void) {
+    static uint8_t fis[GEF_FIS_ROOM];
+    int has_moved = 1;
+    while (has_moved) {
+        uint8_t port, from;
+        size_t len;
+        has_moved = 0;
+        for (port = 0; port < PORTS; port++) {
+            has_moved |= move(port);
+            while (gef_pm_to_host(&pm, fis, sizeof fis, &len, &from) == GEF_OK) {
+                hear(fis, len);
+                has_moved = 1;
+            }
+        }
+    }
+}
+
+static void send(const uint8_t *fis, size_t len) {
+    check("down", gef_pm_from_host(&pm, fis, len));
+    settle();
+}
+
+/* WRITE PORT MULTIPLIER: the host writes a register of a port, by the control port. */
+static void write_register(uint8_t port, uint8_t number, uint32_t value) {
     uint8_t fis[20] = {0x27, 0x8F, 0xE8};
     fis[3] = number;
     fis[4] = (uint8_t)(value >> 8);
     fis[5] = (uint8_t)(value >> 16);
     fis[6] = (uint8_t)(value >> 24);
+    fis[7] = port;
     fis[12] = (uint8_t)value;
-    check("write", gef_pm_from_host(&pm, fis, sizeof fis));
-    serve_host();
+    send(fis, sizeof fis);
 }
 
-/* The device sends a FIS, which goes up. */
-static void send(const uint8_t *fis, size_t len) {
-    check("from device", gef_pm_from_device(&pm, 0, fis, len));
-    serve_host();
+/* A queued command of sector 5 of port 1, with tag 3. */
+static void queued(uint8_t code) {
+    uint8_t fis[20] = {0x27, 0x81, 0, 1, 5, 0, 0, 0x40, 0, 0, 0, 0, 3 << 3};
+    fis[2] = code;
+    send(fis, sizeof fis);
+}
+
+/* A disk comes to a port. SControl 0 opens it; then SError has bit X set, since a device came, and ones clear it. */
+static void add_disk(uint8_t port) {
+    gef_disk_profile profile = {"EXAMPLE DISK", port ? "TWO" : "ONE", "1", SECTORS, 0, 512, 1, 32, 0, GEF_LEAST_LIMIT};
+    uint32_t errors = 0;
+    check("disk", gef_disk_new(&disks[port], &profile));
+    check("plug", gef_disk_plug(&disks[port]));
+    check("plug", gef_pm_plug(&pm, port));
+    write_register(port, 2, 0);
+    check("read", gef_pm_read(&pm, port, 1, &errors));
+    printf("SError of port %u is %08x\n", port, (unsigned)errors);
+    write_register(port, 1, 0xFFFFFFFFu);
 }
 
 int main(void) {
-    static const uint8_t signature[20] = {0x34, 0x00, 0x50, 0x01, 0x01, 0, 0, 0, 0, 0, 0, 0, 0x01};
-    static const uint8_t read[20] = {0x27, 0x80, 0x60, 0x01, 0x05, 0, 0, 0x40};
-    static const uint8_t setup[28] = {0x41, 0x20, [20] = 0, 2};
-    static const uint8_t bits[8] = {0xA1, 0x40, 0x40, 0, 0x01};
-    uint8_t data[4 + 512] = {0x46};
-    uint8_t fis[GEF_FIS_ROOM];
-    uint32_t value;
-    size_t len;
-
-    check("new", gef_pm_new(&pm, 1));
-    check("plug", gef_pm_plug(&pm, 0));
-
-    /* SControl 0 opens the port. SError then has X set, since a device is there: a one clears it, and the port forwards. */
-    write_register(2, 0);
-    check("read", gef_pm_read(&pm, 0, 1, &value));
-    printf("SError of port 0 is %08lx\n", (unsigned long)value);
-    write_register(1, 0x04000000);
-    send(signature, sizeof signature);
-
-    check("command", gef_pm_from_host(&pm, read, sizeof read));
-    check("to device", gef_pm_to_device(&pm, 0, fis, sizeof fis, &len));
-    show("down", fis, len);
-    send(setup, sizeof setup);
-    memset(data + 4, 0xA5, 512);
-    send(data, sizeof data);
-    send(bits, sizeof bits);
-
-    check("unplug", gef_pm_unplug(&pm, 0));
-    check("after it went", gef_pm_from_device(&pm, 0, bits, sizeof bits));
+    uint8_t port;
+    check("new", gef_pm_new(&pm, PORTS));
+    for (port = 0; port < PORTS; port++) add_disk(port);
+    memset(written + 4, 0xA5, 512);
+    queued(0x61);
+    printf("the medium has %02x .. %02x\n", media[1][512 * 5], media[1][512 * 5 + 511]);
+    queued(0x60);
+    printf("the host has %02x .. %02x\n", got[0], got[511]);
+    check("unplug", gef_pm_unplug(&pm, 1));
+    queued(0x60);
+    for (port = 0; port < PORTS; port++) check("free", gef_disk_free(&disks[port]));
     check("free", gef_pm_free(&pm));
     return 0;
 }

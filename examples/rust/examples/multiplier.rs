@@ -1,4 +1,4 @@
-//! A device of one's own behind the multiplier, as `examples/c/multiplier.c` has it, in safe Rust.
+//! A device of one's own behind the multiplier: the program plays the host, and what the device sends.
 
 use gefsunk::{fis_text, Error, FisRoom, Multiplier, FIS_ROOM};
 

@@ -1,4 +1,5 @@
-//! Safe bindings of Gefsunk's library for C: FISes as text, a Serial ATA port multiplier, disks, an AHCI controller.
+//! Safe bindings of Gefsunk's library for C: FISes as text, a Serial ATA port multiplier, a disk, and a machine, which is an AHCI
+//! controller with all that is behind it.
 //!
 //! `include/gefsunk.h` says what each call does, what is proved of it, and what is trusted. These bindings keep what the
 //! header leaves to the caller: each length is that of its slice, a handle has one owner and is freed once, and one call
@@ -6,19 +7,19 @@
 //!
 //! `bench/c` builds `build/c/libgefsunk.a`, which the build script links. `GEFSUNK_LIB` names another folder.
 
-mod controller;
 mod disk;
 mod error;
 mod ffi;
+mod machine;
+mod medium;
 mod multiplier;
 
 use core::ffi::{c_char, CStr};
 
-pub use controller::{
-    ByteCount, Controller, GuestMemory, Link, Out, Place, Taken, Width, Written,
-};
-pub use disk::{Disk, DiskPlan};
+pub use disk::Disk;
 pub use error::Error;
+pub use machine::{Event, Machine, Wanted, Width};
+pub use medium::{Ask, Fault, Profile, Request, Rotation, SectorRange, Work, LEAST_LIMIT, SECTOR};
 pub use multiplier::{Multiplier, CONTROL_PORT};
 
 /// The most bytes of a FIS: a Data FIS of one dword and 8,192 bytes.

@@ -1,8 +1,5 @@
 //! The port multiplier.
 
-use core::ptr;
-
-use crate::error::NOTHING;
 use crate::{ffi, Error, FisRoom};
 
 /// The control port of a multiplier.
@@ -13,7 +10,7 @@ pub const CONTROL_PORT: u8 = 15;
 /// It may move to another thread. No two threads use it at once, since each call that changes it borrows it mutably and
 /// it is not `Sync`.
 pub struct Multiplier {
-    handle: ffi::Pm,
+    handle: ffi::Handle,
 }
 
 // SAFETY: the library keeps no state beside the handle, and has no thread of its own. The header allows that a handle is
@@ -26,10 +23,7 @@ impl Multiplier {
     /// # Errors
     /// [`Error::BadPorts`] and [`Error::NoMemory`].
     pub fn new(ports: u8) -> Result<Multiplier, Error> {
-        let mut handle = ffi::Pm {
-            mark: 0,
-            at: ptr::null_mut(),
-        };
+        let mut handle = ffi::Handle::CLOSED;
         // SAFETY: the handle is closed and is this function's own.
         Error::check(unsafe { ffi::gef_pm_new(&mut handle, ports) })?;
         Ok(Multiplier { handle })
@@ -41,10 +35,7 @@ impl Multiplier {
     /// # Errors
     /// [`Error::BadPorts`] and [`Error::NoMemory`].
     pub fn with_port_0_open(ports: u8, is_there: bool) -> Result<Multiplier, Error> {
-        let mut handle = ffi::Pm {
-            mark: 0,
-            at: ptr::null_mut(),
-        };
+        let mut handle = ffi::Handle::CLOSED;
         // SAFETY: as in `new`.
         Error::check(unsafe {
             ffi::gef_pm_new_with_port_0_open(&mut handle, ports, u32::from(is_there))
@@ -111,11 +102,7 @@ impl Multiplier {
                 &mut port,
             )
         };
-        if status == NOTHING {
-            return Ok(None);
-        }
-        Error::check(status)?;
-        Ok(Some((port, &room[..len])))
+        Error::given(status, (port, &room[..len]))
     }
 
     /// Takes the FIS that waits for the device at a port; `None` where none waits.
@@ -138,11 +125,7 @@ impl Multiplier {
                 &mut len,
             )
         };
-        if status == NOTHING {
-            return Ok(None);
-        }
-        Error::check(status)?;
-        Ok(Some(&room[..len]))
+        Error::given(status, &room[..len])
     }
 
     /// A register as the host sees it: of a device port 0 (SStatus), 1 (SError) or 2 (SControl); of the control port a

@@ -1,0 +1,690 @@
+/*
+ * A guest that drives a machine (gef_machine).
+ *
+ *     machine refused           plays a scene again and again, and refuses memory once each time: at the first allocation, at the
+ *                               second, and so on. A call that says so is made again; guest and media must end as if it had
+ *                               been given.
+ *     machine random SECONDS    plays lists of acts, while disks are pulled, plugged in and removed, and media answer late, in any
+ *                               order, wrongly or never. In half of the lists the guest keeps to the rules: each sector has bytes
+ *                               of its own, which each read that ends must have brought, to its places and nowhere else. In the
+ *                               others it writes any register and any memory, and nothing may fail but what the header names.
+ *
+ * Link it with -Wl,--wrap=malloc,--wrap=realloc, and build it with the sanitizers. Status 1 where something is not so.
+ */
+#include <time.h>
+#include "gefsunk.h"
+
+/* A call, and the same once more where memory was refused. */
+static int is_watched;
+#define CALL(status, call) \
+    do { \
+        is_watched = 1; \
+        (status) = (call); \
+        if ((status) == GEF_NO_MEMORY && refused) (status) = (call); \
+        is_watched = 0; \
+    } while (0)
+static unsigned long asked, refused; /* how often memory was asked for; the one that is refused */
+
+#define SLOT_BYTES 0x2000
+#include "driver.h"
+
+void *__real_malloc(size_t len);
+void *__real_realloc(void *at, size_t len);
+void *__wrap_malloc(size_t len);
+void *__wrap_realloc(void *at, size_t len);
+
+void *__wrap_malloc(size_t len) {
+    return is_watched && ++asked == refused ? 0 : __real_malloc(len);
+}
+
+void *__wrap_realloc(void *at, size_t len) {
+    return is_watched && ++asked == refused ? 0 : __real_realloc(at, len);
+}
+
+/* ---- media, and what they were asked for -------------------------------------------------------------------------- */
+
+enum { PORTS = 4, SECTORS = 64, MOST_SECTORS = 8, REQUESTS = 512 };
+
+/* Each sector has these bytes, from the start on and for good. */
+static void fill(uint8_t *bytes, uint32_t port, uint64_t lba) {
+    uint64_t word = (uint64_t)(port + 1) << 56 | 0x00C0FFEE00000000u | lba;
+    size_t at;
+    for (at = 0; at < 512; at += 8) memcpy(bytes + at, &word, 8);
+}
+
+/* A request that was not answered yet, and whether a refusal of the answer is in order: something ended it. */
+typedef struct {
+    gef_event event;
+    int is_stale;
+} request;
+
+static request requests[REQUESTS];
+static size_t request_count;
+static int is_honest;      /* the guest keeps to the rules */
+static uint32_t line;      /* what the last event said of the interrupt line */
+static uint32_t has_disk;  /* bit n: a disk is at port n */
+static uint32_t is_in;     /* bit n: what is at port n is plugged in */
+
+/* The bytes of a store, in two pieces, are those of its sectors. */
+static void check_store(const gef_event *event) {
+    static uint8_t bytes[2048 * 512], wanted[512];
+    size_t whole = 512 * (size_t)event->u.medium.count, cut = pick((uint32_t)whole + 1), len = 0, rest = 0, at;
+    must("stored", gef_machine_stored(&machine, &event->u.medium.request, 0, bytes, cut, &len));
+    must("stored", gef_machine_stored(&machine, &event->u.medium.request, cut, bytes + cut, sizeof bytes - cut, &rest));
+    if (len != cut || len + rest != whole) fail("a store has other bytes than its sectors", (unsigned long)(len + rest));
+    for (at = 0; at < event->u.medium.count && is_honest; at++) {
+        fill(wanted, event->port, event->u.medium.lba + at);
+        if (memcmp(bytes + 512 * at, wanted, 512)) fail("a store brought other bytes", (unsigned long)(event->u.medium.lba + at));
+    }
+}
+
+static void check_discard(const gef_event *event) {
+    gef_range range;
+    gef_status status;
+    size_t at = 0;
+    while ((status = gef_machine_discarded(&machine, &event->u.medium.request, at++, &range)) == GEF_OK)
+        if (range.lba >= SECTORS || !range.count || range.count > SECTORS - range.lba) fail("a discard of other sectors", at);
+    if (status != GEF_NOTHING) fail("discarded", (unsigned long)status);
+}
+
+/* A load or a store shares no sector with a request that is out, unless both are loads. */
+static void check_apart(const gef_event *event) {
+    uint64_t lba = event->u.medium.lba, end = lba + event->u.medium.count;
+    size_t at;
+    for (at = 0; at < request_count; at++) {
+        const gef_event *other = &requests[at].event;
+        int is_load = event->kind == GEF_EVENT_LOAD && other->kind == GEF_EVENT_LOAD;
+        if (requests[at].is_stale || other->port != event->port || is_load) continue;
+        if (lba < other->u.medium.lba + other->u.medium.count && other->u.medium.lba < end) fail("two requests of one sector", at);
+    }
+}
+
+/* A disk asks its medium. */
+static void ask(const gef_event *event) {
+    uint64_t lba = event->u.medium.lba;
+    uint32_t count = event->u.medium.count;
+    int has_sectors = event->kind == GEF_EVENT_LOAD || event->kind == GEF_EVENT_STORE;
+    if (event->port >= PORTS || !(has_disk & is_in & 1u << event->port)) fail("a request of no disk", event->port);
+    if (has_sectors && (!count || count > 2048 || lba >= SECTORS || count > SECTORS - lba)) fail("a request of other sectors", count);
+    if (has_sectors) check_apart(event);
+    if (event->kind == GEF_EVENT_STORE) check_store(event);
+    if (event->kind == GEF_EVENT_DISCARD) check_discard(event);
+    if (request_count == REQUESTS) requests[pick(REQUESTS)] = requests[--request_count]; /* one is never answered */
+    requests[request_count].event = *event;
+    requests[request_count].is_stale = !is_honest;
+    request_count++;
+}
+
+static void outdate(uint32_t ports) {
+    size_t at;
+    for (at = 0; at < request_count; at++)
+        if (ports >> requests[at].event.port & 1) requests[at].is_stale = 1;
+}
+
+/* Answers that are refused leave a request out. */
+static void answer_wrongly(const gef_event *event) {
+    static uint8_t bytes[512];
+    const gef_request *it = &event->u.medium.request;
+    int is_load = event->kind == GEF_EVENT_LOAD;
+    gef_status status = is_load ? gef_machine_answer_done(&machine, it) : gef_machine_answer_loaded(&machine, it, bytes, 512);
+    if (status != GEF_OTHER_KIND) fail("an answer of another kind", status);
+    status = gef_machine_answer_failed(&machine, it, 3, event->u.medium.lba);
+    if (status != GEF_BAD_ERROR) fail("an unknown error", status);
+    status = gef_machine_answer_failed(&machine, it, GEF_ABRT, event->u.medium.lba + event->u.medium.count + 1);
+    if (status != GEF_OTHER_SECTOR) fail("another sector", status);
+    if (is_load && event->u.medium.count > 1) status = gef_machine_answer_loaded(&machine, it, bytes, 512);
+    if (is_load && event->u.medium.count > 1 && status != GEF_OTHER_LENGTH) fail("another length", status);
+    if (!is_load) status = gef_machine_answer_failed(&machine, it, GEF_UNC, event->u.medium.lba);
+    if (!is_load && status != GEF_OTHER_KIND) fail("an error of loads", status);
+}
+
+static gef_status answer_well(const gef_event *event) {
+    static uint8_t bytes[2048 * 512];
+    gef_status status;
+    size_t at;
+    if (event->kind != GEF_EVENT_LOAD) {
+        CALL(status, gef_machine_answer_done(&machine, &event->u.medium.request));
+        return status;
+    }
+    for (at = 0; at < event->u.medium.count; at++) fill(bytes + 512 * at, event->port, event->u.medium.lba + at);
+    CALL(status, gef_machine_answer_loaded(&machine, &event->u.medium.request, bytes, 512 * (size_t)event->u.medium.count));
+    return status;
+}
+
+/* A request is answered, by an error or not, and then once more: nobody waits for that. */
+static void answer(size_t number, int is_error) {
+    request it = requests[number];
+    uint32_t error = it.event.kind == GEF_EVENT_LOAD ? GEF_UNC : GEF_ABRT;
+    gef_status status;
+    requests[number] = requests[--request_count];
+    if (!it.is_stale && !pick(4)) answer_wrongly(&it.event);
+    if (is_error)
+        CALL(status, gef_machine_answer_failed(&machine, &it.event.u.medium.request, error, it.event.u.medium.lba));
+    else
+        status = answer_well(&it.event);
+    if (status != GEF_OK && !(it.is_stale && (status == GEF_NOT_OUT || status == GEF_OTHER_DISK))) fail("an answer", status);
+    if (pick(8)) return;
+    status = answer_well(&it.event);
+    if (status != GEF_NOT_OUT && status != GEF_OTHER_DISK) fail("an answer that comes twice", status);
+}
+
+/* ---- a device of our own ------------------------------------------------------------------------------------------ */
+
+static uint32_t has_device; /* bit n: a device of our own is at port n */
+
+/* A FIS of any bytes, most of them of a known type and length. */
+static size_t any_fis(uint8_t *fis) {
+    static const uint8_t types[8] = {0x34, 0xA1, 0x39, 0x41, 0x5F, 0x46, 0x46, 0x27};
+    static const uint16_t lengths[8] = {20, 8, 4, 28, 20, 516, 8196, 20};
+    uint32_t kind = pick(8);
+    size_t len = pick(8) ? lengths[kind] : 4 * pick(2050), at;
+    for (at = 0; at < len; at++) fis[at] = (uint8_t)(pick(4) ? 0 : pick(256));
+    if (len) fis[0] = types[kind];
+    return len;
+}
+
+static void offer(unsigned port, const uint8_t *fis, size_t len) {
+    gef_status status;
+    CALL(status, gef_machine_offer(&machine, (uint8_t)port, fis, len));
+    if (status != GEF_OK && status != GEF_FULL && status != GEF_BAD_LENGTH) fail("offer", status);
+    if ((status == GEF_BAD_LENGTH) != (len < 4 || len > GEF_FIS_ROOM || len % 4)) fail("a length", (unsigned long)len);
+}
+
+static void send_signature(unsigned port) {
+    static const uint8_t signature[20] = {0x34, 0x00, 0x50, 0x01, 0x01, 0, 0, 0, 0, 0, 0, 0, 0x01};
+    offer(port, signature, sizeof signature);
+}
+
+/* It ends each command well, and hears no other FIS. */
+static void hear(unsigned port) {
+    static const uint8_t done[20] = {0x34, 0x40, 0x50};
+    uint8_t fis[GEF_FIS_ROOM];
+    size_t len;
+    if (port >= PORTS || !(has_device >> port & 1)) fail("a FIS for no device", port);
+    must("take", gef_machine_take_frame(&machine, (uint8_t)port, fis, sizeof fis, &len));
+    if (len < 4 || len > sizeof fis || fis[1] & 15) fail("a FIS for a device", (unsigned long)len);
+    if (fis[0] == 0x27 && fis[1] & 0x80) offer(port, done, sizeof done);
+}
+
+/* ---- events ------------------------------------------------------------------------------------------------------- */
+
+static int may_be_written(uint64_t at, size_t len);
+
+static int step(void) {
+    gef_event event;
+    gef_status status;
+    CALL(status, gef_machine_next(&machine, &event));
+    must("next", status);
+    switch (event.kind) {
+    case GEF_EVENT_READ_GUEST: read_guest(&event); break;
+    case GEF_EVENT_WRITE_GUEST:
+        if (is_honest && !may_be_written(event.u.write.at, event.u.write.len)) fail("a write elsewhere", (unsigned long)event.u.write.at);
+        write_guest(&event);
+        break;
+    case GEF_EVENT_LINE:
+        if (event.u.up == line || event.u.up > 1) fail("a line that stays", event.u.up);
+        line = event.u.up;
+        break;
+    case GEF_EVENT_TO_DEVICE: hear(event.port); break;
+    case GEF_EVENT_BEGINS:
+        if (event.port >= PORTS || !(has_device >> event.port & 1)) fail("no device begins anew", event.port);
+        send_signature(event.port);
+        break;
+    case GEF_EVENT_NOTHING:
+    case GEF_EVENT_AGAIN:
+    case GEF_EVENT_MESSAGE: break;
+    default:
+        if (event.kind > GEF_EVENT_DISCARD) fail("an unknown event", event.kind);
+        ask(&event);
+        break;
+    }
+    return event.kind != GEF_EVENT_NOTHING;
+}
+
+static void settle(void) {
+    unsigned long steps = 0;
+    while (step())
+        if (++steps > 1000000) fail("still moves", steps);
+}
+
+/* All requests are answered, until nothing is asked any more. */
+static void settle_all(void) {
+    settle();
+    while (request_count) {
+        answer(0, 0);
+        settle();
+    }
+}
+
+static void put(unsigned port, int is_device) {
+    gef_disk_profile profile = {"ANY DISK", "1", "1", SECTORS, 0, 512, 1, 32, 1, GEF_LEAST_LIMIT};
+    gef_status status;
+    if (is_device)
+        status = gef_machine_put_device(&machine, (uint8_t)port);
+    else
+        CALL(status, gef_machine_put_disk(&machine, (uint8_t)port, &profile));
+    must("put", status);
+    if (is_device) has_device |= 1u << port;
+    else has_disk |= 1u << port;
+}
+
+static void plug(unsigned port) {
+    must("plug", gef_machine_plug(&machine, (uint8_t)port));
+    is_in |= 1u << port;
+}
+
+static void begin(unsigned ports, uint32_t devices) {
+    gef_status status;
+    unsigned port, all = ports ? ports : 1;
+    size_t at;
+    for (at = 0; at < MEMORY; at++) memory[at] = (uint8_t)(at * 7 + at / 251);
+    request_count = 0;
+    line = has_disk = has_device = is_in = 0;
+    CALL(status, gef_machine_new(&machine, (uint8_t)ports, 0));
+    must("new", status);
+    for (port = 0; port < all; port++) {
+        put(port, devices >> port & 1);
+        plug(port);
+    }
+    must("power", gef_machine_power_on(&machine));
+}
+
+/* ---- the honest guest --------------------------------------------------------------------------------------------- */
+
+/* The command of a slot. Its bytes lie in two pieces, the first of so many. */
+typedef struct {
+    int is_busy, is_write, is_lost; /* lost: something ended it, and nothing is known of it until the link is reset */
+    uint32_t port, lba, count, first;
+} slot;
+
+enum { GAP = 64 };
+
+static slot slots[SLOTS];
+static uint32_t is_ready; /* bit n: a disk is at port n, and its port is open */
+static unsigned long reads_seen, writes_seen;
+
+/* Where a slot's byte lies. */
+static uint8_t *place(uint32_t number, uint32_t byte) {
+    return memory + data_of(number) + byte + (byte < slots[number].first ? 0 : GAP);
+}
+
+/* Bytes go to the received area, to a slot's PRDBC, and to the pieces of a read. */
+static int may_be_written(uint64_t at, size_t len) {
+    uint64_t end = at + len;
+    uint32_t number;
+    if (at >= AREA && end <= AREA + 0x1000) return 1;
+    for (number = 0; number < SLOTS; number++) {
+        uint64_t data = data_of(number), first = slots[number].first, all = 512 * (uint64_t)slots[number].count;
+        if (at == LIST + 32 * number + 4 && len == 4) return 1;
+        if (!slots[number].is_busy || slots[number].is_write) continue;
+        if (at >= data && end <= data + first) return 1;
+        if (at >= data + first + GAP && end <= data + GAP + all) return 1;
+    }
+    return 0;
+}
+
+static void queue(uint32_t number, uint32_t port, int is_write, uint32_t lba, uint32_t count) {
+    uint8_t fis[20], sector[512];
+    slot it = {1, 0, 0, 0, 0, 0, 0};
+    uint32_t byte;
+    it.is_write = is_write;
+    it.port = port;
+    it.lba = lba;
+    it.count = count;
+    it.first = 2 + 2 * pick(256 * count - 2);
+    slots[number] = it;
+    for (byte = 0; byte < 512 * count; byte++) {
+        if (byte % 512 == 0) fill(sector, port, lba + byte / 512);
+        *place(number, byte) = is_write ? sector[byte % 512] : 0xEE;
+    }
+    queued_fis(fis, number, is_write ? 0x61 : 0x60, lba, count);
+    put_command(number, port, fis, is_write, 2);
+    put_entry(number, 0, data_of(number), it.first);
+    put_entry(number, 1, data_of(number) + it.first + GAP, 512 * count - it.first);
+    issue(number, port, 1);
+}
+
+/* A read that ended brought the bytes of its sectors. */
+static void look(uint32_t number) {
+    const slot *it = &slots[number];
+    uint8_t sector[512];
+    uint32_t byte;
+    for (byte = 0; byte < 512 * it->count; byte++) {
+        if (byte % 512 == 0) fill(sector, it->port, it->lba + byte / 512);
+        if (*place(number, byte) != sector[byte % 512]) fail("a read brought other bytes", number);
+    }
+}
+
+static void look_at_slots(void) {
+    uint32_t left = read_register(SACT) | read_register(CI), number;
+    for (number = 1; number < SLOTS; number++) {
+        if (!slots[number].is_busy || slots[number].is_lost || left >> number & 1) continue;
+        look(number);
+        slots[number].is_busy = 0;
+        slots[number].is_write ? writes_seen++ : reads_seen++;
+    }
+}
+
+/* What is under way at these ports is lost. */
+static void lose(uint32_t ports) {
+    uint32_t number;
+    outdate(ports);
+    is_ready &= ~ports;
+    for (number = 1; number < SLOTS; number++)
+        if (ports >> slots[number].port & 1) slots[number].is_lost = 1;
+}
+
+static void recover(unsigned ports) {
+    lose(0xFFFF);
+    reset_link();
+    memset(slots, 0, sizeof slots);
+    bring_up(ports);
+    is_ready = is_in & has_disk;
+}
+
+/* A device that lies, or any answer but an error, disturbs no other port; an error ends all commands of its disk. */
+static void answer_any(void) {
+    size_t number;
+    uint32_t port;
+    if (!request_count) return;
+    number = pick((uint32_t)request_count);
+    port = requests[number].event.port;
+    if (!requests[number].is_stale && !pick(40)) {
+        lose(1u << port);
+        requests[number].is_stale = 0;
+        answer(number, 1);
+    } else {
+        answer(number, requests[number].is_stale && !pick(4));
+    }
+}
+
+static void pull_or_plug(unsigned port) {
+    lose(1u << port);
+    if (is_in >> port & 1) {
+        must("pull", gef_machine_pull(&machine, (uint8_t)port));
+        is_in &= ~(1u << port);
+    } else if (pick(2)) {
+        must("remove", gef_machine_remove(&machine, (uint8_t)port));
+        has_disk &= ~(1u << port);
+        has_device &= ~(1u << port);
+        put(port, port == PORTS - 1);
+    } else {
+        plug(port);
+    }
+}
+
+static void act_honestly(unsigned ports) {
+    static const uint32_t widths[4] = {1, 2, 4, 8};
+    unsigned port = pick(ports ? ports : 1), number = 1 + pick(SLOTS - 1), count = 1 + pick(MOST_SECTORS);
+    uint8_t fis[GEF_FIS_ROOM];
+    uint64_t value;
+    switch (pick(300) ? pick(8) : 8 + pick(3)) {
+    case 0:
+    case 1:
+        if (!slots[number].is_busy && is_ready >> port & 1) queue(number, port, (int)pick(2), pick(SECTORS - count), count);
+        break;
+    case 2:
+    case 3: answer_any(); break;
+    case 4: must("read", gef_machine_read(&machine, pick(0x200), widths[pick(4)], &value)); break;
+    case 5:
+        if (has_device & 1u << port) offer(port, fis, any_fis(fis));
+        break;
+    case 8: pull_or_plug(port); break;
+    case 9: write_register(IS, 0xFFFFFFFFu); break;
+    case 10: recover(ports); break;
+    default: step(); break;
+    }
+    look_at_slots();
+}
+
+static void play_honestly(unsigned ports) {
+    unsigned at;
+    is_honest = 1;
+    memset(slots, 0, sizeof slots);
+    begin(ports, ports == PORTS ? 1u << (PORTS - 1) : 0);
+    settle();
+    recover(ports);
+    for (at = 0; at < 2000; at++) act_honestly(ports);
+    settle_all();
+    look_at_slots();
+    must("free", gef_machine_free(&machine));
+}
+
+/* ---- a guest that does anything ----------------------------------------------------------------------------------- */
+
+static gef_wanted wanted[16]; /* some that were wanted once */
+static unsigned long events_seen;
+
+static void write_any(void) {
+    static const uint32_t offsets[14] = {4, 8, CLB, 0x104, FB, 0x10C, IS, IE, CMD, SCTL, 0x130, SACT, CI, FBS};
+    static const uint32_t values[10] = {0, 1, 2, 0x11, 0x20010, 0x20011, 0x20018, 0xFFFFFFFFu, 0x301, 0x1000};
+    static const uint32_t widths[4] = {4, 1, 2, 8};
+    uint32_t offset = pick(8) ? offsets[pick(14)] : pick(0x200), width = pick(4) ? 4 : widths[pick(4)];
+    uint64_t value = pick(2) ? values[pick(10)] : (uint64_t)1 << pick(64);
+    if (!pick(8)) value = pick(MEMORY);
+    must("write", gef_machine_write(&machine, offset, width, value));
+}
+
+/* A command that is mostly as it should be, with a table anywhere, and entries of any length. */
+static void command_any(unsigned ports) {
+    static const uint8_t codes[24] = {0x60, 0x61, 0x60, 0x61, 0x25, 0x35, 0xC8, 0xCA, 0x20, 0x30, 0x24, 0x34,
+                                      0xC4, 0xC5, 0xEC, 0x2F, 0x47, 0xB0, 0xEF, 0xEA, 0x06, 0xC6, 0xE5, 0xE8};
+    static const uint8_t setups[6] = {0x02, 0x82, 0x03, 0xAA, 0x10, 0x90};
+    unsigned number = pick(SLOTS), port = pick(ports + 2), entries = pick(6), at;
+    uint8_t fis[20];
+    queued_fis(fis, number, codes[pick(24)], pick(SECTORS + 2), pick(12));
+    if (fis[2] != 0x60 && fis[2] != 0x61) {
+        fis[12] = fis[3];
+        fis[3] = fis[2] == 0xEF ? setups[pick(6)] : fis[2] == 0xB0 ? (uint8_t)(0xD0 + pick(8)) : (uint8_t)pick(3);
+    }
+    if (fis[2] == 0xB0) fis[5] = 0x4F, fis[6] = 0xC2;
+    if (!pick(8)) fis[1] = 0;
+    if (!pick(8)) fis[15] = (uint8_t)pick(8);
+    if (!pick(4)) fis[pick(20)] = (uint8_t)pick(256);
+    put_command(number, port == ports + 1 ? 15 : port, fis, (int)pick(2), entries);
+    for (at = 0; at < entries; at++) {
+        uint32_t where = pick(40) ? data_of(number) + 2 * pick(256) : pick(0x80000000u);
+        put_entry(number, at, where, 2 + 2 * pick(3000));
+    }
+    if (pick(8)) issue(number, port, (fis[2] & 0xFE) == 0x60);
+}
+
+/* Bytes that were wanted once, or as many as were not wanted: nothing comes of them. */
+static void supply_any(void) {
+    static uint8_t bytes[300];
+    gef_wanted it = wanted[pick(16)];
+    gef_status status;
+    if (!pick(4)) it.kind = pick(4);
+    if (!pick(4)) it.owner = pick(40);
+    if (!pick(4)) it.number += pick(3);
+    if (pick(2))
+        CALL(status, gef_machine_supply(&machine, &it, bytes, pick(300)));
+    else
+        CALL(status, gef_machine_no_memory(&machine, &it));
+    if (status != GEF_OK && status != GEF_NOT_WANTED) fail("supply", status);
+}
+
+static void port_any(unsigned port) {
+    static uint8_t room[GEF_FIS_ROOM];
+    size_t len;
+    gef_status status = GEF_OK;
+    uint32_t bit = 1u << port, has = (has_disk | has_device) & bit;
+    switch (pick(6)) {
+    case 0:
+        status = gef_machine_plug(&machine, (uint8_t)port);
+        if (status != (!has ? GEF_NOT_THERE : is_in & bit ? GEF_PLUGGED_IN : GEF_OK)) fail("plug", status);
+        is_in |= has;
+        break;
+    case 1:
+        status = gef_machine_pull(&machine, (uint8_t)port);
+        if (status != (has && is_in & bit ? GEF_OK : GEF_NOT_THERE)) fail("pull", status);
+        is_in &= ~bit;
+        break;
+    case 2:
+        status = gef_machine_remove(&machine, (uint8_t)port);
+        if (status != (has ? GEF_OK : GEF_NOT_THERE)) fail("remove", status);
+        has_disk &= ~bit;
+        has_device &= ~bit;
+        is_in &= ~bit;
+        break;
+    case 3:
+        if (!has) put(port, (int)pick(2));
+        else if (gef_machine_put_device(&machine, (uint8_t)port) != GEF_ALREADY_THERE) fail("put", port);
+        break;
+    case 4: must("power", gef_machine_power_on(&machine)); break;
+    default:
+        status = gef_machine_take_frame(&machine, (uint8_t)port, room, sizeof room, &len);
+        if (status != GEF_NOTHING && !(status == GEF_OK && has_device & is_in & bit)) fail("take", status);
+        break;
+    }
+}
+
+/* An event is done, or what it asks of the guest is answered wrongly, or not at all. */
+static void step_any(void) {
+    gef_event event;
+    gef_status status;
+    if (pick(4)) {
+        step();
+        return;
+    }
+    CALL(status, gef_machine_next(&machine, &event));
+    must("next", status);
+    if (event.kind == GEF_EVENT_LINE) line = event.u.up;
+    if (event.kind == GEF_EVENT_BEGINS && !(has_device >> event.port & 1)) fail("no device begins anew", event.port);
+    if (event.kind >= GEF_EVENT_LOAD && event.kind <= GEF_EVENT_DISCARD) ask(&event);
+    if (event.kind != GEF_EVENT_READ_GUEST) return;
+    wanted[pick(16)] = event.u.read.wanted;
+    if (pick(3)) read_guest(&event);
+    else if (pick(2)) must("no memory", gef_machine_no_memory(&machine, &event.u.read.wanted));
+}
+
+static void act_anyhow(unsigned ports) {
+    unsigned port = pick(ports ? ports : 1);
+    static uint8_t fis[GEF_FIS_ROOM];
+    size_t number;
+    switch (pick(20)) {
+    case 0:
+    case 1: write_any(); break;
+    case 2:
+    case 3:
+    case 4: command_any(ports); break;
+    case 5: memory[pick(MEMORY)] = (uint8_t)pick(256); break;
+    case 6: supply_any(); break;
+    case 7:
+        if (has_device & is_in & 1u << port) offer(port, fis, any_fis(fis));
+        break;
+    case 8:
+        if (!pick(4)) port_any(port);
+        break;
+    case 9:
+        if (!pick(10)) bring_up(ports);
+        break;
+    case 10:
+    case 11:
+        number = request_count ? pick((uint32_t)request_count) : 0;
+        if (request_count) answer(number, !pick(4));
+        break;
+    default: step_any(); break;
+    }
+    events_seen++;
+}
+
+static void play_anyhow(unsigned ports) {
+    unsigned at;
+    is_honest = 0;
+    begin(ports, pick(16));
+    if (pick(4)) bring_up(ports);
+    for (at = 0; at < 2000; at++) act_anyhow(ports);
+    settle_all();
+    must("free", gef_machine_free(&machine));
+}
+
+static void play_random(double seconds) {
+    clock_t until = clock() + (clock_t)(seconds * CLOCKS_PER_SEC);
+    unsigned long lists = 0;
+    refused = 0;
+    do {
+        play_honestly(pick(PORTS + 1));
+        play_anyhow(pick(PORTS + 1));
+        lists += 2;
+    } while (clock() < until);
+    printf("%lu lists; %lu reads and %lu writes ended, and %lu acts were any\n", lists, reads_seen, writes_seen, events_seen);
+    if (!reads_seen || !writes_seen) fail("nothing ended", lists);
+}
+
+/* ---- memory is refused -------------------------------------------------------------------------------------------- */
+
+/* What the guest has at the end, and what was asked of the media. */
+typedef struct {
+    uint8_t memory[MEMORY];
+    uint32_t is, ci, sact, fbs;
+} found;
+
+/* The guest brings all up, resets the link, and has each disk do what a disk can do. */
+static void scene(found *now, unsigned ports) {
+    unsigned disk, disks = ports ? ports - 1 : 1;
+    is_honest = 1;
+    memset(slots, 0, sizeof slots);
+    begin(ports, ports ? 1u << disks : 0);
+    bring_up(ports);
+    reset_link();
+    bring_up(ports);
+    for (disk = 0; disk < disks; disk++) {
+        queue(3 + disk, disk, 0, 1, 2);
+        queue(8 + disk, disk, 1, 5, 3);
+        queue(20 + disk, disk, 0, 12, 8);
+    }
+    settle_all();
+    for (disk = 3; disk < 3 + disks; disk++) look(disk);
+    for (disk = 0; disk < disks; disk++) {
+        plain(disk, 0xEC, 0, 0, 1, 512, 0);
+        plain(disk, 0xEA, 0, 0, 0, 0, 0);
+        settle_all();
+        memset(memory + data_of(0), 0, 512);
+        memory[data_of(0)] = 9;
+        memory[data_of(0) + 6] = 2;
+        plain(disk, 0x06, 1, 0, 1, 512, 1);
+        settle_all();
+    }
+    if (ports) plain(disks, 0xE7, 0, 0, 0, 0, 0);
+    queue(30, disks - 1, 0, 40, 1);
+    settle();
+    while (request_count) answer(0, 1);
+    settle();
+    plain(disks - 1, 0x2F, 0, 0x10, 1, 512, 0);
+    memcpy(now->memory, memory, MEMORY);
+    now->is = read_register(IS);
+    now->ci = read_register(CI);
+    now->sact = read_register(SACT);
+    now->fbs = read_register(FBS);
+    must("free", gef_machine_free(&machine));
+}
+
+static void play_refused(unsigned ports) {
+    static found whole, now;
+    unsigned long all;
+    refused = asked = 0;
+    state = 7;
+    scene(&whole, ports);
+    if (whole.ci || whole.sact != 1u << 30) fail("not all commands ended but the last", whole.ci);
+    all = asked;
+    for (refused = 1; refused <= all; refused++) {
+        asked = 0;
+        state = 7;
+        scene(&now, ports);
+        if (memcmp(&whole, &now, sizeof now)) fail("another end where an allocation was refused", refused);
+    }
+    printf("%lu allocations refused, one at a time\n", all);
+}
+
+int main(int count, char **words) {
+    if (count == 2 && !strcmp(words[1], "refused")) {
+        play_refused(3);
+        play_refused(0);
+    } else if (count == 3 && !strcmp(words[1], "random")) {
+        play_random(strtod(words[2], 0));
+    } else {
+        return 2;
+    }
+    return 0;
+}
