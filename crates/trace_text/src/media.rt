@@ -27,6 +27,7 @@ pub struct Filed<F: Drop> {
 #[derive(Drop)]
 pub struct WorldFile<F: Drop> {
     file: DiskFile<F>,
+    sectors: u32,
     /// Its sectors that could not be read when it was opened.
     unread: ArrayVec<u32, 16>,
 }
@@ -55,7 +56,11 @@ pub fn read_filed<H: Files>(
     match shape.with_bad(unread.as_slice()) {
         Some(shape) => Ok(Filed {
             shape,
-            file: WorldFile { file, unread },
+            file: WorldFile {
+                file,
+                sectors,
+                unread,
+            },
         }),
         None => Err(words.refused(Refusal::Range, Wanted::FewerBad)),
     }
@@ -85,7 +90,7 @@ impl<F: Read + Write + Seek + OpenFile + Drop> WorldFile<F> {
     /// All sectors, with zeros for those that could not be read.
     fn read_all(&mut self, alloc: Global) -> Result<Vec<u8>, io::Error> {
         let mut bytes = Vec::new(alloc);
-        for lba in 0..self.file.sectors() as u32 {
+        for lba in 0..self.sectors {
             let mut room = [0; 512];
             if !self.is_unread(lba) {
                 self.file.read(u64::from(lba), &mut room)?;
@@ -113,7 +118,7 @@ impl<F: Read + Write + Seek + OpenFile + Drop> WorldFile<F> {
 
     /// The sectors of the disk that changed go to the file, and stay there.
     fn save(&mut self, disk: &Disk) -> io::Result<()> {
-        for lba in 0..self.file.sectors() as u32 {
+        for lba in 0..self.sectors {
             if let Some(bytes) = disk.sector(lba) {
                 self.save_one(lba, bytes)?;
             }
