@@ -1,1 +1,2 @@
 pub mod HeldSteps
+pub mod StartLemmas

@@ -1,6 +1,6 @@
 -- What the calls on a disk do, by its rules (ACS-3; Serial ATA 3.x, native command queuing).
 use Rattle.std.specs.Bool.{MatchBool}
-use Rattle.std.specs.Prelude.{◌≡◌, ◌≢◌, ℕ, zero, suc, ◌<◌, ◌≤◌, ◌==◌, ◌&&◌, ◌⊎◌, Bool, true, false, List, Option, Some, None, MatchOption}
+use Rattle.std.specs.Prelude.{◌≡◌, ◌≢◌, ℕ, zero, suc, ◌<◌, ◌==◌, ◌&&◌, ◌⊎◌, Bool, true, false, List, Option, Some, None, MatchOption}
 use Rattle.fis_view.specs.Frames.{is_frame}
 use Rattle.fis_view.specs.Seen.{seen}
 use Rattle.block_command.specs.Moments.{Moment}
@@ -26,21 +26,15 @@ DiskPlug old answer new = (answer ≡ status.Done) × (new ≡ plugged old)
 
 -- ---- FISes
 
--- it is heard, and what becomes of the commands may be done
+-- what it makes of it, and that may be done
 pub record Hears (old : DiskState) (fis : List ℕ) (new : DiskState) : Type 0 where
-  pub heard : fis_unheard old (seen fis) ≡ None
   pub may : MayHear old (seen fis)
-  pub is : new ≡ fis_heard old (seen fis)
-
--- it is not
-pub record Drops (old : DiskState) (fis : List ℕ) (new : DiskState) : Type 0 where
-  pub unheard : fis_unheard old (seen fis) ≢ None
   pub is : new ≡ fis_heard old (seen fis)
 
 -- the host sends a FIS
 abbrev pub DiskFromHost : DiskState → List ℕ → Status → DiskState → Type 0
-DiskFromHost old fis status.Done new = (is_frame fis ≡ true) × Hears old fis new
-DiskFromHost old fis status.Dropped new = (is_frame fis ≡ true) × Drops old fis new
+DiskFromHost old fis status.Done new = (is_frame fis ≡ true) × (fis_unheard old (seen fis) ≡ None) × Hears old fis new
+DiskFromHost old fis status.Dropped new = (is_frame fis ≡ true) × (fis_unheard old (seen fis) ≢ None) × Hears old fis new
 DiskFromHost old fis status.BadLength new = (is_frame fis ≡ false) × (new ≡ old)
 DiskFromHost old fis status.NoMemory new = (is_frame fis ≡ true) × (new ≡ old)
 DiskFromHost old fis _ new = ⊥
@@ -87,11 +81,10 @@ pub record Starts (old new : DiskState) : Type 0 where
   pub count : ℕ
   pub starts : StartsBy count old new
 
--- all that may start do, until none is left, or each of the 33 places had its turn
+-- commands start until none may
 pub record StartsAll (old new : DiskState) : Type 0 where
-  pub count : ℕ
-  pub starts : StartsBy count old new
-  pub last : IsEngineStart new.engine None ⊎ (33 ≤ count)
+  pub starts : Starts old new
+  pub last : IsEngineStart new.engine None
 
 -- port and disk are 0
 abbrev pub asked_event : Option Request → Event
@@ -125,7 +118,7 @@ Answers old number given answer new =
     ((answer ≡ status.Done) × (new ≡ with_engine old (answered old.engine number given)))
     (λ misfit. (answer ≡ misfit_of misfit) × (new ≡ old))
 
-abbrev pub DiskAnswer : DiskState → MediumRequest → Answer → Status → DiskState → Type 0
+unfoldable pub DiskAnswer : DiskState → MediumRequest → Answer → Status → DiskState → Type 0
 DiskAnswer old r given answer new =
     MatchBool (is_own r) (Answers old r.number given answer new) ((answer ≡ status.NotOut) × (new ≡ old))
 
@@ -137,7 +130,7 @@ pub record Loads (old : DiskState) (r : MediumRequest) (bytes : List ℕ) (answe
 abbrev pub DiskLoaded : DiskState → MediumRequest → List ℕ → Status → DiskState → Type 0
 DiskLoaded old r bytes answer new = Loads old r bytes answer new ⊎ ((answer ≡ status.NoMemory) × (new ≡ old))
 
-abbrev pub DiskFailed : DiskState → MediumRequest → (error lba : ℕ) → Status → DiskState → Type 0
+unfoldable pub DiskFailed : DiskState → MediumRequest → (error lba : ℕ) → Status → DiskState → Type 0
 DiskFailed old r error lba answer new =
     MatchOption (error_of error) ((answer ≡ status.BadError) × (new ≡ old))
     (λ kind. DiskAnswer old r (Failed (record { error = kind; lba = lba })) answer new)

@@ -49,17 +49,16 @@ MadeOpenPm None ports is_there status.NoMemory new = (1 ≤ ports) × (ports ≤
 MadeOpenPm None ports is_there _ new = ⊥
 
 -- a new disk, as C describes it
-abbrev pub HasDisk : DiskNumbers → (model serial firmware : List ℕ) → Option Kept → Type 0
-HasDisk n model serial firmware (Some (kept.Disk disk)) = MakesDisk n model serial firmware disk
-HasDisk n model serial firmware (Some (kept.Pm pm)) = ⊥
-HasDisk n model serial firmware (Some (kept.Machine machine)) = ⊥
-HasDisk n model serial firmware None = ⊥
+abbrev pub IsDiskOf : DiskNumbers → (model serial firmware : List ℕ) → Kept → Type 0
+IsDiskOf n model serial firmware (kept.Disk disk) = MakesDisk n model serial firmware disk
+IsDiskOf n model serial firmware (kept.Pm pm) = ⊥
+IsDiskOf n model serial firmware (kept.Machine machine) = ⊥
 
 -- a disk is made behind a closed handle
 abbrev pub MadeDisk : Option Kept → DiskNumbers → (model serial firmware : List ℕ) → Status → Option Kept → Type 0
 MadeDisk (Some old) n model serial firmware answer new = (answer ≡ status.Open) × (new ≡ Some old)
-MadeDisk None n model serial firmware status.Done new = HasDisk n model serial firmware new
-MadeDisk None n model serial firmware answer new = ProfileRefused n model serial firmware answer × (new ≡ None)
+MadeDisk None n model serial firmware answer (Some new) = (answer ≡ status.Done) × IsDiskOf n model serial firmware new
+MadeDisk None n model serial firmware answer None = ProfileRefused n model serial firmware answer
 
 -- the multiplier is freed
 abbrev pub FreedPm : Option Kept → Status → Option Kept → Type 0

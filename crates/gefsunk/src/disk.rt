@@ -19,7 +19,7 @@ use fis_view::Frame;
 use sata_disk::SataDisk;
 use std::alloc::{AllocError, Global};
 
-/// How many commands a disk can have: one for each tag, and one that is not queued.
+/// How many commands a disk can have: one for each tag, and one that is not queued. So no more can start.
 const PLACES: u32 = 33;
 
 fn plug(disk: &mut SataDisk, alloc: Global) -> Status
@@ -64,6 +64,7 @@ fn to_host(disk: &mut SataDisk, alloc: Global, room: &mut [u8], len: &mut usize)
 }
 
 /// All that may start do.
+#[tactic(auto, using(crate::proofs::StartLemmas::all_started, crate::proofs::StartLemmas::none_left, crate::proofs::StartLemmas::some_started))]
 fn start_all(disk: &mut SataDisk) -> Result<(), AllocError>
     ensures ok { OnOk result (StartsAll disk.old disk.new) }
     ensures err { OnErr result (Starts disk.old disk.new) }
@@ -87,6 +88,7 @@ fn next(disk: &mut SataDisk, event: &mut Event) -> Status
     Status::Done
 }
 
+#[tactic(auto, unfolding(crate::specs::Disks::DiskAnswer))]
 fn answer(disk: &mut SataDisk, request: &MediumRequest, answer: Answer) -> Status
     ensures { DiskAnswer disk.old request.now answer result disk.new }
 {
@@ -108,6 +110,7 @@ fn loaded(disk: &mut SataDisk, alloc: Global, request: &MediumRequest, bytes: &[
     }
 }
 
+#[tactic(auto, unfolding(crate::specs::Disks::DiskFailed))]
 fn failed(disk: &mut SataDisk, request: &MediumRequest, error: u32, lba: u64) -> Status
     ensures { DiskFailed disk.old request.now error lba result disk.new }
 {
