@@ -1,6 +1,7 @@
 /*
  * The side of the library that is C: each call tests its pointers for null, and passes on to the export that is proved
- * (crates/gefsunk). Nothing else is done here. The texts of the answers stand here, since no export can return a pointer.
+ * (crates/gefsunk). Beside that an event's fields go into its union. The texts of the answers stand here, since no export can
+ * return a pointer.
  */
 #include "gefsunk.h"
 #include <string.h>
@@ -9,6 +10,15 @@
 struct disk_numbers {
     uint64_t sectors, wwn;
     uint32_t physical, rotation, depth, trim, limit;
+};
+
+/* An event as the exports write it (crates/gefsunk/src/event.rt). What a kind of event does not have is 0. */
+struct flat_event {
+    uint32_t kind, port, up, count;
+    uint64_t lba, at;
+    size_t len;
+    gef_wanted wanted;
+    gef_request request;
 };
 
 /* A slice is a pointer and a length. */
@@ -24,27 +34,18 @@ uint32_t gefsunk_pm_to_host(gef_pm *pm, uint8_t *fis, size_t room, size_t *len, 
 uint32_t gefsunk_pm_to_device(gef_pm *pm, uint8_t port, uint8_t *fis, size_t room, size_t *len);
 uint32_t gefsunk_pm_read(gef_pm *pm, uint8_t port, uint16_t number, uint32_t *value);
 uint32_t gefsunk_pm_dropped(gef_pm *pm, uint32_t *count);
-uint32_t gefsunk_disk_new(gef_disk *disk, uint32_t sectors, uint16_t chunk, uint32_t flags, uint32_t serial,
-                          const uint32_t *bad, size_t bad_count);
+uint32_t gefsunk_disk_new(gef_disk *disk, const struct disk_numbers *numbers, const uint8_t *model, size_t model_len,
+                          const uint8_t *serial, size_t serial_len, const uint8_t *firmware, size_t firmware_len);
 uint32_t gefsunk_disk_free(gef_disk *disk);
 uint32_t gefsunk_disk_plug(gef_disk *disk);
 uint32_t gefsunk_disk_from_host(gef_disk *disk, const uint8_t *fis, size_t len);
 uint32_t gefsunk_disk_to_host(gef_disk *disk, uint8_t *fis, size_t room, size_t *len);
-uint32_t gefsunk_disk_fail(gef_disk *disk, uint8_t tag, uint8_t error, uint32_t lba);
-uint32_t gefsunk_disk_sector(gef_disk *disk, uint32_t lba, uint8_t *bytes, size_t room);
-uint32_t gefsunk_hba_new(gef_hba *hba);
-uint32_t gefsunk_hba_free(gef_hba *hba);
-uint32_t gefsunk_hba_read32(gef_hba *hba, uint32_t offset, uint32_t *value);
-uint32_t gefsunk_hba_read(gef_hba *hba, uint32_t offset, uint32_t width, uint64_t *value);
-uint32_t gefsunk_hba_line(gef_hba *hba, uint32_t *raised);
-uint32_t gefsunk_hba_write32(gef_hba *hba, const uint8_t *memory, size_t len, uint64_t base, uint32_t offset,
-                             uint32_t value, uint32_t *link, uint32_t *message);
-uint32_t gefsunk_hba_write(gef_hba *hba, const uint8_t *memory, size_t len, uint64_t base, uint32_t offset, uint32_t width,
-                           uint64_t value, uint32_t *link, uint32_t *message);
-uint32_t gefsunk_hba_take(gef_hba *hba, const uint8_t *fis, size_t len, gef_taken *taken);
-uint32_t gefsunk_hba_data(gef_hba *hba, gef_place *places, size_t room, size_t *count);
-uint32_t gefsunk_hba_next_out(gef_hba *hba, const uint8_t *memory, size_t memory_len, uint64_t base, uint8_t *fis,
-                              size_t room, size_t *len, gef_sent *sent);
+uint32_t gefsunk_disk_next(gef_disk *disk, struct flat_event *event);
+uint32_t gefsunk_disk_answer_loaded(gef_disk *disk, const gef_request *request, const uint8_t *bytes, size_t len);
+uint32_t gefsunk_disk_answer_done(gef_disk *disk, const gef_request *request);
+uint32_t gefsunk_disk_answer_failed(gef_disk *disk, const gef_request *request, uint32_t error, uint64_t lba);
+uint32_t gefsunk_disk_stored(gef_disk *disk, const gef_request *request, size_t from, uint8_t *bytes, size_t room, size_t *len);
+uint32_t gefsunk_disk_discarded(gef_disk *disk, size_t number, gef_range *range);
 uint32_t gefsunk_machine_new(gef_machine *machine, uint8_t ports, uint32_t port_0_open);
 uint32_t gefsunk_machine_free(gef_machine *machine);
 uint32_t gefsunk_machine_read(gef_machine *machine, uint32_t offset, uint32_t width, uint64_t *value);
@@ -57,7 +58,7 @@ uint32_t gefsunk_machine_plug(gef_machine *machine, uint8_t port);
 uint32_t gefsunk_machine_power_on(gef_machine *machine);
 uint32_t gefsunk_machine_pull(gef_machine *machine, uint8_t port);
 uint32_t gefsunk_machine_remove(gef_machine *machine, uint8_t port);
-uint32_t gefsunk_machine_next(gef_machine *machine, gef_event *event);
+uint32_t gefsunk_machine_next(gef_machine *machine, struct flat_event *event);
 uint32_t gefsunk_machine_lent(gef_machine *machine, uint8_t *bytes, size_t room, size_t *len);
 uint32_t gefsunk_machine_supply(gef_machine *machine, const gef_wanted *wanted, const uint8_t *bytes, size_t len);
 uint32_t gefsunk_machine_no_memory(gef_machine *machine, const gef_wanted *wanted);
@@ -93,9 +94,6 @@ const char *gef_status_text(gef_status status) {
     case GEF_NOT_THERE: return "no device is there";
     case GEF_NO_REGISTER: return "no such register";
     case GEF_SPENT: return "the port takes no further device";
-    case GEF_BAD_DISK: return "no disk can be like this";
-    case GEF_NO_SECTOR: return "no such sector";
-    case GEF_NO_TAG: return "no such tag";
     case GEF_BAD_WIDTH: return "an access has 1, 2, 4 or 8 bytes";
     case GEF_BAD_SECTORS: return "no disk has so many sectors";
     case GEF_BAD_TEXT: return "a text of the disk is too long or not printable";
@@ -111,7 +109,6 @@ const char *gef_status_text(gef_status status) {
     case GEF_OTHER_LENGTH: return "the load asked for another length";
     case GEF_OTHER_SECTOR: return "the request does not have this sector";
     case GEF_BAD_ERROR: return "no request fails like this";
-    case GEF_IMAGE: return "the image failed";
     }
     return "no such answer";
 }
@@ -170,11 +167,53 @@ gef_status gef_pm_dropped(gef_pm *pm, uint32_t *count) {
     return pm && count ? (gef_status)gefsunk_pm_dropped(pm, count) : GEF_NULL;
 }
 
-gef_status gef_disk_new(gef_disk *disk, uint32_t sectors, uint16_t chunk, uint32_t flags, uint32_t serial,
-                        const uint32_t *bad, size_t bad_count) {
-    static const uint32_t none;
-    if (!disk || (!bad && bad_count)) return GEF_NULL;
-    return (gef_status)gefsunk_disk_new(disk, sectors, chunk, flags, serial, bad ? bad : &none, bad_count);
+static struct disk_numbers numbers_of(const gef_disk_profile *p) {
+    struct disk_numbers numbers;
+    numbers.sectors = p->sectors;
+    numbers.wwn = p->wwn;
+    numbers.physical = p->physical;
+    numbers.rotation = p->rotation;
+    numbers.depth = p->depth;
+    numbers.trim = p->trim;
+    numbers.limit = p->limit;
+    return numbers;
+}
+
+static void shown(const struct flat_event *flat, gef_event *event) {
+    memset(event, 0, sizeof *event);
+    event->kind = flat->kind;
+    event->port = flat->port;
+    switch (flat->kind) {
+    case GEF_EVENT_READ_GUEST:
+        event->u.read.at = flat->at;
+        event->u.read.len = flat->len;
+        event->u.read.wanted = flat->wanted;
+        break;
+    case GEF_EVENT_WRITE_GUEST:
+        event->u.write.at = flat->at;
+        event->u.write.len = flat->len;
+        break;
+    case GEF_EVENT_LOAD:
+    case GEF_EVENT_STORE:
+    case GEF_EVENT_FLUSH:
+    case GEF_EVENT_DISCARD:
+        event->u.medium.lba = flat->lba;
+        event->u.medium.count = flat->count;
+        event->u.medium.request = flat->request;
+        break;
+    case GEF_EVENT_LINE:
+        event->u.up = flat->up;
+        break;
+    }
+}
+
+gef_status gef_disk_new(gef_disk *disk, const gef_disk_profile *p) {
+    struct disk_numbers numbers;
+    if (!disk || !p || !p->model || !p->serial || !p->firmware) return GEF_NULL;
+    numbers = numbers_of(p);
+    return (gef_status)gefsunk_disk_new(disk, &numbers, (const uint8_t *)p->model, strlen(p->model),
+                                        (const uint8_t *)p->serial, strlen(p->serial), (const uint8_t *)p->firmware,
+                                        strlen(p->firmware));
 }
 
 gef_status gef_disk_free(gef_disk *disk) {
@@ -193,60 +232,34 @@ gef_status gef_disk_to_host(gef_disk *disk, uint8_t *fis, size_t room, size_t *l
     return disk && fis && len ? (gef_status)gefsunk_disk_to_host(disk, fis, room, len) : GEF_NULL;
 }
 
-gef_status gef_disk_fail(gef_disk *disk, uint8_t tag, uint8_t error, uint32_t lba) {
-    return disk ? (gef_status)gefsunk_disk_fail(disk, tag, error, lba) : GEF_NULL;
+gef_status gef_disk_next(gef_disk *disk, gef_event *event) {
+    struct flat_event flat;
+    gef_status status;
+    if (!disk || !event) return GEF_NULL;
+    memset(&flat, 0, sizeof flat);
+    status = (gef_status)gefsunk_disk_next(disk, &flat);
+    if (status == GEF_OK) shown(&flat, event);
+    return status;
 }
 
-gef_status gef_disk_sector(gef_disk *disk, uint32_t lba, uint8_t *bytes, size_t room) {
-    return disk && bytes ? (gef_status)gefsunk_disk_sector(disk, lba, bytes, room) : GEF_NULL;
+gef_status gef_disk_answer_loaded(gef_disk *disk, const gef_request *request, const uint8_t *bytes, size_t len) {
+    return disk && request && bytes ? (gef_status)gefsunk_disk_answer_loaded(disk, request, bytes, len) : GEF_NULL;
 }
 
-gef_status gef_hba_new(gef_hba *hba) {
-    return hba ? (gef_status)gefsunk_hba_new(hba) : GEF_NULL;
+gef_status gef_disk_answer_done(gef_disk *disk, const gef_request *request) {
+    return disk && request ? (gef_status)gefsunk_disk_answer_done(disk, request) : GEF_NULL;
 }
 
-gef_status gef_hba_free(gef_hba *hba) {
-    return hba ? (gef_status)gefsunk_hba_free(hba) : GEF_NULL;
+gef_status gef_disk_answer_failed(gef_disk *disk, const gef_request *request, uint32_t error, uint64_t lba) {
+    return disk && request ? (gef_status)gefsunk_disk_answer_failed(disk, request, error, lba) : GEF_NULL;
 }
 
-gef_status gef_hba_read32(gef_hba *hba, uint32_t offset, uint32_t *value) {
-    return hba && value ? (gef_status)gefsunk_hba_read32(hba, offset, value) : GEF_NULL;
+gef_status gef_disk_stored(gef_disk *disk, const gef_request *request, size_t from, uint8_t *bytes, size_t room, size_t *len) {
+    return disk && request && bytes && len ? (gef_status)gefsunk_disk_stored(disk, request, from, bytes, room, len) : GEF_NULL;
 }
 
-gef_status gef_hba_read(gef_hba *hba, uint32_t offset, uint32_t width, uint64_t *value) {
-    return hba && value ? (gef_status)gefsunk_hba_read(hba, offset, width, value) : GEF_NULL;
-}
-
-gef_status gef_hba_line(gef_hba *hba, uint32_t *raised) {
-    return hba && raised ? (gef_status)gefsunk_hba_line(hba, raised) : GEF_NULL;
-}
-
-gef_status gef_hba_write32(gef_hba *hba, const gef_memory *memory, uint32_t offset, uint32_t value, uint32_t *link,
-                           uint32_t *message) {
-    if (!hba || !memory || !memory->bytes || !link || !message) return GEF_NULL;
-    return (gef_status)gefsunk_hba_write32(hba, memory->bytes, memory->len, memory->address, offset, value, link,
-                                           message);
-}
-
-gef_status gef_hba_write(gef_hba *hba, const gef_memory *memory, uint32_t offset, uint32_t width, uint64_t value,
-                         uint32_t *link, uint32_t *message) {
-    if (!hba || !memory || !memory->bytes || !link || !message) return GEF_NULL;
-    return (gef_status)gefsunk_hba_write(hba, memory->bytes, memory->len, memory->address, offset, width, value, link,
-                                         message);
-}
-
-gef_status gef_hba_take(gef_hba *hba, const uint8_t *fis, size_t len, gef_taken *taken) {
-    return hba && fis && taken ? (gef_status)gefsunk_hba_take(hba, fis, len, taken) : GEF_NULL;
-}
-
-gef_status gef_hba_data(gef_hba *hba, gef_place *places, size_t room, size_t *count) {
-    return hba && places && count ? (gef_status)gefsunk_hba_data(hba, places, room, count) : GEF_NULL;
-}
-
-gef_status gef_hba_next_out(gef_hba *hba, const gef_memory *memory, uint8_t *fis, size_t room, size_t *len,
-                            gef_sent *sent) {
-    if (!hba || !memory || !memory->bytes || !fis || !len || !sent) return GEF_NULL;
-    return (gef_status)gefsunk_hba_next_out(hba, memory->bytes, memory->len, memory->address, fis, room, len, sent);
+gef_status gef_disk_discarded(gef_disk *disk, size_t number, gef_range *range) {
+    return disk && range ? (gef_status)gefsunk_disk_discarded(disk, number, range) : GEF_NULL;
 }
 
 gef_status gef_machine_new(gef_machine *machine, uint8_t ports, uint32_t port_0_open) {
@@ -268,13 +281,7 @@ gef_status gef_machine_write(gef_machine *machine, uint32_t offset, uint32_t wid
 gef_status gef_machine_put_disk(gef_machine *machine, uint8_t port, const gef_disk_profile *p) {
     struct disk_numbers numbers;
     if (!machine || !p || !p->model || !p->serial || !p->firmware) return GEF_NULL;
-    numbers.sectors = p->sectors;
-    numbers.wwn = p->wwn;
-    numbers.physical = p->physical;
-    numbers.rotation = p->rotation;
-    numbers.depth = p->depth;
-    numbers.trim = p->trim;
-    numbers.limit = p->limit;
+    numbers = numbers_of(p);
     return (gef_status)gefsunk_machine_put_disk(machine, port, &numbers, (const uint8_t *)p->model, strlen(p->model),
                                                 (const uint8_t *)p->serial, strlen(p->serial), (const uint8_t *)p->firmware,
                                                 strlen(p->firmware));
@@ -301,7 +308,13 @@ gef_status gef_machine_remove(gef_machine *machine, uint8_t port) {
 }
 
 gef_status gef_machine_next(gef_machine *machine, gef_event *event) {
-    return machine && event ? (gef_status)gefsunk_machine_next(machine, event) : GEF_NULL;
+    struct flat_event flat;
+    gef_status status;
+    if (!machine || !event) return GEF_NULL;
+    memset(&flat, 0, sizeof flat);
+    status = (gef_status)gefsunk_machine_next(machine, &flat);
+    if (status == GEF_OK) shown(&flat, event);
+    return status;
 }
 
 gef_status gef_machine_lent(gef_machine *machine, uint8_t *bytes, size_t room, size_t *len) {

@@ -542,36 +542,40 @@ gef_status gef_machine_offer(gef_machine *machine, uint8_t port, const uint8_t *
  *   - It returns. It reads and writes only the memory that you passed, and no other memory of yours. It does not divide
  *     by zero, overflow, or read a byte that was not written.
  *   - Apart from GEF_OK and GEF_NULL, it returns only the statuses that its comment lists, and each means what the
- *     comment says. A refusal changes nothing.
+ *     comment says. A refusal changes nothing, but for what the comment says.
  *   - FISes of a device go up in the order in which they came, each at most once, and none of a device that went
  *     (`multiplier`: frames_pass_in_order; each call here is a step of it).
  *   - A FIS that goes up has the number of its port as PM Port. A FIS that goes down has 0. No other bit changes.
- *   - A register of the controller reads what its contract says, and a write leaves what it says (`ahci_controller`). Bytes of a
- *     Data FIS go only to places that the command's table named when the command was issued, in order, each once.
- *   - What a disk sends is what its plan and all that happened to it allow, and it is silent only if they allow nothing.
- *     So the laws of `disk_model` hold of it: a read that ends had the sectors as they were when it was started, and a
- *     write that ends is on the medium. After gef_disk_fail it sends what the comment of that call says, to the byte
- *     (`failing_disk`), and then goes on as a disk that was plugged in.
+ *   - A gef_disk does what `sata_disk` says: what it makes of each FIS, which FIS goes next and with which bytes, what it asks for,
+ *     and what an answer leaves. Its calls make a run of such a disk, so the laws of `sata_disk_laws` hold of it. The Data of a read
+ *     are the bytes that you gave for its sectors, in order, and its end goes after all of them. The end of a write goes after you
+ *     stored exactly the bytes that came, at its sectors, and, if it is to last, after you answered a flush that was asked for after
+ *     that. Requests that are out share no sector, unless they are loads. No two have one number. While a command that moves sectors
+ *     is under way, GEF_NOTHING and GEF_EVENT_NOTHING together say that an answer of yours or Data of the host are owed.
+ *   - A gef_machine makes moves, each by one part's own rule, or by those of the two between which a FIS goes (`ahci_machine`). A
+ *     register reads what `ahci_controller` says, and a write leaves what it says; a disk at a port does what `sata_disk` says; FISes
+ *     pass the multiplier as above. What gef_machine_next says is what the last of its moves asks. The laws of the controller
+ *     (`controller_laws`) hold of its calls in a machine: bytes of a Data FIS go only to places that the command's table named as you
+ *     gave it, in order, each once; a command's bit falls only by an end that its own device sent, or by a stop or a reset.
  *
- * Not proved yet, though their contracts are written: gef_machine_*. What is said above of each call does not hold of them.
- *
- * Not proved but tested: the words of gef_fis_text; that GEF_PLACES_ROOM is always room enough; that drivers of operating
- * systems work with the controller (guests/RESULTS.md says which did). Not claimed: that anything happens in the end, or
- * how fast.
+ * Not proved but tested: the words of gef_fis_text; that the fields of a gef_event are those that the library says; that drivers of
+ * operating systems work with the machine (guests/RESULTS.md says which did). Not claimed: that anything happens in the end, or how
+ * fast.
  *
  * What no library can see, and you must keep:
  *
- *   - Each length is that of the memory behind its pointer, and pointers of one call do not overlap.
- *   - The fields of a handle are as the library left them, and you use an open handle through one copy only.
+ *   - Each length is that of the memory behind its pointer, each text ends with a 0, and pointers of one call do not overlap.
+ *   - The fields of a handle, of a gef_wanted and of a gef_request are as the library left them, and you use an open handle through
+ *     one copy only.
  *   - One call at a time on a handle.
  *   - A FIS for gef_pm_from_device was sent by the device that is at the port, and by none before it.
- *   - The bytes of a gef_memory stay as they are during the call, and what the controller asks for is written before the
- *     guest goes on.
  *   - The bytes for gef_machine_supply were read from the guest's memory at the place and in the number that the event has, those for
- *     gef_machine_answer_loaded are the sectors that it has, and a request is answered once it was done, or could not be.
+ *     gef_machine_answer_loaded and gef_disk_answer_loaded are the sectors that it has, and a request is answered once it was done, or
+ *     could not be.
+ *   - What GEF_EVENT_WRITE_GUEST lends is written before the guest goes on.
  *
- * What is trusted: the prover; the two compilers (the library's and yours); malloc and free; memcpy and the like; and
- * the file c/gefsunk.c, which tests pointers for null and passes each call on.
+ * What is trusted: the prover; the two compilers (the library's and yours); malloc and free; memcpy and the like; and the file
+ * c/gefsunk.c, which tests pointers for null, passes each call on, and puts what an event has into its union.
  */
 
 #ifdef __cplusplus

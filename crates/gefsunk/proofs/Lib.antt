@@ -1,2 +1,2 @@
-pub mod DataLemmas
 pub mod HeldSteps
+pub mod StartLemmas

@@ -1,99 +1,153 @@
--- What the calls on a disk do, by the rules of the disk (ACS-3; Serial ATA 3.x, native command queuing).
-use Rattle.std.specs.Prelude.{◌≡◌, ℕ, ◌<◌, ◌≤◌, ◌/◌, ◌%◌, ◌==◌, ◌&&◌, Bool, if◌then◌else◌, true, false, List, length}
-use Rattle.std.specs.Prelude.{nat_lt, nat_le}
+-- What the calls on a disk do, by its rules (ACS-3; Serial ATA 3.x, native command queuing).
+use Rattle.std.specs.Bool.{MatchBool}
+use Rattle.std.specs.Prelude.{◌≡◌, ◌≢◌, ℕ, zero, suc, ◌<◌, ◌==◌, ◌&&◌, ◌⊎◌, Bool, true, false, List, Option, Some, None, MatchOption}
 use Rattle.fis_view.specs.Frames.{is_frame}
-use Rattle.disk_model.specs.Chunks.{sectors_at}
-use Rattle.disk_model.specs.Disks.{opening}
-use Rattle.disk_model.specs.Runs.{is_size}
-use Rattle.disk_model.specs.declared.plan.DiskPlan.{DiskPlan}
-use Rattle.disk_model.specs.declared.plan.Order.{Order}
-use Rattle.disk_model.specs.declared.plan.Order.TheVariants.{Oldest, Newest}
-use Rattle.disk_model.specs.declared.plan.Profile.{Profile}
-use Rattle.disk_model.specs.declared.plan.Profile.TheVariants.{Bare, Stock}
-use Rattle.stock_disk.specs.Fronts.{opening as opening_front}
-use Rattle.failing_disk.specs.Faces.{Fails, FailingValue, Gave, IsQuiet, MayTake, Took, WasPlugged}
-use Rattle.failing_disk.specs.declared.guard.Guard.{Guard}
-use Rattle.failing_disk.specs.declared.guard.Guard.TheVariants.{Sound, Reports, Ends}
+use Rattle.fis_view.specs.Seen.{seen}
+use Rattle.block_command.specs.Moments.{Moment}
+use Rattle.block_queue.specs.Line.{command_at}
+use Rattle.block_engine.specs.Engine.{EngineState, IsEngineStart, IsRequested, answer_refusal, answered, started}
+use Rattle.block_engine.specs.declared.request.Answer.{Answer}
+use Rattle.block_engine.specs.declared.request.Answer.TheVariants.{Failed}
+use Rattle.block_engine.specs.declared.request.Request.{Request}
+use Rattle.sata_disk.specs.Hearing.{MayHear, fis_heard, fis_unheard, plugged}
+use Rattle.sata_disk.specs.Sending.{IsFis, IsOut, after_sent}
+use Rattle.sata_disk.specs.State.{DiskState, commands}
+use Rattle.sata_disk.specs.declared.out.Out.{Out}
+use Rattle.gefsunk.specs.Media.{IsLoaded, RangeRule, error_of, medium_shown, misfit_of, piece, place_named, plain}
+use Rattle.gefsunk.specs.declared.event.Event.{Event}
+use Rattle.gefsunk.specs.declared.event.MediumRequest.{MediumRequest}
+use Rattle.gefsunk.specs.declared.medium.SectorRange.{SectorRange}
 use Rattle.gefsunk.specs.declared.status.Status.{Status}
 use Rattle.gefsunk.specs.declared.status.Status.TheVariants as status
 
--- a flag is a power of 2
-abbrev pub has_flag : (flags flag : ℕ) → Bool
-has_flag flags flag = flags / flag % 2 == 1
-
--- flag 1
-abbrev pub order_of : ℕ → Order
-order_of flags = if has_flag flags 1 then Newest else Oldest
-
--- flag 8
-abbrev pub profile_of : (flags serial : ℕ) → Profile
-profile_of flags serial = if has_flag flags 8 then Stock serial else Bare
-
--- the plan that C asks for
-pub record IsPlanOf (size flags serial : ℕ) (bads : List ℕ) (plan : DiskPlan) : Type 0 where
-  pub order : plan.order ≡ order_of flags
-  pub chunk : plan.chunk ≡ size
-  pub last_first : plan.last_first ≡ has_flag flags 2
-  pub bad : plan.bad.items ≡ bads
-  pub auto : plan.auto ≡ has_flag flags 4
-  pub profile : plan.profile ≡ profile_of flags serial
-
--- a disk can be made so: its size, its chunks, at most 16 bad sectors, no other flag
-abbrev pub can_be : (sectors size flags serial : ℕ) → List ℕ → Bool
-can_be sectors size flags serial bads =
-    is_size (profile_of flags serial) sectors size && nat_lt flags 16 && nat_le (length bads) 16
-
--- a new disk, as C asks for it
-pub record IsDiskOf (count size flags serial : ℕ) (bads : List ℕ) (disk : FailingValue) : Type 0 where
-  pub can_be : can_be count size flags serial bads ≡ true
-  pub plan : IsPlanOf size flags serial bads disk.disk.disk.plan
-  pub sectors : disk.disk.disk.sectors ≡ count
-  pub now : disk.disk.disk.now ≡ opening count
-  pub front : disk.disk.front ≡ opening_front disk.disk.disk.plan
-  pub guard : disk.guard ≡ Sound
-
--- why there is no new disk
-abbrev pub DiskRefused : (sectors size flags serial : ℕ) → List ℕ → Status → Type 0
-DiskRefused sectors size flags serial bads status.BadDisk = can_be sectors size flags serial bads ≡ false
-DiskRefused sectors size flags serial bads status.NoMemory = can_be sectors size flags serial bads ≡ true
-DiskRefused sectors size flags serial bads _ = ⊥
-
 -- the disk is plugged in
-abbrev pub DiskPlug : FailingValue → Status → FailingValue → Type 0
-DiskPlug old answer new = (answer ≡ status.Done) × WasPlugged old new
+abbrev pub DiskPlug : DiskState → Status → DiskState → Type 0
+DiskPlug old answer new = (answer ≡ status.Done) × (new ≡ plugged old)
+
+-- ---- FISes
+
+-- what it makes of it, and that may be done
+pub record Hears (old : DiskState) (fis : List ℕ) (new : DiskState) : Type 0 where
+  pub may : MayHear old (seen fis)
+  pub is : new ≡ fis_heard old (seen fis)
 
 -- the host sends a FIS
-abbrev pub DiskFromHost : FailingValue → List ℕ → Status → FailingValue → Type 0
-DiskFromHost old fis status.Done new = (is_frame fis ≡ true) × Took old fis new
+abbrev pub DiskFromHost : DiskState → List ℕ → Status → DiskState → Type 0
+DiskFromHost old fis status.Done new = (is_frame fis ≡ true) × (fis_unheard old (seen fis) ≡ None) × Hears old fis new
+DiskFromHost old fis status.Dropped new = (is_frame fis ≡ true) × (fis_unheard old (seen fis) ≢ None) × Hears old fis new
 DiskFromHost old fis status.BadLength new = (is_frame fis ≡ false) × (new ≡ old)
 DiskFromHost old fis status.NoMemory new = (is_frame fis ≡ true) × (new ≡ old)
 DiskFromHost old fis _ new = ⊥
 
+-- the FIS that is next goes
+pub record Sends (old : DiskState) (fis : List ℕ) (new : DiskState) : Type 0 where
+  pub out : Out
+  pub next : IsOut old (Some out)
+  pub bytes : IsFis old out fis
+  pub is : new ≡ after_sent old out
+
+-- some FIS is next
+pub record Speaks (d : DiskState) : Type 0 where
+  pub out : Out
+  pub next : IsOut d (Some out)
+
 -- the next FIS for the host; the room must hold the longest FIS
-abbrev pub DiskToHost : FailingValue → ℕ → Status → List ℕ → FailingValue → Type 0
-DiskToHost old room status.Done fis new = Gave old fis new
-DiskToHost old room status.Nothing fis new = IsQuiet old × (new ≡ old)
-DiskToHost old room status.NoMemory fis new = MayTake old.guard old.disk × (new ≡ old)
+abbrev pub DiskToHost : DiskState → (room : ℕ) → Status → List ℕ → DiskState → Type 0
+DiskToHost old room status.Done fis new = Sends old fis new
+DiskToHost old room status.Nothing fis new = IsOut old None × (new ≡ old)
+DiskToHost old room status.NoMemory fis new = Speaks old × (new ≡ old)
 DiskToHost old room status.TooShort fis new = (room < 8196) × (new ≡ old)
 DiskToHost old room _ fis new = ⊥
 
--- what the host is to hear: of a queued command by its tag, or, for 32, of one that is not queued
-abbrev pub failed_as : (tag error lba : ℕ) → Guard
-failed_as tag error lba =
-    if tag == 32 then Ends error lba else Reports (record { tag = tag; error = error; lba = lba })
+-- ---- what is to be done to the medium
 
--- the medium failed a command
-abbrev pub DiskFail : FailingValue → (tag error lba : ℕ) → Status → FailingValue → Type 0
-DiskFail old tag error lba status.Done new =
-    (tag ≤ 32) × (lba < old.disk.disk.sectors) × Fails (failed_as tag error lba) old new
-DiskFail old tag error lba status.NoTag new = (32 < tag) × (new ≡ old)
-DiskFail old tag error lba status.NoSector new = (tag ≤ 32) × (old.disk.disk.sectors ≤ lba) × (new ≡ old)
-DiskFail old tag error lba _ new = ⊥
+abbrev pub with_engine : DiskState → EngineState → DiskState
+with_engine d e = record d { engine = e }
 
--- a sector of the medium, and the first 512 bytes of the room
-abbrev pub SectorRule : FailingValue → ℕ → ℕ → Status → List ℕ → Type 0
-SectorRule disk lba room status.Done bytes =
-    (lba < disk.disk.disk.sectors) × (bytes ≡ sectors_at disk.disk.disk.now.medium lba 1)
-SectorRule disk lba room status.NoSector bytes = disk.disk.disk.sectors ≤ lba
-SectorRule disk lba room status.TooShort bytes = (lba < disk.disk.disk.sectors) × (room < 512)
-SectorRule disk lba room _ bytes = ⊥
+-- one more command starts
+pub record ThenStarts (Before : DiskState → Type 0) (new : DiskState) : Type 0 where
+  pub middle : DiskState
+  pub place : ℕ
+  pub before : Before middle
+  pub next : IsEngineStart middle.engine (Some place)
+  pub is : new ≡ with_engine middle (started middle.engine (Some place))
+
+-- so many commands start, one after the other
+unfoldable pub StartsBy : (count : ℕ) → DiskState → DiskState → Type 0
+StartsBy zero old new = new ≡ old
+StartsBy (suc count) old new = ThenStarts (StartsBy count old) new
+
+pub record Starts (old new : DiskState) : Type 0 where
+  pub count : ℕ
+  pub starts : StartsBy count old new
+
+-- commands start until none may
+pub record StartsAll (old new : DiskState) : Type 0 where
+  pub starts : Starts old new
+  pub last : IsEngineStart new.engine None
+
+-- port and disk are 0
+abbrev pub asked_event : Option Request → Event
+asked_event None = plain 0
+asked_event (Some r) = medium_shown (record { port = 0; disk = 0; number = r.number }) r.place r.what
+
+-- all that may start do, and then it asks
+pub record Asks (old : DiskState) (event : Event) (new : DiskState) : Type 0 where
+  pub middle : DiskState
+  pub starts : StartsAll old middle
+  pub asked : Option Request
+  pub asks : IsRequested middle.engine new.engine asked
+  pub others : new ≡ with_engine middle new.engine
+  pub is : event ≡ asked_event asked
+
+-- where memory is refused, some may have started
+abbrev pub DiskNext : DiskState → Status → Event → DiskState → Type 0
+DiskNext old status.Done event new = Asks old event new
+DiskNext old status.NoMemory event new = Starts old new
+DiskNext old _ event new = ⊥
+
+-- ---- answers
+
+-- the disk's own have port 0 and disk 0
+abbrev pub is_own : MediumRequest → Bool
+is_own r = (r.port == 0) && (r.disk == 0)
+
+abbrev pub Answers : DiskState → (number : ℕ) → Answer → Status → DiskState → Type 0
+Answers old number given answer new =
+    MatchOption (answer_refusal old.engine number given)
+    ((answer ≡ status.Done) × (new ≡ with_engine old (answered old.engine number given)))
+    (λ misfit. (answer ≡ misfit_of misfit) × (new ≡ old))
+
+unfoldable pub DiskAnswer : DiskState → MediumRequest → Answer → Status → DiskState → Type 0
+DiskAnswer old r given answer new =
+    MatchBool (is_own r) (Answers old r.number given answer new) ((answer ≡ status.NotOut) × (new ≡ old))
+
+pub record Loads (old : DiskState) (r : MediumRequest) (bytes : List ℕ) (answer : Status) (new : DiskState) : Type 0 where
+  pub given : Answer
+  pub loaded : IsLoaded given bytes
+  pub answers : DiskAnswer old r given answer new
+
+abbrev pub DiskLoaded : DiskState → MediumRequest → List ℕ → Status → DiskState → Type 0
+DiskLoaded old r bytes answer new = Loads old r bytes answer new ⊎ ((answer ≡ status.NoMemory) × (new ≡ old))
+
+unfoldable pub DiskFailed : DiskState → MediumRequest → (error lba : ℕ) → Status → DiskState → Type 0
+DiskFailed old r error lba answer new =
+    MatchOption (error_of error) ((answer ≡ status.BadError) × (new ≡ old))
+    (λ kind. DiskAnswer old r (Failed (record { error = kind; lba = lba })) answer new)
+
+-- ---- what goes to the medium
+
+-- the bytes of a store are those of its command
+abbrev pub Holds : Option Moment → (from room : ℕ) → Status → List ℕ → Type 0
+Holds None from room answer got = answer ≡ status.NotOut
+Holds (Some m) from room answer got = (answer ≡ status.Done) × (got ≡ piece m.bytes from room)
+
+abbrev pub DiskStored : DiskState → MediumRequest → (from room : ℕ) → Status → List ℕ → Type 0
+DiskStored d r from room answer got =
+    MatchBool (is_own r)
+    (MatchOption (place_named r) (answer ≡ status.OtherKind) (λ p. Holds (command_at (commands d) p) from room answer got))
+    (answer ≡ status.NotOut)
+
+-- and the sectors of a discard the disk's
+abbrev pub DiskDiscarded : DiskState → (number : ℕ) → Status → SectorRange → Type 0
+DiskDiscarded d number answer got = RangeRule d.engine.ranges number answer got

@@ -1,13 +1,13 @@
 -- What an export leaves behind a handle. Where the handle is closed, or has something of another kind, nothing is
 -- done. A handle stays open or closed, except where something is made or freed.
 use Rattle.std.specs.Prelude.{◌≡◌, ℕ, ◌≤◌, ◌==◌, not, List, Option, Some, None}
-use Rattle.failing_disk.specs.Faces.{FailingValue}
-use Rattle.guest_port.specs.States.{IsOpeningPort, PortState}
-use Rattle.gefsunk.specs.Disks.{DiskRefused, IsDiskOf}
+use Rattle.sata_disk.specs.State.{DiskState}
 use Rattle.gefsunk.specs.Pms.{opening, opening_with_port_0}
+use Rattle.gefsunk.specs.Profiles.{MakesDisk, ProfileRefused}
 use Rattle.gefsunk.specs.declared.kept.Kept.{Kept}
 use Rattle.gefsunk.specs.declared.kept.Kept.TheVariants as kept
 use Rattle.gefsunk.specs.declared.pm.Pm.{Pm}
+use Rattle.gefsunk.specs.declared.profile.DiskNumbers.{DiskNumbers}
 use Rattle.gefsunk.specs.declared.status.Status.{Status}
 use Rattle.gefsunk.specs.declared.status.Status.TheVariants as status
 
@@ -15,38 +15,21 @@ use Rattle.gefsunk.specs.declared.status.Status.TheVariants as status
 abbrev pub AtPm : Option Kept → Status → Option Kept → (Pm → Pm → Type 0) → Type 0
 AtPm (Some (kept.Pm old)) answer (Some (kept.Pm new)) rule = rule old new
 AtPm (Some (kept.Pm old)) answer (Some (kept.Disk new)) rule = ⊥
-AtPm (Some (kept.Pm old)) answer (Some (kept.Hba new)) rule = ⊥
 AtPm (Some (kept.Pm old)) answer (Some (kept.Machine new)) rule = ⊥
 AtPm (Some (kept.Pm old)) answer None rule = ⊥
 AtPm (Some (kept.Disk old)) answer new rule = (answer ≡ status.Closed) × (new ≡ Some (kept.Disk old))
-AtPm (Some (kept.Hba old)) answer new rule = (answer ≡ status.Closed) × (new ≡ Some (kept.Hba old))
 AtPm (Some (kept.Machine old)) answer new rule = (answer ≡ status.Closed) × (new ≡ Some (kept.Machine old))
 AtPm None answer new rule = (answer ≡ status.Closed) × (new ≡ None)
 
 -- a call on the disk behind the handle, by its rule
-abbrev pub AtDisk : Option Kept → Status → Option Kept → (FailingValue → FailingValue → Type 0) → Type 0
+abbrev pub AtDisk : Option Kept → Status → Option Kept → (DiskState → DiskState → Type 0) → Type 0
 AtDisk (Some (kept.Disk old)) answer (Some (kept.Disk new)) rule = rule old new
 AtDisk (Some (kept.Disk old)) answer (Some (kept.Pm new)) rule = ⊥
-AtDisk (Some (kept.Disk old)) answer (Some (kept.Hba new)) rule = ⊥
 AtDisk (Some (kept.Disk old)) answer (Some (kept.Machine new)) rule = ⊥
 AtDisk (Some (kept.Disk old)) answer None rule = ⊥
 AtDisk (Some (kept.Pm old)) answer new rule = (answer ≡ status.Closed) × (new ≡ Some (kept.Pm old))
-AtDisk (Some (kept.Hba old)) answer new rule = (answer ≡ status.Closed) × (new ≡ Some (kept.Hba old))
 AtDisk (Some (kept.Machine old)) answer new rule = (answer ≡ status.Closed) × (new ≡ Some (kept.Machine old))
 AtDisk None answer new rule = (answer ≡ status.Closed) × (new ≡ None)
-
--- a call on the controller behind the handle, by its rule
-abbrev pub AtHba :
-    Option Kept → Status → Option Kept → (PortState → PortState → Type 0) → Type 0
-AtHba (Some (kept.Hba old)) answer (Some (kept.Hba new)) rule = rule old new
-AtHba (Some (kept.Hba old)) answer (Some (kept.Pm new)) rule = ⊥
-AtHba (Some (kept.Hba old)) answer (Some (kept.Disk new)) rule = ⊥
-AtHba (Some (kept.Hba old)) answer (Some (kept.Machine new)) rule = ⊥
-AtHba (Some (kept.Hba old)) answer None rule = ⊥
-AtHba (Some (kept.Pm old)) answer new rule = (answer ≡ status.Closed) × (new ≡ Some (kept.Pm old))
-AtHba (Some (kept.Disk old)) answer new rule = (answer ≡ status.Closed) × (new ≡ Some (kept.Disk old))
-AtHba (Some (kept.Machine old)) answer new rule = (answer ≡ status.Closed) × (new ≡ Some (kept.Machine old))
-AtHba None answer new rule = (answer ≡ status.Closed) × (new ≡ None)
 
 -- a multiplier is made behind a closed handle
 abbrev pub MadePm : Option Kept → ℕ → Status → Option Kept → Type 0
@@ -65,26 +48,22 @@ MadeOpenPm None ports is_there status.BadPorts new = ((1 ≤ ports) × (ports �
 MadeOpenPm None ports is_there status.NoMemory new = (1 ≤ ports) × (ports ≤ 15) × (new ≡ None)
 MadeOpenPm None ports is_there _ new = ⊥
 
--- a new disk, with this size, these chunks, flags, serial number and bad sectors
-abbrev pub HasDisk : (sectors size flags serial : ℕ) → List ℕ → Option Kept → Type 0
-HasDisk sectors size flags serial bads (Some (kept.Disk disk)) = IsDiskOf sectors size flags serial bads disk
-HasDisk sectors size flags serial bads (Some (kept.Pm pm)) = ⊥
-HasDisk sectors size flags serial bads (Some (kept.Hba hba)) = ⊥
-HasDisk sectors size flags serial bads (Some (kept.Machine machine)) = ⊥
-HasDisk sectors size flags serial bads None = ⊥
+-- a new disk, as C describes it
+abbrev pub IsDiskOf : DiskNumbers → (model serial firmware : List ℕ) → Kept → Type 0
+IsDiskOf n model serial firmware (kept.Disk disk) = MakesDisk n model serial firmware disk
+IsDiskOf n model serial firmware (kept.Pm pm) = ⊥
+IsDiskOf n model serial firmware (kept.Machine machine) = ⊥
 
 -- a disk is made behind a closed handle
-abbrev pub MadeDisk : Option Kept → (sectors size flags serial : ℕ) → List ℕ → Status → Option Kept → Type 0
-MadeDisk (Some old) sectors size flags serial bads answer new = (answer ≡ status.Open) × (new ≡ Some old)
-MadeDisk None sectors size flags serial bads status.Done new = HasDisk sectors size flags serial bads new
-MadeDisk None sectors size flags serial bads answer new =
-    DiskRefused sectors size flags serial bads answer × (new ≡ None)
+abbrev pub MadeDisk : Option Kept → DiskNumbers → (model serial firmware : List ℕ) → Status → Option Kept → Type 0
+MadeDisk (Some old) n model serial firmware answer new = (answer ≡ status.Open) × (new ≡ Some old)
+MadeDisk None n model serial firmware answer (Some new) = (answer ≡ status.Done) × IsDiskOf n model serial firmware new
+MadeDisk None n model serial firmware answer None = ProfileRefused n model serial firmware answer
 
 -- the multiplier is freed
 abbrev pub FreedPm : Option Kept → Status → Option Kept → Type 0
 FreedPm (Some (kept.Pm old)) answer new = (answer ≡ status.Done) × (new ≡ None)
 FreedPm (Some (kept.Disk old)) answer new = (answer ≡ status.Closed) × (new ≡ Some (kept.Disk old))
-FreedPm (Some (kept.Hba old)) answer new = (answer ≡ status.Closed) × (new ≡ Some (kept.Hba old))
 FreedPm (Some (kept.Machine old)) answer new = (answer ≡ status.Closed) × (new ≡ Some (kept.Machine old))
 FreedPm None answer new = (answer ≡ status.Closed) × (new ≡ None)
 
@@ -92,29 +71,5 @@ FreedPm None answer new = (answer ≡ status.Closed) × (new ≡ None)
 abbrev pub FreedDisk : Option Kept → Status → Option Kept → Type 0
 FreedDisk (Some (kept.Disk old)) answer new = (answer ≡ status.Done) × (new ≡ None)
 FreedDisk (Some (kept.Pm old)) answer new = (answer ≡ status.Closed) × (new ≡ Some (kept.Pm old))
-FreedDisk (Some (kept.Hba old)) answer new = (answer ≡ status.Closed) × (new ≡ Some (kept.Hba old))
 FreedDisk (Some (kept.Machine old)) answer new = (answer ≡ status.Closed) × (new ≡ Some (kept.Machine old))
 FreedDisk None answer new = (answer ≡ status.Closed) × (new ≡ None)
-
--- a new controller
-abbrev pub HasHba : Option Kept → Type 0
-HasHba (Some (kept.Hba hba)) = IsOpeningPort hba
-HasHba (Some (kept.Pm pm)) = ⊥
-HasHba (Some (kept.Disk disk)) = ⊥
-HasHba (Some (kept.Machine machine)) = ⊥
-HasHba None = ⊥
-
--- a controller is made behind a closed handle
-abbrev pub MadeHba : Option Kept → Status → Option Kept → Type 0
-MadeHba (Some old) answer new = (answer ≡ status.Open) × (new ≡ Some old)
-MadeHba None status.Done new = HasHba new
-MadeHba None status.NoMemory new = new ≡ None
-MadeHba None _ new = ⊥
-
--- the controller is freed
-abbrev pub FreedHba : Option Kept → Status → Option Kept → Type 0
-FreedHba (Some (kept.Hba old)) answer new = (answer ≡ status.Done) × (new ≡ None)
-FreedHba (Some (kept.Pm old)) answer new = (answer ≡ status.Closed) × (new ≡ Some (kept.Pm old))
-FreedHba (Some (kept.Disk old)) answer new = (answer ≡ status.Closed) × (new ≡ Some (kept.Disk old))
-FreedHba (Some (kept.Machine old)) answer new = (answer ≡ status.Closed) × (new ≡ Some (kept.Machine old))
-FreedHba None answer new = (answer ≡ status.Closed) × (new ≡ None)

@@ -1,8 +1,9 @@
 pub mod Disks
 pub mod Exports
 pub mod Handles
-pub mod Hbas
 pub mod Machines
+pub mod Media
 pub mod Pms
+pub mod Profiles
 pub mod Statuses
 pub mod Texts

@@ -5,24 +5,9 @@ use Rattle.std.specs.Result.{IsErr}
 use Rattle.std.specs.declared.alloc.AllocError.{AllocError}
 use Rattle.fis_view.specs.Frames.{Stamped, is_frame}
 use Rattle.fis_view.specs.declared.frame.Stamp.{Stamp}
-use Rattle.disk_pages.specs.Profiles.{capacity_of, depth_of, rpm_of}
-use Rattle.disk_pages.specs.Texts.{text_of}
-use Rattle.disk_pages.specs.declared.profile.NumberFault.{NumberFault}
-use Rattle.disk_pages.specs.declared.profile.PhysicalSector.{PhysicalSector}
-use Rattle.disk_pages.specs.declared.profile.PhysicalSector.TheVariants.{Bytes512, Bytes4096}
-use Rattle.disk_pages.specs.declared.profile.Profile.{Profile}
-use Rattle.disk_pages.specs.declared.profile.Rotation.{Rotation}
-use Rattle.disk_pages.specs.declared.profile.Rotation.TheVariants.{Unknown, Solid, Rotates}
-use Rattle.block_command.specs.declared.answer.AnswerError.{AnswerError}
-use Rattle.block_command.specs.declared.answer.AnswerError.TheVariants as answers
 use Rattle.block_engine.specs.declared.request.Answer.{Answer}
-use Rattle.block_engine.specs.declared.request.Answer.TheVariants.{Loaded, Done as WasDone, Failed}
-use Rattle.block_engine.specs.declared.request.ErrorKind.{ErrorKind}
-use Rattle.block_engine.specs.declared.request.ErrorKind.TheVariants.{Uncorrectable, NotFound, Aborted}
-use Rattle.block_engine.specs.declared.request.Range.{Range}
-use Rattle.block_engine.specs.declared.request.What.{What}
-use Rattle.block_engine.specs.declared.request.What.TheVariants.{Load, Store, Flush, Discard}
-use Rattle.sata_disk.specs.State.{DiskState, new_disk}
+use Rattle.block_engine.specs.declared.request.Answer.TheVariants.{Failed}
+use Rattle.sata_disk.specs.State.{DiskState}
 use Rattle.ahci_controller.specs.Wide.{read_wide}
 use Rattle.ahci_controller.specs.declared.access.Width.{Width}
 use Rattle.ahci_controller.specs.declared.access.Width.TheVariants.{Byte, Word, Dword, Qword}
@@ -44,7 +29,9 @@ use Rattle.ahci_machine.specs.declared.request.Request.{Request}
 use Rattle.ahci_machine.specs.declared.request.Request.TheVariants as request
 use Rattle.ahci_machine.specs.declared.request.Wanted.{Wanted}
 use Rattle.ahci_machine.specs.declared.request.Wanted.TheVariants.{Command, Data}
+use Rattle.gefsunk.specs.Media.{IsLoaded, RangeRule, error_of, medium_shown, misfit_of, piece, place_named, plain}
 use Rattle.gefsunk.specs.Pms.{no_removals}
+use Rattle.gefsunk.specs.Profiles.{MakesDisk, ProfileRefused}
 use Rattle.gefsunk.specs.declared.event.Event.{Event}
 use Rattle.gefsunk.specs.declared.event.MediumRequest.{MediumRequest}
 use Rattle.gefsunk.specs.declared.event.WantedBytes.{WantedBytes}
@@ -108,48 +95,7 @@ pub record RemoveRule (old : MachineState) (port : ℕ) (answer : Status) (new :
   pub removes : Removes port old told new
   pub is : MatchResult told (λ _. answer ≡ status.Done) (λ found. answer ≡ fault_of found)
 
--- ---- what a disk is (ACS-3, IDENTIFY DEVICE data)
-
-abbrev pub physical_of : (bytes : ℕ) → Option PhysicalSector
-physical_of n = if n == 512 then Some Bytes512 else if n == 4096 then Some Bytes4096 else None
-
-abbrev pub turning : Result ℕ NumberFault → Result Rotation Status
-turning (Ok rpm) = Ok (Rotates rpm)
-turning (Err e) = Err status.BadRotation
-
-abbrev pub rotation_of : (number : ℕ) → Result Rotation Status
-rotation_of n = if n == 0 then Ok Unknown else if n == 1 then Ok Solid else turning (rpm_of n)
-
-pub record IsProfile (n : DiskNumbers) (a b c : List ℕ) (p : Profile) : Type 0 where
-  pub capacity : capacity_of n.sectors ≡ Ok p.capacity
-  pub model : text_of 40 a ≡ Ok p.model
-  pub serial : text_of 20 b ≡ Ok p.serial
-  pub firmware : text_of 8 c ≡ Ok p.firmware
-  pub wwn : p.wwn ≡ (if n.wwn == 0 then None else Some n.wwn)
-  pub depth : depth_of n.depth ≡ Ok p.depth
-  pub rotation : rotation_of n.rotation ≡ Ok p.rotation
-  pub physical : physical_of n.physical ≡ Some p.physical
-  pub trim : p.trim ≡ not (n.trim == 0)
-
--- a text that does not fit its field, or is no text
-abbrev pub IsBadText : (room : ℕ) → List ℕ → Type 0
-IsBadText room bytes = IsErr (text_of room bytes) ⊎ (IsUtf8 bytes → ⊥)
-
--- each refusal has its cause
-abbrev pub ProfileRefused : DiskNumbers → (model serial firmware : List ℕ) → Status → Type 0
-ProfileRefused n model serial firmware status.BadSectors = IsErr (capacity_of n.sectors)
-ProfileRefused n model serial firmware status.BadText = IsBadText 40 model ⊎ (IsBadText 20 serial ⊎ IsBadText 8 firmware)
-ProfileRefused n model serial firmware status.BadDepth = IsErr (depth_of n.depth)
-ProfileRefused n model serial firmware status.BadRotation = IsErr (rotation_of n.rotation)
-ProfileRefused n model serial firmware status.BadPhysical = physical_of n.physical ≡ None
-ProfileRefused n model serial firmware status.BadLimit = n.limit < 1048576
-ProfileRefused n model serial firmware status.NoMemory = Unit {0}
-ProfileRefused n model serial firmware _ = ⊥
-
-pub record MakesDisk (n : DiskNumbers) (model serial firmware : List ℕ) (d : DiskState) : Type 0 where
-  pub profile : IsProfile n model serial firmware d.profile
-  pub limit : 1048576 ≤ n.limit
-  pub is : d ≡ new_disk d.profile n.limit
+-- ---- a disk is put there
 
 pub record PutsDisk (old : MachineState) (port : ℕ) (n : DiskNumbers) (model serial firmware : List ℕ) (answer : Status)
     (new : MachineState) : Type 0 where
@@ -175,32 +121,7 @@ wanted_named w =
 abbrev pub id_named : MediumRequest → Option MediumId
 id_named r = if nat_lt r.port 15 then Some (record { port = r.port; disk = r.disk; number = r.number }) else None
 
-abbrev pub place_named : MediumRequest → Option ℕ
-place_named r = if nat_lt r.place 33 then Some r.place else None
-
-abbrev pub place_shown : Option ℕ → ℕ
-place_shown None = 33
-place_shown (Some p) = p
-
-abbrev pub request_shown : MediumId → Option ℕ → MediumRequest
-request_shown id place = record { port = id.port; place = place_shown place; disk = id.disk; number = id.number }
-
 -- ---- events: what a kind does not have is 0
-
-abbrev pub no_wanted : WantedBytes
-no_wanted = record { kind = 0; owner = 0; number = 0; done = 0 }
-
-abbrev pub no_request : MediumRequest
-no_request = record { port = 0; place = 0; disk = 0; number = 0 }
-
-abbrev pub plain : (kind : ℕ) → Event
-plain n = record { kind = n; port = 0; up = 0; count = 0; lba = 0; at = 0; len = 0; wanted = no_wanted; request = no_request }
-
-abbrev pub medium_shown : MediumId → Option ℕ → What → Event
-medium_shown id place (Load lba count) = record (plain 4) { port = id.port; lba = lba; count = count; request = request_shown id place }
-medium_shown id place (Store lba count) = record (plain 5) { port = id.port; lba = lba; count = count; request = request_shown id place }
-medium_shown id place Flush = record (plain 6) { port = id.port; request = request_shown id place }
-medium_shown id place Discard = record (plain 7) { port = id.port; request = request_shown id place }
 
 abbrev pub event_of : Request → (lent : ℕ) → Event
 event_of request.Nothing lent = plain 0
@@ -225,10 +146,6 @@ NextRule old status.NoMemory event new = Moves (unlent old) new
 NextRule old _ event new = ⊥
 
 -- ---- bytes of the guest
-
--- so many bytes from one on, as many as there are and fit
-abbrev pub piece : {A : Type 0} → List A → (from room : ℕ) → List A
-piece bytes from room = take room (drop from bytes)
 
 abbrev pub LentRule : MachineState → (room : ℕ) → Status → List ℕ → Type 0
 LentRule m room status.Done got = (got ≡ lent_bytes m) × (length got ≤ room)
@@ -258,10 +175,7 @@ NoMemoryRule old wanted answer new =
 
 abbrev pub refusal_of : MediumError → Status
 refusal_of medium.OtherDisk = status.OtherDisk
-refusal_of (medium.Answer answers.NotOut) = status.NotOut
-refusal_of (medium.Answer answers.OtherKind) = status.OtherKind
-refusal_of (medium.Answer answers.OtherLength) = status.OtherLength
-refusal_of (medium.Answer answers.OtherSector) = status.OtherSector
+refusal_of (medium.Answer misfit) = misfit_of misfit
 
 pub record Answered (old : MachineState) (id : MediumId) (given : Answer) (answer : Status) (new : MachineState) : Type 0 where
   pub told : Result (Unit {0}) MediumError
@@ -272,11 +186,6 @@ unfoldable pub AnswerRule : MachineState → MediumRequest → Answer → Status
 AnswerRule old r given answer new =
     MatchOption (id_named r) ((answer ≡ status.OtherDisk) × (new ≡ old)) (λ id. Answered old id given answer new)
 
-abbrev pub IsLoaded : Answer → List ℕ → Type 0
-IsLoaded (Loaded sectors) bytes = sectors.items ≡ bytes
-IsLoaded WasDone bytes = ⊥
-IsLoaded (Failed failure) bytes = ⊥
-
 pub record Loads (old : MachineState) (r : MediumRequest) (bytes : List ℕ) (answer : Status) (new : MachineState) : Type 0 where
   pub given : Answer
   pub loaded : IsLoaded given bytes
@@ -284,9 +193,6 @@ pub record Loads (old : MachineState) (r : MediumRequest) (bytes : List ℕ) (an
 
 abbrev pub LoadedRule : MachineState → MediumRequest → List ℕ → Status → MachineState → Type 0
 LoadedRule old r bytes answer new = Loads old r bytes answer new ⊎ ((answer ≡ status.NoMemory) × (new ≡ old))
-
-abbrev pub error_of : (bits : ℕ) → Option ErrorKind
-error_of n = if n == 0x40 then Some Uncorrectable else if n == 0x10 then Some NotFound else if n == 0x04 then Some Aborted else None
 
 unfoldable pub FailRule : MachineState → MediumRequest → (error lba : ℕ) → Status → MachineState → Type 0
 FailRule old r error lba answer new =
@@ -306,14 +212,10 @@ StoredRule m r from room status.OtherKind got = place_named r ≡ None
 StoredRule m r from room status.NotOut got = Unit {0}
 StoredRule m r from room _ got = ⊥
 
-abbrev pub range_shown : Range → SectorRange
-range_shown r = record { lba = r.lba; count = r.count }
-
 abbrev pub DiscardedRule : MachineState → MediumRequest → (number : ℕ) → Status → SectorRange → Type 0
 DiscardedRule m r number answer got =
     MatchOption (id_named r) (answer ≡ status.OtherDisk)
-    (λ id. MatchOption (slice_get (ranges_in (disk_at m id)) number) (answer ≡ status.Nothing)
-    (λ range. (answer ≡ status.Done) × (got ≡ range_shown range)))
+    (λ id. RangeRule (ranges_in (disk_at m id)) number answer got)
 
 -- ---- devices of the caller's own
 
@@ -346,11 +248,9 @@ abbrev pub AtMachine : Option Kept → Status → Option Kept → (MachineState 
 AtMachine (Some (kept.Machine old)) answer (Some (kept.Machine new)) rule = rule old new
 AtMachine (Some (kept.Machine old)) answer (Some (kept.Pm new)) rule = ⊥
 AtMachine (Some (kept.Machine old)) answer (Some (kept.Disk new)) rule = ⊥
-AtMachine (Some (kept.Machine old)) answer (Some (kept.Hba new)) rule = ⊥
 AtMachine (Some (kept.Machine old)) answer None rule = ⊥
 AtMachine (Some (kept.Pm old)) answer new rule = (answer ≡ status.Closed) × (new ≡ Some (kept.Pm old))
 AtMachine (Some (kept.Disk old)) answer new rule = (answer ≡ status.Closed) × (new ≡ Some (kept.Disk old))
-AtMachine (Some (kept.Hba old)) answer new rule = (answer ≡ status.Closed) × (new ≡ Some (kept.Hba old))
 AtMachine None answer new rule = (answer ≡ status.Closed) × (new ≡ None)
 
 -- a new machine
@@ -358,7 +258,6 @@ abbrev pub HasMachine : (ports port_0_open : ℕ) → Option Kept → Type 0
 HasMachine ports port_0_open (Some (kept.Machine m)) = IsOpeningMachine ports (not (port_0_open == 0)) m
 HasMachine ports port_0_open (Some (kept.Pm pm)) = ⊥
 HasMachine ports port_0_open (Some (kept.Disk disk)) = ⊥
-HasMachine ports port_0_open (Some (kept.Hba hba)) = ⊥
 HasMachine ports port_0_open None = ⊥
 
 -- a machine is made behind a closed handle
@@ -374,5 +273,4 @@ abbrev pub FreedMachine : Option Kept → Status → Option Kept → Type 0
 FreedMachine (Some (kept.Machine old)) answer new = (answer ≡ status.Done) × (new ≡ None)
 FreedMachine (Some (kept.Pm old)) answer new = (answer ≡ status.Closed) × (new ≡ Some (kept.Pm old))
 FreedMachine (Some (kept.Disk old)) answer new = (answer ≡ status.Closed) × (new ≡ Some (kept.Disk old))
-FreedMachine (Some (kept.Hba old)) answer new = (answer ≡ status.Closed) × (new ≡ Some (kept.Hba old))
 FreedMachine None answer new = (answer ≡ status.Closed) × (new ≡ None)

@@ -1,5 +1,5 @@
 -- The number of each answer in C.
-use Rattle.std.specs.Prelude.{ℕ, ◌==◌, ◌&&◌, nat_lt, Bool, not, if◌then◌else◌}
+use Rattle.std.specs.Prelude.{ℕ, ◌==◌, ◌&&◌, ◌||◌, nat_lt, Bool, not, if◌then◌else◌}
 use Rattle.gefsunk.specs.declared.status.Status.{Status}
 use Rattle.gefsunk.specs.declared.status.Status.TheVariants as status
 
@@ -21,9 +21,6 @@ status_of n =
     else if n == 14 then status.NotThere
     else if n == 15 then status.NoRegister
     else if n == 16 then status.Spent
-    else if n == 17 then status.BadDisk
-    else if n == 18 then status.NoSector
-    else if n == 19 then status.NoTag
     else if n == 20 then status.BadWidth
     else if n == 21 then status.BadSectors
     else if n == 22 then status.BadText
@@ -40,6 +37,6 @@ status_of n =
     else if n == 33 then status.OtherSector
     else status.BadError
 
--- the numbers that an export answers; 1 is the C side's
+-- the numbers that an export answers; 1 is the C side's, and no answer has 17 to 19
 abbrev pub is_code : ℕ → Bool
-is_code n = nat_lt n 35 && not (n == 1)
+is_code n = nat_lt n 35 && not (n == 1) && (nat_lt n 17 || nat_lt 19 n)

@@ -1,98 +1,35 @@
-//! A disk as the library for C keeps it.
+//! The exports of a disk by itself, whose sectors lie with the caller. `include/gefsunk.h` says what each call does.
 
-ghost use Rattle.std.specs.Prelude.{◌≡◌, ◌≢◌, ◌≤◌, ◌<◌, IfErr, IfOk, drop, length, take};
-ghost use Rattle.gefsunk.specs.Disks.{DiskFail, DiskFromHost, DiskPlug, DiskRefused, DiskToHost, IsDiskOf, IsPlanOf, SectorRule, has_flag};
+ghost use Rattle.std.specs.Prelude.{◌≡◌, ◌≢◌, ◌≤◌, OnErr, OnOk, drop, length, take, true};
+ghost use Rattle.block_engine.specs.declared.request.Answer.TheVariants.{Done as WasDone};
+ghost use Rattle.gefsunk.specs.Disks.{DiskAnswer, DiskDiscarded, DiskFailed, DiskFromHost, DiskLoaded, DiskNext, DiskPlug, DiskStored, DiskToHost, Starts, StartsAll};
+ghost use Rattle.gefsunk.specs.Exports.{AtDisk, FreedDisk, MadeDisk};
+ghost use Rattle.gefsunk.specs.Statuses.{is_code, status_of};
+ghost use Rattle.gefsunk.specs.declared.status.Status.TheVariants as status;
 
+use crate::event::{Event, MediumRequest};
+use crate::handle::Handle;
+use crate::kept::Kept;
+use crate::medium::{SectorRange, copied as copied_from, error_kind, misfit, range_at};
 use crate::pm::{copied, refused, stamp};
+use crate::profile::{DiskNumbers, DiskTexts, new_disk};
 use crate::status::Status;
-use arrayvec::ArrayVec;
-use disk_model::{Device, DiskError, DiskPlan, Order, Profile};
-use failing_disk::{FailingDisk, Failure};
+use block_engine::{Answer, Failure};
 use fis_view::Frame;
-use std::alloc::Global;
-use stock_disk::StockDisk;
+use sata_disk::SataDisk;
+use std::alloc::{AllocError, Global};
 
-/// The newest queued command goes first.
-const NEWEST: u32 = 1;
-/// The chunks of a command go downwards.
-const LAST_FIRST: u32 = 2;
-/// The DMA Setup of a write lets its data come at once.
-const AUTO: u32 = 4;
-/// The IDENTIFY DEVICE data are those that stock drivers read, and what the disk leaves unanswered is
-/// answered before it.
-const STOCK: u32 = 8;
+/// How many commands a disk can have: one for each tag, and one that is not queued. So no more can start.
+const PLACES: u32 = 33;
 
-/// In place of a tag: the command is not queued.
-const NOT_QUEUED: u8 = 32;
-
-/// Whether a flag is set.
-fn has_flag(flags: u32, flag: u32) -> bool
-    requires { 0 < flag }
-    ensures { result ≡ has_flag flags flag }
-{
-    flags / flag % 2 == 1
-}
-
-/// The plan that chunk, flags, serial number and bad sectors make.
-fn plan(chunk: u16, flags: u32, serial: u32, bad: ArrayVec<u32, 16>) -> DiskPlan
-    ensures { IsPlanOf chunk flags serial bad.items result }
-{
-    DiskPlan {
-        order: if has_flag(flags, NEWEST) {
-            Order::Newest
-        } else {
-            Order::Oldest
-        },
-        chunk,
-        last_first: has_flag(flags, LAST_FIRST),
-        bad,
-        auto: has_flag(flags, AUTO),
-        profile: if has_flag(flags, STOCK) {
-            Profile::Stock(serial)
-        } else {
-            Profile::Bare
-        },
-    }
-}
-
-/// A disk with this many sectors, its plan made of the other arguments.
-pub fn new_disk(
-    alloc: Global,
-    sectors: u32,
-    chunk: u16,
-    flags: u32,
-    serial: u32,
-    bad: &[u32],
-) -> Result<FailingDisk, Status>
-    ensures made { IfOk result (λ disk. IsDiskOf sectors chunk flags serial bad.now disk) }
-    ensures refused { IfErr result (λ e. DiskRefused sectors chunk flags serial bad.now e) }
-{
-    if flags >= 16 {
-        return Err(Status::BadDisk);
-    }
-    let mut bads = ArrayVec::new();
-    if bads.try_extend_from_slice(bad).is_err() {
-        return Err(Status::BadDisk);
-    }
-    match StockDisk::new(alloc, sectors, plan(chunk, flags, serial, bads)) {
-        Ok(disk) => Ok(FailingDisk::new(disk)),
-        Err(DiskError::BadSize) => Err(Status::BadDisk),
-        Err(DiskError::OutOfMemory) => Err(Status::NoMemory),
-    }
-}
-
-/// The disk is plugged in.
-pub fn plug(disk: &mut FailingDisk, alloc: Global) -> Status
+fn plug(disk: &mut SataDisk, alloc: Global) -> Status
     ensures { DiskPlug disk.old result disk.new }
 {
-    match disk.plugged(alloc) {
-        Ok(()) => Status::Done,
-        Err(_) => Status::NoMemory,
-    }
+    disk.plugged(alloc);
+    Status::Done
 }
 
-/// The disk takes a FIS of the host.
-pub fn from_host(disk: &mut FailingDisk, alloc: Global, fis: &[u8]) -> Status
+fn from_host(disk: &mut SataDisk, alloc: Global, fis: &[u8]) -> Status
     ensures { DiskFromHost disk.old fis.now result disk.new }
 {
     let frame = match Frame::from_bytes(alloc, fis, stamp(0, 0)) {
@@ -100,13 +37,13 @@ pub fn from_host(disk: &mut FailingDisk, alloc: Global, fis: &[u8]) -> Status
         Err(error) => return refused(error),
     };
     match disk.on_frame(alloc, &frame) {
-        Ok(()) => Status::Done,
+        Ok(None) => Status::Done,
+        Ok(Some(_)) => Status::Dropped,
         Err(_) => Status::NoMemory,
     }
 }
 
-/// Writes the next FIS of the disk into the room, and its length.
-pub fn to_host(disk: &mut FailingDisk, alloc: Global, room: &mut [u8], len: &mut usize) -> Status
+fn to_host(disk: &mut SataDisk, alloc: Global, room: &mut [u8], len: &mut usize) -> Status
     ensures rule { DiskToHost disk.old (length room.old) result (take len.new room.new) disk.new }
     ensures within { result ≡ Status.Done → len.new ≤ length room.old }
     ensures kept { result ≢ Status.Done → (room.new ≡ room.old) × (len.new ≡ len.old) }
@@ -115,55 +52,353 @@ pub fn to_host(disk: &mut FailingDisk, alloc: Global, room: &mut [u8], len: &mut
     if room.len() < Frame::LONGEST {
         return Status::TooShort;
     }
-    match disk.next_out(alloc, stamp(0, 0)) {
-        Ok(Some(frame)) => {
-            *len = copied(&frame, room);
-            Status::Done
+    let Some(out) = disk.next_out() else {
+        return Status::Nothing;
+    };
+    let Ok(frame) = disk.frame(alloc, out, stamp(0, 0)) else {
+        return Status::NoMemory;
+    };
+    disk.sent(out);
+    *len = copied(&frame, room);
+    Status::Done
+}
+
+/// All that may start do.
+#[tactic(auto, using(crate::proofs::StartLemmas::all_started, crate::proofs::StartLemmas::none_left, crate::proofs::StartLemmas::some_started))]
+fn start_all(disk: &mut SataDisk) -> Result<(), AllocError>
+    ensures ok { OnOk result (StartsAll disk.old disk.new) }
+    ensures err { OnErr result (Starts disk.old disk.new) }
+{
+    for _ in 0..PLACES {
+        if disk.start_next()?.is_none() {
+            return Ok(());
         }
-        Ok(None) => Status::Nothing,
+    }
+    Ok(())
+}
+
+fn next(disk: &mut SataDisk, event: &mut Event) -> Status
+    ensures rule { DiskNext disk.old result event.new disk.new }
+    ensures kept { result ≢ Status.Done → event.new ≡ event.old }
+{
+    if start_all(disk).is_err() {
+        return Status::NoMemory;
+    }
+    *event = Event::asked(disk.next_request());
+    Status::Done
+}
+
+#[tactic(auto, unfolding(crate::specs::Disks::DiskAnswer))]
+fn answer(disk: &mut SataDisk, request: &MediumRequest, answer: Answer) -> Status
+    ensures { DiskAnswer disk.old request.now answer result disk.new }
+{
+    if !request.is_own() {
+        return Status::NotOut;
+    }
+    match disk.answer(request.number, answer) {
+        Ok(()) => Status::Done,
+        Err(error) => misfit(error),
+    }
+}
+
+fn loaded(disk: &mut SataDisk, alloc: Global, request: &MediumRequest, bytes: &[u8]) -> Status
+    ensures { DiskLoaded disk.old request.now bytes.now result disk.new }
+{
+    match Vec::from_slice(alloc, bytes) {
+        Ok(bytes) => answer(disk, request, Answer::Loaded(bytes)),
         Err(_) => Status::NoMemory,
     }
 }
 
-/// The medium failed a command of the disk: the one with this tag, or, for 32, the one that is not queued.
-pub fn fail(disk: &mut FailingDisk, alloc: Global, tag: u8, error: u8, lba: u32) -> Status
-    ensures { DiskFail disk.old tag error lba result disk.new }
+#[tactic(auto, unfolding(crate::specs::Disks::DiskFailed))]
+fn failed(disk: &mut SataDisk, request: &MediumRequest, error: u32, lba: u64) -> Status
+    ensures { DiskFailed disk.old request.now error lba result disk.new }
 {
-    if tag > NOT_QUEUED {
-        return Status::NoTag;
-    }
-    if disk.sector(lba).is_none() {
-        return Status::NoSector;
-    }
-    if tag == NOT_QUEUED {
-        disk.fail_command(alloc, error, lba);
-    } else {
-        disk.fail_queued(alloc, Failure { tag, error, lba });
-    }
-    Status::Done
-}
-
-/// Copies bytes to the front of the room.
-fn put(bytes: &[u8], room: &mut [u8])
-    requires fits { length bytes.now ≤ length room.old }
-    ensures put { take (length bytes.now) room.new ≡ bytes.now }
-    ensures rest { drop (length bytes.now) room.new ≡ drop (length bytes.now) room.old }
-{
-    room[..bytes.len()].copy_from_slice(bytes);
-}
-
-/// Writes the 512 bytes of a sector on the medium into the room.
-pub fn sector(disk: &FailingDisk, lba: u32, room: &mut [u8]) -> Status
-    ensures rule { SectorRule disk.now lba (length room.old) result (take 512 room.new) }
-    ensures kept { result ≢ Status.Done → room.new ≡ room.old }
-    ensures rest { drop 512 room.new ≡ drop 512 room.old }
-{
-    let Some(bytes) = disk.sector(lba) else {
-        return Status::NoSector;
+    let Some(error) = error_kind(error) else {
+        return Status::BadError;
     };
-    if room.len() < 512 {
-        return Status::TooShort;
+    answer(disk, request, Answer::Failed(Failure { error, lba }))
+}
+
+fn stored(
+    disk: &SataDisk,
+    request: &MediumRequest,
+    from: usize,
+    room: &mut [u8],
+    len: &mut usize,
+) -> Status
+    ensures rule { DiskStored disk.now request.now from (length room.old) result (take len.new room.new) }
+    ensures within { result ≡ Status.Done → len.new ≤ length room.old }
+    ensures kept { result ≢ Status.Done → (room.new ≡ room.old) × (len.new ≡ len.old) }
+    ensures rest { drop len.new room.new ≡ drop len.new room.old }
+{
+    if !request.is_own() {
+        return Status::NotOut;
     }
-    put(bytes, room);
-    Status::Done
+    let Some(place) = request.place() else {
+        return Status::OtherKind;
+    };
+    match disk.get(place) {
+        Some(command) => {
+            *len = copied_from(command.bytes(), from, room);
+            Status::Done
+        }
+        None => Status::NotOut,
+    }
+}
+
+/// Makes a disk, and opens the handle.
+#[unsafe(no_mangle)]
+pub extern "C" fn gefsunk_disk_new(
+    handle: &mut Handle,
+    alloc: Global,
+    numbers: &DiskNumbers,
+    model: &[u8],
+    serial: &[u8],
+    firmware: &[u8],
+) -> u32
+    ensures made { MadeDisk handle.old.held.value numbers.now model.now serial.now firmware.now
+        (status_of result) handle.new.held.value }
+    ensures known { is_code result ≡ true }
+{
+    if let Some(kept) = handle.take(alloc) {
+        *handle = Handle::open(kept);
+        return Status::Open.code();
+    }
+    let texts = DiskTexts {
+        model,
+        serial,
+        firmware,
+    };
+    let disk = match new_disk(alloc, numbers, &texts) {
+        Ok(disk) => disk,
+        Err(status) => return status.code(),
+    };
+    match Box::new(alloc, Kept::Disk(disk)) {
+        Ok(kept) => {
+            *handle = Handle::open(kept);
+            Status::Done.code()
+        }
+        Err(_) => Status::NoMemory.code(),
+    }
+}
+
+/// Frees the disk, and closes the handle.
+#[unsafe(no_mangle)]
+pub extern "C" fn gefsunk_disk_free(handle: &mut Handle, alloc: Global) -> u32
+    ensures freed { FreedDisk handle.old.held.value (status_of result) handle.new.held.value }
+    ensures known { is_code result ≡ true }
+{
+    let Some(kept) = handle.take(alloc) else {
+        return Status::Closed.code();
+    };
+    match &*kept {
+        Kept::Disk(_) => Status::Done.code(),
+        Kept::Pm(_) | Kept::Machine(_) => {
+            *handle = Handle::open(kept);
+            Status::Closed.code()
+        }
+    }
+}
+
+/// The disk is plugged in.
+#[unsafe(no_mangle)]
+pub extern "C" fn gefsunk_disk_plug(handle: &mut Handle, alloc: Global) -> u32
+    ensures rule { AtDisk handle.old.held.value (status_of result) handle.new.held.value
+        (λ old new. DiskPlug old (status_of result) new) }
+    ensures known { is_code result ≡ true }
+{
+    let Some(mut kept) = handle.take(alloc) else {
+        return Status::Closed.code();
+    };
+    let status = match &mut *kept {
+        Kept::Disk(disk) => plug(disk, alloc),
+        Kept::Pm(_) | Kept::Machine(_) => Status::Closed,
+    };
+    *handle = Handle::open(kept);
+    status.code()
+}
+
+/// The disk takes a FIS from the host.
+#[unsafe(no_mangle)]
+pub extern "C" fn gefsunk_disk_from_host(handle: &mut Handle, alloc: Global, fis: &[u8]) -> u32
+    ensures rule { AtDisk handle.old.held.value (status_of result) handle.new.held.value
+        (λ old new. DiskFromHost old fis.now (status_of result) new) }
+    ensures known { is_code result ≡ true }
+{
+    let Some(mut kept) = handle.take(alloc) else {
+        return Status::Closed.code();
+    };
+    let status = match &mut *kept {
+        Kept::Disk(disk) => from_host(disk, alloc, fis),
+        Kept::Pm(_) | Kept::Machine(_) => Status::Closed,
+    };
+    *handle = Handle::open(kept);
+    status.code()
+}
+
+/// Gives the next FIS of the disk for the host.
+#[unsafe(no_mangle)]
+pub extern "C" fn gefsunk_disk_to_host(
+    handle: &mut Handle,
+    alloc: Global,
+    room: &mut [u8],
+    len: &mut usize,
+) -> u32
+    ensures rule { AtDisk handle.old.held.value (status_of result) handle.new.held.value
+        (λ old new. DiskToHost old (length room.old) (status_of result) (take len.new room.new) new) }
+    ensures known { is_code result ≡ true }
+    ensures kept { status_of result ≢ status.Done → (room.new ≡ room.old) × (len.new ≡ len.old) }
+    ensures within { status_of result ≡ status.Done → len.new ≤ length room.old }
+    ensures rest { drop len.new room.new ≡ drop len.new room.old }
+{
+    let Some(mut kept) = handle.take(alloc) else {
+        return Status::Closed.code();
+    };
+    let status = match &mut *kept {
+        Kept::Disk(disk) => to_host(disk, alloc, room, len),
+        Kept::Pm(_) | Kept::Machine(_) => Status::Closed,
+    };
+    *handle = Handle::open(kept);
+    status.code()
+}
+
+/// Says what is to be done to the medium next.
+#[unsafe(no_mangle)]
+pub extern "C" fn gefsunk_disk_next(handle: &mut Handle, alloc: Global, event: &mut Event) -> u32
+    ensures rule { AtDisk handle.old.held.value (status_of result) handle.new.held.value
+        (λ old new. DiskNext old (status_of result) event.new new) }
+    ensures known { is_code result ≡ true }
+    ensures kept { status_of result ≢ status.Done → event.new ≡ event.old }
+{
+    let Some(mut kept) = handle.take(alloc) else {
+        return Status::Closed.code();
+    };
+    let status = match &mut *kept {
+        Kept::Disk(disk) => next(disk, event),
+        Kept::Pm(_) | Kept::Machine(_) => Status::Closed,
+    };
+    *handle = Handle::open(kept);
+    status.code()
+}
+
+/// The sectors of a load.
+#[unsafe(no_mangle)]
+pub extern "C" fn gefsunk_disk_answer_loaded(
+    handle: &mut Handle,
+    alloc: Global,
+    request: &MediumRequest,
+    bytes: &[u8],
+) -> u32
+    ensures rule { AtDisk handle.old.held.value (status_of result) handle.new.held.value
+        (λ old new. DiskLoaded old request.now bytes.now (status_of result) new) }
+    ensures known { is_code result ≡ true }
+{
+    let Some(mut kept) = handle.take(alloc) else {
+        return Status::Closed.code();
+    };
+    let status = match &mut *kept {
+        Kept::Disk(disk) => loaded(disk, alloc, request, bytes),
+        Kept::Pm(_) | Kept::Machine(_) => Status::Closed,
+    };
+    *handle = Handle::open(kept);
+    status.code()
+}
+
+/// A store, a flush or a discard was done.
+#[unsafe(no_mangle)]
+pub extern "C" fn gefsunk_disk_answer_done(
+    handle: &mut Handle,
+    alloc: Global,
+    request: &MediumRequest,
+) -> u32
+    ensures rule { AtDisk handle.old.held.value (status_of result) handle.new.held.value
+        (λ old new. DiskAnswer old request.now WasDone (status_of result) new) }
+    ensures known { is_code result ≡ true }
+{
+    let Some(mut kept) = handle.take(alloc) else {
+        return Status::Closed.code();
+    };
+    let status = match &mut *kept {
+        Kept::Disk(disk) => answer(disk, request, Answer::Done),
+        Kept::Pm(_) | Kept::Machine(_) => Status::Closed,
+    };
+    *handle = Handle::open(kept);
+    status.code()
+}
+
+/// A request could not be done.
+#[unsafe(no_mangle)]
+pub extern "C" fn gefsunk_disk_answer_failed(
+    handle: &mut Handle,
+    alloc: Global,
+    request: &MediumRequest,
+    error: u32,
+    lba: u64,
+) -> u32
+    ensures rule { AtDisk handle.old.held.value (status_of result) handle.new.held.value
+        (λ old new. DiskFailed old request.now error lba (status_of result) new) }
+    ensures known { is_code result ≡ true }
+{
+    let Some(mut kept) = handle.take(alloc) else {
+        return Status::Closed.code();
+    };
+    let status = match &mut *kept {
+        Kept::Disk(disk) => failed(disk, request, error, lba),
+        Kept::Pm(_) | Kept::Machine(_) => Status::Closed,
+    };
+    *handle = Handle::open(kept);
+    status.code()
+}
+
+/// Gives bytes of a store.
+#[unsafe(no_mangle)]
+pub extern "C" fn gefsunk_disk_stored(
+    handle: &mut Handle,
+    alloc: Global,
+    request: &MediumRequest,
+    from: usize,
+    room: &mut [u8],
+    len: &mut usize,
+) -> u32
+    ensures rule { AtDisk handle.old.held.value (status_of result) handle.new.held.value
+        (λ old new. DiskStored old request.now from (length room.old) (status_of result) (take len.new room.new) × (new ≡ old)) }
+    ensures known { is_code result ≡ true }
+    ensures kept { status_of result ≢ status.Done → (room.new ≡ room.old) × (len.new ≡ len.old) }
+    ensures within { status_of result ≡ status.Done → len.new ≤ length room.old }
+    ensures rest { drop len.new room.new ≡ drop len.new room.old }
+{
+    let Some(kept) = handle.take(alloc) else {
+        return Status::Closed.code();
+    };
+    let status = match &*kept {
+        Kept::Disk(disk) => stored(disk, request, from, room, len),
+        Kept::Pm(_) | Kept::Machine(_) => Status::Closed,
+    };
+    *handle = Handle::open(kept);
+    status.code()
+}
+
+/// Gives a range of a discard.
+#[unsafe(no_mangle)]
+pub extern "C" fn gefsunk_disk_discarded(
+    handle: &mut Handle,
+    alloc: Global,
+    number: usize,
+    range: &mut SectorRange,
+) -> u32
+    ensures rule { AtDisk handle.old.held.value (status_of result) handle.new.held.value
+        (λ old new. DiskDiscarded old number (status_of result) range.new × (new ≡ old)) }
+    ensures known { is_code result ≡ true }
+    ensures kept { status_of result ≢ status.Done → range.new ≡ range.old }
+{
+    let Some(kept) = handle.take(alloc) else {
+        return Status::Closed.code();
+    };
+    let status = match &*kept {
+        Kept::Disk(disk) => range_at(disk.ranges(), number, range),
+        Kept::Pm(_) | Kept::Machine(_) => Status::Closed,
+    };
+    *handle = Handle::open(kept);
+    status.code()
 }

@@ -1,7 +1,9 @@
-//! What a machine asks, as C sees it.
+//! What a machine asks, or a disk by itself, as C sees it.
 
 ghost use Rattle.std.specs.Prelude.{◌≡◌};
-ghost use Rattle.gefsunk.specs.Machines.{event_of, id_named, medium_shown, no_request, no_wanted, place_named, plain, request_shown, wanted_named, wanted_shown};
+ghost use Rattle.gefsunk.specs.Disks.{asked_event, is_own};
+ghost use Rattle.gefsunk.specs.Machines.{event_of, id_named, wanted_named, wanted_shown};
+ghost use Rattle.gefsunk.specs.Media.{medium_shown, no_request, no_wanted, place_named, plain, request_shown};
 
 use ahci_machine::{GuestRead, MediumId, Request, Wanted};
 use block_engine::What;
@@ -57,11 +59,11 @@ pub struct WantedBytes {
 #[repr(C)]
 #[derive(Clone, Copy, Debug, PartialEq, Eq)]
 pub struct MediumRequest {
-    /// The port of the disk.
+    /// The port of the disk, 0 where it is by itself.
     pub port: u32,
     /// The place of its command, 33 for none.
     pub place: u32,
-    /// Which disk of this port it is.
+    /// Which disk of this port it is, 0 where it is by itself.
     pub disk: u64,
     /// The number of the request at that disk.
     pub number: u64,
@@ -183,6 +185,13 @@ impl MediumRequest {
         })
     }
 
+    /// Whether it can be one of a disk by itself.
+    pub fn is_own(self) -> bool
+        ensures { result ≡ is_own self }
+    {
+        self.port == 0 && self.disk == 0
+    }
+
     /// The place of its command, if it has one.
     pub fn place(self) -> Option<u8>
         ensures { result ≡ place_named self }
@@ -271,5 +280,20 @@ impl Event {
             Request::ToDevice(port) => Event::at_port(TO_DEVICE, port),
             Request::Begins(port) => Event::at_port(BEGINS, port),
         }
+    }
+
+    /// What a disk by itself asks.
+    pub fn asked(request: Option<block_engine::Request>) -> Event
+        ensures { result ≡ asked_event request }
+    {
+        let Some(asked) = request else {
+            return Event::of(NOTHING);
+        };
+        let id = MediumId {
+            port: 0,
+            disk: 0,
+            number: asked.number,
+        };
+        Event::medium(id, asked.place, asked.what)
     }
 }

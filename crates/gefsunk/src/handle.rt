@@ -1,4 +1,4 @@
-//! What C holds of a multiplier, a disk or a controller: a struct in its own storage, with a pointer to a value that
+//! What C holds of a multiplier, a disk or a machine: a struct in its own storage, with a pointer to a value that
 //! this library owns.
 //!
 //! Only four small functions handle pointers: [`Loose::of`], [`Held::from_loose`], [`Held::into_box`] and
@@ -77,7 +77,7 @@ impl Held {
 }
 
 /// A handle, as C has it in its own storage. It is open if its mark says so. Then it has
-/// a multiplier, a disk or a controller.
+/// a multiplier, a disk or a machine.
 #[repr(C)]
 #[derive(Drop)]
 pub struct Handle {

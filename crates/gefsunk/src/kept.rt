@@ -2,8 +2,7 @@
 
 use crate::pm::Pm;
 use ahci_machine::Machine;
-use failing_disk::FailingDisk;
-use guest_port::GuestPort;
+use sata_disk::SataDisk;
 
 /// What stands behind a handle. One kind of handle keeps all, so that a handle of one kind that is given to
 /// a call for another is found out.
@@ -12,9 +11,7 @@ pub enum Kept {
     /// A port multiplier.
     Pm(Pm),
     /// A disk.
-    Disk(FailingDisk),
-    /// A controller of one port.
-    Hba(GuestPort),
+    Disk(SataDisk),
     /// A controller with what is behind it.
     Machine(Machine),
 }

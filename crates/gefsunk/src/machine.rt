@@ -263,7 +263,7 @@ pub extern "C" fn gefsunk_machine_free(handle: &mut Handle, alloc: Global) -> u3
     };
     match &*kept {
         Kept::Machine(_) => Status::Done.code(),
-        Kept::Pm(_) | Kept::Disk(_) | Kept::Hba(_) => {
+        Kept::Pm(_) | Kept::Disk(_) => {
             *handle = Handle::open(kept);
             Status::Closed.code()
         }
@@ -289,7 +289,7 @@ pub extern "C" fn gefsunk_machine_read(
     };
     let status = match &*kept {
         Kept::Machine(machine) => read(machine, offset, width, value),
-        Kept::Pm(_) | Kept::Disk(_) | Kept::Hba(_) => Status::Closed,
+        Kept::Pm(_) | Kept::Disk(_) => Status::Closed,
     };
     *handle = Handle::open(kept);
     status.code()
@@ -313,7 +313,7 @@ pub extern "C" fn gefsunk_machine_write(
     };
     let status = match &mut *kept {
         Kept::Machine(machine) => write(machine, offset, width, value),
-        Kept::Pm(_) | Kept::Disk(_) | Kept::Hba(_) => Status::Closed,
+        Kept::Pm(_) | Kept::Disk(_) => Status::Closed,
     };
     *handle = Handle::open(kept);
     status.code()
@@ -344,7 +344,7 @@ pub extern "C" fn gefsunk_machine_put_disk(
     };
     let status = match &mut *kept {
         Kept::Machine(machine) => put_disk(machine, alloc, port, numbers, &texts),
-        Kept::Pm(_) | Kept::Disk(_) | Kept::Hba(_) => Status::Closed,
+        Kept::Pm(_) | Kept::Disk(_) => Status::Closed,
     };
     *handle = Handle::open(kept);
     status.code()
@@ -362,7 +362,7 @@ pub extern "C" fn gefsunk_machine_put_device(handle: &mut Handle, alloc: Global,
     };
     let status = match &mut *kept {
         Kept::Machine(machine) => put(machine, port, Unit::Own),
-        Kept::Pm(_) | Kept::Disk(_) | Kept::Hba(_) => Status::Closed,
+        Kept::Pm(_) | Kept::Disk(_) => Status::Closed,
     };
     *handle = Handle::open(kept);
     status.code()
@@ -380,7 +380,7 @@ pub extern "C" fn gefsunk_machine_plug(handle: &mut Handle, alloc: Global, port:
     };
     let status = match &mut *kept {
         Kept::Machine(machine) => plug(machine, port),
-        Kept::Pm(_) | Kept::Disk(_) | Kept::Hba(_) => Status::Closed,
+        Kept::Pm(_) | Kept::Disk(_) => Status::Closed,
     };
     *handle = Handle::open(kept);
     status.code()
@@ -398,7 +398,7 @@ pub extern "C" fn gefsunk_machine_pull(handle: &mut Handle, alloc: Global, port:
     };
     let status = match &mut *kept {
         Kept::Machine(machine) => pull(machine, alloc, port),
-        Kept::Pm(_) | Kept::Disk(_) | Kept::Hba(_) => Status::Closed,
+        Kept::Pm(_) | Kept::Disk(_) => Status::Closed,
     };
     *handle = Handle::open(kept);
     status.code()
@@ -416,7 +416,7 @@ pub extern "C" fn gefsunk_machine_remove(handle: &mut Handle, alloc: Global, por
     };
     let status = match &mut *kept {
         Kept::Machine(machine) => remove(machine, alloc, port),
-        Kept::Pm(_) | Kept::Disk(_) | Kept::Hba(_) => Status::Closed,
+        Kept::Pm(_) | Kept::Disk(_) => Status::Closed,
     };
     *handle = Handle::open(kept);
     status.code()
@@ -434,7 +434,7 @@ pub extern "C" fn gefsunk_machine_power_on(handle: &mut Handle, alloc: Global) -
     };
     let status = match &mut *kept {
         Kept::Machine(machine) => power_on(machine),
-        Kept::Pm(_) | Kept::Disk(_) | Kept::Hba(_) => Status::Closed,
+        Kept::Pm(_) | Kept::Disk(_) => Status::Closed,
     };
     *handle = Handle::open(kept);
     status.code()
@@ -453,7 +453,7 @@ pub extern "C" fn gefsunk_machine_next(handle: &mut Handle, alloc: Global, event
     };
     let status = match &mut *kept {
         Kept::Machine(machine) => next(machine, alloc, event),
-        Kept::Pm(_) | Kept::Disk(_) | Kept::Hba(_) => Status::Closed,
+        Kept::Pm(_) | Kept::Disk(_) => Status::Closed,
     };
     *handle = Handle::open(kept);
     status.code()
@@ -479,7 +479,7 @@ pub extern "C" fn gefsunk_machine_lent(
     };
     let status = match &*kept {
         Kept::Machine(machine) => lent(machine, room, len),
-        Kept::Pm(_) | Kept::Disk(_) | Kept::Hba(_) => Status::Closed,
+        Kept::Pm(_) | Kept::Disk(_) => Status::Closed,
     };
     *handle = Handle::open(kept);
     status.code()
@@ -502,7 +502,7 @@ pub extern "C" fn gefsunk_machine_supply(
     };
     let status = match &mut *kept {
         Kept::Machine(machine) => supply(machine, alloc, wanted, bytes),
-        Kept::Pm(_) | Kept::Disk(_) | Kept::Hba(_) => Status::Closed,
+        Kept::Pm(_) | Kept::Disk(_) => Status::Closed,
     };
     *handle = Handle::open(kept);
     status.code()
@@ -524,7 +524,7 @@ pub extern "C" fn gefsunk_machine_no_memory(
     };
     let status = match &mut *kept {
         Kept::Machine(machine) => no_memory(machine, wanted),
-        Kept::Pm(_) | Kept::Disk(_) | Kept::Hba(_) => Status::Closed,
+        Kept::Pm(_) | Kept::Disk(_) => Status::Closed,
     };
     *handle = Handle::open(kept);
     status.code()
@@ -547,7 +547,7 @@ pub extern "C" fn gefsunk_machine_answer_loaded(
     };
     let status = match &mut *kept {
         Kept::Machine(machine) => medium::loaded(machine, alloc, request, bytes),
-        Kept::Pm(_) | Kept::Disk(_) | Kept::Hba(_) => Status::Closed,
+        Kept::Pm(_) | Kept::Disk(_) => Status::Closed,
     };
     *handle = Handle::open(kept);
     status.code()
@@ -569,7 +569,7 @@ pub extern "C" fn gefsunk_machine_answer_done(
     };
     let status = match &mut *kept {
         Kept::Machine(machine) => medium::done(machine, request),
-        Kept::Pm(_) | Kept::Disk(_) | Kept::Hba(_) => Status::Closed,
+        Kept::Pm(_) | Kept::Disk(_) => Status::Closed,
     };
     *handle = Handle::open(kept);
     status.code()
@@ -593,7 +593,7 @@ pub extern "C" fn gefsunk_machine_answer_failed(
     };
     let status = match &mut *kept {
         Kept::Machine(machine) => medium::failed(machine, request, error, lba),
-        Kept::Pm(_) | Kept::Disk(_) | Kept::Hba(_) => Status::Closed,
+        Kept::Pm(_) | Kept::Disk(_) => Status::Closed,
     };
     *handle = Handle::open(kept);
     status.code()
@@ -621,7 +621,7 @@ pub extern "C" fn gefsunk_machine_stored(
     };
     let status = match &*kept {
         Kept::Machine(machine) => medium::stored(machine, request, from, room, len),
-        Kept::Pm(_) | Kept::Disk(_) | Kept::Hba(_) => Status::Closed,
+        Kept::Pm(_) | Kept::Disk(_) => Status::Closed,
     };
     *handle = Handle::open(kept);
     status.code()
@@ -646,7 +646,7 @@ pub extern "C" fn gefsunk_machine_discarded(
     };
     let status = match &*kept {
         Kept::Machine(machine) => medium::discarded(machine, request, number, range),
-        Kept::Pm(_) | Kept::Disk(_) | Kept::Hba(_) => Status::Closed,
+        Kept::Pm(_) | Kept::Disk(_) => Status::Closed,
     };
     *handle = Handle::open(kept);
     status.code()
@@ -673,7 +673,7 @@ pub extern "C" fn gefsunk_machine_take_frame(
     };
     let status = match &mut *kept {
         Kept::Machine(machine) => take_frame(machine, port, room, len),
-        Kept::Pm(_) | Kept::Disk(_) | Kept::Hba(_) => Status::Closed,
+        Kept::Pm(_) | Kept::Disk(_) => Status::Closed,
     };
     *handle = Handle::open(kept);
     status.code()
@@ -696,7 +696,7 @@ pub extern "C" fn gefsunk_machine_offer(
     };
     let status = match &mut *kept {
         Kept::Machine(machine) => offer(machine, alloc, port, fis),
-        Kept::Pm(_) | Kept::Disk(_) | Kept::Hba(_) => Status::Closed,
+        Kept::Pm(_) | Kept::Disk(_) => Status::Closed,
     };
     *handle = Handle::open(kept);
     status.code()

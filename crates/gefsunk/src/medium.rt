@@ -1,8 +1,9 @@
-//! What C answers for the media of a machine, and what it reads of their requests.
+//! What C answers for the media of disks, and what it reads of their requests: of a disk of a machine, and of one by itself.
 
 ghost use Rattle.std.specs.Prelude.{◌≡◌, ◌≢◌, ◌≤◌, drop, length, take};
 ghost use Rattle.block_engine.specs.declared.request.Answer.TheVariants.{Done as WasDone};
-ghost use Rattle.gefsunk.specs.Machines.{AnswerRule, DiscardedRule, FailRule, LoadedRule, StoredRule, piece, range_shown, refusal_of};
+ghost use Rattle.gefsunk.specs.Machines.{AnswerRule, DiscardedRule, FailRule, LoadedRule, StoredRule, refusal_of};
+ghost use Rattle.gefsunk.specs.Media.{RangeRule, error_of, misfit_of, piece, range_shown};
 
 use crate::event::MediumRequest;
 use crate::status::Status;
@@ -21,15 +22,36 @@ pub struct SectorRange {
     pub count: u64,
 }
 
+/// Why an answer does not fit its request.
+pub fn misfit(error: AnswerError) -> Status
+    ensures { result ≡ misfit_of error }
+{
+    match error {
+        AnswerError::NotOut => Status::NotOut,
+        AnswerError::OtherKind => Status::OtherKind,
+        AnswerError::OtherLength => Status::OtherLength,
+        AnswerError::OtherSector => Status::OtherSector,
+    }
+}
+
 fn refused(error: MediumError) -> Status
     ensures { result ≡ refusal_of error }
 {
     match error {
         MediumError::OtherDisk => Status::OtherDisk,
-        MediumError::Answer(AnswerError::NotOut) => Status::NotOut,
-        MediumError::Answer(AnswerError::OtherKind) => Status::OtherKind,
-        MediumError::Answer(AnswerError::OtherLength) => Status::OtherLength,
-        MediumError::Answer(AnswerError::OtherSector) => Status::OtherSector,
+        MediumError::Answer(error) => misfit(error),
+    }
+}
+
+/// How a request can fail, by the bits of the Error register.
+pub fn error_kind(bits: u32) -> Option<ErrorKind>
+    ensures { result ≡ error_of bits }
+{
+    match bits {
+        0x40 => Some(ErrorKind::Uncorrectable),
+        0x10 => Some(ErrorKind::NotFound),
+        0x04 => Some(ErrorKind::Aborted),
+        _ => None,
     }
 }
 
@@ -68,11 +90,8 @@ pub fn done(machine: &mut Machine, request: &MediumRequest) -> Status
 pub fn failed(machine: &mut Machine, request: &MediumRequest, error: u32, lba: u64) -> Status
     ensures { FailRule machine.old request.now error lba result machine.new }
 {
-    let error = match error {
-        0x40 => ErrorKind::Uncorrectable,
-        0x10 => ErrorKind::NotFound,
-        0x04 => ErrorKind::Aborted,
-        _ => return Status::BadError,
+    let Some(error) = error_kind(error) else {
+        return Status::BadError;
     };
     answer(machine, request, Answer::Failed(Failure { error, lba }))
 }
@@ -133,7 +152,21 @@ fn shown(range: Range) -> SectorRange
     }
 }
 
-/// The range of a discard that has this number.
+/// The range that has this number.
+pub fn range_at(ranges: &[Range], number: usize, range: &mut SectorRange) -> Status
+    ensures rule { RangeRule ranges.now number result range.new }
+    ensures kept { result ≢ Status.Done → range.new ≡ range.old }
+{
+    match ranges.get(number) {
+        Some(found) => {
+            *range = shown(*found);
+            Status::Done
+        }
+        None => Status::Nothing,
+    }
+}
+
+/// The range of a discard of a machine's disk that has this number.
 pub fn discarded(
     machine: &Machine,
     request: &MediumRequest,
@@ -146,11 +179,5 @@ pub fn discarded(
     let Some(id) = request.id() else {
         return Status::OtherDisk;
     };
-    match machine.discarded(id).get(number) {
-        Some(found) => {
-            *range = shown(*found);
-            Status::Done
-        }
-        None => Status::Nothing,
-    }
+    range_at(machine.discarded(id), number, range)
 }

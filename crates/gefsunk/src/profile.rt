@@ -1,10 +1,10 @@
-//! A disk of a machine, as C describes it.
+//! A disk, as C describes it.
 
 ghost use Rattle.std.specs.Prelude.{◌≡◌, IfErr, IfOk, None, Ok, Some};
 ghost use Rattle.std.specs.Result.{IsErr};
 ghost use Rattle.disk_pages.specs.Texts.{text_of};
 ghost use Rattle.disk_pages.specs.Profiles.{depth_of};
-ghost use Rattle.gefsunk.specs.Machines.{IsBadText, IsProfile, MakesDisk, ProfileRefused, physical_of, rotation_of};
+ghost use Rattle.gefsunk.specs.Profiles.{IsBadText, IsProfile, MakesDisk, ProfileRefused, physical_of, rotation_of};
 
 use crate::status::Status;
 use disk_pages::{Capacity, IdentityText, PhysicalSector, Profile, QueueDepth, Rotation, Rpm};

@@ -36,12 +36,6 @@ pub enum Status {
     NoRegister = 15,
     /// The port has no number left for another device.
     Spent = 16,
-    /// A disk cannot have this size, this chunk, these flags or so many bad sectors.
-    BadDisk = 17,
-    /// The disk has no such sector.
-    NoSector = 18,
-    /// No command can have this tag.
-    NoTag = 19,
     /// An access to registers cannot have this many bytes.
     BadWidth = 20,
     /// A disk cannot have this many sectors.

@@ -1,0 +1,56 @@
+-- What a disk is (ACS-3, IDENTIFY DEVICE data), as C says it.
+use Rattle.std.specs.Prelude.{◌≡◌, ℕ, ◌≤◌, ◌<◌, ◌==◌, ◌⊎◌, not, if◌then◌else◌, List, IsUtf8, Option, Some, None, Result, Ok, Err}
+use Rattle.std.specs.Result.{IsErr}
+use Rattle.disk_pages.specs.Profiles.{capacity_of, depth_of, rpm_of}
+use Rattle.disk_pages.specs.Texts.{text_of}
+use Rattle.disk_pages.specs.declared.profile.NumberFault.{NumberFault}
+use Rattle.disk_pages.specs.declared.profile.PhysicalSector.{PhysicalSector}
+use Rattle.disk_pages.specs.declared.profile.PhysicalSector.TheVariants.{Bytes512, Bytes4096}
+use Rattle.disk_pages.specs.declared.profile.Profile.{Profile}
+use Rattle.disk_pages.specs.declared.profile.Rotation.{Rotation}
+use Rattle.disk_pages.specs.declared.profile.Rotation.TheVariants.{Unknown, Solid, Rotates}
+use Rattle.sata_disk.specs.State.{DiskState, new_disk}
+use Rattle.gefsunk.specs.declared.profile.DiskNumbers.{DiskNumbers}
+use Rattle.gefsunk.specs.declared.status.Status.{Status}
+use Rattle.gefsunk.specs.declared.status.Status.TheVariants as status
+
+abbrev pub physical_of : (bytes : ℕ) → Option PhysicalSector
+physical_of n = if n == 512 then Some Bytes512 else if n == 4096 then Some Bytes4096 else None
+
+abbrev pub turning : Result ℕ NumberFault → Result Rotation Status
+turning (Ok rpm) = Ok (Rotates rpm)
+turning (Err e) = Err status.BadRotation
+
+abbrev pub rotation_of : (number : ℕ) → Result Rotation Status
+rotation_of n = if n == 0 then Ok Unknown else if n == 1 then Ok Solid else turning (rpm_of n)
+
+pub record IsProfile (n : DiskNumbers) (a b c : List ℕ) (p : Profile) : Type 0 where
+  pub capacity : capacity_of n.sectors ≡ Ok p.capacity
+  pub model : text_of 40 a ≡ Ok p.model
+  pub serial : text_of 20 b ≡ Ok p.serial
+  pub firmware : text_of 8 c ≡ Ok p.firmware
+  pub wwn : p.wwn ≡ (if n.wwn == 0 then None else Some n.wwn)
+  pub depth : depth_of n.depth ≡ Ok p.depth
+  pub rotation : rotation_of n.rotation ≡ Ok p.rotation
+  pub physical : physical_of n.physical ≡ Some p.physical
+  pub trim : p.trim ≡ not (n.trim == 0)
+
+-- a text that does not fit its field, or is no text
+abbrev pub IsBadText : (room : ℕ) → List ℕ → Type 0
+IsBadText room bytes = IsErr (text_of room bytes) ⊎ (IsUtf8 bytes → ⊥)
+
+-- each refusal has its cause
+abbrev pub ProfileRefused : DiskNumbers → (model serial firmware : List ℕ) → Status → Type 0
+ProfileRefused n model serial firmware status.BadSectors = IsErr (capacity_of n.sectors)
+ProfileRefused n model serial firmware status.BadText = IsBadText 40 model ⊎ (IsBadText 20 serial ⊎ IsBadText 8 firmware)
+ProfileRefused n model serial firmware status.BadDepth = IsErr (depth_of n.depth)
+ProfileRefused n model serial firmware status.BadRotation = IsErr (rotation_of n.rotation)
+ProfileRefused n model serial firmware status.BadPhysical = physical_of n.physical ≡ None
+ProfileRefused n model serial firmware status.BadLimit = n.limit < 1048576
+ProfileRefused n model serial firmware status.NoMemory = Unit {0}
+ProfileRefused n model serial firmware _ = ⊥
+
+pub record MakesDisk (n : DiskNumbers) (model serial firmware : List ℕ) (d : DiskState) : Type 0 where
+  pub profile : IsProfile n model serial firmware d.profile
+  pub limit : 1048576 ≤ n.limit
+  pub is : d ≡ new_disk d.profile n.limit
