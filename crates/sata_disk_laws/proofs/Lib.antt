@@ -3,3 +3,4 @@ mod Exact
 mod Told
 mod Silent
 mod Beside
+mod Rows
