@@ -4,3 +4,4 @@ mod Told
 mod Silent
 mod Beside
 mod Rows
+mod Fits
