@@ -5,3 +5,6 @@ mod Silent
 mod Beside
 mod Rows
 mod Fits
+mod Left
+mod Quiet
+mod Over
