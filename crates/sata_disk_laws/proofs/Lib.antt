@@ -8,3 +8,4 @@ mod Fits
 mod Left
 mod Quiet
 mod Over
+mod Tracks
