@@ -9,3 +9,4 @@ mod Left
 mod Quiet
 mod Over
 mod Tracks
+mod AskedPlaces
