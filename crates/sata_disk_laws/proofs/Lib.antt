@@ -10,3 +10,4 @@ mod Quiet
 mod Over
 mod Tracks
 mod AskedPlaces
+mod Commands
