@@ -11,3 +11,4 @@ mod Over
 mod Tracks
 mod AskedPlaces
 mod Commands
+mod Owed
