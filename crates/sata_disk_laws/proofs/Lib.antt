@@ -12,3 +12,4 @@ mod Tracks
 mod AskedPlaces
 mod Commands
 mod Owed
+mod Speaks
