@@ -13,3 +13,4 @@ mod AskedPlaces
 mod Commands
 mod Owed
 mod Speaks
+mod Replies

@@ -52,10 +52,10 @@ none_closed h l lone = λ t low. (lone t low).0 ∙ sym (case (not (t == 32)) (l
     case true e = e
     case false e = refl
 
-same_lone : (h : Host) (l : Line) → LoneTags h l → SameTags h l
+pub same_lone : (h : Host) (l : Line) → LoneTags h l → SameTags h l
 same_lone h l lone = λ t low. (lone t low).0 ∙ sym (lone t low).1
 
-no_lone : (h : Host) (l : Line) → LoneTags h l → NoTags l
+pub no_lone : (h : Host) (l : Line) → LoneTags h l → NoTags l
 no_lone h l lone = λ t low. (lone t low).0
 
 -- the command that is not queued ended
@@ -153,7 +153,7 @@ page_tracks h f s l p e is = page_case h f s l f.task p refl e is is.beside is.w
 
 -- ## The end of a command beside the queue
 
-single_refused : (h : Host) → IsSingle h → IsRefused h h.waits
+pub single_refused : (h : Host) → IsSingle h → IsRefused h h.waits
 single_refused h w = let P : Wait → Type 0 = λ x. IsRefused h x in subst P (sym w.1) w.0
 
 over_case : (h : Host) (f : Front) (s : AsideStage) (l : Line) (st : Settings) (well : Bool) (t : Trouble) → Tracks h f s l → IsSingle h
