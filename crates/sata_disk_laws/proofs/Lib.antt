@@ -14,3 +14,4 @@ mod Commands
 mod Owed
 mod Speaks
 mod Replies
+mod Single

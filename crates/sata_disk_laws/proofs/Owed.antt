@@ -45,7 +45,7 @@ idle_tracks h h' f x st s s' l is beside waits shut reset over' tags faulty = re
   faulty = faulty;
 }
 
-none_closed : (h : Host) (l : Line) → LoneTags h l → SameTags (single_over h) l
+pub none_closed : (h : Host) (l : Line) → LoneTags h l → SameTags (single_over h) l
 none_closed h l lone = λ t low. (lone t low).0 ∙ sym (case (not (t == 32)) (lone t low).1)
   where
     case : (b : Bool) {x : Bool} → x ≡ false → (b && x) ≡ false

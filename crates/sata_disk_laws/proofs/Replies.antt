@@ -48,7 +48,7 @@ IsGood h d p r = IsDue h r × IsOfPlace p r × SentAs (reply_got h r) d p 0
 same_reply : (p q : ℕ) (r r' : Reply) → Some (out.Of p r) ≡ Some (out.Of q r') → r' ≡ r
 same_reply p q r r' e = cc
 
-by_reply : (h : Host) (d : DiskState) (p : ℕ) (r r' : Reply) → Some (out.Of p r) ≡ Some (out.Of p r') → IsGood h d p r' → IsGood h d p r
+pub by_reply : (h : Host) (d : DiskState) (p : ℕ) (r r' : Reply) → Some (out.Of p r) ≡ Some (out.Of p r') → IsGood h d p r' → IsGood h d p r
 by_reply h d p r r' e good = let P : Reply → Type 0 = λ x. IsGood h d p x in subst P (same_reply p p r r' e) good
 
 -- ## Queued commands
