@@ -15,3 +15,4 @@ mod Owed
 mod Speaks
 mod Replies
 mod Single
+mod Answered

@@ -102,7 +102,7 @@ set_up_ended false = refl
 queued_at : (h : Host) (q p : ℕ) → q ≡ p → IsQueued h p → IsQueued h q
 queued_at h q p e is = let P : ℕ → Type 0 = λ t. IsQueued h t in subst P (sym e) is
 
-queued_reply : (h : Host) (d : DiskState) (p : ℕ) (r : Reply) (c : Command) (done : ℕ) (bytes : List ℕ) (sent : ℕ) (stage : Stage)
+pub queued_reply : (h : Host) (d : DiskState) (p : ℕ) (r : Reply) (c : Command) (done : ℕ) (bytes : List ℕ) (sent : ℕ) (stage : Stage)
     → command_at (commands d) p ≡ Some (at c done bytes sent stage) → p < 32 → IsLine (commands d) → IsPlace p (at c done bytes sent stage)
     → sends_alone p (turn_of stage) ≡ true → Some (out.Of p r) ≡ out_at d p (Some (at c done bytes sent stage)) → IsQueued h p → d.front.task ≡ tasks.Idle
     → Tracks h d.front d.engine.stage (commands d) → IsGood h d p r
@@ -124,7 +124,7 @@ queued_reply h d p r c done bytes sent Fail there low is place sends e queued id
     ((p, queued), low, queued_fails h d p 0 low (ap (λ x. is_fail (turn_at x)) there) idle queued.2 tracks)
 queued_reply h d p r c done bytes sent stage there low is place sends e queued idle tracks = absurd (cc)
 
-queued_data : (h : Host) (d : DiskState) (p n : ℕ) (c : Command) (done : ℕ) (bytes : List ℕ) (sent : ℕ) (stage : Stage)
+pub queued_data : (h : Host) (d : DiskState) (p n : ℕ) (c : Command) (done : ℕ) (bytes : List ℕ) (sent : ℕ) (stage : Stage)
     → command_at (commands d) p ≡ Some (at c done bytes sent stage) → p < 32 → IsLine (commands d) → IsPlace p (at c done bytes sent stage)
     → Some (out.Data p n) ≡ out_at d p (Some (at c done bytes sent stage)) → IsQueued h p
     → Tracks h d.front d.engine.stage (commands d) → SentAs (data_got h) d p (n / 512)
