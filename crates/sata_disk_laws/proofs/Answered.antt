@@ -138,7 +138,7 @@ module _ (l k : Line) (a : AreEnded l k 32) where
         faulty = λ e. no_ended (is.faulty e);
       }
 
-ends_due : (h : Host) (d : DiskState) (tags : ℕ) → IsOut d (Some (out.Ends tags)) → IsLine (commands d) → Knows h d
+pub ends_due : (h : Host) (d : DiskState) (tags : ℕ) → IsOut d (Some (out.Ends tags)) → IsLine (commands d) → Knows h d
     → IsDue h (replies.Ends tags) × Knows (out_got h (out.Ends tags)) (after_sent d (out.Ends tags))
 ends_due h d tags is line' knows =
     let free = free_is (commands d) _ tags is.1.1 in (

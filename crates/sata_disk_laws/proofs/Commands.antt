@@ -463,7 +463,7 @@ reset_case h f e place a false clear low at' tracks is may = task_case h f e pla
 
 -- ## Which commands are heard
 
-owes_waits : (h : Host) (r : Reply) → OwesAs h r → waits_for_nothing h.waits ≡ false
+pub owes_waits : (h : Host) (r : Reply) → OwesAs h r → waits_for_nothing h.waits ≡ false
 owes_waits h replies.Signature w = ap waits_for_nothing w.0
 owes_waits h replies.Accepted w = accepted h.waits w.0
   where

@@ -16,3 +16,4 @@ mod Speaks
 mod Replies
 mod Single
 mod Answered
+mod Calls
