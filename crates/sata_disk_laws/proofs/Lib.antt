@@ -3,3 +3,17 @@ mod Exact
 mod Told
 mod Silent
 mod Beside
+mod Rows
+mod Fits
+mod Left
+mod Quiet
+mod Over
+mod Tracks
+mod AskedPlaces
+mod Commands
+mod Owed
+mod Speaks
+mod Replies
+mod Single
+mod Answered
+mod Calls

@@ -133,7 +133,7 @@ single_low : (x : Option ℕ) → ((k : ℕ) → x ≡ Some k → k < 32) → or
 single_low None low = omega arith
 single_low (Some k) low = let below = low k refl in omega (arith, below)
 
-place_low : (l : Line) → data_place l < 33
+pub place_low : (l : Line) → data_place l < 33
 unfolding data_place
 place_low l = single_low _ (λ k e. found_low (has_link l) 32 k e)
 

@@ -37,7 +37,7 @@ end_case : (l : Line) (tag : ℕ) (b : Bool) → (ends_at l tag && may_send l ta
 end_case l tag true e low is = line_after l (deed.Sends tag) is (low, (of_and _ _ e).1)
 end_case l tag false e low is = is
 
-ends_line : (l : Line) (n : ℕ) → n ≤ 32 → IsLine l → IsLine (ends_sent l n)
+pub ends_line : (l : Line) (n : ℕ) → n ≤ 32 → IsLine l → IsLine (ends_sent l n)
 unfolding ends_sent
 ends_line l zero low is = is
 ends_line l (suc n) low is = end_case (ends_sent l n) n _ refl (omega (arith, low)) (ends_line l n (omega (arith, low)) is)
@@ -89,7 +89,7 @@ step_line e engine.SendsAside may is = is
 step_line e engine.Forgives may is = is
 step_line e engine.Resets may is = line_after (line e) deed.Resets is tt
 
-steps_line : (ss : List Step) (e : EngineState) → AreSteps e ss → IsLine (line e) → IsLine (line (after_steps e ss))
+pub steps_line : (ss : List Step) (e : EngineState) → AreSteps e ss → IsLine (line e) → IsLine (line (after_steps e ss))
 unfolding after_steps
 steps_line [] e are is = is
 steps_line (s ∷ ss) e are is = steps_line ss (after_step e s) are.1 (step_line e s are.0 is)

@@ -1,6 +1,7 @@
 //! The laws.
 
 ghost use Rattle.sata_disk_laws.specs.Asides.{AsidesAreEarned};
+ghost use Rattle.sata_disk_laws.specs.Once.{AnswersAreSingle, OpenIsUnderWay, PartsAreFrames};
 ghost use Rattle.sata_disk_laws.specs.Told.{FisesAreTold};
 ghost use Rattle.sata_disk_laws.specs.Laws.{DataAreNamed, DiscardsAreAlone, EndsAreEarned, NumbersAreFresh, RequestsAreApart, SilenceIsOwed, SomethingMoves};
 
@@ -76,3 +77,22 @@ pub fn asides_are_earned()
 {
     block_engine::asides_are_earned();
 }
+
+/// A law. In every run each FIS that ends a command goes while a command is open at its place: a tag, or the one place of the command
+/// that is not queued. So each command is answered at most once, and none from before a plug or a software reset. Each other FIS is of a
+/// command that is open, too, and the signature goes once for each plug and software reset. What is open is told by the FISes alone, those
+/// of the host and those that it got.
+pub fn answers_are_single()
+    ensures { AnswersAreSingle }
+{}
+
+/// A law. In every run the queued commands that a host has open are those that the disk has under way, where it waits for nothing. The
+/// disk hears a command exactly where the host waits for nothing, and SRST is clear.
+pub fn open_is_under_way()
+    ensures { OpenIsUnderWay }
+{}
+
+/// A law. In every run the Data FIS of a read that goes next has 1 to 16 whole sectors. So it has the length of a frame.
+pub fn parts_are_frames()
+    ensures { PartsAreFrames }
+{}

@@ -1,6 +1,12 @@
 -- A run that goes on.
-use Rattle.std.proofs.Common.{◌≡◌, ℕ, List, [], ◌∷◌, ◌++◌, Some, None, refl, sym, ap, ◌∙◌, subst}
-use Rattle.std.specs.Prelude.{Option, Result, Ok, Err, IfOk, IfSome, OnOk}
+use Rattle.std.proofs.Common.{◌≡◌, ℕ, ◌%◌, true, false, List, [], ◌∷◌, ◌++◌, length, Some, None, refl, sym, ap, ◌∙◌, subst, arith}
+use Rattle.std.specs.Prelude.{Bool, Option, Result, Ok, Err, IfOk, IfSome, OnOk}
+use Rattle.std.specs.Option.{option_map}
+use Rattle.std.proofs.lemmas.Bool.{and_from, eq-eqb, le-leb}
+use Rattle.fis_view.specs.Frames.{is_payload}
+use Rattle.block_command.specs.Moments.{Moment}
+use Rattle.block_queue.specs.Line.{command_at}
+use Rattle.ata_reply.specs.declared.reply.Reply.{Reply}
 use Rattle.std.specs.Result.{result_err}
 use Rattle.fis_view.specs.Frames.{Stamped}
 use Rattle.fis_view.specs.Seen.{seen}
@@ -8,14 +14,19 @@ use Rattle.block_command.specs.declared.answer.AnswerError.{AnswerError}
 use Rattle.block_engine.specs.declared.request.Answer.{Answer}
 use Rattle.block_engine.specs.declared.request.Request.{Request}
 use Rattle.block_engine.specs.Engine.{EngineState, IsAskedOf, IsEngineStart, IsRequested, answer_refusal, answered, started}
-use Rattle.sata_disk.specs.State.{DiskState, new_disk}
+use Rattle.sata_disk.specs.State.{DiskState, commands, new_disk}
 use Rattle.sata_disk.specs.Hearing.{MayHear, fis_heard}
-use Rattle.sata_disk.specs.Sending.{IsFis, IsOut}
+use Rattle.sata_disk.specs.Sending.{IsFis, IsOut, out_at, out_by, part_at, reply_at}
 use Rattle.sata_disk.specs.declared.out.Out.{Out}
+use Rattle.sata_disk.specs.declared.out.Out.TheVariants as out
 use Rattle.sata_disk.specs.declared.unheard.Unheard.{Unheard}
 use Rattle.sata_disk_laws.specs.Told.{FisesAreTold, Says}
 use Rattle.sata_disk_laws.specs.Calls.{Answers, AreCalls, Asks, Hears, Starts, Call, IsCall, after_call, after_calls, asked_by}
-use Rattle.uses_sata_disk.specs.Reached.{Extends}
+use Rattle.sata_disk_laws.specs.Calls.{Sends}
+use Rattle.sata_disk_laws.specs.Laws.{reached}
+use Rattle.sata_disk_laws.specs.Once.{AnswersAreSingle, AreDue, Host, IsCallDue, IsChunk, IsHostOf, PartsAreFrames, host_after, host_of, new_host}
+use Rattle.disk_pages.specs.declared.profile.Profile.{Profile}
+use Rattle.uses_sata_disk.specs.Reached.{Extends, IsOutOf, IsReached}
 
 are_more : (calls : List Call) (d : DiskState) (c : Call) → AreCalls d calls → IsCall (after_calls d calls) c → AreCalls d (calls ++ c ∷ [])
 unfolding after_calls
@@ -72,3 +83,48 @@ pub told_more : {B : Type 0} (d : DiskState) (o : Out) (result : Result Stamped 
     → IfOk result (λ f. IsFis d o f.bytes) → IfOk result (λ f. Says d o f.bytes)
 told_more d o (Ok f) told is fis = told d o f.bytes is fis
 told_more d o (Err x) told is fis = tt
+
+-- ## What the host has open
+
+due_last : (calls : List Call) (h : Host) (c : Call) → AreDue h (calls ++ c ∷ []) → IsCallDue (host_of h calls) c
+unfolding host_of
+due_last [] h c are = are.0
+due_last (b ∷ later) h c are = due_last later (host_after h b) c are.1
+
+pub out_of : (d : DiskState) (o : Out) → AnswersAreSingle → IsOut d (Some o) → IsOutOf d o
+out_of d o single is = λ p limit calls r.
+    due_last calls new_host (Sends o) (single p limit (calls ++ Sends o ∷ []) (are_more calls (new_disk p limit) (Sends o) r.0 (subst (λ x. IsOut x (Some o)) r.1 is)))
+
+pub host_here : {d : DiskState} (p : Profile) (limit : ℕ) (calls : List Call) → d ≡ after_calls (new_disk p limit) calls
+    → IsHostOf (host_of new_host calls) (reached p limit calls) → IsHostOf (host_of new_host calls) d
+host_here p limit calls e is = subst (λ x. IsHostOf (host_of new_host calls) x) (sym e) is
+
+-- ## Data that go
+
+same_data : (p n k : ℕ) → Some (out.Data p n) ≡ Some (out.Data p k) → n ≡ k
+same_data p n k e = cc
+
+some_part : (d : DiskState) (p n : ℕ) (m : Moment) (b : Bool) → Some (out.Data p n) ≡ out_by d p m b → n ≡ length (part_at (Some m))
+some_part d p n m true e = same_data p n _ e
+some_part d p n m false e = absurd (by_reply (reply_at d p m) e)
+  where
+    by_reply : (x : Option Reply) → Some (out.Data p n) ≡ option_map (λ r. out.Of p r) x → ⊥
+    by_reply None e = cc
+    by_reply (Some r) e = cc
+
+part_is : (d : DiskState) (p n : ℕ) (x : Option Moment) → Some (out.Data p n) ≡ out_at d p x → n ≡ length (part_at x)
+part_is d p n None e = absurd (cc)
+part_is d p n (Some m) e = some_part d p n m _ e
+
+chunk_pays : (bytes : List ℕ) → IsChunk (length bytes) → is_payload bytes ≡ true
+chunk_pays bytes is =
+    let some = is.some in let most = is.most in let whole = is.whole in
+    and_from _ _ (and_from _ _ (le-leb 4 (length bytes) (omega (arith, some))) (le-leb (length bytes) 8192 most))
+    (eq-eqb (length bytes % 4) 0 (omega (arith, whole)))
+
+pub pays : (d : DiskState) (place n : ℕ) (bytes : List ℕ) → PartsAreFrames → IsOut d (Some (out.Data place n)) → bytes ≡ part_at (command_at (commands d) place)
+    → (p : Profile) (limit : ℕ) (calls : List Call) → IsReached p limit calls d → is_payload bytes ≡ true
+pays d place n bytes parts is e = λ p limit calls r.
+    let long : n ≡ length bytes = part_is d place n (command_at (commands d) place) is.3 ∙ sym (ap length e) in
+    let P : ℕ → Type 0 = λ k. IsChunk k in
+    chunk_pays bytes (subst P long (parts p limit calls place n r.0 (subst (λ x. IsOut x (Some (out.Data place n))) r.1 is)))

@@ -4,8 +4,10 @@ use Rattle.block_disk.specs.Requests.{AreSeenRightly, no_books}
 use Rattle.block_queue.specs.Deeds.{AllAreApart, AreNamed}
 use Rattle.disk_pages.specs.declared.profile.Profile.{Profile}
 use Rattle.sata_disk.specs.State.{DiskState, new_disk}
+use Rattle.sata_disk.specs.declared.out.Out.{Out}
 use Rattle.sata_disk_laws.specs.Calls.{AreCalls, Call, after_calls}
 use Rattle.sata_disk_laws.specs.Laws.{seen_in}
+use Rattle.sata_disk_laws.specs.Once.{AreDue, IsHostOf, IsOutDue, host_of, new_host}
 
 abbrev pub IsReached : Profile → ℕ → List Call → DiskState → Type 0
 IsReached p limit calls d = AreCalls (new_disk p limit) calls × (d ≡ after_calls (new_disk p limit) calls)
@@ -19,3 +21,13 @@ pub record HasLaws (d : DiskState) : Type 0 where
   pub earned : (p : Profile) (limit : ℕ) (calls : List Call) → IsReached p limit calls d → AreSeenRightly no_books (seen_in p limit calls)
   pub apart : (p : Profile) (limit : ℕ) (calls : List Call) → IsReached p limit calls d → AllAreApart [] (seen_in p limit calls)
   pub named : (p : Profile) (limit : ℕ) (calls : List Call) → IsReached p limit calls d → AreNamed None (seen_in p limit calls)
+  pub due : (p : Profile) (limit : ℕ) (calls : List Call) → IsReached p limit calls d → AreDue new_host calls
+  pub host : (p : Profile) (limit : ℕ) (calls : List Call) → IsReached p limit calls d → IsHostOf (host_of new_host calls) d
+
+-- whatever run led to a disk, this FIS is of a command that its host has open then
+abbrev pub IsOutOf : DiskState → Out → Type 0
+IsOutOf d o = (p : Profile) (limit : ℕ) (calls : List Call) → IsReached p limit calls d → IsOutDue (host_of new_host calls) o
+
+-- it holds of a disk that a run led to
+abbrev pub IfReached : DiskState → Type 0 → Type 0
+IfReached d holds = (p : Profile) (limit : ℕ) (calls : List Call) → IsReached p limit calls d → holds

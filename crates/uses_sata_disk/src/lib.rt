@@ -1,17 +1,22 @@
 //! A caller of a SATA disk that has its laws for whatever run led to it.
 #![tactic(auto)]
 
-ghost use Rattle.std.specs.Prelude.{◌≡◌, IfOk, IfSome, OnOk, Some};
+ghost use Rattle.std.specs.Prelude.{◌≡◌, ◌≢◌, Err, IfOk, IfSome, OnOk, Some};
+ghost use Rattle.fis_view.specs.declared.frame.FrameError.TheVariants as FrameError;
 ghost use Rattle.sata_disk.specs.Sending.{IsFis, IsOut};
+ghost use Rattle.sata_disk.specs.declared.out.Out.TheVariants.{Data};
 ghost use Rattle.sata_disk_laws.specs.Calls.{Answers, Asks, Hears, Plugs, Sends, Starts};
 ghost use Rattle.sata_disk_laws.specs.Told.{Says};
-ghost use Rattle.uses_sata_disk.specs.Reached.{Extends, HasLaws};
+ghost use Rattle.uses_sata_disk.specs.Reached.{Extends, HasLaws, IfReached, IsOutOf};
 
 use block_command::AnswerError;
 use block_engine::{Answer, Request};
-use fis_view::{Frame, FrameError, Stamp};
+use fis_view::{Frame, FrameError, Stamp, payload};
 use sata_disk::{Out, SataDisk, Unheard};
-use sata_disk_laws::{data_are_named, ends_are_earned, fises_are_told, requests_are_apart};
+use sata_disk_laws::{
+    answers_are_single, data_are_named, ends_are_earned, fises_are_told, open_is_under_way,
+    parts_are_frames, requests_are_apart,
+};
 use std::alloc::{AllocError, Global};
 
 /// Plugs the disk in.
@@ -62,11 +67,28 @@ pub fn make(alloc: Global, disk: &SataDisk, out: Out, stamp: Stamp) -> Result<Fr
     disk.frame(alloc, out, stamp)
 }
 
-/// The FIS was sent.
+/// Makes the Data FIS that goes next. At a disk that a run led to it fails where memory is refused, and nowhere else.
+pub fn make_data(
+    alloc: Global,
+    disk: &SataDisk,
+    place: u8,
+    length: u16,
+    stamp: Stamp,
+) -> Result<Frame, FrameError>
+    requires { IsOut disk.now (Some (Data place length)) }
+    ensures { IfReached disk.now (result ≢ Err FrameError.BadLength) }
+{
+    parts_are_frames();
+    payload(alloc, 0, disk.part(place), stamp)
+}
+
+/// The FIS was sent. It is of a command that the host has open: so it answers none twice, and none from before a plug or a reset.
 pub fn send(disk: &mut SataDisk, out: Out)
     requires { IsOut disk.old (Some out) }
-    ensures { Extends disk.old disk.new (Sends out) }
+    ensures sent { Extends disk.old disk.new (Sends out) }
+    ensures due { IsOutOf disk.old out }
 {
+    answers_are_single();
     disk.sent(out);
 }
 
@@ -78,4 +100,6 @@ pub fn laws(disk: &SataDisk)
     ends_are_earned();
     requests_are_apart();
     data_are_named();
+    answers_are_single();
+    open_is_under_way();
 }

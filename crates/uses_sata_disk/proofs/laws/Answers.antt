@@ -1,3 +1,4 @@
+use Rattle.uses_sata_disk.proofs.More.{host_here}
 use Rattle.uses_sata_disk.proofs.laws.Goals as goal
 
 pub returns : goal.returns
@@ -5,4 +6,6 @@ returns c = record {
   earned = λ p limit calls r. c.ends_are_earned.ensures p limit calls r.0;
   apart = λ p limit calls r. c.requests_are_apart.ensures p limit calls r.0;
   named = λ p limit calls r. c.data_are_named.ensures p limit calls r.0;
+  due = λ p limit calls r. c.answers_are_single.ensures p limit calls r.0;
+  host = λ p limit calls r. host_here p limit calls r.1 (c.open_is_under_way.ensures p limit calls r.0);
 }

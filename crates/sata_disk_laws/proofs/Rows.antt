@@ -1,0 +1,80 @@
+-- Rows of the walk along the FISes, worked out.
+use Rattle.std.proofs.Common.{◌≡◌, ℕ, true, false, List, [], ◌∷◌, refl, arith}
+use Rattle.fis_view.specs.Bits.{bits}
+use Rattle.fis_view.specs.Seen.{seen}
+use Rattle.fis_view.specs.Table.{field, places, spelled}
+use Rattle.ata_reply.specs.declared.reply.AtaError.TheVariants.{Uncorrectable}
+use Rattle.ata_reply.specs.declared.reply.Reply.TheVariants as replies
+use Rattle.ata_front.specs.Fronts.{page_announced}
+use Rattle.ata_front.specs.declared.task.Page.TheVariants as pages
+use Rattle.sata_disk.specs.declared.out.Out.TheVariants as out
+use Rattle.sata_disk_laws.specs.Calls.{Call, Hears, Plugs, Sends}
+use Rattle.sata_disk_laws.specs.Once.{Host, ForAnswer, ForEnd, ForLast, ForNothing, ForSignature, IsDue, host_of, new_host, none_open, opened, closed, tags_closed}
+
+-- a Register FIS of these first bytes and this Count
+abbrev fis : (flags code count : ℕ) → (control : ℕ) → List ℕ
+fis flags code count control =
+    0x27 ∷ flags ∷ code ∷ 0 ∷ 0 ∷ 0 ∷ 0 ∷ 0x40 ∷ 0 ∷ 0 ∷ 0 ∷ 0 ∷ count ∷ 0 ∷ 0 ∷ control ∷ 0 ∷ 0 ∷ 0 ∷ 0 ∷ []
+
+-- plugged in, and the signature came
+abbrev start : List Call
+start = Plugs ∷ Sends (out.Own replies.Signature) ∷ []
+
+-- READ FPDMA QUEUED with tag 3, and its acceptance
+abbrev read_3 : List Call
+read_3 = Plugs ∷ Sends (out.Own replies.Signature) ∷ Hears (fis 0x80 0x60 0x18 0) ∷ Sends (out.Own replies.Accepted) ∷ []
+
+row_start : (host_of new_host start).waits ≡ ForNothing
+unfolding host_of
+row_start = refl
+
+row_tag : (host_of new_host (Hears (fis 0x80 0x60 0x18 0) ∷ [])).waits ≡ ForAnswer 3
+unfolding host_of seen field places spelled bits
+row_tag = refl
+
+row_open : (host_of new_host read_3).open_at 3 ≡ true
+unfolding host_of seen field places spelled bits
+row_open = refl
+
+row_other : (host_of new_host read_3).open_at 2 ≡ false
+unfolding host_of seen field places spelled bits
+row_other = refl
+
+-- the Set Device Bits FIS with bit 3 is due, and none with bit 3 after it
+row_twice : IsDue (host_of new_host (Plugs ∷ Sends (out.Own replies.Signature) ∷ Hears (fis 0x80 0x60 0x18 0) ∷ Sends (out.Own replies.Accepted)
+    ∷ Sends (out.Ends 8) ∷ [])) (replies.Ends 8) → ⊥
+unfolding host_of seen field places spelled bits
+row_twice due = let none = (due 3 (omega arith) refl).1 in cc
+
+-- IDENTIFY DEVICE: its one block ends it
+row_identify : (host_of new_host (Hears (fis 0x80 0xEC 0 0) ∷ [])).waits ≡ ForEnd
+unfolding host_of seen field places spelled bits
+row_identify = refl
+
+row_last : (host_of new_host (Hears (fis 0x80 0xEC 0 0) ∷ Sends (out.Own page_announced) ∷ [])).waits ≡ ForLast
+unfolding host_of seen field places spelled bits
+row_last = refl
+
+row_ended : (host_of new_host (Hears (fis 0x80 0xEC 0 0) ∷ Sends (out.Own page_announced) ∷ Sends (out.Page pages.Identity) ∷ [])).open_at 32 ≡ false
+unfolding host_of seen field places spelled bits
+row_ended = refl
+
+-- a software reset, and its end
+row_srst : (host_of new_host (Hears (fis 0x80 0x60 0x18 0) ∷ Hears (fis 0 0 0 4) ∷ Hears (fis 0 0 0 0) ∷ [])) ≡ record {
+  open_at = none_open;
+  waits = ForSignature;
+  in_reset = false;
+}
+unfolding host_of seen field places spelled bits
+row_srst = refl
+
+-- a command that comes while the host waits is none
+row_busy : (host_of new_host (Hears (fis 0x80 0xEC 0 0) ∷ Hears (fis 0x80 0x60 0x18 0) ∷ [])).open_at 3 ≡ false
+unfolding host_of seen field places spelled bits
+row_busy = refl
+
+-- the error of a queued command ends all
+row_error : (host_of new_host (Hears (fis 0x80 0x60 0x18 0) ∷ Sends (out.Own replies.Accepted) ∷ Sends (out.Of 3 (replies.Aborts Uncorrectable)) ∷ [])).open_at 3
+    ≡ false
+unfolding host_of seen field places spelled bits
+row_error = refl
