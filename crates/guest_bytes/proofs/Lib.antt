@@ -1,2 +1,1 @@
-pub mod MoveLemmas
 pub mod FlatLemmas

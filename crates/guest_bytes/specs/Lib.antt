@@ -1,3 +1,2 @@
 pub mod Guest
 pub mod Flat
-pub mod Moves

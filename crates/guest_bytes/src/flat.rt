@@ -5,8 +5,6 @@ ghost use Rattle.std.specs.Result.{IsErrOf};
 ghost use Rattle.guest_bytes.specs.Flat.{LiesIn, MayRead, MayMiss, overwritten, written_by};
 ghost use Rattle.guest_bytes.specs.Guest.{singles_from};
 
-use crate::guest::{Guest, NotThere};
-use crate::moves::Move;
 use std::alloc::{AllocError, Global};
 use std::marker::Model;
 use thiserror::Error;
@@ -32,6 +30,11 @@ impl From<AllocError> for FlatError {
         FlatError::OutOfMemory
     }
 }
+
+/// Some of the bytes are not memory of the guest.
+#[derive(Clone, Copy, Debug, PartialEq, Eq, Error)]
+#[error("not all of it is memory")]
+pub struct NotThere;
 
 /// A guest's memory in one block, from an address on. Nobody else writes to it. It is for tests, and for
 /// guests that a scenario plays.
@@ -107,28 +110,9 @@ impl FlatGuest {
         Ok(())
     }
 
-    /// Copies the bytes of a move out of a payload, or none of them if they do not all lie in the block.
-    pub fn carry_out(&mut self, step: Move, payload: &[u8]) -> Result<(), NotThere>
-        requires { step.from + step.len ≤ length payload.now }
-        ensures inside { IsOk result ↔ LiesIn self.old step.at step.len }
-        ensures ok { OnOk result (self.new ≡ record self.old {
-          bytes = written_by self.old.base
-              (singles_from step.at (take step.len (drop step.from payload.now))) self.old.bytes;
-        }) }
-        ensures err { OnErr result (self.new ≡ self.old) }
-    {
-        self.put(step.at, &payload[step.from..step.from + step.len])
-    }
-}
-
-impl Guest for FlatGuest {
-    ghost use Rattle.guest_bytes.specs.Flat.{MayRead, MayMiss};
-
-    ghost may_read = { MayRead };
-
-    ghost may_miss = { MayMiss };
-
-    fn read(&self, at: u64, into: &mut [u8]) -> Result<(), NotThere>
+    /// Reads as many bytes as there is room for, from an address on. After an error the room has arbitrary
+    /// bytes.
+    pub fn read(&self, at: u64, into: &mut [u8]) -> Result<(), NotThere>
         ensures long { length into.new ≡ length into.old }
         ensures read { OnOk result (MayRead self.now at into.new) }
         ensures missed { OnErr result (MayMiss self.now at (length into.old)) }

@@ -6,7 +6,7 @@ use ahci_controller::Width;
 use ahci_machine::{Act, GuestRead, Machine, MediumId, Request};
 use ahci_registers::Effect;
 use block_engine::{Answer, ErrorKind, What};
-use guest_bytes::{FlatGuest, Guest, NotThere};
+use guest_bytes::{FlatGuest, NotThere};
 use std::alloc::Global;
 use std::fs::OpenFile;
 use std::io::{Read, Seek, Write};

@@ -5,7 +5,9 @@
 
 ghost use Rattle.std.specs.Prelude.{◌+◌, ◌≤◌, IsTrue, length};
 
-use ahci_controller::{Ask, Controller, Fed, Hindrance, Next, Supply, Took, Width, Written};
+use ahci_controller::{
+    Ask, Controller, Fed, Hindrance, Next, NotTaken, Supply, Took, Width, Written,
+};
 use fis_view::{Frame, FrameError, Stamp};
 use guest_bytes::FlatGuest;
 use guest_fetch::Move;
@@ -153,6 +155,22 @@ impl Rig {
             }
         }
         matches!(answer, Supply::More | Supply::Issued { .. })
+    }
+
+    /// Answers a want with these bytes, and tells why the command is not taken.
+    pub(super) fn refusal(&mut self, ask: Ask, bytes: &[u8]) -> Option<NotTaken> {
+        match self
+            .controller
+            .supply(self.alloc, ask.slot, ask.number, bytes)
+        {
+            Supply::NotTaken { why, .. } => Some(why),
+            _ => None,
+        }
+    }
+
+    /// Says that bytes of a write are not memory, and tells whether that counts.
+    pub(super) fn lacks(&mut self, dev: u8, number: u64) -> bool {
+        matches!(self.controller.not_there(dev, number), Fed::Missed { .. })
     }
 
     /// Where the first of 8,192 bytes of a slot's command lies, from this one on, and those with it.

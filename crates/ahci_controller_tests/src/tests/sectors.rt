@@ -12,19 +12,19 @@ use hba_fbs::Ignored;
 use std::test::Fail;
 
 /// READ FPDMA QUEUED of one sector for device 2, tag 0.
-const READ: &str = "2782600110000040000000000000000000000000";
+pub(super) const READ: &str = "2782600110000040000000000000000000000000";
 /// WRITE FPDMA QUEUED of one sector for device 2, tag 0.
-const WRITE: &str = "2782610110000040000000000000000000000000";
+pub(super) const WRITE: &str = "2782610110000040000000000000000000000000";
 /// Device 2 is ready for further commands.
-const ACCEPTED: &str = "3402400000000000000000000000000000000000";
+pub(super) const ACCEPTED: &str = "3402400000000000000000000000000000000000";
 /// DMA Setup of device 2 for 512 bytes of tag 0, to the host.
 const SETUP: &str = "41220000000000000000000000000000000000000002000000000000";
 /// The same from the host.
-const FROM_HOST: &str = "41020000000000000000000000000000000000000002000000000000";
+pub(super) const FROM_HOST: &str = "41020000000000000000000000000000000000000002000000000000";
 /// DMA Activate of device 2.
-const ACTIVATE: &str = "39020000";
+pub(super) const ACTIVATE: &str = "39020000";
 /// Tag 0 of device 2 is done.
-const DONE: &str = "A142400001000000";
+pub(super) const DONE: &str = "A142400001000000";
 
 /// With FIS-based switching.
 pub(super) static SWITCHES: [Step; 3] = [

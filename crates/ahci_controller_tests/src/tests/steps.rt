@@ -3,7 +3,7 @@
 //! A test that is a list has one assertion, so it is proved with little work.
 
 use super::rig::{Rig, Run};
-use ahci_controller::{Edge, Hindrance, Next, Width};
+use ahci_controller::{Edge, Hindrance, Next, NotTaken, Width};
 use ahci_registers::Effect;
 use hba_fbs::Ignored;
 use std::alloc::Global;
@@ -15,6 +15,8 @@ use std::test::Fail;
 pub(super) enum Step {
     /// A value is written to the register at an offset. The link stays as it is.
     Writes(u32, u32),
+    /// The same, and a message is due.
+    Alarms(u32, u32),
     /// The same, and this is what it does to the link.
     Links(u32, u32, Effect),
     /// A value is written by an access of this width.
@@ -51,6 +53,10 @@ pub(super) enum Step {
     Hinders(&'static str, Hindrance),
     /// Bytes of the guest are wanted next from this address on, as many as these, and these are supplied.
     Supplies(u64, &'static str),
+    /// The same, and with them the command is not taken, for this reason.
+    Refuses(u64, &'static str, NotTaken),
+    /// Data is to go to a device next, and its bytes are not memory.
+    Misses,
     /// Bytes of the frame that was taken last go to the guest next: to which address, from which byte of it on, and how many.
     Moves(u64, usize, usize),
     /// PRDBC goes to the guest next: where it lies, and the number.
@@ -68,6 +74,11 @@ pub(super) enum Step {
 impl Rig {
     fn does(&mut self, offset: u32, value: u32, wanted: Effect) -> bool {
         self.write32(offset, value).effect == wanted
+    }
+
+    fn alarms(&mut self, offset: u32, value: u32) -> bool {
+        let written = self.write32(offset, value);
+        written.effect == Effect::Nothing && written.message
     }
 
     fn puts(&mut self, offset: u32, width: Width, value: u64) -> bool {
@@ -141,6 +152,23 @@ impl Rig {
         }
     }
 
+    fn refuses(&mut self, at: u64, text: &str, wanted: NotTaken) -> bool {
+        let Next::Read(ask) = self.raw() else {
+            return false;
+        };
+        match self.bytes_of(text) {
+            Some(bytes) => ask.want.at == at && self.refusal(ask, &bytes) == Some(wanted),
+            None => false,
+        }
+    }
+
+    fn misses(&mut self) -> bool {
+        match self.next() {
+            Next::Feed { dev, number, .. } => self.lacks(dev, number),
+            _ => false,
+        }
+    }
+
     fn moves(&mut self, at: u64, from: usize, len: usize) -> bool {
         match self.raw() {
             Next::Payload(step) => step.at == at && step.from == from && step.len == len,
@@ -183,6 +211,7 @@ impl Rig {
     fn passes(&mut self, step: Step) -> bool {
         match step {
             Step::Writes(offset, value) => self.does(offset, value, Effect::Nothing),
+            Step::Alarms(offset, value) => self.alarms(offset, value),
             Step::Links(offset, value, wanted) => self.does(offset, value, wanted),
             Step::Puts(offset, width, value) => self.puts(offset, width, value),
             Step::Gets(offset, width, value) => self.read(offset, width) == value,
@@ -201,6 +230,8 @@ impl Rig {
             Step::SendsSector(dev, first, last) => self.sends_sector(dev, first, last),
             Step::IsSilent => self.next() == Next::Nothing,
             Step::Supplies(at, bytes) => self.supplies(at, bytes),
+            Step::Refuses(at, bytes, why) => self.refuses(at, bytes, why),
+            Step::Misses => self.misses(),
             Step::Moves(at, from, len) => self.moves(at, from, len),
             Step::Counts(at, value) => self.counts(at, value),
             Step::Lies(slot, offset, at, len) => self.place(slot, offset) == Some(Run { at, len }),

@@ -1,3 +1,0 @@
-pub mod GuardLemmas
-pub mod HistoryLemmas
-pub mod ToldLemmas

@@ -1,3 +1,0 @@
-pub mod Guards
-pub mod Faces
-pub mod Laws

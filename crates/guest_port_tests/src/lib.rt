@@ -1,5 +1,0 @@
-//! The tests of `guest_port`. They stand in a crate of their own, since a crate with tests is proved twice.
-#![tactic(auto)]
-
-#[cfg(test)]
-mod tests;

@@ -1,9 +1,0 @@
-pub mod Pages
-pub mod Sectors
-pub mod Blocks
-pub mod Dmas
-pub mod Fronts
-pub mod Losses
-pub mod Faces
-pub mod Moves
-pub mod Laws

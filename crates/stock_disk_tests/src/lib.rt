@@ -1,5 +1,0 @@
-//! The tests of `stock_disk`. They have a crate of their own, because a crate with tests is proved twice.
-#![tactic(auto)]
-
-#[cfg(test)]
-mod tests;
