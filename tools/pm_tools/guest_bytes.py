@@ -16,6 +16,8 @@ OTHER = 0xFFFF  # stands for all registers that say nothing of where bytes are
 ROW = 256  # bytes of the received FISes of a device
 PLACES = {"setup": (0x00, 28), "pio": (0x20, 20), "d2h": (0x40, 20), "bits": (0x58, 8)}
 COMMAND_BYTES = 20
+# What is printed before what a line prints of its own.
+REASON = re.compile(r"ports \d+ memory|ignored: |slot \d+ (not taken|fails): |waits |disk \d+: unheard: ")
 
 
 def offset_of(word: str) -> int:
@@ -99,8 +101,8 @@ class Shown:
 
 
 def lines_to_play(lines: Sequence[str], moved: Iterator[list[Step]]) -> Iterator[Shown]:
-    """The scenario with rounds in the place of each `settle` in which something moves, each with what was received after it. The
-    last `settle` moves what the rounds did not."""
+    """The scenario FIS by FIS, by `settle 1` in the place of each `settle` in which something moves, each with what was received
+    after it. The last `settle` moves what these did not."""
     guest = Guest()
     for line in lines:
         guest.note(line)
@@ -108,7 +110,7 @@ def lines_to_play(lines: Sequence[str], moved: Iterator[list[Step]]) -> Iterator
             steps: list[Step] = next(moved, [])
             ports = sorted({step.port for step in steps if step.way == "up" and step.port is not None})
             rows = [Shown(f"show {guest.row(port):x} {ROW}", port) for port in ports if guest.read(guest.row(port), ROW)]
-            for _ in range(3 * len(steps) + 12 if steps else 0):
+            for _ in steps:
                 yield from (Shown("settle 1"), *rows)
         yield Shown(line)
 
@@ -163,7 +165,7 @@ def recorded(lines: Sequence[Shown], printed: Sequence[str]) -> Trace:
         if shown.line.split()[0] in ("ports", "memory", "disk"):
             continue
         for line in output:
-            if re.match(r"ports \d+ memory", line):
+            if REASON.match(line):
                 recorder.lines.append(line)
             elif link_step(0, line):
                 recorder.add(line)

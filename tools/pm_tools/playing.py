@@ -1,6 +1,6 @@
 """Plays scenarios in such a way that the bytes of their FISes become known.
 
-Under `run`, the trace has them (`--bytes`). Under `guest` each `settle` becomes rounds, after each of which the received
+Under `run`, the trace has them (`--bytes`). Under `guest` each `settle` goes FIS by FIS, after each of which the received
 FISes in the guest's memory are shown; the commands are read where the guest put them.
 """
 from __future__ import annotations
