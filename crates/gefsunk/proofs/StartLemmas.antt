@@ -4,12 +4,11 @@ use Rattle.std.specs.Prelude.{Option, Bool, is_none, ◌&&◌, if◌then◌else�
 use Rattle.std.specs.Option.{option_map}
 use Rattle.std.proofs.lemmas.Bool.{cases_eq, cases_lt}
 use Rattle.std.proofs.lemmas.List.{get_or-set_same, get_or-set_other, get_or_past}
-use Rattle.block_command.specs.declared.command.Command.{Command}
 use Rattle.block_command.specs.declared.command.Stage.{Stage}
 use Rattle.block_command.specs.declared.command.Stage.TheVariants.{Waiting, Load, Loading, SetUpRead, Announce, Sending, SetUpWrite, Activate, Receiving, Store, Storing, Flush, Flushing, End, Fail, Ended}
-use Rattle.block_command.specs.Moments.{Moment, gone, is_queued, started as first_stage, turn_of}
+use Rattle.block_command.specs.Moments.{Moment, gone, is_queued, turn_of}
 use Rattle.block_command.specs.Laws.{Goes, after}
-use Rattle.block_queue.specs.Line.{Line, command_at, may_start, may_start_at, starts}
+use Rattle.block_queue.specs.Line.{Line, command_at, may_start_at, starts}
 use Rattle.block_engine.specs.Engine.{IsEngineStart, started}
 use Rattle.sata_disk.specs.State.{DiskState, commands}
 use Rattle.gefsunk.specs.Disks.{Starts, StartsAll, StartsBy, with_engine}
@@ -44,8 +43,12 @@ many_less : (test other : ℕ → Bool) (n p : ℕ) → p < n → test p ≡ tru
 unfolding many
 many_less test other zero p low was now same = absurd (omega (arith, low))
 many_less test other (suc n) p low was now same = elim (cases_eq p n) [
-  | inl here ↦ omega (arith, many_same test other n (λ q below. same q (λ is. omega (arith, below, is, here))),
-      ap bit (ap test (sym here) ∙ was), ap bit (ap other (sym here) ∙ now))
+  | inl here ↦ omega (
+    arith,
+    many_same test other n (λ q below. same q (λ is. omega (arith, below, is, here))),
+    ap bit (ap test (sym here) ∙ was),
+    ap bit (ap other (sym here) ∙ now),
+  )
   | inr apart ↦ omega (arith, many_less test other n p (omega (arith, low, apart)) was now same, ap bit (same n (λ is. apart (sym is))))
 ]
 

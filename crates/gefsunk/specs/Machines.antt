@@ -1,7 +1,6 @@
 -- What the calls on a machine do, by its rules (AHCI 1.3.1, sections 3, 5.3 and 10; Serial ATA 3.x, 16).
-use Rattle.std.specs.Prelude.{◌≡◌, ℕ, ◌≤◌, ◌<◌, ◌==◌, ◌&&◌, ◌⊎◌, nat_lt, not, Bool, true, false, if◌then◌else◌, List, [], length, take, drop, slice_get, IsUtf8, Option, Some, None, MatchOption, Result, Ok, Err, MatchResult}
+use Rattle.std.specs.Prelude.{◌≡◌, ℕ, ◌≤◌, ◌<◌, ◌==◌, ◌&&◌, ◌⊎◌, nat_lt, not, true, false, if◌then◌else◌, List, [], length, Option, Some, None, MatchOption, Result, MatchResult}
 use Rattle.std.specs.Bool.{MatchBool}
-use Rattle.std.specs.Result.{IsErr}
 use Rattle.std.specs.declared.alloc.AllocError.{AllocError}
 use Rattle.fis_view.specs.Frames.{Stamped, is_frame}
 use Rattle.fis_view.specs.declared.frame.Stamp.{Stamp}
@@ -21,7 +20,7 @@ use Rattle.ahci_machine.specs.declared.answers.MediumError.{MediumError}
 use Rattle.ahci_machine.specs.declared.answers.MediumError.TheVariants as medium
 use Rattle.ahci_machine.specs.declared.answers.Told.{Told}
 use Rattle.ahci_machine.specs.declared.bay.Unit.{Unit as Inside}
-use Rattle.ahci_machine.specs.declared.bay.Unit.TheVariants.{Disk, Own}
+use Rattle.ahci_machine.specs.declared.bay.Unit.TheVariants.{Disk}
 use Rattle.ahci_machine.specs.declared.ports.PortFault.{PortFault}
 use Rattle.ahci_machine.specs.declared.ports.PortFault.TheVariants as fault
 use Rattle.ahci_machine.specs.declared.request.MediumId.{MediumId}

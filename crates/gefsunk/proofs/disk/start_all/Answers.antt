@@ -1,4 +1,4 @@
-use Rattle.std.proofs.Common.{rules, ◌≡◌, ◌+◌, Bool, false}
+use Rattle.std.proofs.Common.{rules}
 use Rattle.gefsunk.proofs.StartLemmas.{none_yet, one_more}
 use Rattle.gefsunk.proofs.disk.start_all.Goals as goal
 
