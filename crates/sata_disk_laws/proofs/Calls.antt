@@ -1,34 +1,32 @@
 -- Every call, every run: each FIS is due.
-use Rattle.std.proofs.Common.{◌≡◌, ℕ, ◌+◌, ◌*◌, ◌/◌, ◌%◌, ◌<◌, ◌≤◌, true, false, List, [], ◌∷◌, drop, length, Some, None, refl, sym, ap, ◌∙◌, subst, arith, inl, inr, ◌⊎◌}
-use Rattle.std.specs.Prelude.{Option, Bool, Result, Ok, Err, nat_lt, not, ◌&&◌, if◌then◌else◌}
-use Rattle.std.proofs.lemmas.Bool.{cases_Bool, cases_lt, lt-ltb}
+use Rattle.std.proofs.Common.{◌≡◌, ℕ, ◌/◌, ◌<◌, true, false, List, [], ◌∷◌, drop, Some, None, refl, sym, ap, ◌∙◌, subst, arith, inl, inr, ◌⊎◌}
+use Rattle.std.specs.Prelude.{Option, Bool, Result, Ok, Err, if◌then◌else◌}
+use Rattle.std.proofs.lemmas.Bool.{cases_lt, lt-ltb}
 use Rattle.fis_view.specs.Seen.{seen}
 use Rattle.fis_view.specs.declared.view.Fis.{Fis}
 use Rattle.fis_view.specs.declared.view.Fis.TheVariants as view
 use Rattle.fis_view.specs.declared.view.FisFault.{FisFault}
 use Rattle.block_command.specs.declared.command.Stage.{Stage}
 use Rattle.block_command.specs.declared.command.Stage.TheVariants.{Sending, Ended}
-use Rattle.block_command.specs.Moments.{Moment, is_ended, turn_of}
-use Rattle.block_command.proofs.Door.{at}
+use Rattle.block_command.specs.Moments.{Moment, turn_of}
 use Rattle.block_disk.specs.Table.{is_under_way}
 use Rattle.block_disk.proofs.Door.{each_is}
 use Rattle.block_queue.specs.Line.{IsLine, Line, command_at}
 use Rattle.block_queue.proofs.Door.{new_line, of_and}
-use Rattle.block_scheduler.specs.Sets.{sends_alone, sends_at, turn_at}
+use Rattle.block_scheduler.specs.Sets.{sends_alone, turn_at}
 use Rattle.block_engine.specs.declared.aside.AsideStage.{AsideStage}
 use Rattle.block_engine.specs.declared.aside.AsideStage.TheVariants as stages
 use Rattle.block_engine.specs.declared.request.Answer.{Answer}
 use Rattle.block_engine.specs.declared.request.Answer.TheVariants as answers
 use Rattle.block_engine.specs.declared.request.Failure.{Failure}
 use Rattle.block_engine.specs.declared.request.Request.{Request}
-use Rattle.block_engine.specs.Aside.{asks_for, is_over, is_waiting, settled}
-use Rattle.block_engine.specs.Engine.{EngineState, IsAskedOf, IsEngineStart, answered, aside_due, done_at, failed_by, line, loaded_at, may_ask, place_of, started}
+use Rattle.block_engine.specs.Aside.{asks_for, is_waiting, settled}
+use Rattle.block_engine.specs.Engine.{EngineState, IsAskedOf, IsEngineStart, answered, done_at, failed_by, line, loaded_at, place_of, started}
 use Rattle.ata_reply.specs.declared.reply.Reply.{Reply}
 use Rattle.ata_reply.specs.declared.reply.Reply.TheVariants as replies
 use Rattle.ata_command.specs.Courses.{resets}
 use Rattle.ata_front.specs.Fronts.{controlled, owed, standing}
 use Rattle.ata_front.specs.declared.front.Front.{Front}
-use Rattle.ata_front.specs.declared.front.Heard.{Heard}
 use Rattle.ata_front.specs.declared.task.Task.{Task}
 use Rattle.ata_front.specs.declared.task.Task.TheVariants as tasks
 use Rattle.disk_pages.specs.Profiles.{facts_of}
@@ -49,12 +47,12 @@ use Rattle.sata_disk_laws.proofs.Commands.{TracksOf, command_tracks, control_tra
 use Rattle.sata_disk_laws.proofs.Left.{IsSome, part_some_sectors}
 use Rattle.sata_disk_laws.proofs.Owed.{beside_tracks, data_tracks, page_tracks, said_tracks}
 use Rattle.sata_disk_laws.proofs.Quiet.{Same, answered_quiet, asked_quiet, started_quiet}
-use Rattle.sata_disk_laws.proofs.Replies.{IsGood, SentAs, queued_data, queued_reply}
+use Rattle.sata_disk_laws.proofs.Replies.{SentAs, queued_data, queued_reply}
 use Rattle.sata_disk_laws.proofs.Runs.{call_after, call_are}
 use Rattle.sata_disk_laws.proofs.Silent.{steps_line}
 use Rattle.sata_disk_laws.proofs.Single.{single_data, single_reply}
 use Rattle.sata_disk_laws.proofs.Speaks.{next_sends, queued_idle}
-use Rattle.sata_disk_laws.proofs.Tracks.{FitsPlace, IsPlace, LoneTags, NoTags, OwedTags, OwesAs, TagsAs, Tracks, WaitsAs, quiet_tracks}
+use Rattle.sata_disk_laws.proofs.Tracks.{FitsPlace, IsPlace, LoneTags, OwedTags, OwesAs, TagsAs, Tracks, WaitsAs, quiet_tracks}
 
 -- ## The FIS of a command
 
