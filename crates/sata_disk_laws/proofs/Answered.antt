@@ -106,6 +106,6 @@ pub ends_due : (h : Host) (d : DiskState) (tags : ℕ) → IsOut d (Some (out.En
 ends_due h d tags is line' knows =
     let free = free_is (commands d) _ tags is.1.1 in (
       (λ t low has. let ended : ends_at (commands d) t ≡ true = sym (free.1 t low) ∙ has in
-        (queued_idle h d.front d.engine.stage (commands d) t low (ends_alive (command_at (commands d) t) ended) is.0 knows).1),
+          (queued_idle h d.front d.engine.stage (commands d) t low (ends_alive (command_at (commands d) t) ended) is.0 knows).1),
       ended_tracks (commands d) _ (all_ended (commands d) 32 (omega arith) line' free.0) h tags d.front d.engine.stage is.0 free.1 knows,
     )

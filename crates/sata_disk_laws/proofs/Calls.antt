@@ -74,13 +74,16 @@ pub record IsSent (d : DiskState) (p : ℕ) (o : Out) (m : Moment) : Type 0 wher
 sent_case : (d : DiskState) (p : ℕ) (o : Out) (x : Option Moment) → command_at (commands d) p ≡ x → IsCommandOut d p o → sends_alone p (turn_at x) ≡ true
     → (m : Moment) × IsSent d p o m
 sent_case d p o None there is sends = absurd (let none = is.3 ∙ ap (out_at d p) there in cc)
-sent_case d p o (Some m) there is sends = (m, record {
-  free = is.0;
-  there = there;
-  sends = sends;
-  alive = sends_alive p m m.stage refl sends;
-  is = is.3 ∙ ap (out_at d p) there;
-})
+sent_case d p o (Some m) there is sends = (
+  m,
+  record {
+    free = is.0;
+    there = there;
+    sends = sends;
+    alive = sends_alive p m m.stage refl sends;
+    is = is.3 ∙ ap (out_at d p) there;
+  },
+)
 
 pub sent_is : (d : DiskState) (p : ℕ) (o : Out) → IsCommandOut d p o → (m : Moment) × IsSent d p o m
 sent_is d p o is = sent_case d p o (command_at (commands d) p) refl is (next_sends (commands d) _ p is.1.1)
@@ -116,8 +119,7 @@ data_queued : (h : Host) (d : DiskState) (p n : ℕ) (m : Moment) → IsSent d p
     → IsOutDue h (out.Data p n) × SentAs (out_got h (out.Data p n)) d p (n / 512)
 data_queued h d p n m s low line' knows =
     let q = queued_idle h d.front d.engine.stage (commands d) p low (ap is_under_way s.there ∙ s.alive) s.free knows in
-    let P : Bool → Type 0 = λ b. IsDataAt h p b in
-    (
+    let P : Bool → Type 0 = λ b. IsDataAt h p b in (
       subst P (sym (lt-ltb p 32 low)) q.1,
       queued_data h d p n m.command m.done m.bytes m.sent m.stage s.there low line' (fit_at h d p m (omega (arith, low)) s.there knows) s.is q.1 knows,
     )
@@ -247,7 +249,7 @@ call_due h d (Asks r) is line' knows = (tt, ask_knows h d r r.place is.1 line' k
 call_due h d (Answers number a) is line' knows = (
   tt,
   stage_tracks h d.front d.engine.stage _ _ (answered_stage d.engine number a)
-  (quiet_tracks h d.front d.engine.stage (commands d) _ (answered_quiet d.engine number a line') knows),
+      (quiet_tracks h d.front d.engine.stage (commands d) _ (answered_quiet d.engine number a line') knows),
 )
 call_due h d (Sends o) is line' knows = out_due h d o is line' knows
 
@@ -315,7 +317,7 @@ open_is_under_way p limit calls are =
     record {
       heard = λ f e. heard_case (host_of new_host calls) (reached p limit calls) f knows e;
       queued = λ t low free.
-        queued_case (host_of new_host calls) (commands (reached p limit calls)) _ _ knows.waits knows.tags free t low;
+          queued_case (host_of new_host calls) (commands (reached p limit calls)) _ _ knows.waits knows.tags free t low;
     }
 
 chunk_is : (n k : ℕ) → n ≡ k → IsSome k → wanted.IsChunk n

@@ -104,7 +104,7 @@ last_ends c done bytes sent left w p counts =
     let n = next_is c done bytes sent w p in
     sent_ended c done bytes _ _ _
     ∙ pio_case c _ _ (λ e. sym (ap (λ k. nat_le (left * 512) k) n.carried
-      ∙ last_case c done bytes sent left n.sectors p _ _ (ap (λ k. nat_lt (sent + k) (length bytes)) (sym n.long)) refl (counts e) n.within))
+    ∙ last_case c done bytes sent left n.sectors p _ _ (ap (λ k. nat_lt (sent + k) (length bytes)) (sym n.long)) refl (counts e) n.within))
 
 -- ## What is left after it
 
@@ -140,7 +140,7 @@ sending_counts c done bytes sent left w p counts =
     let P : ℕ → Type 0 = λ k. CountsAt (left - length (part_of (at c done bytes sent Sending)) / 512) (data_sent c done bytes (sent + k) (nat_lt (sent + k) (length bytes)) (nat_lt (done + part_count c done) c.count)) in
     let Q : ℕ → Type 0 = λ k. CountsAt (left - k) (data_sent c done bytes (sent + n.sectors * 512) (nat_lt (sent + n.sectors * 512) (length bytes)) (nat_lt (done + part_count c done) c.count)) in
     subst P (sym n.long) (subst Q (sym (ap (λ k. k / 512) n.carried ∙ div_512 n.sectors))
-      (sent_counts c done bytes sent left n.sectors p _ _ refl refl counts n.within))
+    (sent_counts c done bytes sent left n.sectors p _ _ refl refl counts n.within))
 
 -- Data have some sectors, at most 16
 pub record IsSome (n : ℕ) : Type 0 where

@@ -70,7 +70,7 @@ ended_more l k n low is a e =
         | inr apart ↦ get_or-set_other k.queue.table.places n q _ None apart ∙ a.ended q low' (omega (arith, below, apart)) ends
       ];
       others = λ q low' other.
-        get_or-set_other k.queue.table.places n q _ None (not_it l q n end' other) ∙ a.others q low' (before l q n other);
+          get_or-set_other k.queue.table.places n q _ None (not_it l q n end' other) ∙ a.others q low' (before l q n other);
       free = ap (λ w. wire_with w n (option_map (λ m. after m Goes) (command_at k n))) a.free ∙ end_wire (command_at k n) n e;
     }
 

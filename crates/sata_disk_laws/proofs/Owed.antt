@@ -133,8 +133,7 @@ page_case h f s l (tasks.Gives q) p at' e is beside waits tags =
     let P : Wait → Type 0 = λ w. Tracks (data_got_by h w) (said_by f (tasks.Gives q)) s l in
     ((waits.0, fills_last h.waits waits.1), subst P (sym waits.1) (single_tracks h f _ f.settings s s l is beside waits.2 tags))
 page_case h f s l (tasks.Sends q) p at' e is beside waits tags =
-    let P : Wait → Type 0 = λ w. Tracks (data_got_by h w) (said_by f (tasks.Sends q)) s l in
-    (
+    let P : Wait → Type 0 = λ w. Tracks (data_got_by h w) (said_by f (tasks.Sends q)) s l in (
       (waits.0.0, fills_end h.waits waits.0.1),
       subst P (sym waits.0.1) (lone_tracks h h f _ _ (tasks.Owes replies.Done) s l is at' (λ x. cc) beside waits tags tags refl),
     )

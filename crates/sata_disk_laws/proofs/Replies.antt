@@ -101,7 +101,7 @@ queued_reply h d p r c done bytes sent SetUpRead there low is place sends e queu
     by_reply h d p r (set_up c) e (queued_good h d p (at c done bytes sent SetUpRead) (set_up c) there low is refl refl refl tracks (queued_at h c.place p place.place queued) place.place refl)
 queued_reply h d p r c done bytes sent SetUpWrite there low is place sends e queued idle tracks =
     by_reply h d p r (set_up c) e (queued_good h d p (at c done bytes sent SetUpWrite) (set_up c) there low is refl refl (set_up_ended c.auto_activate) tracks
-      (queued_at h c.place p place.place queued) place.place refl)
+    (queued_at h c.place p place.place queued) place.place refl)
 queued_reply h d p r c done bytes sent Announce there low is place sends e queued idle tracks =
     absurd (not_pio c.protocol (place.queued ∙ lt-ltb p 32 low) place.fits.0)
 queued_reply h d p r c done bytes sent Sending there low is place sends e queued idle tracks = absurd (cc)

@@ -172,39 +172,40 @@ single_reply h d r c done bytes sent Announce there is place e tracks =
     let left : (moving_of d.front.task).left ≡ v.moving.left - 0 = ap (λ t. (moving_of t).left) v.task ∙ sym (no_left v.moving.left) in
     let last : b ≡ is_last (at c done bytes sent Sending) (v.moving.left - 0) =
     ap (λ k. nat_le (k * 512) (length (part_of m))) left ∙ sym (ap (λ x. x && nat_le ((v.moving.left - 0) * 512) (length (part_of m))) place.fits.0) in
-    let P : ℕ → Type 0 = λ k. CountsAt k (at c done bytes sent Sending) in
-    (
+    let P : ℕ → Type 0 = λ k. CountsAt k (at c done bytes sent Sending) in (
       by_reply h d 32 r (announced_read m (moving_of d.front.task).left) e (
         (v.shut, v.waits),
         refl,
         single_stays h d 0 m there is v tracks (announced h b) refl (announced_open h b 32 ∙ v.shut) (λ t. announced_open h b t) (announced_reset h b)
-        (subst P (sym (no_left v.moving.left)) v.counts) (announced_waits h b v.waits ∙ ap (λ x. if x then ForLast else ForEnd) last),
+            (subst P (sym (no_left v.moving.left)) v.counts) (announced_waits h b v.waits ∙ ap (λ x. if x then ForLast else ForEnd) last),
       ),
       (v.shut, v.waits),
     )
 single_reply h d r c done bytes sent Activate there is place e tracks =
     let m = at c done bytes sent Activate in
-    let v = moving_is h d.front d.engine.stage (commands d) m there refl tracks in
-    (
+    let v = moving_is h d.front d.engine.stage (commands d) m there refl tracks in (
       by_reply h d 32 r (asks_by m c.protocol) e (asks_good h d m c.protocol (v.shut, v.waits)
-        (single_stays h d 0 m there is v tracks h refl v.shut (λ t. refl) refl tt v.waits)),
+          (single_stays h d 0 m there is v tracks h refl v.shut (λ t. refl) refl tt v.waits)),
       (v.shut, v.waits),
     )
 single_reply h d r c done bytes sent End there is place e tracks =
     let m = at c done bytes sent End in
-    let v = moving_is h d.front d.engine.stage (commands d) m there refl tracks in
-    (
-      by_reply h d 32 r replies.Done e ((v.shut, v.waits), refl,
-        single_ends h d 0 m there is v tracks (single_over h) refl refl (λ t low. and_right (not (t == 32)) (h.open_at t) (v.lone t low).1) refl refl),
+    let v = moving_is h d.front d.engine.stage (commands d) m there refl tracks in (
+      by_reply h d 32 r replies.Done e (
+        (v.shut, v.waits),
+        refl,
+        single_ends h d 0 m there is v tracks (single_over h) refl refl (λ t low. and_right (not (t == 32)) (h.open_at t) (v.lone t low).1) refl refl,
+      ),
       (v.shut, v.waits),
     )
 single_reply h d r c done bytes sent Fail there is place e tracks =
     let m = at c done bytes sent Fail in
-    let v = moving_is h d.front d.engine.stage (commands d) m there refl tracks in
-    (
-      by_reply h d 32 r _ (e ∙ ap (λ x. Some (out.Of 32 x)) (fails_single c (trouble_at d.engine 32) (moving_of d.front.task).wide place.place))
-        (single_refused h (v.shut, v.waits), refl,
-        single_ends h d 0 m there is v tracks (record h { open_at = none_open; waits = ForNothing }) refl refl (λ t low. refl) refl refl),
+    let v = moving_is h d.front d.engine.stage (commands d) m there refl tracks in (
+      by_reply h d 32 r _ (e ∙ ap (λ x. Some (out.Of 32 x)) (fails_single c (trouble_at d.engine 32) (moving_of d.front.task).wide place.place)) (
+        single_refused h (v.shut, v.waits),
+        refl,
+        single_ends h d 0 m there is v tracks (record h { open_at = none_open; waits = ForNothing }) refl refl (λ t low. refl) refl refl,
+      ),
       (v.shut, v.waits),
     )
 single_reply h d r c done bytes sent stage there is place e tracks = absurd (cc)
@@ -221,14 +222,14 @@ data_case : (h : Host) (d : DiskState) (c : Command) (done : ℕ) (bytes : List 
 data_case h d c done bytes sent true v last there is place tracks = (
   refl,
   single_ends h d _ (at c done bytes sent Sending) there is v tracks (single_over h)
-  (last_ends c done bytes sent v.moving.left place.whole place.fits v.counts ∙ last) refl (λ t low. and_right (not (t == 32)) (h.open_at t) (v.lone t low).1) refl refl,
+      (last_ends c done bytes sent v.moving.left place.whole place.fits v.counts ∙ last) refl (λ t low. and_right (not (t == 32)) (h.open_at t) (v.lone t low).1) refl refl,
 )
 data_case h d c done bytes sent false v last there is place tracks = (
   refl,
   single_stays h d _ (at c done bytes sent Sending) there is v tracks h
-  (last_ends c done bytes sent v.moving.left place.whole place.fits v.counts ∙ last) v.shut (λ t. refl) refl
-  (sending_counts c done bytes sent v.moving.left place.whole place.fits v.counts)
-  (v.waits ∙ ap (λ x. if x then ForLast else ForEnd) last ∙ ap (λ x. if x then ForLast else ForEnd) (sym (sending_last c done bytes sent _))),
+      (last_ends c done bytes sent v.moving.left place.whole place.fits v.counts ∙ last) v.shut (λ t. refl) refl
+      (sending_counts c done bytes sent v.moving.left place.whole place.fits v.counts)
+      (v.waits ∙ ap (λ x. if x then ForLast else ForEnd) last ∙ ap (λ x. if x then ForLast else ForEnd) (sym (sending_last c done bytes sent _))),
 )
 
 pub single_data : (h : Host) (d : DiskState) (n : ℕ) (c : Command) (done : ℕ) (bytes : List ℕ) (sent : ℕ) (stage : Stage)
