@@ -1,59 +1,30 @@
 -- Each call of a disk keeps what its host has open and what the disk is alike, and each FIS is due.
-use Rattle.std.proofs.Common.{◌≡◌, ℕ, ◌+◌, ◌*◌, ◌/◌, ◌%◌, ◌<◌, ◌≤◌, true, false, List, [], ◌∷◌, drop, length, Some, None, refl, sym, ap, ◌∙◌, subst, arith, inl, inr, ◌⊎◌}
-use Rattle.std.specs.Prelude.{Option, Bool, Result, Ok, Err, nat_lt, not, ◌&&◌, if◌then◌else◌}
-use Rattle.std.specs.Option.{is_some, option_map}
-use Rattle.std.proofs.lemmas.Bool.{cases_Bool, cases_lt, lt-ltb}
-use Rattle.fis_view.specs.Seen.{seen}
-use Rattle.fis_view.specs.declared.view.Fis.{Fis}
-use Rattle.fis_view.specs.declared.view.Fis.TheVariants as view
-use Rattle.fis_view.specs.declared.view.FisFault.{FisFault}
+use Rattle.std.proofs.Common.{◌≡◌, ℕ, ◌<◌, true, false, Some, None, refl, sym, ap, ◌∙◌, subst, arith, inl, inr}
+use Rattle.std.specs.Prelude.{Option, Bool, not, ◌&&◌}
+use Rattle.std.proofs.lemmas.Bool.{and_right, cases_lt, lt-ltb}
 use Rattle.block_command.specs.declared.command.Stage.{Stage}
-use Rattle.block_command.specs.declared.command.Stage.TheVariants.{Sending, End, Ended}
+use Rattle.block_command.specs.declared.command.Stage.TheVariants.{End}
 use Rattle.block_command.specs.Moments.{Moment, turn_of}
-use Rattle.block_command.specs.Laws.{Goes, after}
-use Rattle.block_command.proofs.Door.{at}
+use Rattle.block_command.specs.Laws.{Goes}
 use Rattle.block_disk.specs.Table.{is_under_way}
-use Rattle.block_disk.proofs.Door.{each_is}
 use Rattle.block_queue.specs.Line.{IsLine, Line, command_at, has_bit}
-use Rattle.block_scheduler.specs.Sets.{IsTagsOf, ends_at, is_end, sends_alone, sends_at, turn_at}
-use Rattle.block_scheduler.specs.Schedule.{IsNextFis, ends_sent}
+use Rattle.block_scheduler.specs.Sets.{IsTagsOf, ends_at, is_end, turn_at}
+use Rattle.block_scheduler.specs.Schedule.{IsNextFis}
 use Rattle.block_scheduler.specs.declared.scheduler.NextFis.TheVariants as fis
 use Rattle.block_engine.specs.declared.aside.AsideStage.{AsideStage}
-use Rattle.block_engine.specs.declared.aside.AsideStage.TheVariants as stages
-use Rattle.block_engine.specs.declared.request.Answer.{Answer}
-use Rattle.block_engine.specs.declared.request.Answer.TheVariants as answers
-use Rattle.block_engine.specs.declared.request.Failure.{Failure}
-use Rattle.block_engine.specs.declared.request.Request.{Request}
-use Rattle.block_engine.specs.Aside.{asks_for, is_over, is_waiting, settled}
-use Rattle.block_engine.specs.Engine.{EngineState, IsAskedOf, IsEngineStart, answered, done_at, failed_by, line, loaded_at, may_ask, place_of, started}
-use Rattle.block_queue.proofs.Door.{of_and}
-use Rattle.ata_reply.specs.declared.reply.Reply.{Reply}
 use Rattle.ata_reply.specs.declared.reply.Reply.TheVariants as replies
-use Rattle.ata_command.specs.Courses.{resets}
-use Rattle.ata_front.specs.Fronts.{controlled, owed}
+use Rattle.ata_front.specs.Fronts.{owed}
 use Rattle.ata_front.specs.declared.front.Front.{Front}
 use Rattle.ata_front.specs.declared.task.Task.{Task}
 use Rattle.ata_front.specs.declared.task.Task.TheVariants as tasks
-use Rattle.disk_pages.specs.Profiles.{facts_of}
-use Rattle.sata_disk.specs.State.{DiskState, IsBeside, commands, is_taken, new_disk, tags_of}
-use Rattle.sata_disk.specs.Hearing.{MayAct, MayHear, asked_of, command_told, fis_heard, is_command}
-use Rattle.sata_disk.specs.Sending.{IsCommandOut, IsOut, after_sent, is_done, out_at, trouble_at}
-use Rattle.sata_disk.specs.declared.out.Out.{Out}
+use Rattle.sata_disk.specs.State.{DiskState, commands, is_taken}
+use Rattle.sata_disk.specs.Sending.{IsOut, after_sent}
 use Rattle.sata_disk.specs.declared.out.Out.TheVariants as out
-use Rattle.sata_disk_laws.specs.Calls.{Answers, AreCalls, Asks, Call, Hears, IsCall, Plugs, Sends, Starts, after_call, after_calls, asked_by, steps_of}
-use Rattle.sata_disk_laws.specs.Once.{AreDue, ForNothing, Host, IsCallDue, IsDataAt, IsDue, IsOfPlace, IsOpenAt, IsOutDue, IsQueued, command_given, control_given, fis_given, host_after, host_of, new_host, none_open, out_got, place_in, tags_closed, unheard_of}
-use Rattle.sata_disk_laws.proofs.AskedPlaces.{asked_at, place_low}
-use Rattle.sata_disk_laws.proofs.Commands.{TracksOf, command_tracks, control_tracks, plug_tracks}
-use Rattle.sata_disk_laws.proofs.Owed.{beside_tracks, data_tracks, page_tracks, said_tracks}
+use Rattle.sata_disk_laws.specs.Once.{Host, IsDue, out_got, tags_closed}
 use Rattle.sata_disk_laws.proofs.Over.{AreEnded, all_ended}
 use Rattle.sata_disk_laws.proofs.Over as ends
-use Rattle.sata_disk_laws.proofs.Quiet.{Same, answered_quiet, asked_quiet, started_quiet}
-use Rattle.sata_disk_laws.proofs.Replies.{IsGood, SentAs, queued_data, queued_reply}
-use Rattle.sata_disk_laws.proofs.Runs.{call_after, call_are}
-use Rattle.sata_disk_laws.proofs.Silent.{steps_line}
-use Rattle.sata_disk_laws.proofs.Single.{single_data, single_reply}
-use Rattle.sata_disk_laws.proofs.Speaks.{next_sends, queued_idle}
-use Rattle.sata_disk_laws.proofs.Tracks.{FitsPlace, IsPlace, LoneTags, NoTags, SameTags, TagsAs, Tracks, WaitsAs, fits_then, quiet_tracks}
+use Rattle.sata_disk_laws.proofs.Speaks.{queued_idle}
+use Rattle.sata_disk_laws.proofs.Tracks.{FitsPlace, LoneTags, NoTags, SameTags, TagsAs, Tracks, WaitsAs, fits_then}
 
 abbrev pub Knows : Host → DiskState → Type 0
 Knows h d = Tracks h d.front d.engine.stage (commands d)
@@ -97,20 +68,12 @@ module _ (l k : Line) (a : AreEnded l k 32) where
 
   lone_ended : (h : Host) (tags : ℕ) → IsTagsOf tags (ends_at l) → LoneTags h l → LoneTags (record h { open_at = tags_closed h.open_at tags }) k
   lone_ended h tags of' lone = λ t low. (
-    ended_taken t low _ refl ∙ none _ (lone t low).0,
-    same_closed h tags of' t low ∙ none _ (lone t low).1,
+    ended_taken t low _ refl ∙ and_right (not (ends_at l t)) (is_taken l t) (lone t low).0,
+    same_closed h tags of' t low ∙ and_right (not (ends_at l t)) (h.open_at t) (lone t low).1,
   )
-    where
-      none : (b : Bool) {x : Bool} → x ≡ false → (b && x) ≡ false
-      none true e = e
-      none false e = refl
 
   no_ended : NoTags l → NoTags k
-  no_ended none = λ t low. ended_taken t low _ refl ∙ off (not (ends_at l t)) (none t low)
-    where
-      off : (b : Bool) {x : Bool} → x ≡ false → (b && x) ≡ false
-      off true e = e
-      off false e = refl
+  no_ended none = λ t low. ended_taken t low _ refl ∙ and_right (not (ends_at l t)) (is_taken l t) (none t low)
 
   tags_ended : (h : Host) (tags : ℕ) (t : Task) → owed t ≡ None → IsTagsOf tags (ends_at l) → TagsAs h t l
       → TagsAs (record h { open_at = tags_closed h.open_at tags }) t k
@@ -143,6 +106,6 @@ pub ends_due : (h : Host) (d : DiskState) (tags : ℕ) → IsOut d (Some (out.En
 ends_due h d tags is line' knows =
     let free = free_is (commands d) _ tags is.1.1 in (
       (λ t low has. let ended : ends_at (commands d) t ≡ true = sym (free.1 t low) ∙ has in
-        (queued_idle h d.front d.engine.stage (commands d) t low (ends_alive (command_at (commands d) t) ended) is.0 knows).1),
+          (queued_idle h d.front d.engine.stage (commands d) t low (ends_alive (command_at (commands d) t) ended) is.0 knows).1),
       ended_tracks (commands d) _ (all_ended (commands d) 32 (omega arith) line' free.0) h tags d.front d.engine.stage is.0 free.1 knows,
     )

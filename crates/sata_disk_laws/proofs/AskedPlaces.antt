@@ -1,15 +1,15 @@
 -- What the command of a FIS asks for is at the place that the FIS names, and moves whole sectors.
 use Rattle.std.proofs.Common.{◌≡◌, ℕ, zero, suc, ◌+◌, ◌*◌, ◌/◌, ◌%◌, ◌<◌, ◌≤◌, ◌^◌, ◌⊎◌, true, false, List, Some, None, refl, sym, ap, ◌∙◌, subst, arith, inl, inr}
-use Rattle.std.specs.Prelude.{Option, Bool, not, ◌==◌, ◌||◌, ◌&&◌, nat_lt, nat_le, if◌then◌else◌}
-use Rattle.std.proofs.lemmas.Bool.{cases_Bool, cases_eq, cases_lt, eqb-true, ne_eqb, eq-eqb, or_from}
+use Rattle.std.specs.Prelude.{Option, Bool, not, ◌==◌, ◌||◌, ◌&&◌, nat_le, if◌then◌else◌}
+use Rattle.std.proofs.lemmas.Bool.{cases_eq, eqb-true}
 use Rattle.fis_view.specs.Table.{H2d, Command, Count, Device, Features, Lba, field}
 use Rattle.block_command.specs.declared.command.Command as block
 use Rattle.block_command.specs.declared.command.Protocol.TheVariants as protocol
 use Rattle.block_queue.specs.Line.{Line}
 use Rattle.ata_reply.specs.declared.reply.AtaError.TheVariants.{Aborted}
-use Rattle.ata_command.specs.Asks.{DiskFacts, asked, asked_by, block_in, block_of, moved, queued, sectors_asked, transferred, transferred_by, features_set, setting_of, sets, multiple_set, sets_multiple, trimmed, smart_asked, smart_task, does_smart}
+use Rattle.ata_command.specs.Asks.{DiskFacts, asked, asked_by, block_in, block_of, moved, queued, sectors_asked, transferred_by, sets, sets_multiple, trimmed, smart_asked, does_smart}
 use Rattle.ata_command.specs.Modes.{sectors_in}
-use Rattle.ata_command.specs.Opcodes.{opcode_of, or_other, other_of, transfer_of}
+use Rattle.ata_command.specs.Opcodes.{opcode_of, or_other, transfer_of}
 use Rattle.ata_command.specs.declared.asked.Asked.{Asked}
 use Rattle.ata_command.specs.declared.asked.Asked.TheVariants as ask
 use Rattle.ata_command.specs.declared.asked.LogPage.{LogPage}
@@ -27,7 +27,7 @@ use Rattle.ata_command.specs.declared.settings.Setting.{Setting}
 use Rattle.ata_command.specs.declared.settings.Settings.{Settings}
 use Rattle.sata_disk.specs.State.{is_taken, tags_below, tags_of}
 use Rattle.sata_disk.specs.Hearing.{page_asked, with_logs}
-use Rattle.sata_disk_laws.specs.Once.{is_queued_code, place_in}
+use Rattle.sata_disk_laws.specs.Once.{place_in}
 use Rattle.sata_disk_laws.proofs.Tracks.{NoTags}
 
 -- blocks of whole sectors

@@ -1,34 +1,32 @@
 -- Every call, every run: each FIS is due.
-use Rattle.std.proofs.Common.{◌≡◌, ℕ, ◌+◌, ◌*◌, ◌/◌, ◌%◌, ◌<◌, ◌≤◌, true, false, List, [], ◌∷◌, drop, length, Some, None, refl, sym, ap, ◌∙◌, subst, arith, inl, inr, ◌⊎◌}
-use Rattle.std.specs.Prelude.{Option, Bool, Result, Ok, Err, nat_lt, not, ◌&&◌, if◌then◌else◌}
-use Rattle.std.proofs.lemmas.Bool.{cases_Bool, cases_lt, lt-ltb}
+use Rattle.std.proofs.Common.{◌≡◌, ℕ, ◌/◌, ◌<◌, true, false, List, [], ◌∷◌, drop, Some, None, refl, sym, ap, ◌∙◌, subst, arith, inl, inr, ◌⊎◌}
+use Rattle.std.specs.Prelude.{Option, Bool, Result, Ok, Err, if◌then◌else◌}
+use Rattle.std.proofs.lemmas.Bool.{cases_lt, lt-ltb}
 use Rattle.fis_view.specs.Seen.{seen}
 use Rattle.fis_view.specs.declared.view.Fis.{Fis}
 use Rattle.fis_view.specs.declared.view.Fis.TheVariants as view
 use Rattle.fis_view.specs.declared.view.FisFault.{FisFault}
 use Rattle.block_command.specs.declared.command.Stage.{Stage}
 use Rattle.block_command.specs.declared.command.Stage.TheVariants.{Sending, Ended}
-use Rattle.block_command.specs.Moments.{Moment, is_ended, turn_of}
-use Rattle.block_command.proofs.Door.{at}
+use Rattle.block_command.specs.Moments.{Moment, turn_of}
 use Rattle.block_disk.specs.Table.{is_under_way}
 use Rattle.block_disk.proofs.Door.{each_is}
 use Rattle.block_queue.specs.Line.{IsLine, Line, command_at}
 use Rattle.block_queue.proofs.Door.{new_line, of_and}
-use Rattle.block_scheduler.specs.Sets.{sends_alone, sends_at, turn_at}
+use Rattle.block_scheduler.specs.Sets.{sends_alone, turn_at}
 use Rattle.block_engine.specs.declared.aside.AsideStage.{AsideStage}
 use Rattle.block_engine.specs.declared.aside.AsideStage.TheVariants as stages
 use Rattle.block_engine.specs.declared.request.Answer.{Answer}
 use Rattle.block_engine.specs.declared.request.Answer.TheVariants as answers
 use Rattle.block_engine.specs.declared.request.Failure.{Failure}
 use Rattle.block_engine.specs.declared.request.Request.{Request}
-use Rattle.block_engine.specs.Aside.{asks_for, is_over, is_waiting, settled}
-use Rattle.block_engine.specs.Engine.{EngineState, IsAskedOf, IsEngineStart, answered, aside_due, done_at, failed_by, line, loaded_at, may_ask, place_of, started}
+use Rattle.block_engine.specs.Aside.{asks_for, is_waiting, settled}
+use Rattle.block_engine.specs.Engine.{EngineState, IsAskedOf, IsEngineStart, answered, done_at, failed_by, line, loaded_at, place_of, started}
 use Rattle.ata_reply.specs.declared.reply.Reply.{Reply}
 use Rattle.ata_reply.specs.declared.reply.Reply.TheVariants as replies
 use Rattle.ata_command.specs.Courses.{resets}
 use Rattle.ata_front.specs.Fronts.{controlled, owed, standing}
 use Rattle.ata_front.specs.declared.front.Front.{Front}
-use Rattle.ata_front.specs.declared.front.Heard.{Heard}
 use Rattle.ata_front.specs.declared.task.Task.{Task}
 use Rattle.ata_front.specs.declared.task.Task.TheVariants as tasks
 use Rattle.disk_pages.specs.Profiles.{facts_of}
@@ -49,12 +47,12 @@ use Rattle.sata_disk_laws.proofs.Commands.{TracksOf, command_tracks, control_tra
 use Rattle.sata_disk_laws.proofs.Left.{IsSome, part_some_sectors}
 use Rattle.sata_disk_laws.proofs.Owed.{beside_tracks, data_tracks, page_tracks, said_tracks}
 use Rattle.sata_disk_laws.proofs.Quiet.{Same, answered_quiet, asked_quiet, started_quiet}
-use Rattle.sata_disk_laws.proofs.Replies.{IsGood, SentAs, queued_data, queued_reply}
+use Rattle.sata_disk_laws.proofs.Replies.{SentAs, queued_data, queued_reply}
 use Rattle.sata_disk_laws.proofs.Runs.{call_after, call_are}
 use Rattle.sata_disk_laws.proofs.Silent.{steps_line}
 use Rattle.sata_disk_laws.proofs.Single.{single_data, single_reply}
 use Rattle.sata_disk_laws.proofs.Speaks.{next_sends, queued_idle}
-use Rattle.sata_disk_laws.proofs.Tracks.{FitsPlace, IsPlace, LoneTags, NoTags, OwedTags, OwesAs, TagsAs, Tracks, WaitsAs, quiet_tracks}
+use Rattle.sata_disk_laws.proofs.Tracks.{FitsPlace, IsPlace, LoneTags, OwedTags, OwesAs, TagsAs, Tracks, WaitsAs, quiet_tracks}
 
 -- ## The FIS of a command
 
@@ -76,13 +74,16 @@ pub record IsSent (d : DiskState) (p : ℕ) (o : Out) (m : Moment) : Type 0 wher
 sent_case : (d : DiskState) (p : ℕ) (o : Out) (x : Option Moment) → command_at (commands d) p ≡ x → IsCommandOut d p o → sends_alone p (turn_at x) ≡ true
     → (m : Moment) × IsSent d p o m
 sent_case d p o None there is sends = absurd (let none = is.3 ∙ ap (out_at d p) there in cc)
-sent_case d p o (Some m) there is sends = (m, record {
-  free = is.0;
-  there = there;
-  sends = sends;
-  alive = sends_alive p m m.stage refl sends;
-  is = is.3 ∙ ap (out_at d p) there;
-})
+sent_case d p o (Some m) there is sends = (
+  m,
+  record {
+    free = is.0;
+    there = there;
+    sends = sends;
+    alive = sends_alive p m m.stage refl sends;
+    is = is.3 ∙ ap (out_at d p) there;
+  },
+)
 
 pub sent_is : (d : DiskState) (p : ℕ) (o : Out) → IsCommandOut d p o → (m : Moment) × IsSent d p o m
 sent_is d p o is = sent_case d p o (command_at (commands d) p) refl is (next_sends (commands d) _ p is.1.1)
@@ -118,8 +119,7 @@ data_queued : (h : Host) (d : DiskState) (p n : ℕ) (m : Moment) → IsSent d p
     → IsOutDue h (out.Data p n) × SentAs (out_got h (out.Data p n)) d p (n / 512)
 data_queued h d p n m s low line' knows =
     let q = queued_idle h d.front d.engine.stage (commands d) p low (ap is_under_way s.there ∙ s.alive) s.free knows in
-    let P : Bool → Type 0 = λ b. IsDataAt h p b in
-    (
+    let P : Bool → Type 0 = λ b. IsDataAt h p b in (
       subst P (sym (lt-ltb p 32 low)) q.1,
       queued_data h d p n m.command m.done m.bytes m.sent m.stage s.there low line' (fit_at h d p m (omega (arith, low)) s.there knows) s.is q.1 knows,
     )
@@ -249,7 +249,7 @@ call_due h d (Asks r) is line' knows = (tt, ask_knows h d r r.place is.1 line' k
 call_due h d (Answers number a) is line' knows = (
   tt,
   stage_tracks h d.front d.engine.stage _ _ (answered_stage d.engine number a)
-  (quiet_tracks h d.front d.engine.stage (commands d) _ (answered_quiet d.engine number a line') knows),
+      (quiet_tracks h d.front d.engine.stage (commands d) _ (answered_quiet d.engine number a line') knows),
 )
 call_due h d (Sends o) is line' knows = out_due h d o is line' knows
 
@@ -317,7 +317,7 @@ open_is_under_way p limit calls are =
     record {
       heard = λ f e. heard_case (host_of new_host calls) (reached p limit calls) f knows e;
       queued = λ t low free.
-        queued_case (host_of new_host calls) (commands (reached p limit calls)) _ _ knows.waits knows.tags free t low;
+          queued_case (host_of new_host calls) (commands (reached p limit calls)) _ _ knows.waits knows.tags free t low;
     }
 
 chunk_is : (n k : ℕ) → n ≡ k → IsSome k → wanted.IsChunk n

@@ -1,9 +1,9 @@
 -- A FIS of the host keeps what it has open and what the disk is alike.
-use Rattle.std.proofs.Common.{◌≡◌, ℕ, ◌+◌, ◌*◌, ◌<◌, ◌⊎◌, true, false, List, [], length, get_or, set, Some, None, refl, sym, ap, ◌∙◌, subst, arith, inl, inr}
-use Rattle.std.specs.Prelude.{Option, Bool, nat_lt, not, ◌==◌, ◌&&◌, ◌||◌, if◌then◌else◌}
+use Rattle.std.proofs.Common.{◌≡◌, ℕ, ◌<◌, ◌⊎◌, true, false, Some, None, refl, sym, ap, ◌∙◌, subst, arith, inl, inr}
+use Rattle.std.specs.Prelude.{Option, Bool, nat_lt, ◌==◌, ◌||◌, if◌then◌else◌}
 use Rattle.std.specs.Option.{is_some}
 use Rattle.std.specs.Int.{bit_at}
-use Rattle.std.proofs.lemmas.Bool.{cases_Bool, cases_eq, cases_lt, eq-eqb, eqb-true, ne_eqb, lt-ltb, or_left, or_right}
+use Rattle.std.proofs.lemmas.Bool.{cases_eq, eq-eqb, ne_eqb, lt-ltb, or_left}
 use Rattle.std.proofs.lemmas.List.{get_or-set_same, get_or-set_other}
 use Rattle.block_command.specs.declared.command.Command.{Command}
 use Rattle.block_command.specs.Moments.{IsCommand, Moment, is_queued, opening}
@@ -14,7 +14,6 @@ use Rattle.block_queue.specs.Line.{IsLine, Line, command_at, line_reset, line_ta
 use Rattle.block_queue.proofs.Door.{of_and}
 use Rattle.block_engine.specs.declared.aside.AsideStage.{AsideStage}
 use Rattle.block_engine.specs.declared.aside.AsideStage.TheVariants as stages
-use Rattle.block_engine.specs.declared.request.Range.{Range}
 use Rattle.block_engine.specs.Engine.{EngineState, line}
 use Rattle.ata_reply.specs.declared.reply.Failure.{Failure}
 use Rattle.ata_reply.specs.declared.reply.Reply.{Reply}
@@ -28,7 +27,7 @@ use Rattle.ata_command.specs.declared.asked.PowerTask.TheVariants as power
 use Rattle.ata_command.specs.declared.asked.Refusal.{Refusal}
 use Rattle.ata_command.specs.declared.asked.SmartTask.{SmartTask}
 use Rattle.ata_command.specs.declared.asked.SmartTask.TheVariants as smart
-use Rattle.ata_command.specs.declared.control.Course.TheVariants.{Drop, Refuse, AbortAll, Take}
+use Rattle.ata_command.specs.declared.control.Course.TheVariants.{Refuse, AbortAll, Take}
 use Rattle.ata_command.specs.declared.control.Standing.TheVariants as stand
 use Rattle.ata_command.specs.declared.settings.Setting.{Setting}
 use Rattle.ata_command.specs.declared.settings.Setting.TheVariants as set'
@@ -43,10 +42,10 @@ use Rattle.sata_disk.specs.State.{IsBeside, is_taken, tags_of}
 use Rattle.sata_disk.specs.Hearing.{MayAct, command_unheard, engine_acted}
 use Rattle.sata_disk.specs.declared.unheard.Unheard.{Unheard}
 use Rattle.sata_disk.specs.declared.unheard.Unheard.TheVariants.{Busy, InReset}
-use Rattle.sata_disk_laws.specs.Once.{ForAnswer, ForEnd, ForLast, ForNothing, ForSignature, Host, IsAccepted, IsRefused, IsSingle, Wait}
+use Rattle.sata_disk_laws.specs.Once.{ForAnswer, ForEnd, ForLast, ForSignature, Host, IsAccepted, IsRefused, IsSingle, Wait}
 use Rattle.sata_disk_laws.specs.Once.{command_given, control_given, none_open, opened, unheard_of, wait_for, waits_for_nothing}
 use Rattle.sata_disk_laws.proofs.Fits.{IsWhole}
-use Rattle.sata_disk_laws.proofs.Tracks.{FitsPlace, IsPlace, LoneTags, MovesAs, NoTags, OwedTags, OwesAs, SameTags, TagsAs, Tracks, WaitsAs}
+use Rattle.sata_disk_laws.proofs.Tracks.{FitsPlace, IsPlace, LoneTags, MovesAs, NoTags, OwesAs, SameTags, TagsAs, Tracks, WaitsAs}
 use Rattle.sata_disk_laws.proofs.AskedPlaces.{AskedAt, IsBlock, no_tags}
 
 abbrev pub TracksOf : Host → Heard → EngineState → Type 0

@@ -1,6 +1,6 @@
 -- The sectors that a read by PIO has left: its last PIO Setup FIS is that of the block that ends it.
-use Rattle.std.proofs.Common.{◌≡◌, ℕ, ◌+◌, ◌-◌, ◌*◌, ◌/◌, ◌<◌, ◌≤◌, true, false, List, [], ◌++◌, length, take, drop, refl, sym, ap, ◌∙◌, arith, inl, inr, subst}
-use Rattle.std.specs.Prelude.{Bool, nat_le, nat_lt, not, if◌then◌else◌, ◌==◌, ◌&&◌}
+use Rattle.std.proofs.Common.{◌≡◌, ℕ, ◌+◌, ◌-◌, ◌*◌, ◌/◌, ◌<◌, ◌≤◌, true, false, List, [], ◌++◌, length, refl, sym, ap, ◌∙◌, arith, inl, inr, subst}
+use Rattle.std.specs.Prelude.{Bool, nat_le, nat_lt, not, if◌then◌else◌, ◌&&◌}
 use Rattle.std.proofs.lemmas.Bool.{cases_Bool, ltb-true, ltb-false, le-leb, lt-leb}
 use Rattle.block_command.specs.declared.command.Command.{Command}
 use Rattle.block_command.specs.declared.command.Protocol.{Protocol}
@@ -9,12 +9,11 @@ use Rattle.block_command.specs.declared.command.Stage.{Stage}
 use Rattle.block_command.specs.declared.command.Stage.TheVariants.{Waiting, Load, Loading, SetUpRead, Announce, Sending}
 use Rattle.block_command.specs.declared.command.Stage.TheVariants.{SetUpWrite, Activate, Receiving}
 use Rattle.block_command.specs.declared.command.Stage.TheVariants.{Store, Storing, Flush, Flushing, End, Fail}
-use Rattle.block_command.specs.declared.command.Stage.TheVariants.{Ended}
-use Rattle.block_command.specs.Moments.{Moment, chunk, data_stage, first_data_stage, is_ended, is_queued, is_verify, part_count, part_len, part_of, read_end, read_on, turn_of}
+use Rattle.block_command.specs.Moments.{Moment, data_stage, first_data_stage, is_ended, is_verify, part_count, part_of, read_end, read_on, turn_of}
 use Rattle.block_command.specs.Laws.{Input, Goes, Loads, Comes, Stores, Flushes, Fails, after}
 use Rattle.block_command.proofs.Door.{at}
 use Rattle.block_disk.specs.Requests.{is_fis}
-use Rattle.sata_disk_laws.proofs.Fits.{Fits, IsPart, IsWhole, is_pio, next_is, part_some}
+use Rattle.sata_disk_laws.proofs.Fits.{IsPart, IsWhole, is_pio, next_is, part_some}
 
 abbrev pub is_sending : Stage → Bool
 is_sending Sending = true
@@ -105,7 +104,7 @@ last_ends c done bytes sent left w p counts =
     let n = next_is c done bytes sent w p in
     sent_ended c done bytes _ _ _
     ∙ pio_case c _ _ (λ e. sym (ap (λ k. nat_le (left * 512) k) n.carried
-      ∙ last_case c done bytes sent left n.sectors p _ _ (ap (λ k. nat_lt (sent + k) (length bytes)) (sym n.long)) refl (counts e) n.within))
+    ∙ last_case c done bytes sent left n.sectors p _ _ (ap (λ k. nat_lt (sent + k) (length bytes)) (sym n.long)) refl (counts e) n.within))
 
 -- ## What is left after it
 
@@ -141,7 +140,7 @@ sending_counts c done bytes sent left w p counts =
     let P : ℕ → Type 0 = λ k. CountsAt (left - length (part_of (at c done bytes sent Sending)) / 512) (data_sent c done bytes (sent + k) (nat_lt (sent + k) (length bytes)) (nat_lt (done + part_count c done) c.count)) in
     let Q : ℕ → Type 0 = λ k. CountsAt (left - k) (data_sent c done bytes (sent + n.sectors * 512) (nat_lt (sent + n.sectors * 512) (length bytes)) (nat_lt (done + part_count c done) c.count)) in
     subst P (sym n.long) (subst Q (sym (ap (λ k. k / 512) n.carried ∙ div_512 n.sectors))
-      (sent_counts c done bytes sent left n.sectors p _ _ refl refl counts n.within))
+    (sent_counts c done bytes sent left n.sectors p _ _ refl refl counts n.within))
 
 -- Data have some sectors, at most 16
 pub record IsSome (n : ℕ) : Type 0 where

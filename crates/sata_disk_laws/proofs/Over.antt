@@ -1,8 +1,8 @@
 -- The ends of queued commands go together.
-use Rattle.std.proofs.Common.{◌≡◌, ℕ, zero, suc, ◌<◌, ◌≤◌, ◌⊎◌, true, false, List, get_or, set, Some, None, refl, sym, ap, ◌∙◌, arith, inl, inr, subst}
-use Rattle.std.specs.Prelude.{Option, Bool, not, is_none, ◌&&◌, ◌||◌, if◌then◌else◌}
+use Rattle.std.proofs.Common.{◌≡◌, ℕ, zero, suc, ◌<◌, ◌≤◌, ◌⊎◌, true, false, List, get_or, set, Some, None, refl, sym, ap, ◌∙◌, arith, inl, inr}
+use Rattle.std.specs.Prelude.{Option, Bool, is_none, ◌&&◌, if◌then◌else◌}
 use Rattle.std.specs.Option.{option_map}
-use Rattle.std.proofs.lemmas.Bool.{and_from, cases_Bool, cases_eq, cases_lt}
+use Rattle.std.proofs.lemmas.Bool.{and_from, cases_Bool, cases_eq}
 use Rattle.std.proofs.lemmas.List.{get_or-set_same, get_or-set_other}
 use Rattle.block_command.specs.declared.command.Command.{Command}
 use Rattle.block_command.specs.declared.command.Stage.{Stage}
@@ -70,7 +70,7 @@ ended_more l k n low is a e =
         | inr apart ↦ get_or-set_other k.queue.table.places n q _ None apart ∙ a.ended q low' (omega (arith, below, apart)) ends
       ];
       others = λ q low' other.
-        get_or-set_other k.queue.table.places n q _ None (not_it l q n end' other) ∙ a.others q low' (before l q n other);
+          get_or-set_other k.queue.table.places n q _ None (not_it l q n end' other) ∙ a.others q low' (before l q n other);
       free = ap (λ w. wire_with w n (option_map (λ m. after m Goes) (command_at k n))) a.free ∙ end_wire (command_at k n) n e;
     }
 

@@ -1,31 +1,28 @@
 -- What a disk owes of itself is due to its host.
-use Rattle.std.proofs.Common.{◌≡◌, ℕ, ◌<◌, true, false, List, [], length, Some, None, refl, sym, ap, ◌∙◌, subst, arith, inl, inr}
-use Rattle.std.specs.Prelude.{Option, Bool, not, ◌==◌, ◌&&◌, if◌then◌else◌}
+use Rattle.std.proofs.Common.{◌≡◌, ℕ, true, false, List, Some, None, refl, sym, ap, ◌∙◌, subst, inl}
+use Rattle.std.specs.Prelude.{Option, Bool, not, ◌==◌}
 use Rattle.std.specs.Option.{is_some}
-use Rattle.std.proofs.lemmas.Bool.{ne_eqb}
+use Rattle.std.proofs.lemmas.Bool.{and_right}
 use Rattle.block_disk.specs.Table.{is_under_way}
 use Rattle.block_queue.specs.Line.{IsLine, Line, command_at}
 use Rattle.block_engine.specs.declared.aside.AsideStage.{AsideStage}
 use Rattle.block_engine.specs.declared.aside.AsideStage.TheVariants as stages
 use Rattle.block_engine.specs.declared.request.Range.{Range}
 use Rattle.block_engine.specs.Aside.{is_over}
-use Rattle.block_engine.specs.Engine.{EngineState, line}
 use Rattle.ata_command.specs.declared.settings.Settings.{Settings}
 use Rattle.ata_reply.specs.declared.reply.Reply.{Reply}
 use Rattle.ata_reply.specs.declared.reply.Reply.TheVariants as replies
-use Rattle.ata_front.specs.Fronts.{after_discard, beside_sent, heard_data, is_log_10, over, owed, said_by, settings_then}
+use Rattle.ata_front.specs.Fronts.{beside_sent, heard_data, over, owed, said_by}
 use Rattle.ata_front.specs.declared.front.Front.{Front}
 use Rattle.ata_front.specs.declared.task.Fault.{Fault}
-use Rattle.ata_front.specs.declared.task.Owed.{Owed}
 use Rattle.ata_front.specs.declared.task.Owed.TheVariants as owe
 use Rattle.ata_front.specs.declared.task.Page.{Page}
-use Rattle.ata_front.specs.declared.task.Purpose.{Purpose}
 use Rattle.ata_front.specs.declared.task.Task.{Task}
 use Rattle.ata_front.specs.declared.task.Task.TheVariants as tasks
 use Rattle.ata_front.specs.declared.task.Trouble.{Trouble}
 use Rattle.sata_disk.specs.State.{DiskState, IsBeside, commands, data_place}
-use Rattle.sata_disk.specs.Hearing.{MayRange, came_for, data_by, discarding, ranges_of}
-use Rattle.sata_disk_laws.specs.Once.{ForEnd, ForLast, ForNothing, Host, IsDue, IsFilling, IsRefused, IsSingle, Wait, closed, data_got, data_got_by, is_for_data, none_open, reply_got, single_over}
+use Rattle.sata_disk.specs.Hearing.{data_by, discarding}
+use Rattle.sata_disk_laws.specs.Once.{ForEnd, ForLast, ForNothing, Host, IsDue, IsFilling, IsRefused, IsSingle, Wait, data_got, data_got_by, is_for_data, none_open, reply_got, single_over}
 use Rattle.sata_disk_laws.proofs.Quiet.{heard_quiet}
 use Rattle.sata_disk_laws.proofs.Runs.{place_low}
 use Rattle.sata_disk_laws.proofs.Tracks.{LoneTags, NoTags, OwedTags, OwesAs, SameTags, TagsAs, Tracks, WaitsAs, quiet_tracks}
@@ -46,11 +43,7 @@ idle_tracks h h' f x st s s' l is beside waits shut reset over' tags faulty = re
 }
 
 pub none_closed : (h : Host) (l : Line) → LoneTags h l → SameTags (single_over h) l
-none_closed h l lone = λ t low. (lone t low).0 ∙ sym (case (not (t == 32)) (lone t low).1)
-  where
-    case : (b : Bool) {x : Bool} → x ≡ false → (b && x) ≡ false
-    case true e = e
-    case false e = refl
+none_closed h l lone = λ t low. (lone t low).0 ∙ sym (and_right (not (t == 32)) (h.open_at t) (lone t low).1)
 
 pub same_lone : (h : Host) (l : Line) → LoneTags h l → SameTags h l
 same_lone h l lone = λ t low. (lone t low).0 ∙ sym (lone t low).1
@@ -140,8 +133,7 @@ page_case h f s l (tasks.Gives q) p at' e is beside waits tags =
     let P : Wait → Type 0 = λ w. Tracks (data_got_by h w) (said_by f (tasks.Gives q)) s l in
     ((waits.0, fills_last h.waits waits.1), subst P (sym waits.1) (single_tracks h f _ f.settings s s l is beside waits.2 tags))
 page_case h f s l (tasks.Sends q) p at' e is beside waits tags =
-    let P : Wait → Type 0 = λ w. Tracks (data_got_by h w) (said_by f (tasks.Sends q)) s l in
-    (
+    let P : Wait → Type 0 = λ w. Tracks (data_got_by h w) (said_by f (tasks.Sends q)) s l in (
       (waits.0.0, fills_end h.waits waits.0.1),
       subst P (sym waits.0.1) (lone_tracks h h f _ _ (tasks.Owes replies.Done) s l is at' (λ x. cc) beside waits tags tags refl),
     )
@@ -185,13 +177,13 @@ beside_tracks h f s l well x e is = beside_case h f s l well x f.task e is is.be
 
 -- ## Data of the host
 
-ranges_case : (h : Host) (d : DiskState) (t : Task) (n blocks : ℕ) (x : Option (List Range)) → d.front.task ≡ t → heard_data t ≡ Some blocks
+ranges_case : (h : Host) (d : DiskState) (t : Task) (blocks : ℕ) (x : Option (List Range)) → d.front.task ≡ t → heard_data t ≡ Some blocks
     → Tracks h d.front d.engine.stage (commands d) → IsBeside t d.engine.stage → WaitsAs h t (command_at (commands d) 32) → TagsAs h t (commands d)
     → Tracks h (discarding d x).front (discarding d x).engine.stage (commands (discarding d x))
-ranges_case h d (tasks.Expects k) n blocks None at' e is beside waits tags =
+ranges_case h d (tasks.Expects k) blocks None at' e is beside waits tags =
     lone_tracks h h d.front d.front.fault _ (tasks.Owes _) d.engine.stage (commands d) is at' (λ x. cc) beside
     (single_refused h waits.0, waits.1) (no_lone h (commands d) tags) tags refl
-ranges_case h d (tasks.Expects k) n blocks (Some ranges) at' e is beside waits tags = record {
+ranges_case h d (tasks.Expects k) blocks (Some ranges) at' e is beside waits tags = record {
   beside = tt;
   fits = is.fits;
   waits = waits;
@@ -200,13 +192,13 @@ ranges_case h d (tasks.Expects k) n blocks (Some ranges) at' e is beside waits t
   idle = λ r. absurd (let idle = sym at' ∙ (is.idle r).0 in cc);
   faulty = is.faulty;
 }
-ranges_case h d t n blocks x at' e is beside waits tags = absurd (cc)
+ranges_case h d t blocks x at' e is beside waits tags = absurd (cc)
 
 data_case : (h : Host) (d : DiskState) (x : Option ℕ) (bytes : List ℕ) → heard_data d.front.task ≡ x → Tracks h d.front d.engine.stage (commands d)
     → IsLine (commands d) → Tracks h (data_by d x bytes).front (data_by d x bytes).engine.stage (commands (data_by d x bytes))
 data_case h d None bytes e is line' =
     quiet_tracks h d.front d.engine.stage (commands d) _ (heard_quiet (commands d) (data_place (commands d)) bytes line' (place_low (commands d))) is
-data_case h d (Some blocks) bytes e is line' = ranges_case h d d.front.task 0 blocks _ refl e is is.beside is.waits is.tags
+data_case h d (Some blocks) bytes e is line' = ranges_case h d d.front.task blocks _ refl e is is.beside is.waits is.tags
 
 pub data_tracks : (h : Host) (d : DiskState) (bytes : List ℕ) → Tracks h d.front d.engine.stage (commands d) → IsLine (commands d)
     → Tracks h (data_by d (heard_data d.front.task) bytes).front (data_by d (heard_data d.front.task) bytes).engine.stage

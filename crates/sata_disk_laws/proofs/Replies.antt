@@ -1,42 +1,33 @@
 -- The FIS of each command is due to its host, and keeps host and disk alike.
-use Rattle.std.proofs.Common.{◌≡◌, ℕ, ◌+◌, ◌-◌, ◌*◌, ◌/◌, ◌<◌, ◌≤◌, true, false, List, [], length, Some, None, refl, sym, ap, ◌∙◌, subst, arith, inl, inr, ◌⊎◌}
-use Rattle.std.specs.Prelude.{Option, Bool, nat_le, nat_lt, not, ◌==◌, ◌&&◌, if◌then◌else◌}
-use Rattle.std.specs.Option.{is_some, option_map}
-use Rattle.std.proofs.lemmas.Bool.{cases_lt, lt-ltb, le-ltb}
+use Rattle.std.proofs.Common.{◌≡◌, ℕ, ◌*◌, ◌/◌, ◌<◌, true, false, List, length, Some, refl, sym, ap, ◌∙◌, subst, inr}
+use Rattle.std.specs.Prelude.{Bool, nat_le, nat_lt, not, ◌&&◌, if◌then◌else◌}
+use Rattle.std.specs.Option.{option_map}
+use Rattle.std.proofs.lemmas.Bool.{lt-ltb}
 use Rattle.block_command.specs.declared.command.Command.{Command}
 use Rattle.block_command.specs.declared.command.Protocol.{Protocol}
 use Rattle.block_command.specs.declared.command.Protocol.TheVariants.{Queued, Dma, Pio, Verify}
 use Rattle.block_command.specs.declared.command.Stage.{Stage}
-use Rattle.block_command.specs.declared.command.Stage.TheVariants.{SetUpRead, Announce, Sending, SetUpWrite, Activate, Receiving, End, Fail, Ended}
+use Rattle.block_command.specs.declared.command.Stage.TheVariants.{SetUpRead, Announce, Sending, SetUpWrite, Activate, Receiving, End, Fail}
 use Rattle.block_command.specs.Moments.{Moment, is_ended, is_queued, part_of, turn_of}
 use Rattle.block_command.specs.Laws.{Goes, after}
 use Rattle.block_command.proofs.Door.{at}
 use Rattle.block_disk.specs.Table.{is_under_way}
-use Rattle.block_queue.specs.Line.{IsLine, Line, command_at, line_gone}
+use Rattle.block_queue.specs.Line.{IsLine, command_at}
 use Rattle.block_queue.proofs.Door.{of_and}
-use Rattle.block_scheduler.specs.Sets.{is_fail, sends_alone, sends_at, turn_at}
-use Rattle.block_engine.specs.declared.aside.AsideStage.{AsideStage}
-use Rattle.block_engine.specs.Engine.{line}
-use Rattle.ata_reply.specs.declared.reply.Failure.{Failure}
+use Rattle.block_scheduler.specs.Sets.{is_fail, sends_alone, turn_at}
 use Rattle.ata_reply.specs.declared.reply.Reply.{Reply}
 use Rattle.ata_reply.specs.declared.reply.Reply.TheVariants as replies
-use Rattle.ata_front.specs.CommandFis.{announced_read, announced_write, asks_by, failure_of, set_up}
-use Rattle.ata_front.specs.Fronts.{owed, single_sent, task_less}
-use Rattle.ata_front.specs.declared.front.Front.{Front}
-use Rattle.ata_front.specs.declared.task.Moving.{Moving}
-use Rattle.ata_front.specs.declared.task.Task.{Task}
+use Rattle.ata_front.specs.CommandFis.{asks_by, failure_of, set_up}
 use Rattle.ata_front.specs.declared.task.Task.TheVariants as tasks
 use Rattle.ata_front.specs.declared.task.Trouble.{Trouble}
-use Rattle.sata_disk.specs.State.{DiskState, commands, is_taken}
-use Rattle.sata_disk.specs.Sending.{command_sent, moving_of, out_at, place_sent, single_front, trouble_at}
-use Rattle.sata_disk.specs.declared.out.Out.{Out}
+use Rattle.sata_disk.specs.State.{DiskState, commands}
+use Rattle.sata_disk.specs.Sending.{command_sent, out_at}
 use Rattle.sata_disk.specs.declared.out.Out.TheVariants as out
-use Rattle.sata_disk_laws.specs.Once.{ForEnd, ForLast, ForNothing, Host, IsDue, IsOfPlace, IsOpenAt, IsQueued, IsSingle, Wait, announced, data_got, data_got_by, is_for_data, none_open, reply_got, single_over}
-use Rattle.sata_disk_laws.proofs.Fits.{FitsAt, is_pio}
-use Rattle.sata_disk_laws.proofs.Left.{CountsAt, is_last, last_ends, sending_counts, sending_last}
-use Rattle.sata_disk_laws.proofs.Owed.{failed_tracks, no_lone, single_refused, single_tracks}
-use Rattle.sata_disk_laws.proofs.Speaks.{IsGone, gone_fits, gone_is, queued_fails, queued_stays}
-use Rattle.sata_disk_laws.proofs.Tracks.{FitsPlace, IsPlace, LoneTags, MovesAs, NoTags, Tracks, WaitsAs}
+use Rattle.sata_disk_laws.specs.Once.{Host, IsDue, IsOfPlace, IsQueued, Wait, data_got, data_got_by, reply_got}
+use Rattle.sata_disk_laws.proofs.Fits.{is_pio}
+use Rattle.sata_disk_laws.proofs.Left.{last_ends}
+use Rattle.sata_disk_laws.proofs.Speaks.{queued_fails, queued_stays}
+use Rattle.sata_disk_laws.proofs.Tracks.{IsPlace, Tracks}
 
 -- the disk after the FIS of a place
 abbrev pub SentAs : Host → DiskState → (p n : ℕ) → Type 0
@@ -110,7 +101,7 @@ queued_reply h d p r c done bytes sent SetUpRead there low is place sends e queu
     by_reply h d p r (set_up c) e (queued_good h d p (at c done bytes sent SetUpRead) (set_up c) there low is refl refl refl tracks (queued_at h c.place p place.place queued) place.place refl)
 queued_reply h d p r c done bytes sent SetUpWrite there low is place sends e queued idle tracks =
     by_reply h d p r (set_up c) e (queued_good h d p (at c done bytes sent SetUpWrite) (set_up c) there low is refl refl (set_up_ended c.auto_activate) tracks
-      (queued_at h c.place p place.place queued) place.place refl)
+    (queued_at h c.place p place.place queued) place.place refl)
 queued_reply h d p r c done bytes sent Announce there low is place sends e queued idle tracks =
     absurd (not_pio c.protocol (place.queued ∙ lt-ltb p 32 low) place.fits.0)
 queued_reply h d p r c done bytes sent Sending there low is place sends e queued idle tracks = absurd (cc)

@@ -9,7 +9,7 @@ use Rattle.ata_front.specs.Fronts.{page_announced}
 use Rattle.ata_front.specs.declared.task.Page.TheVariants as pages
 use Rattle.sata_disk.specs.declared.out.Out.TheVariants as out
 use Rattle.sata_disk_laws.specs.Calls.{Call, Hears, Plugs, Sends}
-use Rattle.sata_disk_laws.specs.Once.{Host, ForAnswer, ForEnd, ForLast, ForNothing, ForSignature, IsDue, host_of, new_host, none_open, opened, closed, tags_closed}
+use Rattle.sata_disk_laws.specs.Once.{ForAnswer, ForEnd, ForLast, ForNothing, ForSignature, IsDue, host_of, new_host, none_open}
 
 -- a Register FIS of these first bytes and this Count
 abbrev fis : (flags code count : ℕ) → (control : ℕ) → List ℕ

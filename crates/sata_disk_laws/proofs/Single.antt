@@ -1,22 +1,22 @@
 -- The FIS of the command that moves sectors and is not queued is due to its host.
-use Rattle.std.proofs.Common.{◌≡◌, ℕ, ◌+◌, ◌-◌, ◌*◌, ◌/◌, ◌<◌, ◌≤◌, true, false, List, [], length, Some, None, refl, sym, ap, ◌∙◌, subst, arith, inl, inr, ◌⊎◌}
+use Rattle.std.proofs.Common.{◌≡◌, ℕ, ◌-◌, ◌*◌, ◌/◌, ◌<◌, true, false, List, length, Some, refl, sym, ap, ◌∙◌, subst, arith, inl}
 use Rattle.std.specs.Prelude.{Option, Bool, nat_le, nat_lt, not, ◌==◌, ◌&&◌, if◌then◌else◌}
-use Rattle.std.specs.Option.{is_some, option_map}
+use Rattle.std.specs.Option.{option_map}
+use Rattle.std.proofs.lemmas.Bool.{and_right}
 use Rattle.block_command.specs.declared.command.Command.{Command}
 use Rattle.block_command.specs.declared.command.Protocol.{Protocol}
 use Rattle.block_command.specs.declared.command.Protocol.TheVariants.{Queued, Dma, Pio, Verify}
 use Rattle.block_command.specs.declared.command.Stage.{Stage}
 use Rattle.block_command.specs.declared.command.Stage.TheVariants.{SetUpRead, Announce, Sending, SetUpWrite, Activate, End, Fail}
-use Rattle.block_command.specs.Moments.{Moment, is_ended, is_queued, part_of, turn_of}
+use Rattle.block_command.specs.Moments.{Moment, is_ended, part_of}
 use Rattle.block_command.specs.Laws.{Goes, after}
 use Rattle.block_command.proofs.Door.{at}
 use Rattle.block_disk.specs.Table.{is_under_way}
 use Rattle.block_queue.specs.Line.{IsLine, Line, command_at, line_gone}
-use Rattle.block_scheduler.specs.Sets.{sends_alone}
 use Rattle.block_engine.specs.declared.aside.AsideStage.{AsideStage}
 use Rattle.ata_reply.specs.declared.reply.Reply.{Reply}
 use Rattle.ata_reply.specs.declared.reply.Reply.TheVariants as replies
-use Rattle.ata_front.specs.CommandFis.{announced_read, announced_write, asks_by, failure_of}
+use Rattle.ata_front.specs.CommandFis.{announced_read, asks_by, failure_of}
 use Rattle.ata_front.specs.Fronts.{task_less}
 use Rattle.ata_front.specs.declared.front.Front.{Front}
 use Rattle.ata_front.specs.declared.task.Moving.{Moving}
@@ -25,15 +25,13 @@ use Rattle.ata_front.specs.declared.task.Task.TheVariants as tasks
 use Rattle.ata_front.specs.declared.task.Trouble.{Trouble}
 use Rattle.sata_disk.specs.State.{DiskState, IsBeside, commands, is_taken}
 use Rattle.sata_disk.specs.Sending.{moving_of, out_at, single_front, trouble_at}
-use Rattle.sata_disk.specs.declared.out.Out.{Out}
 use Rattle.sata_disk.specs.declared.out.Out.TheVariants as out
-use Rattle.sata_disk_laws.specs.Once.{ForEnd, ForLast, ForNothing, Host, IsDue, IsFilling, IsSingle, Wait, announced, data_got, data_got_by, is_for_data, none_open, single_over}
-use Rattle.sata_disk_laws.proofs.Fits.{is_pio}
+use Rattle.sata_disk_laws.specs.Once.{ForEnd, ForLast, ForNothing, Host, IsFilling, IsSingle, Wait, announced, data_got, data_got_by, is_for_data, none_open, single_over}
 use Rattle.sata_disk_laws.proofs.Left.{CountsAt, is_last, last_ends, sending_counts, sending_last}
-use Rattle.sata_disk_laws.proofs.Owed.{no_lone, none_closed, single_refused}
+use Rattle.sata_disk_laws.proofs.Owed.{single_refused}
 use Rattle.sata_disk_laws.proofs.Replies.{IsGood, SentAs, by_reply}
 use Rattle.sata_disk_laws.proofs.Speaks.{IsGone, gone_fits, gone_is}
-use Rattle.sata_disk_laws.proofs.Tracks.{FitsPlace, IsPlace, LoneTags, MovesAs, NoTags, SameTags, TagsAs, Tracks, WaitsAs}
+use Rattle.sata_disk_laws.proofs.Tracks.{IsPlace, LoneTags, MovesAs, TagsAs, Tracks, WaitsAs}
 
 -- ## Its task
 
@@ -150,10 +148,6 @@ announced_waits : (h : Host) (b : Bool) → h.waits ≡ ForEnd → (announced h 
 announced_waits h true e = refl
 announced_waits h false e = e
 
-closed_none : (b : Bool) {x : Bool} → x ≡ false → (b && x) ≡ false
-closed_none true e = e
-closed_none false e = refl
-
 asks_good : (h : Host) (d : DiskState) (m : Moment) (p : Protocol) → IsSingle h → SentAs h d 32 0 → IsGood h d 32 (asks_by m p)
 asks_good h d m Pio single sent = (single, refl, sent)
 asks_good h d m Queued single sent = (inl single, tt, sent)
@@ -178,39 +172,40 @@ single_reply h d r c done bytes sent Announce there is place e tracks =
     let left : (moving_of d.front.task).left ≡ v.moving.left - 0 = ap (λ t. (moving_of t).left) v.task ∙ sym (no_left v.moving.left) in
     let last : b ≡ is_last (at c done bytes sent Sending) (v.moving.left - 0) =
     ap (λ k. nat_le (k * 512) (length (part_of m))) left ∙ sym (ap (λ x. x && nat_le ((v.moving.left - 0) * 512) (length (part_of m))) place.fits.0) in
-    let P : ℕ → Type 0 = λ k. CountsAt k (at c done bytes sent Sending) in
-    (
+    let P : ℕ → Type 0 = λ k. CountsAt k (at c done bytes sent Sending) in (
       by_reply h d 32 r (announced_read m (moving_of d.front.task).left) e (
         (v.shut, v.waits),
         refl,
         single_stays h d 0 m there is v tracks (announced h b) refl (announced_open h b 32 ∙ v.shut) (λ t. announced_open h b t) (announced_reset h b)
-        (subst P (sym (no_left v.moving.left)) v.counts) (announced_waits h b v.waits ∙ ap (λ x. if x then ForLast else ForEnd) last),
+            (subst P (sym (no_left v.moving.left)) v.counts) (announced_waits h b v.waits ∙ ap (λ x. if x then ForLast else ForEnd) last),
       ),
       (v.shut, v.waits),
     )
 single_reply h d r c done bytes sent Activate there is place e tracks =
     let m = at c done bytes sent Activate in
-    let v = moving_is h d.front d.engine.stage (commands d) m there refl tracks in
-    (
+    let v = moving_is h d.front d.engine.stage (commands d) m there refl tracks in (
       by_reply h d 32 r (asks_by m c.protocol) e (asks_good h d m c.protocol (v.shut, v.waits)
-        (single_stays h d 0 m there is v tracks h refl v.shut (λ t. refl) refl tt v.waits)),
+          (single_stays h d 0 m there is v tracks h refl v.shut (λ t. refl) refl tt v.waits)),
       (v.shut, v.waits),
     )
 single_reply h d r c done bytes sent End there is place e tracks =
     let m = at c done bytes sent End in
-    let v = moving_is h d.front d.engine.stage (commands d) m there refl tracks in
-    (
-      by_reply h d 32 r replies.Done e ((v.shut, v.waits), refl,
-        single_ends h d 0 m there is v tracks (single_over h) refl refl (λ t low. closed_none (not (t == 32)) (v.lone t low).1) refl refl),
+    let v = moving_is h d.front d.engine.stage (commands d) m there refl tracks in (
+      by_reply h d 32 r replies.Done e (
+        (v.shut, v.waits),
+        refl,
+        single_ends h d 0 m there is v tracks (single_over h) refl refl (λ t low. and_right (not (t == 32)) (h.open_at t) (v.lone t low).1) refl refl,
+      ),
       (v.shut, v.waits),
     )
 single_reply h d r c done bytes sent Fail there is place e tracks =
     let m = at c done bytes sent Fail in
-    let v = moving_is h d.front d.engine.stage (commands d) m there refl tracks in
-    (
-      by_reply h d 32 r _ (e ∙ ap (λ x. Some (out.Of 32 x)) (fails_single c (trouble_at d.engine 32) (moving_of d.front.task).wide place.place))
-        (single_refused h (v.shut, v.waits), refl,
-        single_ends h d 0 m there is v tracks (record h { open_at = none_open; waits = ForNothing }) refl refl (λ t low. refl) refl refl),
+    let v = moving_is h d.front d.engine.stage (commands d) m there refl tracks in (
+      by_reply h d 32 r _ (e ∙ ap (λ x. Some (out.Of 32 x)) (fails_single c (trouble_at d.engine 32) (moving_of d.front.task).wide place.place)) (
+        single_refused h (v.shut, v.waits),
+        refl,
+        single_ends h d 0 m there is v tracks (record h { open_at = none_open; waits = ForNothing }) refl refl (λ t low. refl) refl refl,
+      ),
       (v.shut, v.waits),
     )
 single_reply h d r c done bytes sent stage there is place e tracks = absurd (cc)
@@ -227,14 +222,14 @@ data_case : (h : Host) (d : DiskState) (c : Command) (done : ℕ) (bytes : List 
 data_case h d c done bytes sent true v last there is place tracks = (
   refl,
   single_ends h d _ (at c done bytes sent Sending) there is v tracks (single_over h)
-  (last_ends c done bytes sent v.moving.left place.whole place.fits v.counts ∙ last) refl (λ t low. closed_none (not (t == 32)) (v.lone t low).1) refl refl,
+      (last_ends c done bytes sent v.moving.left place.whole place.fits v.counts ∙ last) refl (λ t low. and_right (not (t == 32)) (h.open_at t) (v.lone t low).1) refl refl,
 )
 data_case h d c done bytes sent false v last there is place tracks = (
   refl,
   single_stays h d _ (at c done bytes sent Sending) there is v tracks h
-  (last_ends c done bytes sent v.moving.left place.whole place.fits v.counts ∙ last) v.shut (λ t. refl) refl
-  (sending_counts c done bytes sent v.moving.left place.whole place.fits v.counts)
-  (v.waits ∙ ap (λ x. if x then ForLast else ForEnd) last ∙ ap (λ x. if x then ForLast else ForEnd) (sym (sending_last c done bytes sent _))),
+      (last_ends c done bytes sent v.moving.left place.whole place.fits v.counts ∙ last) v.shut (λ t. refl) refl
+      (sending_counts c done bytes sent v.moving.left place.whole place.fits v.counts)
+      (v.waits ∙ ap (λ x. if x then ForLast else ForEnd) last ∙ ap (λ x. if x then ForLast else ForEnd) (sym (sending_last c done bytes sent _))),
 )
 
 pub single_data : (h : Host) (d : DiskState) (n : ℕ) (c : Command) (done : ℕ) (bytes : List ℕ) (sent : ℕ) (stage : Stage)

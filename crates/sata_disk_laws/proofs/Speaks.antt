@@ -1,42 +1,28 @@
 -- The FIS of a command is due to its host: the queued ones.
-use Rattle.std.proofs.Common.{◌≡◌, ℕ, ◌+◌, ◌-◌, ◌*◌, ◌/◌, ◌<◌, ◌≤◌, true, false, List, [], length, get_or, set, Some, None, refl, sym, ap, ◌∙◌, subst, arith, inl, inr, ◌⊎◌}
-use Rattle.std.specs.Prelude.{Option, Bool, nat_le, nat_lt, not, ◌==◌, ◌&&◌, if◌then◌else◌}
-use Rattle.std.specs.Option.{is_some, option_map}
-use Rattle.std.proofs.lemmas.Bool.{cases_eq, lt-ltb}
+use Rattle.std.proofs.Common.{◌≡◌, ℕ, ◌<◌, true, false, Some, None, refl, sym, ap, ◌∙◌, subst, arith, inl, inr}
+use Rattle.std.specs.Prelude.{Option, Bool, nat_lt, not, ◌&&◌, if◌then◌else◌}
+use Rattle.std.specs.Option.{option_map}
+use Rattle.std.proofs.lemmas.Bool.{and_right, cases_eq, lt-ltb}
 use Rattle.std.proofs.lemmas.List.{get_or-set_same, get_or-set_other}
-use Rattle.block_command.specs.declared.command.Command.{Command}
-use Rattle.block_command.specs.declared.command.Protocol.{Protocol}
-use Rattle.block_command.specs.declared.command.Protocol.TheVariants.{Queued, Dma, Pio, Verify}
-use Rattle.block_command.specs.declared.command.Stage.{Stage}
-use Rattle.block_command.specs.declared.command.Stage.TheVariants.{SetUpRead, Announce, Sending, SetUpWrite, Activate, End, Fail}
-use Rattle.block_command.specs.Moments.{Moment, is_queued, part_of, turn_of}
+use Rattle.block_command.specs.Moments.{Moment}
 use Rattle.block_command.specs.Laws.{Goes, after}
-use Rattle.block_command.proofs.Door.{at}
 use Rattle.block_disk.specs.Table.{is_under_way}
-use Rattle.block_disk.specs.Requests.{is_fis}
-use Rattle.block_queue.specs.Line.{IsLine, Line, command_at, has_bit, line_gone, line_reset}
-use Rattle.block_queue.proofs.Door.{of_and}
-use Rattle.block_scheduler.specs.Sets.{ends_at, is_fail, sends_alone, sends_at, turn_at}
-use Rattle.block_scheduler.specs.Schedule.{IsNextFis, Schedule, ends_all, ends_sent, line_sent}
+use Rattle.block_queue.specs.Line.{IsLine, Line, command_at, line_gone, line_reset}
+use Rattle.block_scheduler.specs.Sets.{is_fail, sends_at, turn_at}
+use Rattle.block_scheduler.specs.Schedule.{IsNextFis, Schedule, ends_all, line_sent}
 use Rattle.block_scheduler.specs.declared.scheduler.NextFis.TheVariants as fis
 use Rattle.block_engine.specs.declared.aside.AsideStage.{AsideStage}
-use Rattle.block_engine.specs.Engine.{EngineState, line}
-use Rattle.ata_reply.specs.declared.reply.Reply.{Reply}
-use Rattle.ata_reply.specs.declared.reply.Reply.TheVariants as replies
-use Rattle.ata_front.specs.CommandFis.{announced_write, asks_by, failure_of, set_up}
+use Rattle.block_engine.specs.Engine.{line}
 use Rattle.ata_front.specs.Fronts.{owed, queued_failed}
 use Rattle.ata_front.specs.declared.front.Front.{Front}
 use Rattle.ata_front.specs.declared.task.Task.{Task}
 use Rattle.ata_front.specs.declared.task.Task.TheVariants as tasks
 use Rattle.ata_front.specs.declared.task.Trouble.{Trouble}
-use Rattle.sata_disk.specs.State.{DiskState, IsBeside, commands, is_taken}
-use Rattle.sata_disk.specs.Sending.{command_sent, front_sent, moving_of, out_at, place_sent, single_front, trouble_at}
-use Rattle.sata_disk.specs.declared.out.Out.{Out}
-use Rattle.sata_disk.specs.declared.out.Out.TheVariants as out
-use Rattle.sata_disk_laws.specs.Once.{ForNothing, Host, IsDue, IsOfPlace, IsOpenAt, IsQueued, Wait, data_got, data_got_by, none_open, reply_got, tags_closed}
+use Rattle.sata_disk.specs.State.{DiskState, commands, is_taken}
+use Rattle.sata_disk.specs.Sending.{command_sent, front_sent, place_sent, single_front, trouble_at}
+use Rattle.sata_disk_laws.specs.Once.{ForNothing, Host, IsQueued, none_open}
 use Rattle.sata_disk_laws.proofs.Commands.{none_alive, none_fits}
-use Rattle.sata_disk_laws.proofs.Fits.{is_pio}
-use Rattle.sata_disk_laws.proofs.Tracks.{FitsPlace, IsPlace, LoneTags, NoTags, SameTags, TagsAs, Tracks, WaitsAs, fits_then, tags_as}
+use Rattle.sata_disk_laws.proofs.Tracks.{FitsPlace, TagsAs, Tracks, WaitsAs, fits_then, tags_as}
 
 -- ## A FIS of a command goes
 
@@ -144,13 +130,9 @@ pub queued_stays : (h : Host) (d : DiskState) (p n : ℕ) → p < 32 → IsLine 
     → Tracks h (command_sent d p n).front (command_sent d p n).engine.stage (commands (command_sent d p n))
 queued_stays h d p n low is none alive tracks =
     let gone = gone_is (commands d) p is (omega (arith, low)) in
-    let stays : ends_all (commands d) p ≡ false = ap (λ b. nat_lt p 32 && b) none ∙ never (nat_lt p 32) in
+    let stays : ends_all (commands d) p ≡ false = ap (λ b. nat_lt p 32 && b) none ∙ and_right (nat_lt p 32) false refl in
     tracks_as h d.front _ d.engine.stage (line_gone (commands d) p) _ (front_case d p n _ _ (lt-ltb p 32 low) stays refl) (sent_stays d.engine.schedule p stays)
     (queued_goes h d.front d.engine.stage (commands d) _ p low gone (ap is_under_way gone.here ∙ alive) tracks)
-  where
-    never : (b : Bool) → (b && false) ≡ false
-    never true = refl
-    never false = refl
 
 pub queued_fails : (h : Host) (d : DiskState) (p n : ℕ) → p < 32 → is_fail (turn_at (command_at (commands d) p)) ≡ true → d.front.task ≡ tasks.Idle → h.waits ≡ ForNothing
     → Tracks h d.front d.engine.stage (commands d)

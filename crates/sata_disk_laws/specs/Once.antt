@@ -9,7 +9,6 @@ use Rattle.fis_view.specs.declared.view.Fis.TheVariants as view
 use Rattle.fis_view.specs.declared.view.FisFault.{FisFault}
 use Rattle.block_queue.specs.Line.{has_bit}
 use Rattle.ata_command.specs.Courses.{resets}
-use Rattle.ata_reply.specs.declared.reply.Announcement.{Announcement}
 use Rattle.ata_reply.specs.declared.reply.Reply.{Reply}
 use Rattle.ata_reply.specs.declared.reply.Reply.TheVariants as replies
 use Rattle.disk_pages.specs.declared.profile.Profile.{Profile}
