@@ -124,7 +124,7 @@ supplied_by (Data dev number done) bytes old new (Ok it) h =
     (MatchOption (gathering_at old dev) (IsStale old it new) (λ g. SuppliesData g dev number done bytes old it new)) (IsStale old it new)
     (nat_lt dev 16) h
     (λ low some. by_option GatheringState (new.bays ≡ old.bays) (IsStale old it new) (λ g. SuppliesData g dev number done bytes old it new)
-        (gathering_at old dev) some (λ none is. stale old new it is) (λ g there s. ap (λ (x : MachineState). x.bays) s.rest))
+    (gathering_at old dev) some (λ none is. stale old new it is) (λ g there s. ap (λ (x : MachineState). x.bays) s.rest))
     (λ high is. stale old new it is)
 supplied_by (Data dev number done) bytes old new (Err e) h = absurd h
 
@@ -134,7 +134,7 @@ missed_by (Data dev number done) old new (Ok it) h =
     by_bool (new.bays ≡ old.bays) (MatchOption (gathering_at old dev) ⊥ (λ g. MissesFor g dev old it new)) (IsStale old it new)
     (is_wanted old dev number done) h
     (λ low some. by_option GatheringState (new.bays ≡ old.bays) ⊥ (λ g. MissesFor g dev old it new) (gathering_at old dev) some
-        (λ none off. absurd off) (λ g there s. ap (λ (x : MachineState). x.bays) s.misses.rest))
+    (λ none off. absurd off) (λ g there s. ap (λ (x : MachineState). x.bays) s.misses.rest))
     (λ high is. stale old new it is)
 missed_by (Data dev number done) old new (Err e) h = absurd h
 
