@@ -1,11 +1,11 @@
 //! A controller with what is behind it, the memory of its guest, and the media of the disks.
 
-use crate::medium::Medium;
+use crate::medium::{Medium, aborted};
 use crate::tracer::Tracer;
 use ahci_controller::Width;
 use ahci_machine::{Act, GuestRead, Machine, MediumId, Request};
 use ahci_registers::Effect;
-use block_engine::{Answer, ErrorKind, What};
+use block_engine::What;
 use guest_bytes::{FlatGuest, NotThere};
 use std::alloc::Global;
 use std::fs::OpenFile;
@@ -46,6 +46,9 @@ pub struct Board<F: Drop> {
     seats: Vec<Seat<F>>,
     tracer: Tracer,
 }
+
+/// No command has this place.
+const NO_PLACE: u8 = u8::MAX;
 
 /// Whether a FIS went over the link between the controller and what is behind it.
 fn is_passage(act: Act) -> bool {
@@ -195,19 +198,13 @@ impl<F: Read + Write + Seek + OpenFile + Drop> Board<F> {
         };
         let answer = match what {
             What::Load { lba, count } => seat.medium.load(alloc, lba, count)?,
-            What::Store { lba, count } => {
-                let bytes = match place {
-                    Some(place) => self.machine.stored(id, place).unwrap_or(&[]),
-                    None => &[],
-                };
-                seat.medium.store(lba, count, bytes)
-            }
+            What::Store { lba, count } => match self.machine.stored(id, place.unwrap_or(NO_PLACE)) {
+                Some(bytes) => seat.medium.store(lba, count, bytes),
+                None => aborted(lba),
+            },
             What::Flush => seat.medium.flush(),
             // No disk of a scenario says that it takes TRIM.
-            What::Discard => Answer::Failed(block_engine::Failure {
-                error: ErrorKind::Aborted,
-                lba: 0,
-            }),
+            What::Discard => aborted(0),
         };
         let _ = self.machine.answer(id, answer);
         Ok(())

@@ -43,9 +43,29 @@ fn start_of(lba: u64) -> usize {
     (lba as usize).saturating_mul(SECTOR)
 }
 
-/// A request fails at a sector.
-fn failed(error: ErrorKind, lba: u64) -> Answer {
-    Answer::Failed(Failure { error, lba })
+/// Puts a sector over what begins there, if all of that is there.
+fn put(bytes: &mut Vec<u8>, start: usize, sector: &[u8]) -> bool {
+    if start > bytes.len() || sector.len() > bytes.len() - start {
+        return false;
+    }
+    bytes[start..start + sector.len()].copy_from_slice(sector);
+    true
+}
+
+/// A load fails at a sector, which cannot be read.
+fn unreadable(lba: u64) -> Answer {
+    Answer::Failed(Failure {
+        error: ErrorKind::Uncorrectable,
+        lba,
+    })
+}
+
+/// A request cannot be done, from a sector on.
+pub fn aborted(lba: u64) -> Answer {
+    Answer::Failed(Failure {
+        error: ErrorKind::Aborted,
+        lba,
+    })
 }
 
 impl<F: Read + Write + Seek + OpenFile + Drop> Place<F> {
@@ -70,17 +90,7 @@ impl<F: Read + Write + Seek + OpenFile + Drop> Place<F> {
     fn write(&mut self, lba: u64, sector: &[u8]) -> bool {
         match self {
             Place::File(file) => file.write(lba, sector).is_ok(),
-            Place::Memory(bytes) => {
-                let start = start_of(lba);
-                let end = start.saturating_add(sector.len());
-                match bytes.as_mut_slice().get_mut(start..end) {
-                    Some(room) if room.len() == sector.len() => {
-                        room.copy_from_slice(sector);
-                        true
-                    }
-                    _ => false,
-                }
-            }
+            Place::Memory(bytes) => put(bytes, start_of(lba), sector),
         }
     }
 }
@@ -102,7 +112,7 @@ impl<F: Read + Write + Seek + OpenFile + Drop> Medium<F> {
         for lba in lba..lba.saturating_add(u64::from(count)) {
             let mut room = [0; SECTOR];
             if self.bad.contains(&lba) || !self.place.read(lba, &mut room) {
-                return Ok(failed(ErrorKind::Uncorrectable, lba));
+                return Ok(unreadable(lba));
             }
             bytes.extend_from_slice(&room)?;
         }
@@ -114,10 +124,10 @@ impl<F: Read + Write + Seek + OpenFile + Drop> Medium<F> {
         let mut rest = bytes;
         for lba in lba..lba.saturating_add(u64::from(count)) {
             let Some((sector, others)) = rest.split_at_checked(SECTOR) else {
-                return failed(ErrorKind::Aborted, lba);
+                return aborted(lba);
             };
             if !self.place.write(lba, sector) {
-                return failed(ErrorKind::Aborted, lba);
+                return aborted(lba);
             }
             rest = others;
         }
@@ -132,7 +142,7 @@ impl<F: Read + Write + Seek + OpenFile + Drop> Medium<F> {
         };
         match synced {
             Ok(()) => Answer::Done,
-            Err(_) => failed(ErrorKind::Aborted, 0),
+            Err(_) => aborted(0),
         }
     }
 }

@@ -161,7 +161,11 @@ fn seats_of<F: Read + Write + Seek + OpenFile + Drop>(
     let mut seats = Vec::new(alloc);
     let mut port = 0_u8;
     for said in shapes {
-        let Built { disk, medium } = said.unwrap_or_else(Shape::plain).into_disk(alloc, port)?;
+        let shape = match said {
+            Some(shape) => shape,
+            None => Shape::plain(),
+        };
+        let Built { disk, medium } = shape.into_disk(alloc, port)?;
         let _ = machine.put(port, Unit::Disk(disk));
         seats.push(Seat::new(medium))?;
         port = port.saturating_add(1);
