@@ -295,6 +295,8 @@ static void begin(void) {
         must("disk", status);
         must("plug", gef_disk_plug(&disks[port]));
         must("plug", gef_pm_plug(&pm, (uint8_t)port));
+    }
+    for (port = 0; port < PORTS; port++) {
         write_register(port, 2, 0);
         write_register(port, 1, 0xFFFFFFFFu);
     }

@@ -5,9 +5,10 @@
  *     load large    writes of 128 KiB
  *
  * The guest acts after each event, or after each 64th: it issues a command in each slot whose last one ended. The media answer at
- * once. The controller sends the commands of its slots in a circle, so one that may go waits for at most 31 others; so no slot may see
- * more than LATER others accepted, and MOST others ended, from its issue to its own. Status 1 where one does, or where a read
- * brings other bytes.
+ * once. The controller sends the commands of its slots in a circle, so one that may go waits for at most 31 others. It may not go while
+ * its disk has not answered another command: let that cost it one round of the circle. And answers of up to 15 other ports come up before
+ * its own. So no slot may see more than LATER others accepted, and MOST others ended, from its issue to its own. Status 1
+ * where one does, or where a read brings other bytes.
  */
 #define SLOT_BYTES 0x20000
 #include "driver.h"
@@ -159,7 +160,7 @@ static uint32_t settle_slots(void) {
     return done;
 }
 
-enum { LATER = 46, MOST = 400 };
+enum { LATER = 2 * 31 + 15, MOST = 400 };
 
 static void play(const load *of, unsigned long between) {
     uint32_t done = 0, number;

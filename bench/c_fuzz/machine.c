@@ -130,12 +130,13 @@ static void answer_wrongly(const gef_event *event) {
     if (status != GEF_OTHER_KIND) fail("an answer of another kind", status);
     status = gef_machine_answer_failed(&machine, it, 3, event->u.medium.lba);
     if (status != GEF_BAD_ERROR) fail("an unknown error", status);
-    status = gef_machine_answer_failed(&machine, it, GEF_ABRT, event->u.medium.lba + event->u.medium.count + 1);
-    if (status != GEF_OTHER_SECTOR) fail("another sector", status);
+    if (event->u.medium.count) status = gef_machine_answer_failed(&machine, it, GEF_ABRT, event->u.medium.lba + event->u.medium.count);
+    if (event->u.medium.count && status != GEF_OTHER_SECTOR) fail("another sector", status);
     if (is_load && event->u.medium.count > 1) status = gef_machine_answer_loaded(&machine, it, bytes, 512);
     if (is_load && event->u.medium.count > 1 && status != GEF_OTHER_LENGTH) fail("another length", status);
-    if (!is_load) status = gef_machine_answer_failed(&machine, it, GEF_UNC, event->u.medium.lba);
-    if (!is_load && status != GEF_OTHER_KIND) fail("an error of loads", status);
+    if (event->kind != GEF_EVENT_STORE) return;
+    status = gef_machine_answer_failed(&machine, it, GEF_UNC, event->u.medium.lba);
+    if (status != GEF_OTHER_KIND) fail("an error of loads", status);
 }
 
 static gef_status answer_well(const gef_event *event) {
@@ -227,8 +228,8 @@ static int step(void) {
         break;
     case GEF_EVENT_TO_DEVICE: hear(event.port); break;
     case GEF_EVENT_BEGINS:
-        if (event.port >= PORTS || !(has_device >> event.port & 1)) fail("no device begins anew", event.port);
-        send_signature(event.port);
+        if (event.port >= PORTS || !((has_disk | has_device) & is_in & 1u << event.port)) fail("nothing begins anew", event.port);
+        if (has_device >> event.port & 1) send_signature(event.port);
         break;
     case GEF_EVENT_NOTHING:
     case GEF_EVENT_AGAIN:
@@ -308,11 +309,12 @@ static uint8_t *place(uint32_t number, uint32_t byte) {
     return memory + data_of(number) + byte + (byte < slots[number].first ? 0 : GAP);
 }
 
-/* Bytes go to the received area, to a slot's PRDBC, and to the pieces of a read. */
+/* Bytes go to the received area, to a slot's PRDBC, and to the pieces of a read; slot 0 is that of other commands. */
 static int may_be_written(uint64_t at, size_t len) {
     uint64_t end = at + len;
     uint32_t number;
     if (at >= AREA && end <= AREA + 0x1000) return 1;
+    if (at >= data_of(0) && end <= data_of(0) + 512) return 1;
     for (number = 0; number < SLOTS; number++) {
         uint64_t data = data_of(number), first = slots[number].first, all = 512 * (uint64_t)slots[number].count;
         if (at == LIST + 32 * number + 4 && len == 4) return 1;
@@ -389,7 +391,7 @@ static void answer_any(void) {
     if (!request_count) return;
     number = pick((uint32_t)request_count);
     port = requests[number].event.port;
-    if (!requests[number].is_stale && !pick(40)) {
+    if (!requests[number].is_stale && !pick(200)) {
         lose(1u << port);
         requests[number].is_stale = 0;
         answer(number, 1);
@@ -418,6 +420,7 @@ static void act_honestly(unsigned ports) {
     unsigned port = pick(ports ? ports : 1), number = 1 + pick(SLOTS - 1), count = 1 + pick(MOST_SECTORS);
     uint8_t fis[GEF_FIS_ROOM];
     uint64_t value;
+    if (!is_ready && !pick(50)) recover(ports);
     switch (pick(300) ? pick(8) : 8 + pick(3)) {
     case 0:
     case 1:
@@ -442,8 +445,8 @@ static void play_honestly(unsigned ports) {
     is_honest = 1;
     memset(slots, 0, sizeof slots);
     begin(ports, ports == PORTS ? 1u << (PORTS - 1) : 0);
-    settle();
-    recover(ports);
+    bring_up(ports);
+    is_ready = is_in & has_disk;
     for (at = 0; at < 2000; at++) act_honestly(ports);
     settle_all();
     look_at_slots();
@@ -550,7 +553,6 @@ static void step_any(void) {
     CALL(status, gef_machine_next(&machine, &event));
     must("next", status);
     if (event.kind == GEF_EVENT_LINE) line = event.u.up;
-    if (event.kind == GEF_EVENT_BEGINS && !(has_device >> event.port & 1)) fail("no device begins anew", event.port);
     if (event.kind >= GEF_EVENT_LOAD && event.kind <= GEF_EVENT_DISCARD) ask(&event);
     if (event.kind != GEF_EVENT_READ_GUEST) return;
     wanted[pick(16)] = event.u.read.wanted;
@@ -651,6 +653,7 @@ static void scene(found *now, unsigned ports) {
     settle();
     while (request_count) answer(0, 1);
     settle();
+    write_register(FBS, 3u | (disks - 1) << 8); /* DEC: the error is done with, and what the disk had to do */
     plain(disks - 1, 0x2F, 0, 0x10, 1, 512, 0);
     memcpy(now->memory, memory, MEMORY);
     now->is = read_register(IS);
@@ -666,7 +669,8 @@ static void play_refused(unsigned ports) {
     refused = asked = 0;
     state = 7;
     scene(&whole, ports);
-    if (whole.ci || whole.sact != 1u << 30) fail("not all commands ended but the last", whole.ci);
+    if (whole.ci || whole.sact) fail("not all commands ended", whole.ci);
+    if (whole.memory[data_of(0)] != 30 || whole.memory[data_of(0) + 3] != GEF_UNC) fail("the log names another tag", whole.memory[data_of(0)]);
     all = asked;
     for (refused = 1; refused <= all; refused++) {
         asked = 0;

@@ -59,21 +59,22 @@ static void hear(const uint8_t *fis, size_t len) {
     if (fis[0] == 0x39 || (fis[0] == 0x41 && fis[1] & 0x80)) check("data", gef_disk_from_host(&disk, written, sizeof written));
 }
 
-/* All that the disk sends goes up, and all that it asks for is done. */
+/* All that the disk asks for is done, and all that it sends goes up. It is asked first: a command starts as it is asked. */
 static void settle(void) {
     static uint8_t fis[GEF_FIS_ROOM];
     gef_event event;
     size_t len;
     for (;;) {
-        gef_status status = gef_disk_to_host(&disk, fis, sizeof fis, &len);
-        if (status == GEF_OK) {
-            hear(fis, len);
+        gef_status status;
+        check("next", gef_disk_next(&disk, &event));
+        if (event.kind != GEF_EVENT_NOTHING) {
+            serve(&event);
             continue;
         }
-        if (status != GEF_NOTHING) check("to host", status);
-        check("next", gef_disk_next(&disk, &event));
-        if (event.kind == GEF_EVENT_NOTHING) return;
-        serve(&event);
+        status = gef_disk_to_host(&disk, fis, sizeof fis, &len);
+        if (status == GEF_NOTHING) return;
+        check("to host", status);
+        hear(fis, len);
     }
 }
 

@@ -41,10 +41,15 @@ impl Link {
         }
     }
 
-    /// All that the disk sends goes up, and all that it asks for is done. The host sends its data as it is asked to.
+    /// All that the disk asks for is done, and all that it sends goes up. It is asked first: a command starts as it is asked. The
+    /// host sends its data as it is asked to.
     fn settle(&mut self) -> Result<(), Error> {
         let room: &mut FisRoom = &mut [0; FIS_ROOM];
         loop {
+            if let Some(ask) = self.disk.next_ask()? {
+                self.serve(ask)?;
+                continue;
+            }
             match self.disk.next_for_host(room)? {
                 Some([0x46, _, _, _, data @ ..]) => {
                     println!("data of {} bytes: {:02x?} ..", data.len(), &data[..4]);
@@ -55,10 +60,7 @@ impl Link {
                         self.disk.host_sends(&self.written)?;
                     }
                 }
-                None => match self.disk.next_ask()? {
-                    Some(ask) => self.serve(ask)?,
-                    None => return Ok(()),
-                },
+                None => return Ok(()),
             }
         }
     }
