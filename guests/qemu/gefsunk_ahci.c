@@ -112,9 +112,9 @@ static void answer(Work *work, bool is_done)
     const gef_event *e = &work->event;
     bool is_load = e->kind == GEF_EVENT_LOAD;
     gef_status status =
-        !is_done ? gef_machine_answer_failed(&s->machine, &e->request, is_load ? GEF_UNC : GEF_ABRT, e->lba) :
-        is_load ? gef_machine_answer_loaded(&s->machine, &e->request, work->bytes, work->vector.size) :
-        gef_machine_answer_done(&s->machine, &e->request);
+        !is_done ? gef_machine_answer_failed(&s->machine, &e->u.medium.request, is_load ? GEF_UNC : GEF_ABRT, e->u.medium.lba) :
+        is_load ? gef_machine_answer_loaded(&s->machine, &e->u.medium.request, work->bytes, work->vector.size) :
+        gef_machine_answer_done(&s->machine, &e->u.medium.request);
     if (status != GEF_NOT_OUT && status != GEF_OTHER_DISK) {
         must(status);
     }
@@ -158,7 +158,7 @@ static void begin_discard(Work *work)
     GefsunkAhci *s = controller_of(work->disk);
     gef_range range;
     int64_t at, len;
-    if (gef_machine_discarded(&s->machine, &work->event.request, work->at, &range) != GEF_OK) {
+    if (gef_machine_discarded(&s->machine, &work->event.u.medium.request, work->at, &range) != GEF_OK) {
         answer(work, true);
         return;
     }
@@ -172,7 +172,7 @@ static void begin_work(Work *work)
 {
     BlockBackend *blk = work->disk->conf.blk;
     uint32_t kind = work->event.kind;
-    int64_t at = work->event.lba * BDRV_SECTOR_SIZE;
+    int64_t at = work->event.u.medium.lba * BDRV_SECTOR_SIZE;
     if (kind == GEF_EVENT_DISCARD) {
         begin_discard(work);
         return;
@@ -193,7 +193,7 @@ static void begin_work(Work *work)
 static void ask_medium(GefsunkAhci *s, const gef_event *event)
 {
     Work *work = g_new0(Work, 1);
-    size_t len = (size_t)event->count * BDRV_SECTOR_SIZE, filled = 0;
+    size_t len = (size_t)event->u.medium.count * BDRV_SECTOR_SIZE, filled = 0;
     work->disk = s->disks[event->port];
     work->event = *event;
     if (len) {
@@ -201,7 +201,7 @@ static void ask_medium(GefsunkAhci *s, const gef_event *event)
         qemu_iovec_init_buf(&work->vector, work->bytes, len);
     }
     if (event->kind == GEF_EVENT_STORE) {
-        must(gef_machine_stored(&s->machine, &event->request, 0, work->bytes, len, &filled));
+        must(gef_machine_stored(&s->machine, &event->u.medium.request, 0, work->bytes, len, &filled));
         assert(filled == len);
     }
     begin_work(work);
@@ -209,10 +209,10 @@ static void ask_medium(GefsunkAhci *s, const gef_event *event)
 
 static void read_guest(GefsunkAhci *s, const gef_event *event)
 {
-    g_autofree uint8_t *bytes = g_malloc(event->len);
-    bool is_there = pci_dma_read(PCI_DEVICE(s), event->at, bytes, event->len) == MEMTX_OK;
-    must(is_there ? gef_machine_supply(&s->machine, &event->wanted, bytes, event->len)
-                  : gef_machine_no_memory(&s->machine, &event->wanted));
+    g_autofree uint8_t *bytes = g_malloc(event->u.read.len);
+    bool is_there = pci_dma_read(PCI_DEVICE(s), event->u.read.at, bytes, event->u.read.len) == MEMTX_OK;
+    must(is_there ? gef_machine_supply(&s->machine, &event->u.read.wanted, bytes, event->u.read.len)
+                  : gef_machine_no_memory(&s->machine, &event->u.read.wanted));
 }
 
 /* There is nothing to write any more where a reset of the link came between. */
@@ -221,7 +221,7 @@ static void write_guest(GefsunkAhci *s, const gef_event *event)
     uint8_t bytes[GEF_FIS_ROOM];
     size_t len;
     if (gef_machine_lent(&s->machine, bytes, sizeof bytes, &len) == GEF_OK) {
-        pci_dma_write(PCI_DEVICE(s), event->at, bytes, len);
+        pci_dma_write(PCI_DEVICE(s), event->u.write.at, bytes, len);
     }
 }
 
@@ -240,7 +240,7 @@ static void do_event(GefsunkAhci *s, const gef_event *event)
         write_guest(s, event);
         break;
     case GEF_EVENT_LINE:
-        s->is_up = event->up;
+        s->is_up = event->u.up;
         set_line(s);
         break;
     case GEF_EVENT_MESSAGE:
