@@ -8,6 +8,9 @@
  * port 0 is open from each reset on, unless `port0-open=off` is given; with `ports=0` one disk is. Disks come and go by
  * device_add and device_del. Without `port` a disk takes the first port that is free.
  *
+ * With `record=FILE` it writes down what a driver does and what it gets, from the last reset of the machine on, and guests/linux/case
+ * makes a case of that. The media are answered at once then, so that the machine comes to rest within each access.
+ *
  * All that moves is gef_machine's (gefsunk.h). This file gives it the guest's accesses to registers, and does what it asks:
  * the guest's memory is read and written by the function's own DMA, so that bus mastering and an IOMMU count, and the sectors
  * of disks are those of block backends.
@@ -78,9 +81,11 @@ struct GefsunkAhci {
     bool has_event;        /* `event` waits for bus mastering */
     bool is_busy, is_held; /* an event is being done; none begins */
     bool is_up;            /* the interrupt line */
+    FILE *log;             /* of a recording */
     /* properties */
     uint8_t ports;
     bool port0_open, fbs;
+    char *record;
 };
 
 /* Anything but this is a mistake of this file, or there is no memory left. */
@@ -95,6 +100,31 @@ static void must(gef_status status)
 static GefsunkAhci *controller_of(GefsunkDisk *disk)
 {
     return GEFSUNK_AHCI(qdev_get_parent_bus(DEVICE(disk))->parent);
+}
+
+/* A line of a recording, or a part of one, if there is a recording. */
+static void G_GNUC_PRINTF(2, 3) note(GefsunkAhci *s, const char *format, ...)
+{
+    va_list words;
+    va_start(words, format);
+    if (s->log) {
+        vfprintf(s->log, format, words);
+    }
+    va_end(words);
+}
+
+/* Bytes of the guest's memory. A FIS stands in words before them. */
+static void note_bytes(GefsunkAhci *s, const char *what, uint64_t at, const uint8_t *bytes, size_t len)
+{
+    char text[GEF_TEXT_ROOM];
+    if (s->log && gef_fis_text(bytes, len, text, sizeof text) == GEF_OK) {
+        note(s, "# %s\n", text);
+    }
+    note(s, "%s %" PRIx64 " ", what, at);
+    for (size_t i = 0; i < len; i++) {
+        note(s, "%02x", bytes[i]);
+    }
+    note(s, "\n");
 }
 
 static void run(void *opaque);
@@ -205,12 +235,18 @@ static void ask_medium(GefsunkAhci *s, const gef_event *event)
         assert(filled == len);
     }
     begin_work(work);
+    if (s->log) {
+        blk_drain(s->disks[event->port]->conf.blk);
+    }
 }
 
 static void read_guest(GefsunkAhci *s, const gef_event *event)
 {
     g_autofree uint8_t *bytes = g_malloc(event->u.read.len);
     bool is_there = pci_dma_read(PCI_DEVICE(s), event->u.read.at, bytes, event->u.read.len) == MEMTX_OK;
+    if (is_there) {
+        note_bytes(s, "guest", event->u.read.at, bytes, event->u.read.len);
+    }
     must(is_there ? gef_machine_supply(&s->machine, &event->u.read.wanted, bytes, event->u.read.len)
                   : gef_machine_no_memory(&s->machine, &event->u.read.wanted));
 }
@@ -222,6 +258,7 @@ static void write_guest(GefsunkAhci *s, const gef_event *event)
     size_t len;
     if (gef_machine_lent(&s->machine, bytes, sizeof bytes, &len) == GEF_OK) {
         pci_dma_write(PCI_DEVICE(s), event->u.write.at, bytes, len);
+        note_bytes(s, "show", event->u.write.at, bytes, len);
     }
 }
 
@@ -242,6 +279,7 @@ static void do_event(GefsunkAhci *s, const gef_event *event)
     case GEF_EVENT_LINE:
         s->is_up = event->u.up;
         set_line(s);
+        note(s, "line %s\n", s->is_up ? "up" : "down");
         break;
     case GEF_EVENT_MESSAGE:
         if (msi_enabled(PCI_DEVICE(s))) {
@@ -275,10 +313,13 @@ static void run(void *opaque)
         return;
     }
     s->is_busy = true;
-    for (; count < EVENTS && has_next(s); count++) {
+    for (; (s->log || count < EVENTS) && has_next(s); count++) {
         do_event(s, &s->event);
     }
     s->is_busy = false;
+    if (s->event.kind == GEF_EVENT_NOTHING) {
+        note(s, "settle\n");
+    }
     if (count == EVENTS) {
         qemu_bh_schedule(s->later);
     }
@@ -289,6 +330,7 @@ static uint64_t read_register(void *opaque, hwaddr at, unsigned size)
     GefsunkAhci *s = opaque;
     uint64_t value;
     must(gef_machine_read(&s->machine, at, size, &value));
+    note(s, "read %u %" PRIx64 " %0*" PRIx64 "\n", size, at, (int)(2 * size), value);
     return at == 0 && !s->fbs ? value & ~(uint64_t)CAP_FBSS : value;
 }
 
@@ -296,6 +338,7 @@ static void write_register(void *opaque, hwaddr at, uint64_t value, unsigned siz
 {
     GefsunkAhci *s = opaque;
     if (!s->is_busy) {
+        note(s, "write %u %" PRIx64 " %" PRIx64 "\n", size, at, value);
         must(gef_machine_write(&s->machine, at, size, value));
         run(s);
     }
@@ -319,6 +362,7 @@ static gef_status put(GefsunkAhci *s, GefsunkDisk *disk)
     };
     gef_status status = gef_machine_put_disk(&s->machine, disk->port, &profile);
     if (status == GEF_OK) {
+        note(s, "disk %d sectors %" PRIu64 "\n", disk->port, profile.sectors);
         must(gef_machine_plug(&s->machine, disk->port));
     }
     return status;
@@ -413,6 +457,7 @@ static void unrealize_disk(DeviceState *dev)
     qemu_del_vm_change_state_handler(disk->changes);
     del_boot_device_path(dev, "/disk@0");
     s->disks[disk->port] = NULL;
+    note(s, "gone %d\n", disk->port);
     must(gef_machine_remove(&s->machine, disk->port));
     run(s);
 }
@@ -451,6 +496,8 @@ static void init_bus_class(ObjectClass *klass, void *data)
 static void make(GefsunkAhci *s)
 {
     must(gef_machine_new(&s->machine, s->ports, s->port0_open));
+    s->log = s->log ? freopen(s->record, "w", s->log) : NULL;
+    note(s, "ports %u\n", s->ports);
     for (unsigned port = 0; port < MOST_PORTS; port++) {
         if (s->disks[port]) {
             must(put(s, s->disks[port]));
@@ -502,6 +549,11 @@ static void realize(PCIDevice *dev, Error **errp)
         error_setg(errp, "ports is 0 to %d: 0 for one disk and no multiplier", MOST_PORTS);
         return;
     }
+    s->log = s->record ? fopen(s->record, "w") : NULL;
+    if (s->record && !s->log) {
+        error_setg_file_open(errp, errno, s->record);
+        return;
+    }
     msi_init(dev, MSI, 1, true, false, NULL); /* a board without messages has the line */
     /* It is the last to be added, so the list of capabilities begins with it (AHCI 1.3.1, 2.1.14). */
     if (pci_add_capability(dev, PCI_CAP_ID_PM, POWER, PCI_PM_SIZEOF, errp) < 0) {
@@ -524,6 +576,9 @@ static void leave(PCIDevice *dev)
     GefsunkAhci *s = GEFSUNK_AHCI(dev);
     qemu_bh_delete(s->later);
     gef_machine_free(&s->machine);
+    if (s->log) {
+        fclose(s->log);
+    }
     msi_uninit(dev);
 }
 
@@ -531,6 +586,7 @@ static Property properties[] = {
     DEFINE_PROP_UINT8("ports", GefsunkAhci, ports, MOST_PORTS),
     DEFINE_PROP_BOOL("port0-open", GefsunkAhci, port0_open, true),
     DEFINE_PROP_BOOL("fbs", GefsunkAhci, fbs, true),
+    DEFINE_PROP_STRING("record", GefsunkAhci, record),
     DEFINE_PROP_END_OF_LIST(),
 };
 
