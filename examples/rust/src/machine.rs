@@ -57,9 +57,10 @@ pub enum Event {
         /// The port of the device.
         port: u8,
     },
-    /// A device of the caller's begins anew: it forgets what it had to do, and sends its signature.
+    /// What is at a port begins anew. A device of the caller's forgets what it had to do, and sends its signature; for a disk
+    /// nothing is to be done.
     Begins {
-        /// The port of the device.
+        /// The port.
         port: u8,
     },
 }
