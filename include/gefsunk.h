@@ -229,7 +229,8 @@ typedef struct gef_disk_profile {
 #define GEF_EVENT_LINE 8u        /* `up`: the interrupt line is up (1), or down (0), from now on */
 #define GEF_EVENT_MESSAGE 9u     /* a message is due, where messages (MSI) stand for the line */
 #define GEF_EVENT_TO_DEVICE 10u  /* a FIS for your device at `port`: gef_machine_take_frame gives it */
-#define GEF_EVENT_BEGINS 11u     /* the device at `port` begins anew: yours forgets what it had to do, and sends its signature */
+#define GEF_EVENT_BEGINS 11u     /* what is at `port` begins anew: a device of yours forgets what it had to do, and sends its */
+                                 /* signature; a disk does so by itself */
 
 /* What bytes of the guest are wanted for. Its fields belong to the library. */
 typedef struct gef_wanted {
@@ -327,8 +328,9 @@ gef_status gef_disk_to_host(gef_disk *disk, uint8_t *fis, size_t room, size_t *l
 
 /*
  * Says what is to be done to the medium next: GEF_EVENT_LOAD, GEF_EVENT_STORE, GEF_EVENT_FLUSH, GEF_EVENT_DISCARD, or
- * GEF_EVENT_NOTHING. Ask after each FIS of the host, each FIS that went to it, and each answer. GEF_NO_MEMORY: nothing is lost; ask
- * again. Can return GEF_CLOSED, GEF_NO_MEMORY.
+ * GEF_EVENT_NOTHING. The call starts commands, too, so a write that is started here has a FIS to send: ask it until
+ * GEF_EVENT_NOTHING, then gef_disk_to_host until GEF_NOTHING, and both again, as long as one of them gave something. Do so after
+ * each FIS of the host and each answer. GEF_NO_MEMORY: nothing is lost; ask again. Can return GEF_CLOSED, GEF_NO_MEMORY.
  */
 gef_status gef_disk_next(gef_disk *disk, gef_event *event);
 
@@ -346,8 +348,8 @@ gef_status gef_disk_answer_loaded(gef_disk *disk, const gef_request *request, co
 gef_status gef_disk_answer_done(gef_disk *disk, const gef_request *request);
 
 /*
- * A request could not be done, first at this sector (of a flush or a discard: 0). The host is told. GEF_UNC is of loads alone:
- * of another request it is refused by GEF_OTHER_KIND.
+ * A request could not be done, first at this sector (of a flush or a discard: 0). The host is told. GEF_UNC of a
+ * store is refused by GEF_OTHER_KIND.
  * Can return GEF_CLOSED, GEF_BAD_ERROR, GEF_NOT_OUT, GEF_OTHER_KIND, GEF_OTHER_SECTOR.
  */
 gef_status gef_disk_answer_failed(gef_disk *disk, const gef_request *request, uint32_t error, uint64_t lba);
@@ -501,8 +503,8 @@ gef_status gef_machine_answer_loaded(gef_machine *machine, const gef_request *re
 gef_status gef_machine_answer_done(gef_machine *machine, const gef_request *request);
 
 /*
- * A request could not be done, first at this sector (of a flush or a discard: 0). The guest is told. GEF_UNC is of loads alone:
- * of another request it is refused by GEF_OTHER_KIND.
+ * A request could not be done, first at this sector (of a flush or a discard: 0). The guest is told. GEF_UNC of a
+ * store is refused by GEF_OTHER_KIND.
  * Can return GEF_CLOSED, GEF_BAD_ERROR, GEF_OTHER_DISK, GEF_NOT_OUT, GEF_OTHER_KIND, GEF_OTHER_SECTOR.
  */
 gef_status gef_machine_answer_failed(gef_machine *machine, const gef_request *request, uint32_t error, uint64_t lba);
