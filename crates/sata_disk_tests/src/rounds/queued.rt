@@ -81,7 +81,7 @@ fn rounds(rt: &impl Abort, alloc: Global, limit: u32, rounds: u32)
     let most = rounds.saturating_mul(8);
     assert!(rt; queue.reads > most && queue.writes > most);
     assert_eq!(rt;
-        u64::from(queue.reads) + u64::from(queue.writes),
+        u64::from(queue.reads).saturating_add(u64::from(queue.writes)),
         queue.given
     );
     assert!(rt; queue.overtakes > rounds && queue.bench.flushes > rounds);
