@@ -1,2 +1,3 @@
 mod ErrorsLemmas
+mod SavedLemmas
 pub mod Door

@@ -5,6 +5,8 @@ ghost use Rattle.std.specs.Int.{from_bool};
 ghost use Rattle.port_errors.specs.Interrupts.{device_interrupts, interrupt_bits, port_interrupts};
 ghost use Rattle.port_errors.specs.Errors.{AreErrors, Clears, KeepsCauses, LeavesOtherCauses, LeavesOthers, after_clear, cause_of, cleared_device, lowest_marked as lowest_marked_of, no_errors, port_cause_in, shown, with_alone, with_device, with_port, without};
 
+mod saved;
+
 use crate::cause::{DeviceCause, PortCause, Stop};
 use crate::interrupts::Interrupts;
 use std::marker::Model;

@@ -1,0 +1,6 @@
+use Rattle.std.proofs.Common.{◌≡◌, ◌-◌, length, drop}
+use Rattle.saved_state.specs.State.{put_all}
+use Rattle.saved_state.proofs.saved.save_all.Given as goal
+
+abbrev pub invariant-loop-done : goal.invariant-loop-done
+invariant-loop-done g l = l.words ≡ put_all g.T.Saved.put (drop (length l.values - l.done) l.values) l.initial.words
