@@ -18,7 +18,8 @@ pub trait Saved: Sized + Drop {
 
     /// Puts the value's words on top.
     fn save(&self, words: &mut Words) -> Result<(), AllocError>
-        ensures { OnOk result (words.new ≡ put self.now words.old) };
+        ensures words { OnOk result (words.new ≡ put self.now words.old) }
+        ensures keeps { OnOk result (keeps self.now) };
 
     /// Takes a value's words off the top.
     fn restore(alloc: Global, words: &mut Words) -> Result<Self, RestoreError>
@@ -210,7 +211,8 @@ impl<T: Saved + Default, const N: usize> Saved for [T; N] {
 
 /// Saves each, the first one on top.
 pub fn save_all<T: Saved>(values: &[T], words: &mut Words) -> Result<(), AllocError>
-    ensures { OnOk result (words.new ≡ put_all T.put values.now words.old) }
+    ensures words { OnOk result (words.new ≡ put_all T.put values.now words.old) }
+    ensures keeps { OnOk result (AllByRecursion T.keeps values.now) }
 {
     let count = values.len();
     for done in 0..count {
@@ -238,7 +240,8 @@ pub fn restore_all<T: Saved>(
 
 /// Saves how many there are, on top of them.
 pub fn save_list<T: Saved>(values: &[T], words: &mut Words) -> Result<(), AllocError>
-    ensures { OnOk result (words.new ≡ put_list T.put values.now words.old) }
+    ensures words { OnOk result (words.new ≡ put_list T.put values.now words.old) }
+    ensures keeps { OnOk result (AllByRecursion T.keeps values.now) }
 {
     save_all(values, words)?;
     words.push(values.len() as u64)
