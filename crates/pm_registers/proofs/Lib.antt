@@ -2,4 +2,5 @@ mod BitLemmas
 mod RegisterLemmas
 mod LawLemmas
 mod ShownLemmas
+mod SavedLemmas
 pub mod Door

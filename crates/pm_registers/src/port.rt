@@ -3,6 +3,8 @@
 ghost use Rattle.std.specs.Prelude.{bit_and, ◌%◌, ◌≡◌};
 ghost use Rattle.pm_registers.specs.Port.{controlled, inserted, is_open, met, open_port, opened, opening_port, passes, port_written, pscr, raised, removed};
 
+mod saved;
+
 use crate::bits::cleared;
 use crate::words::{
     DET_MASK, DET_OFFLINE, PSCR_CONTROL, PSCR_ERROR, PSCR_STATUS, SERROR_N, SERROR_X,

@@ -7,6 +7,8 @@ ghost use Rattle.pm_registers.specs.Calls.{Call, after};
 ghost use Rattle.pm_registers.specs.Port.{ShowsTruly};
 ghost use Rattle.pm_registers.specs.RegisterMap.{after_insert, after_notice, after_restore, after_raise, after_remove, after_rule, after_write, control_written, forwards, gscr, may_change, opening, opening_with_port_0, port_at, read_at, register_at, settled, summary, with_port, write_rule};
 
+mod saved;
+
 use crate::bits::cleared;
 use crate::port::PortRegisters;
 use crate::words::{
@@ -220,6 +222,21 @@ impl PmRegisters {
         ensures { result ≡ forwards self.now n }
     {
         n < self.ports && self.port(n).forwards()
+    }
+
+    /// How many device ports there are.
+    pub fn ports(&self) -> u8
+        ensures { result ≡ self.now.ports }
+    {
+        self.ports
+    }
+
+    /// Whether a device is present at device port `n`. At one that does not exist none is.
+    pub fn is_present(&self, n: u8) -> bool
+        requires { n < 15 }
+        ensures { result ≡ (port_at self.now n).present }
+    {
+        self.bank[usize::from(n)].present
     }
 
     /// Whether a notification is due: since the last one, a call left notifications enabled and took a bit of
