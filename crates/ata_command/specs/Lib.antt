@@ -3,3 +3,4 @@ pub mod Modes
 pub mod Asks
 pub mod Courses
 pub mod Trims
+pub mod Saved

@@ -4,6 +4,8 @@ ghost use Rattle.std.specs.Prelude.{◌≡◌, ◌<◌, ◌≤◌, ◌+◌, IfSo
 ghost use Rattle.block_command.specs.Moments.{is_queued};
 ghost use Rattle.ata_command.specs.Asks.{IsAsked, aborted, asked, asked_by, block_in, count_of, features_set, lba_of, log_page, moved, multiple_set, protocol_of, queued, sectors_asked, setting_of, smart_asked, smart_task, transferred, trimmed};
 
+mod saved;
+
 use crate::facts::Facts;
 use crate::opcode::{Opcode, Transfer, Way};
 use crate::settings::{Multiple, Setting, Settings, TransferMode};

@@ -3,6 +3,8 @@
 ghost use Rattle.std.specs.Prelude.{◌≡◌, ◌≤◌};
 ghost use Rattle.ata_command.specs.Modes.{mode_after, multiple_of, power_on, sectors_in};
 
+mod saved;
+
 /// The mode of DMA that is selected. Serial ATA moves at the speed of its link in any of them.
 #[derive(Clone, Copy, Debug, PartialEq, Eq)]
 pub enum TransferMode {

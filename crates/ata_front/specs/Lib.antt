@@ -1,2 +1,3 @@
 pub mod CommandFis
 pub mod Fronts
+pub mod Saved

@@ -3,6 +3,8 @@
 ghost use Rattle.std.specs.Prelude.{◌≡◌};
 ghost use Rattle.ata_front.specs.Fronts.{MayTake, aborted, after_discard, after_plug, beside_sent, commanded, controlled, failed_all, given, heard_data, is_log_10, log_task, opening, over, owed, page_announced, queued_failed, refused, said, set_by, single_sent, standing, taken, taken_flush, taken_moves, taken_power, task_of_smart};
 
+mod saved;
+
 use crate::task::{Act, Fault, Moving, Owed, Page, Purpose, Task, Trouble};
 use ata_command::{
     Asked, Course, LogPage, Move, PowerTask, Refusal, Setting, Settings, SmartTask, Standing,

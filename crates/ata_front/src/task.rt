@@ -1,5 +1,7 @@
 //! What a host waits for.
 
+mod saved;
+
 use ata_command::LogPage;
 use ata_reply::{AtaError, Reply};
 use block_command::Command;

@@ -4,6 +4,8 @@ ghost use Rattle.std.specs.Prelude.{◌≡◌, ◌<◌, ◌≤◌, ◌%◌, not,
 ghost use Rattle.fis_view.specs.Frames.{IsPayload};
 ghost use Rattle.ata_reply.specs.Replies.{Carries, Shows, announced, bits, code_of, device_of, lba_of, register, set_up};
 
+mod saved;
+
 use fis_view::{
     D2hFields, DmaActivateFields, DmaSetupFields, Frame, FrameError, PioSetupFields, SetBitsFields,
     Stamp, d2h, dma_activate, dma_setup, payload, pio_setup, set_bits,

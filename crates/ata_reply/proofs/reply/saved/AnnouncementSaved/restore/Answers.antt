@@ -1,0 +1,6 @@
+use Rattle.saved_state.specs.State.{parts_refused}
+use Rattle.ata_reply.specs.Saved.{KeepsAnnouncement, KeepsAnnouncementParts, announcement_parts, put_announcement_parts}
+use Rattle.ata_reply.proofs.reply.saved.AnnouncementSaved.restore.Goals as goal
+
+pub returns-in-Err : goal.returns-in-Err
+returns-in-Err c = parts_refused put_announcement_parts KeepsAnnouncementParts KeepsAnnouncement announcement_parts (λ v k. k) c.args.words.now c.restore.new.words c.in-Err.error c.in-Err.ensures
