@@ -19,3 +19,4 @@ pub mod Taking
 pub mod Next
 pub mod Feeding
 pub mod Fairness
+pub mod SavedNext

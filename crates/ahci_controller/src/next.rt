@@ -4,6 +4,8 @@ ghost use Rattle.std.specs.Prelude.{◌≡◌, ◌<◌, true, slice_get, IfSome}
 ghost use Rattle.hba_fbs.specs.Choosing.{may_feed as may_feed_device, may_order as may_order_slot};
 ghost use Rattle.ahci_controller.specs.Next.{FeedsTo, Frames, GoesIf, OrdersSlot, Reads, RestsNow, RunsNow, StartsUp, Turns, after_count as after_count_of, after_rest as after_rest_of, counted_slot as counted_slot_of, cursors_for, fed as fed_of, is_fed as is_fed_of, is_halted as is_halted_of, left as left_of, may_start as may_start_of, next_device as next_device_of, next_read as next_read_of, next_slot as next_slot_of, next_write as next_write_of, payload_step, rest as rest_of, run_of, writes_next};
 
+mod saved;
+
 use crate::bits::{has_bit, without};
 use crate::circle::{Circle, device_after, slot_after};
 use crate::fetching::Ask;

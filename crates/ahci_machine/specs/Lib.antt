@@ -6,3 +6,4 @@ pub mod Registers
 pub mod Acts
 pub mod Answers
 pub mod Ports
+pub mod Saved

@@ -4,6 +4,8 @@ ghost use Rattle.std.specs.Prelude.{◌≡◌, IfOk, OnErr, replicate};
 ghost use Rattle.ahci_machine.specs.Bays.{BayMayDo, begun};
 ghost use Rattle.ahci_machine.specs.States.{empty_bay};
 
+mod saved;
+
 use crate::act::Act;
 use crate::gathering::host_stamp;
 use crate::request::MediumId;

@@ -3,6 +3,8 @@
 ghost use Rattle.std.specs.Prelude.{◌≡◌, IfOk, IfSome};
 ghost use Rattle.ahci_machine.specs.Gathers.{Awaits, Reads, Supplies, asked_for, frame_of, host_stamp as host_stamp_of, is_asked as is_asked_of, opening_gathering};
 
+mod saved;
+
 use crate::request::{GuestRead, Wanted};
 use ahci_controller::Controller;
 use fis_view::{Frame, Stamp, is_frame_length};

@@ -9,6 +9,8 @@ ghost use Rattle.ahci_controller.specs.Wide.{read_wide};
 ghost use Rattle.ahci_machine.specs.Registers.{WritesMachine, lent_bytes, part_of, renewed};
 ghost use Rattle.ahci_machine.specs.States.{IsOpeningMachine, no_gathering as no_gathering_of};
 
+mod saved;
+
 use crate::bay::Bay;
 use crate::gathering::Gathering;
 use ahci_controller::{Controller, Next, WideWritten, Width};
