@@ -1,2 +1,3 @@
 pub mod State
+pub mod Bytes
 pub mod Parts

@@ -2,6 +2,8 @@
 
 ghost use Rattle.std.specs.Prelude.{◌≡◌, ◌∷◌, ◌<◌, ◌^◌, [], IfOk, IfSome, MatchOption, OnOk, OnErr};
 
+mod bytes;
+
 use std::alloc::{AllocError, Global};
 use std::marker::Model;
 use thiserror::Error;
