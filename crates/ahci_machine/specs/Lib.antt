@@ -7,3 +7,4 @@ pub mod Acts
 pub mod Answers
 pub mod Ports
 pub mod Saved
+pub mod Streams

@@ -14,6 +14,7 @@ mod machine;
 mod ports;
 mod request;
 mod serving;
+mod state;
 mod stepping;
 
 pub use act::Act;
@@ -21,4 +22,5 @@ pub use answers::{MediumError, Told};
 pub use bay::Unit;
 pub use machine::Machine;
 pub use ports::PortFault;
+pub use state::{STATE_MARK, STATE_VERSION, StateError, states_are_apart};
 pub use request::{GuestRead, MediumId, Request, Wanted};

@@ -1,6 +1,8 @@
 -- Words as bytes: the word on top first, and of each the lowest byte first.
 use Rattle.std.specs.Prelude.{◌≡◌, ℕ, ◌<◌, ◌^◌, List, [], ◌∷◌, ◌++◌, Result, Ok, Err}
-use Rattle.std.specs.Int.{to_le_bytes, w64}
+use Rattle.std.specs.Int.{from_le_bytes, to_le_bytes, w64}
+use Rattle.std.proofs.Common.{ap, sym, take, ◌∙◌, refl}
+use Rattle.std.proofs.lemmas.Nat.{from_le_bytes-to_le_bytes_8}
 use Rattle.std.specs.List.{AllByRecursion}
 use Rattle.saved_state.specs.declared.words.RestoreError.{RestoreError}
 use Rattle.saved_state.specs.declared.words.RestoreError.TheVariants.{OutOfMemory}
@@ -18,3 +20,15 @@ abbrev pub ReadsBytes : List ℕ → Result (List ℕ) RestoreError → Type 0
 ReadsBytes bytes (Ok words) = (bytes ≡ bytes_of words) × AreWords words
 ReadsBytes bytes (Err OutOfMemory) = Unit {0}
 ReadsBytes bytes (Err other) = (words : List ℕ) → bytes ≡ bytes_of words → ⊥
+
+-- bytes are those of one list of words
+pub words_apart : (xs ys : List ℕ) → AreWords xs → AreWords ys → bytes_of xs ≡ bytes_of ys → xs ≡ ys
+words_apart [] [] k l e = refl
+words_apart [] (y ∷ ys) k l e = absurd (cc)
+words_apart (x ∷ xs) [] k l e = absurd (cc)
+words_apart (x ∷ xs) (y ∷ ys) k l e =
+    let rest : bytes_of xs ≡ bytes_of ys = cc in
+    let eight : to_le_bytes w64 x ≡ to_le_bytes w64 y = ap (take 8) e in
+    let same : x ≡ y = sym (from_le_bytes-to_le_bytes_8 x k.0) ∙ ap (from_le_bytes w64) eight ∙ from_le_bytes-to_le_bytes_8 y l.0 in
+    let behind : xs ≡ ys = words_apart xs ys k.1 l.1 rest in
+    cc
