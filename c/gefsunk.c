@@ -70,6 +70,9 @@ uint32_t gefsunk_machine_stored(gef_machine *machine, const gef_request *request
 uint32_t gefsunk_machine_discarded(gef_machine *machine, const gef_request *request, size_t number, gef_range *range);
 uint32_t gefsunk_machine_take_frame(gef_machine *machine, uint8_t port, uint8_t *fis, size_t room, size_t *len);
 uint32_t gefsunk_machine_offer(gef_machine *machine, uint8_t port, const uint8_t *fis, size_t len);
+uint32_t gefsunk_machine_state_size(gef_machine *machine, size_t *len);
+uint32_t gefsunk_machine_save(gef_machine *machine, uint8_t *bytes, size_t room, size_t *len);
+uint32_t gefsunk_machine_restore(gef_machine *machine, const uint8_t *bytes, size_t len);
 
 const char *gef_version(void) {
     return GEF_VERSION;
@@ -109,6 +112,9 @@ const char *gef_status_text(gef_status status) {
     case GEF_OTHER_LENGTH: return "the load asked for another length";
     case GEF_OTHER_SECTOR: return "the request does not have this sector";
     case GEF_BAD_ERROR: return "no request fails like this";
+    case GEF_NOT_A_STATE: return "the bytes are not the state of a machine";
+    case GEF_OTHER_VERSION: return "the state has a version that this library does not read";
+    case GEF_BAD_STATE: return "the state of the machine is damaged";
     }
     return "no such answer";
 }
@@ -357,4 +363,16 @@ gef_status gef_machine_take_frame(gef_machine *machine, uint8_t port, uint8_t *f
 
 gef_status gef_machine_offer(gef_machine *machine, uint8_t port, const uint8_t *fis, size_t len) {
     return machine && fis ? (gef_status)gefsunk_machine_offer(machine, port, fis, len) : GEF_NULL;
+}
+
+gef_status gef_machine_state_size(gef_machine *machine, size_t *len) {
+    return machine && len ? (gef_status)gefsunk_machine_state_size(machine, len) : GEF_NULL;
+}
+
+gef_status gef_machine_save(gef_machine *machine, uint8_t *bytes, size_t room, size_t *len) {
+    return machine && bytes && len ? (gef_status)gefsunk_machine_save(machine, bytes, room, len) : GEF_NULL;
+}
+
+gef_status gef_machine_restore(gef_machine *machine, const uint8_t *bytes, size_t len) {
+    return machine && bytes ? (gef_status)gefsunk_machine_restore(machine, bytes, len) : GEF_NULL;
 }

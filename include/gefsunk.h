@@ -78,7 +78,10 @@ typedef enum gef_status {
     GEF_OTHER_KIND = 31,    /* the request asked for something else */
     GEF_OTHER_LENGTH = 32,  /* the load asked for another number of bytes */
     GEF_OTHER_SECTOR = 33,  /* the request does not have this sector */
-    GEF_BAD_ERROR = 34      /* a request fails by GEF_UNC, GEF_IDNF or GEF_ABRT */
+    GEF_BAD_ERROR = 34,     /* a request fails by GEF_UNC, GEF_IDNF or GEF_ABRT */
+    GEF_NOT_A_STATE = 35,   /* the bytes are not the state of a machine */
+    GEF_OTHER_VERSION = 36, /* the state has a version that this library does not read */
+    GEF_BAD_STATE = 37      /* the state is damaged */
 } gef_status;
 
 /* A sentence for a log, never null. It stays valid as long as the program runs. */
@@ -534,6 +537,33 @@ gef_status gef_machine_take_frame(gef_machine *machine, uint8_t port, uint8_t *f
  * Can return GEF_CLOSED, GEF_BAD_LENGTH, GEF_FULL, GEF_NO_MEMORY.
  */
 gef_status gef_machine_offer(gef_machine *machine, uint8_t port, const uint8_t *fis, size_t len);
+
+/* ---- a machine: saved and restored */
+
+/*
+ * Says how many bytes the state of the machine has now: below 64 KiB for fifteen disks that are at rest.
+ * Can return GEF_CLOSED, GEF_NO_MEMORY.
+ */
+gef_status gef_machine_state_size(gef_machine *machine, size_t *len);
+
+/*
+ * Writes the state of the machine into the room, and its number of bytes into *len: controller, multiplier, disks, and all that is
+ * under way, but neither the guest's memory nor the sectors of the media. The machine goes on as it was.
+ *
+ * Requests that are out stay out in the state, under their numbers. So save beside it each event that you have not answered yet
+ * (GEF_EVENT_READ_GUEST, GEF_EVENT_LOAD, GEF_EVENT_STORE, GEF_EVENT_FLUSH, GEF_EVENT_DISCARD), and do and answer it after
+ * gef_machine_restore; or answer all of them before. A store that was dropped by a reset must be done, or never be done, before then.
+ * Can return GEF_CLOSED, GEF_TOO_SHORT, GEF_NO_MEMORY.
+ */
+gef_status gef_machine_save(gef_machine *machine, uint8_t *bytes, size_t room, size_t *len);
+
+/*
+ * Makes the machine whose state these bytes are, and opens the handle: it is the machine that was saved. Bytes of anybody may be
+ * passed: they give a machine that keeps every rule of this header, or are refused. The line is where it was; the guest's memory and
+ * the media are yours to restore.
+ * Can return GEF_OPEN (free it first), GEF_NOT_A_STATE, GEF_OTHER_VERSION, GEF_BAD_STATE, GEF_NO_MEMORY.
+ */
+gef_status gef_machine_restore(gef_machine *machine, const uint8_t *bytes, size_t len);
 
 /*
  * ---- What is proved, and what you must keep

@@ -7,3 +7,4 @@ pub mod Pms
 pub mod Profiles
 pub mod Statuses
 pub mod Texts
+pub mod Savings

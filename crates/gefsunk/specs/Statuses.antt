@@ -35,8 +35,11 @@ status_of n =
     else if n == 31 then status.OtherKind
     else if n == 32 then status.OtherLength
     else if n == 33 then status.OtherSector
-    else status.BadError
+    else if n == 34 then status.BadError
+    else if n == 35 then status.NotAState
+    else if n == 36 then status.OtherVersion
+    else status.BadState
 
 -- the numbers that an export answers; 1 is the C side's, and no answer has 17 to 19
 abbrev pub is_code : ℕ → Bool
-is_code n = nat_lt n 35 && not (n == 1) && (nat_lt n 17 || nat_lt 19 n)
+is_code n = nat_lt n 38 && not (n == 1) && (nat_lt n 17 || nat_lt 19 n)

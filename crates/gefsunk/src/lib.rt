@@ -17,6 +17,7 @@ mod machine;
 mod medium;
 mod pm;
 mod profile;
+mod state;
 mod status;
 mod text;
 

@@ -66,6 +66,12 @@ pub enum Status {
     OtherSector = 33,
     /// A request cannot fail in this way.
     BadError = 34,
+    /// The bytes are not the state of a machine.
+    NotAState = 35,
+    /// The state has a version that this library does not read.
+    OtherVersion = 36,
+    /// The state is damaged.
+    BadState = 37,
 }
 
 impl Status {
