@@ -52,7 +52,7 @@ static int allowed(gef_status status, uint32_t answers) {
 
 /* The same with statuses from 27 on, for a handle that is open. */
 static int after(gef_status status, uint32_t answers, uint32_t open, uint32_t later) {
-    return status < GEF_PLUGGED_IN ? allowed(status, answers) : open && status <= GEF_BAD_ERROR && later >> (status - GEF_PLUGGED_IN) & 1;
+    return status < GEF_PLUGGED_IN ? allowed(status, answers) : open && status <= GEF_BAD_STATE && later >> (status - GEF_PLUGGED_IN) & 1;
 }
 
 /* One call; 0 where its answer is none that the header allows. */

@@ -7,10 +7,13 @@
  *     machine random SECONDS    plays lists of acts, while disks are pulled, plugged in and removed, and media answer late, in any
  *                               order, wrongly or never. In half of the lists the guest keeps to the rules: each sector has bytes
  *                               of its own, which each read that ends must have brought, to its places and nowhere else. In the
- *                               others it writes any register and any memory, and nothing may fail but what the header names.
+ *                               others it writes any register and any memory, and nothing may fail but what the header names. At any
+ *                               moment the machine is saved, freed and restored, and goes on. States of which some bytes are
+ *                               others are refused, or give a machine that is played with any answers.
  *
  * Link it with -Wl,--wrap=malloc,--wrap=realloc, and build it with the sanitizers. Status 1 where something is not so.
  */
+#include <stdlib.h>
 #include <time.h>
 #include "gefsunk.h"
 
@@ -290,6 +293,107 @@ static void begin(unsigned ports, uint32_t devices) {
     must("power", gef_machine_power_on(&machine));
 }
 
+/* ---- saved and restored ------------------------------------------------------------------------------------------- */
+
+static unsigned long saved_seen, states_refused, states_taken;
+
+/* The state of the machine, in memory of its own. */
+static uint8_t *state_of(size_t *len) {
+    uint8_t *bytes;
+    gef_status status;
+    CALL(status, gef_machine_state_size(&machine, len));
+    must("size", status);
+    bytes = malloc(*len);
+    if (!bytes) fail("no memory for a state", (unsigned long)*len);
+    if (gef_machine_save(&machine, bytes, *len - 1, len) != GEF_TOO_SHORT) fail("a short room", (unsigned long)*len);
+    CALL(status, gef_machine_save(&machine, bytes, *len, len));
+    must("save", status);
+    return bytes;
+}
+
+/* The machine is saved and freed; the one that is restored has the same state, and goes on. */
+static void save_and_restore(void) {
+    size_t len, again;
+    uint8_t *one = state_of(&len), *other;
+    gef_status status;
+    if (gef_machine_restore(&machine, one, len) != GEF_OPEN) fail("restored over another", 0);
+    must("free", gef_machine_free(&machine));
+    CALL(status, gef_machine_restore(&machine, one, len));
+    must("restore", status);
+    other = state_of(&again);
+    if (len != again || memcmp(one, other, len)) fail("a restored machine is another one", (unsigned long)again);
+    free(one);
+    free(other);
+    saved_seen++;
+}
+
+/* Some bytes of a state become others, or it ends early, or goes on. */
+static size_t damage(uint8_t *bytes, size_t len, size_t room) {
+    uint32_t count = 1 + pick(4), at;
+    uint64_t word;
+    if (!pick(8)) return len < room && pick(2) ? len + 8 * pick((uint32_t)((room - len) / 8 + 1)) : pick((uint32_t)len);
+    for (; count; count--) {
+        at = 8 * pick((uint32_t)(len / 8));
+        memcpy(&word, bytes + at, 8);
+        word = pick(2) ? word ^ (uint64_t)1 << pick(64) : pick(2) ? pick(40) : word + pick(5) - 2;
+        memcpy(bytes + at, &word, 8);
+    }
+    return len;
+}
+
+/* A machine of which nothing is known does something. */
+static void play_unknown(void) {
+    static uint8_t bytes[2048 * 512], room[GEF_FIS_ROOM];
+    unsigned at;
+    size_t len;
+    gef_event event;
+    gef_range range;
+    for (at = 0; at < 200; at++) {
+        const gef_request *request = &event.u.medium.request;
+        if (!pick(4)) gef_machine_write(&machine, pick(0x200), 4, pick(2) ? pick(MEMORY) : 1u << pick(32));
+        if (gef_machine_next(&machine, &event) != GEF_OK) continue;
+        switch (event.kind) {
+        case GEF_EVENT_READ_GUEST:
+            if (event.u.read.len <= sizeof bytes && pick(4)) gef_machine_supply(&machine, &event.u.read.wanted, bytes, event.u.read.len);
+            else gef_machine_no_memory(&machine, &event.u.read.wanted);
+            break;
+        case GEF_EVENT_WRITE_GUEST: gef_machine_lent(&machine, room, sizeof room, &len); break;
+        case GEF_EVENT_LOAD:
+            if (event.u.medium.count <= 2048 && pick(4)) gef_machine_answer_loaded(&machine, request, bytes, 512 * (size_t)event.u.medium.count);
+            else gef_machine_answer_failed(&machine, request, GEF_UNC, event.u.medium.lba);
+            break;
+        case GEF_EVENT_STORE: gef_machine_stored(&machine, request, pick(600), bytes, sizeof bytes, &len); /* fall through */
+        case GEF_EVENT_FLUSH: gef_machine_answer_done(&machine, request); break;
+        case GEF_EVENT_DISCARD:
+            gef_machine_discarded(&machine, request, pick(4), &range);
+            gef_machine_answer_done(&machine, request);
+            break;
+        case GEF_EVENT_TO_DEVICE: gef_machine_take_frame(&machine, (uint8_t)event.port, room, sizeof room, &len); break;
+        default: break;
+        }
+    }
+}
+
+static void play_damaged(const uint8_t *state, size_t len) {
+    size_t room = len + 64, now;
+    uint8_t *bytes = malloc(room);
+    gef_status status;
+    if (!bytes) fail("no memory for a state", (unsigned long)room);
+    memset(bytes, 0, room);
+    memcpy(bytes, state, len);
+    now = damage(bytes, len, room);
+    CALL(status, gef_machine_restore(&machine, bytes, now));
+    if (status == GEF_OK) {
+        states_taken++;
+        play_unknown();
+        must("free", gef_machine_free(&machine));
+    } else {
+        states_refused++;
+        if (status != GEF_NOT_A_STATE && status != GEF_OTHER_VERSION && status != GEF_BAD_STATE) fail("a damaged state", status);
+    }
+    free(bytes);
+}
+
 /* ---- the honest guest --------------------------------------------------------------------------------------------- */
 
 /* The command of a slot. Its bytes lie in two pieces, the first of so many. */
@@ -421,6 +525,7 @@ static void act_honestly(unsigned ports) {
     uint8_t fis[GEF_FIS_ROOM];
     uint64_t value;
     if (!is_ready && !pick(50)) recover(ports);
+    if (!pick(200)) save_and_restore();
     switch (pick(300) ? pick(8) : 8 + pick(3)) {
     case 0:
     case 1:
@@ -593,12 +698,20 @@ static void act_anyhow(unsigned ports) {
 
 static void play_anyhow(unsigned ports) {
     unsigned at;
+    uint8_t *state;
+    size_t len;
     is_honest = 0;
     begin(ports, pick(16));
     if (pick(4)) bring_up(ports);
-    for (at = 0; at < 2000; at++) act_anyhow(ports);
+    for (at = 0; at < 2000; at++) {
+        act_anyhow(ports);
+        if (!pick(200)) save_and_restore();
+    }
+    state = state_of(&len);
     settle_all();
     must("free", gef_machine_free(&machine));
+    for (at = 0; at < 100; at++) play_damaged(state, len);
+    free(state);
 }
 
 static void play_random(double seconds) {
@@ -611,6 +724,7 @@ static void play_random(double seconds) {
         lists += 2;
     } while (clock() < until);
     printf("%lu lists; %lu reads and %lu writes ended, and %lu acts were any\n", lists, reads_seen, writes_seen, events_seen);
+    printf("saved and restored %lu times; of damaged states %lu were refused, %lu played\n", saved_seen, states_refused, states_taken);
     if (!reads_seen || !writes_seen) fail("nothing ended", lists);
 }
 
