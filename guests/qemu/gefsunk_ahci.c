@@ -11,6 +11,9 @@
  * With `record=FILE` it writes down what a driver does and what it gets, from the last reset of the machine on, and guests/linux/case
  * makes a case of that. The media are answered at once then, so that the machine comes to rest within each access.
  *
+ * It is saved and restored (savevm, migration): the machine by gef_machine_save, beside it what an error stopped. The media are those
+ * of the emulator's block layer, and are its to move.
+ *
  * All that moves is gef_machine's (gefsunk.h). This file gives it the guest's accesses to registers, and does what it asks:
  * the guest's memory is read and written by the function's own DMA, so that bus mastering and an IOMMU count, and the sectors
  * of disks are those of block backends.
@@ -81,6 +84,10 @@ struct GefsunkAhci {
     bool has_event;        /* `event` waits for bus mastering */
     bool is_busy, is_held; /* an event is being done; none begins */
     bool is_up;            /* the interrupt line */
+    VMChangeStateEntry *changes;
+    /* as it is saved: the machine, and what its media have to do still */
+    uint8_t *state, *works;
+    uint32_t state_size, works_size;
     FILE *log;             /* of a recording */
     /* properties */
     uint8_t ports;
@@ -219,8 +226,7 @@ static void begin_work(Work *work)
     }
 }
 
-/* A disk asks its medium. */
-static void ask_medium(GefsunkAhci *s, const gef_event *event)
+static Work *new_work(GefsunkAhci *s, const gef_event *event)
 {
     Work *work = g_new0(Work, 1);
     size_t len = (size_t)event->u.medium.count * BDRV_SECTOR_SIZE, filled = 0;
@@ -234,7 +240,17 @@ static void ask_medium(GefsunkAhci *s, const gef_event *event)
         must(gef_machine_stored(&s->machine, &event->u.medium.request, 0, work->bytes, len, &filled));
         assert(filled == len);
     }
-    begin_work(work);
+    return work;
+}
+
+/* A disk asks its medium. One that came by migration may have none. */
+static void ask_medium(GefsunkAhci *s, const gef_event *event)
+{
+    if (!s->disks[event->port]) {
+        must(gef_machine_answer_failed(&s->machine, &event->u.medium.request, GEF_ABRT, event->u.medium.lba));
+        return;
+    }
+    begin_work(new_work(s, event));
     if (s->log) {
         blk_drain(s->disks[event->port]->conf.blk);
     }
@@ -379,13 +395,24 @@ static void changed(void *opaque, bool is_running, RunState state)
     }
 }
 
+/* The virtual machine stops: nothing begins any more, and what the media have to do is drained. It goes on: so does all. */
+static void held(void *opaque, bool is_running, RunState state)
+{
+    GefsunkAhci *s = opaque;
+    s->is_held = !is_running;
+    if (is_running) {
+        qemu_bh_schedule(s->later);
+    }
+}
+
 /* All that the medium has to do is done, and its answers are given. */
 static void settle(GefsunkAhci *s, GefsunkDisk *disk)
 {
     Work *work;
+    bool was_held = s->is_held;
     s->is_held = true;
     blk_drain(disk->conf.blk);
-    s->is_held = false;
+    s->is_held = was_held;
     while ((work = QTAILQ_FIRST(&disk->stopped))) {
         QTAILQ_REMOVE(&disk->stopped, work, next);
         end_work(work);
@@ -568,14 +595,19 @@ static void realize(PCIDevice *dev, Error **errp)
     qbus_init(&s->bus, sizeof s->bus, TYPE_GEFSUNK_BUS, DEVICE(dev), NULL);
     qbus_set_bus_hotplug_handler(&s->bus);
     s->later = qemu_bh_new_guarded(run, s, &DEVICE(dev)->mem_reentrancy_guard);
+    s->is_held = !runstate_is_running();
+    s->changes = qdev_add_vm_change_state_handler(DEVICE(dev), held, s);
     make(s);
 }
 
 static void leave(PCIDevice *dev)
 {
     GefsunkAhci *s = GEFSUNK_AHCI(dev);
+    qemu_del_vm_change_state_handler(s->changes);
     qemu_bh_delete(s->later);
     gef_machine_free(&s->machine);
+    g_free(s->state);
+    g_free(s->works);
     if (s->log) {
         fclose(s->log);
     }
@@ -590,7 +622,87 @@ static Property properties[] = {
     DEFINE_PROP_END_OF_LIST(),
 };
 
-static const VMStateDescription not_migrated = { .name = TYPE_GEFSUNK_AHCI, .unmigratable = 1 };
+/* The virtual machine is stopped, so of the media's work only that is left which an error stopped. */
+static int pre_save(void *opaque)
+{
+    GefsunkAhci *s = opaque;
+    size_t size;
+    Work *work;
+    must(gef_machine_state_size(&s->machine, &size));
+    s->state = g_realloc(s->state, size);
+    must(gef_machine_save(&s->machine, s->state, size, &size));
+    s->state_size = size;
+    s->works_size = 0;
+    for (unsigned port = 0; port < MOST_PORTS; port++) {
+        if (s->disks[port]) {
+            QTAILQ_FOREACH(work, &s->disks[port]->stopped, next) {
+                s->works = g_realloc(s->works, s->works_size + sizeof work->event);
+                memcpy(s->works + s->works_size, &work->event, sizeof work->event);
+                s->works_size += sizeof work->event;
+            }
+        }
+    }
+    return 0;
+}
+
+/* Work of a disk that is here, and that its machine knows: it begins as the virtual machine does. */
+static bool load_work(GefsunkAhci *s, const gef_event *event)
+{
+    GefsunkDisk *disk = event->port < MOST_PORTS ? s->disks[event->port] : NULL;
+    size_t last = (size_t)event->u.medium.count * BDRV_SECTOR_SIZE - 1, len;
+    uint8_t none;
+    if (!disk || event->kind < GEF_EVENT_LOAD || event->kind > GEF_EVENT_DISCARD || event->u.medium.count > DISK_LIMIT / BDRV_SECTOR_SIZE) {
+        return false;
+    }
+    if (event->kind == GEF_EVENT_STORE &&
+        (gef_machine_stored(&s->machine, &event->u.medium.request, last, &none, 1, &len) != GEF_OK || len != 1)) {
+        return false;
+    }
+    QTAILQ_INSERT_TAIL(&disk->stopped, new_work(s, event), next);
+    return true;
+}
+
+static int post_load(void *opaque, int version)
+{
+    GefsunkAhci *s = opaque;
+    gef_status status;
+    gef_event event;
+    must(gef_machine_free(&s->machine));
+    status = gef_machine_restore(&s->machine, s->state, s->state_size);
+    if (status != GEF_OK) {
+        error_report("gefsunk-ahci: %s", gef_status_text(status));
+        must(gef_machine_new(&s->machine, s->ports, s->port0_open));
+        return -EINVAL;
+    }
+    for (uint32_t at = 0; at + sizeof event <= s->works_size; at += sizeof event) {
+        memcpy(&event, s->works + at, sizeof event);
+        if (!load_work(s, &event)) {
+            error_report("gefsunk-ahci: a request of no disk that is here");
+            return -EINVAL;
+        }
+    }
+    return 0;
+}
+
+static const VMStateDescription migrated = {
+    .name = TYPE_GEFSUNK_AHCI,
+    .version_id = 1,
+    .minimum_version_id = 1,
+    .pre_save = pre_save,
+    .post_load = post_load,
+    .fields = (VMStateField[]) {
+        VMSTATE_PCI_DEVICE(parent_obj, GefsunkAhci),
+        VMSTATE_UINT8_EQUAL(ports, GefsunkAhci, "the two controllers have as many ports"),
+        VMSTATE_UINT32(state_size, GefsunkAhci),
+        VMSTATE_VBUFFER_ALLOC_UINT32(state, GefsunkAhci, 0, NULL, state_size),
+        VMSTATE_UINT32(works_size, GefsunkAhci),
+        VMSTATE_VBUFFER_ALLOC_UINT32(works, GefsunkAhci, 0, NULL, works_size),
+        VMSTATE_BOOL(has_event, GefsunkAhci),
+        VMSTATE_BUFFER_UNSAFE(event, GefsunkAhci, 0, sizeof(gef_event)),
+        VMSTATE_BOOL(is_up, GefsunkAhci),
+        VMSTATE_END_OF_LIST()
+    },
+};
 
 static void init_class(ObjectClass *klass, void *data)
 {
@@ -603,7 +715,7 @@ static void init_class(ObjectClass *klass, void *data)
     k->device_id = 0x00f0;
     k->class_id = PCI_CLASS_STORAGE_SATA;
     dc->reset = reset;
-    dc->vmsd = &not_migrated;
+    dc->vmsd = &migrated;
     device_class_set_props(dc, properties);
     set_bit(DEVICE_CATEGORY_STORAGE, dc->categories);
 }
