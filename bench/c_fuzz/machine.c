@@ -750,6 +750,7 @@ static void scene(found *now, unsigned ports) {
         queue(8 + disk, disk, 1, 5, 3);
         queue(20 + disk, disk, 0, 12, 8);
     }
+    save_and_restore();
     settle_all();
     for (disk = 3; disk < 3 + disks; disk++) look(disk);
     for (disk = 0; disk < disks; disk++) {
