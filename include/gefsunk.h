@@ -552,7 +552,7 @@ gef_status gef_machine_state_size(gef_machine *machine, size_t *len);
  *
  * Requests that are out stay out in the state, under their numbers. So save beside it each event that you have not answered yet
  * (GEF_EVENT_READ_GUEST, GEF_EVENT_LOAD, GEF_EVENT_STORE, GEF_EVENT_FLUSH, GEF_EVENT_DISCARD), and do and answer it after
- * gef_machine_restore; or answer all of them before. A store that was dropped by a reset must be done, or never be done, before then.
+ * gef_machine_restore; or answer all of them before. gef_machine_stored gives the bytes of a store again, as long as it is out.
  * Can return GEF_CLOSED, GEF_TOO_SHORT, GEF_NO_MEMORY.
  */
 gef_status gef_machine_save(gef_machine *machine, uint8_t *bytes, size_t room, size_t *len);
