@@ -9,5 +9,5 @@
 mod saved;
 mod words;
 
-pub use saved::{Saved, restore_all, save_all};
+pub use saved::{Saved, restore_all, restore_list, save_all, save_list};
 pub use words::{RestoreError, Words};
