@@ -9,3 +9,4 @@ pub use Rattle.multiplier.proofs.PutBack.{gives_held}
 pub use Rattle.multiplier.proofs.PassingLemmas.{last_gone}
 pub use Rattle.multiplier.proofs.Removals.{apart, one_step, pass_in_order, step_gone}
 pub use Rattle.multiplier.proofs.StampLemmas.{begins_stamped, goes_up_stamped}
+pub use Rattle.multiplier.proofs.SavedLemmas.{all_in, each_in, one_fails}

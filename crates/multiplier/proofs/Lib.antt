@@ -12,4 +12,5 @@ mod OrderLemmas
 mod StampLemmas
 mod TurnLemmas
 mod Forwarding
+mod SavedLemmas
 pub mod Door

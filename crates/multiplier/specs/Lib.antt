@@ -5,3 +5,4 @@ pub mod Passing
 pub mod Orders
 pub mod Stamping
 pub mod Between
+pub mod Saved

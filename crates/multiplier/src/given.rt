@@ -1,5 +1,7 @@
 //! How the frame given last is put back.
 
+mod saved;
+
 use fis_view::Stamp;
 
 /// Where a frame came from when it went up.

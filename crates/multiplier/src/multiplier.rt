@@ -8,6 +8,8 @@ ghost use Rattle.multiplier.specs.Rules.{CameRule, CanPutBackDown, CanPutBackUp,
 ghost use Rattle.multiplier.specs.declared.given.Source.TheVariants as source;
 ghost use Rattle.multiplier.specs.State.{IsSound, ShowsRecorded, control_stamp, counted, falling, first_port, held, is_answer, next_place, opening, opening_with_port_0, passes_to, port_at, ready, removals, rising, stamped, with_port};
 
+mod saved;
+
 use crate::given::{Given, Source};
 use fis_view::{Frame, Stamp};
 use pm_control::PmControl;
@@ -566,6 +568,14 @@ impl Multiplier {
         ensures { result.now ≡ self.now.registers }
     {
         &self.registers
+    }
+
+    /// What waits at port `n`, and which connection is present there. A port that does not exist is empty.
+    pub fn port(&self, n: u8) -> &Port
+        requires { n < 15 }
+        ensures { result.now ≡ port_at self.now n }
+    {
+        &self.ports[usize::from(n)]
     }
 
     /// The frame that waits at port `n` to go up.

@@ -6,6 +6,8 @@ ghost use Rattle.pm_registers.specs.RegisterMap.{after_notice};
 ghost use Rattle.pm_control.specs.Requests.{request_in};
 ghost use Rattle.pm_control.specs.Answers.{IsAnswer, IsNotice, IsSeenNext, ReadsBack, answer_of, answer_to, done, mark_after, mark_left, refused, refused_by, registers_after, registers_left, signature, value_answer};
 
+mod saved;
+
 use crate::request::{Request, request_of};
 use fis_view::{D2hFields, Frame, SetBitsFields, Stamp, d2h, set_bits};
 use pm_registers::{CONTROL_PORT, PmRegisters, RegisterError};

@@ -1,2 +1,3 @@
 pub mod Port
 pub mod Offering
+pub mod Saved

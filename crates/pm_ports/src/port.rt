@@ -5,6 +5,8 @@ ghost use Rattle.std.specs.Result.{result_err};
 ghost use Rattle.pm_ports.specs.Port.{IsSound, came_refusal, empty_port, gone_refusal, is_up_to, left_in, next_up, with_connection, with_down, with_removal, with_up};
 ghost use Rattle.pm_ports.specs.Offering.{IsOffered, IsPutDown};
 
+mod saved;
+
 use fis_view::Frame;
 use std::marker::Model;
 use thiserror::Error;
@@ -142,6 +144,13 @@ impl Port {
         Ok(())
     }
 
+    /// The highest connection that came, 0 for none.
+    pub fn last(&self) -> u32
+        ensures { result ≡ self.now.last }
+    {
+        self.last
+    }
+
     /// The highest connection whose removal was recorded, 0 for none.
     pub fn highest_gone(&self) -> u32
         ensures { result ≡ self.now.gone }
@@ -222,6 +231,13 @@ impl Port {
         ensures { option_copied result ≡ self.now.up }
     {
         self.up.as_ref()
+    }
+
+    /// The frame that waits to go down.
+    pub fn hold_down(&self) -> Option<&Frame>
+        ensures { option_copied result ≡ self.now.down }
+    {
+        self.down.as_ref()
     }
 
     /// Keeps a frame on its way down, or gives it back where another one waits.
