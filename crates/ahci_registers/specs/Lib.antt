@@ -5,3 +5,4 @@ pub mod Lines
 pub mod Laws
 pub mod Link
 pub mod LinkLaws
+pub mod Saved

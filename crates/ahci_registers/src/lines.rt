@@ -4,6 +4,8 @@ ghost use Rattle.std.specs.Prelude.{◌≡◌, false};
 ghost use Rattle.ahci_registers.specs.Bits.{has_bit as has_bit_of, interrupt_bits};
 ghost use Rattle.ahci_registers.specs.Lines.{LineEvent, after, ghc_shown, is_due, is_shown, line as line_of, opening_lines, serr_shown};
 
+mod saved;
+
 use crate::port::PortInterrupts;
 use crate::shadows::{clearable, has_bit, known, shadowed, shadows, without};
 use bitflags::Flags;

@@ -5,6 +5,8 @@ ghost use Rattle.ahci_registers.specs.Bits.{interrupt_bits};
 ghost use Rattle.ahci_registers.specs.Lines.{LineEvent, after, is_due};
 ghost use Rattle.ahci_registers.specs.Link.{action_of, causes_of, detected_by, effect_of, status_of, written as written_of};
 
+mod saved;
+
 use crate::lines::Lines;
 use crate::port::PortInterrupts;
 use bitflags::Flags;

@@ -5,6 +5,8 @@ ghost use Rattle.std.specs.Result.{result_err};
 ghost use Rattle.block_command.specs.Moments.{failure_fault, flush_fault, load_fault, store_fault};
 ghost use Rattle.block_command.specs.Moments.{IsCommand, IsMoment, Moment, after_came, after_failed, after_flushed, after_loaded, after_stored, chunk, data_stage, first_data_stage, gone, holds, is_ended, is_queued, is_storing, is_verify, opening, part_count, part_len, part_lba, part_of, read_end, read_on, runs, sent_to, set_up_stage, started, turn_of, write_on};
 
+mod saved;
+
 use crate::answer::AnswerError;
 use std::alloc::{AllocError, Global};
 use std::marker::Model;

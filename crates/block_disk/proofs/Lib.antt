@@ -1,4 +1,5 @@
 mod Ends
 mod Wire
 mod Numbers
+mod SavedLemmas
 pub mod Door

@@ -1,3 +1,4 @@
 pub mod Table
 pub mod Laws
 pub mod Requests
+pub mod Saved

@@ -6,6 +6,8 @@ ghost use Rattle.block_command.specs.Moments.{IsCommand, Moment};
 ghost use Rattle.block_command.specs.Laws.{Comes, Fails, Flushes, Goes, Loads, Stores};
 ghost use Rattle.block_disk.specs.Table.{Table, at, freed, has_wire, is_under_way, may_go, none_under_way, refusal_at, wants_wire, wire_with, with_input, with_taken};
 
+mod saved;
+
 use block_command::{AnswerError, BlockCommand, Command, Turn};
 use std::alloc::{AllocError, Global};
 use std::marker::Model;

@@ -7,6 +7,8 @@ ghost use Rattle.block_command.specs.Laws.{Comes, Fails, Flushes, Goes, Loads, S
 ghost use Rattle.block_disk.specs.Table.{at, is_under_way, may_go, with_input, with_taken};
 ghost use Rattle.block_disk.specs.Requests.{Queue, answer_refusal, asks, is_fis, is_out, is_request, may_send, none_queued, number_at, queue_reset, with_answer, with_asked, with_drawn, with_table};
 
+mod saved;
+
 use crate::commands::Commands;
 use block_command::{AnswerError, BlockCommand, Command, Turn};
 use std::alloc::{AllocError, Global};

@@ -7,3 +7,4 @@ pub mod ByteLemmas
 pub mod PartLemmas
 pub mod RunLemmas
 pub mod SupplyLemmas
+pub mod SavedLemmas

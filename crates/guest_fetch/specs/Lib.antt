@@ -9,3 +9,4 @@ pub mod Fetch
 pub mod Fetching
 pub mod Reading
 pub mod Runs
+pub mod Saved

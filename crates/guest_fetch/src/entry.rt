@@ -84,7 +84,7 @@ pub(crate) fn read_entry(raw: &[u8], at: usize) -> Entry
 }
 
 // What the standard forbids in it.
-fn fault(entry: Entry) -> Option<EntryFault>
+pub(crate) fn fault(entry: Entry) -> Option<EntryFault>
     requires { 0 < entry.bytes }
     ensures { result ≡ entry_fault entry }
 {

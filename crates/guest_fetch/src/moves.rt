@@ -4,6 +4,8 @@ ghost use Rattle.std.specs.Prelude.{◌≡◌, ◌+◌, ◌-◌, ◌^◌, ◌<�
 ghost use Rattle.guest_fetch.specs.Moves.{HoldMoves, move_of, moves_of};
 ghost use Rattle.guest_fetch.specs.Spans.{entries_from, entry_from};
 
+mod saved;
+
 use crate::span::Span;
 use std::marker::Model;
 

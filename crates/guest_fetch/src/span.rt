@@ -5,6 +5,8 @@ ghost use Rattle.guest_fetch.specs.Entries.{entries_at, first_fault, reached};
 ghost use Rattle.guest_fetch.specs.Places.{total_of};
 ghost use Rattle.guest_fetch.specs.Spans.{IsTable, begin_in, entries_from, most_bytes, no_span, table_of};
 
+mod saved;
+
 use crate::entry::read_entry;
 use std::alloc::AllocError;
 

@@ -6,6 +6,8 @@ ghost use Rattle.guest_fetch.specs.Places.{Delivers, reach_of, room_at};
 ghost use Rattle.guest_fetch.specs.Spans.{IsTable, left_of, most_bytes, with_entries};
 ghost use Rattle.guest_fetch.specs.Moves.{IsMove, any_told, completes, moves_at};
 
+mod saved;
+
 use crate::moves::Moves;
 use crate::span::{Span, begin_of, keep, span_of};
 use std::alloc::{AllocError, Global};

@@ -6,8 +6,10 @@
 //! parts one after another need no law of lists.
 #![tactic(auto)]
 
+mod list;
 mod saved;
 mod words;
 
-pub use saved::{Saved, restore_all, save_all};
+pub use list::SavedList;
+pub use saved::{Saved, restore_all, restore_list, save_all, save_list};
 pub use words::{RestoreError, Words};
