@@ -7,3 +7,4 @@ pub mod Logs
 pub mod Smart
 pub mod Claims
 pub mod Readings
+pub mod Saved

@@ -6,6 +6,8 @@
 ghost use Rattle.std.specs.Prelude.{◌≡◌, ◌<◌, ◌+◌, length, nat_lt, is_some};
 ghost use Rattle.disk_pages.specs.Logs.{directory, error_bytes, error_log, failed_bytes, log_bytes, log_named, page_list, pages_of, reads_log, unfailed_bytes};
 
+mod saved;
+
 use crate::bytes::{clear, close};
 use crate::identity::identify;
 use crate::ncq_error::NcqError;

@@ -3,6 +3,8 @@
 ghost use Rattle.std.specs.Prelude.{◌≡◌, ◌<◌, ◌≤◌, Ok, Err, IfOk, IfErr, IsErrOf};
 ghost use Rattle.disk_pages.specs.Profiles.{capacity_of, depth_of, facts_of, rpm_of, trim_blocks};
 
+mod saved;
+
 use crate::text::{FirmwareRevision, ModelNumber, SerialNumber};
 use ata_command::Facts;
 use std::marker::Model;

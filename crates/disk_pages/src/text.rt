@@ -5,6 +5,8 @@ ghost use Rattle.disk_pages.specs.Texts.{is_text, pair, padded, text_fault, text
 ghost use Rattle.std.specs.List.{list_all};
 ghost use Rattle.disk_pages.specs.Texts.{is_graphic};
 
+mod saved;
+
 use std::marker::Model;
 use thiserror::Error;
 
