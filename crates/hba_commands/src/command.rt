@@ -9,6 +9,8 @@ ghost use Rattle.hba_commands.specs.Commands.{cfis_at, command_at, entries_of, f
 ghost use Rattle.hba_commands.specs.Requests.{request_in, tag_of};
 ghost use Rattle.hba_commands.specs.Writing.{is_write};
 
+mod saved;
+
 use crate::header::Header;
 use crate::request::Request;
 use host_memory::{CLIENT_START, HostMemory, PrdTable};

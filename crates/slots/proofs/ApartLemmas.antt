@@ -1,7 +1,7 @@
 -- Stretches that lie apart: which dwords they have, how many, and where they begin.
-use Rattle.std.proofs.Common.{◌≡◌, ℕ, zero, suc, ◌+◌, ◌-◌, ◌*◌, ◌/◌, ◌<◌, ◌≤◌, max, Bool, true, false, not, ◌&&◌, ◌||◌, nat_eq, nat_lt, nat_le, cond, List, [], ◌∷◌, get_or, length, refl, sym, ◌∙◌, ap, arith, inl, inr, count_by}
+use Rattle.std.proofs.Common.{◌≡◌, ℕ, zero, suc, ◌+◌, ◌-◌, ◌*◌, ◌/◌, ◌<◌, ◌≤◌, max, Bool, true, false, not, ◌&&◌, ◌||◌, nat_eq, nat_lt, cond, List, [], ◌∷◌, get_or, length, refl, sym, ◌∙◌, ap, arith, inl, inr, count_by}
 use Rattle.std.specs.List.{range_with_len, list_any, list_all}
-use Rattle.std.proofs.lemmas.Bool.{cases_Bool, cases_eq, cases_lt, or_cases, and_from, and_left, and_right, and_parts, or_from, or_left, or_right, or_parts, not_from_true, not_from_false, eq-eqb, ne_eqb, eqb-true, le-leb, lt-leb, lt-ltb, le-ltb, leb-true, ltb-true, false≢true, false_from_ne_true}
+use Rattle.std.proofs.lemmas.Bool.{cases_Bool, cases_eq, cases_lt, or_cases, and_from, and_left, and_right, and_parts, or_from, or_left, or_right, or_parts, not_from_true, not_from_false, eq-eqb, ne_eqb, eqb-true, lt-ltb, le-ltb, ltb-true, false≢true, false_from_ne_true}
 use Rattle.std.proofs.lemmas.List.Sums.{sum_by-cons, count_by-le-length}
 use Rattle.std.proofs.lemmas.List.FromFn.{length-range_with_len}
 use Rattle.slots.specs.declared.moved.Stretch.{Stretch}
@@ -9,33 +9,7 @@ use Rattle.slots.specs.Bytes.{any_over, came_of, is_over, is_whole, stretches_of
 use Rattle.slots.specs.Stretches.{AreApart, dwords_of, has, in_one, meets, over_of}
 use Rattle.slots.proofs.ByteLemmas.{any_found, any_none, before, came_more, came_none, count_more, no_stretches, stretches_more}
 use Rattle.slots.proofs.FlagLemmas.{get-over, length-over}
-
--- ---- dwords
-
-pub has_yes : (k : ℕ) (s : Stretch) → s.start ≤ k → k < s.end → has k s ≡ true
-has_yes k s low high = and_from (nat_le s.start k) (nat_lt k s.end) (le-leb s.start k low) (lt-ltb k s.end high)
-
-pub has_low : (k : ℕ) (s : Stretch) → k < s.start → has k s ≡ false
-has_low k s low = and_left (nat_le s.start k) (nat_lt k s.end) (lt-leb s.start k low)
-
-pub has_high : (k : ℕ) (s : Stretch) → s.end ≤ k → has k s ≡ false
-has_high k s high = and_right (nat_le s.start k) (nat_lt k s.end) (le-ltb k s.end high)
-
-pub has_is : (k : ℕ) (s : Stretch) → has k s ≡ true → (s.start ≤ k) × (k < s.end)
-has_is k s h = let both = and_parts (nat_le s.start k) (nat_lt k s.end) h in (leb-true s.start k both.0, ltb-true k s.end both.1)
-
-pub none_below : (low n : ℕ) (ss : List Stretch) (k : ℕ) → AreApart low n ss → k < low → in_one ss k ≡ false
-none_below low n [] k h lt = refl
-none_below low n (s ∷ ss) k h lt =
-    or_from (has k s) (in_one ss k) (has_low k s (omega (arith, h.0))) (none_below (s.end + 1) n ss k h.3 (omega (arith, h.0, h.1)))
-
-pub wider : (low n m : ℕ) (ss : List Stretch) → AreApart low n ss → n ≤ m → AreApart low m ss
-wider low n m [] h le = tt
-wider low n m (s ∷ ss) h le = (h.0, h.1, omega (arith, h.2), wider (s.end + 1) n m ss h.3 le)
-
-pub lower : (from low n : ℕ) (ss : List Stretch) → AreApart low n ss → from ≤ low → AreApart from n ss
-lower from low n [] h le = tt
-lower from low n (s ∷ ss) h le = (omega (arith, h.0), h.1, h.2, h.3)
+pub use Rattle.slots.specs.RunLaws.{has_high, has_is, has_low, has_yes, lower, none_below, wider}
 
 -- ---- counts
 

@@ -1,6 +1,9 @@
 mod FlagLemmas
 mod ByteLemmas
 mod ApartLemmas
+mod RunLemmas
+mod SavedLemmas
+mod TestedLemmas
 mod StretchLemmas
 mod MergeLemmas
 mod MaskLemmas

@@ -2,10 +2,14 @@ pub mod Bytes
 pub mod Commands
 pub mod Data
 pub mod Issued
+pub mod Runs
+pub mod RunLaws
+pub mod Saved
 pub mod Laws
 pub mod Setup
 pub mod Slots
 pub mod Stretches
 pub mod Table
+pub mod Tested
 pub mod Work
 pub mod Between

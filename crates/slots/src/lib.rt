@@ -2,7 +2,8 @@
 //! device's last setup.
 //!
 //! [`SlotTable`] is one value. Slots are numbered 0 to 31 (AHCI 1.3.1, the command list), devices 0 to 15,
-//! like the ports of a multiplier. No call takes memory. A call on one device leaves what belongs to another
+//! like the ports of a multiplier. No call but `save` and `restore` of
+//! [`Saved`](saved_state::Saved) takes memory. A call on one device leaves what belongs to another
 //! as it was.
 #![tactic(auto)]
 

@@ -5,6 +5,8 @@ ghost use Rattle.std.specs.List.{list_any};
 ghost use Rattle.slots.specs.Bytes.{any_over as any_over_of, came_of, ends_at as ends_at_of, is_whole as is_whole_of, none_over, stretches_of, with_bytes};
 ghost use Rattle.slots.specs.Stretches.{AreApart, dwords_of, in_one, joined as joined_of, meets, merged_with};
 
+mod saved;
+
 use arrayvec::ArrayVec;
 use std::marker::Model;
 
@@ -53,7 +55,8 @@ impl Moved {
         has_dword(self.stretches.as_slice(), k)
     }
 
-    fn dwords(&self) -> u32
+    /// How many dwords the transfer has.
+    pub(crate) fn dwords(&self) -> u32
         ensures value { result ≡ length self.now }
         ensures few { result ≤ 8388608 }
     {

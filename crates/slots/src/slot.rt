@@ -1,8 +1,9 @@
 //! One command slot.
 
-ghost use Rattle.std.specs.Prelude.{◌≡◌, ◌+◌, ◌/◌, ◌%◌, ◌≤◌, ◌<◌, Some, None, not, ◌&&◌, length, IfSome, IsSome, MatchOption};
+ghost use Rattle.std.specs.Prelude.{◌≡◌, ◌+◌, ◌/◌, ◌%◌, ◌≤◌, ◌<◌, Some, None, [], false, true, not, ◌&&◌, length, IfSome, IsSome, MatchOption};
 ghost use Rattle.std.specs.Option.{ForSome, option_map};
 ghost use Rattle.slots.specs.Bytes.{stretches_of, with_bytes};
+ghost use Rattle.slots.specs.Tested.{has_context as has_context_of, is_moving as is_moving_of, is_open as is_open_of, is_proper as is_proper_issue};
 ghost use Rattle.slots.specs.Work.{IsWork};
 ghost use Rattle.slots.specs.Commands.{IsSlotAnswer, answer_for as answer_for_issue, answered_issue, is_sent_beside as is_sent_beside_issue, is_unanswered as is_unanswered_issue, sent_issue};
 ghost use Rattle.slots.specs.Data.{moved_over};
@@ -10,8 +11,11 @@ ghost use Rattle.slots.specs.Issued.{issued_of, with_flags};
 ghost use Rattle.slots.specs.Setup.{came as came_in, is_outstanding as is_outstanding_issue, long_fault as long_fault_of, out_fault as out_fault_of, pio_fault as pio_fault_of, setup_fault as setup_fault_of, transfer_fault as transfer_fault_of};
 ghost use Rattle.slots.specs.Slots.{holds, is_done_issue, is_out_issue, is_queued_issue, is_short_issue, is_sent_pio as is_sent_pio_issue, is_waiting as is_waiting_issue, is_whole_issue, match_some, new_issue, owned_by};
 
+mod saved;
+
 use crate::answer::{Answered, SetupError};
 use crate::moved::Moved;
+use crate::table::Context;
 use crate::work::Work;
 use std::marker::Model;
 
@@ -118,6 +122,35 @@ impl Slot {
                 answered: true,
                 ..issued
             });
+        }
+    }
+
+    /// Whether what is issued keeps the rules that no other slot bears on.
+    pub(crate) fn is_proper(&self) -> bool
+        ensures { result ≡ match_some self.now true is_proper_issue }
+    {
+        match self.issued {
+            Some(issued) => {
+                issued.dev < 16
+                    && (!issued.answered || issued.work.kind.is_queued() && issued.sent)
+                    && (!issued.sent || !issued.work.kind.is_control())
+                    && (issued.sent || self.moved.stretches() == 0)
+            }
+            None => true,
+        }
+    }
+
+    /// Whether this is what can be left of a setup of the device for this slot.
+    pub(crate) fn has_context(&self, dev: u8, context: Context) -> bool
+        ensures { result ≡ match_some self.now false (has_context_of dev context) }
+    {
+        match self.issued {
+            Some(issued) => {
+                issued.dev == dev
+                    && is_open(issued, &self.moved, context)
+                    && is_moving(issued, context)
+            }
+            None => false,
         }
     }
 
@@ -339,4 +372,27 @@ fn transfer_fault(
         return Some(SetupError::BadCount);
     }
     None
+}
+
+// Whether the bytes of a context are whole dwords of the command, none of which was transferred, with room among the stretches.
+fn is_open(issued: Issued, moved: &Moved, context: Context) -> bool
+    requires room { length moved.now ≡ issued.work.len / 4 }
+    requires dwords { issued.work.len % 4 ≡ 0 }
+    ensures { result ≡ is_open_of context (with_flags issued moved.now) }
+{
+    u64::from(context.next) + u64::from(context.left) <= u64::from(issued.work.len)
+        && context.next % 4 == 0
+        && context.left % 4 == 0
+        && !moved.any_over(context.next, context.left)
+        && (context.left == 0 || !(moved.stretches() >= 64 && !moved.ends_at(context.next)))
+}
+
+// Whether the command moves bytes the way of the context.
+fn is_moving(issued: Issued, context: Context) -> bool
+    ensures { result ≡ is_moving_of context (with_flags issued []) }
+{
+    let kind = issued.work.kind;
+    kind.is_read() == context.to_host
+        && (kind.is_queued() && issued.answered || issued.sent && kind.needs_all())
+        && (!context.activated || !context.to_host && context.left > 0)
 }

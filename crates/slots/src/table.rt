@@ -11,6 +11,8 @@ ghost use Rattle.slots.specs.Slots.{KeepsFree, LeavesOthers, context_of, context
 ghost use Rattle.slots.specs.Table.{IsContext, IsFresh, IsTable};
 ghost use Rattle.slots.specs.Work.{IsWork};
 
+mod saved;
+
 use crate::answer::{Answered, ArriveError, Busy, Completed, SetupError, Stray};
 use crate::scan::{
     any_sent_beside, device_slots, done_slots, free_slots, has_bit, has_outstanding, issued_slots,

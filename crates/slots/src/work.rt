@@ -4,6 +4,8 @@ ghost use Rattle.std.specs.Prelude.{◌≡◌};
 ghost use Rattle.slots.specs.Work.{is_dma as is_dma_kind, is_out as is_out_kind, is_queued as is_queued_kind, is_read as is_read_kind, needs_all as needs_all_kind};
 ghost use Rattle.slots.specs.Slots.{is_control as is_control_kind, is_pio as is_pio_kind};
 
+mod saved;
+
 /// What a command does with data.
 #[derive(Clone, Copy, Debug, PartialEq, Eq)]
 pub enum Kind {

@@ -1,0 +1,20 @@
+use Rattle.std.proofs.Common.{sym}
+use Rattle.slots.specs.Saved.{KeepsTableParts, put_table_parts, table_keeps, table_parts, table_parts_apart}
+use Rattle.slots.specs.Table.{IsTable}
+use Rattle.slots.specs.Tested.{is_table}
+use Rattle.saved_state.specs.State.{parts_refused, rule_refused}
+use Rattle.slots.proofs.TestedLemmas.{is_then_table, table_is}
+use Rattle.slots.proofs.table.saved.SlotTableSaved.restore.Goals as goal
+
+pub returns-in-Err : goal.returns-in-Err
+returns-in-Err c = parts_refused put_table_parts KeepsTableParts IsTable table_parts table_keeps c.args.words.now c.restore.new.words c.in-Err.error c.in-Err.ensures
+
+pub returns-then-not-is_table : goal.returns-then-not-is_table
+returns-then-not-is_table c = rule_refused put_table_parts KeepsTableParts IsTable table_parts (λ p. is_table p.0 p.1) table_parts_apart table_keeps is_then_table
+    c.args.words.now c.restore.new.words c.in-Ok.parts c.in-Ok.ensures (sym c.if-not-is_table.ensures)
+
+pub invariant_of-result : goal.invariant_of-result
+invariant_of-result c = table_is c.in-Ok.parts.0 c.in-Ok.parts.1 c.in-Ok.ensures.1 (sym c.if-not-is_table.ensures)
+
+pub returns : goal.returns
+returns c = (c.in-Ok.ensures.0, table_is c.in-Ok.parts.0 c.in-Ok.parts.1 c.in-Ok.ensures.1 (sym c.if-not-is_table.ensures))
