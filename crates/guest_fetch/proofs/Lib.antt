@@ -8,3 +8,4 @@ pub mod PartLemmas
 pub mod RunLemmas
 pub mod SupplyLemmas
 pub mod SavedLemmas
+pub mod CommandLemmas

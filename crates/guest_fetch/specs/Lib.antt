@@ -10,3 +10,4 @@ pub mod Fetching
 pub mod Reading
 pub mod Runs
 pub mod Saved
+pub mod SavedCommands

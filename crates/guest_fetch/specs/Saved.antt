@@ -8,6 +8,7 @@ use Rattle.guest_fetch.specs.declared.header.Header.{Header}
 use Rattle.guest_fetch.specs.declared.moves.Move.{Move}
 use Rattle.guest_fetch.specs.declared.span.Span.{Span}
 use Rattle.guest_fetch.specs.Entries.{IsEntry, entry_fault}
+use Rattle.guest_fetch.specs.Headers.{header_refusal}
 use Rattle.guest_fetch.specs.Places.{Places, total_of}
 use Rattle.guest_fetch.specs.Spans.{IsTable, entries_from, entry_from, most_bytes}
 
@@ -35,6 +36,13 @@ of_header = three (three (number 16) (number 8) (number 8)) (three flag flag fla
 
 abbrev pub header_words : Parts Header
 header_words = seen_as of_header header_parts (λ a b e. ap header_of_parts e)
+
+-- like one that was read, and taken: the tests of `IsHeader` and `IsTaken`
+abbrev pub is_header : Header → Bool
+is_header h = nat_lt h.entries 65536 && nat_le (h.table + 128) (2 ^ 64) && nat_lt h.pm_port 16 && nat_lt h.dwords 32
+
+abbrev pub is_taken : Header → Bool
+is_taken h = is_header h && is_none (header_refusal h)
 
 -- ---- moves
 

@@ -5,6 +5,8 @@ ghost use Rattle.guest_fetch.specs.Commands.{IsCommand};
 ghost use Rattle.guest_fetch.specs.Headers.{IsTaken};
 ghost use Rattle.guest_fetch.specs.Runs.{counted};
 
+mod saved;
+
 use crate::head::Head;
 use crate::table::Table;
 use std::marker::Model;

@@ -6,6 +6,8 @@ ghost use Rattle.guest_fetch.specs.Headers.{IsHeader, IsTaken, header_place, hea
 ghost use Rattle.guest_fetch.specs.Heads.{fis_refusal, head_of};
 ghost use Rattle.guest_fetch.specs.declared.fetch.Step.TheVariants.{AtHeader, AtEntries};
 
+pub(crate) mod saved;
+
 use crate::command::Command;
 use crate::entry::first_fault;
 use crate::head::{Head, read_head};

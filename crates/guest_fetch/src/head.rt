@@ -7,6 +7,8 @@ ghost use Rattle.hba_commands.specs.Requests.{request_of, sectors, work_of};
 ghost use Rattle.guest_fetch.specs.Heads.{asked_work, cfis_of, fields_in, fis_refusal, head_of, is_command_view, other_kind as other_kind_of};
 ghost use Rattle.guest_fetch.specs.Spans.{most_bytes};
 
+mod saved;
+
 use crate::header::Header;
 use crate::refusal::Refusal;
 use fis_view::{Fis, H2dFields, RegH2D};

@@ -3,7 +3,7 @@
 ghost use Rattle.std.specs.Prelude.{◌≡◌, ◌+◌, ◌<◌, ◌≤◌, length};
 ghost use Rattle.guest_fetch.specs.Headers.{IsHeader, header_in, header_of_dwords, header_refusal};
 
-mod saved;
+pub(crate) mod saved;
 
 use crate::entry::dword;
 use crate::refusal::Refusal;

@@ -65,6 +65,13 @@ impl Table {
         let _ = &self.spans;
     }
 
+    // How many bytes the command moves.
+    pub(crate) fn len(&self) -> u32
+        ensures { result ≡ self.now.len }
+    {
+        self.len
+    }
+
     // How many entries were kept.
     pub(crate) fn count(&self) -> u16
         ensures { result ≡ length self.now.entries }
