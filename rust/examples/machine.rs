@@ -1,7 +1,10 @@
-//! A machine with two disks behind a multiplier, whose sectors lie in vectors. The program plays the driver: it opens port 1, writes a
-//! sector of each disk, and reads both, with both commands issued before either is answered.
+//! A machine with two disks behind a multiplier. The medium of the first answers at once; that of the second keeps its loads, which are
+//! answered later, the last one first. The program plays the driver: it opens port 1, and reads two sectors of each disk, all four
+//! commands issued before any is answered; then it writes a sector of each and reads it again.
 
-use gefsunk::{Ask, Error, Event, Machine, Profile, Width, Work, SECTOR};
+use gefsunk::{
+    Ahci, Answer, Error, Failure, Medium, Notice, Profile, Reply, Request, Width, SECTOR,
+};
 
 /// Registers of the port, and of the controller.
 mod register {
@@ -25,93 +28,93 @@ const TABLES: usize = 0x4000;
 const BUFFERS: usize = 0x8000;
 const MEMORY: usize = 0x10000;
 
-/// An address of the guest as an index.
-fn index(at: u64) -> usize {
-    usize::try_from(at).expect("the guest's memory is small")
+/// Sectors in a row. Where loads come late it keeps them: which they are, and from where they load how many bytes.
+struct Sectors {
+    port: u8,
+    bytes: Vec<u8>,
+    late: Option<Vec<(Request, u64, usize)>>,
 }
 
-/// The machine, its guest's memory, and the media of its disks.
+impl Medium for Sectors {
+    fn load(&mut self, request: Request, lba: u64, bytes: &mut [u8]) -> Result<Reply, Failure> {
+        if let Some(late) = &mut self.late {
+            println!("port {}: sector {lba} comes later", self.port);
+            late.push((request, lba, bytes.len()));
+            return Ok(Reply::Later);
+        }
+        println!("port {}: sector {lba} is loaded", self.port);
+        self.bytes.load(request, lba, bytes)
+    }
+
+    fn store(&mut self, request: Request, lba: u64, bytes: &[u8]) -> Result<Reply, Failure> {
+        println!("port {}: sector {lba} is stored", self.port);
+        self.bytes.store(request, lba, bytes)
+    }
+
+    fn flush(&mut self, request: Request) -> Result<Reply, Failure> {
+        self.bytes.flush(request)
+    }
+}
+
+/// The machine with its guest's memory.
 struct Computer {
-    machine: Machine,
-    memory: Vec<u8>,
-    media: [Vec<u8>; 2],
+    ahci: Ahci<Vec<u8>, Sectors>,
 }
 
 impl Computer {
     fn new() -> Result<Computer, Error> {
-        let mut machine = Machine::new(2, true)?;
-        for (port, serial) in [(0, "ONE"), (1, "TWO")] {
-            machine.put_disk(port, &Profile::new(64, serial))?;
-            machine.plug(port)?;
+        let mut ahci = Ahci::new(2, true, vec![0; MEMORY])?;
+        for (port, serial, late) in [(0, "ONE", None), (1, "TWO", Some(Vec::new()))] {
+            let bytes = vec![0x11 * (port + 1); 64 * SECTOR];
+            ahci.put_disk(
+                port,
+                &Profile::new(64, serial),
+                Sectors { port, bytes, late },
+            )?;
+            ahci.plug(port)?;
         }
-        machine.power_on()?;
-        Ok(Computer {
-            machine,
-            memory: vec![0; MEMORY],
-            media: [vec![0x11; 64 * SECTOR], vec![0x22; 64 * SECTOR]],
-        })
-    }
-
-    /// Does what a disk asks of its medium.
-    fn serve(&mut self, ask: Ask) -> Result<(), Error> {
-        println!("port {}: {:?}", ask.port, ask.what);
-        let medium = &mut self.media[usize::from(ask.port)];
-        match ask.what {
-            Work::Load { lba, count } => {
-                let bytes = &medium[index(lba) * SECTOR..][..count as usize * SECTOR];
-                self.machine.loaded(&ask.request, bytes)
-            }
-            Work::Store { lba, count } => {
-                let bytes = &mut medium[index(lba) * SECTOR..][..count as usize * SECTOR];
-                self.machine.stored(&ask.request, 0, bytes)?;
-                self.machine.done(&ask.request)
-            }
-            Work::Flush | Work::Discard => self.machine.done(&ask.request),
-        }
+        ahci.power_on()?;
+        Ok(Computer { ahci })
     }
 
     /// Does all that is to be done.
     fn settle(&mut self) -> Result<(), Error> {
-        while let Some(event) = self.machine.next_event()? {
-            match event {
-                Event::ReadGuest { at, len, wanted } => {
-                    let bytes = self
-                        .memory
-                        .get(index(at)..)
-                        .and_then(|rest| rest.get(..len));
-                    match bytes {
-                        Some(bytes) => self.machine.supply(&wanted, bytes)?,
-                        None => self.machine.no_memory(&wanted)?,
-                    }
-                }
-                Event::WriteGuest { at, len } => {
-                    let place = self
-                        .memory
-                        .get_mut(index(at)..)
-                        .and_then(|rest| rest.get_mut(..len));
-                    if let Some(place) = place {
-                        self.machine.lent(place)?;
-                    }
-                }
-                Event::Medium(ask) => self.serve(ask)?,
-                Event::Line { up } => println!("line {}", if up { "up" } else { "down" }),
-                _ => (),
+        while let Some(notice) = self.ahci.next_notice()? {
+            if let Notice::Line { up } = notice {
+                println!("line {}", if up { "up" } else { "down" });
             }
         }
         Ok(())
     }
 
+    /// Answers what came late at port 1, the last request first.
+    fn answer_late(&mut self) -> Result<(), Error> {
+        loop {
+            let Some(medium) = self.ahci.medium_mut(1) else {
+                return Ok(());
+            };
+            let Some((request, lba, len)) = medium.late.as_mut().and_then(Vec::pop) else {
+                return Ok(());
+            };
+            let start = lba as usize * SECTOR;
+            let bytes = medium.bytes[start..start + len].to_vec();
+            println!("port 1: sector {lba} is there now");
+            self.ahci.answer(&request, Answer::Loaded(&bytes))?;
+            self.settle()?;
+        }
+    }
+
     fn read(&mut self, offset: u32) -> Result<u64, Error> {
-        self.machine.read(offset, Width::Dword)
+        self.ahci.read(offset, Width::Dword)
     }
 
     fn write(&mut self, offset: u32, value: u32) -> Result<(), Error> {
-        self.machine.write(offset, Width::Dword, value.into())?;
+        self.ahci.write(offset, Width::Dword, value.into())?;
         self.settle()
     }
 
     fn put32(&mut self, at: usize, value: u32) {
-        self.memory[at..at + 4].copy_from_slice(&value.to_le_bytes());
+        self.ahci.memory_mut()[at..at + 4].copy_from_slice(&value.to_le_bytes());
     }
 
     /// The command of a slot: its header, its FIS, and one PRD where it moves a sector.
@@ -125,8 +128,8 @@ impl Computer {
         );
         self.put32(header + 4, 0);
         self.put32(header + 8, table as u32);
-        self.memory[table..table + 20].copy_from_slice(fis);
-        self.memory[table + 1] |= port;
+        self.ahci.memory_mut()[table..table + 20].copy_from_slice(fis);
+        self.ahci.memory_mut()[table + 1] |= port;
         self.put32(table + 0x80, buffer as u32);
         self.put32(table + 0x8C, 511);
     }
@@ -160,11 +163,10 @@ impl Computer {
         self.write(register::GHC, 2) // IE
     }
 
-    /// A queued command of sector 5, in slot 3 for port 0, in slot 4 for port 1. Nothing is done for it yet.
-    fn issue(&mut self, port: u8, code: u8) -> Result<(), Error> {
-        let slot = 3 + port;
+    /// A queued command of a sector, in this slot. Nothing is done for it yet.
+    fn issue(&mut self, slot: u8, port: u8, code: u8, lba: u8) -> Result<(), Error> {
         let mut fis = [0; 20];
-        fis[..8].copy_from_slice(&[0x27, 0x80, code, 1, 5, 0, 0, 0x40]);
+        fis[..8].copy_from_slice(&[0x27, 0x80, code, 1, lba, 0, 0, 0x40]);
         fis[12] = slot << 3;
         self.command(slot, port, &fis, true);
         for (offset, value) in [
@@ -172,37 +174,55 @@ impl Computer {
             (register::SACT, 1 << slot),
             (register::CI, 1 << slot),
         ] {
-            self.machine.write(offset, Width::Dword, value.into())?;
+            self.ahci.write(offset, Width::Dword, value.into())?;
         }
         Ok(())
     }
 
     /// The data of a slot.
-    fn buffer(&mut self, port: u8) -> &mut [u8] {
-        &mut self.memory[BUFFERS + SECTOR * usize::from(3 + port)..][..SECTOR]
+    fn buffer(&mut self, slot: u8) -> &mut [u8] {
+        &mut self.ahci.memory_mut()[BUFFERS + SECTOR * usize::from(slot)..][..SECTOR]
+    }
+
+    /// Prints what the guest sees, and takes its interrupts.
+    fn show(&mut self, name: &str, slots: [u8; 4]) -> Result<(), Error> {
+        let bytes = slots.map(|slot| self.buffer(slot)[0]);
+        let (is, sact) = (self.read(register::IS)?, self.read(register::SACT)?);
+        println!("{name}: PxIS {is:x}, PxSACT {sact:x}, {bytes:02x?}");
+        self.write(register::IS, u32::MAX)?;
+        self.write(register::GLOBAL_IS, u32::MAX)
     }
 }
 
 fn main() -> Result<(), Error> {
     let mut computer = Computer::new()?;
     computer.bring_up()?;
-    for (name, code) in [("read", 0x60), ("write", 0x61), ("read", 0x60)] {
-        for port in 0..2 {
-            if code == 0x61 {
-                computer.buffer(port).fill(0xA0 + port);
-            }
-            computer.issue(port, code)?;
+    let slots = [3, 4, 5, 6];
+    for (slot, port, lba) in [(3, 0, 5), (4, 0, 6), (5, 1, 5), (6, 1, 6)] {
+        computer.issue(slot, port, 0x60, lba)?;
+    }
+    computer.settle()?;
+    computer.show("read", slots)?;
+    computer.answer_late()?;
+    computer.show("all read", slots)?;
+    for (name, code) in [("written", 0x61), ("read again", 0x60)] {
+        for (slot, port) in [(3, 0), (5, 1)] {
+            computer
+                .buffer(slot)
+                .fill(if code == 0x61 { 0xA0 + port } else { 0 });
+            computer.issue(slot, port, code, 5)?;
         }
         computer.settle()?;
-        let bytes = [0, 1].map(|port| computer.buffer(port)[0]);
-        println!(
-            "{name}: PxIS {:x}, {bytes:02x?}",
-            computer.read(register::IS)?
-        );
-        computer.write(register::IS, u32::MAX)?;
-        computer.write(register::GLOBAL_IS, u32::MAX)?;
+        computer.answer_late()?;
+        computer.show(name, slots)?;
     }
-    println!("port 2: {}", computer.machine.plug(2).unwrap_err());
-    println!("port 1: {}", computer.machine.plug(1).unwrap_err());
+
+    // What comes after a pull is refused.
+    computer.issue(5, 1, 0x60, 7)?;
+    computer.settle()?;
+    computer.ahci.pull(1)?;
+    println!("after the pull: {}", computer.answer_late().unwrap_err());
+    println!("port 2: {}", computer.ahci.plug(2).unwrap_err());
+    println!("port 0: {}", computer.ahci.plug(0).unwrap_err());
     Ok(())
 }

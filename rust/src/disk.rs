@@ -1,19 +1,43 @@
 //! A disk by FISes.
 
-use crate::medium::{Ask, Fault, Profile, Request, SectorRange};
-use crate::{ffi, Error, FisRoom};
+use crate::ffi::{self, Owned};
+use crate::medium::{asks, Ask, Failure, Request, SectorRange};
+use crate::{Error, FisRoom, Profile};
 
-/// A SATA disk with native command queuing, whose sectors lie with the caller: FISes come and go, and [`next_ask`](Disk::next_ask)
-/// says what is to be loaded and stored.
+/// A SATA disk with native command queuing, whose sectors lie with the caller: FISes come and go, [`next_ask`](Disk::next_ask) says
+/// what is to be loaded and stored, and [`Asks`](crate::Asks) has the answers.
 ///
 /// It may move to another thread. No two threads use it at once.
+///
+/// ```
+/// use gefsunk::{fis_text, Asks, Disk, Profile, FIS_ROOM, SECTOR};
+///
+/// let mut medium = vec![0x5A; 64 * SECTOR];
+/// let mut disk = Disk::new(&Profile::new(64, "ONE"))?;
+/// disk.plug()?;
+///
+/// // READ DMA EXT of sector 3.
+/// let mut read = [0; 20];
+/// read[..8].copy_from_slice(&[0x27, 0x80, 0x25, 0, 3, 0, 0, 0x40]);
+/// read[12] = 1;
+/// let (mut room, mut fis) = (Vec::new(), [0; FIS_ROOM]);
+/// assert_eq!(disk.next_for_host(&mut fis)?.map(|fis| fis[0]), Some(0x34)); // its signature
+/// disk.host_sends(&read)?;
+/// while let Some(ask) = disk.next_ask()? {
+///     disk.serve(&ask, &mut medium, &mut room)?;
+/// }
+/// let data = disk.next_for_host(&mut fis)?.expect("the disk has the sector");
+/// assert_eq!(data.len(), 4 + SECTOR);
+/// assert!(data[4..].iter().all(|byte| *byte == 0x5A));
+/// # Ok::<(), gefsunk::Error>(())
+/// ```
 pub struct Disk {
-    handle: ffi::Handle,
+    owned: Owned<ffi::Disk>,
 }
 
-// SAFETY: the library keeps no state beside the handle, and has no thread of its own. The header allows that a handle is
-// handed to another thread.
-unsafe impl Send for Disk {}
+asks!(Disk, |disk, _request, number, range| {
+    ffi::gef_disk_discarded(disk, number, range)
+});
 
 impl Disk {
     /// A disk that is not plugged in yet.
@@ -21,11 +45,8 @@ impl Disk {
     /// # Errors
     /// What is wrong with the profile, and [`Error::NoMemory`].
     pub fn new(profile: &Profile) -> Result<Disk, Error> {
-        let mut handle = ffi::Handle::CLOSED;
-        // SAFETY: the handle is closed and is this function's own, and the texts end with a 0 and stay during the call.
-        let status = profile.with_raw(|raw| unsafe { ffi::gef_disk_new(&mut handle, raw) })?;
-        Error::check(status)?;
-        Ok(Disk { handle })
+        let owned = profile.with_raw(|raw| Owned::open(|handle| ffi::gef_disk_new(handle, raw)))?;
+        Ok(Disk { owned })
     }
 
     /// The disk is plugged in, as power comes: what was under way is gone, and it sends its signature next.
@@ -33,8 +54,7 @@ impl Disk {
     /// # Errors
     /// None that these bindings leave possible.
     pub fn plug(&mut self) -> Result<(), Error> {
-        // SAFETY: the handle is open, and this is its one copy.
-        Error::check(unsafe { ffi::gef_disk_plug(&mut self.handle) })
+        self.owned.call(|disk| ffi::gef_disk_plug(disk))
     }
 
     /// A FIS of the host arrives.
@@ -42,8 +62,7 @@ impl Disk {
     /// # Errors
     /// [`Error::Dropped`]: the disk does not hear it. [`Error::NoMemory`]: give it again. [`Error::BadLength`].
     pub fn host_sends(&mut self, fis: &[u8]) -> Result<(), Error> {
-        // SAFETY: as in `plug`, and the length is that of the slice.
-        Error::check(unsafe { ffi::gef_disk_from_host(&mut self.handle, fis.as_ptr(), fis.len()) })
+        self.owned.call(|disk| ffi::disk_from_host(disk, fis))
     }
 
     /// Takes the next FIS for the host; `None` where the disk owes none, or waits for data or for an answer.
@@ -54,12 +73,10 @@ impl Disk {
         &mut self,
         room: &'room mut FisRoom,
     ) -> Result<Option<&'room [u8]>, Error> {
-        let mut len = 0;
-        // SAFETY: as in `plug`. The room has the length that is given, and the two places are apart.
-        let status = unsafe {
-            ffi::gef_disk_to_host(&mut self.handle, room.as_mut_ptr(), room.len(), &mut len)
-        };
-        Error::given(status, &room[..len])
+        let len = self
+            .owned
+            .given(|disk, len| ffi::disk_to_host(disk, room, len))?;
+        Ok(len.map(|len| &room[..len]))
     }
 
     /// What is to be done to the medium next. Ask after each FIS, and after each answer.
@@ -67,83 +84,6 @@ impl Disk {
     /// # Errors
     /// [`Error::NoMemory`].
     pub fn next_ask(&mut self) -> Result<Option<Ask>, Error> {
-        let mut event = ffi::Event::NOTHING;
-        // SAFETY: as in `plug`.
-        Error::check(unsafe { ffi::gef_disk_next(&mut self.handle, &mut event) })?;
-        Ok(Ask::shown(&event))
-    }
-
-    /// The sectors of a load.
-    ///
-    /// # Errors
-    /// [`Error::NotOut`], [`Error::OtherKind`], [`Error::OtherLength`] and [`Error::NoMemory`].
-    pub fn loaded(&mut self, request: &Request, bytes: &[u8]) -> Result<(), Error> {
-        // SAFETY: as in `host_sends`.
-        Error::check(unsafe {
-            ffi::gef_disk_answer_loaded(&mut self.handle, &request.0, bytes.as_ptr(), bytes.len())
-        })
-    }
-
-    /// A store, a flush or a discard was done.
-    ///
-    /// # Errors
-    /// [`Error::NotOut`] and [`Error::OtherKind`].
-    pub fn done(&mut self, request: &Request) -> Result<(), Error> {
-        // SAFETY: as in `plug`.
-        Error::check(unsafe { ffi::gef_disk_answer_done(&mut self.handle, &request.0) })
-    }
-
-    /// A request could not be done, first at this sector; of a flush or a discard it is 0.
-    ///
-    /// # Errors
-    /// [`Error::NotOut`], [`Error::OtherKind`] and [`Error::OtherSector`].
-    pub fn failed(&mut self, request: &Request, fault: Fault, lba: u64) -> Result<(), Error> {
-        // SAFETY: as in `plug`.
-        Error::check(unsafe {
-            ffi::gef_disk_answer_failed(&mut self.handle, &request.0, fault.bits(), lba)
-        })
-    }
-
-    /// Copies bytes of a store, from an offset on, as many as there are and fit, and says how many they are.
-    ///
-    /// # Errors
-    /// [`Error::NotOut`] and [`Error::OtherKind`].
-    pub fn stored(
-        &mut self,
-        request: &Request,
-        from: usize,
-        bytes: &mut [u8],
-    ) -> Result<usize, Error> {
-        let mut len = 0;
-        // SAFETY: as in `next_for_host`.
-        Error::check(unsafe {
-            ffi::gef_disk_stored(
-                &mut self.handle,
-                &request.0,
-                from,
-                bytes.as_mut_ptr(),
-                bytes.len(),
-                &mut len,
-            )
-        })?;
-        Ok(len)
-    }
-
-    /// The range of a discard that has this number, counted from 0; `None` where it has no more.
-    ///
-    /// # Errors
-    /// None that these bindings leave possible.
-    pub fn discarded(&mut self, number: usize) -> Result<Option<SectorRange>, Error> {
-        let mut range = ffi::Range { lba: 0, count: 0 };
-        // SAFETY: as in `plug`.
-        let status = unsafe { ffi::gef_disk_discarded(&mut self.handle, number, &mut range) };
-        Error::given(status, SectorRange::shown(range))
-    }
-}
-
-impl Drop for Disk {
-    fn drop(&mut self) {
-        // SAFETY: the handle is open, and nobody uses it from here on.
-        unsafe { ffi::gef_disk_free(&mut self.handle) };
+        Ok(Ask::shown(&self.owned.next(ffi::gef_disk_next)?))
     }
 }

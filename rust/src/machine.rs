@@ -1,10 +1,11 @@
-//! A machine: an AHCI controller with all that is behind it.
+//! A machine: an AHCI controller with all that is behind it, by events.
 
-use crate::medium::{Ask, Fault, Profile, Request, SectorRange};
-use crate::{ffi, Error, FisRoom};
+use crate::ffi::{self, Owned};
+use crate::medium::{asks, Ask, Failure, Request, SectorRange};
+use crate::{Error, FisRoom, Profile};
 
 /// How many bytes an access to registers has.
-#[derive(Debug, Clone, Copy, PartialEq, Eq)]
+#[derive(Debug, Clone, Copy, PartialEq, Eq, Hash)]
 pub enum Width {
     /// 1.
     Byte = 1,
@@ -17,7 +18,7 @@ pub enum Width {
 }
 
 /// What bytes of the guest are wanted for.
-#[derive(Debug, Clone, Copy, PartialEq, Eq)]
+#[derive(Debug, Clone, Copy, PartialEq, Eq, Hash)]
 pub struct Wanted(ffi::Wanted);
 
 /// What is to be done.
@@ -66,51 +67,44 @@ pub enum Event {
 }
 
 impl Event {
-    /// What an event of C is; `None` where there is nothing.
-    fn shown(event: &ffi::Event) -> Result<Option<Event>, Error> {
+    /// What an event of C is; `None` where there is nothing, or what these bindings do not know.
+    fn shown(event: &ffi::Event) -> Option<Event> {
         let port = event.port as u8;
-        let shown = match event.kind {
-            0 => return Ok(None),
+        Some(match event.kind {
             1 => Event::Again,
             2 => {
-                // SAFETY: an event of this kind has this part, and all its bytes were written before the call.
-                let ffi::Read { at, len, wanted } = unsafe { event.part.read };
-                Event::ReadGuest {
-                    at,
-                    len,
-                    wanted: Wanted(wanted),
-                }
+                let ffi::Read { at, len, wanted } = event.read();
+                let wanted = Wanted(wanted);
+                Event::ReadGuest { at, len, wanted }
             }
             3 => {
-                // SAFETY: as above.
-                let ffi::Write { at, len } = unsafe { event.part.write };
+                let ffi::Write { at, len } = event.write();
                 Event::WriteGuest { at, len }
             }
             8 => Event::Line {
-                // SAFETY: as above.
-                up: unsafe { event.part.up } != 0,
+                up: event.up() != 0,
             },
             9 => Event::Message,
             10 => Event::ToDevice { port },
             11 => Event::Begins { port },
-            kind => Event::Medium(Ask::shown(event).ok_or(Error::Unexpected(kind as i32))?),
-        };
-        Ok(Some(shown))
+            _ => Event::Medium(Ask::shown(event)?),
+        })
     }
 }
 
 /// An AHCI controller with one port, behind it one device or a port multiplier, and at each port a disk whose sectors lie with the
-/// caller, or a device of the caller's.
+/// caller, or a device of the caller's. Each access to the guest's memory and to a medium is an event, which the caller answers;
+/// [`Ahci`](crate::Ahci) does so by itself.
 ///
 /// Give it the guest's accesses to registers, and after each that wrote, and after each answer, ask [`next_event`](Machine::next_event)
-/// until it says `None`. It may move to another thread. No two threads use it at once.
+/// until it says `None`. [`Asks`](crate::Asks) has the answers of media. It may move to another thread. No two threads use it at once.
 pub struct Machine {
-    handle: ffi::Handle,
+    owned: Owned<ffi::Machine>,
 }
 
-// SAFETY: the library keeps no state beside the handle, and has no thread of its own. The header allows that a handle is
-// handed to another thread.
-unsafe impl Send for Machine {}
+asks!(Machine, |machine, request, number, range| {
+    ffi::gef_machine_discarded(machine, &request.0, number, range)
+});
 
 impl Machine {
     /// A machine whose controller is stopped, with nothing at its ports. With 0 ports there is no multiplier, and port 0 is the one
@@ -119,10 +113,9 @@ impl Machine {
     /// # Errors
     /// [`Error::BadPorts`] and [`Error::NoMemory`].
     pub fn new(ports: u8, port_0_open: bool) -> Result<Machine, Error> {
-        let mut handle = ffi::Handle::CLOSED;
-        // SAFETY: the handle is closed and is this function's own.
-        Error::check(unsafe { ffi::gef_machine_new(&mut handle, ports, u32::from(port_0_open)) })?;
-        Ok(Machine { handle })
+        let open = u32::from(port_0_open);
+        let owned = Owned::open(|machine| ffi::gef_machine_new(machine, ports, open))?;
+        Ok(Machine { owned })
     }
 
     /// What the registers read at an offset, the lowest byte first; those of the port begin at 100h. 0 where no register is, and
@@ -131,12 +124,8 @@ impl Machine {
     /// # Errors
     /// None that these bindings leave possible.
     pub fn read(&mut self, offset: u32, width: Width) -> Result<u64, Error> {
-        let mut value = 0;
-        // SAFETY: the handle is open, and this is its one copy.
-        Error::check(unsafe {
-            ffi::gef_machine_read(&mut self.handle, offset, width as u32, &mut value)
-        })?;
-        Ok(value)
+        self.owned
+            .got(|machine, value| ffi::gef_machine_read(machine, offset, width as u32, value))
     }
 
     /// Writes registers. What may not be done is ignored.
@@ -144,10 +133,8 @@ impl Machine {
     /// # Errors
     /// None that these bindings leave possible.
     pub fn write(&mut self, offset: u32, width: Width, value: u64) -> Result<(), Error> {
-        // SAFETY: as in `read`.
-        Error::check(unsafe {
-            ffi::gef_machine_write(&mut self.handle, offset, width as u32, value)
-        })
+        self.owned
+            .call(|machine| ffi::gef_machine_write(machine, offset, width as u32, value))
     }
 
     /// Puts a disk at a port. The guest does not see it before [`plug`](Machine::plug).
@@ -155,10 +142,10 @@ impl Machine {
     /// # Errors
     /// [`Error::NoPort`], [`Error::AlreadyThere`], what is wrong with the profile, and [`Error::NoMemory`].
     pub fn put_disk(&mut self, port: u8, profile: &Profile) -> Result<(), Error> {
-        // SAFETY: as in `read`, and the texts end with a 0 and stay during the call.
-        let status = profile
-            .with_raw(|raw| unsafe { ffi::gef_machine_put_disk(&mut self.handle, port, raw) })?;
-        Error::check(status)
+        profile.with_raw(|raw| {
+            self.owned
+                .call(|machine| ffi::gef_machine_put_disk(machine, port, raw))
+        })
     }
 
     /// Puts a device of the caller's at a port.
@@ -166,8 +153,8 @@ impl Machine {
     /// # Errors
     /// [`Error::NoPort`] and [`Error::AlreadyThere`].
     pub fn put_device(&mut self, port: u8) -> Result<(), Error> {
-        // SAFETY: as in `read`.
-        Error::check(unsafe { ffi::gef_machine_put_device(&mut self.handle, port) })
+        self.owned
+            .call(|machine| ffi::gef_machine_put_device(machine, port))
     }
 
     /// What is at a port is plugged in, and begins anew.
@@ -175,8 +162,8 @@ impl Machine {
     /// # Errors
     /// [`Error::NoPort`], [`Error::NotThere`], [`Error::PluggedIn`] and [`Error::Spent`].
     pub fn plug(&mut self, port: u8) -> Result<(), Error> {
-        // SAFETY: as in `read`.
-        Error::check(unsafe { ffi::gef_machine_plug(&mut self.handle, port) })
+        self.owned
+            .call(|machine| ffi::gef_machine_plug(machine, port))
     }
 
     /// Power comes to what is behind the controller, and all that is plugged in begins anew.
@@ -184,8 +171,8 @@ impl Machine {
     /// # Errors
     /// None that these bindings leave possible.
     pub fn power_on(&mut self) -> Result<(), Error> {
-        // SAFETY: as in `read`.
-        Error::check(unsafe { ffi::gef_machine_power_on(&mut self.handle) })
+        self.owned
+            .call(|machine| ffi::gef_machine_power_on(machine))
     }
 
     /// What is at a port is pulled, and stays at hand.
@@ -193,8 +180,8 @@ impl Machine {
     /// # Errors
     /// [`Error::NoPort`] and [`Error::NotThere`].
     pub fn pull(&mut self, port: u8) -> Result<(), Error> {
-        // SAFETY: as in `read`.
-        Error::check(unsafe { ffi::gef_machine_pull(&mut self.handle, port) })
+        self.owned
+            .call(|machine| ffi::gef_machine_pull(machine, port))
     }
 
     /// What is at a port is pulled if it is plugged in, and is gone.
@@ -202,8 +189,8 @@ impl Machine {
     /// # Errors
     /// [`Error::NoPort`] and [`Error::NotThere`].
     pub fn remove(&mut self, port: u8) -> Result<(), Error> {
-        // SAFETY: as in `read`.
-        Error::check(unsafe { ffi::gef_machine_remove(&mut self.handle, port) })
+        self.owned
+            .call(|machine| ffi::gef_machine_remove(machine, port))
     }
 
     /// What is to be done next; `None` where nothing is, until the guest, a medium or a device does something.
@@ -211,10 +198,7 @@ impl Machine {
     /// # Errors
     /// [`Error::NoMemory`].
     pub fn next_event(&mut self) -> Result<Option<Event>, Error> {
-        let mut event = ffi::Event::NOTHING;
-        // SAFETY: as in `read`.
-        Error::check(unsafe { ffi::gef_machine_next(&mut self.handle, &mut event) })?;
-        Event::shown(&event)
+        Ok(Event::shown(&self.owned.next(ffi::gef_machine_next)?))
     }
 
     /// Copies the bytes of the last [`Event::WriteGuest`], and says how many they are; `None` where there are none any more.
@@ -222,12 +206,8 @@ impl Machine {
     /// # Errors
     /// [`Error::TooShort`]: they are more.
     pub fn lent(&mut self, bytes: &mut [u8]) -> Result<Option<usize>, Error> {
-        let mut len = 0;
-        // SAFETY: as in `read`. The room has the length that is given, and the two places are apart.
-        let status = unsafe {
-            ffi::gef_machine_lent(&mut self.handle, bytes.as_mut_ptr(), bytes.len(), &mut len)
-        };
-        Error::given(status, len)
+        self.owned
+            .given(|machine, len| ffi::machine_lent(machine, bytes, len))
     }
 
     /// The bytes that are wanted of the guest's memory. What is not wanted any more changes nothing.
@@ -235,10 +215,8 @@ impl Machine {
     /// # Errors
     /// [`Error::NotWanted`]. [`Error::NoMemory`]: give them again.
     pub fn supply(&mut self, wanted: &Wanted, bytes: &[u8]) -> Result<(), Error> {
-        // SAFETY: as in `read`, and the length is that of the slice.
-        Error::check(unsafe {
-            ffi::gef_machine_supply(&mut self.handle, &wanted.0, bytes.as_ptr(), bytes.len())
-        })
+        self.owned
+            .call(|machine| ffi::machine_supply(machine, &wanted.0, bytes))
     }
 
     /// Some of the bytes that are wanted are not memory.
@@ -246,86 +224,8 @@ impl Machine {
     /// # Errors
     /// [`Error::NotWanted`] and [`Error::NoMemory`].
     pub fn no_memory(&mut self, wanted: &Wanted) -> Result<(), Error> {
-        // SAFETY: as in `read`.
-        Error::check(unsafe { ffi::gef_machine_no_memory(&mut self.handle, &wanted.0) })
-    }
-
-    /// The sectors of a load.
-    ///
-    /// # Errors
-    /// [`Error::OtherDisk`] and [`Error::NotOut`]: drop them. [`Error::OtherKind`], [`Error::OtherLength`] and
-    /// [`Error::NoMemory`].
-    pub fn loaded(&mut self, request: &Request, bytes: &[u8]) -> Result<(), Error> {
-        // SAFETY: as in `supply`.
-        Error::check(unsafe {
-            ffi::gef_machine_answer_loaded(
-                &mut self.handle,
-                &request.0,
-                bytes.as_ptr(),
-                bytes.len(),
-            )
-        })
-    }
-
-    /// A store, a flush or a discard was done.
-    ///
-    /// # Errors
-    /// [`Error::OtherDisk`], [`Error::NotOut`] and [`Error::OtherKind`].
-    pub fn done(&mut self, request: &Request) -> Result<(), Error> {
-        // SAFETY: as in `read`.
-        Error::check(unsafe { ffi::gef_machine_answer_done(&mut self.handle, &request.0) })
-    }
-
-    /// A request could not be done, first at this sector; of a flush or a discard it is 0.
-    ///
-    /// # Errors
-    /// [`Error::OtherDisk`], [`Error::NotOut`], [`Error::OtherKind`] and [`Error::OtherSector`].
-    pub fn failed(&mut self, request: &Request, fault: Fault, lba: u64) -> Result<(), Error> {
-        // SAFETY: as in `read`.
-        Error::check(unsafe {
-            ffi::gef_machine_answer_failed(&mut self.handle, &request.0, fault.bits(), lba)
-        })
-    }
-
-    /// Copies bytes of a store, from an offset on, as many as there are and fit, and says how many they are.
-    ///
-    /// # Errors
-    /// [`Error::OtherDisk`], [`Error::NotOut`] and [`Error::OtherKind`].
-    pub fn stored(
-        &mut self,
-        request: &Request,
-        from: usize,
-        bytes: &mut [u8],
-    ) -> Result<usize, Error> {
-        let mut len = 0;
-        // SAFETY: as in `lent`.
-        Error::check(unsafe {
-            ffi::gef_machine_stored(
-                &mut self.handle,
-                &request.0,
-                from,
-                bytes.as_mut_ptr(),
-                bytes.len(),
-                &mut len,
-            )
-        })?;
-        Ok(len)
-    }
-
-    /// The range of a discard that has this number, counted from 0; `None` where it has no more.
-    ///
-    /// # Errors
-    /// [`Error::OtherDisk`].
-    pub fn discarded(
-        &mut self,
-        request: &Request,
-        number: usize,
-    ) -> Result<Option<SectorRange>, Error> {
-        let mut range = ffi::Range { lba: 0, count: 0 };
-        // SAFETY: as in `read`.
-        let status =
-            unsafe { ffi::gef_machine_discarded(&mut self.handle, &request.0, number, &mut range) };
-        Error::given(status, SectorRange::shown(range))
+        self.owned
+            .call(|machine| ffi::gef_machine_no_memory(machine, &wanted.0))
     }
 
     /// Takes the FIS for the caller's device at a port; `None` where none waits.
@@ -337,18 +237,10 @@ impl Machine {
         port: u8,
         room: &'room mut FisRoom,
     ) -> Result<Option<&'room [u8]>, Error> {
-        let mut len = 0;
-        // SAFETY: as in `lent`.
-        let status = unsafe {
-            ffi::gef_machine_take_frame(
-                &mut self.handle,
-                port,
-                room.as_mut_ptr(),
-                room.len(),
-                &mut len,
-            )
-        };
-        Error::given(status, &room[..len])
+        let len = self
+            .owned
+            .given(|machine, len| ffi::machine_take_frame(machine, port, room, len))?;
+        Ok(len.map(|len| &room[..len]))
     }
 
     /// The caller's device at a port sends a FIS.
@@ -356,16 +248,7 @@ impl Machine {
     /// # Errors
     /// [`Error::Full`]: give it again later. [`Error::BadLength`] and [`Error::NoMemory`].
     pub fn offer(&mut self, port: u8, fis: &[u8]) -> Result<(), Error> {
-        // SAFETY: as in `supply`.
-        Error::check(unsafe {
-            ffi::gef_machine_offer(&mut self.handle, port, fis.as_ptr(), fis.len())
-        })
-    }
-}
-
-impl Drop for Machine {
-    fn drop(&mut self) {
-        // SAFETY: the handle is open, and nobody uses it from here on.
-        unsafe { ffi::gef_machine_free(&mut self.handle) };
+        self.owned
+            .call(|machine| ffi::machine_offer(machine, port, fis))
     }
 }

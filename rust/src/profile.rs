@@ -1,6 +1,5 @@
-//! What a disk says of itself, and what it asks of its medium.
+//! What a disk says of itself.
 
-use core::ffi::CStr;
 use std::ffi::CString;
 
 use crate::{ffi, Error};
@@ -12,7 +11,7 @@ pub const SECTOR: usize = 512;
 pub const LEAST_LIMIT: u32 = 1 << 20;
 
 /// How fast a medium turns.
-#[derive(Debug, Clone, Copy, PartialEq, Eq, Default)]
+#[derive(Debug, Clone, Copy, PartialEq, Eq, Hash, Default)]
 pub enum Rotation {
     /// Nothing is said.
     #[default]
@@ -68,7 +67,7 @@ impl Profile {
     /// Has a call made with what C reads of it.
     pub(crate) fn with_raw<T>(
         &self,
-        call: impl FnOnce(&ffi::DiskProfile) -> T,
+        call: impl FnOnce(&ffi::DiskProfile<'_>) -> Result<T, Error>,
     ) -> Result<T, Error> {
         let text = |text: &str| CString::new(text).map_err(|_| Error::BadText);
         let (model, serial, firmware) = (
@@ -76,11 +75,10 @@ impl Profile {
             text(&self.serial)?,
             text(&self.firmware)?,
         );
-        let start = |text: &CStr| text.as_ptr();
-        Ok(call(&ffi::DiskProfile {
-            model: start(&model),
-            serial: start(&serial),
-            firmware: start(&firmware),
+        call(&ffi::DiskProfile {
+            model: ffi::Text::of(&model),
+            serial: ffi::Text::of(&serial),
+            firmware: ffi::Text::of(&firmware),
             sectors: self.sectors,
             wwn: self.wwn.unwrap_or(0),
             physical: self.physical,
@@ -93,109 +91,6 @@ impl Profile {
             depth: self.depth,
             trim: u32::from(self.trim),
             limit: self.limit,
-        }))
-    }
-}
-
-/// Which request an answer is for.
-#[derive(Debug, Clone, Copy, PartialEq, Eq)]
-pub struct Request(pub(crate) ffi::Request);
-
-/// What a medium is to do.
-#[derive(Debug, Clone, Copy, PartialEq, Eq)]
-pub enum Work {
-    /// Give these sectors.
-    Load {
-        /// The first of them.
-        lba: u64,
-        /// How many they are, at most 2,048.
-        count: u32,
-    },
-    /// Take these sectors, whose bytes are had by `stored`.
-    Store {
-        /// The first of them.
-        lba: u64,
-        /// How many they are, at most 2,048.
-        count: u32,
-    },
-    /// What was stored is to last a loss of power.
-    Flush,
-    /// Sectors, which are had by `discarded`, are not needed any more.
-    Discard,
-}
-
-/// A disk asks its medium. Each is answered once, at any time and in any order.
-#[derive(Debug, Clone, Copy, PartialEq, Eq)]
-pub struct Ask {
-    /// The port of the disk; 0 for a disk that is in no machine.
-    pub port: u8,
-    /// What is to be done.
-    pub what: Work,
-    /// What the answer names.
-    pub request: Request,
-}
-
-impl Ask {
-    /// What an event of C asks of a medium, if it does.
-    pub(crate) fn shown(event: &ffi::Event) -> Option<Ask> {
-        if !(4..=7).contains(&event.kind) {
-            return None;
-        }
-        // SAFETY: events of these kinds have this part, and all bytes of an event were written before the call.
-        let ffi::Medium {
-            lba,
-            count,
-            request,
-        } = unsafe { event.part.medium };
-        let what = match event.kind {
-            4 => Work::Load { lba, count },
-            5 => Work::Store { lba, count },
-            6 => Work::Flush,
-            _ => Work::Discard,
-        };
-        Some(Ask {
-            port: event.port as u8,
-            what,
-            request: Request(request),
         })
-    }
-}
-
-/// How a request can fail.
-#[derive(Debug, Clone, Copy, PartialEq, Eq)]
-pub enum Fault {
-    /// The sector cannot be read (UNC). It is of loads alone.
-    Unreadable,
-    /// There is no such sector (IDNF).
-    NoSector,
-    /// It cannot be done (ABRT).
-    Aborted,
-}
-
-impl Fault {
-    pub(crate) fn bits(self) -> u32 {
-        match self {
-            Fault::Unreadable => 0x40,
-            Fault::NoSector => 0x10,
-            Fault::Aborted => 0x04,
-        }
-    }
-}
-
-/// Sectors of a discard.
-#[derive(Debug, Clone, Copy, PartialEq, Eq)]
-pub struct SectorRange {
-    /// The first of them.
-    pub lba: u64,
-    /// How many they are.
-    pub count: u64,
-}
-
-impl SectorRange {
-    pub(crate) fn shown(range: ffi::Range) -> SectorRange {
-        SectorRange {
-            lba: range.lba,
-            count: range.count,
-        }
     }
 }
