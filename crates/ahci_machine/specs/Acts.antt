@@ -30,7 +30,7 @@ use Rattle.sata_disk.specs.declared.unheard.Unheard.{Unheard}
 use Rattle.ahci_machine.specs.Asked.{request_of}
 use Rattle.ahci_machine.specs.Bays.{BayDoes, begun}
 use Rattle.ahci_machine.specs.Gathers.{Awaits, GatheringState, asked_for, frame_of, host_stamp, opening_gathering}
-use Rattle.ahci_machine.specs.States.{MachineState, bay_at, gathering_at}
+use Rattle.ahci_machine.specs.States.{HasRules, MachineState, bay_at, gathering_at}
 use Rattle.ahci_machine.specs.declared.act.Act.{Act}
 use Rattle.ahci_machine.specs.declared.act.Act.TheVariants as act
 use Rattle.ahci_machine.specs.declared.bay.Bay.{Bay}
@@ -155,12 +155,13 @@ pub record MissesOf (f : Feed) (answer : Fed) (old new : MachineState) : Type 0 
 abbrev pub AwaitsAt : MachineState → (dev : ℕ) → Waits → Type 0
 AwaitsAt m dev w = MatchOption (gathering_at m dev) ⊥ (λ g. Awaits g m.controller w)
 
--- all of its bytes came: it goes, if it is still due
+-- all of its bytes came: it goes, if it is still due, once what the controller said is done
 pub record GathersNext (dev : ℕ) (answer : Fed) (old new : MachineState) : Type 0 where
   pub place : ℕ
   pub gathering : GatheringState
   pub there : gathering_at old place ≡ Some gathering
   pub whole : Awaits gathering old.controller waits.Whole
+  pub done : old.kept ≡ None
   pub free : old.outgoing ≡ None
   pub gathers : GathersOf gathering dev answer (with_gathering old place None) new
 
@@ -277,8 +278,9 @@ pub record ThenSteps (Before : MachineState → Type 0) (new : MachineState) : T
   pub before : Before middle
   pub quiet : request_of act ≡ None
   pub last : Steps middle act new
+  pub rules : HasRules new
 
--- so many moves that ask nothing
+-- so many moves that ask nothing; each machine between them keeps the rules of every one
 unfoldable pub StepsBy : ℕ → MachineState → MachineState → Type 0
 StepsBy zero old new = new ≡ old
 StepsBy (suc count) old new = ThenSteps (StepsBy count old) new

@@ -72,6 +72,7 @@ pub record Supplies (old : GatheringState) (number done : ℕ) (part : List ℕ)
   pub size : old.asked ≢ Some (length part) → kept ≡ false
   pub comes : is_asked old number done ≡ true → old.asked ≡ Some (length part)
       → 4 + old.done + length part ≤ length old.bytes → kept ≡ true
+  pub fits : kept ≡ true → 4 + old.done + length part ≤ length old.bytes
   pub rest : new ≡ (if kept then with_part old part else old)
 
 -- the FIS, if its length is one

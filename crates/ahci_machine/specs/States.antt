@@ -3,6 +3,7 @@
 use Rattle.std.specs.Prelude.{◌≡◌, ℕ, zero, suc, min, Bool, false, List, replicate, Option, None, slice_index_or}
 use Rattle.fis_view.specs.Frames.{Stamped}
 use Rattle.ahci_controller.specs.Opening.{IsOpening}
+use Rattle.ahci_controller.specs.Rules.{IsRuled}
 use Rattle.ahci_controller.specs.States.{ControllerState}
 use Rattle.ahci_controller.specs.declared.next.Next.{Next}
 use Rattle.fan_out.specs.FanOuts.{port_count}
@@ -10,6 +11,8 @@ use Rattle.fan_out.specs.Fans.{opening_fan}
 use Rattle.fan_out.specs.Straights.{opening_straight}
 use Rattle.fan_out.specs.declared.fan_out.FanOut.{FanOut}
 use Rattle.fan_out.specs.declared.fan_out.FanOut.TheVariants.{Device, Multiplier}
+use Rattle.hba_fbs.specs.Views.{IsCorePort}
+use Rattle.slots.specs.Table.{IsTable}
 use Rattle.ahci_machine.specs.Gathers.{GatheringState}
 use Rattle.ahci_machine.specs.declared.bay.Bay.{Bay}
 use Rattle.ahci_machine.specs.declared.bay.Unit.TheVariants.{Empty}
@@ -42,6 +45,12 @@ pub record MachineState : Type 0 where
   -- whose turn is next: the controller's before the ports', and of the ports this one's
   pub first : Bool
   pub turn : ℕ
+
+-- what every machine keeps: the rules of its controller, which `Machine::keeps_rules` hands out
+pub record HasRules (m : MachineState) : Type 0 where
+  pub port : IsCorePort m.controller.core
+  pub slots : IsTable m.controller.core.slots
+  pub rules : IsRuled m.controller
 
 abbrev pub gathering_at : MachineState → (dev : ℕ) → Option GatheringState
 gathering_at m dev = slice_index_or m.gathering dev None

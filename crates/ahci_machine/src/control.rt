@@ -214,14 +214,15 @@ impl Machine {
         }
     }
 
-    /// The Data FIS of a device goes on: its next bytes are wanted, or it goes where no other frame is on its way.
+    /// The Data FIS of a device goes on: its next bytes are wanted, or it goes where no other frame is on its way, and what the
+    /// controller said is done.
     pub(crate) fn gather_next(&mut self, dev: u8) -> Option<Act>
         requires { dev < 16 }
         ensures { MayDo self.old result self.new }
     {
         match self.waits(dev)? {
             Waits::Asked => None,
-            Waits::Whole if self.outgoing.is_some() => None,
+            Waits::Whole if self.kept.is_some() || self.outgoing.is_some() => None,
             Waits::Wants(read) => {
                 self.want(dev, read);
                 Some(Act::Wants(read))

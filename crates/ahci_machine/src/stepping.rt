@@ -103,9 +103,11 @@ impl Machine {
     {
         self.lent = Lent::Nothing;
         for _ in 0..BUDGET {
-            if let Some(request) = self.step(alloc)?.request() {
+            let act = self.step(alloc)?;
+            if let Some(request) = act.request() {
                 return Ok(request);
             }
+            self.keeps_rules();
         }
         Ok(Request::Again)
     }

@@ -1,19 +1,18 @@
 -- What takes a bit out of PxSACT.
 use Rattle.std.proofs.Common.{◌≡◌, ◌≢◌, ℕ, zero, suc, ◌+◌, ◌-◌, ◌<◌, ◌^◌, ◌%◌, ◌&&◌, ◌||◌, min, Bool, true, false, not, List, [], ◌∷◌, ◌++◌, length, refl, sym, ap, subst, ◌∙◌, inl, inr, arith, w32, Option, Some, None, bit_or}
-use Rattle.std.specs.Prelude.{◌==◌, ◌⊎◌, MatchOption, IfSome, is_some, nat_lt, if◌then◌else◌}
+use Rattle.std.specs.Prelude.{◌==◌, ◌⊎◌, MatchOption, IfSome, nat_lt, if◌then◌else◌}
 use Rattle.std.specs.Option.{option_map}
 use Rattle.std.specs.Int.{bit_at}
-use Rattle.std.proofs.lemmas.Bool.{and_parts, cases_Bool, cases_eq, eqb-true, false≢true, ltb-true, true≢false}
+use Rattle.std.proofs.lemmas.Bool.{and_parts, cases_Bool, eqb-true, false≢true, ltb-true, true≢false}
 use Rattle.std.proofs.lemmas.List.{append-nil}
 use Rattle.std.proofs.lemmas.Nat.Bits.{bit_at-lt, bit_at-pow_other, bit_at_and, bit_at_not}
-use Rattle.fis_view.specs.Seen.{seen}
 use Rattle.fis_view.specs.declared.view.Fis.{Fis}
 use Rattle.fis_view.specs.declared.view.Fis.TheVariants as view
 use Rattle.guest_fetch.specs.Commands.{Fetched}
 use Rattle.hba_commands.specs.declared.command.Command.{Command}
 use Rattle.slots.specs.Commands.{slots_where}
 use Rattle.slots.specs.Slots.{Issue, has_bit, holds, is_queued_issue, issue_at, match_some, own_issue, slots_of}
-use Rattle.slots.specs.Table.{IsIssue, IsTable}
+use Rattle.slots.specs.Table.{IsIssue}
 use Rattle.slots.specs.Work.{is_queued}
 use Rattle.slots.specs.declared.work.Work.{Work}
 use Rattle.slots.proofs.Door.{has_bit_mask, mask_fits}
@@ -26,7 +25,7 @@ use Rattle.ahci_registers.specs.declared.register.Register.TheVariants as ahci
 use Rattle.ahci_registers.specs.declared.register.Register.TheVariants.{PxSact}
 use Rattle.hba_fbs.specs.Bits.{st, without}
 use Rattle.hba_fbs.specs.Choosing.{Chooses, may_feed}
-use Rattle.hba_fbs.specs.Deciding.{Decides, Passes, decided}
+use Rattle.hba_fbs.specs.Deciding.{Decides, decided}
 use Rattle.hba_fbs.specs.Greeting.{Greets}
 use Rattle.hba_fbs.specs.Offering.{AcceptsBy, asked_by}
 use Rattle.hba_fbs.specs.Placing.{Places}
@@ -34,8 +33,7 @@ use Rattle.hba_fbs.specs.Posting.{posted}
 use Rattle.hba_fbs.specs.Reading.{value_of}
 use Rattle.hba_fbs.specs.Registers.{falls, own_refusal_by, written as written_register}
 use Rattle.hba_fbs.specs.Stopping.{SetsCmd}
-use Rattle.hba_fbs.specs.Taking.{admitted, ignores, port_of, posted_of, settled}
-use Rattle.hba_fbs.specs.Turning.{orders}
+use Rattle.hba_fbs.specs.Taking.{ignores, port_of, posted_of, settled}
 use Rattle.hba_fbs.specs.Views.{Port, view_of}
 use Rattle.hba_fbs.specs.declared.error.WriteError.{WriteError}
 use Rattle.hba_fbs.specs.declared.hearing.Heard.{Heard}
@@ -48,7 +46,7 @@ use Rattle.hba_fbs.specs.declared.turn.Turn.{Turn}
 use Rattle.hba_fbs.specs.declared.turn.Turn.TheVariants.{Feeds, Orders, Rests}
 use Rattle.hba_laws.specs.Agreement.{IsTold, work_of_issue, work_of_transfer}
 use Rattle.hba_laws.specs.Alike.{told_issued}
-use Rattle.hba_laws.specs.CoreHistories.{CoreViewsAreTold, event_by, frees, happened, history_through, is_freed_in, turned_for}
+use Rattle.hba_laws.specs.CoreHistories.{CoreViewsAreTold, event_by, frees, history_through, is_freed_in, turned_for}
 use Rattle.hba_laws.specs.Cores as core
 use Rattle.hba_laws.specs.Cores.{CoreEvent, RunsBy}
 use Rattle.hba_laws.specs.History as history
@@ -58,18 +56,17 @@ use Rattle.ahci_controller.specs.Access.{fits as fits_width, high_of, low_of, me
 use Rattle.ahci_controller.specs.Feeding.{GathersIf, Loses, LosesIf, MissesIf as MissesDataIf, SendsIf, without_feeding}
 use Rattle.ahci_controller.specs.Fetching.{GoesOn, MissesIf, SuppliesIf, answered, fits, is_asked, want_at, without_fetch}
 use Rattle.ahci_controller.specs.Issuing.{PlacesSlot, RefusesSlot, device_of, not_issued, offered_command}
-use Rattle.ahci_controller.specs.Next.{Frames, FramesFor, GoesIf, Reads, RestsNow, StartsUp, Turns, TurnsIf, is_fed, is_halted, next_device, next_read, next_slot, next_write, turn_to, written}
+use Rattle.ahci_controller.specs.Next.{Frames, FramesFor, GoesIf, Reads, RestsNow, TurnsIf, is_fed, is_halted, next_device, next_read, next_slot, next_write, turn_to, written}
 use Rattle.ahci_controller.specs.Offers.{offer_in, offers_nothing}
 use Rattle.ahci_controller.specs.Own.{engine_of}
 use Rattle.ahci_controller.specs.Reading.{is_idle, shown}
 use Rattle.ahci_controller.specs.States.{ControllerState, kept}
 use Rattle.ahci_controller.specs.Taking.{CoreHearsIf, room_for}
 use Rattle.ahci_controller.specs.Wide.{WritesAt, WritesFitting, WritesIf, block_of}
-use Rattle.ahci_controller.specs.Writing.{ClearsIf, Commands, Leaves, ResetsBy, WritesGlobal, WritesRegister, asked_state, link_effect, link_moved, plain, told_refusal}
+use Rattle.ahci_controller.specs.Writing.{ClearsIf, Commands, Leaves, ResetsBy, WritesGlobal, WritesRegister, link_effect, link_moved, plain, told_refusal}
 use Rattle.ahci_controller.specs.declared.access.Width.{Width}
 use Rattle.ahci_controller.specs.declared.feeding.Fed.{Fed}
 use Rattle.ahci_controller.specs.declared.feeding.Fed.TheVariants as fed_answer
-use Rattle.ahci_controller.specs.declared.fetching.Ask.{Ask}
 use Rattle.ahci_controller.specs.declared.issuing.NotTaken.{NotTaken}
 use Rattle.ahci_controller.specs.declared.issuing.Supply.{Supply}
 use Rattle.ahci_controller.specs.declared.issuing.Supply.TheVariants as supply_answer
@@ -707,6 +704,8 @@ queued_falls agrees s past old new (event.Turned next) does are k told below hid
     let t = the_transfer agrees s past old new (event.Turned next) does are k told below hidden i at queued in
     let left = calm_left s i.dev (past i.dev) old.core new.core (of_turned next old) are.run (turned_calm next old) t.0 i at queued t.1.0 (ap (λ (w : Work). is_queued w.kind) t.1.1 ∙ queued) in
     absurd (not_kept agrees s past old new (event.Turned next) does are k told below hidden i at queued left.plain left.freed)
+queued_falls agrees s past old new (event.Said write) does are k told below hidden i at queued =
+    absurd (not_kept agrees s past old new (event.Said write) does are k told below hidden i at queued tt refl)
 queued_falls agrees s past old new (event.Gathered dev number frame fed) does are k told below hidden i at queued =
     let t = the_transfer agrees s past old new (event.Gathered dev number frame fed) does are k told below hidden i at queued in
     let left = calm_left s i.dev (past i.dev) old.core new.core (of_fed fed old dev frame) are.run (fed_calm fed old dev frame) t.0 i at queued t.1.0 (ap (λ (w : Work). is_queued w.kind) t.1.1 ∙ queued) in
@@ -730,6 +729,7 @@ armed_falls s past old new (event.Took frame took) does are below hidden here =
     absurd (not_gone new.core s hidden (hears_armed old.core.registers.started (ignores (port_of frame) old.core frame) s old frame took.report new.core refl does.hears.core here))
 armed_falls s past old new (event.Left frame why) does are below hidden here = absurd (not_gone new.core s hidden (same_core s old.core new.core (ap (λ (c : ControllerState). c.core) does.1) here))
 armed_falls s past old new (event.Turned next) does are below hidden here = absurd (not_gone new.core s hidden (next_armed (next_write old) s old new next does here))
+armed_falls s past old new (event.Said write) does are below hidden here = absurd (not_gone new.core s hidden (same_core s old.core new.core (ap (λ (c : ControllerState). c.core) does.1) here))
 armed_falls s past old new (event.Gathered dev number frame fed) does are below hidden here = absurd (not_gone new.core s hidden (gathers_armed (is_fed old.wants dev number) dev s old new fed does.1 here))
 armed_falls s past old new (event.NotThere dev number fed) does are below hidden here = absurd (not_gone new.core s hidden (same_core s old.core new.core (misses_data (is_fed old.wants dev number) dev old new fed does) here))
 

@@ -267,6 +267,7 @@ event_are (event.Missed slot number supply) old new k k_new does =
 event_are (event.Took frame took) old new k k_new does = takes frame took old new (core_kept old k) (core_kept new k_new) does
 event_are (event.Left frame why) old new k k_new does = no_core_event old.core new.core (core_kept old k) (ap (λ (c : ControllerState). c.core) does.1)
 event_are (event.Turned next) old new k k_new does = turns_by (next_write old) old new next refl (core_kept old k) (core_kept new k_new) does
+event_are (event.Said write) old new k k_new does = no_core_event old.core new.core (core_kept old k) (ap (λ (c : ControllerState). c.core) does.1)
 event_are (event.Gathered dev number frame fed) old new k k_new does =
     gathers_if (is_fed old.wants dev number) dev frame old new fed (core_kept old k) (core_kept new k_new) does.0 does.1
 event_are (event.NotThere dev number fed) old new k k_new does =

@@ -1,19 +1,18 @@
 -- Where the bytes of Data go, over a run.
-use Rattle.std.proofs.Common.{◌≡◌, ◌≢◌, ℕ, zero, suc, ◌+◌, ◌-◌, ◌<◌, ◌≤◌, ◌^◌, ◌&&◌, ◌||◌, min, Bool, true, false, not, List, [], ◌∷◌, ◌++◌, length, take, drop, get_or, set, refl, sym, ap, subst, ◌∙◌, inl, inr, arith, Option, Some, None, get_or-set_same, get_or-set_other}
+use Rattle.std.proofs.Common.{◌≡◌, ◌≢◌, ℕ, zero, suc, ◌+◌, ◌-◌, ◌<◌, ◌≤◌, ◌&&◌, ◌||◌, min, Bool, true, false, not, List, [], ◌∷◌, ◌++◌, length, take, drop, get_or, set, refl, sym, ap, subst, ◌∙◌, inl, inr, arith, Option, Some, None, get_or-set_same, get_or-set_other}
 use Rattle.std.specs.Prelude.{◌==◌, ◌⊎◌, MatchOption, IfSome, is_some, nat_lt, slice_get, if◌then◌else◌}
 use Rattle.std.specs.Option.{option_map}
-use Rattle.std.proofs.lemmas.Bool.{and_parts, cases_eq, eq-eqb, eqb-false, eqb-true, false≢true, lt-ltb, ltb-false, ltb-true, or_parts, true≢false}
+use Rattle.std.proofs.lemmas.Bool.{and_parts, cases_eq, eqb-true, false≢true, lt-ltb, ltb-false, ltb-true, or_parts, true≢false}
 use Rattle.std.proofs.lemmas.List.{append-nil, append_assoc, drop-drop, length-drop, length-take}
 use Rattle.slots.specs.Slots.{has_bit, match_some}
 use Rattle.guest_fetch.specs.Commands.{Fetched}
-use Rattle.guest_fetch.specs.Moves.{move_of, moves_at, moves_of}
+use Rattle.guest_fetch.specs.Moves.{moves_at, moves_of}
 use Rattle.guest_fetch.specs.Places.{Places, Single, named, place, room_at, single, singles, singles_from, total_of}
 use Rattle.guest_fetch.specs.declared.entry.Entry.{Entry}
 use Rattle.guest_fetch.specs.declared.fetch.Supplied.{Supplied}
 use Rattle.guest_fetch.specs.declared.fetch.Supplied.TheVariants as came_as
 use Rattle.guest_fetch.specs.declared.moves.Move.{Move}
 use Rattle.hba_fbs.specs.Choosing.{may_feed}
-use Rattle.hba_fbs.specs.Taking.{port_of}
 use Rattle.hba_fbs.specs.declared.report.Wrote.{Wrote}
 use Rattle.hba_fbs.specs.declared.turn.Turn.{Turn}
 use Rattle.hba_fbs.specs.declared.turn.Turn.TheVariants.{Feeds, Orders, Rests}
@@ -22,12 +21,11 @@ use Rattle.ahci_controller.specs.Feeding.{GathersIf, Loses, LosesIf, MissesIf as
 use Rattle.ahci_controller.specs.Fetching.{GoesOn, MissesIf, SuppliesIf, answered, fits, is_asked, want_at, without_fetch}
 use Rattle.ahci_controller.specs.Issuing.{PlacesSlot, RefusesSlot, not_issued}
 use Rattle.ahci_controller.specs.Moving.{commands_after, moved_on}
-use Rattle.ahci_controller.specs.Next.{Turns, TurnsIf, after_count, after_rest, counted_slot, first_run, is_fed, is_halted, left, next_write, rest, run_of, step_of, step_with, turn_to, writes_next, written}
+use Rattle.ahci_controller.specs.Next.{Turns, TurnsIf, after_count, after_rest, counted_slot, first_run, is_fed, is_halted, left, next_write, rest, run_of, step_of, step_with, turn_to, written}
 use Rattle.ahci_controller.specs.Outbox.{no_writes}
-use Rattle.ahci_controller.specs.Own.{is_failed}
 use Rattle.ahci_controller.specs.Rules.{IsCarried}
 use Rattle.ahci_controller.specs.States.{ControllerState, kept}
-use Rattle.ahci_controller.specs.Taking.{brought, carried, hindrance, is_any, is_up}
+use Rattle.ahci_controller.specs.Taking.{brought, carried, is_any}
 use Rattle.ahci_controller.specs.Wide.{WritesFitting}
 use Rattle.ahci_controller.specs.declared.access.Width.{Width}
 use Rattle.ahci_controller.specs.declared.feeding.Fed.{Fed}
@@ -40,13 +38,13 @@ use Rattle.ahci_controller.specs.declared.taking.Took.{Took}
 use Rattle.ahci_controller.specs.declared.wants.Carried.{Carried}
 use Rattle.ahci_controller.specs.declared.wants.Writes.{Writes}
 use Rattle.ahci_controller.specs.declared.wide.WideWritten.{WideWritten}
-use Rattle.controller_laws.specs.Carrying.{AllAreSaid, AreLeft, AreNumbered, AreSaid, BytesAreSaid, Carrying, IsLeft, IsOwnData, IsSaid, SaidOfData, carrying_after_call, carrying_by, carrying_of, cut_behind, cut_wide, first_of, moves_in, placed_of, said_more, said_of}
+use Rattle.controller_laws.specs.Carrying.{AllAreSaid, AreLeft, AreNumbered, AreSaid, BytesAreSaid, Carrying, IsLeft, IsOwnData, IsSaid, SaidOfData, carrying_after_call, carrying_by, carrying_of, cut_behind, cut_wide, first_of, moves_in, moves_said, placed_of, said_more, said_of}
 use Rattle.controller_laws.specs.Events as event
 use Rattle.controller_laws.specs.Events.{Does, Event, IsController, Runs, Takes}
 use Rattle.controller_laws.specs.Places.{IsPlaced, IsWritten}
 use Rattle.controller_laws.proofs.OwnDataLemmas.{data_is_own, frame_short}
 use Rattle.controller_laws.proofs.PlaceLemmas.{writes_are_placed}
-use Rattle.controller_laws.proofs.TouchLemmas.{IsCalm, Touches, part_touches, turn_calm, write_touches}
+use Rattle.controller_laws.proofs.TouchLemmas.{IsCalm, Touches, part_touches, turn_calm, write_touches, written_calm}
 use Rattle.controller_laws.proofs.TouchLemmas.Touches.{Drops, Keeps}
 
 -- ---- bytes with their places
@@ -231,10 +229,10 @@ module _ (old new : ControllerState) (d : Carrying) (w : Carried) (k : IsControl
           }
 
   -- by whether there is a run
-  goes : (next : Next) → IsWritten old next → Turns old next new → (o : Option Move) → run_of old w ≡ o → IsSaid new (more d (moves_in next))
+  goes : (next : Next) → IsWritten old next → ((write : Next) → next_write old ≡ Some write → next ≡ write) → (o : Option Move) → run_of old w ≡ o → IsSaid new (more d (moves_in next))
   goes next is h (Some m) run =
       let write : next_write old ≡ Some (next_step.Payload (record m { from = w.from })) = ap (write_of old) now ∙ ap (write_by old w) run in
-      let told : next ≡ next_step.Payload (record m { from = w.from }) = (subst (λ (o : Option Next). MatchOption o (TurnsIf (is_halted (written old)) (written old) next new) (λ x. (next ≡ x) × (new ≡ written old))) write h).0 in
+      let told : next ≡ next_step.Payload (record m { from = w.from }) = h (next_step.Payload (record m { from = w.from })) write in
       let payload : new.writes.payload ≡ left w m = ap (λ (x : Writes). x.payload) calm.writes ∙ ap (after_payload old) now ∙ ap (after_run old w) run in
       subst (λ (n : Next). IsSaid new (more d (moves_in n))) (sym told) (run_on m (subst (IsWritten old) told is) payload)
   goes next is h None run =
@@ -261,19 +259,35 @@ module _ (old new : ControllerState) (d : Carrying) (w : Carried) (k : IsControl
 
 -- ---- what is next
 
-turned : (old new : ControllerState) (next : Next) (d : Carrying) (p : Option Carried) → old.writes.payload ≡ p → AreNumbered d → IsController old → Turns old next new → IsSaid old d → IsSaid new (more d (moves_in next))
-turned old new next d (Some w) now numbered k h was = goes old new d w k numbered was now (turn_calm old new next h) next (writes_are_placed old new next h) h (run_of old w) refl
-turned old new next d None now numbered k h was =
-    let calm : IsCalm old new = turn_calm old new next h in
-    none_more new next d was.count (no_moves old next (writes_are_placed old new next h) (λ m p. not_there p.carried (sym now ∙ p.is))) (ap (λ (x : Writes). x.payload) calm.writes ∙ ap (after_payload old) now ∙ after_empty old.writes)
+turned : (old new : ControllerState) (next : Next) (d : Carrying) (p : Option Carried) → old.writes.payload ≡ p → AreNumbered d → IsController old → IsCalm old new → IsWritten old next → ((write : Next) → next_write old ≡ Some write → next ≡ write) → IsSaid old d
+    → IsSaid new (more d (moves_in next))
+turned old new next d (Some w) now numbered k calm is h was = goes old new d w k numbered was now calm next is h (run_of old w) refl
+turned old new next d None now numbered k calm is h was =
+    none_more new next d was.count (no_moves old next is (λ m p. not_there p.carried (sym now ∙ p.is))) (ap (λ (x : Writes). x.payload) calm.writes ∙ ap (after_payload old) now ∙ after_empty old.writes)
     (subst (λ (o : Option Carried). AreLeft o old d was.count) now was.left) was.few was.said was.whole was.short
   where
     not_there : (w : Carried) → None ≡ Some w → ⊥
     not_there w e = cc
 
+-- a write that is next is what is answered
+turn_written : (old new : ControllerState) (next : Next) → Turns old next new → (write : Next) → next_write old ≡ Some write → next ≡ write
+turn_written old new next h write is = (subst (λ (o : Option Next). MatchOption o (TurnsIf (is_halted (written old)) (written old) next new) (λ x. (next ≡ x) × (new ≡ written old))) is h).0
+
+calm_any : (old new : ControllerState) (next : Next) (was : Option Carrying) → IsController old → IsCalm old new → IsWritten old next → ((write : Next) → next_write old ≡ Some write → next ≡ write) → AreSaid old was → AreSaid new (said_more (moves_in next) was)
+calm_any old new next (Some d) k calm is h was = λ numbered. turned old new next d old.writes.payload refl numbered k calm is h (was numbered)
+calm_any old new next None k calm is h was = ap (λ (x : Writes). x.payload) calm.writes ∙ ap (after_payload old) was ∙ after_empty old.writes
+
 turned_any : (old new : ControllerState) (next : Next) (was : Option Carrying) → IsController old → Turns old next new → AreSaid old was → AreSaid new (said_more (moves_in next) was)
-turned_any old new next (Some d) k h was = λ numbered. turned old new next d old.writes.payload refl numbered k h (was numbered)
-turned_any old new next None k h was = ap (λ (x : Writes). x.payload) (turn_calm old new next h).writes ∙ ap (after_payload old) was ∙ after_empty old.writes
+turned_any old new next was k h = calm_any old new next was k (turn_calm old new next h) (writes_are_placed old new next h) (turn_written old new next h)
+
+-- what is next to be written, and nothing else
+said_any : (old new : ControllerState) (write : Option Next) (was : Option Carrying) → IsController old → write ≡ next_write old → new ≡ written old → AreSaid old was → AreSaid new (said_more (moves_said write) was)
+said_any old new (Some next) was k is rest =
+    turned_any old new next was k (subst (λ (o : Option Next). MatchOption o (TurnsIf (is_halted (written old)) (written old) next new) (λ x. (next ≡ x) × (new ≡ written old))) is (refl, rest))
+said_any old new None was k is rest = calm_any old new next_step.Nothing was k (written_calm old new rest) tt (λ write some. absurd (none_next write (is ∙ some)))
+  where
+    none_next : (write : Next) → None ≡ Some write → ⊥
+    none_next write e = cc
 
 -- ---- other calls
 
@@ -497,6 +511,7 @@ call_said (event.Missed slot number supply) old new was k does said = misses (is
 call_said (event.Took frame took) old new was k does said = takes old new frame took k does
 call_said (event.Left frame why) old new was k does said = same_said old new was does.1 said
 call_said (event.Turned next) old new was k does said = turned_any old new next was k does said
+call_said (event.Said write) old new was k does said = said_any old new write was k does.0 does.1 said
 call_said (event.Gathered dev number frame fed) old new was k does said = gathers (is_fed old.wants dev number) dev old new fed was does.1 k.rules.long said
 call_said (event.NotThere dev number fed) old new was k does said = misses_data (is_fed old.wants dev number) dev old new fed was does said
 

@@ -22,7 +22,7 @@ use Rattle.controller_laws.specs.CoreEvents.{AreCoreEvents, of_event}
 use Rattle.controller_laws.specs.Ends.{AreTold, Falls, IssuesFall}
 use Rattle.controller_laws.specs.Events as event
 use Rattle.controller_laws.specs.Events.{Does, Event, IsController}
-use Rattle.controller_laws.proofs.FallLemmas.{Goes, Keeps, Stands, gather_stands, miss_goes, not_there_stands, supply_goes, take_stands, turn_stands, wide_falls, write_falls}
+use Rattle.controller_laws.proofs.FallLemmas.{Goes, Keeps, Stands, gather_stands, miss_goes, not_there_stands, said_stands, supply_goes, take_stands, turn_stands, wide_falls, write_falls}
 use Rattle.controller_laws.proofs.FallLemmas.Goes.{Placed, Waits}
 use Rattle.controller_laws.proofs.FallLemmas.Keeps.{Still, Stopped}
 use Rattle.controller_laws.proofs.FallLemmas.Stands.{Fails, Reads}
@@ -146,6 +146,7 @@ stood_falls s past old new (event.Missed slot number supply) does are k k_new be
 stood_falls s past old new (event.Took frame took) does are k k_new below gone was = kept_falls s past old new (event.Took frame took) does are gone (take_stands frame s old new took does.hears was)
 stood_falls s past old new (event.Left frame why) does are k k_new below gone was = kept_falls s past old new (event.Left frame why) does are gone (subst (Stands s) (sym does.1) was)
 stood_falls s past old new (event.Turned next) does are k k_new below gone was = kept_falls s past old new (event.Turned next) does are gone (turn_stands (next_write old) s old new next does was)
+stood_falls s past old new (event.Said write) does are k k_new below gone was = kept_falls s past old new (event.Said write) does are gone (said_stands s old new does.1 was)
 stood_falls s past old new (event.Gathered dev number frame fed) does are k k_new below gone was =
     kept_falls s past old new (event.Gathered dev number frame fed) does are gone (gather_stands (is_fed old.wants dev number) dev s old new fed does.1 was)
 stood_falls s past old new (event.NotThere dev number fed) does are k k_new below gone was =

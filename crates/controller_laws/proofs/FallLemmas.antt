@@ -292,6 +292,10 @@ pub turn_stands : (o : Option Next) (s : ℕ) (old new : ControllerState) (next 
 turn_stands None s old new next h was = turns_if (is_halted (written old)) s (written old) new next h (stands_same s old (written old) refl refl was)
 turn_stands (Some write) s old new next h was = same_stands s (written old) new h.1 (stands_same s old (written old) refl refl was)
 
+-- what is written to the guest is none of it
+pub said_stands : (s : ℕ) (old new : ControllerState) → new ≡ written old → Stands s old → Stands s new
+said_stands s old new same was = same_stands s (written old) new same (stands_same s old (written old) refl refl was)
+
 sends : (due : Bool) (dev s : ℕ) (old new : ControllerState) (result : Fed) → SendsIf due old dev result new → Stands s old → Stands s new
 sends false dev s old new result h was = same_stands s old new h.0 was
 sends true dev s old new result h was = stands_same s old new (ap (λ (c : ControllerState). c.wants.pending) h.rest) (ap (λ (c : ControllerState). c.own.bad) h.rest) was

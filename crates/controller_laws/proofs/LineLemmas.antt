@@ -1,8 +1,8 @@
 -- What each call does to the interrupts, and what it tells of the line.
-use Rattle.std.proofs.Common.{◌≡◌, ℕ, ◌+◌, ◌*◌, ◌^◌, ◌&&◌, ◌||◌, Bool, true, false, not, List, [], ◌∷◌, ◌++◌, refl, sym, ap, subst, ◌∙◌, inl, inr, Option, Some, None, bit_and}
-use Rattle.std.specs.Prelude.{◌==◌, ◌⊎◌, MatchOption, if◌then◌else◌}
+use Rattle.std.proofs.Common.{◌≡◌, ℕ, ◌+◌, ◌*◌, ◌^◌, ◌&&◌, ◌||◌, Bool, true, false, not, List, [], ◌∷◌, ◌++◌, refl, sym, ap, subst, ◌∙◌, inl, inr, Option, Some, None}
+use Rattle.std.specs.Prelude.{MatchOption, if◌then◌else◌}
 use Rattle.std.specs.Int.{from_bool}
-use Rattle.std.proofs.lemmas.Bool.{cases_Bool, false≢true, or_parts, true≢false}
+use Rattle.std.proofs.lemmas.Bool.{cases_Bool, false≢true, true≢false}
 use Rattle.slots.specs.Slots.{has_bit, match_some}
 use Rattle.ahci_registers.specs.Bits as line_bits
 use Rattle.ahci_registers.specs.Lines.{LineEvent, after, pends}
@@ -10,7 +10,6 @@ use Rattle.ahci_registers.specs.Lines.LineEvent.{Caused, WroteError, WroteGlobal
 use Rattle.ahci_registers.specs.Offsets.{register_at}
 use Rattle.ahci_registers.specs.declared.link.Effect.{Effect}
 use Rattle.ahci_registers.specs.declared.link.Effect.TheVariants as effect
-use Rattle.ahci_registers.specs.declared.lines.Lines.{Lines}
 use Rattle.ahci_registers.specs.declared.register.Register.{Register}
 use Rattle.ahci_registers.specs.declared.register.Register.TheVariants as ahci
 use Rattle.guest_fetch.specs.Commands.{Fetched}
@@ -25,15 +24,14 @@ use Rattle.ahci_controller.specs.Feeding.{GathersIf, Loses, LosesIf, MissesIf as
 use Rattle.ahci_controller.specs.Fetching.{GoesOn, MissesIf, SuppliesIf, answered, fits, is_asked, without_fetch}
 use Rattle.ahci_controller.specs.Issuing.{PlacesSlot, RefusesSlot, not_issued}
 use Rattle.ahci_controller.specs.Latch.{edge, edge_between, latched, opening_latch, raised, releases}
-use Rattle.ahci_controller.specs.Next.{Frames, FramesFor, GoesIf, Reads, RestsNow, Turns, TurnsIf, is_fed, is_halted, next_device, next_read, next_slot, next_write, turn_to, written}
-use Rattle.ahci_controller.specs.Opening.{IsOpening}
+use Rattle.ahci_controller.specs.Next.{Frames, FramesFor, GoesIf, Reads, RestsNow, TurnsIf, is_fed, is_halted, next_device, next_read, next_slot, next_write, turn_to, written}
 use Rattle.ahci_controller.specs.Own as own_words
 use Rattle.ahci_controller.specs.Reading.{shown}
 use Rattle.ahci_controller.specs.States.{ControllerState}
 use Rattle.ahci_controller.specs.Taking.{Hears}
 use Rattle.ahci_controller.specs.Wants.{dropped}
 use Rattle.ahci_controller.specs.Wide.{WritesAt, WritesFitting, WritesIf}
-use Rattle.ahci_controller.specs.Writing.{Commands, Leaves, ResetsBy, Restarts, WritesGlobal, WritesRegister, asked_state, link_effect, link_moved, plain}
+use Rattle.ahci_controller.specs.Writing.{Leaves, ResetsBy, Restarts, WritesGlobal, WritesRegister, link_effect, link_moved, plain}
 use Rattle.ahci_controller.specs.declared.access.Width.{Width}
 use Rattle.ahci_controller.specs.declared.feeding.Fed.{Fed}
 use Rattle.ahci_controller.specs.declared.issuing.NotTaken.{NotTaken}
@@ -48,7 +46,7 @@ use Rattle.ahci_controller.specs.declared.wide.WideWritten.{WideWritten}
 use Rattle.ahci_controller.specs.declared.writing.Written.{Written}
 use Rattle.controller_laws.specs.Events as event
 use Rattle.controller_laws.specs.Events.{Does, Event, Runs}
-use Rattle.controller_laws.specs.Interrupts.{ClearsWide, GoesBy, IsLatched, LineIsKept, LineIsTold, OpensLatched, PendingFalls, PendingRises, PendsWide, StaysLatched, clears, clears_at, clears_part, edges_in, edges_of, edges_of_fed, edges_of_supply, is_calm, line_after, line_shown, pending_shown}
+use Rattle.controller_laws.specs.Interrupts.{ClearsWide, GoesBy, LineIsKept, LineIsTold, OpensLatched, PendingFalls, PendingRises, PendsWide, StaysLatched, clears, clears_at, edges_in, edges_of, edges_of_fed, edges_of_supply, is_calm, line_after, line_shown, pending_shown}
 
 -- ---- the interrupts
 
@@ -102,7 +100,7 @@ pending_is c = by c.latch.pending
     by true = refl
     by false = refl
 
-line_is : (c : ControllerState) → line_shown c ≡ raised c.latch
+pub line_is : (c : ControllerState) → line_shown c ≡ raised c.latch
 unfolding shown
 line_is c = by c.latch.pending c.latch.lines.enabled
   where
@@ -337,6 +335,7 @@ event_line (event.Missed slot number supply) old new does = (misses (is_asked ol
 event_line (event.Took frame took) old new does = (takes frame old new took does.hears).line
 event_line (event.Left frame why) old new does = ap (λ (c : ControllerState). raised c.latch) (sym does.1)
 event_line (event.Turned next) old new does = ap raised (sym (turns (next_write old) old new next does))
+event_line (event.Said write) old new does = ap (λ (c : ControllerState). raised c.latch) (sym does.1)
 event_line (event.Gathered dev number frame fed) old new does = (gathers (is_fed old.wants dev number) dev old new fed does.1).line
 event_line (event.NotThere dev number fed) old new does = (misses_data (is_fed old.wants dev number) dev old new fed does).line
 
@@ -368,6 +367,7 @@ event_holds (event.Missed slot number supply) old new does was = keeps_by _ old.
 event_holds (event.Took frame took) old new does was = keeps_by _ old.latch new.latch (takes frame old new took does.hears).moves was
 event_holds (event.Left frame why) old new does was = subst (λ (c : ControllerState). Holds c.latch) (sym does.1) was
 event_holds (event.Turned next) old new does was = subst Holds (sym (turns (next_write old) old new next does)) was
+event_holds (event.Said write) old new does was = subst (λ (c : ControllerState). Holds c.latch) (sym does.1) was
 event_holds (event.Gathered dev number frame fed) old new does was = keeps_by _ old.latch new.latch (gathers (is_fed old.wants dev number) dev old new fed does.1).moves was
 event_holds (event.NotThere dev number fed) old new does was = keeps_by _ old.latch new.latch (misses_data (is_fed old.wants dev number) dev old new fed does).moves was
 
@@ -408,6 +408,7 @@ pending_falls old new (event.Missed slot number supply) does was now = not_falle
 pending_falls old new (event.Took frame took) does was now = not_fallen old new (takes frame old new took does.hears).moves was now
 pending_falls old new (event.Left frame why) does was now = same_pending old new (ap (λ (c : ControllerState). c.latch) does.1) was now
 pending_falls old new (event.Turned next) does was now = same_pending old new (turns (next_write old) old new next does) was now
+pending_falls old new (event.Said write) does was now = same_pending old new (ap (λ (c : ControllerState). c.latch) does.1) was now
 pending_falls old new (event.Gathered dev number frame fed) does was now = not_fallen old new (gathers (is_fed old.wants dev number) dev old new fed does.1).moves was now
 pending_falls old new (event.NotThere dev number fed) does was now = not_fallen old new (misses_data (is_fed old.wants dev number) dev old new fed does).moves was now
 
@@ -433,5 +434,6 @@ pending_rises old new (event.Missed slot number supply) does was now = risen _ o
 pending_rises old new (event.Took frame took) does was now = risen _ old new (takes frame old new took does.hears).moves was now
 pending_rises old new (event.Left frame why) does was now = same_risen old new (ap (λ (c : ControllerState). c.latch) does.1) was now
 pending_rises old new (event.Turned next) does was now = same_risen old new (turns (next_write old) old new next does) was now
+pending_rises old new (event.Said write) does was now = same_risen old new (ap (λ (c : ControllerState). c.latch) does.1) was now
 pending_rises old new (event.Gathered dev number frame fed) does was now = risen _ old new (gathers (is_fed old.wants dev number) dev old new fed does.1).moves was now
 pending_rises old new (event.NotThere dev number fed) does was now = risen _ old new (misses_data (is_fed old.wants dev number) dev old new fed does).moves was now

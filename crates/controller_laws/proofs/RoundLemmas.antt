@@ -1,6 +1,6 @@
 -- A command that may go waits for at most 31 others, over a run.
-use Rattle.std.proofs.Common.{◌≡◌, ◌≢◌, ℕ, zero, suc, ◌+◌, ◌<◌, ◌≤◌, ◌%◌, ◌&&◌, ◌||◌, Bool, true, false, not, List, [], ◌∷◌, length, refl, sym, ap, subst, ◌∙◌, arith, Option, Some, None}
-use Rattle.std.specs.Prelude.{MatchOption, is_some, if◌then◌else◌}
+use Rattle.std.proofs.Common.{◌≡◌, ◌≢◌, ℕ, ◌+◌, ◌<◌, ◌≤◌, Bool, true, false, List, [], ◌∷◌, length, refl, sym, ap, subst, ◌∙◌, arith, Option, Some, None}
+use Rattle.std.specs.Prelude.{MatchOption, if◌then◌else◌}
 use Rattle.std.specs.Option.{option_map}
 use Rattle.std.proofs.lemmas.Bool.{and_parts, false≢true}
 use Rattle.slots.specs.Slots.{Issue, has_bit, holds, issue_at, lowest_below, match_some}
@@ -17,13 +17,13 @@ use Rattle.hba_fbs.specs.Views.{HaveCommands, Port, last_command}
 use Rattle.hba_fbs.specs.declared.turn.Turn.{Turn}
 use Rattle.hba_fbs.specs.declared.turn.Turn.TheVariants.{Feeds, Orders, Rests}
 use Rattle.ahci_controller.specs.Access.{fits as fits_width}
-use Rattle.ahci_controller.specs.Circle.{first_behind, is_behind, slot_after}
+use Rattle.ahci_controller.specs.Circle.{first_behind, is_behind}
 use Rattle.ahci_controller.specs.Fairness.{AllHave, OthersOnly, SlotsComeRound}
 use Rattle.ahci_controller.specs.Feeding.{GathersIf, Loses, LosesIf, MissesIf as MissesDataIf, SendsIf, without_feeding}
 use Rattle.ahci_controller.specs.Fetching.{GoesOn, MissesIf, SuppliesIf, answered, fits, is_asked, without_fetch}
 use Rattle.ahci_controller.specs.Issuing.{PlacesSlot, RefusesSlot, not_issued}
 use Rattle.ahci_controller.specs.Moving.{count_of}
-use Rattle.ahci_controller.specs.Next.{Frames, FramesFor, GoesIf, OrdersSlot, Reads, RestsNow, Turns, TurnsIf, count_next, counted_slot, feed_next, is_fed, is_halted, next_device, next_read, next_slot, next_write, order_next, rest, run_of, step_of, step_with, turn_to, written}
+use Rattle.ahci_controller.specs.Next.{Frames, FramesFor, GoesIf, OrdersSlot, Reads, RestsNow, TurnsIf, count_next, counted_slot, feed_next, is_fed, is_halted, next_device, next_read, next_slot, next_write, order_next, rest, run_of, step_of, step_with, turn_to, written}
 use Rattle.ahci_controller.specs.Own as own_words
 use Rattle.ahci_controller.specs.States.{ControllerState, kept}
 use Rattle.ahci_controller.specs.Wants.{dropped}
@@ -267,6 +267,7 @@ rounds s (event.Missed slot number supply ∷ events) old new run waits = stayed
 rounds s (event.Took frame took ∷ events) old new run waits = stayed s (orders_in events) old run.1.0 (ap (λ (c : ControllerState). c.circle) run.1.1.hears.rest) (rounds s events run.1.0 new run.1.2 waits)
 rounds s (event.Left frame why ∷ events) old new run waits = stayed s (orders_in events) old run.1.0 (ap (λ (c : ControllerState). c.circle) run.1.1.1) (rounds s events run.1.0 new run.1.2 waits)
 rounds s (event.Turned next ∷ events) old new run waits = turned s (orders_in events) old run.1.0 next (turns_by (next_write old) old run.1.0 next refl run.0.port.commands run.1.1) waits.0 (rounds s events run.1.0 new run.1.2 waits.1)
+rounds s (event.Said write ∷ events) old new run waits = stayed s (orders_in events) old run.1.0 (ap (λ (c : ControllerState). c.circle) run.1.1.1) (rounds s events run.1.0 new run.1.2 waits)
 rounds s (event.Gathered dev number frame fed ∷ events) old new run waits = stayed s (orders_in events) old run.1.0 (gathers (is_fed old.wants dev number) dev old run.1.0 fed run.1.1.1) (rounds s events run.1.0 new run.1.2 waits)
 rounds s (event.NotThere dev number fed ∷ events) old new run waits = stayed s (orders_in events) old run.1.0 (misses_data (is_fed old.wants dev number) dev old run.1.0 fed run.1.1) (rounds s events run.1.0 new run.1.2 waits)
 

@@ -1,7 +1,7 @@
 -- What the command of a slot is, over a run.
-use Rattle.std.proofs.Common.{◌≡◌, ◌≢◌, ℕ, zero, suc, ◌<◌, ◌&&◌, Bool, true, false, List, [], ◌∷◌, ◌++◌, length, get_or, set, replicate, refl, sym, ap, subst, ◌∙◌, inl, inr, arith, Option, Some, None, get_or-set_same, get_or-set_other, length-set}
+use Rattle.std.proofs.Common.{◌≡◌, ◌≢◌, ℕ, ◌<◌, ◌&&◌, Bool, true, false, List, [], ◌∷◌, ◌++◌, length, get_or, set, refl, sym, ap, subst, ◌∙◌, inl, inr, Option, Some, None, get_or-set_same, get_or-set_other, length-set}
 use Rattle.std.specs.Prelude.{◌==◌, MatchOption, nat_lt, if◌then◌else◌}
-use Rattle.std.proofs.lemmas.Bool.{and_parts, cases_eq, cases_Bool, eq-eqb, eqb-true, false≢true, ltb-true, true≢false}
+use Rattle.std.proofs.lemmas.Bool.{and_parts, cases_eq, eq-eqb, eqb-true, false≢true, ltb-true, true≢false}
 use Rattle.std.proofs.lemmas.List.{get_or-replicate, length-replicate}
 use Rattle.slots.specs.Slots.{has_bit, match_some}
 use Rattle.guest_fetch.specs.Commands.{Fetched}
@@ -27,9 +27,9 @@ use Rattle.hba_fbs.specs.declared.turn.Turn.{Turn}
 use Rattle.hba_fbs.specs.declared.turn.Turn.TheVariants.{Feeds, Orders, Rests}
 use Rattle.ahci_controller.specs.Access.{fits as fits_width}
 use Rattle.ahci_controller.specs.Feeding.{GathersIf, Loses, LosesIf, MissesIf as MissesDataIf, SendsIf, sent_to, without_feeding}
-use Rattle.ahci_controller.specs.Fetching.{GoesOn, Misses, MissesIf, SuppliesIf, SuppliesSlot, answered, fetch_of, fits, is_asked, want_at, without_fetch}
-use Rattle.ahci_controller.specs.Issuing.{PlacesSlot, RefusesSlot, device_of, not_issued, not_taken}
-use Rattle.ahci_controller.specs.Moving.{commands_after, counts_for, moved_on}
+use Rattle.ahci_controller.specs.Fetching.{GoesOn, MissesIf, SuppliesIf, SuppliesSlot, answered, fetch_of, fits, is_asked, want_at, without_fetch}
+use Rattle.ahci_controller.specs.Issuing.{PlacesSlot, RefusesSlot, not_issued}
+use Rattle.ahci_controller.specs.Moving.{commands_after, moved_on}
 use Rattle.ahci_controller.specs.Next.{is_fed, turn_to}
 use Rattle.ahci_controller.specs.Own.{list_of}
 use Rattle.ahci_controller.specs.Rules.{IsOffered}
@@ -44,7 +44,7 @@ use Rattle.ahci_controller.specs.declared.issuing.Supply.TheVariants as supply_a
 use Rattle.ahci_controller.specs.declared.wide.WideWritten.{WideWritten}
 use Rattle.controller_laws.specs.Events as event
 use Rattle.controller_laws.specs.Events.{Does, Event, IsController, Runs}
-use Rattle.controller_laws.specs.Sources.{AreSources, ComesOn, ComesTo, CommandsAreSupplied, CoreHasSupplied, IsComing, IsIssuedFrom, IsReadFrom, Source, Sources, StartsUnread, after_supply, after_wide, command_in, command_of, command_with, no_sources, sources_after, sources_by, unmoved, while_pending, with_part}
+use Rattle.controller_laws.specs.Sources.{AreSources, ComesOn, ComesTo, CommandsAreSupplied, CoreHasSupplied, IsComing, IsIssuedFrom, IsReadFrom, Source, Sources, StartsUnread, after_supply, after_wide, command_in, command_of, command_with, sources_by, unmoved, while_pending, with_part}
 use Rattle.controller_laws.proofs.TouchLemmas.{IsCalm, Touches, no_fetch, part_touches, turn_calm, write_touches}
 use Rattle.controller_laws.proofs.TouchLemmas.Touches.{Drops, Keeps}
 
@@ -441,6 +441,8 @@ call_goes law s sources old new (event.Left frame why) below k does are = subst 
 call_goes law s sources old new (event.Turned next) below k does are =
     let calm : IsCalm old new = turn_calm old new next does in
     same_sources s sources old new calm.fetches calm.commands are
+call_goes law s sources old new (event.Said write) below k does are =
+    same_sources s sources old new (ap (λ (c : ControllerState). c.fetches) does.1) (ap (λ (c : ControllerState). c.commands) does.1) are
 call_goes law s sources old new (event.Gathered dev number frame fed) below k does are = gathers (is_fed old.wants dev number) dev s sources old new fed does.1 k.rules.long are
 call_goes law s sources old new (event.NotThere dev number fed) below k does are = misses_data (is_fed old.wants dev number) dev s sources old new fed does are
 

@@ -1,5 +1,5 @@
 -- What each call leaves of what is read of the guest, and of what is to be written to it.
-use Rattle.std.proofs.Common.{◌≡◌, ℕ, ◌&&◌, ◌||◌, Bool, true, false, not, replicate, refl, sym, ap, subst, ◌∙◌, Option, Some, None, bit_or}
+use Rattle.std.proofs.Common.{◌≡◌, ℕ, ◌&&◌, ◌||◌, Bool, true, false, not, replicate, refl, sym, ap, ◌∙◌, Option, Some, None, bit_or}
 use Rattle.std.specs.Prelude.{◌==◌, MatchOption, if◌then◌else◌}
 use Rattle.std.proofs.lemmas.Bool.{false≢true}
 use Rattle.std.proofs.lemmas.Nat.Bits.{bit_at-zero}
@@ -244,6 +244,9 @@ turns_if false old new next h = goes old.core.registers.started old new next ref
 turns_by : (o : Option Next) (old new : ControllerState) (next : Next) → MatchOption o (TurnsIf (is_halted (written old)) (written old) next new) (λ write. (next ≡ write) × (new ≡ written old)) → IsCalm old new
 turns_by None old new next h = turns_if (is_halted (written old)) old new next h
 turns_by (Some write) old new next h = calm_by old _ new h.1 refl refl refl
+
+pub written_calm : (old new : ControllerState) → new ≡ written old → IsCalm old new
+written_calm old new h = calm_by old _ new h refl refl refl
 
 pub turn_calm : (old new : ControllerState) (next : Next) → Turns old next new → IsCalm old new
 turn_calm old new next h = turns_by (next_write old) old new next h

@@ -19,7 +19,7 @@ use Rattle.ahci_controller.specs.declared.next.Next.TheVariants as next_step
 use Rattle.ahci_controller.specs.declared.taking.Took as taking
 use Rattle.ahci_controller.specs.declared.wants.Carried.{Carried}
 use Rattle.ahci_controller.specs.declared.wide.WideWritten.{WideWritten}
-use Rattle.controller_laws.specs.Events.{Does, Event, Gathered, IsController, Left, Missed, NotThere, Runs, Supplied, Takes}
+use Rattle.controller_laws.specs.Events.{Does, Event, Gathered, IsController, Left, Missed, NotThere, Runs, Said, Supplied, Takes}
 use Rattle.controller_laws.specs.Events.{Took, Turned, Wrote as WroteRegister, WroteWide}
 
 -- The Data FIS that was taken last: which bytes of a slot's command it brought, the table that was supplied for that command,
@@ -46,6 +46,10 @@ carrying_by c frame (Some wrote) =
 abbrev pub moves_in : Next → List Move
 moves_in (next_step.Payload m) = m ∷ []
 moves_in next = []
+
+abbrev pub moves_said : Option Next → List Move
+moves_said None = []
+moves_said (Some next) = moves_in next
 
 abbrev pub said_more : List Move → Option Carrying → Option Carrying
 said_more moves None = None
@@ -87,6 +91,7 @@ carrying_after_call old (Missed slot number supply) new does was = was
 carrying_after_call old (Took frame took) new does was = carrying_by old frame took.brought
 carrying_after_call old (Left frame why) new does was = was
 carrying_after_call old (Turned next) new does was = said_more (moves_in next) was
+carrying_after_call old (Said write) new does was = said_more (moves_said write) was
 carrying_after_call old (Gathered dev number frame fed) new does was = was
 carrying_after_call old (NotThere dev number fed) new does was = was
 

@@ -41,7 +41,7 @@ use Rattle.ahci_controller.specs.declared.issuing.Supply.TheVariants as supply_a
 use Rattle.ahci_controller.specs.declared.next.Next.{Next}
 use Rattle.ahci_controller.specs.declared.next.Next.TheVariants as next_step
 use Rattle.ahci_controller.specs.declared.wide.WideWritten.{WideWritten}
-use Rattle.controller_laws.specs.Events.{Does, Event, Gathered, Left, Missed, NotThere, Runs, Supplied, Took, Turned, Wrote, WroteWide}
+use Rattle.controller_laws.specs.Events.{Does, Event, Gathered, Left, Missed, NotThere, Runs, Said, Supplied, Took, Turned, Wrote, WroteWide}
 
 -- A controller keeps the tables of its commands itself, so histories of its devices have none.
 abbrev pub no_tables : ℕ → List Prd
@@ -151,6 +151,7 @@ of_event old (Missed slot number supply) new does = []
 of_event old (Took frame took) new does = of_frame old.core.registers.started old frame took.report ∷ []
 of_event old (Left frame why) new does = []
 of_event old (Turned next) new does = of_turned next old
+of_event old (Said write) new does = []
 of_event old (Gathered dev number frame fed) new does = of_fed fed old dev frame
 of_event old (NotThere dev number fed) new does = []
 

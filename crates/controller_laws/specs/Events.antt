@@ -1,13 +1,13 @@
 -- What happens to a controller, one call after another: AHCI 1.3.1, sections 3 (accesses to registers), 4.2 and 5.3 (what it
 -- reads of the guest) and 9.3 (frames of devices). The calls are those of `ahci_controller`, with what they answer.
-use Rattle.std.specs.Prelude.{◌≡◌, ℕ, List, [], ◌∷◌, Some, None}
+use Rattle.std.specs.Prelude.{◌≡◌, ℕ, List, [], ◌∷◌, Option, Some, None}
 use Rattle.fis_view.specs.Frames.{IsFrame}
 use Rattle.slots.specs.Table.{IsTable}
 use Rattle.hba_fbs.specs.Views.{IsCorePort}
 use Rattle.hba_laws.specs.Cores.{HasBytes}
 use Rattle.ahci_controller.specs.Feeding.{Gathers, MissesData}
 use Rattle.ahci_controller.specs.Fetching.{AnswersTo, Misses}
-use Rattle.ahci_controller.specs.Next.{Turns, turn_to}
+use Rattle.ahci_controller.specs.Next.{Turns, next_write, turn_to, written}
 use Rattle.ahci_controller.specs.Rules.{IsRuled}
 use Rattle.ahci_controller.specs.States.{ControllerState}
 use Rattle.ahci_controller.specs.Taking.{Hears, hindrance}
@@ -37,6 +37,8 @@ pub data Event : Type 0 where
   Left : (frame : List ℕ) → (why : Hindrance) → Event
   -- what is next to do
   Turned : (next : Next) → Event
+  -- what is next to be written to the guest, and nothing else
+  Said : (write : Option Next) → Event
   -- the bytes that are wanted for Data to a device are in a frame of these bytes
   Gathered : (dev number : ℕ) → (frame : List ℕ) → (fed : Fed) → Event
   -- what is wanted for Data to a device is not memory
@@ -61,6 +63,7 @@ Does old (Missed slot number supply) new = Misses old slot number supply new
 Does old (Took frame took) new = Takes old frame took new
 Does old (Left frame why) new = (hindrance old ≡ Some why) × (new ≡ old)
 Does old (Turned next) new = Turns old next new
+Does old (Said write) new = (write ≡ next_write old) × (new ≡ written old)
 Does old (Gathered dev number frame fed) new = IsWhole old dev frame fed × Gathers old dev number fed new
 Does old (NotThere dev number fed) new = MissesData old dev number fed new
 

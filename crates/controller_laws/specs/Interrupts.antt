@@ -19,7 +19,7 @@ use Rattle.ahci_controller.specs.declared.issuing.Supply.TheVariants as supply_a
 use Rattle.ahci_controller.specs.declared.latch.Edge.{Edge}
 use Rattle.ahci_controller.specs.declared.latch.Edge.TheVariants.{Steady, Rising, Falling}
 use Rattle.ahci_controller.specs.declared.wide.WideWritten.{WideWritten}
-use Rattle.controller_laws.specs.Events.{Does, Event, Gathered, Left, Missed, NotThere, Runs, Supplied, Took, Turned, Wrote}
+use Rattle.controller_laws.specs.Events.{Does, Event, Gathered, Left, Missed, NotThere, Runs, Said, Supplied, Took, Turned, Wrote}
 use Rattle.controller_laws.specs.Events.{WroteWide}
 
 -- ---- what registers show
@@ -56,6 +56,7 @@ edges_of (Missed slot number supply) = edges_of_supply supply
 edges_of (Took frame took) = took.line ∷ []
 edges_of (Left frame why) = []
 edges_of (Turned next) = []
+edges_of (Said write) = []
 edges_of (Gathered dev number frame fed) = edges_of_fed fed
 edges_of (NotThere dev number fed) = edges_of_fed fed
 

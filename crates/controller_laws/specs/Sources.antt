@@ -24,7 +24,7 @@ use Rattle.ahci_controller.specs.declared.access.Width.{Width}
 use Rattle.ahci_controller.specs.declared.issuing.Supply.{Supply}
 use Rattle.ahci_controller.specs.declared.issuing.Supply.TheVariants.{Issued, More, NotTaken, OutOfMemory, Stale}
 use Rattle.ahci_controller.specs.declared.wide.WideWritten.{WideWritten}
-use Rattle.controller_laws.specs.Events.{Does, Event, Gathered, IsController, Left, Missed, NotThere, Runs, Supplied, Took}
+use Rattle.controller_laws.specs.Events.{Does, Event, Gathered, IsController, Left, Missed, NotThere, Runs, Said, Supplied, Took}
 use Rattle.controller_laws.specs.Events.{Turned, Wrote, WroteWide}
 
 -- where a slot's header lies, by the command list in use, and what was supplied, one part after another
@@ -79,6 +79,7 @@ sources_by s old (Missed slot number supply) new does was = if slot == s then af
 sources_by s old (Took frame took) new does was = was
 sources_by s old (Left frame why) new does was = was
 sources_by s old (Turned next) new does was = was
+sources_by s old (Said write) new does was = was
 sources_by s old (Gathered dev number frame fed) new does was = was
 sources_by s old (NotThere dev number fed) new does was = was
 

@@ -48,10 +48,11 @@ pub fn commands_are_supplied()
     guest_fetch::commands_are_what_was_supplied();
 }
 
-/// A law for callers; it runs no code. Over every list of calls, what [`next`](ahci_controller::Controller::next) writes for
-/// a Data FIS are the bytes behind its header, each once, in order, each at the place that the table names for its offset in
-/// the command, as it was supplied. The FIS was taken in these calls, of the device that owns the command. All bytes that
-/// have a place are written before the next FIS is taken, unless a write stopped the port.
+/// A law for callers; it runs no code. Over every list of calls, what [`next`](ahci_controller::Controller::next) and
+/// [`next_write`](ahci_controller::Controller::next_write) write for a Data FIS are the bytes behind its header, each once, in
+/// order, each at the place that the table names for its offset in the command, as it was supplied. The FIS was taken in these
+/// calls, of the device that owns the command. All bytes that have a place are written before the next FIS is taken, unless a
+/// write stopped the port.
 pub fn bytes_go_to_their_places()
     ensures own { DataIsOwn }
     ensures whole { DataIsWhole }

@@ -2,3 +2,8 @@ pub mod Cases
 pub mod Apart
 pub mod GoOn
 pub mod Reach
+pub mod Wants
+pub mod Beside
+pub mod Due
+pub mod Calls
+pub mod Lawful

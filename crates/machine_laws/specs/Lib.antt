@@ -1,3 +1,5 @@
 pub mod Deeds
 pub mod Ports
 pub mod Disks
+pub mod Controllers
+pub mod ControllerLaws

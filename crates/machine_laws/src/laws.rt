@@ -1,5 +1,7 @@
 //! The laws.
 
+ghost use Rattle.machine_laws.specs.ControllerLaws.{ControllerHasLaws, LinesAreShown, OpensLawful, RunsAreCalls, TurnsArePlaced, WritesArePlaced};
+ghost use Rattle.machine_laws.specs.Controllers.{ControllerGoesOn, OpensDue, StaysDue};
 ghost use Rattle.machine_laws.specs.Disks.{DisksAreReached, DisksGoOn, DisksHaveLaws, OpensReached};
 ghost use Rattle.machine_laws.specs.Ports.{PortsAreApart};
 
@@ -25,4 +27,34 @@ pub fn disks_have_their_laws()
     sata_disk_laws::ends_are_earned();
     sata_disk_laws::requests_are_apart();
     sata_disk_laws::data_are_named();
+}
+
+/// A law for callers; it runs no code. Whatever happens to a machine is to its controller a list of the controller's own calls, in
+/// order. What that rests on begins with a new machine and is kept by each deed: the Data FIS that is gathered for a device has as many
+/// bytes as the controller waits for.
+pub fn controller_goes_on()
+    ensures opens { OpensDue }
+    ensures due { StaysDue }
+    ensures goes { ControllerGoesOn }
+{}
+
+/// A law for callers; it runs no code. Over every run of a machine its controller has the laws of `controller_laws`: what was supplied
+/// for a slot is its command; the bytes of Data go to the places of that command's table, each once, in order; a bit of PxCI or PxSACT
+/// falls only as its own device ends the command, or as a write stops or clears it; and the line goes as IS and GHC.IE show. What the
+/// caller is told to write, and the line that it is told, are of these.
+pub fn controller_has_its_laws()
+    ensures opens { OpensLawful }
+    ensures runs { RunsAreCalls }
+    ensures laws { ControllerHasLaws }
+    ensures writes { WritesArePlaced }
+    ensures turns { TurnsArePlaced }
+    ensures line { LinesAreShown }
+{
+    controller_laws::events_are_core_events();
+    controller_laws::issues_fall();
+    controller_laws::active_falls();
+    controller_laws::commands_are_supplied();
+    controller_laws::bytes_go_to_their_places();
+    controller_laws::line_is_told();
+    controller_laws::writes_are_placed();
 }

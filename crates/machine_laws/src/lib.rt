@@ -6,4 +6,7 @@
 
 mod laws;
 
-pub use laws::{disks_go_on, disks_have_their_laws, ports_are_apart};
+pub use laws::{
+    controller_goes_on, controller_has_its_laws, disks_go_on, disks_have_their_laws,
+    ports_are_apart,
+};
