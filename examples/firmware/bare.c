@@ -51,13 +51,16 @@ PLAIN int memcmp(const void *one, const void *two, size_t count) {
     return 0;
 }
 
+/* The start: the stack is the array, which is filled with a mark. */
+#if defined __x86_64__
+enum { LINUX_WRITE = 1, LINUX_EXIT = 60 };
+
 static long call_linux(long number, long a, long b, long c) {
     long result;
     __asm__ volatile("syscall" : "=a"(result) : "a"(number), "D"(a), "S"(b), "d"(c) : "rcx", "r11", "memory");
     return result;
 }
 
-/* The start: the stack is the array, which is filled with a mark. */
 __asm__(".globl _start\n"
         "_start:\n"
         "    xorl %ebp, %ebp\n"
@@ -67,11 +70,38 @@ __asm__(".globl _start\n"
         "    rep stosb\n"
         "    movq %rdi, %rsp\n"
         "    call begin\n");
+#elif defined __aarch64__
+enum { LINUX_WRITE = 64, LINUX_EXIT = 93 };
+
+static long call_linux(long number, long a, long b, long c) {
+    register long x8 __asm__("x8") = number;
+    register long x0 __asm__("x0") = a;
+    register long x1 __asm__("x1") = b;
+    register long x2 __asm__("x2") = c;
+    __asm__ volatile("svc 0" : "+r"(x0) : "r"(x8), "r"(x1), "r"(x2) : "memory");
+    return x0;
+}
+
+__asm__(".globl _start\n"
+        "_start:\n"
+        "    adrp x0, stack\n"
+        "    add x0, x0, :lo12:stack\n"
+        "    mov w1, 0xA5\n"
+        "    mov w2, 65536\n"
+        "1:  strb w1, [x0], 1\n"
+        "    subs w2, w2, 1\n"
+        "    b.ne 1b\n"
+        "    mov sp, x0\n"
+        "    mov x29, 0\n"
+        "    bl begin\n");
+#else
+#error "this processor wants a start and a system call of its own here"
+#endif
 
 static void say(const char *text) {
     const char *end = text;
     while (*end) end++;
-    call_linux(1, 1, (long)text, end - text);
+    call_linux(LINUX_WRITE, 1, (long)text, end - text);
 }
 
 static void say_number(unsigned long number) {
@@ -238,5 +268,5 @@ void begin(void) {
     say(" bytes at most, and ");
     say_number(taken_of_stack());
     say(" with gef_pm_free\n");
-    for (;;) call_linux(60, 0, 0, 0);
+    for (;;) call_linux(LINUX_EXIT, 0, 0, 0);
 }
