@@ -1,4 +1,5 @@
-# make                      builds what is installed: the library for C (c/build) and the program, both proved first
+# make                      builds what is installed: the library for C (c/build) and the program, both proved first, and the library
+#                           for firmware (packaging/firmware)
 # make install PREFIX=/usr  installs it; DESTDIR=FOLDER puts that below FOLDER
 # make dist                 build/dist/gefsunk-VERSION-x86_64.tar.gz, where .ci/run passed this commit
 # make deb                  the same as a Debian package
@@ -9,6 +10,7 @@ export PREFIX DESTDIR
 
 all:
 	c/build
+	packaging/firmware
 	./pm_trace decode < /dev/null
 
 install:

@@ -120,7 +120,7 @@ typedef struct gef_pm {
 #define GEF_PM_CLOSED { 0, 0 }
 
 /*
- * Makes a multiplier with 1 to 15 device ports and no device, and opens the handle. It takes about 22 KB.
+ * Makes a multiplier with 1 to 15 device ports and no device, and opens the handle. It takes about 34 KB.
  * Can return GEF_OPEN (the handle has a multiplier: free it first), GEF_BAD_PORTS, GEF_NO_MEMORY.
  */
 gef_status gef_pm_new(gef_pm *pm, uint8_t ports);

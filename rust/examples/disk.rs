@@ -1,56 +1,59 @@
 //! A disk at the end of a link, whose sectors lie in a vector: its signature, who it is, a sector that is written and read again, and
 //! one that cannot be read.
 
-use gefsunk::{fis_text, Ask, Disk, Error, Fault, FisRoom, Profile, Work, FIS_ROOM, SECTOR};
+use gefsunk::{
+    fis_text, Asks, Disk, Error, Failure, Fault, FisRoom, Medium, Profile, Reply, Request,
+    FIS_ROOM, SECTOR,
+};
+
+/// Sectors in a row, one of which cannot be read.
+struct Worn {
+    sectors: Vec<u8>,
+    lost: u64,
+}
+
+impl Medium for Worn {
+    fn load(&mut self, request: Request, lba: u64, bytes: &mut [u8]) -> Result<Reply, Failure> {
+        let count = (bytes.len() / SECTOR) as u64;
+        if (lba..lba + count).contains(&self.lost) {
+            return Err(Failure {
+                fault: Fault::Unreadable,
+                lba: self.lost,
+            });
+        }
+        self.sectors.load(request, lba, bytes)
+    }
+
+    fn store(&mut self, request: Request, lba: u64, bytes: &[u8]) -> Result<Reply, Failure> {
+        self.sectors.store(request, lba, bytes)
+    }
+
+    fn flush(&mut self, request: Request) -> Result<Reply, Failure> {
+        self.sectors.flush(request)
+    }
+}
 
 /// The host, the disk and its medium.
 struct Link {
     disk: Disk,
-    medium: Vec<u8>,
-    /// A sector that cannot be read.
-    lost: u64,
+    medium: Worn,
     /// What the host has to write.
     written: [u8; 4 + SECTOR],
 }
 
 impl Link {
-    /// The bytes of some sectors.
-    fn sectors(&mut self, lba: u64, count: u32) -> &mut [u8] {
-        let at = usize::try_from(lba).expect("the disk is small") * SECTOR;
-        &mut self.medium[at..][..count as usize * SECTOR]
-    }
-
-    /// Does what the disk asks for.
-    fn serve(&mut self, ask: Ask) -> Result<(), Error> {
-        println!("{:?}", ask.what);
-        match ask.what {
-            Work::Load { lba, count } if (lba..lba + u64::from(count)).contains(&self.lost) => {
-                self.disk.failed(&ask.request, Fault::Unreadable, self.lost)
-            }
-            Work::Load { lba, count } => {
-                let bytes = self.sectors(lba, count).to_vec();
-                self.disk.loaded(&ask.request, &bytes)
-            }
-            Work::Store { lba, count } => {
-                let mut bytes = vec![0; count as usize * SECTOR];
-                self.disk.stored(&ask.request, 0, &mut bytes)?;
-                self.sectors(lba, count).copy_from_slice(&bytes);
-                self.disk.done(&ask.request)
-            }
-            Work::Flush | Work::Discard => self.disk.done(&ask.request),
-        }
-    }
-
     /// All that the disk asks for is done, and all that it sends goes up. It is asked first: a command starts as it is asked. The
     /// host sends its data as it is asked to.
     fn settle(&mut self) -> Result<(), Error> {
-        let room: &mut FisRoom = &mut [0; FIS_ROOM];
+        let fis: &mut FisRoom = &mut [0; FIS_ROOM];
+        let mut room = Vec::new();
         loop {
             if let Some(ask) = self.disk.next_ask()? {
-                self.serve(ask)?;
+                println!("{:?}", ask.what);
+                self.disk.serve(&ask, &mut self.medium, &mut room)?;
                 continue;
             }
-            match self.disk.next_for_host(room)? {
+            match self.disk.next_for_host(fis)? {
                 Some([0x46, _, _, _, data @ ..]) => {
                     println!("data of {} bytes: {:02x?} ..", data.len(), &data[..4]);
                 }
@@ -78,8 +81,10 @@ fn main() -> Result<(), Error> {
     let profile = Profile::new(64, "ONE");
     let mut link = Link {
         disk: Disk::new(&profile)?,
-        medium: vec![0; 64 * SECTOR],
-        lost: 9,
+        medium: Worn {
+            sectors: vec![0; 64 * SECTOR],
+            lost: 9,
+        },
         written: [0xA5; 4 + SECTOR],
     };
     link.written[..4].copy_from_slice(&[0x46, 0, 0, 0]);
