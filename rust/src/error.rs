@@ -101,6 +101,12 @@ errors! {
     OtherSector = 33,
     /// A request fails by one of three errors. A [`Fault`](crate::Fault) is one of them.
     BadError = 34,
+    /// The bytes are not the state of a machine.
+    NotAState = 35,
+    /// The state has a version that this library does not read.
+    OtherVersion = 36,
+    /// The state is damaged.
+    BadState = 37,
 }
 
 impl Error {

@@ -200,6 +200,9 @@ unsafe extern "C" {
 
     pub(crate) safe fn gef_machine_new(machine: &mut Handle, ports: u8, port_0_open: u32) -> c_int;
     safe fn gef_machine_free(machine: &mut Handle) -> c_int;
+    pub(crate) safe fn gef_machine_state_size(machine: &mut Handle, len: &mut usize) -> c_int;
+    fn gef_machine_save(machine: &mut Handle, bytes: *mut u8, room: usize, len: &mut usize) -> c_int;
+    fn gef_machine_restore(machine: &mut Handle, bytes: *const u8, len: usize) -> c_int;
     pub(crate) safe fn gef_machine_read(machine: &mut Handle, offset: u32, width: u32, value: &mut u64) -> c_int;
     pub(crate) safe fn gef_machine_write(machine: &mut Handle, offset: u32, width: u32, value: u64) -> c_int;
     pub(crate) safe fn gef_machine_put_disk(machine: &mut Handle, port: u8, profile: &DiskProfile<'_>) -> c_int;
@@ -401,6 +404,14 @@ pub(crate) fn disk_from_host(disk: &mut Handle, fis: &[u8]) -> c_int {
 
 pub(crate) fn disk_to_host(disk: &mut Handle, fis: &mut [u8], len: &mut usize) -> c_int {
     unsafe { gef_disk_to_host(disk, fis.as_mut_ptr(), fis.len(), len) }
+}
+
+pub(crate) fn machine_save(machine: &mut Handle, bytes: &mut [u8], len: &mut usize) -> c_int {
+    unsafe { gef_machine_save(machine, bytes.as_mut_ptr(), bytes.len(), len) }
+}
+
+pub(crate) fn machine_restore(machine: &mut Handle, bytes: &[u8]) -> c_int {
+    unsafe { gef_machine_restore(machine, bytes.as_ptr(), bytes.len()) }
 }
 
 pub(crate) fn machine_lent(machine: &mut Handle, bytes: &mut [u8], len: &mut usize) -> c_int {

@@ -118,6 +118,37 @@ impl Machine {
         Ok(Machine { owned })
     }
 
+    /// All that the machine is, as bytes: [`restore`](Machine::restore) makes it again, in another process, too. The guest's memory, the
+    /// media, and each event that was not answered yet are the caller's to save: requests stay out under their numbers.
+    ///
+    /// ```
+    /// let mut machine = gefsunk::Machine::new(15, true)?;
+    /// let state = machine.save()?;
+    /// assert_eq!(gefsunk::Machine::restore(&state)?.save()?, state);
+    /// assert_eq!(gefsunk::Machine::restore(&state[8..]).err(), Some(gefsunk::Error::NotAState));
+    /// # Ok::<(), gefsunk::Error>(())
+    /// ```
+    ///
+    /// # Errors
+    /// [`Error::NoMemory`].
+    pub fn save(&mut self) -> Result<Vec<u8>, Error> {
+        let mut state = vec![0; self.owned.got(ffi::gef_machine_state_size)?];
+        let len: usize = self
+            .owned
+            .got(|machine, len| ffi::machine_save(machine, &mut state, len))?;
+        state.truncate(len);
+        Ok(state)
+    }
+
+    /// The machine whose state these bytes are. Bytes of anybody give a machine that keeps the rules of the library, or are refused.
+    ///
+    /// # Errors
+    /// [`Error::NotAState`], [`Error::OtherVersion`], [`Error::BadState`] and [`Error::NoMemory`].
+    pub fn restore(state: &[u8]) -> Result<Machine, Error> {
+        let owned = Owned::open(|machine| ffi::machine_restore(machine, state))?;
+        Ok(Machine { owned })
+    }
+
     /// What the registers read at an offset, the lowest byte first; those of the port begin at 100h. 0 where no register is, and
     /// for an access that crosses a boundary of eight bytes.
     ///
