@@ -2,3 +2,4 @@ mod FanLemmas
 mod OrderLemmas
 mod ResetLemmas
 mod RenewLemmas
+mod SavedLemmas

@@ -3,3 +3,4 @@ pub mod Straights
 pub mod Fans
 pub mod FanOuts
 pub mod Calls
+pub mod Saved

@@ -5,6 +5,8 @@ ghost use Rattle.pm_control.specs.Requests.{requested};
 ghost use Rattle.multiplier.specs.Rules.{FromHostRule, NextDownRule, NextUpRule};
 ghost use Rattle.fan_out.specs.Fans.{IsFan, OffersFan, PlugsFan, PullsFan, SendsFan, TellsFan, Through, all_joined, controlled, controlled_by, first_begun, heeded, held_in_reset, is_in_reset, joined, joined_again, opening_fan, opening_multiplier, opening_seats, parted, rejoined, renewed, seat_at, wants};
 
+mod saved;
+
 use crate::seat::{NotThere, PlugError, Seat};
 use fis_view::{Fis, Frame, RegH2D};
 use multiplier::{Multiplier, Passed, PmRefusal};

@@ -6,6 +6,8 @@ ghost use Rattle.fan_out.specs.FanOuts.{IsEnd, GivesDownThere, GivesUpThere, Off
 ghost use Rattle.fan_out.specs.Fans.{opening_fan};
 ghost use Rattle.fan_out.specs.Straights.{opening_straight};
 
+mod saved;
+
 use crate::fan::Fan;
 use crate::seat::{NotThere, PlugError};
 use crate::straight::Straight;

@@ -4,6 +4,8 @@ ghost use Rattle.std.specs.Prelude.{◌≡◌, ◌<◌, MatchResult, Err, Some, 
 ghost use Rattle.std.specs.Result.{result_err};
 ghost use Rattle.fan_out.specs.Seats.{after_sent, empty_seat, left, next_connection, plug_refusal, seated, sent_from, told};
 
+mod saved;
+
 use fis_view::{Frame, Stamp};
 use thiserror::Error;
 

@@ -3,6 +3,8 @@
 ghost use Rattle.std.specs.Prelude.{false, ◌≡◌, ◌<◌};
 ghost use Rattle.fan_out.specs.Straights.{GivesDown, GivesUp, IsStraight, OffersStraight, PlugsStraight, PullsStraight, SendsStraight, TellsStraight, addressed, joined, opening_straight, pointed, renewed, wants};
 
+mod saved;
+
 use crate::seat::{NotThere, PlugError, Seat};
 use fis_view::{Frame, Stamp};
 use multiplier::{Passed, PmRefusal};
