@@ -1,8 +1,9 @@
--- What is done at the ports leaves the controller, and what is gathered for it.
+-- What is done at the ports leaves the controller, what is gathered for it, and the frame that it is given.
 use Rattle.std.proofs.Common.{◌≡◌, ℕ, Bool, true, false, List, set, Option, Result, Ok, Err, refl, ap, ◌∙◌}
 use Rattle.std.specs.Prelude.{if◌then◌else◌, MatchResult, IsOk, OnErr, OnOk}
 use Rattle.std.specs.Bool.{MatchBool}
 use Rattle.std.specs.Result.{IsErrOf}
+use Rattle.fis_view.specs.Frames.{Stamped}
 use Rattle.fan_out.specs.declared.seat.NotThere.{NotThere}
 use Rattle.block_engine.specs.declared.request.Answer.{Answer}
 use Rattle.sata_disk.specs.State.{DiskState}
@@ -23,8 +24,8 @@ use Rattle.ahci_machine.specs.declared.ports.PortFault.TheVariants.{NoPort, Take
 use Rattle.ahci_machine.specs.declared.request.MediumId.{MediumId}
 use Rattle.machine_laws.proofs.Cases.{by_bool, by_option}
 
-abbrev pub inner : MachineState → ControllerState × Option Next × List (Option GatheringState)
-inner m = (m.controller, m.kept, m.gathering)
+abbrev pub inner : MachineState → ControllerState × Option Next × List (Option GatheringState) × Option Stamped × Bool
+inner m = (m.controller, m.kept, m.gathering, m.incoming, m.taken)
 
 abbrev pub Beside : MachineState → MachineState → Type 0
 Beside old new = inner new ≡ inner old

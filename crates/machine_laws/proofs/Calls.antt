@@ -108,7 +108,7 @@ moves (act.Sends passed) old new h k l due = quiet old new (ap inner h.rest) k
 moves (act.Wants read) old new h k l due = none old.controller new.controller k (ap (λ (m : MachineState). m.controller) h.rest)
 moves (act.Gathers dev answer) old new h k l due = gathers old new dev answer h k l due
 moves (act.Misses slot answer) old new h k l due = one old.controller new.controller (call.NotThere h.gathering.feed.dev h.gathering.feed.number answer) k l h.misses.misses
-moves act.Rises old new h k l due = quiet old new (ap inner h.rest) k
+moves act.Rises old new h k l due = none old.controller new.controller k (ap (λ (m : MachineState). m.controller) h.rest)
 moves (act.Takes took) old new h k l due = one old.controller new.controller (call.Took h.frame.bytes took) k l (record { framed = h.framed; free = h.free; hears = h.hears })
 moves (act.Loses why) old new h k l due = loses old.incoming why old.controller new.controller k l h.is (ap (λ (m : MachineState). m.controller) h.rest)
 moves (act.Begins n) old new h k l due = quiet old new (ap inner h.rest) k

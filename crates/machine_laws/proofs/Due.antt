@@ -247,6 +247,10 @@ goes_by (fed.Missed message line) g base new h = ap inner h
 gone_due : (old new : MachineState) (place : ℕ) → AllStay old.controller new.controller → new.kept ≡ old.kept → new.gathering ≡ set old.gathering place None → GathersDue old → GathersDue new
 gone_due old new place stays kept gathering = set_due old new place None stays kept gathering tt
 
+-- a frame comes, or is lost
+frame_due : (old new : MachineState) → new.controller ≡ old.controller → new.kept ≡ old.kept → new.gathering ≡ old.gathering → GathersDue old → GathersDue new
+frame_due old new controller kept gathering = stay old new (λ p n. unmoved p n old.controller new.controller controller) (record { kept = kept; gathering = gathering })
+
 -- ---- moves
 
 rests_due : (old new : MachineState) → acts.RestsNow old new → GathersDue old → GathersDue new
@@ -278,10 +282,10 @@ moved_due (act.Gathers dev answer) old new h due =
 moved_due (act.Misses slot answer) old new h due =
     gone_due old new h.place (λ p n. not_there_stays h.gathering.feed.dev h.gathering.feed.number p n old.controller new.controller answer h.misses.misses)
     (ap (λ (m : MachineState). m.kept) h.misses.rest) (ap (λ (m : MachineState). m.gathering) h.misses.rest) due
-moved_due act.Rises old new h due = same_due old new (ap inner h.rest) due
+moved_due act.Rises old new h due = frame_due old new (ap (λ (m : MachineState). m.controller) h.rest) (ap (λ (m : MachineState). m.kept) h.rest) (ap (λ (m : MachineState). m.gathering) h.rest) due
 moved_due (act.Takes took) old new h due =
     stay old new (λ p n. take_stays h.frame.bytes took p n old.controller new.controller h.hears) (record { kept = ap (λ (m : MachineState). m.kept) h.rest; gathering = ap (λ (m : MachineState). m.gathering) h.rest }) due
-moved_due (act.Loses why) old new h due = same_due old new (ap inner h.rest) due
+moved_due (act.Loses why) old new h due = frame_due old new (ap (λ (m : MachineState). m.controller) h.rest) (ap (λ (m : MachineState). m.kept) h.rest) (ap (λ (m : MachineState). m.gathering) h.rest) due
 moved_due (act.Begins n) old new h due = same_due old new (ap inner h.rest) due
 moved_due (act.Falls n) old new h due = same_due old new (ap inner h.rest) due
 moved_due (act.Hears n unheard) old new h due = same_due old new (ap inner h.rest) due

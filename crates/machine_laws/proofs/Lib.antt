@@ -7,3 +7,5 @@ pub mod Beside
 pub mod Due
 pub mod Calls
 pub mod Lawful
+pub mod Framed
+pub mod Held

@@ -3,3 +3,4 @@ pub mod Ports
 pub mod Disks
 pub mod Controllers
 pub mod ControllerLaws
+pub mod Lent

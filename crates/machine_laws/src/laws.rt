@@ -3,6 +3,7 @@
 ghost use Rattle.machine_laws.specs.ControllerLaws.{ControllerHasLaws, LinesAreShown, OpensLawful, RunsAreCalls, TurnsArePlaced, WritesArePlaced};
 ghost use Rattle.machine_laws.specs.Controllers.{ControllerGoesOn, OpensDue, StaysDue};
 ghost use Rattle.machine_laws.specs.Disks.{DisksAreReached, DisksGoOn, DisksHaveLaws, OpensReached};
+ghost use Rattle.machine_laws.specs.Lent.{CarriesTaken, FramesAreHeld, FramesAreLent, OpensHolding};
 ghost use Rattle.machine_laws.specs.Ports.{PortsAreApart};
 
 /// A law for callers; it runs no code. What happens at one port, of a disk, of its medium or of a device of the caller's own, leaves all
@@ -56,5 +57,17 @@ pub fn controller_has_its_laws()
     controller_laws::commands_are_supplied();
     controller_laws::bytes_go_to_their_places();
     controller_laws::line_is_told();
+    controller_laws::writes_are_placed();
+}
+
+/// A law for callers; it runs no code. What the caller is told to write to the guest, a FIS or bytes of its payload, are bytes of the
+/// frame that the controller took last: those that are lent. So it is over every run of a machine in which
+/// [`power_on`](ahci_machine::Machine::power_on) is not called. The bytes of Data that go to their places are of that frame.
+pub fn taken_frames_are_lent()
+    ensures opens { OpensHolding }
+    ensures held { FramesAreHeld }
+    ensures lent { FramesAreLent }
+    ensures carries { CarriesTaken }
+{
     controller_laws::writes_are_placed();
 }

@@ -8,5 +8,5 @@ mod laws;
 
 pub use laws::{
     controller_goes_on, controller_has_its_laws, disks_go_on, disks_have_their_laws,
-    ports_are_apart,
+    ports_are_apart, taken_frames_are_lent,
 };

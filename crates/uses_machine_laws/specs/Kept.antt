@@ -1,6 +1,9 @@
 -- What a caller knows of each of its calls.
-use Rattle.std.specs.Prelude.{◌≡◌, ◌==◌, ℕ, false}
+use Rattle.std.specs.Prelude.{◌≡◌, ◌==◌, ℕ, false, List, [], ◌∷◌}
 use Rattle.ahci_machine.specs.States.{MachineState, bay_at}
+use Rattle.machine_laws.specs.ControllerLaws.{ControllerHasLaws, ControllerRuns, HasLaws, RunsAreCalls, RunsRuled, calls_in}
+use Rattle.machine_laws.specs.Controllers.{GathersDue}
+use Rattle.machine_laws.specs.Deeds.{Deed, Moved, Unlent}
 use Rattle.machine_laws.specs.Disks.{AreReached}
 
 -- each disk goes on to be one that calls of its own led to
@@ -10,3 +13,31 @@ Keeps old new = AreReached old → AreReached new
 -- what is at another port stays
 abbrev pub KeepsOthers : (port : ℕ) → MachineState → MachineState → Type 0
 KeepsOthers port old new = (other : ℕ) → (port == other) ≡ false → bay_at new other ≡ bay_at old other
+
+-- ---- the controller
+
+-- the laws, as `machine_laws` has them
+pub record Laws : Type 0 where
+  pub runs : RunsAreCalls
+  pub have : ControllerHasLaws
+
+-- a run of the machine is one of its controller, which has its laws
+pub record IsLawful (old : MachineState) (deeds : List Deed) (new : MachineState) (run : RunsRuled old deeds new) : Type 0 where
+  pub runs : ControllerRuns old deeds new run
+  pub laws : HasLaws old (calls_in old deeds new run) new runs.calls
+
+-- what was done is such a run, where what the machine gathered before was due
+pub record KeepsLaws (old : MachineState) (deeds : List Deed) (new : MachineState) : Type 0 where
+  pub run : RunsRuled old deeds new
+  pub lawful : GathersDue old → IsLawful old deeds new run
+
+-- the machine's own moves alone
+abbrev pub AreMoves : List Deed → Type 0
+AreMoves [] = Unit {0}
+AreMoves (Moved act ∷ later) = AreMoves later
+AreMoves (deed ∷ later) = ⊥
+
+pub record KeepsMoves (old new : MachineState) : Type 0 where
+  pub deeds : List Deed
+  pub moves : AreMoves deeds
+  pub keeps : KeepsLaws old (Unlent ∷ deeds) new

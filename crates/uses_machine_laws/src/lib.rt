@@ -1,27 +1,43 @@
 //! A caller of a machine that has, after each of its calls, the laws of the disks in it.
 #![tactic(auto)]
 
-ghost use Rattle.std.specs.Prelude.{◌≡◌, ◌≤◌, ℕ, IfOk};
+ghost use Rattle.std.specs.Prelude.{◌≡◌, ◌≤◌, ℕ, Bool, [], ◌∷◌, IfOk, Ok};
 ghost use Rattle.sata_disk.specs.State.{DiskState};
+ghost use Rattle.ahci_controller.specs.declared.next.Next as next_move;
+ghost use Rattle.controller_laws.specs.Interrupts.{line_shown};
 ghost use Rattle.ahci_machine.specs.States.{bay_at};
+ghost use Rattle.ahci_machine.specs.declared.act.Act.TheVariants as act;
 ghost use Rattle.ahci_machine.specs.declared.bay.Unit.TheVariants.{Disk};
+ghost use Rattle.machine_laws.specs.ControllerLaws.{OpensSo, WritesRightly};
+ghost use Rattle.machine_laws.specs.Deeds as deed;
 ghost use Rattle.machine_laws.specs.Disks.{AreReached, HasLaws};
-ghost use Rattle.uses_machine_laws.specs.Kept.{Keeps, KeepsOthers};
+ghost use Rattle.uses_machine_laws.specs.Kept.{Keeps, KeepsLaws, KeepsMoves, KeepsOthers, Laws};
 
 use ahci_controller::{WideWritten, Width};
-use ahci_machine::{Act, Machine, MediumError, MediumId, PortFault, Request, Unit};
+use ahci_machine::{Act, Machine, MediumError, MediumId, PortFault, Request, Told, Unit, Wanted};
 use block_engine::Answer;
 use disk_pages::Profile;
 use fis_view::Frame;
 use sata_disk::SataDisk;
 use std::alloc::{AllocError, Global};
 
-/// A machine with nothing at its ports.
+// The laws of the controller. The call has no effect.
+fn controller_laws()
+    ensures { Laws }
+{
+    machine_laws::controller_has_its_laws();
+}
+
+/// A machine with nothing at its ports. What its controller has to do with devices and with the guest begins.
 pub fn opens(alloc: Global, ports: u8, legacy: bool) -> Result<Machine, AllocError>
-    ensures { IfOk result AreReached }
+    ensures reached { IfOk result AreReached }
+    ensures controller { IfOk result OpensSo }
 {
     machine_laws::disks_have_their_laws();
-    Machine::new(alloc, ports, legacy)
+    machine_laws::controller_has_its_laws();
+    let machine = Machine::new(alloc, ports, legacy)?;
+    machine.keeps_rules();
+    Ok(machine)
 }
 
 /// Puts a new disk at a port.
@@ -64,10 +80,42 @@ pub fn pulls(alloc: Global, machine: &mut Machine, port: u8) -> Result<(), PortF
 /// The guest writes registers.
 #[tactic(auto, using(crate::proofs::Keep::writes_keep))]
 pub fn writes(machine: &mut Machine, offset: u32, width: Width, value: u64) -> WideWritten
-    ensures { Keeps machine.old machine.new }
+    ensures keeps { Keeps machine.old machine.new }
+    ensures controller { KeepsLaws machine.old (deed.Wrote offset width value result ∷ []) machine.new }
 {
     machine_laws::disks_have_their_laws();
-    machine.write(offset, width, value)
+    controller_laws();
+    machine.keeps_rules();
+    let written = machine.write(offset, width, value);
+    machine.keeps_rules();
+    written
+}
+
+/// Bytes of the guest's memory come. Those of a command are what the command of its slot is.
+pub fn supplies(
+    alloc: Global,
+    machine: &mut Machine,
+    wanted: Wanted,
+    bytes: &[u8],
+) -> Result<Told, AllocError>
+    ensures { KeepsLaws machine.old (deed.Supplied wanted bytes.now ∷ []) machine.new }
+{
+    controller_laws();
+    machine.keeps_rules();
+    let told = machine.supply(alloc, wanted, bytes);
+    machine.keeps_rules();
+    told
+}
+
+/// They are no memory.
+pub fn misses(machine: &mut Machine, wanted: Wanted) -> Result<Told, AllocError>
+    ensures { KeepsLaws machine.old (deed.Missed wanted ∷ []) machine.new }
+{
+    controller_laws();
+    machine.keeps_rules();
+    let told = machine.no_memory(wanted);
+    machine.keeps_rules();
+    told
 }
 
 /// A medium answers; what is at the other ports stays.
@@ -89,22 +137,34 @@ pub fn offers(machine: &mut Machine, port: u8, frame: Frame) -> Result<(), Frame
     machine.offer(port, frame)
 }
 
-/// The machine moves.
-#[tactic(auto, using(crate::proofs::Keep::moves_keep))]
+/// The machine moves. What goes to the guest are bytes at the places of their command's table, a FIS or PRDBC, and the line that is told
+/// is the one that the registers show.
 pub fn moves(alloc: Global, machine: &mut Machine) -> Result<Act, AllocError>
-    ensures { Keeps machine.old machine.new }
+    ensures keeps { Keeps machine.old machine.new }
+    ensures controller { IfOk result (λ move. KeepsLaws machine.old (deed.Moved move ∷ []) machine.new) }
+    ensures writes { (write : next_move.Next) → result ≡ Ok (act.Writes write) → WritesRightly machine.old write machine.new }
+    ensures line { (line : Bool) → result ≡ Ok (act.Line line) → line ≡ line_shown machine.new.controller }
 {
     machine_laws::disks_have_their_laws();
-    machine.step(alloc)
+    machine_laws::controller_has_its_laws();
+    controller_laws();
+    machine.keeps_rules();
+    let moved = machine.step(alloc);
+    machine.keeps_rules();
+    moved
 }
 
 /// The machine moves until it asks something.
-#[tactic(auto, using(crate::proofs::Keep::asks_keep))]
 pub fn asks(alloc: Global, machine: &mut Machine) -> Result<Request, AllocError>
-    ensures { Keeps machine.old machine.new }
+    ensures keeps { Keeps machine.old machine.new }
+    ensures controller { KeepsMoves machine.old machine.new }
 {
     machine_laws::disks_have_their_laws();
-    machine.next(alloc)
+    controller_laws();
+    machine.keeps_rules();
+    let asked = machine.next(alloc);
+    machine.keeps_rules();
+    asked
 }
 
 /// The laws of the disk at a port.

@@ -1,6 +1,19 @@
+use Rattle.uses_machine_laws.proofs.Controller.{line, moved, ruled, writes}
 use Rattle.uses_machine_laws.proofs.Keep.{moves_keep}
 use Rattle.uses_machine_laws.proofs.moves.Goals as goal
 
-pub returns : goal.returns
-returns c =
-    moves_keep c.disks_have_their_laws.ensures.reached c.args.machine.now c.step.result c.step.new.self c.step.ensures.ok c.step.ensures.err
+pub returns-clause-keeps : goal.returns-clause-keeps
+returns-clause-keeps c =
+    moves_keep c.disks_have_their_laws.ensures.reached c.args.machine.now c.step-moved.result c.step-moved.new.self c.step-moved.ensures.ok c.step-moved.ensures.err
+
+pub returns-clause-controller : goal.returns-clause-controller
+returns-clause-controller c =
+    moved c.controller_laws.ensures c.args.machine.now c.step-moved.new.self c.step-moved.result
+    (ruled c.args.machine.now c.keeps_rules.ensures.port c.keeps_rules.ensures.slots c.keeps_rules.ensures.rules)
+    (ruled c.step-moved.new.self c.keeps_rules-2.ensures.port c.keeps_rules-2.ensures.slots c.keeps_rules-2.ensures.rules) c.step-moved.ensures.ok
+
+pub returns-clause-writes : goal.returns-clause-writes
+returns-clause-writes c = writes c.controller_has_its_laws.ensures.writes c.args.machine.now c.step-moved.new.self c.step-moved.result c.step-moved.ensures.ok
+
+pub returns-clause-line : goal.returns-clause-line
+returns-clause-line c = line c.controller_has_its_laws.ensures.line c.args.machine.now c.step-moved.new.self c.step-moved.result c.step-moved.ensures.ok
