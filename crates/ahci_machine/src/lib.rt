@@ -22,5 +22,5 @@ pub use answers::{MediumError, Told};
 pub use bay::Unit;
 pub use machine::Machine;
 pub use ports::PortFault;
-pub use state::{STATE_MARK, STATE_VERSION, StateError, states_are_apart};
 pub use request::{GuestRead, MediumId, Request, Wanted};
+pub use state::{STATE_MARK, STATE_VERSION, StateError, states_are_apart};

@@ -103,5 +103,4 @@ impl Machine {
 /// A law for callers; it runs no code. A state is that of one machine: what was saved comes back.
 pub fn states_are_apart()
     ensures { SavedApart }
-{
-}
+{}

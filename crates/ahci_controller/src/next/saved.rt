@@ -9,6 +9,7 @@ use saved_state::{RestoreError, Saved, Words};
 use std::alloc::{AllocError, Global};
 
 type OrderParts = (u8, (u8, [u8; 20]));
+
 type FeedParts = ((u8, u64, u8), (u32, u32));
 
 impl Saved for Next {

@@ -7,6 +7,7 @@ use saved_state::{RestoreError, Saved, SavedList, Words, save_list};
 use std::alloc::{AllocError, Global};
 
 type FeedParts = ((u8, u64, u8), (u32, u32));
+
 type GatheringParts = ((Feed, SavedList<u8>), (u64, Option<u64>));
 
 impl Saved for Feed {

@@ -53,7 +53,10 @@ impl Saved for Lent {
 type Ends = (Controller, FanOut, SavedList<Bay>);
 
 // The frame on its way up and that on its way down, what is next to do, and what is being read.
-type Between = ((Option<Frame>, Option<Frame>), (Option<Next>, [Option<Gathering>; 16]));
+type Between = (
+    (Option<Frame>, Option<Frame>),
+    (Option<Next>, [Option<Gathering>; 16]),
+);
 
 // What is lent; whether the frame is taken, and may be to be written; the line and a message; whose turn it is.
 type Marks = (Lent, (bool, bool), ((bool, bool), (bool, u8)));
