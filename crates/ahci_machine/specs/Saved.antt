@@ -8,9 +8,10 @@ use Rattle.ahci_controller.specs.Saved.{controller_words}
 use Rattle.ahci_controller.specs.SavedNext.{next_words}
 use Rattle.ahci_controller.specs.States.{ControllerState}
 use Rattle.ahci_controller.specs.declared.next.Next.{Next}
-use Rattle.fan_out.specs.Saved.{fan_out_words}
+use Rattle.fan_out.specs.Saved.{KeepsEnd, end_apart, put_end}
 use Rattle.fan_out.specs.declared.fan_out.FanOut.{FanOut}
-use Rattle.sata_disk.specs.Saved.{disk_words}
+use Rattle.sata_disk.specs.Saved.{KeepsDisk, disk_apart, put_disk}
+use Rattle.sata_disk.specs.State.{DiskState}
 use Rattle.ahci_machine.specs.Gathers.{GatheringState}
 use Rattle.ahci_machine.specs.States.{MachineState}
 use Rattle.ahci_machine.specs.declared.bay.Bay.{Bay}
@@ -22,6 +23,12 @@ use Rattle.ahci_machine.specs.declared.machine.Lent.TheVariants as lent
 
 abbrev pub frame_words : Parts Stamped
 frame_words = record { put = put_frame; keeps = KeepsFrame; apart = frame_apart }
+
+abbrev pub fan_out_words : Parts FanOut
+fan_out_words = record { put = put_end; keeps = KeepsEnd; apart = end_apart }
+
+abbrev pub disk_words : Parts DiskState
+disk_words = record { put = put_disk; keeps = KeepsDisk; apart = disk_apart }
 
 -- ---- bytes of a Data FIS that are being read
 
