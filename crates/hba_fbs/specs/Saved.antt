@@ -1,5 +1,5 @@
 -- A host port that holds no memory, as words, and what is tested of one that is restored.
-use Rattle.std.specs.Prelude.{◌≡◌, ℕ, ◌^◌, ◌<◌, Bool, true, false, not, ◌&&◌, ◌||◌, nat_lt, List, length, Option, is_none, is_some}
+use Rattle.std.specs.Prelude.{◌≡◌, ℕ, Bool, not, ◌&&◌, ◌||◌, nat_lt, List, length, Option, is_none, is_some}
 use Rattle.std.specs.List.{AllByRecursion}
 use Rattle.std.proofs.Common.{ap, sym, ◌∙◌}
 use Rattle.saved_state.specs.State.{IsToldApart, KeepsOption, all_apart, number_apart, option_apart, pair_apart, parts_apart, put_all, put_bool, put_number, put_option, put_pair, put_three, three_apart, bool_apart}

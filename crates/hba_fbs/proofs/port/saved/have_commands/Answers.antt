@@ -1,4 +1,4 @@
-use Rattle.std.proofs.Common.{ℕ, Option, below_more, arith, sym, ap, ◌∙◌}
+use Rattle.std.proofs.Common.{ℕ, Option, below_more, arith, sym, ap}
 use Rattle.std.specs.Option.{is_none}
 use Rattle.hba_fbs.specs.Saved.{lacks_command}
 use Rattle.slots.proofs.Door.{lowest_found, lowest_none}
