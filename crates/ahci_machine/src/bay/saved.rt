@@ -54,12 +54,17 @@ impl Saved for Bay {
 
     fn restore(alloc: Global, words: &mut Words) -> Result<Bay, RestoreError> {
         match <BayParts>::restore(alloc, words) {
-            Ok(((unit, disk), (down, told))) => Ok(Bay {
-                unit,
-                disk,
-                down,
-                told,
-            }),
+            Ok(parts) => {
+                let (place, given) = parts;
+                let (unit, disk) = place;
+                let (down, told) = given;
+                Ok(Bay {
+                    unit,
+                    disk,
+                    down,
+                    told,
+                })
+            }
             Err(error) => Err(error),
         }
     }

@@ -50,12 +50,17 @@ impl Saved for Gathering {
 
     fn restore(alloc: Global, words: &mut Words) -> Result<Gathering, RestoreError> {
         match <GatheringParts>::restore(alloc, words) {
-            Ok(((feed, bytes), (done, asked))) => Ok(Gathering {
-                feed,
-                bytes: bytes.into_vec(),
-                done: done as usize,
-                asked: asked.map(|len| len as usize),
-            }),
+            Ok(parts) => {
+                let (whole, rest) = parts;
+                let (feed, bytes) = whole;
+                let (done, asked) = rest;
+                Ok(Gathering {
+                    feed,
+                    bytes: bytes.into_vec(),
+                    done: done as usize,
+                    asked: asked.map(|len| len as usize),
+                })
+            }
             Err(error) => Err(error),
         }
     }

@@ -98,12 +98,15 @@ impl Saved for Machine {
     }
 
     fn restore(alloc: Global, words: &mut Words) -> Result<Machine, RestoreError> {
-        let (ends, between, marks) = match <(Ends, Between, Marks)>::restore(alloc, words) {
+        let parts = match <(Ends, Between, Marks)>::restore(alloc, words) {
             Ok(parts) => parts,
             Err(error) => return Err(error),
         };
+        let (ends, between, marks) = parts;
         let (controller, fan, bays) = ends;
-        let ((incoming, outgoing), (kept, gathering)) = between;
+        let (frames, doing) = between;
+        let (incoming, outgoing) = frames;
+        let (kept, gathering) = doing;
         let (lent, (taken, writing), ((told, message), (first, turn))) = marks;
         Ok(Machine {
             controller,
