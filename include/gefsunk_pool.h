@@ -26,7 +26,7 @@ void gef_pool_set(void *memory, size_t bytes);
 size_t gef_pool_left(void);
 size_t gef_pool_least(void);
 
-/* The heap itself. A block lies at a multiple of 16 bytes. */
+/* The heap itself, which the firmware may use, too. A block lies at a multiple of 16 bytes. */
 void *gef_pool_malloc(size_t bytes);
 void *gef_pool_realloc(void *block, size_t bytes);
 void gef_pool_free(void *block);

@@ -224,24 +224,24 @@ unsafe extern "C" {
     fn gef_machine_offer(machine: &mut Handle, port: u8, fis: *const u8, len: usize) -> c_int;
 }
 
+type Free = extern "C" fn(&mut Handle) -> c_int;
+type Loaded = unsafe extern "C" fn(&mut Handle, &Request, *const u8, usize) -> c_int;
+type Done = extern "C" fn(&mut Handle, &Request) -> c_int;
+type Failed = extern "C" fn(&mut Handle, &Request, u32, u64) -> c_int;
+type Stored =
+    unsafe extern "C" fn(&mut Handle, &Request, usize, *mut u8, usize, &mut usize) -> c_int;
+
 /// What a handle has behind it.
 pub(crate) trait Kind {
-    const FREE: extern "C" fn(&mut Handle) -> c_int;
+    const FREE: Free;
 }
 
 /// Of those that ask media: how their requests are answered.
 pub(crate) trait AskingKind: Kind {
-    const LOADED: unsafe extern "C" fn(&mut Handle, &Request, *const u8, usize) -> c_int;
-    const DONE: extern "C" fn(&mut Handle, &Request) -> c_int;
-    const FAILED: extern "C" fn(&mut Handle, &Request, u32, u64) -> c_int;
-    const STORED: unsafe extern "C" fn(
-        &mut Handle,
-        &Request,
-        usize,
-        *mut u8,
-        usize,
-        &mut usize,
-    ) -> c_int;
+    const LOADED: Loaded;
+    const DONE: Done;
+    const FAILED: Failed;
+    const STORED: Stored;
 }
 
 /// A port multiplier.
@@ -252,34 +252,30 @@ pub(crate) struct Disk;
 pub(crate) struct Machine;
 
 impl Kind for Pm {
-    const FREE: extern "C" fn(&mut Handle) -> c_int = gef_pm_free;
+    const FREE: Free = gef_pm_free;
 }
 
-macro_rules! asking {
-    ($kind:ty: $free:ident, $loaded:ident, $done:ident, $failed:ident, $stored:ident) => {
-        impl Kind for $kind {
-            const FREE: extern "C" fn(&mut Handle) -> c_int = $free;
-        }
-
-        impl AskingKind for $kind {
-            const LOADED: unsafe extern "C" fn(&mut Handle, &Request, *const u8, usize) -> c_int =
-                $loaded;
-            const DONE: extern "C" fn(&mut Handle, &Request) -> c_int = $done;
-            const FAILED: extern "C" fn(&mut Handle, &Request, u32, u64) -> c_int = $failed;
-            const STORED: unsafe extern "C" fn(
-                &mut Handle,
-                &Request,
-                usize,
-                *mut u8,
-                usize,
-                &mut usize,
-            ) -> c_int = $stored;
-        }
-    };
+impl Kind for Disk {
+    const FREE: Free = gef_disk_free;
 }
 
-asking!(Disk: gef_disk_free, gef_disk_answer_loaded, gef_disk_answer_done, gef_disk_answer_failed, gef_disk_stored);
-asking!(Machine: gef_machine_free, gef_machine_answer_loaded, gef_machine_answer_done, gef_machine_answer_failed, gef_machine_stored);
+impl AskingKind for Disk {
+    const LOADED: Loaded = gef_disk_answer_loaded;
+    const DONE: Done = gef_disk_answer_done;
+    const FAILED: Failed = gef_disk_answer_failed;
+    const STORED: Stored = gef_disk_stored;
+}
+
+impl Kind for Machine {
+    const FREE: Free = gef_machine_free;
+}
+
+impl AskingKind for Machine {
+    const LOADED: Loaded = gef_machine_answer_loaded;
+    const DONE: Done = gef_machine_answer_done;
+    const FAILED: Failed = gef_machine_answer_failed;
+    const STORED: Stored = gef_machine_stored;
+}
 
 /// A handle that is open, and its one copy. It is freed once, as it is dropped.
 pub(crate) struct Owned<K: Kind> {

@@ -3,7 +3,7 @@
 use crate::profile::SECTOR;
 use crate::{ffi, Error};
 
-/// Which request an answer is for.
+/// Which request an answer is for. It may go to another thread, and come back with the answer.
 #[derive(Debug, Clone, Copy, PartialEq, Eq, Hash)]
 pub struct Request(pub(crate) ffi::Request);
 
@@ -138,7 +138,8 @@ pub enum Answer<'bytes> {
 ///
 /// Where memory was refused a call may be made once more with the same request.
 ///
-/// A `Vec<u8>` is a medium: its sectors lie in it one behind another.
+/// A `Vec<u8>` is a medium: its sectors lie in it one behind another. So are a `&mut` of a medium and a `Box<dyn Medium>`, for media of
+/// several kinds.
 pub trait Medium {
     /// Fills the bytes, which are zeroes, with the sectors from this one on.
     ///

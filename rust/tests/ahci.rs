@@ -1,6 +1,8 @@
 //! The guest's memory of a machine that serves itself: what is there, and what is not.
 
-use gefsunk::{Ahci, Error, GuestMemory, NoMemory, Notice, Profile, Width, SECTOR};
+use gefsunk::{
+    Ahci, Error, GuestMemory, Medium, NoMemory, Notice, Profile, Request, Width, SECTOR,
+};
 
 /// A disk straight behind a controller whose guest has this memory; the received area is put at an address, and filled.
 fn started<G: GuestMemory>(memory: G, area: u64) -> Result<Ahci<G, Vec<u8>>, Error> {
@@ -77,5 +79,24 @@ fn the_line_and_the_medium() -> Result<(), Error> {
     assert_eq!(medium.map(|sectors| sectors.len()), Some(64 * SECTOR));
     assert_eq!(ahci.remove(0), Err(Error::NotThere));
     assert!(ahci.medium_mut(0).is_none() && ahci.medium_mut(99).is_none());
+    Ok(())
+}
+
+#[test]
+fn media_of_several_kinds_and_threads() -> Result<(), Error> {
+    fn may_go_to_a_thread<T: Send>(_: &T) {}
+    fn may_be_shared_by_threads<T: Send + Sync>() {}
+    may_be_shared_by_threads::<Request>();
+    let mut lent = vec![0; 64 * SECTOR];
+    {
+        let mut ahci: Ahci<Vec<u8>, Box<dyn Medium + Send + '_>> =
+            Ahci::new(2, true, vec![0; 0x1000])?;
+        ahci.put_disk(0, &Profile::new(64, "ONE"), Box::new(vec![0; 64 * SECTOR]))?;
+        ahci.put_disk(1, &Profile::new(64, "TWO"), Box::new(&mut lent))?;
+        let again = ahci.put_disk(1, &Profile::new(64, "TWO"), Box::new(Vec::new()));
+        assert_eq!(again, Err(Error::AlreadyThere));
+        may_go_to_a_thread(&ahci);
+    }
+    lent[0] = 1;
     Ok(())
 }

@@ -1,5 +1,8 @@
 //! What a medium may answer, and when: a disk by FISes, whose medium says what the test has it say.
 
+use std::sync::mpsc::{channel, Sender};
+use std::thread;
+
 use gefsunk::{
     Answer, Asks, Disk, Error, Failure, Fault, Medium, Profile, Reply, Request, SectorRange,
     FIS_ROOM, SECTOR,
@@ -184,4 +187,67 @@ fn a_failure_that_does_not_fit() {
     };
     assert_eq!(link.disk.answer(&request, Answer::Failed(fits)), Ok(()));
     assert_eq!(link.settle(), Ok(vec![0x34, 0x51, 0x04]));
+}
+
+/// A medium whose loads are done by another thread.
+struct Elsewhere(Sender<(Request, u64, usize)>);
+
+impl Medium for Elsewhere {
+    fn load(&mut self, request: Request, lba: u64, bytes: &mut [u8]) -> Result<Reply, Failure> {
+        let sent = self.0.send((request, lba, bytes.len()));
+        sent.map(|()| Reply::Later).map_err(|_| Failure {
+            fault: Fault::Aborted,
+            lba,
+        })
+    }
+
+    fn store(&mut self, _: Request, lba: u64, _: &[u8]) -> Result<Reply, Failure> {
+        let fault = Fault::Aborted;
+        Err(Failure { fault, lba })
+    }
+
+    fn flush(&mut self, _: Request) -> Result<Reply, Failure> {
+        Ok(Reply::Done)
+    }
+}
+
+#[test]
+fn a_medium_in_another_thread() -> Result<(), Error> {
+    let (ask, asked) = channel();
+    let (answer, answered) = channel();
+    let worker = thread::spawn(move || {
+        for (request, lba, len) in asked {
+            let bytes = vec![lba as u8; len];
+            answer.send((request, bytes)).expect("the host waits");
+        }
+    });
+    let mut disk = Disk::new(&Profile::new(64, "ONE"))?;
+    disk.plug()?;
+    let (mut medium, mut room, mut fis) = (Elsewhere(ask), Vec::new(), [0; FIS_ROOM]);
+    assert!(disk.next_for_host(&mut fis)?.is_some());
+    // Two queued reads, in tags 0 and 1.
+    for tag in [0, 1] {
+        let mut read = [0; 20];
+        read[..8].copy_from_slice(&[0x27, 0x80, 0x60, 1, 5 + tag, 0, 0, 0x40]);
+        read[12] = tag << 3;
+        disk.host_sends(&read)?;
+        while disk.next_for_host(&mut fis)?.is_some() {}
+    }
+    let mut loaded = Vec::new();
+    while loaded.len() < 2 {
+        while let Some(ask) = disk.next_ask()? {
+            disk.serve(&ask, &mut medium, &mut room)?;
+        }
+        if let Some(fis) = disk.next_for_host(&mut fis)? {
+            loaded.extend(fis.starts_with(&[0x46]).then(|| fis[4]));
+            continue;
+        }
+        let (request, bytes) = answered.recv().expect("the worker answers");
+        disk.answer(&request, Answer::Loaded(&bytes))?;
+    }
+    loaded.sort_unstable();
+    assert_eq!(loaded, [5, 6]);
+    drop(medium);
+    worker.join().expect("the worker ends");
+    Ok(())
 }
