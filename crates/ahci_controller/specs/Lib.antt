@@ -19,3 +19,6 @@ pub mod Taking
 pub mod Next
 pub mod Feeding
 pub mod Fairness
+pub mod Saved
+pub mod Tested
+pub mod SavedController
