@@ -13,3 +13,4 @@ mod OfferLemmas
 mod SendLemmas
 pub mod Door
 mod ReasonLemmas
+mod SavedLemmas

@@ -22,3 +22,4 @@ pub mod Greeting
 pub mod Reasons
 pub mod Resets
 pub mod Between
+pub mod Saved

@@ -12,6 +12,8 @@ ghost use Rattle.hba_fbs.specs.Writing.{apart_refusal as apart_refusal_of, error
 ghost use Rattle.hba_fbs.specs.Reading.{read_at, shown_device as shown_device_of, value_of};
 ghost use Rattle.hba_fbs.specs.Views.{Flushes, IsCorePort, LeavesOtherViews, opening_port, stopped_view, view_of};
 
+mod saved;
+
 use crate::bits::{DEC, UNKNOWN, bit, has_bit, raised};
 use crate::error::{NoRegister, WriteError};
 use crate::issue::{aimed, any_bad, any_beside, any_busy, any_other, issue_all};

@@ -5,6 +5,8 @@ ghost use Rattle.slots.specs.Slots.{has_bit as has_bit_of};
 ghost use Rattle.hba_fbs.specs.Bits.{fre as fre_bit, st as st_bit};
 ghost use Rattle.hba_fbs.specs.Registers.{AreOwn, cmd_of, cmd_refusal_by, falls as falls_of, fbs_of, opening_registers, own_refusal_by, running_if as running_if_of, stopped_if_ones as stopped_if_ones_of, written as written_of};
 
+mod saved;
+
 use crate::bits::{
     ADO, CR, DEV, EN, FBSCP, FR, FRE, PMA, ST, UNKNOWN, bit, clearable, cleared, has_bit,
 };

@@ -3,6 +3,8 @@
 ghost use Rattle.std.specs.Prelude.{◌≡◌, ◌<◌, ℕ};
 ghost use Rattle.hba_fbs.specs.Views.{opening_state, state_at, stopped_state, task_file};
 
+mod saved;
+
 use crate::status::Block;
 
 /// The Status of a ready device: DRDY, and bit 4, which older standards call seek complete.
@@ -24,6 +26,14 @@ pub struct DeviceState {
     pub block: Option<Block>,
     /// The signature of an ATA device came from it, since the port was opened or the device was flushed.
     pub signed: bool,
+}
+
+impl Default for DeviceState {
+    ghost is_default = { λ state. state ≡ opening_state };
+
+    fn default() -> Self {
+        DeviceState::new()
+    }
 }
 
 impl DeviceState {

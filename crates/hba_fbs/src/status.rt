@@ -3,6 +3,8 @@
 ghost use Rattle.std.specs.Prelude.{◌≡◌};
 ghost use Rattle.hba_fbs.specs.Status.{after_reset as after_reset_of, is_busy as is_busy_status, is_error as is_error_status, is_quiet as is_quiet_status, signed_by as signed_by_of, wants_data as wants_data_status, with_bits as with_bits_of, with_block as with_block_of, with_file as with_file_of, with_status as with_status_of};
 
+mod saved;
+
 use crate::bits::has_bit;
 use crate::state::DeviceState;
 
