@@ -141,9 +141,9 @@ ruled_then c has offered e =
       stopped = stopped_then c most.1;
       counted = record {
         slots = λ slot. counted_then c.wants.slots c.wants.count 32 slot has.slots
-        (λ i low. leb-true _ _ (and_parts (is_free_at c i) (leb (get_or c.wants.slots i 0) c.wants.count) (below_gives (is_slot_ruled c) 32 i both.0 low)).1);
+            (λ i low. leb-true _ _ (and_parts (is_free_at c i) (leb (get_or c.wants.slots i 0) c.wants.count) (below_gives (is_slot_ruled c) 32 i both.0 low)).1);
         devices = λ dev. counted_then c.wants.devices c.wants.count 16 dev has.devices
-        (λ i low. leb-true _ _ (below_gives (is_device_ruled c) 16 i both.1 low));
+            (λ i low. leb-true _ _ (below_gives (is_device_ruled c) 16 i both.1 low));
         most = let few = has.count in omega (arith, few);
       };
       carried = carried_then c c.writes.payload all.1;

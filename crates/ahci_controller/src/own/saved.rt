@@ -26,6 +26,7 @@ impl Saved for Base {
 }
 
 type Bases = ((Base, Base), (Base, Base));
+
 type Parts = (Bases, (bool, bool, bool), (u8, u16, u32));
 
 impl Saved for OwnRegisters {

@@ -14,7 +14,9 @@ use saved_state::{RestoreError, Saved, Words};
 use std::alloc::{AllocError, Global};
 
 type Core = (PortCore, Latch, LinkControl);
+
 type Wanted = (OwnRegisters, Wants, [Option<Fetch>; 32]);
+
 type Moving = (([Option<Command>; 32], Writes), (Circle, [u32; 16]));
 
 impl Saved for Parts {

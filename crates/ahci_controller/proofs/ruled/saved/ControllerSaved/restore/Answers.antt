@@ -22,6 +22,9 @@ invariant_of-result c = ruled_then c.in-Ok.parts (places_of c.in-Ok.parts c.in-O
 pub returns : goal.returns
 returns c = (
   c.in-Ok.ensures.0,
-  (c.in-Ok.ensures.1, ruled_then c.in-Ok.parts (places_of c.in-Ok.parts c.in-Ok.ensures.1) (c.if-not-are_offered.ensures.yes refl)
-  (sym c.if-not-is_ruled.ensures)),
+  (
+    c.in-Ok.ensures.1,
+    ruled_then c.in-Ok.parts (places_of c.in-Ok.parts c.in-Ok.ensures.1) (c.if-not-are_offered.ensures.yes refl)
+        (sym c.if-not-is_ruled.ensures),
+  ),
 )
