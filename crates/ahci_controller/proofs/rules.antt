@@ -8,3 +8,5 @@ pub mod TurnLemmas
 pub mod TakeLemmas
 pub mod WriteLemmas
 pub mod OpenLemmas
+pub mod TestedLemmas
+pub mod SavedLemmas

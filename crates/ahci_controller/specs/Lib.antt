@@ -20,3 +20,6 @@ pub mod Next
 pub mod Feeding
 pub mod Fairness
 pub mod SavedNext
+pub mod Saved
+pub mod Tested
+pub mod SavedController

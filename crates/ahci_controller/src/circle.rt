@@ -4,6 +4,8 @@ ghost use Rattle.std.specs.Prelude.{◌≡◌, ◌<◌, true, IfSome};
 ghost use Rattle.slots.specs.Slots.{has_bit as has_bit_of};
 ghost use Rattle.ahci_controller.specs.Circle.{device_after as device_after_of, is_behind, opening_circle, slot_after as slot_after_of};
 
+mod saved;
+
 use crate::bits::has_bit;
 
 /// Who had a turn last. The next one is the first behind it, in a circle, that may have one.

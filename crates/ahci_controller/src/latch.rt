@@ -6,6 +6,8 @@ ghost use Rattle.ahci_registers.specs.Lines.{LineEvent, is_due, pends};
 ghost use Rattle.ahci_registers.specs.Link.{action_of, causes_of, effect_of, written as written_of};
 ghost use Rattle.ahci_controller.specs.Latch.{edge_between, is_shown, latched, opening_latch, over as over_of, raised as raised_by, told as told_of};
 
+mod saved;
+
 use crate::bits::has_bit;
 use ahci_registers::{GlobalWrite, Lines, LinkControl, LinkWrite, PortInterrupts};
 

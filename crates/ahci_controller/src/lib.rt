@@ -22,6 +22,7 @@ mod parts;
 mod reading;
 mod ruled;
 mod taking;
+mod tested;
 mod wants;
 mod wide;
 mod writing;

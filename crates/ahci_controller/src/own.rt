@@ -3,6 +3,8 @@
 ghost use Rattle.std.specs.Prelude.{◌≡◌, ◌+◌, ◌≤◌, ◌^◌};
 ghost use Rattle.ahci_controller.specs.Own.{area_of, cmd_shown, commanded, engine_of, falls as falls_of, is_failed as is_failed_of, is_ready as is_ready_of, latched, list_of, opening_own, own_area, own_list, receives_now, reset_own};
 
+mod saved;
+
 use crate::bits::{FRE, PMA, ST, bits_if, has_bit};
 use hba_fbs::Registers;
 

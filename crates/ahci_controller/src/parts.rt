@@ -7,6 +7,8 @@ ghost use Rattle.hba_fbs.specs.Views.{IsCorePort};
 ghost use Rattle.ahci_controller.specs.Opening.{IsOpening};
 ghost use Rattle.ahci_controller.specs.Wants.{dropped};
 
+mod saved;
+
 use crate::circle::Circle;
 use crate::latch::Latch;
 use crate::own::OwnRegisters;

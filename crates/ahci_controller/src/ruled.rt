@@ -15,6 +15,8 @@ ghost use Rattle.ahci_controller.specs.Rules.{IsRuled};
 ghost use Rattle.ahci_controller.specs.Taking.{Hears, hindrance as hindrance_of};
 ghost use Rattle.ahci_controller.specs.Wide.{WritesAt, WritesWide, read_wide};
 
+mod saved;
+
 use crate::access::Width;
 use crate::feeding::Fed;
 use crate::issuing::Supply;

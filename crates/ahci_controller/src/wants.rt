@@ -3,6 +3,8 @@
 ghost use Rattle.std.specs.Prelude.{◌≡◌};
 ghost use Rattle.ahci_controller.specs.Outbox.{no_writes, opening_wants, without_wants};
 
+mod saved;
+
 use guest_fetch::Move;
 
 /// What is wanted of the guest.

@@ -4,7 +4,7 @@ use Rattle.std.proofs.Common.{ap}
 use Rattle.saved_state.specs.Parts.{Parts, array, both, each, flag, maybe, number, seen_as, three}
 use Rattle.fis_view.specs.Frames.{Stamped}
 use Rattle.fis_view.specs.Saved.{KeepsFrame, frame_apart, put_frame}
-use Rattle.ahci_controller.specs.Saved.{controller_words}
+use Rattle.ahci_controller.specs.SavedController.{controller_words}
 use Rattle.ahci_controller.specs.SavedNext.{next_words}
 use Rattle.ahci_controller.specs.States.{ControllerState}
 use Rattle.ahci_controller.specs.declared.next.Next.{Next}
