@@ -1,7 +1,7 @@
 -- What a port that is stopped takes: a Register FIS, by which a device says that it is there; and what hangs at the port before
 -- that (AHCI 1.3.1, 3.3.7 PxCMD.FRE, 3.3.8 PxTFD, 3.3.9 PxSIG, 5.3, the states of a port that does not run, and 10.1.2).
-use Rattle.std.specs.Prelude.{ℕ, ◌≡◌, ◌<◌, ◌==◌, ◌||◌, Bool, true, false, not, if◌then◌else◌, List, Option, Some, None}
-use Rattle.std.specs.Prelude.{Result, Ok}
+use Rattle.std.specs.Prelude.{ℕ, ◌≡◌, ◌<◌, ◌==◌, ◌&&◌, ◌||◌, Bool, true, false, not, if◌then◌else◌, List, Option, Some, None}
+use Rattle.std.specs.Prelude.{Result, Ok, MatchOption}
 use Rattle.fis_view.specs.Table as table
 use Rattle.fis_view.specs.Table.{field}
 use Rattle.fis_view.specs.declared.view.Fis.{Fis}
