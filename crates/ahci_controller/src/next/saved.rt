@@ -75,10 +75,15 @@ impl Saved for Next {
                 })),
                 Err(error) => Err(error),
             },
-            5 => match <OrderParts>::restore(alloc, words) {
-                Ok((dev, (slot, fis))) => Ok(Next::Order { dev, slot, fis }),
-                Err(error) => Err(error),
-            },
+            5 => {
+                let parts = match <OrderParts>::restore(alloc, words) {
+                    Ok(parts) => parts,
+                    Err(error) => return Err(error),
+                };
+                let (dev, rest) = parts;
+                let (slot, fis) = rest;
+                Ok(Next::Order { dev, slot, fis })
+            }
             6 => match <FeedParts>::restore(alloc, words) {
                 Ok(((dev, number, slot), (offset, len))) => Ok(Next::Feed {
                     dev,

@@ -43,7 +43,13 @@ impl Saved for Lent {
                 }),
                 Err(error) => Err(error),
             },
-            2 => Ok(Lent::Count(<[u8; 4]>::restore(alloc, words)?)),
+            2 => {
+                let bytes = match <[u8; 4]>::restore(alloc, words) {
+                    Ok(bytes) => bytes,
+                    Err(error) => return Err(error),
+                };
+                Ok(Lent::Count(bytes))
+            }
             _ => Err(RestoreError::NoSuch),
         }
     }
