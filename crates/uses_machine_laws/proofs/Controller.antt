@@ -1,5 +1,5 @@
 -- What each call is to the controller.
-use Rattle.std.proofs.Common.{◌≡◌, ℕ, zero, suc, Bool, List, [], ◌∷◌, ◌++◌, Result, Ok, Err, refl, sym, subst, inl, inr}
+use Rattle.std.proofs.Common.{◌≡◌, ℕ, zero, suc, Bool, List, [], ◌∷◌, ◌++◌, Option, Result, Ok, Err, refl, sym, subst, inl, inr}
 use Rattle.std.specs.Prelude.{IfOk, OnErr}
 use Rattle.std.specs.declared.alloc.AllocError.{AllocError}
 use Rattle.slots.specs.Table.{IsTable}
@@ -13,6 +13,8 @@ use Rattle.ahci_machine.specs.declared.act.Act.{Act}
 use Rattle.ahci_machine.specs.declared.act.Act.TheVariants as act
 use Rattle.ahci_machine.specs.declared.request.Request.{Request}
 use Rattle.machine_laws.specs.ControllerLaws.{ControllerRuns, LinesAreShown, RunsRuled, WritesArePlaced, WritesRightly}
+use Rattle.machine_laws.specs.Lent.{FramesAreLent, HoldsFrame, Lends}
+use Rattle.ahci_machine.specs.Registers.{lent_bytes}
 use Rattle.machine_laws.specs.Deeds.{Deed, Does, Moved, Unlent}
 use Rattle.uses_machine_laws.specs.Kept.{AreMoves, KeepsLaws, KeepsMoves, Laws}
 
@@ -25,6 +27,7 @@ lawful laws old deeds new run = record {
   lawful = λ due.
       let runs : ControllerRuns old deeds new run = laws.runs old deeds new run due in
       record { runs = runs; laws = laws.have old deeds new run runs };
+  held = λ on last holds. laws.held old deeds new run on last holds;
 }
 
 -- one call is a run
@@ -37,6 +40,9 @@ moved laws old new (Err e) rules rules_new step = tt
 
 pub writes : WritesArePlaced → (old new : MachineState) (told : Result Act AllocError) → IfOk told (λ a. Steps old a new) → (write : Next) → told ≡ Ok (act.Writes write) → WritesRightly old write new
 writes law old new told step write is = law old write new (subst (λ (r : Result Act AllocError). IfOk r (λ a. Steps old a new)) is step)
+
+pub lent : FramesAreLent → (old new : MachineState) (told : Result Act AllocError) → IfOk told (λ a. Steps old a new) → (write : Next) → told ≡ Ok (act.Writes write) → (last : Option (List ℕ)) → HoldsFrame old last → Lends write last (lent_bytes new)
+lent law old new told step write is last holds = law old write new (subst (λ (r : Result Act AllocError). IfOk r (λ a. Steps old a new)) is step) last holds
 
 pub line : LinesAreShown → (old new : MachineState) (told : Result Act AllocError) → IfOk told (λ a. Steps old a new) → (l : Bool) → told ≡ Ok (act.Line l) → l ≡ line_shown new.controller
 line law old new told step l is = law old l new (subst (λ (r : Result Act AllocError). IfOk r (λ a. Steps old a new)) is step)

@@ -1,10 +1,11 @@
 -- What a caller knows of each of its calls.
-use Rattle.std.specs.Prelude.{◌≡◌, ◌==◌, ℕ, false, List, [], ◌∷◌}
+use Rattle.std.specs.Prelude.{◌≡◌, ◌==◌, ℕ, false, List, [], ◌∷◌, Option}
 use Rattle.ahci_machine.specs.States.{MachineState, bay_at}
 use Rattle.machine_laws.specs.ControllerLaws.{ControllerHasLaws, ControllerRuns, HasLaws, RunsAreCalls, RunsRuled, calls_in}
 use Rattle.machine_laws.specs.Controllers.{GathersDue}
 use Rattle.machine_laws.specs.Deeds.{Deed, Moved, Unlent}
 use Rattle.machine_laws.specs.Disks.{AreReached}
+use Rattle.machine_laws.specs.Lent.{FramesAreHeld, HoldsFrame, IsUnpowered, last_taken}
 
 -- each disk goes on to be one that calls of its own led to
 abbrev pub Keeps : MachineState → MachineState → Type 0
@@ -20,6 +21,7 @@ KeepsOthers port old new = (other : ℕ) → (port == other) ≡ false → bay_a
 pub record Laws : Type 0 where
   pub runs : RunsAreCalls
   pub have : ControllerHasLaws
+  pub held : FramesAreHeld
 
 -- a run of the machine is one of its controller, which has its laws
 pub record IsLawful (old : MachineState) (deeds : List Deed) (new : MachineState) (run : RunsRuled old deeds new) : Type 0 where
@@ -30,6 +32,8 @@ pub record IsLawful (old : MachineState) (deeds : List Deed) (new : MachineState
 pub record KeepsLaws (old : MachineState) (deeds : List Deed) (new : MachineState) : Type 0 where
   pub run : RunsRuled old deeds new
   pub lawful : GathersDue old → IsLawful old deeds new run
+  -- the machine goes on to have the frame of which something is to be written to the guest, where power does not come behind it
+  pub held : IsUnpowered deeds → (last : Option (List ℕ)) → HoldsFrame old last → HoldsFrame new (last_taken last (calls_in old deeds new run))
 
 -- the machine's own moves alone
 abbrev pub AreMoves : List Deed → Type 0

@@ -1,7 +1,8 @@
 //! A caller of a machine that has, after each of its calls, the laws of the disks in it.
 #![tactic(auto)]
 
-ghost use Rattle.std.specs.Prelude.{◌≡◌, ◌≤◌, ℕ, Bool, [], ◌∷◌, IfOk, Ok};
+ghost use Rattle.std.specs.Prelude.{◌≡◌, ◌≤◌, ℕ, Bool, List, [], ◌∷◌, Option, None, IfOk, Ok};
+ghost use Rattle.ahci_machine.specs.Registers.{lent_bytes};
 ghost use Rattle.sata_disk.specs.State.{DiskState};
 ghost use Rattle.ahci_controller.specs.declared.next.Next as next_move;
 ghost use Rattle.controller_laws.specs.Interrupts.{line_shown};
@@ -11,6 +12,7 @@ ghost use Rattle.ahci_machine.specs.declared.bay.Unit.TheVariants.{Disk};
 ghost use Rattle.machine_laws.specs.ControllerLaws.{OpensSo, WritesRightly};
 ghost use Rattle.machine_laws.specs.Deeds as deed;
 ghost use Rattle.machine_laws.specs.Disks.{AreReached, HasLaws};
+ghost use Rattle.machine_laws.specs.Lent.{HoldsFrame, Lends};
 ghost use Rattle.uses_machine_laws.specs.Kept.{Keeps, KeepsLaws, KeepsMoves, KeepsOthers, Laws};
 
 use ahci_controller::{WideWritten, Width};
@@ -26,15 +28,18 @@ fn controller_laws()
     ensures { Laws }
 {
     machine_laws::controller_has_its_laws();
+    machine_laws::taken_frames_are_lent();
 }
 
 /// A machine with nothing at its ports. What its controller has to do with devices and with the guest begins.
 pub fn opens(alloc: Global, ports: u8, legacy: bool) -> Result<Machine, AllocError>
     ensures reached { IfOk result AreReached }
     ensures controller { IfOk result OpensSo }
+    ensures frame { IfOk result (λ machine. HoldsFrame machine None) }
 {
     machine_laws::disks_have_their_laws();
     machine_laws::controller_has_its_laws();
+    machine_laws::taken_frames_are_lent();
     let machine = Machine::new(alloc, ports, legacy)?;
     machine.keeps_rules();
     Ok(machine)
@@ -137,16 +142,18 @@ pub fn offers(machine: &mut Machine, port: u8, frame: Frame) -> Result<(), Frame
     machine.offer(port, frame)
 }
 
-/// The machine moves. What goes to the guest are bytes at the places of their command's table, a FIS or PRDBC, and the line that is told
-/// is the one that the registers show.
+/// The machine moves. What goes to the guest are bytes of the frame that was taken last, at the places of their command's table, or that
+/// frame, or PRDBC. The line that is told is the one that the registers show.
 pub fn moves(alloc: Global, machine: &mut Machine) -> Result<Act, AllocError>
     ensures keeps { Keeps machine.old machine.new }
     ensures controller { IfOk result (λ move. KeepsLaws machine.old (deed.Moved move ∷ []) machine.new) }
     ensures writes { (write : next_move.Next) → result ≡ Ok (act.Writes write) → WritesRightly machine.old write machine.new }
+    ensures lent { (write : next_move.Next) → result ≡ Ok (act.Writes write) → (last : Option (List ℕ)) → HoldsFrame machine.old last → Lends write last (lent_bytes machine.new) }
     ensures line { (line : Bool) → result ≡ Ok (act.Line line) → line ≡ line_shown machine.new.controller }
 {
     machine_laws::disks_have_their_laws();
     machine_laws::controller_has_its_laws();
+    machine_laws::taken_frames_are_lent();
     controller_laws();
     machine.keeps_rules();
     let moved = machine.step(alloc);

@@ -1,4 +1,4 @@
-use Rattle.uses_machine_laws.proofs.Controller.{line, moved, ruled, writes}
+use Rattle.uses_machine_laws.proofs.Controller.{lent, line, moved, ruled, writes}
 use Rattle.uses_machine_laws.proofs.Keep.{moves_keep}
 use Rattle.uses_machine_laws.proofs.moves.Goals as goal
 
@@ -17,3 +17,6 @@ returns-clause-writes c = writes c.controller_has_its_laws.ensures.writes c.args
 
 pub returns-clause-line : goal.returns-clause-line
 returns-clause-line c = line c.controller_has_its_laws.ensures.line c.args.machine.now c.step-moved.new.self c.step-moved.result c.step-moved.ensures.ok
+
+pub returns-clause-lent : goal.returns-clause-lent
+returns-clause-lent c = lent c.taken_frames_are_lent.ensures.lent c.args.machine.now c.step-moved.new.self c.step-moved.result c.step-moved.ensures.ok
