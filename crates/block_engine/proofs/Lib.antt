@@ -1,3 +1,4 @@
+mod SavedLemmas
 pub mod Asides
 pub mod Asked
 pub mod Runs

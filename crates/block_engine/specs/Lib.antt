@@ -1,3 +1,4 @@
 pub mod Aside
 pub mod Engine
 pub mod Laws
+pub mod Saved

@@ -3,6 +3,8 @@
 ghost use Rattle.std.specs.Prelude.{◌≡◌};
 ghost use Rattle.block_engine.specs.Aside.{AsidesAreEarned, asks_for, is_over, is_waiting, settled};
 
+mod saved;
+
 /// What a command beside the queue asks for.
 #[derive(Clone, Copy, Debug, PartialEq, Eq)]
 pub enum AsideKind {

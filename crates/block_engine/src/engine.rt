@@ -14,6 +14,8 @@ ghost use Rattle.block_engine.specs.Engine.{AsksNothing, EngineState, IsEngineFi
 ghost use Rattle.block_engine.specs.declared.aside.AsideKind.TheVariants.{Flush, Discard};
 ghost use Rattle.block_engine.specs.declared.aside.AsideStage.TheVariants.{Idle};
 
+mod saved;
+
 use crate::aside::{AsideKind, AsideStage, asks_for, is_over, is_waiting, settled};
 use crate::request::{Answer, ErrorKind, Failure, Range, Request, What};
 use block_command::{AnswerError, BlockCommand, Command, Turn};

@@ -1,5 +1,7 @@
 //! What the caller is asked for, and what it answers.
 
+mod saved;
+
 /// Sectors to discard.
 #[derive(Clone, Copy, Debug, PartialEq, Eq)]
 pub struct Range {

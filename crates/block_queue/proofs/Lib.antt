@@ -3,4 +3,5 @@ mod Deeds
 mod Apart
 mod Moves
 mod Oldest
+mod SavedLemmas
 pub mod Door

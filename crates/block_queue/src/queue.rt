@@ -7,6 +7,9 @@ ghost use Rattle.block_command.specs.Laws.{Comes, Fails, Flushes, Goes, Loads, S
 ghost use Rattle.block_disk.specs.Table.{at, has_wire, is_under_way, with_input};
 ghost use Rattle.block_disk.specs.Requests.{asks, number_at, with_asked, with_drawn, with_table};
 ghost use Rattle.block_queue.specs.Line.{IsOldest, Line, PassesNowhere, any_below, awaits, bars, command_at, first_below, first_ranks, has_bit, is_in_way, is_of, line_refusal, orphan_refusal, refused_by, left_of, line_answered, line_forgets, line_gone, line_reset, line_taken, may_send, may_start, moved_back, none_in_line, orphan, share, starts, waits_for, with_queue};
+ghost use Rattle.block_queue.specs.Saved.{line_of};
+
+mod saved;
 
 use block_command::{AnswerError, BlockCommand, Command, Turn};
 use block_disk::Requests;
@@ -120,6 +123,48 @@ fn is_start(turn: Turn) -> bool
     matches!(turn, Turn::Start)
 }
 
+/// Whether this command waits for what stands at another place.
+fn waits_for(
+    requests: &Requests,
+    ranks: &[u8; 33],
+    orphans: &[Option<Orphan>; 33],
+    command: Command,
+    place: u8,
+    other: u8,
+) -> bool
+    requires place { place < 33 }
+    requires other { other < 33 }
+    requires some { 0 < command.count }
+    ensures { result ≡ waits_for (line_of requests.now ranks.now orphans.now) command place other }
+{
+    let first = ranks[other as usize] < ranks[place as usize];
+    let stands = match requests.get(other) {
+        None => false,
+        Some(other) => first && is_in_way(command, other),
+    };
+    stands || bars(command, orphans[other as usize])
+}
+
+/// Whether this command waits for what stands at any place.
+fn must_wait(
+    requests: &Requests,
+    ranks: &[u8; 33],
+    orphans: &[Option<Orphan>; 33],
+    command: Command,
+    place: u8,
+) -> bool
+    requires place { place < 33 }
+    requires some { 0 < command.count }
+    ensures { result ≡ any_below (waits_for (line_of requests.now ranks.now orphans.now) command place) 33 }
+{
+    for other in 0..33_u8 {
+        if waits_for(requests, ranks, orphans, command, place, other) {
+            return true;
+        }
+    }
+    false
+}
+
 /// What a reset leaves of a place.
 fn left_of(requests: &Requests, place: u8, was: Option<Orphan>) -> Option<Orphan>
     requires { place < 33 }
@@ -201,33 +246,13 @@ impl CommandQueue {
         self.requests.wire()
     }
 
-    /// Whether this command waits for what stands at another place.
-    fn waits_for(&self, command: Command, place: u8, other: u8) -> bool
-        requires place { place < 33 }
-        requires other { other < 33 }
-        requires some { 0 < command.count }
-        ensures { result ≡ waits_for self.now command place other }
-    {
-        let first = self.ranks[other as usize] < self.ranks[place as usize];
-        let stands = match self.requests.get(other) {
-            None => false,
-            Some(other) => first && is_in_way(command, other),
-        };
-        stands || bars(command, self.orphans[other as usize])
-    }
-
     /// Whether this command waits for what stands at any place.
     fn must_wait(&self, command: Command, place: u8) -> bool
         requires place { place < 33 }
         requires some { 0 < command.count }
         ensures { result ≡ any_below (waits_for self.now command place) 33 }
     {
-        for other in 0..33_u8 {
-            if self.waits_for(command, place, other) {
-                return true;
-            }
-        }
-        false
+        must_wait(&self.requests, &self.ranks, &self.orphans, command, place)
     }
 
     /// Whether the command of a place may start: it waits for its start, and for nothing else.

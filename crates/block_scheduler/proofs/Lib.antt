@@ -1,3 +1,4 @@
+mod SavedLemmas
 pub mod Places
 pub mod Held
 pub mod Runs

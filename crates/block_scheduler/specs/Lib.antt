@@ -1,3 +1,4 @@
 pub mod Sets
 pub mod Schedule
 pub mod Laws
+pub mod Saved

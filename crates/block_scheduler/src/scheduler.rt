@@ -10,6 +10,8 @@ ghost use Rattle.block_queue.specs.Line.{IsOldest, PassesNowhere, awaits, comman
 ghost use Rattle.block_scheduler.specs.Sets.{IsSetOf, asks_at, ends_at, turn_at};
 ghost use Rattle.block_scheduler.specs.Schedule.{IsNextFis, IsNextStart, MayGo, Schedule, end_sent, ends_sent, fits, held, held_at, is_busy, is_quiet, line_sent, held_for, held_of, none_scheduled, with_line};
 
+mod saved;
+
 use crate::sets::{Sets, is_end, is_fail, with_place};
 use block_command::{AnswerError, BlockCommand, Command, Turn};
 use block_queue::{CommandQueue, Orphan};
@@ -97,6 +99,18 @@ fn held_at(queue: &CommandQueue, place: u8) -> u64
     own + dropped
 }
 
+/// The bytes that the commands of a queue and its dropped stores hold.
+fn held_in(queue: &CommandQueue) -> u64
+    ensures value { result ≡ held queue.now }
+    ensures most { result ≤ 69206016 }
+{
+    let mut held = 0;
+    for place in 0..33_u8 {
+        held += held_at(queue, place);
+    }
+    held
+}
+
 impl Scheduler {
     /// No command is under way. The limit is in bytes; below 1 MiB, a command of a whole part never starts.
     pub fn new(alloc: Global, limit: u32) -> Result<Scheduler, AllocError>
@@ -153,11 +167,7 @@ impl Scheduler {
         ensures most { result ≤ 69206016 }
         ensures bound { result ≤ self.now.limit }
     {
-        let mut held = 0;
-        for place in 0..33_u8 {
-            held += held_at(&self.queue, place);
-        }
-        held
+        held_in(&self.queue)
     }
 
     /// Whether there is room for the command of a place.

@@ -1,28 +1,8 @@
-use Rattle.std.proofs.Common.{◌≤◌, subst, ◌≡◌, arith, ap, ◌∙◌}
-use Rattle.block_scheduler.specs.Schedule.{held_below}
-use Rattle.block_scheduler.proofs.Held.{held_next, held_none}
+use Rattle.std.proofs.Common.{◌≤◌, subst, arith}
 use Rattle.block_scheduler.proofs.scheduler.Scheduler.held.Goals as goal
-
-pub loop-place-init : goal.loop-place-init
-loop-place-init c = record { sum = held_none c.self.inside.queue; most = omega arith }
-
-pub loop-place-preserved : goal.loop-place-preserved
-loop-place-preserved c =
-    let i = c.loop-place.invariant in
-    let sum = i.sum in
-    let most = i.most in
-    let value = c.held_at-held.ensures.value in
-    let small = c.held_at-held.ensures.most in
-    let next = held_next c.self.inside.queue c.loop-place.place in
-    record { sum = omega (arith, sum, value, next); most = omega (arith, most, small) }
-
-pub returns-clause-value : goal.returns-clause-value
-returns-clause-value c =
-    let last : c.loop-place.place ≡ 33 = (let end = c.loop-place-test.false in let most = c.loop-place.auto.place-end in omega (arith, end, most)) in
-    c.loop-place.invariant.sum ∙ ap (held_below c.self.inside.queue) last ∙ ap (λ s. held_below s.line 33) c.self.view_is
 
 pub returns-clause-bound : goal.returns-clause-bound
 returns-clause-bound c =
-    let value = returns-clause-value c in
-    let kept = subst (λ s. held_below s.line 33 ≤ s.limit) c.self.view_is c.self.invariant.held in
-    omega (arith, value, kept)
+    let value = c.held_in.ensures.value in
+    let kept = c.self.invariant.held in
+    subst (λ s. c.held_in.result ≤ s.limit) c.self.view_is (omega (arith, value, kept))

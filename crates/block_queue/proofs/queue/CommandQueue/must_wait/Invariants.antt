@@ -1,6 +1,0 @@
-use Rattle.std.proofs.Common.{◌≡◌, ℕ, ◌<◌, false}
-use Rattle.block_queue.specs.Line.{waits_for}
-use Rattle.block_queue.proofs.queue.CommandQueue.must_wait.Given as goal
-
-abbrev pub invariant-loop-other : goal.invariant-loop-other
-invariant-loop-other l = (q : ℕ) → q < l.other → waits_for l.self l.command l.place q ≡ false
