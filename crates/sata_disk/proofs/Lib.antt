@@ -4,3 +4,4 @@ mod PageLemmas
 mod Came
 mod Kept
 mod Outs
+mod SavedLemmas

@@ -11,6 +11,8 @@ ghost use Rattle.sata_disk.specs.State.{DiskState, commands, new_disk, tags_of};
 ghost use Rattle.sata_disk.specs.Hearing.{MayAct, MayHear, MayRange, acted, command_told, command_unheard, data_heard, data_unheard, discarding, fis_heard, fis_unheard, plugged, ranges_of, register_heard, register_told, register_unheard};
 ghost use Rattle.sata_disk.specs.Sending.{IsFis, IsOut, after_sent, beside_reply, command_sent, out_at, part_at};
 
+mod saved;
+
 use crate::hearing::{asked_of, bytes_came, tags_of};
 use crate::out::{
     Out, fails, is_data, is_done, moving_of, own_of, part_len, single_front, trouble_at,
