@@ -60,40 +60,45 @@ impl Saved for Next {
             0 => Ok(Next::Nothing),
             1 => Ok(Next::Payload(Move::restore(alloc, words)?)),
             2 => Ok(Next::Posted(Move::restore(alloc, words)?)),
-            3 => match <(u64, u32)>::restore(alloc, words) {
-                Ok((at, value)) => Ok(Next::Counted(ByteCount { at, value })),
-                Err(error) => Err(error),
-            },
-            4 => match <((u8, u64), (u64, u64))>::restore(alloc, words) {
-                Ok(((slot, number), (at, len))) => Ok(Next::Read(Ask {
+            3 => {
+                let at = u64::restore(alloc, words)?;
+                let value = u32::restore(alloc, words)?;
+                Ok(Next::Counted(ByteCount { at, value }))
+            }
+            4 => {
+                let slot = u8::restore(alloc, words)?;
+                let number = u64::restore(alloc, words)?;
+                let at = u64::restore(alloc, words)?;
+                let len = u64::restore(alloc, words)?;
+                Ok(Next::Read(Ask {
                     slot,
                     number,
                     want: Want {
                         at,
                         len: len as usize,
                     },
-                })),
-                Err(error) => Err(error),
-            },
+                }))
+            }
             5 => {
-                let parts = match <OrderParts>::restore(alloc, words) {
-                    Ok(parts) => parts,
-                    Err(error) => return Err(error),
-                };
-                let (dev, rest) = parts;
-                let (slot, fis) = rest;
+                let dev = u8::restore(alloc, words)?;
+                let slot = u8::restore(alloc, words)?;
+                let fis = <[u8; 20]>::restore(alloc, words)?;
                 Ok(Next::Order { dev, slot, fis })
             }
-            6 => match <FeedParts>::restore(alloc, words) {
-                Ok(((dev, number, slot), (offset, len))) => Ok(Next::Feed {
+            6 => {
+                let dev = u8::restore(alloc, words)?;
+                let number = u64::restore(alloc, words)?;
+                let slot = u8::restore(alloc, words)?;
+                let offset = u32::restore(alloc, words)?;
+                let len = u32::restore(alloc, words)?;
+                Ok(Next::Feed {
                     dev,
                     number,
                     slot,
                     offset,
                     len,
-                }),
-                Err(error) => Err(error),
-            },
+                })
+            }
             _ => Err(RestoreError::NoSuch),
         }
     }

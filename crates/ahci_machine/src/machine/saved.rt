@@ -36,18 +36,16 @@ impl Saved for Lent {
     fn restore(alloc: Global, words: &mut Words) -> Result<Lent, RestoreError> {
         match words.pop().ok_or(RestoreError::Short)? {
             0 => Ok(Lent::Nothing),
-            1 => match <(u64, u64)>::restore(alloc, words) {
-                Ok((from, len)) => Ok(Lent::Frame {
+            1 => {
+                let from = u64::restore(alloc, words)?;
+                let len = u64::restore(alloc, words)?;
+                Ok(Lent::Frame {
                     from: from as usize,
                     len: len as usize,
-                }),
-                Err(error) => Err(error),
-            },
+                })
+            }
             2 => {
-                let bytes = match <[u8; 4]>::restore(alloc, words) {
-                    Ok(bytes) => bytes,
-                    Err(error) => return Err(error),
-                };
+                let bytes = <[u8; 4]>::restore(alloc, words)?;
                 Ok(Lent::Count(bytes))
             }
             _ => Err(RestoreError::NoSuch),
