@@ -1,3 +1,4 @@
+mod SavedLemmas
 pub mod MoveLemmas
 pub mod FanLemmas
 pub mod OpeningLemmas

@@ -1,5 +1,5 @@
 -- Moves one after another.
-use Rattle.std.proofs.Common.{◌≡◌, ℕ, suc, Option, None, Some, Bool, refl, ap, ◌∙◌, sym, inl}
+use Rattle.std.proofs.Common.{◌≡◌, suc, None, Bool, refl, ap, ◌∙◌, sym, inl}
 use Rattle.ahci_machine.specs.Acts.{Moves, Steps, StepsBy, TurnsNext, turned}
 use Rattle.ahci_machine.specs.Asked.{request_of}
 use Rattle.ahci_machine.specs.States.{MachineState}

@@ -1,11 +1,11 @@
 -- What is at a port that is there is pulled.
-use Rattle.std.proofs.Common.{◌≡◌, ℕ, ◌<◌, length, Bool, true, Result, sym, subst}
-use Rattle.std.specs.Prelude.{MatchResult, IsOk, nat_lt}
+use Rattle.std.proofs.Common.{◌≡◌, ℕ, ◌<◌, length, Bool, Result, sym, subst}
+use Rattle.std.specs.Prelude.{MatchResult, IsOk}
 use Rattle.std.specs.Bool.{MatchBool}
 use Rattle.std.specs.Result.{IsErrOf}
 use Rattle.std.proofs.lemmas.Bool.{lt-ltb}
 use Rattle.fan_out.specs.declared.seat.NotThere.{NotThere}
-use Rattle.ahci_machine.specs.Ports.{PullsMachine, PullsOut, PullsPart, has_bay}
+use Rattle.ahci_machine.specs.Ports.{PullsMachine, PullsOut, PullsPart}
 use Rattle.ahci_machine.specs.States.{MachineState}
 use Rattle.ahci_machine.specs.declared.ports.PortFault.{PortFault}
 use Rattle.ahci_machine.specs.declared.ports.PortFault.TheVariants.{NoPort, NotThere as Absent}

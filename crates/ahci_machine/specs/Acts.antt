@@ -1,13 +1,9 @@
 -- What each move of a machine is. Each one is a call of one part, by that part's own rule, or two of the frames' ways meet; the other
 -- parts stay (AHCI 1.3.1, 5.3, a port's state machine; Serial ATA 3.x, 16.3, frame transmission by a port multiplier).
-use Rattle.std.specs.Prelude.{◌≡◌, ◌≢◌, ◌⊎◌, ◌||◌, ℕ, zero, suc, nat_lt, length, Bool, true, false, if◌then◌else◌, List, slice_set, slice_index_or, Option, Some, None, is_some, Result, Ok, Err, MatchOption, IfSome}
+use Rattle.std.specs.Prelude.{◌≡◌, ◌≢◌, ◌⊎◌, ◌||◌, ℕ, zero, suc, nat_lt, length, Bool, true, false, if◌then◌else◌, List, slice_set, Option, Some, None, is_some, Ok, MatchOption}
 use Rattle.std.specs.Int.{to_le_bytes, w32}
 use Rattle.fis_view.specs.Frames.{IsFrame, Stamped}
-use Rattle.fis_view.specs.Seen.{seen}
 use Rattle.multiplier.specs.declared.multiplier.Passed.{Passed}
-use Rattle.pm_ports.specs.declared.port.Offered.TheVariants.{Held}
-use Rattle.guest_fetch.specs.declared.moves.Move.{Move}
-use Rattle.guest_fetch.specs.declared.command.ByteCount.{ByteCount}
 use Rattle.ahci_controller.specs.Feeding.{Gathers, MissesData}
 use Rattle.ahci_controller.specs.Latch.{raised}
 use Rattle.ahci_controller.specs.Next.{Turns, next_write, written}
@@ -19,14 +15,7 @@ use Rattle.ahci_controller.specs.declared.next.Next.{Next}
 use Rattle.ahci_controller.specs.declared.next.Next.TheVariants as next
 use Rattle.ahci_controller.specs.declared.taking.Hindrance.{Hindrance}
 use Rattle.ahci_controller.specs.declared.taking.Took.{Took}
-use Rattle.block_engine.specs.Engine.{IsEngineStart, IsRequested, started}
-use Rattle.fan_out.specs.FanOuts.{GivesDownThere, GivesUpThere, Offers, Sends, Tells, wants_at}
-use Rattle.fan_out.specs.declared.fan_out.FanOut.{FanOut}
-use Rattle.sata_disk.specs.Hearing.{fis_heard, fis_unheard}
-use Rattle.sata_disk.specs.Sending.{IsOut, after_sent}
-use Rattle.sata_disk.specs.State.{DiskState}
-use Rattle.sata_disk.specs.declared.out.Out.{Out}
-use Rattle.sata_disk.specs.declared.unheard.Unheard.{Unheard}
+use Rattle.fan_out.specs.FanOuts.{GivesUpThere, Sends, Tells}
 use Rattle.ahci_machine.specs.Asked.{request_of}
 use Rattle.ahci_machine.specs.Bays.{BayDoes, begun}
 use Rattle.ahci_machine.specs.Gathers.{Awaits, GatheringState, asked_for, frame_of, host_stamp, opening_gathering}
@@ -34,8 +23,6 @@ use Rattle.ahci_machine.specs.States.{HasRules, MachineState, bay_at, gathering_
 use Rattle.ahci_machine.specs.declared.act.Act.{Act}
 use Rattle.ahci_machine.specs.declared.act.Act.TheVariants as act
 use Rattle.ahci_machine.specs.declared.bay.Bay.{Bay}
-use Rattle.ahci_machine.specs.declared.bay.Unit.{Unit as Inside}
-use Rattle.ahci_machine.specs.declared.bay.Unit.TheVariants as inside
 use Rattle.ahci_machine.specs.declared.gathering.Feed.{Feed}
 use Rattle.ahci_machine.specs.declared.gathering.Waits.{Waits}
 use Rattle.ahci_machine.specs.declared.gathering.Waits.TheVariants as waits

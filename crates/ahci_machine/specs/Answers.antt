@@ -1,6 +1,6 @@
 -- What the caller answers: bytes of its guest (AHCI 1.3.1, 5.3, what a port fetches), and what its media did.
 use Rattle.std.specs.Bool.{MatchBool}
-use Rattle.std.specs.Prelude.{◌≡◌, ◌≢◌, ◌||◌, ◌&&◌, ◌==◌, ℕ, nat_lt, Bool, true, false, if◌then◌else◌, List, [], length, slice_set, Option, Some, None, MatchOption, Result, Ok, Err, MatchResult, IsOk, OnOk, OnErr}
+use Rattle.std.specs.Prelude.{◌≡◌, ◌||◌, ◌&&◌, ◌==◌, ℕ, nat_lt, Bool, true, false, if◌then◌else◌, List, [], slice_set, Option, Some, None, MatchOption, Result, Ok, MatchResult, IsOk, OnOk, OnErr}
 use Rattle.std.specs.Result.{IsErrOf}
 use Rattle.std.specs.declared.alloc.AllocError.{AllocError}
 use Rattle.fis_view.specs.Frames.{Stamped}
@@ -27,7 +27,7 @@ use Rattle.ahci_machine.specs.declared.answers.Told.{Told}
 use Rattle.ahci_machine.specs.declared.answers.Told.TheVariants as told
 use Rattle.ahci_machine.specs.declared.bay.Bay.{Bay}
 use Rattle.ahci_machine.specs.declared.bay.Unit.{Unit as Inside}
-use Rattle.ahci_machine.specs.declared.bay.Unit.TheVariants.{Empty, Disk, Own}
+use Rattle.ahci_machine.specs.declared.bay.Unit.TheVariants.{Disk, Own}
 use Rattle.ahci_machine.specs.declared.request.MediumId.{MediumId}
 use Rattle.ahci_machine.specs.declared.request.Wanted.{Wanted}
 use Rattle.ahci_machine.specs.declared.request.Wanted.TheVariants.{Command, Data}

@@ -1,6 +1,6 @@
 -- What a port's device does with what it is given, and what it asks (Serial ATA 3.x, 10.5; ACS-3): a disk by its own rules, a device
 -- of the caller's own by the caller's.
-use Rattle.std.specs.Prelude.{◌≡◌, ◌↔◌, ℕ, Bool, true, false, Option, Some, None, Result, Ok, Err, MatchOption}
+use Rattle.std.specs.Prelude.{◌≡◌, ℕ, true, false, Option, Some, None, Ok}
 use Rattle.fis_view.specs.Frames.{Stamped}
 use Rattle.fis_view.specs.Seen.{seen}
 use Rattle.pm_ports.specs.declared.port.Offered.TheVariants.{Held}

@@ -1,6 +1,6 @@
 -- The bytes of a Data FIS to a device (Serial ATA 3.x, 46h) come from the guest's memory part by part, from the places of its
 -- command's table (AHCI 1.3.1, 4.2.3.3 and 5.3).
-use Rattle.std.specs.Prelude.{◌≡◌, ◌≢◌, ℕ, ◌+◌, ◌-◌, ◌<◌, ◌≤◌, ◌==◌, ◌&&◌, Bool, true, false, if◌then◌else◌, is_some, is_none, List, [], ◌∷◌, ◌++◌, Option, Some, None, length, replicate, take, drop, slice_get}
+use Rattle.std.specs.Prelude.{◌≡◌, ◌≢◌, ℕ, ◌+◌, ◌-◌, ◌≤◌, ◌==◌, ◌&&◌, Bool, true, false, if◌then◌else◌, is_some, List, ◌∷◌, ◌++◌, Option, Some, None, length, replicate, take, drop, slice_get}
 use Rattle.fis_view.specs.Frames.{Stamped, is_frame}
 use Rattle.fis_view.specs.declared.frame.Stamp.{Stamp}
 use Rattle.guest_fetch.specs.declared.moves.Move.{Move}

@@ -1,9 +1,8 @@
 -- What is at the ports comes and goes (Serial ATA 3.x, 16.3.2, hot plug).
-use Rattle.std.specs.Prelude.{◌≡◌, ℕ, ◌+◌, min, nat_lt, Bool, true, false, if◌then◌else◌, List, length, slice_set, Option, Some, None, Result, Ok, Err, MatchResult, IsOk}
+use Rattle.std.specs.Prelude.{◌≡◌, ℕ, ◌+◌, min, nat_lt, Bool, true, false, length, slice_set, Result, Ok, MatchResult, IsOk}
 use Rattle.std.specs.Result.{IsErrOf}
 use Rattle.std.specs.Bool.{MatchBool}
 use Rattle.fan_out.specs.FanOuts.{Plugs, Pulls}
-use Rattle.fan_out.specs.declared.fan_out.FanOut.{FanOut}
 use Rattle.fan_out.specs.declared.seat.NotThere.{NotThere}
 use Rattle.fan_out.specs.declared.seat.PlugError.{PlugError}
 use Rattle.fan_out.specs.declared.seat.PlugError.TheVariants as plug
@@ -11,7 +10,7 @@ use Rattle.ahci_machine.specs.Bays.{begun, with_unit}
 use Rattle.ahci_machine.specs.States.{MachineState, bay_at}
 use Rattle.ahci_machine.specs.declared.bay.Bay.{Bay}
 use Rattle.ahci_machine.specs.declared.bay.Unit.{Unit as Inside}
-use Rattle.ahci_machine.specs.declared.bay.Unit.TheVariants.{Empty, Disk, Own}
+use Rattle.ahci_machine.specs.declared.bay.Unit.TheVariants.{Empty}
 use Rattle.ahci_machine.specs.declared.ports.PortFault.{PortFault}
 use Rattle.ahci_machine.specs.declared.ports.PortFault.TheVariants.{NoPort, Taken, NotThere as Absent, PluggedIn, Spent}
 

@@ -1,6 +1,5 @@
 -- The state of a machine as bytes: a mark, the version of the format, and the machine's words.
 use Rattle.std.specs.Prelude.{◌≡◌, List, [], ◌∷◌, ℕ, Result, Ok, Err}
-use Rattle.std.proofs.Common.{sym, ◌∙◌}
 use Rattle.saved_state.specs.Bytes.{AreWords, bytes_of, words_apart}
 use Rattle.saved_state.specs.declared.words.RestoreError.{RestoreError}
 use Rattle.saved_state.specs.declared.words.RestoreError.TheVariants as damaged
@@ -8,10 +7,10 @@ use Rattle.ahci_machine.specs.Saved.{machine_words}
 use Rattle.ahci_machine.specs.States.{MachineState}
 use Rattle.ahci_machine.specs.declared.state.StateError.{StateError}
 use Rattle.ahci_machine.specs.declared.state.StateError.TheVariants as refused
-use Rattle.ahci_machine.specs.declared.TheConstants.{STATE_MARK, STATE_VERSION}
 
+-- `GEFSUNK` and a zero, the lowest byte first; then the version
 abbrev pub stream_of : MachineState → List ℕ
-stream_of m = STATE_MARK ∷ STATE_VERSION ∷ machine_words.put m []
+stream_of m = 0x004b_4e55_5346_4547 ∷ 1 ∷ machine_words.put m []
 
 abbrev pub damage_of : RestoreError → StateError
 damage_of damaged.OutOfMemory = refused.OutOfMemory

@@ -58,11 +58,13 @@ fn from_words(alloc: Global, words: Words) -> Result<Machine, StateError>
     ensures { ReadsState words result }
 {
     let mut words = words;
-    if words.pop() != Some(STATE_MARK) {
-        return Err(StateError::NotAMachine);
+    match words.pop() {
+        Some(STATE_MARK) => {}
+        _ => return Err(StateError::NotAMachine),
     }
-    if words.pop() != Some(STATE_VERSION) {
-        return Err(StateError::OtherVersion);
+    match words.pop() {
+        Some(STATE_VERSION) => {}
+        _ => return Err(StateError::OtherVersion),
     }
     match Machine::restore(alloc, &mut words) {
         Ok(machine) => match words.pop() {

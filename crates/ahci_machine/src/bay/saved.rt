@@ -29,7 +29,10 @@ impl Saved for Unit {
     fn restore(alloc: Global, words: &mut Words) -> Result<Unit, RestoreError> {
         match words.pop().ok_or(RestoreError::Short)? {
             0 => Ok(Unit::Empty),
-            1 => Ok(Unit::Disk(SataDisk::restore(alloc, words)?)),
+            1 => match SataDisk::restore(alloc, words) {
+                Ok(disk) => Ok(Unit::Disk(disk)),
+                Err(error) => Err(error),
+            },
             2 => Ok(Unit::Own),
             _ => Err(RestoreError::NoSuch),
         }
