@@ -1,2 +1,3 @@
 pub mod HeldSteps
+pub mod RestoreLemmas
 pub mod StartLemmas
