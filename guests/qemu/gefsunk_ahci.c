@@ -651,6 +651,7 @@ static bool load_work(GefsunkAhci *s, const gef_event *event)
     GefsunkDisk *disk = event->port < MOST_PORTS ? s->disks[event->port] : NULL;
     size_t last = (size_t)event->u.medium.count * BDRV_SECTOR_SIZE - 1, len;
     uint8_t none;
+    Work *work;
     if (!disk || event->kind < GEF_EVENT_LOAD || event->kind > GEF_EVENT_DISCARD || event->u.medium.count > DISK_LIMIT / BDRV_SECTOR_SIZE) {
         return false;
     }
@@ -658,7 +659,8 @@ static bool load_work(GefsunkAhci *s, const gef_event *event)
         (gef_machine_stored(&s->machine, &event->u.medium.request, last, &none, 1, &len) != GEF_OK || len != 1)) {
         return false;
     }
-    QTAILQ_INSERT_TAIL(&disk->stopped, new_work(s, event), next);
+    work = new_work(s, event);
+    QTAILQ_INSERT_TAIL(&disk->stopped, work, next);
     return true;
 }
 

@@ -132,7 +132,10 @@ impl Machine {
     /// # Errors
     /// [`Error::NoMemory`].
     pub fn save(&mut self) -> Result<Vec<u8>, Error> {
-        let mut state = vec![0; self.owned.got(ffi::gef_machine_state_size)?];
+        let size = self
+            .owned
+            .got(|machine, len| ffi::gef_machine_state_size(machine, len))?;
+        let mut state = vec![0; size];
         let len: usize = self
             .owned
             .got(|machine, len| ffi::machine_save(machine, &mut state, len))?;
