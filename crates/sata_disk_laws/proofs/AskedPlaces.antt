@@ -1,13 +1,13 @@
 -- What the command of a FIS asks for is at the place that the FIS names, and moves whole sectors.
 use Rattle.std.proofs.Common.{◌≡◌, ℕ, zero, suc, ◌+◌, ◌*◌, ◌/◌, ◌%◌, ◌<◌, ◌≤◌, ◌^◌, ◌⊎◌, true, false, List, Some, None, refl, sym, ap, ◌∙◌, subst, arith, inl, inr}
 use Rattle.std.specs.Prelude.{Option, Bool, not, ◌==◌, ◌||◌, ◌&&◌, nat_le, if◌then◌else◌}
-use Rattle.std.proofs.lemmas.Bool.{cases_eq, eqb-true}
+use Rattle.std.proofs.lemmas.Bool.{cases_eq, eqb-true, lt-ltb}
 use Rattle.fis_view.specs.Table.{H2d, Command, Count, Device, Features, Lba, field}
 use Rattle.block_command.specs.declared.command.Command as block
 use Rattle.block_command.specs.declared.command.Protocol.TheVariants as protocol
 use Rattle.block_queue.specs.Line.{Line}
 use Rattle.ata_reply.specs.declared.reply.AtaError.TheVariants.{Aborted}
-use Rattle.ata_command.specs.Asks.{DiskFacts, asked, asked_by, block_in, block_of, moved, queued, sectors_asked, transferred_by, sets, sets_multiple, trimmed, smart_asked, does_smart}
+use Rattle.ata_command.specs.Asks.{DiskFacts, asked, asked_by, block_in, block_of, moved, queued, sectors_asked, tag_of_place, transferred_by, sets, sets_multiple, trimmed, smart_asked, does_smart}
 use Rattle.ata_command.specs.Modes.{sectors_in}
 use Rattle.ata_command.specs.Opcodes.{opcode_of, or_other, transfer_of}
 use Rattle.ata_command.specs.declared.asked.Asked.{Asked}
@@ -39,7 +39,7 @@ pub record IsBlock (n : ℕ) : Type 0 where
 
 abbrev pub AskedAt : ℕ → Asked → Type 0
 AskedAt place (ask.Moves m) = (m.command.place ≡ place) × IsBlock m.command.block
-AskedAt place (ask.Refused r) = Unit {0}
+AskedAt place (ask.Refused r) = r.tag ≡ tag_of_place place
 AskedAt place a = place ≡ 32
 
 one_block : (n : ℕ) → 0 < n → n ≤ 16 → IsBlock (n * 512)
@@ -55,8 +55,8 @@ either_at place false x y e f = f
 moves_at : (place : ℕ) (m : Move) → m.command.place ≡ place → IsBlock m.command.block → IsAt place (ask.Moves m)
 moves_at place m e is = record { is = (e, is) }
 
-refused_at : (place : ℕ) (r : Refusal) → IsAt place (ask.Refused r)
-refused_at place r = record { is = tt }
+refused_at : (place : ℕ) (r : Refusal) → r.tag ≡ tag_of_place place → IsAt place (ask.Refused r)
+refused_at place r e = record { is = e }
 
 trims_at : (n : ℕ) → IsAt 32 (ask.Trims n)
 trims_at n = record { is = refl }
@@ -65,11 +65,11 @@ reads_at : (place : ℕ) (p : LogPage) → place ≡ 32 → IsAt place (ask.Read
 reads_at place p e = record { is = e }
 
 moved_at : (d : DiskFacts) (c : block.Command) (wide : Bool) (place : ℕ) → c.place ≡ place → IsBlock c.block → IsAt place (moved d c wide)
-moved_at d c wide place e is = either_at place _ _ _ (moves_at place _ e is) (refused_at place _)
+moved_at d c wide place e is = either_at place _ _ _ (moves_at place _ e is) (refused_at place _ (ap tag_of_place e))
 
 -- ## Queued commands
 
-abbrev queued_command : List ℕ → (write : Bool) → Settings → block.Command
+abbrev pub queued_command : List ℕ → (write : Bool) → Settings → block.Command
 queued_command f write s = record {
   place = field H2d Count f % 256 / 8;
   lba = field H2d Lba f;
@@ -81,9 +81,12 @@ queued_command f write s = record {
   auto_activate = write && s.auto_activate;
 }
 
+tag_some : (place : ℕ) → place < 32 → Some place ≡ tag_of_place place
+tag_some place low = sym (ap (λ b. if b then Some place else None) (lt-ltb place 32 low))
+
 queued_at : (f : List ℕ) (write : Bool) (d : DiskFacts) (s : Settings) → IsAt (field H2d Count f % 256 / 8) (queued f write d s)
 queued_at f write d s = either_at (field H2d Count f % 256 / 8) (nat_le d.depth (field H2d Count f % 256 / 8)) _ (moved d (queued_command f write s) true)
-    (refused_at _ (record { error = Aborted; lba = 0; wide = true; tag = Some (field H2d Count f % 256 / 8) }))
+    (refused_at _ (record { error = Aborted; lba = 0; wide = true; tag = Some (field H2d Count f % 256 / 8) }) (tag_some _ (omega arith)))
     (moved_at d (queued_command f write s) true _ refl (one_block 16 (omega arith) (omega arith)))
 
 -- ## The others
@@ -107,19 +110,19 @@ way_block way.Multiple m = multiple_block m
 way_block way.Verify m = one_block 16 (omega arith) (omega arith)
 
 transferred_at : (f : List ℕ) (t : moves.Transfer) (d : DiskFacts) (s : Settings) (x : Option ℕ) → IsBlocks x → AskedAt 32 (transferred_by f t d s x)
-transferred_at f t d s None is = tt
+transferred_at f t d s None is = refl
 transferred_at f t d s (Some n) is = (moved_at d _ t.wide 32 refl is).is
 
 sets_at : (x : Option Setting) → AskedAt 32 (sets x)
-sets_at None = tt
+sets_at None = refl
 sets_at (Some s) = refl
 
 multiple_at : (x : Option Multiple) → AskedAt 32 (sets_multiple x)
-multiple_at None = tt
+multiple_at None = refl
 multiple_at (Some m) = refl
 
 smart_at : (x : Option SmartTask) → IsAt 32 (does_smart x)
-smart_at None = record { is = tt }
+smart_at None = record { is = refl }
 smart_at (Some t) = record { is = refl }
 
 abbrev is_queued_op : Opcode → Bool
@@ -134,15 +137,15 @@ other_at (code.Transfer t) f d s e = transferred_at f t d s _ (way_block t.way s
 other_at code.Flush f d s e = refl
 other_at code.SetFeatures f d s e = sets_at _
 other_at code.SetMultiple f d s e = multiple_at _
-other_at code.DataSet f d s e = let x : IsAt 32 (trimmed f d) = either_at 32 _ _ _ (trims_at _) (refused_at 32 _) in x.is
+other_at code.DataSet f d s e = let x : IsAt 32 (trimmed f d) = either_at 32 _ _ _ (trims_at _) (refused_at 32 _ refl) in x.is
 other_at code.Identify f d s e = refl
 other_at code.ReadLog f d s e = refl
 other_at code.ReadLogDma f d s e = refl
-other_at code.Smart f d s e = let x : IsAt 32 (smart_asked f) = either_at 32 _ _ _ (smart_at _) (refused_at 32 _) in x.is
+other_at code.Smart f d s e = let x : IsAt 32 (smart_asked f) = either_at 32 _ _ _ (smart_at _) (refused_at 32 _ refl) in x.is
 other_at code.Standby f d s e = refl
 other_at code.Idle f d s e = refl
 other_at code.CheckPower f d s e = refl
-other_at code.Unknown f d s e = tt
+other_at code.Unknown f d s e = refl
 
 -- ## The command code
 
@@ -181,7 +184,7 @@ op_at f d s false true e g =
 op_at f d s false false e g = other_at (opcode_of (field H2d Command f)) f d s (other_op (transfer_of (field H2d Command f)) (field H2d Command f) e g)
 
 log_at : (place : ℕ) (p : LogPage) → place ≡ 32 → AskedAt place (page_asked p)
-log_at place p e = let x : IsAt place (page_asked p) = either_at place _ _ _ (reads_at place p e) (refused_at place _) in x.is
+log_at place p e = let x : IsAt place (page_asked p) = either_at place _ _ _ (reads_at place p e) (refused_at place _ (sym (ap tag_of_place e))) in x.is
 
 logs_at : (place : ℕ) (a : Asked) → AskedAt place a → AskedAt place (with_logs a)
 logs_at place (ask.ReadsLog p) is = log_at place p is

@@ -88,7 +88,7 @@ sent_case d p o (Some m) there is sends = (
 pub sent_is : (d : DiskState) (p : ℕ) (o : Out) → IsCommandOut d p o → (m : Moment) × IsSent d p o m
 sent_is d p o is = sent_case d p o (command_at (commands d) p) refl is (next_sends (commands d) _ p is.1.1)
 
-fit_at : (h : Host) (d : DiskState) (p : ℕ) (m : Moment) → p < 33 → command_at (commands d) p ≡ Some m → Knows h d → IsPlace p m
+pub fit_at : (h : Host) (d : DiskState) (p : ℕ) (m : Moment) → p < 33 → command_at (commands d) p ≡ Some m → Knows h d → IsPlace p m
 fit_at h d p m low there knows = let P : Option Moment → Type 0 = λ x. FitsPlace p x in subst P there (knows.fits p low)
 
 of_queued : (h : Host) (d : DiskState) (p : ℕ) (r : Reply) (m : Moment) → IsSent d p (out.Of p r) m → p < 32 → IsLine (commands d) → Knows h d
@@ -241,7 +241,7 @@ ask_knows h d r (Some p) is line' knows =
 
 -- ## Any call
 
-call_due : (h : Host) (d : DiskState) (c : Call) → IsCall d c → IsLine (commands d) → Knows h d → IsCallDue h c × Knows (host_after h c) (after_call d c)
+pub call_due : (h : Host) (d : DiskState) (c : Call) → IsCall d c → IsLine (commands d) → Knows h d → IsCallDue h c × Knows (host_after h c) (after_call d c)
 call_due h d Plugs is line' knows = (tt, plug_tracks h d.front d.engine)
 call_due h d (Hears f) is line' knows = (tt, fis_knows h d (seen f) is line' knows)
 call_due h d (Starts x) is line' knows = (tt, start_knows h d x is line' knows)
@@ -255,7 +255,7 @@ call_due h d (Sends o) is line' knows = out_due h d o is line' knows
 
 -- ## Every run
 
-next_line : (d : DiskState) (c : Call) → IsCall d c → IsLine (commands d) → IsLine (commands (after_call d c))
+pub next_line : (d : DiskState) (c : Call) → IsCall d c → IsLine (commands d) → IsLine (commands (after_call d c))
 next_line d c is line' = subst (λ e. IsLine (line e)) (sym (call_after d c)) (steps_line (steps_of d c) d.engine (call_are d c is) line')
 
 all_due : (calls : List Call) (h : Host) (d : DiskState) → AreCalls d calls → IsLine (commands d) → Knows h d → AreDue h calls
@@ -274,7 +274,7 @@ all_known (c ∷ later) h d are line' knows =
 first_at : (p : Profile) (limit q : ℕ) → command_at (commands (new_disk p limit)) q ≡ None
 first_at p limit q = each_is (Option Moment) 33 q None
 
-first_knows : (p : Profile) (limit : ℕ) → Knows new_host (new_disk p limit)
+pub first_knows : (p : Profile) (limit : ℕ) → Knows new_host (new_disk p limit)
 first_knows p limit = record {
   beside = refl;
   fits = λ q low. let P : Option Moment → Type 0 = λ x. FitsPlace q x in subst P (sym (first_at p limit q)) tt;
@@ -290,7 +290,7 @@ first_knows p limit = record {
 pub answers_are_single : wanted.AnswersAreSingle
 answers_are_single p limit calls are = all_due calls new_host (new_disk p limit) are new_line (first_knows p limit)
 
-known : (p : Profile) (limit : ℕ) (calls : List Call) → AreCalls (new_disk p limit) calls → Knows (host_of new_host calls) (reached p limit calls)
+pub known : (p : Profile) (limit : ℕ) (calls : List Call) → AreCalls (new_disk p limit) calls → Knows (host_of new_host calls) (reached p limit calls)
 known p limit calls are = all_known calls new_host (new_disk p limit) are new_line (first_knows p limit)
 
 heard_case : (h : Host) (d : DiskState) (f : List ℕ) → Knows h d → is_command f ≡ true → register_unheard d f ≡ unheard_of h

@@ -17,3 +17,8 @@ mod Replies
 mod Single
 mod Answered
 mod Calls
+mod LogReads
+mod Stores
+mod Watching
+mod Watched
+mod ErrorLaws

@@ -1,14 +1,20 @@
 -- Rows of the walk along the FISes, worked out.
-use Rattle.std.proofs.Common.{◌≡◌, ℕ, true, false, List, [], ◌∷◌, refl, arith}
+use Rattle.std.proofs.Common.{◌≡◌, ℕ, true, false, List, [], ◌∷◌, Some, refl, arith}
+use Rattle.std.specs.Option.{is_some}
 use Rattle.fis_view.specs.Bits.{bits}
 use Rattle.fis_view.specs.Seen.{seen}
 use Rattle.fis_view.specs.Table.{field, places, spelled}
-use Rattle.ata_reply.specs.declared.reply.AtaError.TheVariants.{Uncorrectable}
+use Rattle.block_queue.specs.Line.{any_below}
+use Rattle.ata_reply.specs.declared.reply.AtaError.TheVariants.{NotFound, Uncorrectable}
 use Rattle.ata_reply.specs.declared.reply.Reply.TheVariants as replies
 use Rattle.ata_front.specs.Fronts.{page_announced}
+use Rattle.ata_front.specs.declared.task.Fault.TheVariants as faults
 use Rattle.ata_front.specs.declared.task.Page.TheVariants as pages
+use Rattle.disk_pages.specs.declared.profile.Profile.{Profile}
+use Rattle.sata_disk.specs.State.{new_disk}
 use Rattle.sata_disk.specs.declared.out.Out.TheVariants as out
 use Rattle.sata_disk_laws.specs.Calls.{Call, Hears, Plugs, Sends}
+use Rattle.sata_disk_laws.specs.Errors.{Watch, new_watch, watch_of}
 use Rattle.sata_disk_laws.specs.Once.{ForAnswer, ForEnd, ForLast, ForNothing, ForSignature, IsDue, host_of, new_host, none_open}
 
 -- a Register FIS of these first bytes and this Count
@@ -78,3 +84,29 @@ row_error : (host_of new_host (Hears (fis 0x80 0x60 0x18 0) ∷ Sends (out.Own r
     ≡ false
 unfolding host_of seen field places spelled bits
 row_error = refl
+
+-- ## Errors
+
+abbrev watch : Profile → (limit : ℕ) → List Call → Watch
+watch p limit calls = watch_of (new_disk p limit) new_host new_watch calls
+
+-- a queued read failed
+abbrev failed_3 : List Call
+failed_3 = Hears (fis 0x80 0x60 0x18 0) ∷ Sends (out.Own replies.Accepted) ∷ Sends (out.Of 3 (replies.Aborts Uncorrectable)) ∷ []
+
+row_stands : (p : Profile) (limit : ℕ) → is_some (watch p limit failed_3).fault ≡ true
+unfolding watch_of seen field places spelled bits
+row_stands p limit = refl
+
+-- another command that comes is to be aborted
+row_aborts : (p : Profile) (limit : ℕ) → (watch p limit (Hears (fis 0x80 0x60 0x18 0) ∷ Sends (out.Own replies.Accepted)
+    ∷ Sends (out.Of 3 (replies.Aborts Uncorrectable)) ∷ Hears (fis 0x80 0xEC 0 0) ∷ [])).aborts ≡ true
+unfolding watch_of seen field places spelled bits any_below
+row_aborts p limit = refl
+
+-- a queued command was refused alone: the error is its own
+row_refused : (p : Profile) (limit : ℕ) → (watch p limit (Hears (fis 0x80 0x60 0x18 0)
+    ∷ Sends (out.Own (replies.Failed (record { error = NotFound; lba = 7; wide = true }))) ∷ [])).fault
+    ≡ Some (faults.Queued 3 (record { error = NotFound; lba = 7 }))
+unfolding watch_of seen field places spelled bits any_below
+row_refused p limit = refl

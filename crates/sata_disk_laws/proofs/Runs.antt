@@ -30,12 +30,12 @@ use Rattle.sata_disk_laws.specs.Laws as laws
 
 -- ## Lists of steps
 
-are_both : (ss ts : List Step) (e : EngineState) → AreSteps e ss → AreSteps (after_steps e ss) ts → AreSteps e (ss ++ ts)
+pub are_both : (ss ts : List Step) (e : EngineState) → AreSteps e ss → AreSteps (after_steps e ss) ts → AreSteps e (ss ++ ts)
 unfolding after_steps
 are_both [] ts e are later = later
 are_both (s ∷ ss) ts e are later = (are.0, are_both ss ts (after_step e s) are.1 later)
 
-after_both : (ss ts : List Step) (e : EngineState) → after_steps e (ss ++ ts) ≡ after_steps (after_steps e ss) ts
+pub after_both : (ss ts : List Step) (e : EngineState) → after_steps e (ss ++ ts) ≡ after_steps (after_steps e ss) ts
 unfolding after_steps
 after_both [] ts e = refl
 after_both (s ∷ ss) ts e = after_both ss ts (after_step e s)

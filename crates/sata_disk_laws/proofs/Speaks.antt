@@ -115,7 +115,7 @@ sent_stays s p e = ap (λ b. (if b then record s { line = line_reset (line_gone 
 sent_ends : (s : Schedule) (p : ℕ) → ends_all s.line p ≡ true → (line_sent s p).line ≡ line_reset (line_gone s.line p)
 sent_ends s p e = ap (λ b. (if b then record s { line = line_reset (line_gone s.line p); fault = Some p } else record s { line = line_gone s.line p }).line) e
 
-front_case : (d : DiskState) (p n : ℕ) (a b : Bool) → nat_lt p 32 ≡ a → ends_all (commands d) p ≡ b → a ≡ true
+pub front_case : (d : DiskState) (p n : ℕ) (a b : Bool) → nat_lt p 32 ≡ a → ends_all (commands d) p ≡ b → a ≡ true
     → front_sent d p n ≡ (if b then queued_failed d.front p (trouble_at d.engine p) else d.front)
 front_case d p n false b e g is = absurd (cc)
 front_case d p n true b e g is =

@@ -3,3 +3,5 @@ pub mod Laws
 pub mod Told
 pub mod Asides
 pub mod Once
+pub mod Errors
+pub mod Stores

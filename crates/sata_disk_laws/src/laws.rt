@@ -1,7 +1,9 @@
 //! The laws.
 
 ghost use Rattle.sata_disk_laws.specs.Asides.{AsidesAreEarned};
+ghost use Rattle.sata_disk_laws.specs.Errors.{AbortedUntilRead, LogTellsOfFailure};
 ghost use Rattle.sata_disk_laws.specs.Once.{AnswersAreSingle, OpenIsUnderWay, PartsAreFrames};
+ghost use Rattle.sata_disk_laws.specs.Stores.{StoresAreHeard};
 ghost use Rattle.sata_disk_laws.specs.Told.{FisesAreTold};
 ghost use Rattle.sata_disk_laws.specs.Laws.{DataAreNamed, DiscardsAreAlone, EndsAreEarned, NumbersAreFresh, RequestsAreApart, SilenceIsOwed, SomethingMoves};
 
@@ -96,3 +98,31 @@ pub fn open_is_under_way()
 pub fn parts_are_frames()
     ensures { PartsAreFrames }
 {}
+
+/// A law. In every run the bytes that the caller is asked to store for a command are bytes of Data FISes of the host that came for it since
+/// it was taken, in order, all of them, each behind a DMA Activate, a PIO Setup or a DMA Setup with auto-activate of that command; and they
+/// are for the sectors behind those that it stored before. Data from before a plug, a software reset or an error are in no store.
+pub fn stores_are_heard()
+    ensures { StoresAreHeard }
+{
+    numbers_are_fresh();
+}
+
+/// A law. In every run, once a queued command failed, was refused, or was ended by a command that may not stand beside it: each command
+/// that comes is aborted (Status 51h, Error ABRT, by the next FIS), until page 0 of log 10h was sent; the command that reads it is taken, and
+/// a plug or a software reset ends the error, too. Meanwhile no other FIS goes, nothing starts, and the caller is asked for nothing. Which
+/// error stands is told by the FISes alone, those of the host and those that it got, and by what the caller answered.
+pub fn aborted_until_read()
+    ensures { AbortedUntilRead }
+{
+    block_engine::failures_are_own();
+}
+
+/// A law. In every run page 0 of log 10h has the tag, the error and the sector of the command whose failure is the error that stands: as
+/// the caller answered to a request of that very command; or, where the disk refused it, as the Register FIS said; or ICRC, where more Data
+/// came than it asked for. Where a command of another kind ended the queued ones, or no error stands, it has NQ.
+pub fn log_tells_of_failure()
+    ensures { LogTellsOfFailure }
+{
+    block_engine::failures_are_own();
+}

@@ -23,10 +23,15 @@ use Rattle.sata_disk.specs.declared.unheard.Unheard.{Unheard}
 use Rattle.sata_disk_laws.specs.Told.{FisesAreTold, Says}
 use Rattle.sata_disk_laws.specs.Calls.{Answers, AreCalls, Asks, Hears, Starts, Call, IsCall, after_call, after_calls, asked_by}
 use Rattle.sata_disk_laws.specs.Calls.{Sends}
+use Rattle.sata_disk_laws.specs.Errors.{AbortedUntilRead, IsWatched, LogTellsOfFailure, watch_in}
 use Rattle.sata_disk_laws.specs.Laws.{reached}
 use Rattle.sata_disk_laws.specs.Once.{AnswersAreSingle, AreDue, Host, IsCallDue, IsChunk, IsHostOf, PartsAreFrames, host_after, host_of, new_host}
+use Rattle.ata_command.specs.declared.asked.LogPage.{LogPage}
+use Rattle.ata_front.specs.declared.task.Page.TheVariants as pages
+use Rattle.disk_pages.specs.Logs.{log_named}
+use Rattle.disk_pages.specs.declared.log.LogPage.TheVariants as logs
 use Rattle.disk_pages.specs.declared.profile.Profile.{Profile}
-use Rattle.uses_sata_disk.specs.Reached.{Extends, IsOutOf, IsReached}
+use Rattle.uses_sata_disk.specs.Reached.{Extends, IsNextOf, IsOutOf, IsReached, TellsOfFailure}
 
 are_more : (calls : List Call) (d : DiskState) (c : Call) → AreCalls d calls → IsCall (after_calls d calls) c → AreCalls d (calls ++ c ∷ [])
 unfolding after_calls
@@ -128,3 +133,24 @@ pays d place n bytes parts is e = λ p limit calls r.
     let long : n ≡ length bytes = part_is d place n (command_at (commands d) place) is.3 ∙ sym (ap length e) in
     let P : ℕ → Type 0 = λ k. IsChunk k in
     chunk_pays bytes (subst P long (parts p limit calls place n r.0 (subst (λ x. IsOut x (Some (out.Data place n))) r.1 is)))
+
+-- ## After an error
+
+pub watched_here : {d : DiskState} (p : Profile) (limit : ℕ) (calls : List Call) → d ≡ after_calls (new_disk p limit) calls
+    → IsWatched (host_of new_host calls) (watch_in p limit calls) (reached p limit calls)
+    → IsWatched (host_of new_host calls) (watch_in p limit calls) d
+watched_here p limit calls e is = subst (λ x. IsWatched (host_of new_host calls) (watch_in p limit calls) x) (sym e) is
+
+pub next_of : (d : DiskState) (o : Option Out) → AbortedUntilRead → IsOut d o → IsNextOf d o
+next_of d o law next = λ p limit calls r.
+    let is = watched_here p limit calls r.1 (law p limit calls r.0) in
+    record { aborted = λ aborts. is.aborted aborts o next; only = λ some. is.only some o next }
+
+pub log_of : {B : Type 0} (d : DiskState) (page : LogPage) (result : Result Stamped B) → LogTellsOfFailure → IsOut d (Some (out.Page (pages.Log page)))
+    → log_named page.log page.page ≡ Some logs.NcqError → IfOk result (λ f. IsFis d (out.Page (pages.Log page)) f.bytes)
+    → IfOk result (λ f. TellsOfFailure d f.bytes)
+log_of d page (Ok f) law next named fis = λ p limit calls r.
+    let P : DiskState → Type 0 = λ x. IsOut x (Some (out.Page (pages.Log page))) in
+    let Q : DiskState → Type 0 = λ x. IsFis x (out.Page (pages.Log page)) f.bytes in
+    (law p limit calls page f.bytes r.0 named (subst P r.1 next) (subst Q r.1 fis)).0
+log_of d page (Err x) law next named fis = tt

@@ -3,19 +3,25 @@
 
 ghost use Rattle.std.specs.Prelude.{◌≡◌, ◌≢◌, Err, IfOk, IfSome, OnOk, Some};
 ghost use Rattle.fis_view.specs.declared.frame.FrameError.TheVariants as FrameError;
+ghost use Rattle.ata_front.specs.declared.task.Page.TheVariants as pages;
+ghost use Rattle.disk_pages.specs.Logs.{log_named};
+ghost use Rattle.disk_pages.specs.declared.log.LogPage.TheVariants.{NcqError};
 ghost use Rattle.sata_disk.specs.Sending.{IsFis, IsOut};
-ghost use Rattle.sata_disk.specs.declared.out.Out.TheVariants.{Data};
+ghost use Rattle.sata_disk.specs.declared.out.Out.TheVariants as Out;
 ghost use Rattle.sata_disk_laws.specs.Calls.{Answers, Asks, Hears, Plugs, Sends, Starts};
 ghost use Rattle.sata_disk_laws.specs.Told.{Says};
-ghost use Rattle.uses_sata_disk.specs.Reached.{Extends, HasLaws, IfReached, IsOutOf};
+ghost use Rattle.uses_sata_disk.specs.Reached.{Extends, HasLaws, IfReached, IsNextOf, IsOutOf, TellsOfFailure};
 
+use ata_command::LogPage;
+use ata_front::Page;
 use block_command::AnswerError;
 use block_engine::{Answer, Request};
 use fis_view::{Frame, FrameError, Stamp, payload};
 use sata_disk::{Out, SataDisk, Unheard};
 use sata_disk_laws::{
-    answers_are_single, data_are_named, ends_are_earned, fises_are_told, open_is_under_way,
-    parts_are_frames, requests_are_apart,
+    aborted_until_read, answers_are_single, data_are_named, ends_are_earned, fises_are_told,
+    log_tells_of_failure, open_is_under_way, parts_are_frames, requests_are_apart,
+    stores_are_heard,
 };
 use std::alloc::{AllocError, Global};
 
@@ -75,11 +81,35 @@ pub fn make_data(
     length: u16,
     stamp: Stamp,
 ) -> Result<Frame, FrameError>
-    requires { IsOut disk.now (Some (Data place length)) }
+    requires { IsOut disk.now (Some (Out.Data place length)) }
     ensures { IfReached disk.now (result ≢ Err FrameError.BadLength) }
 {
     parts_are_frames();
     payload(alloc, 0, disk.part(place), stamp)
+}
+
+/// The FIS that goes next. At a disk that a run led to, after an error, it is the abort of a command that came since, or the log.
+pub fn next(disk: &SataDisk) -> Option<Out>
+    ensures next { IsOut disk.now result }
+    ensures error { IsNextOf disk.now result }
+{
+    aborted_until_read();
+    disk.next_out()
+}
+
+/// Makes page 0 of log 10h, which goes next. At a disk that a run led to it tells of the command that failed.
+pub fn make_log(
+    alloc: Global,
+    disk: &SataDisk,
+    page: LogPage,
+    stamp: Stamp,
+) -> Result<Frame, FrameError>
+    requires next { IsOut disk.now (Some (Out.Page (pages.Log page))) }
+    requires log { log_named page.log page.page ≡ Some NcqError }
+    ensures { IfOk result (λ frame. TellsOfFailure disk.now frame.bytes) }
+{
+    log_tells_of_failure();
+    disk.frame(alloc, Out::Page(Page::Log(page)), stamp)
 }
 
 /// The FIS was sent. It is of a command that the host has open: so it answers none twice, and none from before a plug or a reset.
@@ -102,4 +132,6 @@ pub fn laws(disk: &SataDisk)
     data_are_named();
     answers_are_single();
     open_is_under_way();
+    stores_are_heard();
+    aborted_until_read();
 }
