@@ -1,6 +1,6 @@
 -- What becomes of the commands may be done.
-use Rattle.std.proofs.Common.{◌≡◌, ℕ, ◌<◌, true, false, Some, None, refl, subst}
-use Rattle.std.specs.Prelude.{Option, Bool, nat_lt, if◌then◌else◌}
+use Rattle.std.proofs.Common.{◌≡◌, ℕ, true, false, Some, None, refl, subst}
+use Rattle.std.specs.Prelude.{Option, Bool, if◌then◌else◌}
 use Rattle.ata_reply.specs.declared.reply.Reply.TheVariants as reply
 use Rattle.block_engine.specs.declared.aside.AsideStage.{AsideStage}
 use Rattle.block_engine.specs.declared.aside.AsideStage.TheVariants as stages
@@ -8,7 +8,6 @@ use Rattle.ata_command.specs.Asks.{DiskFacts, IsAsked}
 use Rattle.ata_command.specs.Courses.{course}
 use Rattle.ata_command.specs.declared.asked.Asked.{Asked}
 use Rattle.ata_command.specs.declared.asked.Asked.TheVariants as ask
-use Rattle.ata_command.specs.declared.asked.LogPage.{LogPage}
 use Rattle.ata_command.specs.declared.asked.PowerTask.{PowerTask}
 use Rattle.ata_command.specs.declared.asked.PowerTask.TheVariants as power
 use Rattle.ata_command.specs.declared.asked.SmartTask.{SmartTask}
@@ -20,13 +19,10 @@ use Rattle.ata_command.specs.declared.control.Course.{Course}
 use Rattle.ata_command.specs.declared.control.Course.TheVariants.{Drop, Refuse, AbortAll, Take}
 use Rattle.ata_command.specs.declared.settings.Setting.{Setting}
 use Rattle.ata_command.specs.declared.settings.Setting.TheVariants as set
-use Rattle.ata_front.specs.Fronts.{after_plug, commanded, commanded_by, controlled, refused_by, set_by, standing, standing_by, taken, taken_power, task_of_smart, log_task, moves_task, taken_moves}
+use Rattle.ata_front.specs.Fronts.{commanded, commanded_by, controlled, refused_by, set_by, standing_by, taken, taken_power, task_of_smart}
 use Rattle.ata_front.specs.declared.front.Front.{Front}
 use Rattle.ata_front.specs.declared.front.Heard.{Heard}
-use Rattle.ata_front.specs.declared.task.Act.{Act}
-use Rattle.ata_front.specs.declared.task.Act.TheVariants as act
 use Rattle.ata_front.specs.declared.task.Fault.{Fault}
-use Rattle.ata_front.specs.declared.task.Moving.{Moving}
 use Rattle.ata_front.specs.declared.task.Page.{Page}
 use Rattle.ata_front.specs.declared.task.Task.{Task}
 use Rattle.ata_front.specs.declared.task.Task.TheVariants.{Idle, Owes, Moves, Waits, Announces, Gives, Sends, Activates, Expects}

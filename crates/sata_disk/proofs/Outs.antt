@@ -1,6 +1,6 @@
 -- The FIS of a command that may send.
 use Rattle.std.proofs.Common.{◌≡◌, ℕ, true, false, List, Some, None, refl, sym, ap, ◌∙◌, subst}
-use Rattle.std.specs.Prelude.{Option, Bool, ◌&&◌}
+use Rattle.std.specs.Prelude.{Option, Bool}
 use Rattle.std.specs.Option.{option_map}
 use Rattle.block_command.specs.declared.command.Command.{Command}
 use Rattle.block_command.specs.declared.command.Stage.{Stage}
@@ -8,7 +8,7 @@ use Rattle.block_command.specs.declared.command.Stage.TheVariants.{SetUpRead, An
 use Rattle.block_command.specs.Moments.{Moment, turn_of}
 use Rattle.block_command.proofs.Door.{at}
 use Rattle.block_disk.specs.Requests.{is_fis, sends_at}
-use Rattle.block_queue.specs.Line.{command_at, may_send}
+use Rattle.block_queue.specs.Line.{command_at}
 use Rattle.block_queue.proofs.Door.{of_and}
 use Rattle.block_engine.specs.declared.engine.EngineFis.TheVariants as fis
 use Rattle.block_engine.specs.Engine.{IsEngineFis, MayGo}

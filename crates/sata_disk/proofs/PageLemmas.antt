@@ -1,5 +1,5 @@
 -- The NCQ Command Error log says what is told of an error.
-use Rattle.std.proofs.Common.{◌≡◌, ℕ, ◌%◌, ◌^◌, List, take, Some, None, refl, sym, ap, ◌∙◌, subst}
+use Rattle.std.proofs.Common.{◌≡◌, ℕ, List, take, Some, None, refl, sym, ap, ◌∙◌, subst}
 use Rattle.std.specs.Prelude.{Option}
 use Rattle.ata_front.specs.declared.task.Fault.{Fault}
 use Rattle.ata_front.specs.declared.task.Fault.TheVariants.{Mixed, Queued}

@@ -1,11 +1,10 @@
 -- What a disk makes of a FIS of its host (Serial ATA 3.x, 10.5, FIS types, 11.4, software reset, and 13.6, native command queuing;
 -- ACS-3, 7.5, DATA SET MANAGEMENT, and 7.24, READ LOG EXT).
-use Rattle.std.specs.Prelude.{ℕ, ◌≡◌, ◌*◌, ◌/◌, ◌==◌, ◌<◌, ◌&&◌, nat_lt, Bool, true, false, List, map, drop, length, Option, Some, None, Result, Ok, Err, if◌then◌else◌}
+use Rattle.std.specs.Prelude.{ℕ, ◌≡◌, ◌*◌, ◌/◌, ◌==◌, ◌<◌, ◌&&◌, nat_lt, Bool, true, false, List, map, drop, length, Option, Some, None, Result, Ok, if◌then◌else◌}
 use Rattle.fis_view.specs.Table.{H2d, C, field}
 use Rattle.fis_view.specs.declared.view.Fis.{Fis}
 use Rattle.fis_view.specs.declared.view.Fis.TheVariants as view
 use Rattle.fis_view.specs.declared.view.FisFault.{FisFault}
-use Rattle.block_command.specs.declared.command.Command as block
 use Rattle.block_command.specs.declared.command.Stage.{Stage}
 use Rattle.block_command.specs.declared.command.Stage.TheVariants as stage
 use Rattle.block_command.specs.declared.command.Turn.{Turn}
@@ -157,6 +156,11 @@ abbrev pub fis_unheard : DiskState → Result Fis FisFault → Option Unheard
 fis_unheard d (Ok (view.RegH2D f)) = register_unheard d f
 fis_unheard d (Ok (view.Payload f)) = data_unheard d
 fis_unheard d _ = Some NotOfHost
+
+-- only Data want memory
+abbrev pub carries_data : Result Fis FisFault → Bool
+carries_data (Ok (view.Payload f)) = true
+carries_data _ = false
 
 -- what becomes of the commands may be done, and nothing is under way beside the queue where ranges come
 abbrev pub MayRange : AsideStage → Option ℕ → Type 0

@@ -1,6 +1,7 @@
 -- Which FIS a disk sends next, and what it is then (Serial ATA 3.x, 10.5 and 13.6).
-use Rattle.std.specs.Prelude.{ℕ, ◌≡◌, ◌/◌, ◌<◌, nat_lt, Bool, true, false, not, List, [], drop, length, Option, Some, None, slice_index_or, if◌then◌else◌}
+use Rattle.std.specs.Prelude.{ℕ, ◌≡◌, ◌/◌, nat_lt, Bool, true, false, not, List, [], drop, length, Option, Some, None, slice_index_or, if◌then◌else◌}
 use Rattle.std.specs.Option.{option_map}
+use Rattle.fis_view.specs.Frames.{is_payload}
 use Rattle.block_command.specs.declared.command.Turn.{Turn}
 use Rattle.block_command.specs.declared.command.Turn.TheVariants as turn
 use Rattle.block_command.specs.Moments.{Moment, part_of, turn_of}
@@ -129,6 +130,11 @@ after_sent d (Data p n) = command_sent d p (n / 512)
 abbrev pub part_at : Option Moment → List ℕ
 part_at None = []
 part_at (Some m) = part_of m
+
+-- whether a frame holds its bytes: so it does but for Data of another length than a Data FIS has
+abbrev pub is_framed : DiskState → Out → Bool
+is_framed d (Data p n) = is_payload (part_at (command_at (commands d) p))
+is_framed d _ = true
 
 -- these bytes are the FIS
 abbrev pub IsFis : DiskState → Out → List ℕ → Type 0

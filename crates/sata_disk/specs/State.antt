@@ -1,6 +1,5 @@
 -- What a SATA disk is at one moment: what it is to its host, and its commands.
-use Rattle.std.specs.Prelude.{ℕ, zero, suc, ◌≡◌, ◌+◌, ◌^◌, ◌⊎◌, Bool, true, false, List, [], Option, Some, None, if◌then◌else◌}
-use Rattle.block_command.specs.Moments.{Moment}
+use Rattle.std.specs.Prelude.{ℕ, zero, suc, ◌≡◌, ◌+◌, ◌^◌, Bool, true, Option, Some, None, if◌then◌else◌}
 use Rattle.block_disk.specs.Table.{has_wire, is_under_way}
 use Rattle.block_queue.specs.Line.{Line, command_at, first_below}
 use Rattle.block_engine.specs.Engine.{EngineState, line, none_engaged}

@@ -1,6 +1,7 @@
 //! The disk.
 
-ghost use Rattle.std.specs.Prelude.{◌≡◌, ◌<◌, ◌≤◌, IfOk, IfSome, IfNone, OnErr, OnOk, None, Some, true};
+ghost use Rattle.std.specs.Prelude.{◌≡◌, ◌<◌, ◌≤◌, ◌↔◌, Err, IfOk, IfSome, IfNone, OnErr, OnOk, None, Some, false, true};
+ghost use Rattle.fis_view.specs.declared.frame.FrameError.TheVariants as FrameError;
 ghost use Rattle.std.specs.Result.{result_err};
 ghost use Rattle.fis_view.specs.Seen.{seen};
 ghost use Rattle.block_queue.specs.Line.{command_at, may_send};
@@ -8,8 +9,8 @@ ghost use Rattle.block_engine.specs.Engine.{IsEngineStart, IsRequested, answer_r
 ghost use Rattle.ata_front.specs.Fronts.{heard_data, owed, standing};
 ghost use Rattle.ata_front.specs.declared.task.Task.TheVariants as tasks;
 ghost use Rattle.sata_disk.specs.State.{DiskState, commands, new_disk, tags_of};
-ghost use Rattle.sata_disk.specs.Hearing.{MayAct, MayHear, MayRange, acted, command_told, command_unheard, data_heard, data_unheard, discarding, fis_heard, fis_unheard, plugged, ranges_of, register_heard, register_told, register_unheard};
-ghost use Rattle.sata_disk.specs.Sending.{IsFis, IsOut, after_sent, beside_reply, command_sent, out_at, part_at};
+ghost use Rattle.sata_disk.specs.Hearing.{MayAct, MayHear, MayRange, acted, carries_data, command_told, command_unheard, data_heard, data_unheard, discarding, fis_heard, fis_unheard, plugged, ranges_of, register_heard, register_told, register_unheard};
+ghost use Rattle.sata_disk.specs.Sending.{IsFis, IsOut, after_sent, beside_reply, command_sent, is_framed, out_at, part_at};
 
 mod saved;
 
@@ -146,12 +147,13 @@ impl SataDisk {
     }
 
     /// A FIS of the host comes. If it is not heard, the answer says why, and the disk stays as it is. If memory is refused, the
-    /// disk stays as it is, too, and the FIS may be given again.
+    /// disk stays as it is, too, and the FIS may be given again: only Data want memory.
     pub fn on_frame(&mut self, alloc: Global, frame: &Frame) -> Result<Option<Unheard>, AllocError>
         ensures unheard { IfOk result (λ unheard. unheard ≡ fis_unheard self.old (seen frame.now.bytes)) }
         ensures ok { OnOk result (self.new ≡ fis_heard self.old (seen frame.now.bytes)) }
         ensures may { MayHear self.old (seen frame.now.bytes) }
         ensures err { OnErr result (self.new ≡ self.old) }
+        ensures refused { OnErr result (carries_data (seen frame.now.bytes) ≡ true) }
     {
         match frame.fis() {
             Ok(Fis::RegH2D(fis)) => Ok(self.register(alloc, &fis)),
@@ -252,11 +254,13 @@ impl SataDisk {
         }
     }
 
-    /// The FIS, with PM Port 0. Each call makes it anew: the disk stays as it is until it [was sent](SataDisk::sent).
+    /// The FIS, with PM Port 0. Each call makes it anew: the disk stays as it is until it [was sent](SataDisk::sent). If memory is
+    /// refused, the call may be made again. `BadLength` says that the Data have no length of a Data FIS; no run leads to such a disk.
     pub fn frame(&self, alloc: Global, out: Out, stamp: Stamp) -> Result<Frame, FrameError>
         requires { IsOut self.now (Some out) }
         ensures is { IfOk result (λ f. IsFis self.now out f.bytes) }
         ensures stamp { IfOk result (λ f. f.stamp ≡ stamp) }
+        ensures bad_length { (result ≡ Err FrameError.BadLength) ↔ (is_framed self.now out ≡ false) }
     {
         match out {
             Out::Own(reply) | Out::Beside(reply) => Ok(reply.frame(alloc, stamp)?),

@@ -134,18 +134,11 @@ other_at : (o : Opcode) (f : List ℕ) (d : DiskFacts) (s : Settings) → is_que
 other_at code.ReadQueued f d s e = absurd (cc)
 other_at code.WriteQueued f d s e = absurd (cc)
 other_at (code.Transfer t) f d s e = transferred_at f t d s _ (way_block t.way s.multiple)
-other_at code.Flush f d s e = refl
 other_at code.SetFeatures f d s e = sets_at _
 other_at code.SetMultiple f d s e = multiple_at _
 other_at code.DataSet f d s e = let x : IsAt 32 (trimmed f d) = either_at 32 _ _ _ (trims_at _) (refused_at 32 _ refl) in x.is
-other_at code.Identify f d s e = refl
-other_at code.ReadLog f d s e = refl
-other_at code.ReadLogDma f d s e = refl
 other_at code.Smart f d s e = let x : IsAt 32 (smart_asked f) = either_at 32 _ _ _ (smart_at _) (refused_at 32 _ refl) in x.is
-other_at code.Standby f d s e = refl
-other_at code.Idle f d s e = refl
-other_at code.CheckPower f d s e = refl
-other_at code.Unknown f d s e = refl
+other_at other f d s e = refl
 
 -- ## The command code
 
@@ -188,15 +181,7 @@ log_at place p e = let x : IsAt place (page_asked p) = either_at place _ _ _ (re
 
 logs_at : (place : ℕ) (a : Asked) → AskedAt place a → AskedAt place (with_logs a)
 logs_at place (ask.ReadsLog p) is = log_at place p is
-logs_at place (ask.Moves m) is = is
-logs_at place ask.Flushes is = is
-logs_at place (ask.Sets s) is = is
-logs_at place (ask.SetsMultiple m) is = is
-logs_at place (ask.Trims n) is = is
-logs_at place ask.Identifies is = is
-logs_at place (ask.Smart t) is = is
-logs_at place (ask.Power t) is = is
-logs_at place (ask.Refused r) is = is
+logs_at place other is = is
 
 pub asked_at : (f : List ℕ) (d : DiskFacts) (s : Settings) → AskedAt (place_in f) (with_logs (asked f d s))
 unfolding asked

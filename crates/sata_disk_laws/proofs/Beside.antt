@@ -57,20 +57,14 @@ answer_stage e None number (answers.Failed f) is =
 answer_stage e (Some p) number (answers.Failed f) is = ap (λ x. (failed_by e x number f).stage) is ∙ none_asides e.stage
 
 step_stage : (e : EngineState) (s : Step) → IsStep e s → (after_step e s).stage ≡ after_asides e.stage (aside_of e s)
-step_stage e (engine.Takes c) is = none_asides e.stage
 step_stage e (engine.TakesAside k ranges) is = ap (λ a. aside.after_take a) (sym is) ∙ one_aside e.stage aside.Takes
-step_stage e (engine.Starts p) is = none_asides e.stage
-step_stage e (engine.Asks p) is = none_asides e.stage
 step_stage e engine.AsksAside is =
     ap (λ a. aside.after_ask a (line e).queue.next) (sym (waiting_is e.stage (of_and _ _ (of_and _ _ is).0).0)) ∙ one_aside e.stage _
 step_stage e (engine.Answers number a) is = answer_stage e (place_of e number) number a refl
-step_stage e (engine.Hears p part) is = none_asides e.stage
-step_stage e (engine.Sends p) is = none_asides e.stage
-step_stage e engine.SendsEnds is = none_asides e.stage
 step_stage e engine.SendsAside is =
     ap (λ b. if b then Idle else e.stage) (sym (of_and (is_over e.stage) _ is).0) ∙ one_aside e.stage aside.Sends
-step_stage e engine.Forgives is = none_asides e.stage
 step_stage e engine.Resets is = one_aside e.stage aside.Resets
+step_stage e other is = none_asides e.stage
 
 steps_stage : (ss : List Step) (e : EngineState) → AreSteps e ss → (after_steps e ss).stage ≡ after_asides e.stage (asides_of e ss)
 unfolding after_steps asides_of

@@ -1,6 +1,6 @@
 -- Every call, every run: each FIS is due.
 use Rattle.std.proofs.Common.{◌≡◌, ℕ, ◌/◌, ◌<◌, true, false, List, [], ◌∷◌, drop, Some, None, refl, sym, ap, ◌∙◌, subst, arith, inl, inr, ◌⊎◌}
-use Rattle.std.specs.Prelude.{Option, Bool, Result, Ok, Err, if◌then◌else◌}
+use Rattle.std.specs.Prelude.{Option, Bool, Result, Ok, if◌then◌else◌}
 use Rattle.std.proofs.lemmas.Bool.{cases_lt, lt-ltb}
 use Rattle.fis_view.specs.Seen.{seen}
 use Rattle.fis_view.specs.declared.view.Fis.{Fis}
@@ -166,27 +166,14 @@ register_case h d f false line' knows may = control_tracks h d.front d.engine (r
 fis_knows : (h : Host) (d : DiskState) (x : Result Fis FisFault) → MayHear d x → IsLine (commands d) → Knows h d → Knows (fis_given h x) (fis_heard d x)
 fis_knows h d (Ok (view.RegH2D f)) may line' knows = register_case h d f (is_command f) line' knows may
 fis_knows h d (Ok (view.Payload f)) may line' knows = data_tracks h d (drop 4 f) knows line'
-fis_knows h d (Ok (view.RegD2H f)) may line' knows = knows
-fis_knows h d (Ok (view.SetBits f)) may line' knows = knows
-fis_knows h d (Ok (view.DmaActivate f)) may line' knows = knows
-fis_knows h d (Ok (view.DmaSetup f)) may line' knows = knows
-fis_knows h d (Ok (view.PioSetup f)) may line' knows = knows
-fis_knows h d (Ok (view.Unknown f)) may line' knows = knows
-fis_knows h d (Err x) may line' knows = knows
+fis_knows h d other may line' knows = knows
 
 -- ## The caller
 
 -- what is under way beside the queue goes on
 stage_case : (t : Task) (s s' : AsideStage) → (s ≡ stages.Idle → ⊥) → IsBeside t s → IsBeside t s'
 stage_case (tasks.Waits p) s s' busy is = tt
-stage_case tasks.Idle s s' busy is = absurd (busy is)
-stage_case (tasks.Owes r) s s' busy is = absurd (busy is)
-stage_case (tasks.Moves m) s s' busy is = absurd (busy is)
-stage_case (tasks.Announces p) s s' busy is = absurd (busy is)
-stage_case (tasks.Gives p) s s' busy is = absurd (busy is)
-stage_case (tasks.Sends p) s s' busy is = absurd (busy is)
-stage_case (tasks.Activates n) s s' busy is = absurd (busy is)
-stage_case (tasks.Expects n) s s' busy is = absurd (busy is)
+stage_case other s s' busy is = absurd (busy is)
 
 stage_tracks : (h : Host) (f : Front) (s s' : AsideStage) (l : Line) → (s' ≡ s) ⊎ (s ≡ stages.Idle → ⊥) → Tracks h f s l → Tracks h f s' l
 stage_tracks h f s s' l (inl same) is = let P : AsideStage → Type 0 = λ x. Tracks h f x l in subst P (sym same) is

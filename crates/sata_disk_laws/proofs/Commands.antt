@@ -442,14 +442,7 @@ task_case h f e place a tasks.Idle None clear idle sound low at' tracks is may =
     free_case h f e place a _ refl low at' (ready h f e.stage (line e) clear idle tracks) is (ap is_some sound) may
 task_case h f e place a tasks.Idle (Some fault) clear idle faulty low at' tracks is may =
     error_case h f e place a _ refl low at' (ready h f e.stage (line e) clear idle tracks) (tracks.faulty (ap is_some faulty)) is may
-task_case h f e place a (tasks.Owes r) x clear idle fault low at' tracks is may = tracks
-task_case h f e place a (tasks.Moves m) x clear idle fault low at' tracks is may = tracks
-task_case h f e place a (tasks.Waits p) x clear idle fault low at' tracks is may = tracks
-task_case h f e place a (tasks.Announces p) x clear idle fault low at' tracks is may = tracks
-task_case h f e place a (tasks.Gives p) x clear idle fault low at' tracks is may = tracks
-task_case h f e place a (tasks.Sends p) x clear idle fault low at' tracks is may = tracks
-task_case h f e place a (tasks.Activates n) x clear idle fault low at' tracks is may = tracks
-task_case h f e place a (tasks.Expects n) x clear idle fault low at' tracks is may = tracks
+task_case h f e place a other x clear idle fault low at' tracks is may = tracks
 
 reset_case : (h : Host) (f : Front) (e : EngineState) (place : ℕ) (a : Asked) (b : Bool) → f.in_reset ≡ b
     → (place < 32) ⊎ (place ≡ 32) → AskedAt place a → Tracks h f e.stage (line e) → IsLine (line e)

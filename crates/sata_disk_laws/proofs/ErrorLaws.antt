@@ -16,7 +16,7 @@ use Rattle.block_scheduler.specs.declared.scheduler.NextFis.TheVariants as fis
 use Rattle.block_engine.specs.declared.aside.AsideStage.{AsideStage}
 use Rattle.block_engine.specs.declared.aside.AsideStage.TheVariants as stages
 use Rattle.block_engine.specs.declared.request.Request.{Request}
-use Rattle.block_engine.specs.Aside.{is_over, is_waiting}
+use Rattle.block_engine.specs.Aside.{is_waiting}
 use Rattle.block_engine.specs.Engine.{EngineState, IsAskedOf}
 use Rattle.block_engine.specs.Laws as engine
 use Rattle.ata_reply.specs.declared.reply.Reply.{Reply}
@@ -38,23 +38,17 @@ use Rattle.sata_disk_laws.specs.Errors.{AbortedUntilRead, IsOfError, LogTellsOfF
 use Rattle.sata_disk_laws.proofs.Answered.{Knows}
 use Rattle.sata_disk_laws.proofs.Calls.{known, sent_is}
 use Rattle.sata_disk_laws.proofs.Commands.{owes_waits}
+use Rattle.sata_disk_laws.proofs.Owed.{not_over}
 use Rattle.sata_disk_laws.proofs.Tracks.{WaitsAs}
 use Rattle.sata_disk_laws.proofs.Watched.{watches_in}
-use Rattle.sata_disk_laws.proofs.Watching.{FaultAs, ForError, OwesFault, WatchesOf}
+use Rattle.sata_disk_laws.proofs.Watching.{FaultAs, ForError, OwesFault, WatchesOf, not_both, same_page, same_reply}
 
 -- ## A command is aborted
 
-same_reply : (r q : Reply) → Some (owe.Reply q) ≡ Some (owe.Reply r) → q ≡ r
-same_reply r q e = cc
-
 aborted_next : (d : DiskState) (o : Option Out) → d.front.task ≡ tasks.Owes aborted → IsOut d o → o ≡ Some (out.Own aborted)
-aborted_next d None task is = let owes = ap owed (sym task) ∙ is.0 in absurd (cc)
 aborted_next d (Some (out.Own r)) task is = ap (λ x. Some (out.Own x)) (sym (same_reply r aborted (ap owed (sym task) ∙ is)))
 aborted_next d (Some (out.Page p)) task is = let owes = ap owed (sym task) ∙ is in absurd (cc)
-aborted_next d (Some (out.Beside r)) task is = let owes = ap owed (sym task) ∙ is.0 in absurd (cc)
-aborted_next d (Some (out.Ends tags)) task is = let owes = ap owed (sym task) ∙ is.0 in absurd (cc)
-aborted_next d (Some (out.Of p r)) task is = let owes = ap owed (sym task) ∙ is.0 in absurd (cc)
-aborted_next d (Some (out.Data p n)) task is = let owes = ap owed (sym task) ∙ is.0 in absurd (cc)
+aborted_next d other task is = let owes = ap owed (sym task) ∙ is.0 in absurd (cc)
 
 -- ## Nothing is under way while an error stands
 
@@ -109,9 +103,6 @@ nothing_is h w d knows is some =
       task = for';
     }
 
-no_way : (b : Bool) (P : Type 0) → b ≡ false → b ≡ true → P
-no_way b P e f = absurd (cc)
-
 owed_reply : (t : Task) (r : Reply) → ForError t → owed t ≡ Some (owe.Reply r) → (r ≡ aborted) ⊎ (r ≡ page_announced)
 owed_reply (tasks.Owes q) r for' e = inl (sym (same_reply r q e) ∙ for')
 owed_reply (tasks.Announces p) r for' e = inr (sym (same_reply r _ e))
@@ -120,9 +111,6 @@ owed_reply (tasks.Gives p) r for' e = absurd (cc)
 owed_reply (tasks.Sends p) r for' e = absurd (cc)
 owed_reply t r for' e = absurd for'
 
-same_page : (p q : Page) → Some (owe.Page q) ≡ Some (owe.Page p) → q ≡ p
-same_page p q e = cc
-
 owed_page : (t : Task) (p : Page) → ForError t → owed t ≡ Some (owe.Page p) → is_log_10 p ≡ true
 owed_page (tasks.Gives q) p for' e = ap is_log_10 (sym (same_page p q e)) ∙ for'
 owed_page (tasks.Sends q) p for' e = ap is_log_10 (sym (same_page p q e)) ∙ for'
@@ -130,9 +118,6 @@ owed_page tasks.Idle p for' e = absurd (cc)
 owed_page (tasks.Owes q) p for' e = absurd (cc)
 owed_page (tasks.Announces q) p for' e = absurd (cc)
 owed_page t p for' e = absurd for'
-
-not_over : (s : AsideStage) (P : Type 0) → is_over s ≡ true → s ≡ stages.Idle → P
-not_over s P e idle = absurd (let none = ap is_over (sym idle) ∙ e in cc)
 
 ended_case : (m : Moment) (stage : Stage) → m.stage ≡ stage → is_under_way (Some (record m { stage = stage })) ≡ false → is_end (turn_of stage) ≡ false
 ended_case m Ended same e = refl
@@ -156,9 +141,9 @@ only_error d (Some (out.Page p)) none is = owed_page d.front.task p none.task is
 only_error d (Some (out.Beside r)) none is = not_over d.engine.stage _ (of_and _ _ is.1).0 none.stage
 only_error d (Some (out.Ends tags)) none is = no_tags d tags none is
 only_error d (Some (out.Of p r)) none is =
-    let x = sent_is d p (out.Of p r) is in no_way _ _ (none.places p is.2.0) (ap is_under_way x.1.there ∙ x.1.alive)
+    let x = sent_is d p (out.Of p r) is in not_both _ _ (none.places p is.2.0) (ap is_under_way x.1.there ∙ x.1.alive)
 only_error d (Some (out.Data p n)) none is =
-    let x = sent_is d p (out.Data p n) is in no_way _ _ (none.places p is.2.0) (ap is_under_way x.1.there ∙ x.1.alive)
+    let x = sent_is d p (out.Data p n) is in not_both _ _ (none.places p is.2.0) (ap is_under_way x.1.there ∙ x.1.alive)
 
 -- ## Nothing starts, and nothing is asked
 
@@ -182,7 +167,7 @@ no_request : (d : DiskState) (new : EngineState) (r : Request) (x : Option ℕ) 
 no_request d new r None none is =
     let waits = (of_and _ _ (of_and _ _ is.1).0).0 in
     let idle = ap is_waiting (sym none.stage) ∙ waits in absurd (cc)
-no_request d new r (Some p) none is = no_way _ _ (none.places p is.0.below) (asks_way (command_at (commands d) p) is.0.passes)
+no_request d new r (Some p) none is = not_both _ _ (none.places p is.0.below) (asks_way (command_at (commands d) p) is.0.passes)
 
 -- ## Where the host may send a command
 
@@ -206,7 +191,7 @@ aborted_until_read own p limit calls are =
       aborted = λ aborts o next. aborted_next d o (is.aborts aborts) next;
       only = λ some o next. only_error d o (nothing_is h w d knows is some) next;
       still = λ some place next. let none = nothing_is h w d knows is some in
-          no_way _ _ (none.places place next.1.0.below) (start_way (commands d) place (command_at (commands d) place) next.1.0.passes);
+          not_both _ _ (none.places place next.1.0.below) (start_way (commands d) place (command_at (commands d) place) next.1.0.passes);
       quiet = λ some new r next. no_request d new r r.place (nothing_is h w d knows is some) next.1;
       known = λ free. idle_fault h w d.front.fault d.front.task _ knows.waits is.fault free;
     }

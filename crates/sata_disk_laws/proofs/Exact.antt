@@ -1,6 +1,6 @@
 -- Data of the host come for the queued command that the last DMA Setup FIS named: a command whose Data are on the link has the link.
 use Rattle.std.proofs.Common.{◌≡◌, ℕ, zero, suc, ◌<◌, ◌≤◌, arith, true, false, List, [], ◌∷◌, ◌++◌, drop, Some, None, refl, sym, ap, ◌∙◌, subst}
-use Rattle.std.specs.Prelude.{Option, Bool, Result, Ok, Err, not, is_none, ◌&&◌, ◌||◌, if◌then◌else◌}
+use Rattle.std.specs.Prelude.{Option, Bool, Result, Ok, not, is_none, ◌&&◌, ◌||◌, if◌then◌else◌}
 use Rattle.std.proofs.lemmas.Option.{same_Some}
 use Rattle.fis_view.specs.Seen.{seen}
 use Rattle.fis_view.specs.declared.view.Fis.{Fis}
@@ -29,6 +29,7 @@ use Rattle.block_engine.specs.declared.request.Range.{Range}
 use Rattle.block_engine.specs.Engine.{EngineState, answered, done_at, done_of, failed_by, line, loaded_at, place_of}
 use Rattle.block_engine.specs.Laws as engine
 use Rattle.block_engine.specs.Laws.{AreHeard, AreSteps, IsHeard, IsStep, Step, after_step, after_steps}
+use Rattle.block_engine.proofs.Runs.{found_low}
 use Rattle.ata_front.specs.Fronts.{heard_data}
 use Rattle.ata_front.specs.declared.task.Act.{Act}
 use Rattle.ata_front.specs.declared.task.Act.TheVariants as act
@@ -39,7 +40,7 @@ use Rattle.sata_disk.specs.declared.out.Out.TheVariants as out
 use Rattle.sata_disk_laws.specs.Calls.{Call, Plugs, Hears, Starts, Asks, Answers, Sends, AreCalls, after_call}
 use Rattle.sata_disk_laws.specs.Calls.{act_steps, all_steps, ask_steps, data_steps, fis_steps, out_steps, range_steps, start_steps, steps_of}
 use Rattle.sata_disk_laws.specs.Laws as wanted
-use Rattle.sata_disk_laws.proofs.Runs.{call_after, call_are, all_are, found_low}
+use Rattle.sata_disk_laws.proofs.Runs.{call_after, call_are, all_are}
 
 -- ## The link
 
@@ -75,10 +76,7 @@ asks_may d (Some m) e = request_goes d m m.stage refl e
 answer_allowed : (d : Table) (p : ℕ) (i : Input) → is_answer i ≡ true → p < 33 → laws.IsAllowed d (laws.Does p i)
 answer_allowed d p Goes e low = absurd (cc)
 answer_allowed d p (Comes part) e low = absurd (cc)
-answer_allowed d p (Loads bytes) e low = low
-answer_allowed d p Stores e low = low
-answer_allowed d p Flushes e low = low
-answer_allowed d p Fails e low = low
+answer_allowed d p other e low = low
 
 answer_case : (q : Queue) (p : ℕ) (i : Input) (out : List ℕ) (b : Bool) → Exact q.table → is_answer i ≡ true → p < 33
     → Exact (if b then record { table = with_input q.table p i; out = out; next = q.next } else q).table
@@ -131,17 +129,14 @@ answer_exact e number (answers.Failed f) is = failed_exact e (place_of e number)
 
 step_exact : (e : EngineState) (s : Step) → IsStep e s → IsHeard e s → Exact (line e).queue.table → Exact (line (after_step e s)).queue.table
 step_exact e (engine.Takes c) is heard x = takes_case (line e) c _ _ x is
-step_exact e (engine.TakesAside k ranges) is heard x = x
 step_exact e (engine.Starts p) is heard x = goes_on (line e).queue.table p Goes x (is.0, start_may (line e) p (command_at (line e) p) is.1)
 step_exact e (engine.Asks p) is heard x = goes_on (line e).queue.table p Goes x (is.0, asks_may (line e).queue.table (command_at (line e) p) is.1)
-step_exact e engine.AsksAside is heard x = x
 step_exact e (engine.Answers number a) is heard x = answer_exact e number a x
 step_exact e (engine.Hears p part) is heard x = goes_on (line e).queue.table p (Comes part) x (is, heard)
 step_exact e (engine.Sends p) is heard x = sent_case e.schedule p _ (goes_on (line e).queue.table p Goes x (is.0, (of_and _ _ is.1).1))
 step_exact e engine.SendsEnds is heard x = ends_exact (line e) 32 (omega arith) x
-step_exact e engine.SendsAside is heard x = x
-step_exact e engine.Forgives is heard x = x
 step_exact e engine.Resets is heard x = (None, none_held 33 None refl)
+step_exact e other is heard x = x
 
 steps_exact : (ss : List Step) (e : EngineState) → AreSteps e ss → AreHeard e ss → Exact (line e).queue.table
     → Exact (line (after_steps e ss)).queue.table
@@ -172,9 +167,7 @@ place_wire l x low = single_wire _ l.queue.table.wire (λ k e. x.1.is k (found_p
 
 act_heard : (e : EngineState) (a : Act) → AreHeard e (act_steps e a)
 act_heard e act.Nothing = tt
-act_heard e (act.Takes c) = (tt, tt)
-act_heard e act.Flushes = (tt, tt)
-act_heard e act.Resets = (tt, tt)
+act_heard e other = (tt, tt)
 
 range_heard : (e : EngineState) (x : Option (List Range)) → AreHeard e (range_steps x)
 range_heard e None = tt
@@ -187,13 +180,7 @@ data_heard d (Some blocks) bytes x = range_heard d.engine _
 fis_heard : (d : DiskState) (f : Result Fis FisFault) → Exact (commands d).queue.table → AreHeard d.engine (fis_steps d f)
 fis_heard d (Ok (view.RegH2D f)) x = act_heard d.engine (register_told d f).act
 fis_heard d (Ok (view.Payload f)) x = data_heard d (heard_data d.front.task) (drop 4 f) x
-fis_heard d (Ok (view.RegD2H f)) x = tt
-fis_heard d (Ok (view.SetBits f)) x = tt
-fis_heard d (Ok (view.DmaActivate f)) x = tt
-fis_heard d (Ok (view.DmaSetup f)) x = tt
-fis_heard d (Ok (view.PioSetup f)) x = tt
-fis_heard d (Ok (view.Unknown f)) x = tt
-fis_heard d (Err f) x = tt
+fis_heard d other x = tt
 
 start_heard : (e : EngineState) (x : Option ℕ) → AreHeard e (start_steps x)
 start_heard e None = tt

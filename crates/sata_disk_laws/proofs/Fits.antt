@@ -4,7 +4,7 @@ use Rattle.std.specs.Prelude.{Bool, nat_lt, if◌then◌else◌, ◌==◌, ◌&&
 use Rattle.std.proofs.lemmas.Bool.{eqb-true, ltb-true, ltb-false}
 use Rattle.block_command.specs.declared.command.Command.{Command}
 use Rattle.block_command.specs.declared.command.Protocol.{Protocol}
-use Rattle.block_command.specs.declared.command.Protocol.TheVariants.{Queued, Dma, Pio, Verify}
+use Rattle.block_command.specs.declared.command.Protocol.TheVariants.{Pio}
 use Rattle.block_command.specs.declared.command.Stage.{Stage}
 use Rattle.block_command.specs.declared.command.Stage.TheVariants.{Waiting, Load, Loading, SetUpRead, Announce, Sending}
 use Rattle.block_command.specs.declared.command.Stage.TheVariants.{SetUpWrite, Activate, Receiving}
@@ -102,15 +102,11 @@ next_is c done bytes sent w p =
 data_fits : (c : Command) (done : ℕ) (bytes : List ℕ) (sent : ℕ) (p : Protocol) → is_pio p ≡ is_pio c.protocol → IsPart c done bytes sent
     → Fits c done bytes sent (data_stage p)
 data_fits c done bytes sent Pio e is = (sym e, is)
-data_fits c done bytes sent Queued e is = is
-data_fits c done bytes sent Dma e is = is
-data_fits c done bytes sent Verify e is = is
+data_fits c done bytes sent other e is = is
 
 end_fits : (c : Command) (done : ℕ) (bytes : List ℕ) (sent : ℕ) (p : Protocol) → Fits c done bytes sent (read_end p)
 end_fits c done bytes sent Pio = tt
-end_fits c done bytes sent Queued = tt
-end_fits c done bytes sent Dma = tt
-end_fits c done bytes sent Verify = tt
+end_fits c done bytes sent other = tt
 
 read_case : (c : Command) (done : ℕ) (b : Bool) → nat_lt done c.count ≡ b → Fits c done [] 0 (if b then Load else read_end c.protocol)
 read_case c done true e = (ltb-true done c.count e, refl)

@@ -4,7 +4,7 @@ use Rattle.std.specs.Prelude.{Bool, nat_le, nat_lt, not, if◌then◌else◌, �
 use Rattle.std.proofs.lemmas.Bool.{cases_Bool, ltb-true, ltb-false, le-leb, lt-leb}
 use Rattle.block_command.specs.declared.command.Command.{Command}
 use Rattle.block_command.specs.declared.command.Protocol.{Protocol}
-use Rattle.block_command.specs.declared.command.Protocol.TheVariants.{Queued, Dma, Pio, Verify}
+use Rattle.block_command.specs.declared.command.Protocol.TheVariants.{Pio, Verify}
 use Rattle.block_command.specs.declared.command.Stage.{Stage}
 use Rattle.block_command.specs.declared.command.Stage.TheVariants.{Waiting, Load, Loading, SetUpRead, Announce, Sending}
 use Rattle.block_command.specs.declared.command.Stage.TheVariants.{SetUpWrite, Activate, Receiving}
@@ -47,15 +47,11 @@ both p x e = ap (λ b. b && x) e
 
 data_alive : (p : Protocol) → is_ended (data_stage p) ≡ false
 data_alive Pio = refl
-data_alive Queued = refl
-data_alive Dma = refl
-data_alive Verify = refl
+data_alive other = refl
 
 read_ended : (p : Protocol) → is_ended (read_end p) ≡ is_pio p
 read_ended Pio = refl
-read_ended Queued = refl
-read_ended Dma = refl
-read_ended Verify = refl
+read_ended other = refl
 
 abbrev pub data_sent : Command → (done : ℕ) → List ℕ → (to : ℕ) → (more again : Bool) → Moment
 data_sent c done bytes to more again = if more then at c done bytes to (data_stage c.protocol)
@@ -116,9 +112,7 @@ sent_counts c done bytes sent left n w true again e f counts within = stays c.pr
   where
     stays : (p : Protocol) → Counts (left - n) c done (sent + n * 512) (data_stage p)
     stays Pio = λ is. let all = counts is in let at' = w.sectors in let some = (part_some c done w.more).1 in omega (arith, all, within, at', some)
-    stays Queued = λ is. let all = counts is in let at' = w.sectors in let some = (part_some c done w.more).1 in omega (arith, all, within, at', some)
-    stays Dma = λ is. let all = counts is in let at' = w.sectors in let some = (part_some c done w.more).1 in omega (arith, all, within, at', some)
-    stays Verify = λ is. let all = counts is in let at' = w.sectors in let some = (part_some c done w.more).1 in omega (arith, all, within, at', some)
+    stays other = λ is. let all = counts is in let at' = w.sectors in let some = (part_some c done w.more).1 in omega (arith, all, within, at', some)
 sent_counts c done bytes sent left n w false true e f counts within =
     λ is. let all = counts is in let at' = w.sectors in let some = (part_some c done w.more).1 in
     let high = ltb-false (sent + n * 512) (length bytes) e in let long = w.all in omega (arith, all, within, at', some, high, long)
@@ -126,9 +120,7 @@ sent_counts c done bytes sent left n w false false e f counts within = over c.pr
   where
     over : (p : Protocol) → Counts (left - n) c (done + part_count c done) 0 (read_end p)
     over Pio = tt
-    over Queued = tt
-    over Dma = tt
-    over Verify = tt
+    over other = tt
 
 div_512 : (n : ℕ) → n * 512 / 512 ≡ n
 div_512 n = omega arith
@@ -156,15 +148,11 @@ part_some_sectors c done bytes sent w p =
 
 data_last : (c : Command) (done : ℕ) (bytes : List ℕ) (sent left : ℕ) (p : Protocol) → c.protocol ≡ p → is_last (at c done bytes sent (data_stage p)) left ≡ false
 data_last c done bytes sent left Pio e = refl
-data_last c done bytes sent left Queued e = not_both c.protocol _ (ap is_pio e)
-data_last c done bytes sent left Dma e = not_both c.protocol _ (ap is_pio e)
-data_last c done bytes sent left Verify e = not_both c.protocol _ (ap is_pio e)
+data_last c done bytes sent left other e = not_both c.protocol _ (ap is_pio e)
 
 end_last : (c : Command) (done : ℕ) (bytes : List ℕ) (sent left : ℕ) (p : Protocol) → is_last (at c done bytes sent (read_end p)) left ≡ false
 end_last c done bytes sent left Pio = refl
-end_last c done bytes sent left Queued = refl
-end_last c done bytes sent left Dma = refl
-end_last c done bytes sent left Verify = refl
+end_last c done bytes sent left other = refl
 
 sent_last : (c : Command) (done : ℕ) (bytes : List ℕ) (to left : ℕ) (more again : Bool) → is_last (data_sent c done bytes to more again) left ≡ false
 sent_last c done bytes to left true again = data_last c done bytes to left c.protocol refl
@@ -191,9 +179,7 @@ either_stage false x y e f = f
 
 verify_end : (p : Protocol) → is_verify p ≡ true → is_ended (read_end p) ≡ false
 verify_end Verify e = refl
-verify_end Pio e = absurd (cc)
-verify_end Queued e = absurd (cc)
-verify_end Dma e = absurd (cc)
+verify_end other e = absurd (cc)
 
 loaded_ended : (c : Command) (done : ℕ) (bytes old : List ℕ) (sent : ℕ) (b d : Bool) → is_verify c.protocol ≡ d
     → is_ended (if b then (if d then read_on (at c done old sent Loading) (done + part_count c done)
@@ -227,9 +213,7 @@ started_counts c done sent left false q counts = counts
 
 data_counts : (c : Command) (done sent left : ℕ) (p : Protocol) → Left c left done sent → Counts left c done sent (data_stage p)
 data_counts c done sent left Pio counts = counts
-data_counts c done sent left Queued counts = counts
-data_counts c done sent left Dma counts = counts
-data_counts c done sent left Verify counts = counts
+data_counts c done sent left other counts = counts
 
 first_counts : (c : Command) (done sent left : ℕ) (b : Bool) → Left c left done sent → Counts left c done sent (if b then SetUpRead else data_stage c.protocol)
 first_counts c done sent left true counts = tt
@@ -237,9 +221,7 @@ first_counts c done sent left false counts = data_counts c done sent left c.prot
 
 verify_pio : (p : Protocol) → is_verify p ≡ true → is_pio p ≡ true → ⊥
 verify_pio Verify e f = cc
-verify_pio Pio e f = cc
-verify_pio Queued e f = cc
-verify_pio Dma e f = cc
+verify_pio other e f = cc
 
 verify_counts : (c : Command) (done left : ℕ) (b : Bool) → is_verify c.protocol ≡ true → Counts left c done 0 (if b then Load else read_end c.protocol)
 verify_counts c done left true e = λ f. absurd (verify_pio c.protocol e f)
@@ -247,9 +229,7 @@ verify_counts c done left false e = over c.protocol
   where
     over : (p : Protocol) → Counts left c done 0 (read_end p)
     over Pio = tt
-    over Queued = tt
-    over Dma = tt
-    over Verify = tt
+    over other = tt
 
 loaded_counts : (c : Command) (done : ℕ) (bytes old : List ℕ) (sent left : ℕ) (b d : Bool) → is_verify c.protocol ≡ d → Left c left done sent
     → CountsAt left (if b then (if d then read_on (at c done old sent Loading) (done + part_count c done)

@@ -22,3 +22,4 @@ mod Stores
 mod Watching
 mod Watched
 mod ErrorLaws
+pub mod Door

@@ -71,18 +71,13 @@ op_other : (o : Opcode) (f : List ℕ) (d : DiskFacts) (s : Settings) → is_log
 op_other code.ReadQueued f d s e = queued_other f false d s
 op_other code.WriteQueued f d s e = queued_other f true d s
 op_other (code.Transfer t) f d s e = transferred_other f t d s _
-op_other code.Flush f d s e = other _ refl
 op_other code.SetFeatures f d s e = sets_other _
 op_other code.SetMultiple f d s e = multiple_other _
 op_other code.DataSet f d s e = either _ _ _ (other (ask.Trims _) refl) (other aborted refl)
-op_other code.Identify f d s e = other _ refl
 op_other code.ReadLog f d s e = absurd (cc)
 op_other code.ReadLogDma f d s e = absurd (cc)
 op_other code.Smart f d s e = either _ _ _ (smart_other _) (other aborted refl)
-op_other code.Standby f d s e = other _ refl
-op_other code.Idle f d s e = other _ refl
-op_other code.CheckPower f d s e = other _ refl
-op_other code.Unknown f d s e = other _ refl
+op_other rest f d s e = other _ refl
 
 -- ## The command code
 

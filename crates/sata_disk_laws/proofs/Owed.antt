@@ -155,21 +155,14 @@ over_case h f s l st true t is w over' tags = (w, single_tracks h f f.fault st s
 over_case h f s l st false t is w over' tags =
     (single_refused h w, failed_tracks h f f.fault st s stages.Idle l is refl over' (no_lone h l tags))
 
-not_over : (s : AsideStage) (P : Type 0) → is_over s ≡ true → s ≡ stages.Idle → P
+pub not_over : (s : AsideStage) (P : Type 0) → is_over s ≡ true → s ≡ stages.Idle → P
 not_over s P e idle = absurd (let none = ap is_over (sym idle) ∙ e in cc)
 
 beside_case : (h : Host) (f : Front) (s : AsideStage) (l : Line) (well : Bool) (x : Trouble) (t : Task) → is_over s ≡ true → Tracks h f s l
     → IsBeside t s → WaitsAs h t (command_at l 32) → TagsAs h t l
     → IsDue h (over well x) × Tracks (reply_got h (over well x)) (beside_sent f well) stages.Idle l
 beside_case h f s l well x (tasks.Waits p) e is beside waits tags = over_case h f s l _ well x is waits.0 waits.1 tags
-beside_case h f s l well x tasks.Idle e is beside waits tags = not_over s _ e beside
-beside_case h f s l well x (tasks.Owes r) e is beside waits tags = not_over s _ e beside
-beside_case h f s l well x (tasks.Moves m) e is beside waits tags = not_over s _ e beside
-beside_case h f s l well x (tasks.Announces p) e is beside waits tags = not_over s _ e beside
-beside_case h f s l well x (tasks.Gives p) e is beside waits tags = not_over s _ e beside
-beside_case h f s l well x (tasks.Sends p) e is beside waits tags = not_over s _ e beside
-beside_case h f s l well x (tasks.Activates n) e is beside waits tags = not_over s _ e beside
-beside_case h f s l well x (tasks.Expects n) e is beside waits tags = not_over s _ e beside
+beside_case h f s l well x other e is beside waits tags = not_over s _ e beside
 
 pub beside_tracks : (h : Host) (f : Front) (s : AsideStage) (l : Line) (well : Bool) (x : Trouble) → is_over s ≡ true → Tracks h f s l
     → IsDue h (over well x) × Tracks (reply_got h (over well x)) (beside_sent f well) stages.Idle l

@@ -19,7 +19,7 @@ use Rattle.block_engine.specs.declared.request.Failure.{Failure}
 use Rattle.block_engine.specs.Aside.{settled}
 use Rattle.block_engine.specs.Engine.{EngineState, answered, done_at, done_of, failed_by, line, loaded_at, place_of}
 use Rattle.sata_disk_laws.proofs.Left.{is_quiet}
-use Rattle.sata_disk_laws.proofs.Runs.{found_low}
+use Rattle.block_engine.proofs.Runs.{found_low}
 
 abbrev pub is_quiet_at : Option Moment → Input → Bool
 is_quiet_at None i = true

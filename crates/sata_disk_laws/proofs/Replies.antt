@@ -5,7 +5,7 @@ use Rattle.std.specs.Option.{option_map}
 use Rattle.std.proofs.lemmas.Bool.{lt-ltb}
 use Rattle.block_command.specs.declared.command.Command.{Command}
 use Rattle.block_command.specs.declared.command.Protocol.{Protocol}
-use Rattle.block_command.specs.declared.command.Protocol.TheVariants.{Queued, Dma, Pio, Verify}
+use Rattle.block_command.specs.declared.command.Protocol.TheVariants.{Queued, Pio}
 use Rattle.block_command.specs.declared.command.Stage.{Stage}
 use Rattle.block_command.specs.declared.command.Stage.TheVariants.{SetUpRead, Announce, Sending, SetUpWrite, Activate, Receiving, End, Fail}
 use Rattle.block_command.specs.Moments.{Moment, is_ended, is_queued, part_of, turn_of}
@@ -46,21 +46,15 @@ by_reply h d p r r' e good = let P : Reply → Type 0 = λ x. IsGood h d p x in 
 
 not_pio : (p : Protocol) → is_queued p ≡ true → is_pio p ≡ true → ⊥
 not_pio Queued e f = cc
-not_pio Dma e f = cc
-not_pio Pio e f = cc
-not_pio Verify e f = cc
+not_pio other e f = cc
 
 no_pio : (p : Protocol) → is_queued p ≡ true → is_pio p ≡ false
-no_pio Queued e = refl
-no_pio Dma e = refl
 no_pio Pio e = absurd (cc)
-no_pio Verify e = refl
+no_pio other e = refl
 
 activates : (m : Moment) (p : Protocol) → is_queued p ≡ true → asks_by m p ≡ replies.Activate
 activates m Queued e = refl
-activates m Dma e = absurd (cc)
-activates m Pio e = absurd (cc)
-activates m Verify e = absurd (cc)
+activates m other e = absurd (cc)
 
 aborts : (c : Command) (t : Trouble) (wide : Bool) → nat_lt c.place 32 ≡ true → failure_of c t wide ≡ replies.Aborts t.error
 aborts c t wide e = ap (λ b. if b then replies.Aborts t.error else replies.Failed (record { error = t.error; lba = t.lba; wide = wide })) e

@@ -1,13 +1,12 @@
 -- A run of a disk is one of its engine.
-use Rattle.std.proofs.Common.{◌≡◌, ℕ, zero, suc, ◌<◌, ◌⊎◌, arith, true, false, List, [], ◌∷◌, ◌++◌, drop, Some, None, refl, sym, ap, ◌∙◌, subst}
-use Rattle.std.specs.Prelude.{Option, Bool, Result, Ok, Err, if◌then◌else◌}
+use Rattle.std.proofs.Common.{◌≡◌, ℕ, ◌<◌, ◌⊎◌, arith, true, List, [], ◌∷◌, ◌++◌, drop, Some, None, refl, sym, ap, ◌∙◌, subst}
+use Rattle.std.specs.Prelude.{Option, Result, Ok}
 use Rattle.fis_view.specs.Seen.{seen}
 use Rattle.fis_view.specs.declared.view.Fis.{Fis}
 use Rattle.fis_view.specs.declared.view.Fis.TheVariants as view
 use Rattle.fis_view.specs.declared.view.FisFault.{FisFault}
 use Rattle.block_disk.specs.Table.{is_under_way}
-use Rattle.std.proofs.lemmas.Option.{same_Some}
-use Rattle.block_queue.specs.Line.{Line, command_at, first_below, or_this}
+use Rattle.block_queue.specs.Line.{Line, command_at}
 use Rattle.block_queue.specs.Deeds.{Goes}
 use Rattle.block_engine.specs.declared.aside.AsideStage.TheVariants as stages
 use Rattle.block_engine.specs.declared.request.Range.{Range}
@@ -15,6 +14,7 @@ use Rattle.block_engine.specs.declared.request.Request.{Request}
 use Rattle.block_engine.specs.Engine.{EngineState, IsAskedOf, IsEngineStart, discards, line, none_engaged, started}
 use Rattle.block_engine.specs.Laws as engine
 use Rattle.block_engine.specs.Laws.{AreSteps, IsStill, Step, after_step, after_steps}
+use Rattle.block_engine.proofs.Runs.{found_low}
 use Rattle.ata_front.specs.Fronts.{heard_data}
 use Rattle.ata_front.specs.declared.task.Act.{Act}
 use Rattle.ata_front.specs.declared.task.Act.TheVariants as act
@@ -27,6 +27,23 @@ use Rattle.sata_disk.specs.declared.out.Out.TheVariants as out
 use Rattle.sata_disk_laws.specs.Calls.{Call, Plugs, Hears, Starts, Asks, Answers, Sends, IsCall, AreCalls, after_call, after_calls, asked_by}
 use Rattle.sata_disk_laws.specs.Calls.{act_steps, all_steps, ask_steps, data_steps, fis_steps, out_steps, range_steps, start_steps, steps_of}
 use Rattle.sata_disk_laws.specs.Laws as laws
+
+-- ## Runs that go on
+
+pub calls_both : (calls later : List Call) (d : DiskState) → AreCalls d calls → AreCalls (after_calls d calls) later → AreCalls d (calls ++ later)
+unfolding after_calls
+calls_both [] later d are next = next
+calls_both (c ∷ calls) later d are next = (are.0, calls_both calls later (after_call d c) are.1 next)
+
+pub calls_after : (calls later : List Call) (d : DiskState) → after_calls d (calls ++ later) ≡ after_calls (after_calls d calls) later
+unfolding after_calls
+calls_after [] later d = refl
+calls_after (c ∷ calls) later d = calls_after calls later (after_call d c)
+
+-- a request that was asked
+pub engine_asked : (old new : EngineState) (r : Request) (x : Option ℕ) → IsAskedOf old new r x → new ≡ asked_by old x
+engine_asked old new r None is = is.2
+engine_asked old new r (Some p) is = is.1
 
 -- ## Lists of steps
 
@@ -71,13 +88,7 @@ data_after d (Some blocks) bytes = range_after d _
 fis_after : (d : DiskState) (x : Result Fis FisFault) → (fis_heard d x).engine ≡ after_steps d.engine (fis_steps d x)
 fis_after d (Ok (view.RegH2D f)) = act_after d.engine (register_told d f).act
 fis_after d (Ok (view.Payload f)) = data_after d (heard_data d.front.task) (drop 4 f)
-fis_after d (Ok (view.RegD2H f)) = none_steps d.engine
-fis_after d (Ok (view.SetBits f)) = none_steps d.engine
-fis_after d (Ok (view.DmaActivate f)) = none_steps d.engine
-fis_after d (Ok (view.DmaSetup f)) = none_steps d.engine
-fis_after d (Ok (view.PioSetup f)) = none_steps d.engine
-fis_after d (Ok (view.Unknown f)) = none_steps d.engine
-fis_after d (Err x) = none_steps d.engine
+fis_after d other = none_steps d.engine
 
 start_after : (e : EngineState) (x : Option ℕ) → started e x ≡ after_steps e (start_steps x)
 start_after e None = none_steps e
@@ -115,20 +126,6 @@ range_are : (e : EngineState) (x : Option (List Range)) → e.stage ≡ stages.I
 range_are e None idle = tt
 range_are e (Some ranges) idle = (idle, tt)
 
--- a place that is found is a place
-found_here : (n k : ℕ) (b : Bool) → (if b then Some n else None) ≡ Some k → k ≡ n
-found_here n k true e = sym (same_Some n k e)
-found_here n k false e = absurd (cc)
-
-found_case : (n k : ℕ) (x : Option ℕ) (b : Bool) → (x ≡ Some k → k < n) → or_this x (if b then Some n else None) ≡ Some k → k < suc n
-found_case n k None b low e = let same = found_here n k b e in omega (arith, same)
-found_case n k (Some j) b low e = let below = low e in omega (arith, below)
-
-pub found_low : (test : ℕ → Bool) (n k : ℕ) → first_below test n ≡ Some k → k < n
-unfolding first_below
-found_low test zero k e = absurd (cc)
-found_low test (suc n) k e = found_case n k _ _ (λ f. found_low test n k f) e
-
 single_low : (x : Option ℕ) → ((k : ℕ) → x ≡ Some k → k < 32) → or_single x < 33
 single_low None low = omega arith
 single_low (Some k) low = let below = low k refl in omega (arith, below)
@@ -144,13 +141,7 @@ data_are d (Some blocks) bytes may = range_are d.engine _ may
 fis_are : (d : DiskState) (x : Result Fis FisFault) → MayHear d x → AreSteps d.engine (fis_steps d x)
 fis_are d (Ok (view.RegH2D f)) may = act_are d.engine (register_told d f).front.task (register_told d f).act may
 fis_are d (Ok (view.Payload f)) may = data_are d (heard_data d.front.task) (drop 4 f) may
-fis_are d (Ok (view.RegD2H f)) may = tt
-fis_are d (Ok (view.SetBits f)) may = tt
-fis_are d (Ok (view.DmaActivate f)) may = tt
-fis_are d (Ok (view.DmaSetup f)) may = tt
-fis_are d (Ok (view.PioSetup f)) may = tt
-fis_are d (Ok (view.Unknown f)) may = tt
-fis_are d (Err x) may = tt
+fis_are d other may = tt
 
 start_are : (e : EngineState) (x : Option ℕ) → IsEngineStart e x → AreSteps e (start_steps x)
 start_are e None is = tt

@@ -29,7 +29,8 @@ use Rattle.sata_disk.specs.State.{DiskState, commands, new_disk}
 use Rattle.sata_disk_laws.specs.Calls.{after_calls, all_steps}
 use Rattle.sata_disk_laws.specs.Laws.{IsSilent, Owed, ByCaller, ByHost, OfStore, SilenceIsOwed, reached}
 use Rattle.sata_disk_laws.proofs.Runs as runs
-use Rattle.sata_disk_laws.proofs.Runs.{all_after, all_are, found_low}
+use Rattle.sata_disk_laws.proofs.Runs.{all_after, all_are}
+use Rattle.block_engine.proofs.Runs.{found_low}
 
 -- ## The line of a run
 
@@ -77,7 +78,6 @@ answer_line e number (answers.Failed f) is = failed_line e (place_of e number) n
 
 step_line : (e : EngineState) (s : Step) → IsStep e s → IsLine (line e) → IsLine (line (after_step e s))
 step_line e (engine.Takes c) may is = line_after (line e) (deed.Takes c) is may
-step_line e (engine.TakesAside k ranges) may is = is
 step_line e (engine.Starts p) may is = line_after (line e) (deed.Starts p) is (may.0, may.1)
 step_line e (engine.Asks p) may is = line_after (line e) (deed.Asks p) is may
 step_line e engine.AsksAside may is = line_after (line e) deed.Draws is tt
@@ -85,9 +85,8 @@ step_line e (engine.Answers number a) may is = answer_line e number a is
 step_line e (engine.Hears p part) may is = line_after (line e) (deed.Hears p part) is may
 step_line e (engine.Sends p) may is = sent_case e.schedule p _ (line_after (line e) (deed.Sends p) is may)
 step_line e engine.SendsEnds may is = ends_line (line e) 32 (omega arith) is
-step_line e engine.SendsAside may is = is
-step_line e engine.Forgives may is = is
 step_line e engine.Resets may is = line_after (line e) deed.Resets is tt
+step_line e other may is = is
 
 pub steps_line : (ss : List Step) (e : EngineState) → AreSteps e ss → IsLine (line e) → IsLine (line (after_steps e ss))
 unfolding after_steps

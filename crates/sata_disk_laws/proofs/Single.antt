@@ -5,7 +5,7 @@ use Rattle.std.specs.Option.{option_map}
 use Rattle.std.proofs.lemmas.Bool.{and_right}
 use Rattle.block_command.specs.declared.command.Command.{Command}
 use Rattle.block_command.specs.declared.command.Protocol.{Protocol}
-use Rattle.block_command.specs.declared.command.Protocol.TheVariants.{Queued, Dma, Pio, Verify}
+use Rattle.block_command.specs.declared.command.Protocol.TheVariants.{Pio}
 use Rattle.block_command.specs.declared.command.Stage.{Stage}
 use Rattle.block_command.specs.declared.command.Stage.TheVariants.{SetUpRead, Announce, Sending, SetUpWrite, Activate, End, Fail}
 use Rattle.block_command.specs.Moments.{Moment, is_ended, part_of}
@@ -61,13 +61,8 @@ moving_case h f s l m (tasks.Moves v) at' there alive beside w tags = record {
   alive = w.1.0;
 }
 moving_case h f s l m tasks.Idle at' there alive beside w tags = no_task (Some m) _ alive w.2
-moving_case h f s l m (tasks.Owes r) at' there alive beside w tags = no_task (Some m) _ alive w.1
-moving_case h f s l m (tasks.Waits x) at' there alive beside w tags = no_task (Some m) _ alive w.1
-moving_case h f s l m (tasks.Announces x) at' there alive beside w tags = no_task (Some m) _ alive w.1
 moving_case h f s l m (tasks.Gives x) at' there alive beside w tags = no_task (Some m) _ alive w.2
-moving_case h f s l m (tasks.Sends x) at' there alive beside w tags = no_task (Some m) _ alive w.1
-moving_case h f s l m (tasks.Activates n) at' there alive beside w tags = no_task (Some m) _ alive w.1
-moving_case h f s l m (tasks.Expects n) at' there alive beside w tags = no_task (Some m) _ alive w.1
+moving_case h f s l m other at' there alive beside w tags = no_task (Some m) _ alive w.1
 
 pub moving_is : (h : Host) (f : Front) (s : AsideStage) (l : Line) (m : Moment) → command_at l 32 ≡ Some m → is_under_way (Some m) ≡ true → Tracks h f s l
     → IsMoving h f s l m
@@ -150,9 +145,7 @@ announced_waits h false e = e
 
 asks_good : (h : Host) (d : DiskState) (m : Moment) (p : Protocol) → IsSingle h → SentAs h d 32 0 → IsGood h d 32 (asks_by m p)
 asks_good h d m Pio single sent = (single, refl, sent)
-asks_good h d m Queued single sent = (inl single, tt, sent)
-asks_good h d m Dma single sent = (inl single, tt, sent)
-asks_good h d m Verify single sent = (inl single, tt, sent)
+asks_good h d m other single sent = (inl single, tt, sent)
 
 fails_single : (c : Command) (t : Trouble) (wide : Bool) → c.place ≡ 32
     → failure_of c t wide ≡ replies.Failed (record { error = t.error; lba = t.lba; wide = wide })

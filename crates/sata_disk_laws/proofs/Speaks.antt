@@ -63,13 +63,7 @@ idle_case : (h : Host) (l : Line) (p : ℕ) (t : Task) → p < 32 → is_taken l
     → (t ≡ tasks.Idle) × IsQueued h p
 idle_case h l p tasks.Idle low is free waits tags = (refl, (low, sym (tags p low) ∙ is, waits.0))
 idle_case h l p (tasks.Owes r) low is free waits tags = absurd (cc)
-idle_case h l p (tasks.Moves m) low is free waits tags = no_tag _ _ is (tags p low).0
-idle_case h l p (tasks.Waits x) low is free waits tags = no_tag _ _ is (tags p low).0
-idle_case h l p (tasks.Announces x) low is free waits tags = no_tag _ _ is (tags p low).0
-idle_case h l p (tasks.Gives x) low is free waits tags = no_tag _ _ is (tags p low).0
-idle_case h l p (tasks.Sends x) low is free waits tags = no_tag _ _ is (tags p low).0
-idle_case h l p (tasks.Activates n) low is free waits tags = no_tag _ _ is (tags p low).0
-idle_case h l p (tasks.Expects n) low is free waits tags = no_tag _ _ is (tags p low).0
+idle_case h l p other low is free waits tags = no_tag _ _ is (tags p low).0
 
 -- a queued command that is under way where the disk owes nothing of itself
 pub queued_idle : (h : Host) (f : Front) (s : AsideStage) (l : Line) (p : ℕ) → p < 32 → is_taken l p ≡ true → owed f.task ≡ None → Tracks h f s l

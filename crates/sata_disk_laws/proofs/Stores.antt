@@ -9,7 +9,7 @@ use Rattle.block_command.specs.Laws.{Goes, Ledger, happening}
 use Rattle.block_command.proofs.Door.{Agrees, at}
 use Rattle.block_disk.specs.Table as table
 use Rattle.block_disk.specs.Laws.{Page, at_page, shown_at}
-use Rattle.block_disk.specs.Requests.{Act, Asked, Books, Queue, AreActs, Takes, Sends, Asks, Hears, Answers, Resets, Draws, after_act, entered_by, no_books, none_queued, seen, seen_by}
+use Rattle.block_disk.specs.Requests.{Act, Asked, Books, Queue, AreActs, Asks, after_act, entered_by, no_books, none_queued, seen, seen_by}
 use Rattle.block_disk.proofs.Door.{Agree, Matches, kept_none, one}
 use Rattle.block_queue.specs.Deeds as deed
 use Rattle.block_queue.specs.Deeds.{Deed, act_of}
@@ -54,13 +54,8 @@ asked_heard b place number (Some m) match' = (refl, page_has m _ match')
 -- ## Every run of requests by number
 
 act_heard : (q : Queue) (b : Books) (a : Act) → Agree q b → IsStoreHeard b (seen q a)
-act_heard q b (Takes c) agree = tt
-act_heard q b (Sends place) agree = tt
 act_heard q b (Asks place) agree = asked_heard b place q.next (table.at q.table place) (agree.kept.each place)
-act_heard q b (Hears place part) agree = tt
-act_heard q b (Answers place number i) agree = tt
-act_heard q b Resets agree = tt
-act_heard q b Draws agree = tt
+act_heard q b other agree = tt
 
 acts_heard : (acts : List Act) (q : Queue) (b : Books) → Agree q b → AreActs acts → AreStoresHeard b (seen_by q acts)
 unfolding seen_by
@@ -89,16 +84,14 @@ send_acts place true low = (low, (tt, tt))
 send_acts place false low = (low, tt)
 
 move_acts : (s : Schedule) (m : Move) → IsMove s m → AreActs (map act_of (deeds_of s m))
-move_acts s (move.Takes c) is = (is, tt)
 move_acts s (move.Starts place) is = (is.0, tt)
 move_acts s (move.Asks place) is = (is.0, tt)
 move_acts s (move.Sends place) is = send_acts place _ is.0
 move_acts s move.SendsEnds is = ends_acts s.line 32 (omega arith)
-move_acts s (move.Hears place part) is = (is, tt)
-move_acts s (move.Answers place number i) is = (is, tt)
 move_acts s move.Draws is = (tt, tt)
 move_acts s move.Forgives is = tt
 move_acts s move.Resets is = (tt, tt)
+move_acts s other is = (is, tt)
 
 moves_acts : (moves : List Move) (s : Schedule) → AreMoves s moves → AreActs (map act_of (all_deeds s moves))
 unfolding all_deeds

@@ -3,7 +3,7 @@ use Rattle.std.proofs.Common.{◌≡◌, ℕ, ◌<◌, true, false, List, drop, 
 use Rattle.std.specs.Prelude.{Option, Bool, if◌then◌else◌}
 use Rattle.block_command.specs.declared.command.Command.{Command}
 use Rattle.block_command.specs.declared.command.Protocol.{Protocol}
-use Rattle.block_command.specs.declared.command.Protocol.TheVariants.{Queued, Dma, Pio, Verify}
+use Rattle.block_command.specs.declared.command.Protocol.TheVariants.{Queued}
 use Rattle.block_command.specs.declared.command.Stage.{Stage}
 use Rattle.block_command.specs.declared.command.Stage.TheVariants.{SetUpRead, Announce, Sending, SetUpWrite, Activate, End, Fail}
 use Rattle.block_command.specs.Moments.{Moment, turn_of}
@@ -30,9 +30,7 @@ same_reply p q r s e = cc
 
 asks_happen : (m : Moment) (protocol : Protocol) → happens (asks_by m protocol) ≡ SentActivate
 asks_happen m Queued = refl
-asks_happen m Dma = refl
-asks_happen m Pio = refl
-asks_happen m Verify = refl
+asks_happen m other = refl
 
 failure_happens : (b : Bool) (error : AtaError) (f : Failure) → happens (if b then replies.Aborts error else replies.Failed f) ≡ SentError
 failure_happens true error f = refl

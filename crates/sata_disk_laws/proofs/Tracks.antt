@@ -127,14 +127,9 @@ quiet_moves h left x y (Given i q e) moves = let P : Option Moment → Type 0 = 
 
 quiet_waits : (h : Host) (t : Task) (x y : Option Moment) → Quiet x y → WaitsAs h t x → WaitsAs h t y
 quiet_waits h tasks.Idle x y q w = (w.0, w.1, quiet_alive x y q ∙ w.2)
-quiet_waits h (tasks.Owes r) x y q w = (w.0, quiet_alive x y q ∙ w.1)
 quiet_waits h (tasks.Moves m) x y q w = (w.0, quiet_moves h m.left x y q w.1)
-quiet_waits h (tasks.Waits p) x y q w = (w.0, quiet_alive x y q ∙ w.1)
-quiet_waits h (tasks.Announces p) x y q w = (w.0, quiet_alive x y q ∙ w.1)
 quiet_waits h (tasks.Gives p) x y q w = (w.0, w.1, quiet_alive x y q ∙ w.2)
-quiet_waits h (tasks.Sends p) x y q w = (w.0, quiet_alive x y q ∙ w.1)
-quiet_waits h (tasks.Activates n) x y q w = (w.0, quiet_alive x y q ∙ w.1)
-quiet_waits h (tasks.Expects n) x y q w = (w.0, quiet_alive x y q ∙ w.1)
+quiet_waits h other x y q w = (w.0, quiet_alive x y q ∙ w.1)
 
 -- the same tags are taken
 abbrev pub AsTaken : Line → Line → Type 0

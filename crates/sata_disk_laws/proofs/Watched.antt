@@ -1,6 +1,6 @@
 -- The error that stands by the FISes is that of the front, over every run.
 use Rattle.std.proofs.Common.{◌≡◌, ℕ, ◌/◌, ◌<◌, true, false, List, [], ◌∷◌, ◌++◌, drop, get_or, Some, None, refl, sym, ap, ◌∙◌, subst, arith, inl, inr}
-use Rattle.std.specs.Prelude.{Option, Bool, Result, Ok, Err, not, nat_lt, ◌&&◌, if◌then◌else◌}
+use Rattle.std.specs.Prelude.{Option, Bool, Result, Ok, not, nat_lt, ◌&&◌, if◌then◌else◌}
 use Rattle.std.specs.Option.{is_some}
 use Rattle.std.proofs.lemmas.Bool.{and_right, cases_lt, lt-ltb}
 use Rattle.fis_view.specs.Seen.{seen}
@@ -20,7 +20,6 @@ use Rattle.block_queue.proofs.Door.{new_line, of_and}
 use Rattle.block_scheduler.specs.Sets.{is_fail, turn_at}
 use Rattle.block_scheduler.specs.Schedule.{ends_all}
 use Rattle.block_engine.specs.declared.aside.AsideStage.{AsideStage}
-use Rattle.block_engine.specs.declared.aside.AsideStage.TheVariants as stages
 use Rattle.block_engine.specs.declared.request.Failure as caller
 use Rattle.block_engine.specs.declared.request.Range.{Range}
 use Rattle.block_engine.specs.Aside.{is_over}
@@ -48,20 +47,21 @@ use Rattle.sata_disk.specs.Hearing.{command_told, data_by, discarding, fis_heard
 use Rattle.sata_disk.specs.Sending.{IsCommandOut, IsOut, after_sent, front_sent, is_done, moving_of, out_at, place_sent, single_front, trouble_at, trouble_by}
 use Rattle.sata_disk.specs.declared.out.Out.{Out}
 use Rattle.sata_disk.specs.declared.out.Out.TheVariants as out
-use Rattle.sata_disk_laws.specs.Calls.{Answers, AreCalls, Asks, Call, Hears, IsCall, Plugs, Sends, Starts, after_call, after_calls, steps_of}
+use Rattle.sata_disk_laws.specs.Calls.{AreCalls, Call, Hears, IsCall, Plugs, Sends, after_call, after_calls, steps_of}
 use Rattle.sata_disk_laws.specs.Laws.{reached}
-use Rattle.sata_disk_laws.specs.Once.{ForLast, Host, IsCallDue, IsOfPlace, IsOutDue, IsSingle, Wait, command_given, control_given, data_got, data_got_by, fis_given, host_after, host_of, new_host, out_got, place_in, reply_got, unheard_of}
+use Rattle.sata_disk_laws.specs.Once.{Host, IsCallDue, IsOfPlace, IsOutDue, IsSingle, command_given, control_given, data_got, fis_given, host_after, host_of, new_host, out_got, place_in, reply_got, unheard_of}
 use Rattle.sata_disk_laws.specs.Errors as errors
 use Rattle.sata_disk_laws.specs.Errors.{Watch, command_watched, failures_then, fis_watched, new_watch, of_watched, or_fault, out_watched, reply_watched, reset_watched, watch_after, watch_of, watched}
 use Rattle.sata_disk_laws.proofs.Answered.{Knows}
 use Rattle.sata_disk_laws.proofs.AskedPlaces.{asked_at}
 use Rattle.sata_disk_laws.proofs.Calls.{IsSent, call_due, first_knows, next_line, sent_is}
 use Rattle.sata_disk_laws.proofs.LogReads.{asked_reads}
+use Rattle.sata_disk_laws.proofs.Owed.{not_over}
 use Rattle.sata_disk_laws.proofs.Runs.{after_both, are_both, call_after, call_are}
 use Rattle.sata_disk_laws.proofs.Single.{moving_is}
 use Rattle.sata_disk_laws.proofs.Speaks.{front_case, queued_idle}
 use Rattle.sata_disk_laws.proofs.Tracks.{WaitsAs}
-use Rattle.sata_disk_laws.proofs.Watching.{FaultAs, Watches, WatchesOf, command_watches, control_watches, no_some, page_watches, plug_watches, said_watches}
+use Rattle.sata_disk_laws.proofs.Watching.{FaultAs, Watches, WatchesOf, command_watches, control_watches, data_reset, got_reset, no_some, page_watches, plug_watches, said_watches}
 
 -- ## A command alone ended
 
@@ -93,21 +93,11 @@ over_reset : (h : Host) (well : Bool) (t : Trouble) → (reply_got h (over well 
 over_reset h true t = refl
 over_reset h false t = refl
 
-not_over : (s : AsideStage) (P : Type 0) → is_over s ≡ true → s ≡ stages.Idle → P
-not_over s P e idle = absurd (let none = ap is_over (sym idle) ∙ e in cc)
-
 beside_case : (h : Host) (w : Watch) (f : Front) (s : AsideStage) (well : Bool) (x : Trouble) (t : Task) (y : Option Moment) → is_over s ≡ true → IsBeside t s → WaitsAs h t y
     → Watches h w f.fault t → Watches (reply_got h (over well x)) (reply_watched h w (over well x)) f.fault tasks.Idle
 beside_case h w f s well x (tasks.Waits p) y e beside waits is =
     over_watches h w f.fault (over well x) waits.0 is.fault.0 is.fault.1 (waits_none w (λ some. is.only some)) (λ yes'. let not' = is.aborts yes' in absurd (cc)) (over_reset h well x)
-beside_case h w f s well x tasks.Idle y e beside waits is = not_over s _ e beside
-beside_case h w f s well x (tasks.Owes r) y e beside waits is = not_over s _ e beside
-beside_case h w f s well x (tasks.Moves m) y e beside waits is = not_over s _ e beside
-beside_case h w f s well x (tasks.Announces p) y e beside waits is = not_over s _ e beside
-beside_case h w f s well x (tasks.Gives p) y e beside waits is = not_over s _ e beside
-beside_case h w f s well x (tasks.Sends p) y e beside waits is = not_over s _ e beside
-beside_case h w f s well x (tasks.Activates n) y e beside waits is = not_over s _ e beside
-beside_case h w f s well x (tasks.Expects n) y e beside waits is = not_over s _ e beside
+beside_case h w f s well x other y e beside waits is = not_over s _ e beside
 
 -- ## The FIS of a command
 
@@ -121,18 +111,6 @@ neutral_of : (d : DiskState) (h : Host) (w : Watch) (p : ℕ) (r : Reply) → is
 neutral_of d h w p (replies.Failed f) e = absurd (cc)
 neutral_of d h w p (replies.Aborts x) e = absurd (cc)
 neutral_of d h w p r e = refl
-
-got_reset : (h : Host) (r : Reply) → (reply_got h r).in_reset ≡ h.in_reset
-got_reset h (replies.Announce a) = announced_case h (a.to_host && a.last)
-  where
-    announced_case : (h : Host) (b : Bool) → (if b then record h { waits = ForLast } else h).in_reset ≡ h.in_reset
-    announced_case h true = refl
-    announced_case h false = refl
-got_reset h r = refl
-
-data_reset : (h : Host) (v : Wait) → (data_got_by h v).in_reset ≡ h.in_reset
-data_reset h ForLast = refl
-data_reset h v = refl
 
 -- a queued command goes on
 idle_goes : (h k : Host) (w : Watch) (f : Front) → f.task ≡ tasks.Idle → k.in_reset ≡ h.in_reset → WatchesOf h w f → WatchesOf k w f
@@ -204,9 +182,7 @@ fail_case h d w p r x y false low of' e then' =
 
 asks_neutral : (m : Moment) (p : Protocol) → is_neutral (asks_by m p) ≡ true
 asks_neutral m protocol.Queued = refl
-asks_neutral m protocol.Dma = refl
-asks_neutral m protocol.Pio = refl
-asks_neutral m protocol.Verify = refl
+asks_neutral m other = refl
 
 queued_case : (h : Host) (d : DiskState) (w : Watch) (p : ℕ) (r : Reply) (c : Command) (done : ℕ) (bytes : List ℕ) (sent : ℕ) (stage : Stage)
     → command_at (commands d) p ≡ Some (at c done bytes sent stage) → p < 32 → Some (out.Of p r) ≡ out_at d p (Some (at c done bytes sent stage)) → IsOfPlace p r
@@ -361,13 +337,7 @@ fis_watches : (h : Host) (d : DiskState) (w : Watch) (x : Result Fis FisFault) �
     → WatchesOf (fis_given h x) (fis_watched h w x) (fis_heard d x).front
 fis_watches h d w (Ok (view.RegH2D f)) knows watches = register_case h d w f (is_command f) knows watches
 fis_watches h d w (Ok (view.Payload f)) knows watches = bytes_watches h d w _ (drop 4 f) refl knows watches
-fis_watches h d w (Ok (view.RegD2H f)) knows watches = watches
-fis_watches h d w (Ok (view.SetBits f)) knows watches = watches
-fis_watches h d w (Ok (view.DmaActivate f)) knows watches = watches
-fis_watches h d w (Ok (view.DmaSetup f)) knows watches = watches
-fis_watches h d w (Ok (view.PioSetup f)) knows watches = watches
-fis_watches h d w (Ok (view.Unknown f)) knows watches = watches
-fis_watches h d w (Err x) knows watches = watches
+fis_watches h d w other knows watches = watches
 
 -- ## What the caller answered
 
@@ -401,10 +371,8 @@ call_case : (h : Host) (d : DiskState) (w : Watch) (c : Call) → IsCall d c →
     → WatchesOf (host_after h c) (watched d h w c) (after_call d c).front
 call_case h d w Plugs is due knows own watches = plug_watches (host_after h Plugs) w (tasks.Owes replies.Signature) refl
 call_case h d w (Hears f) is due knows own watches = fis_watches h d w (seen f) knows watches
-call_case h d w (Starts x) is due knows own watches = watches
-call_case h d w (Asks r) is due knows own watches = watches
-call_case h d w (Answers number a) is due knows own watches = watches
 call_case h d w (Sends o) is due knows own watches = out_watches h d w o is due knows own watches
+call_case h d w other is due knows own watches = watches
 
 all_watches : (calls : List Call) (h : Host) (d : DiskState) (w : Watch) → AreCalls d calls → IsLine (commands d) → Knows h d → Owned d.engine w.failures
     → WatchesOf h w d.front → WatchesOf (host_of h calls) (watch_of d h w calls) (after_calls d calls).front

@@ -38,7 +38,7 @@ use Rattle.ata_front.specs.declared.task.Task.TheVariants as tasks
 use Rattle.sata_disk.specs.State.{is_taken, tags_below, tags_of}
 use Rattle.sata_disk.specs.Hearing.{command_unheard}
 use Rattle.sata_disk.specs.declared.unheard.Unheard.{Unheard}
-use Rattle.sata_disk_laws.specs.Once.{Host, Wait, ForAnswer, ForEnd, ForLast, ForSignature, announced, command_given, control_given, data_got, data_got_by, none_open, reply_got, unheard_of, wait_for}
+use Rattle.sata_disk_laws.specs.Once.{Host, Wait, ForAnswer, ForEnd, ForLast, ForSignature, command_given, control_given, data_got, data_got_by, none_open, reply_got, unheard_of, wait_for}
 use Rattle.sata_disk_laws.specs.Errors as errors
 use Rattle.sata_disk_laws.specs.Errors.{Watch, command_watched, or_fault, page_watched, reads_error, refused_for, reply_watched, reset_watched}
 use Rattle.sata_disk_laws.proofs.AskedPlaces.{AskedAt, no_tags}
@@ -81,7 +81,7 @@ WatchesOf h w f = Watches h w f.fault f.task
 pub no_some : (x : Option Fault) (P : Type 0) → x ≡ None → is_some x ≡ true → P
 no_some x P e some = absurd (let not' = ap is_some e in cc)
 
-not_both : (b : Bool) (P : Type 0) → b ≡ false → b ≡ true → P
+pub not_both : (b : Bool) (P : Type 0) → b ≡ false → b ≡ true → P
 not_both b P e f = absurd (cc)
 
 abbrev pub is_failure : Task → Bool
@@ -178,9 +178,7 @@ log_calm false p = refl
 
 smart_calm : (t : SmartTask) → is_failure (task_of_smart t) ≡ false
 smart_calm smart.ReadData = refl
-smart_calm smart.ReadThresholds = refl
-smart_calm smart.Nothing = refl
-smart_calm smart.ReturnStatus = refl
+smart_calm other = refl
 
 single_case : (place : ℕ) (f : Failure) (b : Bool) → None ≡ (if b then Some place else None) → refused_for (if b then ForAnswer place else ForEnd) f ≡ None
 single_case place f true e = absurd (cc)
@@ -242,15 +240,12 @@ module _ (h : Host) (w : Watch) (bytes : List ℕ) (place : ℕ) (f : Front) (no
 
   taken_watches : (a : Asked) → AskedAt place a → WatchesAs (given h place) (told h w bytes) (taken f a)
   taken_watches (ask.Moves m) at' = goes_calm (moves_task m) (moves_calm _ _)
-  taken_watches ask.Flushes at' = goes_calm _ refl
   taken_watches (ask.Sets s) at' = set_watches s
-  taken_watches (ask.SetsMultiple m) at' = goes_calm _ refl
-  taken_watches (ask.Trims n) at' = goes_calm _ refl
-  taken_watches ask.Identifies at' = goes_calm _ refl
   taken_watches (ask.ReadsLog p) at' = goes_calm (log_task p) (log_calm _ _)
   taken_watches (ask.Smart t) at' = goes_calm (task_of_smart t) (smart_calm t)
   taken_watches (ask.Power t) at' = power_watches t
   taken_watches (ask.Refused r) at' = refused_watches r r.tag at'
+  taken_watches other at' = goes_calm _ refl
 
 -- ## Any command
 
@@ -335,14 +330,7 @@ module _ (h : Host) (w : Watch) (bytes : List ℕ) (place : ℕ) (f : Front) whe
       free_watches a l _ refl at' tags sound (sym as')
   task_watches a l tasks.Idle (Some x) idle faulty at' reads clear tags as' is =
       error_watches a x _ refl reads (faulty ∙ as') (sym as') clear
-  task_watches a l (tasks.Owes r) x idle faulty at' reads clear tags as' is = is
-  task_watches a l (tasks.Moves m) x idle faulty at' reads clear tags as' is = is
-  task_watches a l (tasks.Waits p) x idle faulty at' reads clear tags as' is = is
-  task_watches a l (tasks.Announces p) x idle faulty at' reads clear tags as' is = is
-  task_watches a l (tasks.Gives p) x idle faulty at' reads clear tags as' is = is
-  task_watches a l (tasks.Sends p) x idle faulty at' reads clear tags as' is = is
-  task_watches a l (tasks.Activates n) x idle faulty at' reads clear tags as' is = is
-  task_watches a l (tasks.Expects n) x idle faulty at' reads clear tags as' is = is
+  task_watches a l other x idle faulty at' reads clear tags as' is = is
 
   reset_watches : (a : Asked) (l : Line) (b : Bool) → f.in_reset ≡ b → h.in_reset ≡ f.in_reset → AskedAt place a → is_error_log a ≡ reads_error bytes
       → TagsAs h f.task l → WatchesOf h w f
@@ -390,9 +378,13 @@ control_watches h w f s l false tracks is =
 
 -- ## What the disk owes of itself
 
-announced_reset : (h : Host) (b : Bool) → (announced h b).in_reset ≡ h.in_reset
-announced_reset h true = refl
-announced_reset h false = refl
+pub got_reset : (h : Host) (r : Reply) → (reply_got h r).in_reset ≡ h.in_reset
+got_reset h (replies.Announce a) = announced_case h (a.to_host && a.last)
+  where
+    announced_case : (h : Host) (b : Bool) → (if b then record h { waits = ForLast } else h).in_reset ≡ h.in_reset
+    announced_case h true = refl
+    announced_case h false = refl
+got_reset h r = refl
 
 -- the answer went
 pub goes_watches : (h : Host) (w : Watch) (x : Option Fault) (r : Reply) → OwesFault h.waits w.alone w.fault x r
@@ -403,7 +395,7 @@ goes_watches h w x (replies.Announce a) as' aborts reset clear = record {
   fault = as';
   only = λ some. tt;
   aborts = λ yes'. absurd (let not' = aborts yes' in cc);
-  reset = λ e. reset (sym (announced_reset h _) ∙ e);
+  reset = λ e. reset (sym (got_reset h (replies.Announce a)) ∙ e);
 }
 goes_watches h w x r as' aborts reset clear =
     record { fault = as'; only = λ some. tt; aborts = λ yes'. absurd (let not' = aborts yes' in cc); reset = reset }
@@ -411,10 +403,10 @@ goes_watches h w x r as' aborts reset clear =
 owes_same : (r q : Reply) → tasks.Owes r ≡ tasks.Owes q → r ≡ q
 owes_same r q e = cc
 
-same_reply : (r q : Reply) → Some (owe.Reply q) ≡ Some (owe.Reply r) → q ≡ r
+pub same_reply : (r q : Reply) → Some (owe.Reply q) ≡ Some (owe.Reply r) → q ≡ r
 same_reply r q e = cc
 
-same_page : (p q : Page) → Some (owe.Page q) ≡ Some (owe.Page p) → q ≡ p
+pub same_page : (p q : Page) → Some (owe.Page q) ≡ Some (owe.Page p) → q ≡ p
 same_page p q e = cc
 
 said_case : (h : Host) (w : Watch) (f : Front) (t : Task) (r : Reply) → owed t ≡ Some (owe.Reply r) → Watches h w f.fault t → (h.in_reset ≡ true → ⊥)
@@ -438,7 +430,7 @@ pub said_watches : (h : Host) (w : Watch) (f : Front) (s : AsideStage) (l : Line
     → WatchesOf (reply_got h r) (reply_watched h w r) (said_by f f.task)
 said_watches h w f s l r e tracks is = said_case h w f f.task r e is (owed_clear h f s l _ tracks e)
 
-data_reset : (h : Host) (v : Wait) → (data_got_by h v).in_reset ≡ h.in_reset
+pub data_reset : (h : Host) (v : Wait) → (data_got_by h v).in_reset ≡ h.in_reset
 data_reset h ForLast = refl
 data_reset h v = refl
 

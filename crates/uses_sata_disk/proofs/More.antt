@@ -13,16 +13,17 @@ use Rattle.fis_view.specs.Seen.{seen}
 use Rattle.block_command.specs.declared.answer.AnswerError.{AnswerError}
 use Rattle.block_engine.specs.declared.request.Answer.{Answer}
 use Rattle.block_engine.specs.declared.request.Request.{Request}
-use Rattle.block_engine.specs.Engine.{EngineState, IsAskedOf, IsEngineStart, IsRequested, answer_refusal, answered, started}
+use Rattle.block_engine.specs.Engine.{EngineState, IsEngineStart, IsRequested, answer_refusal, answered, started}
 use Rattle.sata_disk.specs.State.{DiskState, commands, new_disk}
 use Rattle.sata_disk.specs.Hearing.{MayHear, fis_heard}
-use Rattle.sata_disk.specs.Sending.{IsFis, IsOut, out_at, out_by, part_at, reply_at}
+use Rattle.sata_disk.specs.Sending.{IsFis, IsOut, is_framed, out_at, out_by, part_at, reply_at}
 use Rattle.sata_disk.specs.declared.out.Out.{Out}
 use Rattle.sata_disk.specs.declared.out.Out.TheVariants as out
 use Rattle.sata_disk.specs.declared.unheard.Unheard.{Unheard}
 use Rattle.sata_disk_laws.specs.Told.{FisesAreTold, Says}
 use Rattle.sata_disk_laws.specs.Calls.{Answers, AreCalls, Asks, Hears, Starts, Call, IsCall, after_call, after_calls, asked_by}
 use Rattle.sata_disk_laws.specs.Calls.{Sends}
+use Rattle.sata_disk_laws.proofs.Door.{calls_after, calls_both, engine_asked}
 use Rattle.sata_disk_laws.specs.Errors.{AbortedUntilRead, IsWatched, LogTellsOfFailure, watch_in}
 use Rattle.sata_disk_laws.specs.Laws.{reached}
 use Rattle.sata_disk_laws.specs.Once.{AnswersAreSingle, AreDue, Host, IsCallDue, IsChunk, IsHostOf, PartsAreFrames, host_after, host_of, new_host}
@@ -34,25 +35,17 @@ use Rattle.disk_pages.specs.declared.profile.Profile.{Profile}
 use Rattle.uses_sata_disk.specs.Reached.{Extends, IsNextOf, IsOutOf, IsReached, TellsOfFailure}
 
 are_more : (calls : List Call) (d : DiskState) (c : Call) → AreCalls d calls → IsCall (after_calls d calls) c → AreCalls d (calls ++ c ∷ [])
-unfolding after_calls
-are_more [] d c are is = (is, tt)
-are_more (b ∷ later) d c are is = (are.0, are_more later (after_call d b) c are.1 is)
+are_more calls d c are is = calls_both calls (c ∷ []) d are (is, tt)
 
 after_more : (calls : List Call) (d : DiskState) (c : Call) → after_calls d (calls ++ c ∷ []) ≡ after_call (after_calls d calls) c
 unfolding after_calls
-after_more [] d c = refl
-after_more (b ∷ later) d c = after_more later (after_call d b) c
+after_more calls d c = calls_after calls (c ∷ []) d
 
 pub one_more : (old new : DiskState) (c : Call) → IsCall old c → new ≡ after_call old c → Extends old new c
 one_more old new c is e = λ p limit calls r. (
   are_more calls (new_disk p limit) c r.0 (subst (λ d. IsCall d c) r.1 is),
   e ∙ ap (λ d. after_call d c) r.1 ∙ sym (after_more calls (new_disk p limit) c),
 )
-
--- a request that was asked
-engine_asked : (old new : EngineState) (r : Request) (x : Option ℕ) → IsAskedOf old new r x → new ≡ asked_by old x
-engine_asked old new r None is = is.2
-engine_asked old new r (Some p) is = is.1
 
 pub asks_more : (old new : DiskState) (r : Request) → IsRequested old.engine new.engine (Some r) → new ≡ record old { engine = new.engine }
     → Extends old new (Asks r)
@@ -127,12 +120,18 @@ chunk_pays bytes is =
     and_from _ _ (and_from _ _ (le-leb 4 (length bytes) (omega (arith, some))) (le-leb (length bytes) 8192 most))
     (eq-eqb (length bytes % 4) 0 (omega (arith, whole)))
 
-pub pays : (d : DiskState) (place n : ℕ) (bytes : List ℕ) → PartsAreFrames → IsOut d (Some (out.Data place n)) → bytes ≡ part_at (command_at (commands d) place)
-    → (p : Profile) (limit : ℕ) (calls : List Call) → IsReached p limit calls d → is_payload bytes ≡ true
-pays d place n bytes parts is e = λ p limit calls r.
-    let long : n ≡ length bytes = part_is d place n (command_at (commands d) place) is.3 ∙ sym (ap length e) in
+pays : (d : DiskState) (place n : ℕ) → PartsAreFrames → IsOut d (Some (out.Data place n))
+    → (p : Profile) (limit : ℕ) (calls : List Call) → IsReached p limit calls d → is_payload (part_at (command_at (commands d) place)) ≡ true
+pays d place n parts is = λ p limit calls r.
     let P : ℕ → Type 0 = λ k. IsChunk k in
-    chunk_pays bytes (subst P long (parts p limit calls place n r.0 (subst (λ x. IsOut x (Some (out.Data place n))) r.1 is)))
+    chunk_pays (part_at (command_at (commands d) place)) (subst P (part_is d place n (command_at (commands d) place) is.3)
+    (parts p limit calls place n r.0 (subst (λ x. IsOut x (Some (out.Data place n))) r.1 is)))
+
+-- each FIS that goes next is held by a frame
+pub framed : (d : DiskState) (o : Out) → PartsAreFrames → IsOut d (Some o) → (p : Profile) (limit : ℕ) (calls : List Call) → IsReached p limit calls d
+    → is_framed d o ≡ true
+framed d (out.Data place n) parts is p limit calls r = pays d place n parts is p limit calls r
+framed d o parts is p limit calls r = refl
 
 -- ## After an error
 

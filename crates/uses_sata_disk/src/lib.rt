@@ -16,7 +16,7 @@ use ata_command::LogPage;
 use ata_front::Page;
 use block_command::AnswerError;
 use block_engine::{Answer, Request};
-use fis_view::{Frame, FrameError, Stamp, payload};
+use fis_view::{Frame, FrameError, Stamp};
 use sata_disk::{Out, SataDisk, Unheard};
 use sata_disk_laws::{
     aborted_until_read, answers_are_single, data_are_named, ends_are_earned, fises_are_told,
@@ -64,28 +64,16 @@ pub fn answer(disk: &mut SataDisk, number: u64, answer: Answer) -> Result<(), An
     disk.answer(number, answer)
 }
 
-/// Makes the FIS that goes next: its bytes say what the account of the commands has.
+/// Makes the FIS that goes next: its bytes say what the account of the commands has. At a disk that a run led to it fails where memory is
+/// refused, and nowhere else.
 pub fn make(alloc: Global, disk: &SataDisk, out: Out, stamp: Stamp) -> Result<Frame, FrameError>
     requires { IsOut disk.now (Some out) }
-    ensures { IfOk result (λ frame. Says disk.now out frame.bytes) }
+    ensures says { IfOk result (λ frame. Says disk.now out frame.bytes) }
+    ensures fits { IfReached disk.now (result ≢ Err FrameError.BadLength) }
 {
     fises_are_told();
-    disk.frame(alloc, out, stamp)
-}
-
-/// Makes the Data FIS that goes next. At a disk that a run led to it fails where memory is refused, and nowhere else.
-pub fn make_data(
-    alloc: Global,
-    disk: &SataDisk,
-    place: u8,
-    length: u16,
-    stamp: Stamp,
-) -> Result<Frame, FrameError>
-    requires { IsOut disk.now (Some (Out.Data place length)) }
-    ensures { IfReached disk.now (result ≢ Err FrameError.BadLength) }
-{
     parts_are_frames();
-    payload(alloc, 0, disk.part(place), stamp)
+    disk.frame(alloc, out, stamp)
 }
 
 /// The FIS that goes next. At a disk that a run led to, after an error, it is the abort of a command that came since, or the log.

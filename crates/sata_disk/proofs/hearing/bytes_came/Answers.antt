@@ -1,5 +1,4 @@
 use Rattle.std.proofs.Common.{◌∙◌, sym, true}
-use Rattle.block_engine.specs.Engine.{line}
 use Rattle.sata_disk.proofs.Came.{told}
 use Rattle.sata_disk.proofs.hearing.bytes_came.Goals as goal
 
