@@ -180,7 +180,7 @@ static void begin(unsigned ports, uint32_t devices) {
 
 /* ---- saved and restored ------------------------------------------------------------------------------------------- */
 
-static unsigned long saved_seen, states_refused, states_taken;
+static unsigned long saved_seen, states_refused, states_taken, unknown_asked; /* the last: what was asked of media by unknown machines */
 
 /* The state of the machine, in memory of its own. */
 static uint8_t *state_of(size_t *len) {
@@ -237,6 +237,7 @@ static void play_unknown(void) {
         const gef_request *request = &event.u.medium.request;
         if (!pick(4)) gef_machine_write(&machine, pick(0x200), 4, pick(2) ? pick(MEMORY) : 1u << pick(32));
         if (gef_machine_next(&machine, &event) != GEF_OK) continue;
+        unknown_asked += event.kind >= GEF_EVENT_LOAD && event.kind <= GEF_EVENT_DISCARD;
         switch (event.kind) {
         case GEF_EVENT_READ_GUEST:
             if (event.u.read.len <= sizeof bytes && pick(4)) gef_machine_supply(&machine, &event.u.read.wanted, bytes, event.u.read.len);
@@ -259,6 +260,7 @@ static void play_unknown(void) {
     }
 }
 
+/* A state of which some bytes are others is refused, or is that of a machine of which nothing is known. */
 static void play_damaged(const uint8_t *state, size_t len) {
     size_t room = len + 64, now;
     uint8_t *bytes = malloc(room);
@@ -434,15 +436,20 @@ static void act_honestly(unsigned ports) {
 
 static void play_honestly(unsigned ports) {
     unsigned at;
+    uint8_t *state;
+    size_t len;
     is_honest = 1;
     memset(slots, 0, sizeof slots);
     begin(ports, ports == PORTS ? 1u << (PORTS - 1) : 0);
     bring_up(ports);
     is_ready = is_in & has_disk;
     for (at = 0; at < 2000; at++) act_honestly(ports);
+    state = state_of(&len);
     settle_all();
     look_at_slots();
     must("free", gef_machine_free(&machine));
+    for (at = 0; at < 100; at++) play_damaged(state, len);
+    free(state);
 }
 
 /* ---- a guest that does anything ----------------------------------------------------------------------------------- */
@@ -610,7 +617,8 @@ static void play_random(double seconds) {
     } while (clock() < until);
     printf("%lu lists; %lu reads and %lu writes ended, and %lu acts were any\n", lists, reads_seen, writes_seen, events_seen);
     printf("%lu calls of a machine\n", calls_seen);
-    printf("saved and restored %lu times; of damaged states %lu were refused, %lu played\n", saved_seen, states_refused, states_taken);
+    printf("saved and restored %lu times; of damaged states %lu were refused, %lu played, and asked media %lu times\n", saved_seen,
+           states_refused, states_taken, unknown_asked);
     if (!reads_seen || !writes_seen) fail("nothing ended", lists);
 }
 
