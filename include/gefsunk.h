@@ -74,7 +74,7 @@ typedef enum gef_status {
     GEF_PLUGGED_IN = 27,    /* what is at the port is plugged in already */
     GEF_NOT_WANTED = 28,    /* no event asks for such bytes */
     GEF_OTHER_DISK = 29,    /* the disk that asked is not at the port any more */
-    GEF_NOT_OUT = 30,       /* no such request is out: it was answered, or a reset ended it */
+    GEF_NOT_OUT = 30,       /* no such request is out: it was answered, or a reset or an error ended it */
     GEF_OTHER_KIND = 31,    /* the request asked for something else */
     GEF_OTHER_LENGTH = 32,  /* the load asked for another number of bytes */
     GEF_OTHER_SECTOR = 33,  /* the request does not have this sector */
@@ -339,7 +339,8 @@ gef_status gef_disk_next(gef_disk *disk, gef_event *event);
 
 /*
  * The sectors of a load. Each request is answered once, when you can, in any order. After a reset an answer is refused
- * (GEF_NOT_OUT): drop it. A load that is refused by GEF_OTHER_LENGTH is still out.
+ * (GEF_NOT_OUT): drop it. So it is once the host hears of an error, which ends all queued commands. But a store and a discard are
+ * out until they are answered, since you may still do them. A load that is refused by GEF_OTHER_LENGTH is still out.
  * Can return GEF_CLOSED, GEF_NOT_OUT, GEF_OTHER_KIND, GEF_OTHER_LENGTH, GEF_NO_MEMORY.
  */
 gef_status gef_disk_answer_loaded(gef_disk *disk, const gef_request *request, const uint8_t *bytes, size_t len);
@@ -359,7 +360,7 @@ gef_status gef_disk_answer_failed(gef_disk *disk, const gef_request *request, ui
 
 /*
  * Copies bytes of a store into the room, from an offset on, as many as there are and fit, and their number into *len. They are
- * there until the store is answered, or the disk is reset or plugged in: copy them before you ask for the next event.
+ * there until the store is answered, or a reset, a plug or an error ends it: copy them before you ask for the next event.
  * Can return GEF_CLOSED, GEF_NOT_OUT, GEF_OTHER_KIND.
  */
 gef_status gef_disk_stored(gef_disk *disk, const gef_request *request, size_t from, uint8_t *bytes, size_t room, size_t *len);
@@ -494,7 +495,9 @@ gef_status gef_machine_no_memory(gef_machine *machine, const gef_wanted *wanted)
 
 /*
  * The sectors of a load. Each request is answered once, when you can, in any order. After a reset, or where the disk was pulled,
- * an answer is refused (GEF_NOT_OUT, GEF_OTHER_DISK): drop it. A load that is refused by GEF_OTHER_LENGTH is still out.
+ * an answer is refused (GEF_NOT_OUT, GEF_OTHER_DISK): drop it. So it is once the guest hears of an error of the disk, which ends all
+ * of its queued commands. But a store and a discard are out until they are answered, as long as their disk is at the port, since
+ * you may still do them. A load that is refused by GEF_OTHER_LENGTH is still out.
  * Can return GEF_CLOSED, GEF_OTHER_DISK, GEF_NOT_OUT, GEF_OTHER_KIND, GEF_OTHER_LENGTH, GEF_NO_MEMORY.
  */
 gef_status gef_machine_answer_loaded(gef_machine *machine, const gef_request *request, const uint8_t *bytes, size_t len);
@@ -514,7 +517,8 @@ gef_status gef_machine_answer_failed(gef_machine *machine, const gef_request *re
 
 /*
  * Copies bytes of a store into the room, from an offset on, as many as there are and fit, and their number into *len. They are
- * there until the store is answered, or its disk is reset or pulled: copy them before you ask for the next event.
+ * there until the store is answered, or its disk is reset or pulled, or an error ends its command: copy them before you ask for
+ * the next event.
  * Can return GEF_CLOSED, GEF_OTHER_DISK, GEF_NOT_OUT, GEF_OTHER_KIND.
  */
 gef_status gef_machine_stored(gef_machine *machine, const gef_request *request, size_t from, uint8_t *bytes, size_t room,
@@ -558,9 +562,13 @@ gef_status gef_machine_state_size(gef_machine *machine, size_t *len);
 gef_status gef_machine_save(gef_machine *machine, uint8_t *bytes, size_t room, size_t *len);
 
 /*
- * Makes the machine whose state these bytes are, and opens the handle: it is the machine that was saved. Bytes of anybody may be
- * passed: they give a machine that keeps every rule of this header, or are refused. The line is where it was; the guest's memory and
- * the media are yours to restore.
+ * Makes the machine whose state these bytes are, and opens the handle: it is the machine that was saved. The line is where it was; the
+ * guest's memory and the media are yours to restore.
+ *
+ * Bytes of anybody may be passed: they give a machine whose calls are as safe as those of any other, or are refused. But such a machine
+ * may ask for sectors behind the end of its disk, and give a request the number of another that is out. So where the bytes may be
+ * somebody else's, test `lba` and `count` of each event, and each range of a discard, before you use them, and know your requests by
+ * a number of your own.
  * Can return GEF_OPEN (free it first), GEF_NOT_A_STATE, GEF_OTHER_VERSION, GEF_BAD_STATE, GEF_NO_MEMORY.
  */
 gef_status gef_machine_restore(gef_machine *machine, const uint8_t *bytes, size_t len);

@@ -4,6 +4,8 @@
  *     machine refused           plays a scene again and again, and refuses memory once each time: at the first allocation, at the
  *                               second, and so on. A call that says so is made again; guest and media must end as if it had
  *                               been given.
+ *     machine errors            plays a list in which a disk asks for sectors between the error of another command and the FIS that
+ *                               says so: they are wanted no more then, but a store is out until it is answered.
  *     machine random SECONDS    plays lists of acts, while disks are pulled, plugged in and removed, and media answer late, in any
  *                               order, wrongly or never. In half of the lists the guest keeps to the rules: each sector has bytes
  *                               of its own, which each read that ends must have brought, to its places and nowhere else. In the
@@ -15,7 +17,7 @@
  */
 #include <stdlib.h>
 #include <time.h>
-#include "gefsunk.h"
+#include "counted.h"
 
 /* A call, and the same once more where memory was refused. */
 static int is_watched;
@@ -30,6 +32,7 @@ static unsigned long asked, refused; /* how often memory was asked for; the one 
 
 #define SLOT_BYTES 0x2000
 #include "driver.h"
+#include "media.h"
 
 void *__real_malloc(size_t len);
 void *__real_realloc(void *at, size_t len);
@@ -42,134 +45,6 @@ void *__wrap_malloc(size_t len) {
 
 void *__wrap_realloc(void *at, size_t len) {
     return is_watched && ++asked == refused ? 0 : __real_realloc(at, len);
-}
-
-/* ---- media, and what they were asked for -------------------------------------------------------------------------- */
-
-enum { PORTS = 4, SECTORS = 64, MOST_SECTORS = 8, REQUESTS = 512 };
-
-/* Each sector has these bytes, from the start on and for good. */
-static void fill(uint8_t *bytes, uint32_t port, uint64_t lba) {
-    uint64_t word = (uint64_t)(port + 1) << 56 | 0x00C0FFEE00000000u | lba;
-    size_t at;
-    for (at = 0; at < 512; at += 8) memcpy(bytes + at, &word, 8);
-}
-
-/* A request that was not answered yet, and whether a refusal of the answer is in order: something ended it. */
-typedef struct {
-    gef_event event;
-    int is_stale;
-} request;
-
-static request requests[REQUESTS];
-static size_t request_count;
-static int is_honest;      /* the guest keeps to the rules */
-static uint32_t line;      /* what the last event said of the interrupt line */
-static uint32_t has_disk;  /* bit n: a disk is at port n */
-static uint32_t is_in;     /* bit n: what is at port n is plugged in */
-
-/* The bytes of a store, in two pieces, are those of its sectors. */
-static void check_store(const gef_event *event) {
-    static uint8_t bytes[2048 * 512], wanted[512];
-    size_t whole = 512 * (size_t)event->u.medium.count, cut = pick((uint32_t)whole + 1), len = 0, rest = 0, at;
-    must("stored", gef_machine_stored(&machine, &event->u.medium.request, 0, bytes, cut, &len));
-    must("stored", gef_machine_stored(&machine, &event->u.medium.request, cut, bytes + cut, sizeof bytes - cut, &rest));
-    if (len != cut || len + rest != whole) fail("a store has other bytes than its sectors", (unsigned long)(len + rest));
-    for (at = 0; at < event->u.medium.count && is_honest; at++) {
-        fill(wanted, event->port, event->u.medium.lba + at);
-        if (memcmp(bytes + 512 * at, wanted, 512)) fail("a store brought other bytes", (unsigned long)(event->u.medium.lba + at));
-    }
-}
-
-static void check_discard(const gef_event *event) {
-    gef_range range;
-    gef_status status;
-    size_t at = 0;
-    while ((status = gef_machine_discarded(&machine, &event->u.medium.request, at++, &range)) == GEF_OK)
-        if (range.lba >= SECTORS || !range.count || range.count > SECTORS - range.lba) fail("a discard of other sectors", at);
-    if (status != GEF_NOTHING) fail("discarded", (unsigned long)status);
-}
-
-/* A load or a store shares no sector with a request that is out, unless both are loads. */
-static void check_apart(const gef_event *event) {
-    uint64_t lba = event->u.medium.lba, end = lba + event->u.medium.count;
-    size_t at;
-    for (at = 0; at < request_count; at++) {
-        const gef_event *other = &requests[at].event;
-        int is_load = event->kind == GEF_EVENT_LOAD && other->kind == GEF_EVENT_LOAD;
-        if (requests[at].is_stale || other->port != event->port || is_load) continue;
-        if (lba < other->u.medium.lba + other->u.medium.count && other->u.medium.lba < end) fail("two requests of one sector", at);
-    }
-}
-
-/* A disk asks its medium. */
-static void ask(const gef_event *event) {
-    uint64_t lba = event->u.medium.lba;
-    uint32_t count = event->u.medium.count;
-    int has_sectors = event->kind == GEF_EVENT_LOAD || event->kind == GEF_EVENT_STORE;
-    if (event->port >= PORTS || !(has_disk & is_in & 1u << event->port)) fail("a request of no disk", event->port);
-    if (has_sectors && (!count || count > 2048 || lba >= SECTORS || count > SECTORS - lba)) fail("a request of other sectors", count);
-    if (has_sectors) check_apart(event);
-    if (event->kind == GEF_EVENT_STORE) check_store(event);
-    if (event->kind == GEF_EVENT_DISCARD) check_discard(event);
-    if (request_count == REQUESTS) requests[pick(REQUESTS)] = requests[--request_count]; /* one is never answered */
-    requests[request_count].event = *event;
-    requests[request_count].is_stale = !is_honest;
-    request_count++;
-}
-
-static void outdate(uint32_t ports) {
-    size_t at;
-    for (at = 0; at < request_count; at++)
-        if (ports >> requests[at].event.port & 1) requests[at].is_stale = 1;
-}
-
-/* Answers that are refused leave a request out. */
-static void answer_wrongly(const gef_event *event) {
-    static uint8_t bytes[512];
-    const gef_request *it = &event->u.medium.request;
-    int is_load = event->kind == GEF_EVENT_LOAD;
-    gef_status status = is_load ? gef_machine_answer_done(&machine, it) : gef_machine_answer_loaded(&machine, it, bytes, 512);
-    if (status != GEF_OTHER_KIND) fail("an answer of another kind", status);
-    status = gef_machine_answer_failed(&machine, it, 3, event->u.medium.lba);
-    if (status != GEF_BAD_ERROR) fail("an unknown error", status);
-    if (event->u.medium.count) status = gef_machine_answer_failed(&machine, it, GEF_ABRT, event->u.medium.lba + event->u.medium.count);
-    if (event->u.medium.count && status != GEF_OTHER_SECTOR) fail("another sector", status);
-    if (is_load && event->u.medium.count > 1) status = gef_machine_answer_loaded(&machine, it, bytes, 512);
-    if (is_load && event->u.medium.count > 1 && status != GEF_OTHER_LENGTH) fail("another length", status);
-    if (event->kind != GEF_EVENT_STORE) return;
-    status = gef_machine_answer_failed(&machine, it, GEF_UNC, event->u.medium.lba);
-    if (status != GEF_OTHER_KIND) fail("an error of loads", status);
-}
-
-static gef_status answer_well(const gef_event *event) {
-    static uint8_t bytes[2048 * 512];
-    gef_status status;
-    size_t at;
-    if (event->kind != GEF_EVENT_LOAD) {
-        CALL(status, gef_machine_answer_done(&machine, &event->u.medium.request));
-        return status;
-    }
-    for (at = 0; at < event->u.medium.count; at++) fill(bytes + 512 * at, event->port, event->u.medium.lba + at);
-    CALL(status, gef_machine_answer_loaded(&machine, &event->u.medium.request, bytes, 512 * (size_t)event->u.medium.count));
-    return status;
-}
-
-/* A request is answered, by an error or not, and then once more: nobody waits for that. */
-static void answer(size_t number, int is_error) {
-    request it = requests[number];
-    uint32_t error = it.event.kind == GEF_EVENT_LOAD ? GEF_UNC : GEF_ABRT;
-    gef_status status;
-    requests[number] = requests[--request_count];
-    if (!it.is_stale && !pick(4)) answer_wrongly(&it.event);
-    if (is_error)
-        CALL(status, gef_machine_answer_failed(&machine, &it.event.u.medium.request, error, it.event.u.medium.lba));
-    else
-        status = answer_well(&it.event);
-    if (status != GEF_OK && !(it.is_stale && (status == GEF_NOT_OUT || status == GEF_OTHER_DISK))) fail("an answer", status);
-    if (pick(8)) return;
-    status = answer_well(&it.event);
-    if (status != GEF_NOT_OUT && status != GEF_OTHER_DISK) fail("an answer that comes twice", status);
 }
 
 /* ---- a device of our own ------------------------------------------------------------------------------------------ */
@@ -214,34 +89,44 @@ static void hear(unsigned port) {
 
 static int may_be_written(uint64_t at, size_t len);
 
-static int step(void) {
+static gef_event next_event(void) {
     gef_event event;
     gef_status status;
     CALL(status, gef_machine_next(&machine, &event));
     must("next", status);
-    switch (event.kind) {
-    case GEF_EVENT_READ_GUEST: read_guest(&event); break;
+    return event;
+}
+
+/* What an event says is done. */
+static void do_event(const gef_event *event) {
+    switch (event->kind) {
+    case GEF_EVENT_READ_GUEST: read_guest(event); break;
     case GEF_EVENT_WRITE_GUEST:
-        if (is_honest && !may_be_written(event.u.write.at, event.u.write.len)) fail("a write elsewhere", (unsigned long)event.u.write.at);
-        write_guest(&event);
+        if (is_honest && !may_be_written(event->u.write.at, event->u.write.len)) fail("a write elsewhere", (unsigned long)event->u.write.at);
+        write_guest(event);
         break;
     case GEF_EVENT_LINE:
-        if (event.u.up == line || event.u.up > 1) fail("a line that stays", event.u.up);
-        line = event.u.up;
+        if (event->u.up == line || event->u.up > 1) fail("a line that stays", event->u.up);
+        line = event->u.up;
         break;
-    case GEF_EVENT_TO_DEVICE: hear(event.port); break;
+    case GEF_EVENT_TO_DEVICE: hear(event->port); break;
     case GEF_EVENT_BEGINS:
-        if (event.port >= PORTS || !((has_disk | has_device) & is_in & 1u << event.port)) fail("nothing begins anew", event.port);
-        if (has_device >> event.port & 1) send_signature(event.port);
+        if (event->port >= PORTS || !((has_disk | has_device) & is_in & 1u << event->port)) fail("nothing begins anew", event->port);
+        if (has_device >> event->port & 1) send_signature(event->port);
         break;
     case GEF_EVENT_NOTHING:
     case GEF_EVENT_AGAIN:
     case GEF_EVENT_MESSAGE: break;
     default:
-        if (event.kind > GEF_EVENT_DISCARD) fail("an unknown event", event.kind);
-        ask(&event);
+        if (event->kind > GEF_EVENT_DISCARD) fail("an unknown event", event->kind);
+        ask(event);
         break;
     }
+}
+
+static int step(void) {
+    gef_event event = next_event();
+    do_event(&event);
     return event.kind != GEF_EVENT_NOTHING;
 }
 
@@ -283,7 +168,7 @@ static void begin(unsigned ports, uint32_t devices) {
     size_t at;
     for (at = 0; at < MEMORY; at++) memory[at] = (uint8_t)(at * 7 + at / 251);
     request_count = 0;
-    line = has_disk = has_device = is_in = 0;
+    line = has_disk = has_device = is_in = is_ending = 0;
     CALL(status, gef_machine_new(&machine, (uint8_t)ports, 0));
     must("new", status);
     for (port = 0; port < all; port++) {
@@ -295,7 +180,7 @@ static void begin(unsigned ports, uint32_t devices) {
 
 /* ---- saved and restored ------------------------------------------------------------------------------------------- */
 
-static unsigned long saved_seen, states_refused, states_taken;
+static unsigned long saved_seen, states_refused, states_taken, unknown_asked; /* the last: what was asked of media by unknown machines */
 
 /* The state of the machine, in memory of its own. */
 static uint8_t *state_of(size_t *len) {
@@ -352,6 +237,7 @@ static void play_unknown(void) {
         const gef_request *request = &event.u.medium.request;
         if (!pick(4)) gef_machine_write(&machine, pick(0x200), 4, pick(2) ? pick(MEMORY) : 1u << pick(32));
         if (gef_machine_next(&machine, &event) != GEF_OK) continue;
+        unknown_asked += event.kind >= GEF_EVENT_LOAD && event.kind <= GEF_EVENT_DISCARD;
         switch (event.kind) {
         case GEF_EVENT_READ_GUEST:
             if (event.u.read.len <= sizeof bytes && pick(4)) gef_machine_supply(&machine, &event.u.read.wanted, bytes, event.u.read.len);
@@ -374,6 +260,7 @@ static void play_unknown(void) {
     }
 }
 
+/* A state of which some bytes are others is refused, or is that of a machine of which nothing is known. */
 static void play_damaged(const uint8_t *state, size_t len) {
     size_t room = len + 64, now;
     uint8_t *bytes = malloc(room);
@@ -476,6 +363,7 @@ static void lose(uint32_t ports) {
     uint32_t number;
     outdate(ports);
     is_ready &= ~ports;
+    is_ending |= ports;
     for (number = 1; number < SLOTS; number++)
         if (ports >> slots[number].port & 1) slots[number].is_lost = 1;
 }
@@ -486,6 +374,7 @@ static void recover(unsigned ports) {
     memset(slots, 0, sizeof slots);
     bring_up(ports);
     is_ready = is_in & has_disk;
+    is_ending = 0;
 }
 
 /* A device that lies, or any answer but an error, disturbs no other port; an error ends all commands of its disk. */
@@ -547,15 +436,20 @@ static void act_honestly(unsigned ports) {
 
 static void play_honestly(unsigned ports) {
     unsigned at;
+    uint8_t *state;
+    size_t len;
     is_honest = 1;
     memset(slots, 0, sizeof slots);
     begin(ports, ports == PORTS ? 1u << (PORTS - 1) : 0);
     bring_up(ports);
     is_ready = is_in & has_disk;
     for (at = 0; at < 2000; at++) act_honestly(ports);
+    state = state_of(&len);
     settle_all();
     look_at_slots();
     must("free", gef_machine_free(&machine));
+    for (at = 0; at < 100; at++) play_damaged(state, len);
+    free(state);
 }
 
 /* ---- a guest that does anything ----------------------------------------------------------------------------------- */
@@ -650,13 +544,11 @@ static void port_any(unsigned port) {
 /* An event is done, or what it asks of the guest is answered wrongly, or not at all. */
 static void step_any(void) {
     gef_event event;
-    gef_status status;
     if (pick(4)) {
         step();
         return;
     }
-    CALL(status, gef_machine_next(&machine, &event));
-    must("next", status);
+    event = next_event();
     if (event.kind == GEF_EVENT_LINE) line = event.u.up;
     if (event.kind >= GEF_EVENT_LOAD && event.kind <= GEF_EVENT_DISCARD) ask(&event);
     if (event.kind != GEF_EVENT_READ_GUEST) return;
@@ -724,8 +616,73 @@ static void play_random(double seconds) {
         lists += 2;
     } while (clock() < until);
     printf("%lu lists; %lu reads and %lu writes ended, and %lu acts were any\n", lists, reads_seen, writes_seen, events_seen);
-    printf("saved and restored %lu times; of damaged states %lu were refused, %lu played\n", saved_seen, states_refused, states_taken);
+    printf("%lu calls of a machine\n", calls_seen);
+    printf("saved and restored %lu times; of damaged states %lu were refused, %lu played, and asked media %lu times\n", saved_seen,
+           states_refused, states_taken, unknown_asked);
     if (!reads_seen || !writes_seen) fail("nothing ended", lists);
+}
+
+/* ---- an error goes late ------------------------------------------------------------------------------------------- */
+
+enum { OF_DATA = 2 };       /* a kind of gef_wanted */
+enum { TFES = 0x40000000 }; /* of PxIS: a task file error */
+
+/* Does what is to be done, until bytes of a Data FIS are wanted. */
+static gef_event settle_to_data(void) {
+    gef_event event;
+    for (;;) {
+        event = next_event();
+        if (event.kind == GEF_EVENT_READ_GUEST && event.u.read.wanted.kind == OF_DATA) return event;
+        if (event.kind == GEF_EVENT_NOTHING) fail("no Data are wanted", 0);
+        do_event(&event);
+    }
+}
+
+/* Which of the requests that are out is of this kind, from this sector on. */
+static size_t asked_at(uint32_t kind, uint64_t lba) {
+    size_t at;
+    for (at = 0; at < request_count; at++)
+        if (requests[at].event.kind == kind && requests[at].event.u.medium.lba == lba) return at;
+    fail("not asked for from this sector on", (unsigned long)lba);
+    return 0;
+}
+
+/*
+ * A load fails while a write has the link, so the error waits for the write's Data. Meanwhile a read, which waited for a store that a
+ * reset had dropped, asks for its sectors: it may, since the host knows nothing yet. The error of a queued command ends all others of
+ * its disk (ACS-3, 4.15, NCQ), so the answer of that load is refused then. A store that was out may still be done: its answer is taken.
+ */
+static void play_errors(unsigned ports) {
+    gef_event data, late, store;
+    is_honest = 1;
+    memset(slots, 0, sizeof slots);
+    begin(ports, 0);
+    bring_up(ports);
+    queue(4, 0, 1, 40, 2);
+    settle();
+    outdate(1);
+    reset_link();
+    bring_up(ports);
+    queue(3, 0, 0, 41, 1);
+    queue(1, 0, 0, 1, 1);
+    queue(5, 0, 1, 50, 1);
+    settle();
+    if (request_count != 3) fail("other requests are out", (unsigned long)request_count);
+    queue(2, 0, 1, 8, 1);
+    data = settle_to_data();
+    answer(asked_at(GEF_EVENT_LOAD, 1), 1);
+    answer(asked_at(GEF_EVENT_STORE, 40), 0);
+    settle();
+    late = requests[asked_at(GEF_EVENT_LOAD, 41)].event;
+    store = requests[asked_at(GEF_EVENT_STORE, 50)].event;
+    if (read_register(IS) & TFES) fail("an error before the Data", read_register(IS));
+    read_guest(&data);
+    settle();
+    if (!(read_register(IS) & TFES)) fail("no error", read_register(IS));
+    if (answer_well(&late) != GEF_NOT_OUT) fail("a load of before the error is out", 0);
+    must("a store of before the error", answer_well(&store));
+    if (answer_well(&store) != GEF_NOT_OUT) fail("a store that was answered is out", 0);
+    must("free", gef_machine_free(&machine));
 }
 
 /* ---- memory is refused -------------------------------------------------------------------------------------------- */
@@ -797,7 +754,10 @@ static void play_refused(unsigned ports) {
 }
 
 int main(int count, char **words) {
-    if (count == 2 && !strcmp(words[1], "refused")) {
+    if (count == 2 && !strcmp(words[1], "errors")) {
+        play_errors(0);
+        play_errors(2);
+    } else if (count == 2 && !strcmp(words[1], "refused")) {
         play_refused(3);
         play_refused(0);
     } else if (count == 3 && !strcmp(words[1], "random")) {

@@ -298,9 +298,9 @@ impl<G: GuestMemory, M: Medium> Ahci<G, M> {
     /// The answer of a medium that said [`Reply::Later`](crate::Reply::Later), whenever it comes.
     ///
     /// # Errors
-    /// [`Error::OtherDisk`] and [`Error::NotOut`]: the disk was reset, pulled or removed; drop the answer. [`Error::NoMemory`]:
-    /// give it again. Where it does not fit the request: [`Error::OtherKind`], [`Error::OtherLength`] and
-    /// [`Error::OtherSector`].
+    /// [`Error::OtherDisk`] and [`Error::NotOut`]: the disk was reset, pulled or removed, or an error ended its commands; drop the
+    /// answer. [`Error::NoMemory`]: give it again. Where it does not fit the request: [`Error::OtherKind`],
+    /// [`Error::OtherLength`] and [`Error::OtherSector`].
     pub fn answer(&mut self, request: &Request, answer: Answer<'_>) -> Result<(), Error> {
         self.machine.answer(request, answer)
     }

@@ -91,7 +91,7 @@ errors! {
     NotWanted = 28,
     /// The disk that asked is not at the port any more. Drop the answer.
     OtherDisk = 29,
-    /// No such request is out: it was answered, or a reset ended it. Drop the answer.
+    /// No such request is out: it was answered, or a reset or an error ended it. Drop the answer.
     NotOut = 30,
     /// The request asked for something else.
     OtherKind = 31,

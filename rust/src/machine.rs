@@ -143,7 +143,8 @@ impl Machine {
         Ok(state)
     }
 
-    /// The machine whose state these bytes are. Bytes of anybody give a machine that keeps the rules of the library, or are refused.
+    /// The machine whose state these bytes are. Bytes of anybody give a machine whose calls are as safe as ever, or are refused; but it
+    /// may ask for sectors behind the end of a disk, and give a request the number of another that is out.
     ///
     /// # Errors
     /// [`Error::NotAState`], [`Error::OtherVersion`], [`Error::BadState`] and [`Error::NoMemory`].
