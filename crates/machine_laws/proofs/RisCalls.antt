@@ -1,5 +1,5 @@
 -- What comes to the controller is what it takes or lets go.
-use Rattle.std.proofs.Common.{◌≡◌, ℕ, Bool, true, false, List, [], ◌∷◌, ◌++◌, append_assoc, map, Option, Some, None, Result, Ok, Err, refl, sym, ap, ◌∙◌, subst, inl, inr}
+use Rattle.std.proofs.Common.{◌≡◌, ℕ, Bool, true, false, List, [], ◌∷◌, ◌++◌, append_assoc, Option, Some, None, Result, Ok, Err, refl, sym, ap, ◌∙◌, inl, inr}
 use Rattle.std.specs.Prelude.{MatchOption}
 use Rattle.std.specs.Bool.{MatchBool}
 use Rattle.std.specs.Option.{option_to_list}
@@ -18,10 +18,10 @@ use Rattle.ahci_machine.specs.declared.act.Act.TheVariants as act
 use Rattle.ahci_machine.specs.declared.answers.Told.{Told}
 use Rattle.ahci_machine.specs.declared.request.Wanted.{Wanted}
 use Rattle.ahci_machine.specs.declared.request.Wanted.TheVariants.{Command, Data}
-use Rattle.machine_laws.specs.ControllerLaws.{RunsRuled, calls_in}
+use Rattle.machine_laws.specs.ControllerLaws.{calls_in}
 use Rattle.machine_laws.specs.Controllers.{data_calls, deed_calls, lost_calls, miss_calls, move_calls, rest_calls, supply_calls}
 use Rattle.machine_laws.specs.Deeds.{Deed, Does, Moved, Unlent, Wrote, Powered, Supplied, Missed, Answered, Put, Plugged, Pulled, Removed, FrameTaken, FrameOffered}
-use Rattle.machine_laws.specs.Rising.{AreLinked, Frames, FramesAreTaken, bytes_of, came_by, frames_in, frames_of, more_frames, move_came, sent_by}
+use Rattle.machine_laws.specs.Rising.{Frames, FramesAreTaken, bytes_of, came_by, frames_in, frames_of, more_frames, move_came, sent_by}
 
 both_of : (es fs : List Event) → frames_of (es ++ fs) ≡ frames_of es ++ frames_of fs
 both_of [] fs = refl

@@ -1,7 +1,6 @@
 -- Data FISes that come are of the devices, and have the bytes that were sent.
-use Rattle.std.proofs.Common.{◌≡◌, ◌⊎◌, ℕ, ◌+◌, ◌*◌, ◌/◌, ◌%◌, ◌<◌, ◌≤◌, ◌==◌, Bool, true, false, List, [], ◌∷◌, ◌++◌, length, drop, Option, Some, None, Result, Ok, Err, refl, sym, ap, ◌∙◌, subst, arith, inl, inr, All, Contains, filter}
+use Rattle.std.proofs.Common.{◌≡◌, ◌⊎◌, ℕ, ◌+◌, ◌*◌, ◌/◌, ◌%◌, ◌<◌, ◌==◌, Bool, true, false, List, [], ◌∷◌, ◌++◌, length, drop, Some, None, Result, Ok, Err, refl, sym, ap, ◌∙◌, subst, arith, inl, inr, All, Contains, filter}
 use Rattle.std.specs.Prelude.{if◌then◌else◌, ◌&&◌, slice_index}
-use Rattle.std.specs.declared.alloc.AllocError.{AllocError}
 use Rattle.std.proofs.lemmas.Bool.{and_from, and_parts, eq-eqb, eqb-true, true≢false, false≢true}
 use Rattle.std.proofs.lemmas.List.{get_or-set_same, length-set}
 use Rattle.std.proofs.lemmas.List.Elements.{All-append, All-cons, All-contains, All-contains_itself, All-filter, All-nil, All-same, All-weaker, Contains-append_left, Contains-append_right, Contains-push}
@@ -20,19 +19,16 @@ use Rattle.multiplier.specs.State.{pm_port, ready, rising}
 use Rattle.multiplier.proofs.Door.{gives, served_below}
 use Rattle.block_queue.specs.Line.{command_at}
 use Rattle.sata_disk.specs.Sending.{part_at}
-use Rattle.sata_disk.specs.State.{DiskState, commands}
+use Rattle.sata_disk.specs.State.{commands}
 use Rattle.sata_disk.specs.declared.out.Out.TheVariants.{Data}
 use Rattle.fan_out.specs.Calls.{FanCall, Plug, Pull, Send, GiveUp, GiveDown, Offer, Tell, Does as FanDoes, given, given_by}
-use Rattle.fan_out.specs.Fans.{FanState, IsFan, waiting}
+use Rattle.fan_out.specs.Fans.{FanState, IsFan}
 use Rattle.fan_out.specs.declared.fan_out.FanOut.{FanOut}
 use Rattle.fan_out.specs.declared.fan_out.FanOut.TheVariants.{Device, Multiplier}
-use Rattle.ahci_machine.specs.States.{MachineState, bay_at}
-use Rattle.ahci_machine.specs.declared.act.Act.TheVariants as act
 use Rattle.machine_laws.proofs.RisFan.{FansPass, Passage, after_one, fan_through, no_device}
 use Rattle.machine_laws.proofs.RisRun.{crosses}
 use Rattle.machine_laws.proofs.RisStraight.{straight_all}
-use Rattle.machine_laws.specs.Deeds.{Does, Moved}
-use Rattle.machine_laws.specs.Rising.{CarriesPart, DataAreSent, DataCarryParts, Frames, HaveRisen, IsOfDevice, IsSoundEnd, Sends, held_at, is_multiplier, risen, sent_call, untaken}
+use Rattle.machine_laws.specs.Rising.{CarriesPart, DataAreSent, DataCarryParts, IsSoundEnd, Sends, held_at, is_multiplier, risen, untaken}
 
 -- ---- what a disk sends
 

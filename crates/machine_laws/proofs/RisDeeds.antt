@@ -1,6 +1,6 @@
 -- What each deed is to the FISes of the devices: one is sent, goes up, comes to the controller, or all stay.
-use Rattle.std.proofs.Common.{◌≡◌, ℕ, Bool, true, false, not, List, [], ◌∷◌, ◌++◌, set, length, Option, Some, None, Result, Ok, Err, refl, sym, ap, ◌∙◌, subst, inl, inr}
-use Rattle.std.specs.Prelude.{if◌then◌else◌, ◌&&◌, ◌||◌, is_some, is_none, nat_lt, MatchOption, MatchResult, IsOk, OnErr, OnOk}
+use Rattle.std.proofs.Common.{◌≡◌, ℕ, Bool, true, false, not, List, [], ◌∷◌, ◌++◌, set, Option, Some, None, Result, Ok, Err, refl, sym, ap, ◌∙◌, subst, inl, inr}
+use Rattle.std.specs.Prelude.{if◌then◌else◌, ◌||◌, is_some, is_none, nat_lt, MatchOption, IsOk, OnErr, OnOk}
 use Rattle.std.specs.Bool.{MatchBool}
 use Rattle.std.specs.Option.{option_to_list}
 use Rattle.std.specs.Result.{IsErrOf}
@@ -49,7 +49,7 @@ use Rattle.ahci_machine.specs.declared.request.Wanted.TheVariants.{Command, Data
 use Rattle.machine_laws.proofs.Beside as beside
 use Rattle.machine_laws.proofs.Cases.{by_bool, by_option}
 use Rattle.machine_laws.specs.Deeds.{Deed, Does, Moved, Unlent, Wrote, Powered, Supplied, Missed, Answered, Put, Plugged, Pulled, Removed, FrameTaken, FrameOffered}
-use Rattle.machine_laws.specs.Rising.{Sends, came_by, is_reset, move_came, move_sent, risen, sent_by, sent_call, unless_back, untaken}
+use Rattle.machine_laws.specs.Rising.{Sends, came_by, is_reset, move_came, move_sent, risen, sent_by, sent_call, unless_back}
 
 -- what is behind the controller, and the frame on its way to it
 abbrev pub Outer : Type 0

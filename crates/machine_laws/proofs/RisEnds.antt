@@ -1,26 +1,24 @@
 -- What ends a connection, and what does not.
-use Rattle.std.proofs.Common.{◌≡◌, ◌≢◌, ℕ, ◌<◌, ◌≤◌, ◌==◌, Bool, true, false, List, length, Option, Some, None, Result, Ok, Err, refl, sym, ap, ◌∙◌, subst, arith}
-use Rattle.std.specs.Prelude.{if◌then◌else◌, ◌&&◌, ◌||◌, nat_lt, is_none, is_some, slice_set, MatchOption, MatchResult, IsOk}
+use Rattle.std.proofs.Common.{◌≡◌, ◌≢◌, ℕ, ◌<◌, ◌≤◌, ◌==◌, Bool, true, false, length, Option, Some, None, Result, Ok, Err, refl, sym, ap, ◌∙◌, subst, arith}
+use Rattle.std.specs.Prelude.{if◌then◌else◌, ◌&&◌, nat_lt, is_none, is_some, slice_set, MatchOption, MatchResult}
 use Rattle.std.specs.Bool.{MatchBool}
-use Rattle.std.specs.Result.{IsErrOf}
-use Rattle.std.specs.declared.alloc.AllocError.{AllocError}
-use Rattle.std.proofs.lemmas.Bool.{and_parts, eqb-false, eq-eqb, lt-ltb, ltb-true, true≢false, false≢true}
+use Rattle.std.proofs.lemmas.Bool.{and_parts, eqb-false, ltb-true, true≢false, false≢true}
 use Rattle.std.proofs.lemmas.Option.{same_Some}
 use Rattle.fis_view.specs.Frames.{Stamped}
 use Rattle.pm_ports.specs.Port as port
 use Rattle.pm_ports.specs.declared.port.Offered.{Offered}
 use Rattle.pm_ports.specs.declared.port.Offered.TheVariants.{Held, Dropped}
-use Rattle.multiplier.specs.Rules.{KeepsPorts, NextDownRule, with_device, without_device}
+use Rattle.multiplier.specs.Rules.{NextDownRule, with_device}
 use Rattle.multiplier.specs.State.{PmState, port_at}
 use Rattle.multiplier.specs.declared.multiplier.Passed.{Passed}
 use Rattle.multiplier.specs.declared.multiplier.Passed.TheVariants as passed
 use Rattle.multiplier.specs.declared.multiplier.PmRefusal.{PmRefusal}
 use Rattle.multiplier.specs.declared.multiplier.PmRefusal.TheVariants as refusal
 use Rattle.multiplier.proofs.Door.{kept_part, other_port, this_port, up_to}
-use Rattle.fan_out.specs.Calls.{FanCall, Plug, Pull, Send, GiveUp, GiveDown, Offer, Tell, Does as FanDoes, ResetEndsConnection, waits_at}
+use Rattle.fan_out.specs.Calls.{FanCall, Plug, Pull, Send, GiveUp, GiveDown, Offer, Tell, Does as FanDoes}
 use Rattle.fan_out.specs.FanOuts.{port_count}
 use Rattle.fan_out.specs.Fans.{FanState, IsFan, OffersFan, PlugsFan, PullsFan, SendsFan, Through, controlled, heeded, held_fan, held_in_reset, is_in_reset as holds_in_reset, joined, on, only_in_reset, parted, rejoined, seat_at, waiting}
-use Rattle.fan_out.specs.Seats.{after_sent, left, next_connection, seated, told}
+use Rattle.fan_out.specs.Seats.{after_sent, next_connection, seated, told}
 use Rattle.fan_out.specs.Straights.{GivesDown, GivesUp, OffersStraight, PlugsStraight, PullsStraight, SendsStraight, StraightState, TellsStraight, addressed, answering, on_port, pointed}
 use Rattle.multiplier.specs.State.{pm_port}
 use Rattle.fan_out.specs.declared.fan_out.FanOut.{FanOut}

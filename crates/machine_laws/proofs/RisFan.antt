@@ -18,7 +18,6 @@ use Rattle.fan_out.specs.Straights.{StraightState}
 use Rattle.fan_out.specs.declared.fan_out.FanOut.{FanOut}
 use Rattle.fan_out.specs.declared.fan_out.FanOut.TheVariants.{Device, Multiplier}
 use Rattle.fan_out.specs.declared.seat.NotThere.{NotThere}
-use Rattle.fan_out.specs.declared.seat.PlugError.{PlugError}
 use Rattle.fan_out.specs.declared.seat.PlugError.TheVariants.{NoPort}
 use Rattle.machine_laws.specs.Rising.{IsSoundEnd, Sends, held_at, is_multiplier, is_over, sent_call}
 

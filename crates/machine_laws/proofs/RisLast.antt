@@ -1,21 +1,16 @@
 -- A connection lasts over each deed that may not end it; a pull and the end of a reset by SControl end it.
-use Rattle.std.proofs.Common.{◌≡◌, ℕ, ◌<◌, ◌==◌, Bool, true, false, not, List, length, Option, Some, None, Result, Ok, Err, refl, sym, ap, ◌∙◌, subst}
-use Rattle.std.specs.Prelude.{◌||◌, MatchOption, MatchResult, IsOk, nat_lt, if◌then◌else◌}
+use Rattle.std.proofs.Common.{◌≡◌, ℕ, ◌<◌, ◌==◌, Bool, true, false, not, Some, None, Result, Ok, Err, refl, sym, ap, ◌∙◌, subst}
+use Rattle.std.specs.Prelude.{◌||◌, MatchResult}
 use Rattle.std.specs.Bool.{MatchBool}
 use Rattle.std.specs.Result.{IsErrOf}
 use Rattle.std.proofs.lemmas.Bool.{lt-ltb, true≢false, false≢true}
-use Rattle.std.proofs.lemmas.Option.{same_Some}
 use Rattle.fis_view.specs.Frames.{Stamped}
-use Rattle.pm_ports.specs.Port as port
 use Rattle.pm_ports.specs.declared.port.Offered.TheVariants.{Held}
-use Rattle.multiplier.specs.State.{port_at}
 use Rattle.multiplier.specs.declared.multiplier.Passed.{Passed}
 use Rattle.multiplier.specs.declared.multiplier.PmRefusal.{PmRefusal}
-use Rattle.multiplier.proofs.Door.{up_to}
-use Rattle.fan_out.specs.Calls.{FanCall, Plug, Pull, Send, GiveUp, GiveDown, Offer, Tell, ResetEndsConnection, waits_at}
+use Rattle.fan_out.specs.Calls.{Plug, Pull, Send, GiveUp, GiveDown, Offer, Tell, ResetEndsConnection, waits_at}
 use Rattle.fan_out.specs.FanOuts.{PullsAt, Sends as FanSends, has_port, port_count}
 use Rattle.fan_out.specs.Fans.{FanState, IsFan, SendsFan, seat_at}
-use Rattle.fan_out.specs.Straights.{PullsStraight, StraightState}
 use Rattle.fan_out.specs.declared.fan_out.FanOut.{FanOut}
 use Rattle.fan_out.specs.declared.fan_out.FanOut.TheVariants.{Device, Multiplier}
 use Rattle.fan_out.specs.declared.seat.NotThere.{NotThere}
@@ -30,10 +25,10 @@ use Rattle.ahci_machine.specs.declared.act.Act.TheVariants as act
 use Rattle.ahci_machine.specs.declared.ports.PortFault.{PortFault}
 use Rattle.ahci_machine.specs.declared.ports.PortFault.TheVariants.{NoPort, NotThere as Absent}
 use Rattle.machine_laws.proofs.Cases.{by_bool}
-use Rattle.machine_laws.proofs.RisDeeds.{Still, answered, does_next, frame_by, goes_by, held_offer, missed, outer, put, rests, serves, supplied, taken_away, wrote}
-use Rattle.machine_laws.proofs.RisEnds.{ends_call, fan_ends, over_keeps, straight_ends}
+use Rattle.machine_laws.proofs.RisDeeds.{Still, answered, does_next, frame_by, goes_by, missed, outer, put, rests, serves, supplied, taken_away, wrote}
+use Rattle.machine_laws.proofs.RisEnds.{fan_ends, over_keeps, straight_ends}
 use Rattle.machine_laws.specs.Deeds.{Deed, Does, Moved, Unlent, Wrote, Powered, Supplied, Missed, Answered, Put, Plugged, Pulled, Removed, FrameTaken, FrameOffered}
-use Rattle.machine_laws.specs.Rising.{ConnectionsLast, IsSoundEnd, PullsEnd, ResetsEnd, is_in_reset, is_over, is_reset, may_end, port_of}
+use Rattle.machine_laws.specs.Rising.{ConnectionsLast, IsSoundEnd, PullsEnd, ResetsEnd, is_over, may_end, port_of}
 
 module _ (n c : ℕ) where
   abbrev Lasts : MachineState → MachineState → Type 0
@@ -129,6 +124,6 @@ ResetEnds = (old new : FanState) (frame : Stamped) (sent : Result Passed (Stampe
 pub resets : ResetEnds → ResetsEnd
 resets law old passed new h f g was now sound n less in_reset out there later =
     let sends : SendsFan f h.does.frame (Ok passed) g =
-        subst (λ (e : FanOut). FanSends (Multiplier f) h.does.frame (Ok passed) e) (sym (ap (λ (m : MachineState). m.fan) h.turns) ∙ now)
-        (subst (λ (e : FanOut). FanSends e h.does.frame (Ok passed) h.middle.fan) was h.does.sends) in
+    subst (λ (e : FanOut). FanSends (Multiplier f) h.does.frame (Ok passed) e) (sym (ap (λ (m : MachineState). m.fan) h.turns) ∙ now)
+    (subst (λ (e : FanOut). FanSends e h.does.frame (Ok passed) h.middle.fan) was h.does.sends) in
     ap (λ (e : FanOut). is_over e n (seat_at f n).last) now ∙ (law f g h.does.frame (Ok passed) sound sends n less in_reset out there later).gone

@@ -1,12 +1,12 @@
 -- Over every run the FISes of the devices go to the controller in order.
-use Rattle.std.proofs.Common.{◌≡◌, ℕ, zero, suc, ◌+◌, ◌<◌, ◌≤◌, Bool, true, false, not, List, [], ◌∷◌, ◌++◌, append_assoc, map, min, replicate, Option, Some, None, refl, sym, ap, ◌∙◌, subst, arith}
+use Rattle.std.proofs.Common.{◌≡◌, ℕ, zero, suc, ◌+◌, ◌≤◌, Bool, true, false, not, List, [], ◌∷◌, ◌++◌, append_assoc, map, min, replicate, Option, Some, None, refl, sym, ap, ◌∙◌, subst, arith}
 use Rattle.std.specs.Prelude.{◌||◌, if◌then◌else◌, is_some, slice_index_or, slice_set}
 use Rattle.std.specs.Option.{option_to_list}
 use Rattle.std.proofs.lemmas.Bool.{true≢false, false≢true}
 use Rattle.std.proofs.lemmas.Grind.{flat_map-append}
 use Rattle.fis_view.specs.Frames.{Stamped}
 use Rattle.pm_ports.specs.Port as port
-use Rattle.multiplier.specs.Passing.{held_of, of_conn}
+use Rattle.multiplier.specs.Passing.{of_conn}
 use Rattle.multiplier.specs.Rules.{with_device}
 use Rattle.multiplier.specs.State.{first_port, opening, port_at, rising}
 use Rattle.multiplier.proofs.Door.{kept_part, opens_sound}
@@ -19,14 +19,12 @@ use Rattle.fan_out.specs.declared.fan_out.FanOut.{FanOut}
 use Rattle.fan_out.specs.declared.fan_out.FanOut.TheVariants.{Device, Multiplier}
 use Rattle.fan_out.specs.declared.seat.Seat.{Seat}
 use Rattle.ahci_machine.specs.Registers.{link_stays, message_of, renewed}
-use Rattle.ahci_machine.specs.States.{IsOpeningMachine, MachineState, opening_end}
-use Rattle.ahci_machine.specs.declared.act.Act.{Act}
-use Rattle.machine_laws.proofs.RisDeeds.{IsThere, Outer, Rising, deed_rises, outer, way}
+use Rattle.ahci_machine.specs.States.{MachineState, opening_end}
+use Rattle.machine_laws.proofs.RisDeeds.{Rising, deed_rises, outer, way}
 use Rattle.machine_laws.proofs.RisFan.{FansPass, Passage, Through, fan_through, no_device, then_sends, two}
 use Rattle.machine_laws.proofs.RisStraight.{no_multiplier, opening_sound, renewed_none, renewed_sound, straight_through}
-use Rattle.machine_laws.specs.ControllerLaws.{RunsRuled}
 use Rattle.machine_laws.specs.Deeds.{Deed, Does, Moved, Unlent, Wrote, Powered, Supplied, Missed, Answered, Put, Plugged, Pulled, Removed, FrameTaken, FrameOffered}
-use Rattle.machine_laws.specs.Rising.{Frames, FramesRise, GoesOnRising, HaveRisen, IsSoundEnd, OpensRising, RisesInOrder, Sends, came_by, frames_after, frames_in, held_at, is_multiplier, is_over, is_reset, more_frames, no_frames, on_way, sent_by, untaken}
+use Rattle.machine_laws.specs.Rising.{Frames, FramesRise, GoesOnRising, HaveRisen, IsSoundEnd, OpensRising, Sends, came_by, frames_after, held_at, is_multiplier, is_reset, more_frames, no_frames, sent_by, untaken}
 
 -- ---- either kind
 

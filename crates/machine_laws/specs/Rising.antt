@@ -2,7 +2,7 @@
 -- (Serial ATA 3.x, 16.3, port multiplier: frame transmission; AHCI 1.3.1, 5.3.13, a port takes a FIS). Of a FIS only the PM Port field is
 -- written on its way. A connection of a device begins as it is plugged in, or as its port leaves a reset by SControl (14.1.3), and ends as
 -- it is pulled, or as the next one begins; the link's own reset (AHCI 1.3.1, 10.4.2) ends all.
-use Rattle.std.specs.Prelude.{◌≡◌, ◌<◌, ◌==◌, ℕ, Bool, true, false, not, if◌then◌else◌, List, [], ◌∷◌, ◌++◌, map, drop, slice_index, Option, Some, is_some, Result, Ok, Err}
+use Rattle.std.specs.Prelude.{◌≡◌, ◌<◌, ◌==◌, ℕ, Bool, true, false, not, if◌then◌else◌, List, [], ◌∷◌, ◌++◌, map, drop, slice_index, Some, is_some, Result, Ok, Err}
 use Rattle.std.specs.List.{All, Contains}
 use Rattle.std.specs.Option.{option_to_list}
 use Rattle.fis_view.specs.Frames.{IsFrame, Stamped}

@@ -1,5 +1,5 @@
 -- What each call is to the FISes of the devices.
-use Rattle.std.proofs.Common.{◌≡◌, ℕ, List, [], ◌∷◌, Option, Result, Ok, Err, refl, sym, subst, inl, inr}
+use Rattle.std.proofs.Common.{List, [], ◌∷◌, Result, Ok, Err, refl}
 use Rattle.std.specs.Prelude.{IfOk, OnErr}
 use Rattle.std.specs.declared.alloc.AllocError.{AllocError}
 use Rattle.ahci_machine.specs.Acts.{Asks, Moves, Steps, unlent}

@@ -1,6 +1,6 @@
 //! A caller that has, after each of its calls, what its devices sent and what of it came to the controller.
 
-ghost use Rattle.std.specs.Prelude.{◌≡◌, ◌<◌, ℕ, List, [], ◌∷◌, IfOk};
+ghost use Rattle.std.specs.Prelude.{◌<◌, ℕ, [], ◌∷◌, IfOk};
 ghost use Rattle.machine_laws.specs.Deeds as deed;
 ghost use Rattle.machine_laws.specs.Rising.{Frames, GoesOnRising, HaveRisen, RisesInOrder, no_frames};
 ghost use Rattle.uses_machine_laws.specs.Risen.{KeepsRising, MovesRising};
