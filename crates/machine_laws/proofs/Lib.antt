@@ -9,3 +9,12 @@ pub mod Calls
 pub mod Lawful
 pub mod Framed
 pub mod Held
+pub mod RisFan
+pub mod RisStraight
+pub mod RisDeeds
+pub mod RisRun
+pub mod RisOver
+pub mod RisCalls
+pub mod RisData
+pub mod RisEnds
+pub mod RisLast

@@ -49,11 +49,11 @@ line law old new told step l is = law old l new (subst (λ (r : Result Act Alloc
 
 -- ---- moves one after another
 
-record MoveRun (old new : MachineState) : Type 0 where
-  deeds : List Deed
-  moves : AreMoves deeds
-  run : RunsRuled old deeds new
-  rules : HasRules new
+pub record MoveRun (old new : MachineState) : Type 0 where
+  pub deeds : List Deed
+  pub moves : AreMoves deeds
+  pub run : RunsRuled old deeds new
+  pub rules : HasRules new
 
 then_moved : (deeds : List Deed) (old middle new : MachineState) (a : Act) → RunsRuled old deeds middle → Steps middle a new → HasRules new → RunsRuled old (deeds ++ Moved a ∷ []) new
 then_moved [] old middle new a run step rules = (run.0, (new, subst (λ (m : MachineState). Steps m a new) run.1 step, (rules, refl)))
@@ -72,12 +72,12 @@ one_more old middle new a r step rules = record {
   rules = rules;
 }
 
-steps : (count : ℕ) (old new : MachineState) → HasRules old → StepsBy count old new → MoveRun old new
+pub steps : (count : ℕ) (old new : MachineState) → HasRules old → StepsBy count old new → MoveRun old new
 unfolding StepsBy
 steps zero old new rules is = record { deeds = []; moves = tt; run = (rules, is); rules = subst HasRules (sym is) rules }
 steps (suc count) old new rules is = one_more old is.middle new is.act (steps count old is.middle rules is.before) is.last is.rules
 
-asked : (old : MachineState) (request : Request) (new : MachineState) → HasRules old → HasRules new → Asks old request new → MoveRun old new
+pub asked : (old : MachineState) (request : Request) (new : MachineState) → HasRules old → HasRules new → Asks old request new → MoveRun old new
 asked old request new rules rules_new (inl h) = one_more old h.middle new h.act (steps h.quiet.count old h.middle rules h.quiet.steps) h.last rules_new
 asked old request new rules rules_new (inr h) = steps h.1.count old new rules h.1.steps
 

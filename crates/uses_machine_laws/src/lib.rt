@@ -15,6 +15,8 @@ ghost use Rattle.machine_laws.specs.Disks.{AreReached, HasLaws};
 ghost use Rattle.machine_laws.specs.Lent.{HoldsFrame, Lends};
 ghost use Rattle.uses_machine_laws.specs.Kept.{Keeps, KeepsLaws, KeepsMoves, KeepsOthers, Laws};
 
+pub mod rising;
+
 use ahci_controller::{WideWritten, Width};
 use ahci_machine::{Act, Machine, MediumError, MediumId, PortFault, Request, Told, Unit, Wanted};
 use block_engine::Answer;
