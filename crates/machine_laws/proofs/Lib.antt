@@ -9,3 +9,9 @@ pub mod Calls
 pub mod Lawful
 pub mod Framed
 pub mod Held
+pub mod FallFans
+pub mod FallPorts
+pub mod FallLinks
+pub mod FallHeard
+pub mod FallData
+pub mod FallOrders

@@ -4,3 +4,5 @@ pub mod Disks
 pub mod Controllers
 pub mod ControllerLaws
 pub mod Lent
+pub mod Falling
+pub mod Feeding
