@@ -1,2 +1,3 @@
 pub mod Keep
 pub mod Controller
+pub mod FallCalls
