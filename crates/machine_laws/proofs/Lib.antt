@@ -15,3 +15,4 @@ pub mod FallLinks
 pub mod FallHeard
 pub mod FallData
 pub mod FallOrders
+pub mod FallEnds

@@ -167,6 +167,18 @@ PortsPassInOrder = (n : ℕ) (old : MachineState) (deeds : List Deed) (new : Mac
     → AllLast n old deeds new run
     → ended n old deeds new run ++ way_to new n ≡ way_to old n ++ fell n old deeds new run
 
+-- ---- what is left where they end
+
+-- A device that begins anew forgets what it was given; what waits at its port stays.
+abbrev pub BegunForgets : Type 0
+BegunForgets = (old : MachineState) (n : ℕ) (new : MachineState) → Does old (Moved (act.Begins n)) new
+    → way_to new n ≡ option_to_list (waits_down old.fan n)
+
+-- Where the link is reset, nothing waits at any port any more. What a device was given lies with it until it begins anew.
+abbrev pub ResetsEmptyPorts : Type 0
+ResetsEmptyPorts = (old : MachineState) (deed : Deed) (new : MachineState) → Does old deed new → resets deed ≡ true
+    → (n : ℕ) → way_to new n ≡ option_to_list (bay_at old n).down
+
 -- what a call of a disk is that hears a FIS
 abbrev pub heard_by : Call → List (List ℕ)
 heard_by (disk_call.Hears bytes) = bytes ∷ []

@@ -1,7 +1,7 @@
 //! What the controller sent, and what the devices hear.
 
 ghost use Rattle.machine_laws.specs.Feeding.{DataIsAskedInOrder, DataIsRead, DataIsWhatCame, OpensUnread, OrdersAreIssued};
-ghost use Rattle.machine_laws.specs.Falling.{DisksHearThem, FramesGoWhereTheyShould, LinksPassInOrder, PortsPassInOrder, ResetsEmptyLinks};
+ghost use Rattle.machine_laws.specs.Falling.{BegunForgets, DisksHearThem, FramesGoWhereTheyShould, LinksPassInOrder, PortsPassInOrder, ResetsEmptyLinks, ResetsEmptyPorts};
 
 /// A law for callers; it runs no code. The FISes that the device at a port hears are those that the controller sent to it, in order, byte
 /// for byte but for the PM Port, which is 0 there. What the controller sent arrives at the other end of its link, each FIS once, unless
@@ -13,6 +13,8 @@ pub fn frames_fall_in_order()
     ensures passes { FramesGoWhereTheyShould }
     ensures ports { PortsPassInOrder }
     ensures heard { DisksHearThem }
+    ensures begins { BegunForgets }
+    ensures renews { ResetsEmptyPorts }
 {}
 
 /// A law for callers; it runs no code. Each FIS that the controller sends has the bytes that were supplied. The FIS of a command is the one

@@ -1,3 +1,4 @@
+use Rattle.machine_laws.proofs.FallEnds.{begun_forgets, ports_emptied}
 use Rattle.machine_laws.proofs.FallHeard.{go_where, hear_them}
 use Rattle.machine_laws.proofs.FallLinks as links
 use Rattle.machine_laws.proofs.FallPorts as ports
@@ -17,3 +18,9 @@ returns-clause-ports c = ports.in_order
 
 pub returns-clause-heard : goal.returns-clause-heard
 returns-clause-heard c = hear_them
+
+pub returns-clause-begins : goal.returns-clause-begins
+returns-clause-begins c = begun_forgets
+
+pub returns-clause-renews : goal.returns-clause-renews
+returns-clause-renews c = ports_emptied
