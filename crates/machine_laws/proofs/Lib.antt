@@ -18,3 +18,10 @@ pub mod RisCalls
 pub mod RisData
 pub mod RisEnds
 pub mod RisLast
+pub mod FallFans
+pub mod FallPorts
+pub mod FallLinks
+pub mod FallHeard
+pub mod FallData
+pub mod FallOrders
+pub mod FallEnds

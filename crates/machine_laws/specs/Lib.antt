@@ -5,3 +5,5 @@ pub mod Controllers
 pub mod ControllerLaws
 pub mod Lent
 pub mod Rising
+pub mod Falling
+pub mod Feeding

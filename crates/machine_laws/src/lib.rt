@@ -4,9 +4,11 @@
 //! calls and of its own moves; what that is to each of its parts is a list of calls of that part, so the laws of the parts hold.
 #![tactic(auto)]
 
+mod falling;
 mod laws;
 mod rising;
 
+pub use falling::{frames_fall_in_order, sent_frames_are_supplied};
 pub use laws::{
     controller_goes_on, controller_has_its_laws, disks_go_on, disks_have_their_laws,
     ports_are_apart, taken_frames_are_lent,

@@ -1,3 +1,4 @@
 pub mod Keep
 pub mod Controller
 pub mod Risen
+pub mod FallCalls

@@ -16,11 +16,13 @@ ghost use Rattle.machine_laws.specs.Lent.{HoldsFrame, Lends};
 ghost use Rattle.uses_machine_laws.specs.Kept.{Keeps, KeepsLaws, KeepsMoves, KeepsOthers, Laws};
 
 pub mod rising;
+mod falling;
 
 use ahci_controller::{WideWritten, Width};
 use ahci_machine::{Act, Machine, MediumError, MediumId, PortFault, Request, Told, Unit, Wanted};
 use block_engine::Answer;
 use disk_pages::Profile;
+pub use falling::{brings, goes_on, hears, joins, opens_unread, sets};
 use fis_view::Frame;
 use sata_disk::SataDisk;
 use std::alloc::{AllocError, Global};
