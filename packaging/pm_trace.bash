@@ -6,7 +6,7 @@ _pm_trace_words() {
         '') echo run threads guest decode diff shrink fuzz perfetto pcapng --help --version ;;
         run) echo --trace --only --from --json --bytes --strict ;;
         threads) echo --turns ;;
-        guest) echo --trace ;;
+        guest) echo --trace --json ;;
         diff) echo --order --exact --help ;;
         shrink) echo --keep --words --help ;;
         fuzz) echo --seed --steps --runs --whole --help ;;

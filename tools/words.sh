@@ -45,7 +45,7 @@ misuse() {
             --only | --from | --turns) [ $# -gt 1 ] && word="$1=$2" && shift ;;
         esac
         case "$mode $word" in
-            "run --trace" | "run --json" | "run --bytes" | "run --strict" | "guest --trace" | "run --only="* | "run --from="* | "threads --turns="*)
+            "run --trace" | "run --json" | "run --bytes" | "run --strict" | "guest --trace" | "guest --json" | "run --only="* | "run --from="* | "threads --turns="*)
                 misvalue "$word" | grep . && return
                 [[ $word == --only=* || $seen != *" ${word%%=*} "* ]] ||
                     { echo "${word%%=*} stands twice" && return; }

@@ -1,4 +1,4 @@
-"""Draws what `pm_trace run --json`, `run --trace` or `guest --trace` tells as a ladder, in SVG or as a page of HTML:
+"""Draws a trace of `pm_trace run` or `pm_trace guest`, of `--json` or `--trace`, as a ladder, in SVG or as a page of HTML:
 
     ./pm_trace run --json examples/one-read.scenario | ./pm_chart > one-read.svg
     ./pm_trace run --json examples/one-read.scenario | ./pm_chart --html > one-read.html

@@ -3,10 +3,10 @@
     ./pm_trace run --trace before.scenario > before && ./pm_trace run --trace after.scenario > after
     ./pm_trace diff before after
 
-A and B are traces of `run --json`, `run --trace` or `guest --trace`. The steps of each port are compared by themselves, so
+A and B are traces of `run` or `guest`, each of `--json` or `--trace`. The steps of each port are compared by themselves, so
 that it does not count which device was served first; with --order it counts. Numbers of steps, FISes, slots and tickets
 do not count, since one request more shifts all that come after it; with --exact they do, but for those of steps. Where one
-trace is of `guest`, only what went over the host's link is compared.
+trace is of `guest`, only what went over the host's link is compared; all is where both are of `guest --json`.
 
 Lines with - stand in A alone, lines with + in B alone. The status is 0 if nothing differs, 1 if something does or an input is
 no trace.
@@ -89,7 +89,7 @@ def compare(one: list[Step], other: list[Step], is_exact: bool, is_of_link: bool
 
 def differences(one: Trace, other: Trace, is_ordered: bool, is_exact: bool) -> Iterator[tuple[str, int, list[str]]]:
     """Each part: its title, how many steps of A are in it, and the lines that tell a difference."""
-    is_of_link = one.is_of_link or other.is_of_link
+    is_of_link = one.is_of_link or other.is_of_link or one.is_of_guest != other.is_of_guest
     both = [[step for step in trace.steps if is_on_link(step) or not is_of_link] for trace in (one, other)]
     parts = [parts_of(steps, is_ordered) for steps in both]
     for title in dict.fromkeys([*parts[0], *parts[1]]):

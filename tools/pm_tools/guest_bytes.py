@@ -17,7 +17,8 @@ ROW = 256  # bytes of the received FISes of a device
 PLACES = {"setup": (0x00, 28), "pio": (0x20, 20), "d2h": (0x40, 20), "bits": (0x58, 8)}
 COMMAND_BYTES = 20
 # What is printed before what a line prints of its own.
-REASON = re.compile(r"ports \d+ memory|ignored: |slot \d+ (not taken|fails): |waits |disk \d+: unheard: ")
+REASON = re.compile(r"ports \d+ memory|driver |controller |multiplier |interrupt |ignored: |warning: |open: |waits |"
+                    r"slot \d+ (not taken|fails|issued)|disk \d+(: unheard:| asks:) ")
 
 
 def offset_of(word: str) -> int:

@@ -6,7 +6,7 @@ from dataclasses import dataclass, field
 from typing import Iterable, Optional
 
 from pm_tools.names import note_of, short_name
-from pm_tools.trace import CONTROL_PORT, Step
+from pm_tools.trace import CONTROL_PORT, GUEST_ACTS, Step
 
 TOP = 0.0  # the place of all that is before the window; rows count from 1
 
@@ -105,6 +105,21 @@ def has_row(step: Step) -> bool:
 
 def lane_of(end: str, port: Optional[int]) -> str:
     return f"disk {port}" if end == "disk" else end
+
+
+def unit_of(step: Step) -> str:
+    """The lane of a step that moves no FIS."""
+    unit = {"drives": "driver", "records": "pm", **GUEST_ACTS}.get(step.act, "disk")
+    return lane_of(unit, step.port)
+
+
+def kind_of(step: Step) -> str:
+    """The sign of a step that moves no FIS."""
+    if step.gone:
+        return "gone"
+    if step.act in GUEST_ACTS:
+        return "fault" if step.is_trouble else "driver"
+    return "driver" if step.act == "drives" else "came"
 
 
 @dataclass
@@ -224,9 +239,7 @@ class Builder:
                                         max(begin, end), label, step.port, steps, bool(step.dropped) and not is_cut, is_cut))
 
     def add_mark(self, step: Step, place: float) -> None:
-        kind = "gone" if step.gone else "driver" if step.act == "drives" else "came"
-        lane = {"drives": "driver", "records": "pm"}.get(step.act, f"disk {step.port}")
-        self.ladder.marks.append(Mark(kind, lane, place, step.port, step.number))
+        self.ladder.marks.append(Mark(kind_of(step), unit_of(step), place, step.port, step.number))
         if step.is_issue:
             self.ladder.arrows.append(Arrow("driver", "host", place, place, "", step.port, (step.number,)))
 

@@ -3,7 +3,7 @@ from __future__ import annotations
 
 import re
 
-from pm_tools.trace import Step
+from pm_tools.trace import GUEST_ACTS, Step
 
 STATUS_BITS = {0x80: "BSY", 0x40: "DRDY", 0x20: "DF", 0x08: "DRQ", 0x01: "ERR"}
 ERROR_BITS = {0x40: "UNC", 0x10: "IDNF", 0x04: "ABRT"}
@@ -38,6 +38,8 @@ def note_of(step: Step) -> str:
     """What came of a step."""
     if step.act in ("came", "gone", "records"):
         return step.said()
+    if step.act in GUEST_ACTS:
+        return step.said().removeprefix(f"{GUEST_ACTS[step.act]} ").removeprefix("controller ")
     if step.act == "drives":
         said = step.said().split(" (it ", 1)[0]
         for start in ("driver, ", "driver: ", "driver "):

@@ -63,7 +63,7 @@ def head_of(step: Step, is_known: bool, taken: Optional[Step]) -> bytes:
     """What stands before the FIS: version 1, flags, 1 for a device's link, port, connection, number of the FIS, step."""
     flags = UP if step.way == "up" else 0
     flags |= 0 if is_known else MADE
-    flags |= DROPPED if taken and taken.dropped else 0
+    flags |= DROPPED if taken and taken.dropped or step.is_whole and step.dropped else 0
     flags |= IGNORED if taken and taken.ignored or step.ignored else 0
     is_of_device = "disk" in (step.source, step.target)
     return struct.pack(">BBBBIII", 1, flags, is_of_device, step.port or 0, NONE if step.conn is None else step.conn,

@@ -15,7 +15,7 @@ from dataclasses import dataclass, field
 from pathlib import Path
 from typing import Any, Optional, Sequence
 
-from pm_tools.ladder import Bar, Window, lane_of, ladder_of
+from pm_tools.ladder import Bar, Window, lane_of, ladder_of, unit_of
 from pm_tools.names import note_of, short_name
 from pm_tools.trace import NotATrace, Step, read_trace
 
@@ -117,8 +117,7 @@ def events_of(steps: list[Step]) -> list[Event]:
         if step.act in ("sends", "takes"):
             hops.note(step)
         else:
-            unit = "driver" if step.act == "drives" else lane_of("pm" if step.act == "records" else "disk", step.port)
-            events.slice(UNITS, unit, note_of(step), step.number, step.number + 1, line=step.text)
+            events.slice(UNITS, unit_of(step), note_of(step), step.number, step.number + 1, line=step.text)
         if step.is_trouble:
             events.instant(step)
     hops.close(steps[-1].number if steps else 0)

@@ -1,4 +1,4 @@
-"""Traces of `pm_trace run --json`, of `run --trace` and of `guest --trace`, as lists of steps."""
+"""Traces of `pm_trace run --json` and `--trace`, and of `guest --json` and `--trace`, as lists of steps."""
 from __future__ import annotations
 
 import json
@@ -9,6 +9,12 @@ from pathlib import Path
 from typing import Any, Iterable, Iterator, Optional
 
 CONTROL_PORT = 15
+
+# What only `guest --json` tells of. The units are those that do it.
+GUEST_ACTS = {"reads": "driver", "writes": "driver", "puts": "driver", "ignores": "host", "warns": "host", "ends": "host",
+              "line": "host", "fetches": "host", "issues": "host", "refuses": "host", "stores": "host", "open": "host",
+              "waits": "host", "drops": "pm", "unheard": "disk", "asks": "disk"}
+GUEST_TROUBLE = ("ignores", "warns", "refuses", "drops", "unheard", "open")
 
 
 class NotATrace(Exception):
@@ -48,6 +54,8 @@ class Step:
 
     @property
     def is_trouble(self) -> bool:
+        if self.act in GUEST_TROUBLE:
+            return True
         return bool(self.fault or self.dropped or self.gone or self.ignored) or (self.ended or "done") != "done"
 
     @property
@@ -69,7 +77,8 @@ class Trace:
     """All that a program wrote: steps and printed lines, in order."""
 
     lines: tuple[Step | str, ...]
-    is_of_link: bool = False  # it has the host's link alone, as `guest --trace` tells
+    is_of_link: bool = False  # its steps are those of the host's link alone, as in the text of `guest --trace`
+    is_of_guest: bool = False  # it is of `guest --json`
 
     @property
     def steps(self) -> list[Step]:
@@ -88,6 +97,8 @@ def step_of(fields: dict[str, Any]) -> Step:
             known[key] = tuple(known[key])
     if "bytes" in fields:
         known["raw"] = bytes.fromhex(fields["bytes"])
+    if not fields["text"].startswith("#"):
+        known["text"] = f"#{fields['step']} {fields['text']}"
     if "dropped" not in known and (held := re.search(r"; dropped: (.*)", fields["text"])):
         known["dropped"] = held[1]
     return Step(number=fields["step"], source=fields["from"], target=fields["to"], **known)
@@ -104,20 +115,22 @@ def line_of(text: str) -> Step | str | None:
 
 
 def read_json(lines: Iterable[str], name: str = "the input") -> Trace:
-    """A trace of `run --json`."""
+    """A trace of `run --json` or of `guest --json`."""
     found: list[Step | str] = []
     for number, line in enumerate(lines, 1):
         try:
             said = line_of(line)
         except (ValueError, KeyError, TypeError, StopIteration) as error:
-            raise NotATrace(f"{name}: line {number} is no line of `pm_trace run --json`") from error
+            raise NotATrace(f"{name}: line {number} is no line of `pm_trace run --json` or `guest --json`") from error
         if said is not None:
             found.append(said)
     if not found:
         raise NotATrace(f"{name} is empty, so it is no trace")
-    if any(isinstance(line, Step) and line.act != "sends" for line in found):
+    acts = {line.act for line in found if isinstance(line, Step)}
+    if acts - {"sends"} and not acts & GUEST_ACTS.keys():
         return Trace(tuple(found))
-    return Trace(tuple(line if isinstance(line, str) else replace(line, is_whole=True) for line in found), is_of_link=True)
+    whole = tuple(replace(line, is_whole=True) if isinstance(line, Step) and line.act == "sends" else line for line in found)
+    return Trace(whole, is_of_link=acts == {"sends"}, is_of_guest=bool(acts & GUEST_ACTS.keys()))
 
 
 LINK_WORDS = re.compile(r"(up|down) (?:port (\d+)|control port): (.*)")
@@ -207,11 +220,11 @@ def link_step(number: int, line: str) -> Optional[Step]:
     found = LINK_WORDS.match(line)
     if not found:
         return None
-    way = found[1]
+    way, lost = found[1], re.search(r"; (?:dropped|lost): (.*)", line)
     source, target = ("host", "pm") if way == "down" else ("pm", "host")
     return Step(number=number, act="sends", source=source, target=target, text=f"#{number} {line}", way=way,
                 port=int(found[2]) if found[2] else CONTROL_PORT, fis=number, frame=frame_of(found[3]),
-                ignored="; taken by nobody" in line, is_whole=True)
+                dropped=lost[1] if lost else None, ignored="; taken by nobody" in line, is_whole=True)
 
 
 def read_text(lines: Iterable[str], name: str = "the input") -> Trace:

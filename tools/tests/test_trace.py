@@ -1,4 +1,5 @@
 """Reading traces."""
+import re
 import unittest
 from dataclasses import replace
 
@@ -6,6 +7,18 @@ from pm_tools.trace import NotATrace, read_json, read_text, with_bytes
 from support import DATA, TOP
 
 JSON = (TOP / "cases/trace/json.out").read_text().splitlines()
+
+
+class Warnings(unittest.TestCase):
+    """docs/SCENARIOS.md has each warning of the program with its section."""
+
+    def test_the_table_has_what_the_case_prints(self) -> None:
+        printed = set(re.findall(r"warning: (.*) \(AHCI 1.3.1, (.*)\)", (TOP / "cases/guest/warnings.out").read_text()))
+        table = re.findall(r"^\| `(.*?)`.* \| (\d+\.\d+\.\d+) \|$", (TOP / "docs/SCENARIOS.md").read_text(), re.MULTILINE)
+        told = {(re.sub(r"\b[NPD]\b", r"\\d+", rule), section) for rule, section in table}
+        self.assertEqual(len(printed), len(told))
+        for rule, section in printed:
+            self.assertTrue(any(re.fullmatch(words, rule) and section == other for words, other in told), rule)
 
 
 class Reading(unittest.TestCase):
@@ -26,6 +39,14 @@ class Reading(unittest.TestCase):
         trace = read_text((TOP / "cases/guest/linux-two-disks.out").read_text().splitlines())
         self.assertTrue(trace.is_of_link)
         self.assertEqual({(step.source, step.target) for step in trace.steps}, {("host", "pm"), ("pm", "host")})
+
+    def test_json_of_a_guest_has_more_than_its_link(self) -> None:
+        trace = read_json((TOP / "cases/guest/json.out").read_text().splitlines())
+        self.assertEqual((trace.is_of_guest, trace.is_of_link), (True, False))
+        self.assertEqual({step.act for step in trace.steps}, {"writes", "reads", "puts", "fetches", "issues", "sends", "line", "stores",
+                                                              "asks", "warns", "open"})
+        self.assertEqual([step.act for step in trace.steps if step.is_trouble], ["warns", "sends", "open"])
+        self.assertEqual({step.is_whole for step in trace.steps if step.act == "sends"}, {True})
 
     def test_what_is_no_trace_is_refused(self) -> None:
         texts: tuple[list[str], ...] = ([], ["hello"], ['{"x":1}'], ["[1]"], [*JSON, "hello"], ['{"step":1}'])

@@ -6,6 +6,7 @@ use pm_threads::MAX_TURNS;
 use std::alloc::{AllocError, Global};
 use std::convert::AsStr;
 use std::fmt;
+use trace_guest::Telling;
 use trace_run::{Turns, Watch};
 use trace_text::value_within;
 
@@ -27,14 +28,17 @@ pub enum Task {
     Decode,
     /// Play the scenario of the input, one step at a time, and write this much of what moves.
     Run(Watch),
-    /// Play the accesses of the input, and write what moves if this is true.
-    Guest(bool),
+    /// Play the accesses of the input, and write this much of what happens.
+    Guest(Telling),
 }
 
 impl Task {
     /// Whether all output is JSON, an object a line.
     pub fn is_json(self) -> bool {
-        matches!(self, Task::Run(Watch { is_json: true, .. }))
+        matches!(
+            self,
+            Task::Run(Watch { is_json: true, .. }) | Task::Guest(Telling::Json)
+        )
     }
 }
 
@@ -112,7 +116,7 @@ impl<'a> Call<'a> {
         let mode = match name {
             "decode" => Mode::Alone(Task::Decode),
             "run" => Mode::Alone(Task::Run(watch_of(given)?)),
-            "guest" => Mode::Alone(Task::Guest(given.get_flag("trace"))),
+            "guest" => Mode::Alone(Task::Guest(telling_of(given))),
             _ => Mode::Threads(turns_of(given)?),
         };
         let file = given.get_str("file");
@@ -124,6 +128,17 @@ impl<'a> Call<'a> {
             mode: Mode::Help,
             file: None,
         }
+    }
+}
+
+/// How much the words after `guest` ask for.
+fn telling_of(given: &ArgMatches<'_>) -> Telling {
+    if given.get_flag("json") {
+        Telling::Json
+    } else if given.get_flag("trace") {
+        Telling::Text
+    } else {
+        Telling::Nothing
     }
 }
 
@@ -193,7 +208,7 @@ fn command<'a>(alloc: Global) -> Result<Command<'a>, Error> {
         .arg(help(alloc))?
         .subcommand(mode_words(alloc, "decode")?)?
         .subcommand(run_words(alloc)?)?
-        .subcommand(mode_words(alloc, "guest")?.arg(flag(alloc, "trace"))?)?
+        .subcommand(guest_words(alloc)?)?
         .subcommand(mode_words(alloc, "threads")?.arg(turns)?)?;
     Ok(command)
 }
@@ -221,6 +236,14 @@ fn run_words<'a>(alloc: Global) -> Result<Command<'a>, Error> {
                 .action(ArgAction::Append),
         )?
         .arg(Arg::new(alloc, "from").long("from").action(ArgAction::Set))?;
+    Ok(command)
+}
+
+/// The words of `guest`.
+fn guest_words<'a>(alloc: Global) -> Result<Command<'a>, Error> {
+    let command = mode_words(alloc, "guest")?
+        .arg(flag(alloc, "trace"))?
+        .arg(flag(alloc, "json"))?;
     Ok(command)
 }
 

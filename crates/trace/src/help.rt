@@ -14,8 +14,9 @@ pm_trace run [WORDS] [FILE]            play a scenario, one step at a time
     --strict         a step or a request that is refused ends the run
 pm_trace threads [--turns N] [FILE]    run one with a thread for each disk, the multiplier and the host
     --turns N        end once nothing moved in N turns of a thread, 1 to 16777216
-pm_trace guest [--trace] [FILE]        play the accesses of a driver to an AHCI controller
-    --trace          a line for each FIS on the link
+pm_trace guest [WORDS] [FILE]          play the accesses of a driver to an AHCI controller
+    --trace          a line for each access, decision of the controller, warning, and FIS on the link
+    --json           the same as JSON, an object a line
 pm_trace decode [FILE]                 say what frames in hexadecimal mean, one a line
 pm_trace --help                        this; so does no word at all
 

@@ -185,7 +185,7 @@ fn play<H: Files + Eprint, W: Write>(
     match task {
         Task::Decode => decode(rt, alloc, input, out),
         Task::Run(watch) => play_steps(rt, alloc, watch, input, out),
-        Task::Guest(is_traced) => play_guest(rt, alloc, is_traced, input, out),
+        Task::Guest(telling) => play_guest(rt, alloc, telling, input, out),
     }
 }
 

@@ -1,11 +1,13 @@
 //! A controller with what is behind it, the memory of its guest, and the media of the disks.
 
+use crate::event::Access;
 use crate::medium::{Medium, aborted};
+use crate::telling::Telling;
 use crate::tracer::Tracer;
 use ahci_controller::Width;
 use ahci_machine::{Act, GuestRead, Machine, MediumId, Request};
 use ahci_registers::Effect;
-use block_engine::What;
+use block_engine::{Answer, What};
 use guest_bytes::{FlatGuest, NotThere};
 use std::alloc::Global;
 use std::fs::OpenFile;
@@ -61,13 +63,13 @@ impl<F: Read + Write + Seek + OpenFile + Drop> Board<F> {
         machine: Machine,
         memory: FlatGuest,
         seats: Vec<Seat<F>>,
-        is_traced: bool,
+        telling: Telling,
     ) -> Board<F> {
         Board {
             machine,
             memory,
             seats,
-            tracer: Tracer::new(is_traced),
+            tracer: Tracer::new(telling),
         }
     }
 
@@ -89,11 +91,13 @@ impl<F: Read + Write + Seek + OpenFile + Drop> Board<F> {
     }
 
     /// What the register at an offset reads: 0 where none begins.
-    pub fn read(&self, offset: u32) -> u32 {
-        if offset % 4 != 0 {
-            return 0;
-        }
-        self.machine.read(offset, Width::Dword) as u32
+    pub fn read<W: Write>(&mut self, offset: u32, out: &mut W) -> Result<u32, Failure> {
+        let value = match offset % 4 {
+            0 => self.machine.read(offset, Width::Dword) as u32,
+            _ => 0,
+        };
+        self.tracer.tell_read(Access { offset, value }, out)?;
+        Ok(value)
     }
 
     /// Whether the interrupt line is up.
@@ -108,12 +112,14 @@ impl<F: Read + Write + Seek + OpenFile + Drop> Board<F> {
         value: u32,
         out: &mut W,
     ) -> Result<Effect, Failure> {
+        let access = Access { offset, value };
+        self.tracer.tell_writing(&self.machine, access, out)?;
         if offset % 4 != 0 {
             return Ok(Effect::Nothing);
         }
         let both = self.machine.write(offset, Width::Dword, u64::from(value));
         let written = if offset % 8 == 0 { both.low } else { both.high };
-        self.tracer.tell_write(&written, out)?;
+        self.tracer.tell_written(&self.machine, &written, out)?;
         if written.effect != Effect::Nothing {
             for seat in self.seats.iter_mut().filter(|seat| seat.is_there) {
                 seat.connect();
@@ -125,6 +131,11 @@ impl<F: Read + Write + Seek + OpenFile + Drop> Board<F> {
     /// The guest writes bytes to its memory, from an address on.
     pub fn put(&mut self, at: u64, bytes: &[u8]) -> Result<(), NotThere> {
         self.memory.put(at, bytes)
+    }
+
+    /// Writes that it did, if that is asked for.
+    pub fn tell_put<W: Write>(&mut self, at: u64, len: usize, out: &mut W) -> Result<(), Failure> {
+        self.tracer.tell_put(at, len, out)
     }
 
     /// Reads the guest's memory, from an address on.
@@ -162,10 +173,11 @@ impl<F: Read + Write + Seek + OpenFile + Drop> Board<F> {
             Some(Request::ReadGuest(read)) => self.supply(alloc, read, out),
             Some(Request::WriteGuest { at }) => {
                 // Bytes for a place that is not all memory are lost.
-                let _ = self.memory.put(at, self.machine.lent());
-                Ok(())
+                let lent = self.machine.lent();
+                let is_lost = self.memory.put(at, lent).is_err();
+                self.tracer.tell_store(act, lent.len(), is_lost, out)
             }
-            Some(Request::Medium { id, place, what }) => self.serve(alloc, id, place, what),
+            Some(Request::Medium { id, place, what }) => self.serve(alloc, id, place, what, out),
             _ => Ok(()),
         }
     }
@@ -179,19 +191,27 @@ impl<F: Read + Write + Seek + OpenFile + Drop> Board<F> {
     ) -> Result<(), Failure> {
         let mut bytes = vec![in alloc; 0; read.len]?;
         let told = match self.memory.read(read.at, &mut bytes) {
-            Ok(()) => self.machine.supply(alloc, read.wanted, &bytes)?,
-            Err(NotThere) => self.machine.no_memory(read.wanted)?,
+            Ok(()) => {
+                self.tracer
+                    .tell_fetch(&self.machine, read, Some(&bytes), out)?;
+                self.machine.supply(alloc, read.wanted, &bytes)?
+            }
+            Err(NotThere) => {
+                self.tracer.tell_fetch(&self.machine, read, None, out)?;
+                self.machine.no_memory(read.wanted)?
+            }
         };
-        self.tracer.tell_answer(told, out)
+        self.tracer.tell_answer(&self.machine, told, out)
     }
 
     /// A disk asks its medium.
-    fn serve(
+    fn serve<W: Write>(
         &mut self,
         alloc: Global,
         id: MediumId,
         place: Option<u8>,
         what: What,
+        out: &mut W,
     ) -> Result<(), Failure> {
         let Some(seat) = self.seats.get_mut(usize::from(id.port)) else {
             return Ok(());
@@ -206,7 +226,11 @@ impl<F: Read + Write + Seek + OpenFile + Drop> Board<F> {
             // No disk of a scenario says that it takes TRIM.
             What::Discard => aborted(0),
         };
+        let failed = match &answer {
+            Answer::Failed(failure) => Some(*failure),
+            Answer::Loaded(_) | Answer::Done => None,
+        };
         let _ = self.machine.answer(id, answer);
-        Ok(())
+        self.tracer.tell_asked(id.port, what, failed, out)
     }
 }

@@ -5,11 +5,21 @@
 
 mod board;
 mod disk;
+mod event;
+mod event_json;
+mod event_text;
+mod fault;
 mod medium;
+mod open;
 mod opening;
 mod parse;
+mod progress;
+mod register_text;
 mod run;
+mod telling;
 mod text;
 mod tracer;
+mod warning;
 
 pub use run::play_guest;
+pub use telling::Telling;

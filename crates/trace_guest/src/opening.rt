@@ -4,6 +4,7 @@ ghost use Rattle.std.specs.Prelude.{◌≡◌, ◌≤◌, IfOk, length};
 
 use crate::board::{Board, Seat};
 use crate::disk::{Built, Shape};
+use crate::telling::Telling;
 use ahci_machine::{Machine, Unit};
 use guest_bytes::{FlatError, FlatGuest};
 use std::alloc::{AllocError, Global};
@@ -124,7 +125,7 @@ impl<F: Read + Write + Seek + OpenFile + Drop> Opening<F> {
     }
 
     /// The board.
-    pub fn into_board(self, alloc: Global, is_traced: bool) -> Result<Board<F>, AllocError> {
+    pub fn into_board(self, alloc: Global, telling: Telling) -> Result<Board<F>, AllocError> {
         let Opening {
             sizes,
             memory,
@@ -137,7 +138,7 @@ impl<F: Read + Write + Seek + OpenFile + Drop> Opening<F> {
         };
         let mut machine = Machine::new(alloc, sizes.ports, false)?;
         let seats = seats_of(alloc, &mut machine, shapes_of(sizes.ports, disks)?)?;
-        Ok(Board::new(machine, memory, seats, is_traced))
+        Ok(Board::new(machine, memory, seats, telling))
     }
 }
 

@@ -3,6 +3,7 @@
 use crate::board::Board;
 use crate::opening::{Opening, Setting};
 use crate::parse::Action;
+use crate::telling::Telling;
 use crate::text::Reply;
 use std::alloc::Global;
 use std::fs::OpenFile;
@@ -13,16 +14,16 @@ use trace_text::{Failure, Lines, Printer, Refusal, Wanted, Words, is_skipped, pl
 
 /// Plays the scenario line by line and writes what each line prints. A refused line ends it; the
 /// lines before it have acted and printed. A line that prints something else than was expected ends
-/// it, too; standard error gets both. If it is traced, each FIS on the link is written as well.
+/// it, too; standard error gets both. Beside that it writes what happens, as far as that is to be told.
 pub fn play_guest<H: Files + Eprint, W: Write>(
     rt: &H,
     alloc: Global,
-    is_traced: bool,
+    telling: Telling,
     input: &[u8],
     out: &mut W,
 ) -> Result<(), Failure> {
-    let mut printer = Printer::new(alloc, false);
-    let mut scenario = Scenario::new(alloc, is_traced);
+    let mut printer = Printer::new(alloc, telling.is_json());
+    let mut scenario = Scenario::new(alloc, telling);
     let played = scenario.play_lines(rt, alloc, Lines::of(input), &mut printer, out);
     if let (Err(Failure::Unexpected { .. }), Some(mismatch)) = (played, printer.mismatch()) {
         // If standard error is closed, the exit status still tells.
@@ -34,16 +35,16 @@ pub fn play_guest<H: Files + Eprint, W: Write>(
 /// A scenario up to some line.
 #[derive(Drop)]
 struct Scenario<F: Drop> {
-    is_traced: bool,
+    telling: Telling,
     opening: Opening<F>,
     /// The board, once it is built.
     scene: Option<Scene<F>>,
 }
 
 impl<F: Read + Write + Seek + OpenFile + Drop> Scenario<F> {
-    fn new(alloc: Global, is_traced: bool) -> Scenario<F> {
+    fn new(alloc: Global, telling: Telling) -> Scenario<F> {
         Scenario {
-            is_traced,
+            telling,
             opening: Opening::new(alloc),
             scene: None,
         }
@@ -108,7 +109,7 @@ impl<F: Read + Write + Seek + OpenFile + Drop> Scenario<F> {
         out: &mut W,
     ) -> Result<(), Failure> {
         let opening = self.close_opening(alloc);
-        let mut scene = Scene::open(alloc, self.is_traced, opening, printer, out)?;
+        let mut scene = Scene::open(alloc, self.telling, opening, printer, out)?;
         scene.play_line(alloc, name, words, printer, out)?;
         self.scene = Some(scene);
         Ok(())
@@ -128,7 +129,7 @@ impl<F: Read + Write + Seek + OpenFile + Drop> Scenario<F> {
     ) -> Result<(), Failure> {
         if self.scene.is_none() {
             let opening = self.close_opening(alloc);
-            self.scene = Some(Scene::open(alloc, self.is_traced, opening, printer, out)?);
+            self.scene = Some(Scene::open(alloc, self.telling, opening, printer, out)?);
         }
         Ok(())
     }
@@ -146,13 +147,13 @@ impl<F: Read + Write + Seek + OpenFile + Drop> Scene<F> {
     /// Builds the board and writes its sizes.
     fn open<W: Write>(
         alloc: Global,
-        is_traced: bool,
+        telling: Telling,
         opening: Opening<F>,
         printer: &mut Printer<'_>,
         out: &mut W,
     ) -> Result<Scene<F>, Failure> {
         let sizes = opening.sizes();
-        let board = opening.into_board(alloc, is_traced)?;
+        let board = opening.into_board(alloc, telling)?;
         printer.print(alloc, &Reply::Board(sizes), out)?;
         Ok(Scene {
             board,
@@ -193,16 +194,20 @@ impl<F: Read + Write + Seek + OpenFile + Drop> Scene<F> {
                 None => return Err(words.refused_at(2, Refusal::Order, Wanted::DiskThere)),
             },
             Action::Read(offset) => {
-                let value = self.board.read(offset);
+                let value = self.board.read(offset, out)?;
                 Reply::Read { offset, value }
             }
             Action::Write(offset, value) => {
                 Reply::Written(self.board.write(offset, value, out)?)
             }
-            Action::Put(at, bytes) => match self.board.put(at, bytes.as_slice()) {
-                Ok(()) => Reply::Put,
-                Err(_) => return Err(words.refused_at(2, Refusal::Range, Wanted::GuestArea)),
-            },
+            Action::Put(at, bytes) => {
+                let bytes = bytes.as_slice();
+                if self.board.put(at, bytes).is_err() {
+                    return Err(words.refused_at(2, Refusal::Range, Wanted::GuestArea));
+                }
+                self.board.tell_put(at, bytes.len(), out)?;
+                Reply::Put
+            }
             Action::Show(at, len) => self.show(alloc, at, len, words)?,
             Action::Settle(fises) => match self.board.settle(alloc, fises, out)? {
                 true => Reply::Settled,

@@ -1,17 +1,44 @@
 //! What is written of the moves of a machine.
 
-use crate::text::{Ignored, Lost, Moved, NotIssued, Outcome, Unheard};
-use ahci_controller::{Fed, Hindrance, Next, Written};
-use ahci_machine::{Act, Machine, Told};
+use crate::event::{Access, Event, Fetch, Hearing, Moved, Outcome, Part, Refused, Store, Stored};
+use crate::event_json::EventJson;
+use crate::event_text::dword_at;
+use crate::open::Stage;
+use crate::progress::Progress;
+use crate::telling::Telling;
+use crate::warning::{Warning, broken_by, named_by, value_of};
+use ahci_controller::{Fed, Hindrance, Next, NotTaken, Took, Written};
+use ahci_machine::{Act, GuestRead, Machine, Told, Wanted};
+use ahci_registers::{Effect, Register};
+use block_engine::{Failure as Failed, What};
 use fis_view::Frame;
+use multiplier::Passed;
 use std::alloc::Global;
 use std::io::Write;
-use trace_text::Failure;
+use trace_text::{Failure, bit_of};
 
-/// Writes each FIS that goes over the link, and what the controller refuses, if that is asked for.
+/// A FIS on its way down.
+#[derive(Clone, Copy)]
+struct Falling {
+    port: u8,
+    /// The slot of its command, if it is one.
+    slot: Option<u8>,
+}
+
+/// Writes what the driver does, what the controller decides, and each FIS that goes over the link, if that is asked for.
 #[derive(Drop)]
 pub struct Tracer {
-    is_on: bool,
+    telling: Telling,
+    /// How much was told.
+    step: u64,
+    /// How many FISes went over the link.
+    fises: u64,
+    /// The interrupt line, as it was told last.
+    line: bool,
+    /// It was told that PxCMD.PMA is 0.
+    has_warned: bool,
+    progress: Progress,
+    falling: Option<Falling>,
     /// A copy of the FIS that is on its way to the controller, if it is to be written what comes of it.
     rising: Option<Frame>,
     /// The controller took the FIS on its way, and what it brings is still being written.
@@ -22,11 +49,28 @@ pub struct Tracer {
     has_waited: bool,
 }
 
+/// PxCMD.PMA.
+const MULTIPLIER: u32 = 0x2_0000;
+
+/// C of a header (AHCI 1.3.1, 4.2.2).
+const CLEAR: u32 = 0x400;
+
+/// READ and WRITE FPDMA QUEUED, and the other commands that are queued (ACS-3, 7).
+fn is_queued(command: u8) -> bool {
+    matches!(command, 0x60 | 0x61 | 0x63 | 0x64 | 0x65)
+}
+
 impl Tracer {
     /// Of a machine on which nothing is on its way.
-    pub fn new(is_on: bool) -> Tracer {
+    pub fn new(telling: Telling) -> Tracer {
         Tracer {
-            is_on,
+            telling,
+            step: 0,
+            fises: 0,
+            line: false,
+            has_warned: false,
+            progress: Progress::new(),
+            falling: None,
             rising: None,
             is_taken: false,
             is_resting: false,
@@ -41,33 +85,247 @@ impl Tracer {
             && (machine.outgoing().is_some() || machine.incoming().is_some())
     }
 
-    /// A register was written.
-    pub fn tell_write<W: Write>(&mut self, written: &Written, out: &mut W) -> Result<(), Failure> {
-        self.is_resting = false;
-        if let (true, Some(why)) = (self.is_on, written.ignored) {
-            writeln!(out, "{}", Ignored { why })?;
+    /// Writes one thing, if anything is told.
+    fn say<W: Write>(&mut self, event: &Event<'_>, out: &mut W) -> Result<(), Failure> {
+        if !self.telling.is_on() {
+            return Ok(());
+        }
+        self.step = self.step.saturating_add(1);
+        if self.telling.is_json() {
+            let step = self.step;
+            writeln!(out, "{}", EventJson { step, event })?;
+        } else {
+            writeln!(out, "{event}")?;
         }
         Ok(())
     }
 
-    /// Bytes of the guest came, or are no memory.
-    pub fn tell_answer<W: Write>(&self, told: Told, out: &mut W) -> Result<(), Failure> {
-        match told {
-            Told::NotTaken { slot, why } if self.is_on => {
-                writeln!(out, "{}", NotIssued { slot, why })?;
-                Ok(())
+    /// A register was read.
+    pub fn tell_read<W: Write>(&mut self, access: Access, out: &mut W) -> Result<(), Failure> {
+        self.say(&Event::Reads(access), out)
+    }
+
+    /// The guest wrote bytes to its memory.
+    pub fn tell_put<W: Write>(&mut self, at: u64, len: usize, out: &mut W) -> Result<(), Failure> {
+        self.say(&Event::Puts { at, len }, out)
+    }
+
+    /// A register is about to be written.
+    pub fn tell_writing<W: Write>(
+        &mut self,
+        machine: &Machine,
+        access: Access,
+        out: &mut W,
+    ) -> Result<(), Failure> {
+        if !self.telling.is_on() {
+            return Ok(());
+        }
+        self.say(&Event::Writes(access), out)?;
+        let Some(register) = Register::at(access.offset) else {
+            return Ok(());
+        };
+        let named = named_by(value_of(machine, Register::PxFbs));
+        let issued = value_of(machine, Register::PxCi);
+        let may_be_busy = self.progress.may_be_busy(named, issued);
+        if let Some(warning) = broken_by(machine, register, access.value, may_be_busy) {
+            self.say(&Event::Warns(warning), out)?;
+        }
+        self.note_write(machine, register, access.value);
+        Ok(())
+    }
+
+    /// What a write of a register means for the commands.
+    fn note_write(&mut self, machine: &Machine, register: Register, value: u32) {
+        match register {
+            Register::PxCi => {
+                let fresh = value & !value_of(machine, Register::PxCi);
+                let named = named_by(value_of(machine, Register::PxFbs));
+                let armed = value_of(machine, Register::PxSact);
+                self.progress.issue(fresh, named.unwrap_or(0), armed);
             }
-            Told::Missed { slot, fed } => self.tell_missed(slot, fed, out),
+            Register::PxFbs if value & 2 != 0 => {
+                let shown = value_of(machine, Register::PxFbs) >> 16 & 0xF;
+                self.progress.clear(shown as u8);
+            }
+            Register::PxCmd if value & 1 == 0 => self.progress.stop(),
+            _ => {}
+        }
+    }
+
+    /// A register was written.
+    pub fn tell_written<W: Write>(
+        &mut self,
+        machine: &Machine,
+        written: &Written,
+        out: &mut W,
+    ) -> Result<(), Failure> {
+        self.is_resting = false;
+        if let Some(why) = written.ignored {
+            self.say(&Event::Ignores(why), out)?;
+        }
+        if written.ended != 0 {
+            self.say(&Event::Ends(written.ended), out)?;
+        }
+        if written.effect != Effect::Nothing {
+            self.progress.stop();
+        }
+        self.tell_line(machine, out)
+    }
+
+    /// Writes what became of the interrupt line.
+    fn tell_line<W: Write>(&mut self, machine: &Machine, out: &mut W) -> Result<(), Failure> {
+        let line = machine.line();
+        if line == self.line {
+            return Ok(());
+        }
+        self.line = line;
+        self.say(&Event::Line(line), out)
+    }
+
+    /// Bytes of the guest are wanted, and are these; None if they are not all memory.
+    pub fn tell_fetch<W: Write>(
+        &mut self,
+        machine: &Machine,
+        read: GuestRead,
+        bytes: Option<&[u8]>,
+        out: &mut W,
+    ) -> Result<(), Failure> {
+        if !self.telling.is_on() {
+            return Ok(());
+        }
+        let GuestRead { wanted, at, len } = read;
+        let part = match wanted {
+            Wanted::Command { slot, .. } => self.progress.part(slot),
+            Wanted::Data { dev, .. } => Part::Data(dev),
+        };
+        let fetch = Fetch {
+            part,
+            at,
+            len,
+            bytes,
+        };
+        self.say(&Event::Fetches(fetch), out)?;
+        match (part, bytes) {
+            (Part::Header(slot), Some(bytes)) => self.judge_header(machine, slot, bytes, out),
+            (Part::Fis(slot), Some(bytes)) => self.judge_command(slot, bytes, out),
             _ => Ok(()),
         }
     }
 
+    /// Warns of the header of a slot.
+    fn judge_header<W: Write>(
+        &mut self,
+        machine: &Machine,
+        slot: u8,
+        bytes: &[u8],
+        out: &mut W,
+    ) -> Result<(), Failure> {
+        let first = dword_at(bytes, 0);
+        let port = (first >> 12 & 0xF) as u8;
+        let switching = named_by(value_of(machine, Register::PxFbs));
+        self.progress
+            .read_header(switching.map(|_| port), first & CLEAR != 0);
+        let is_told = value_of(machine, Register::PxCmd) & MULTIPLIER != 0;
+        if port != 0 && !is_told && !self.has_warned {
+            self.has_warned = true;
+            self.say(&Event::Warns(Warning::NoMultiplier { slot, port }), out)?;
+        }
+        let named = self.progress.slot(slot).named;
+        if switching.is_none() || port == named {
+            return Ok(());
+        }
+        self.say(
+            &Event::Warns(Warning::OtherDevice { slot, port, named }),
+            out,
+        )
+    }
+
+    /// Warns of the command of a slot.
+    fn judge_command<W: Write>(
+        &mut self,
+        slot: u8,
+        bytes: &[u8],
+        out: &mut W,
+    ) -> Result<(), Failure> {
+        let command = bytes.get(2).copied().unwrap_or(0);
+        if !is_queued(command) || self.progress.slot(slot).is_armed {
+            return Ok(());
+        }
+        self.say(&Event::Warns(Warning::NotArmed(slot)), out)
+    }
+
+    /// Bytes of the guest came, or are no memory.
+    pub fn tell_answer<W: Write>(
+        &mut self,
+        machine: &Machine,
+        told: Told,
+        out: &mut W,
+    ) -> Result<(), Failure> {
+        match told {
+            Told::Issued { slot, dev } => {
+                self.progress.reach(slot, Stage::Issued(dev));
+                self.say(&Event::Issues { slot, dev }, out)?;
+            }
+            Told::NotTaken { slot, why } => self.tell_refused(slot, why, out)?,
+            Told::Missed { slot, fed } => self.tell_missed(slot, fed, out)?,
+            Told::Stale | Told::Kept => {}
+        }
+        self.tell_line(machine, out)
+    }
+
+    /// The command of a slot is not taken.
+    fn tell_refused<W: Write>(
+        &mut self,
+        slot: u8,
+        why: NotTaken,
+        out: &mut W,
+    ) -> Result<(), Failure> {
+        self.progress.fail(slot);
+        let named = self.progress.slot(slot).named;
+        self.say(&Event::Refuses(Refused { slot, why, named }), out)
+    }
+
     /// Bytes of a Data FIS are no memory.
-    fn tell_missed<W: Write>(&self, slot: u8, fed: Fed, out: &mut W) -> Result<(), Failure> {
-        if let (true, Fed::Missed { .. }) = (self.is_on, fed) {
-            writeln!(out, "{}", Lost { slot })?;
+    fn tell_missed<W: Write>(&mut self, slot: u8, fed: Fed, out: &mut W) -> Result<(), Failure> {
+        if let Fed::Missed { .. } = fed {
+            self.progress.fail(slot);
+            self.say(&Event::Misses(slot), out)?;
         }
         Ok(())
+    }
+
+    /// Bytes went to the guest's memory, or are lost.
+    pub fn tell_store<W: Write>(
+        &mut self,
+        act: Act,
+        len: usize,
+        is_lost: bool,
+        out: &mut W,
+    ) -> Result<(), Failure> {
+        let (what, at) = match act {
+            Act::Writes(Next::Payload(write)) => (Stored::Data, write.at),
+            Act::Writes(Next::Posted(write)) => (Stored::Fis, write.at),
+            Act::Writes(Next::Counted(count)) => (Stored::Count(count.value), count.at),
+            _ => return Ok(()),
+        };
+        let store = Store {
+            what,
+            at,
+            len,
+            is_lost,
+        };
+        self.say(&Event::Stores(store), out)
+    }
+
+    /// A disk asked its medium, and this was answered.
+    pub fn tell_asked<W: Write>(
+        &mut self,
+        port: u8,
+        what: What,
+        failed: Option<Failed>,
+        out: &mut W,
+    ) -> Result<(), Failure> {
+        self.say(&Event::Asks { port, what, failed }, out)
     }
 
     /// The machine made a move.
@@ -79,86 +337,148 @@ impl Tracer {
         out: &mut W,
     ) -> Result<(), Failure> {
         match act {
-            Act::Does(Next::Order { .. })
-            | Act::Gathers {
+            Act::Does(Next::Order { dev, slot, .. }) => self.falls(machine, dev, Some(slot), out)?,
+            Act::Gathers {
+                dev,
                 fed: Fed::Goes { .. },
-                ..
-            } => self.write("down", machine.outgoing(), Outcome::Heard, out),
-            Act::Sends(_) => {
-                self.is_resting = false;
-                Ok(())
-            }
-            Act::Rises => self.rises(alloc, machine),
-            Act::Takes(took) => {
-                self.is_taken = true;
-                let outcome = match took.ignored {
-                    Some(why) => Outcome::Ignored(why),
-                    None => Outcome::Heard,
-                };
-                self.ends(outcome, out)
-            }
-            Act::Loses(why) => self.ends(Outcome::Hindered(why), out),
-            Act::LetsGo => {
-                self.is_taken = false;
-                Ok(())
-            }
-            Act::Rests => self.rests(machine, out),
-            Act::Misses { slot, fed } => self.tell_missed(slot, fed, out),
+            } => self.falls(machine, dev, None, out)?,
+            Act::Sends(passed) => self.sends(passed, out)?,
+            Act::Rises => self.rises(alloc, machine)?,
+            Act::Takes(took) => self.takes(took, out)?,
+            Act::Loses(why) => self.ends(Outcome::Hindered(why), out)?,
+            Act::LetsGo => self.is_taken = false,
+            Act::Rests => self.rests(machine, out)?,
+            Act::Misses { slot, fed } => self.tell_missed(slot, fed, out)?,
             Act::Hears {
                 port,
                 unheard: Some(why),
-            } if self.is_on => {
-                writeln!(out, "{}", Unheard { port, why })?;
-                Ok(())
+            } => {
+                self.progress.lose(port, Stage::Unheard(port));
+                self.say(&Event::Unheard { port, why }, out)?;
             }
-            _ => Ok(()),
+            Act::Drops(port) => self.drops(port, out)?,
+            _ => {}
         }
+        self.tell_line(machine, out)
+    }
+
+    /// A FIS is on its way down to this port.
+    fn falls<W: Write>(
+        &mut self,
+        machine: &Machine,
+        port: u8,
+        slot: Option<u8>,
+        out: &mut W,
+    ) -> Result<(), Failure> {
+        self.falling = Some(Falling { port, slot });
+        self.fises = self.fises.saturating_add(1);
+        self.say_moved("down", machine.outgoing(), slot, Outcome::Sent, out)
+    }
+
+    /// It went over the link.
+    fn sends<W: Write>(&mut self, passed: Passed, out: &mut W) -> Result<(), Failure> {
+        self.is_resting = false;
+        let Some(Falling { port, slot }) = self.falling.take() else {
+            return Ok(());
+        };
+        if let Some(slot) = slot {
+            self.progress.reach(slot, Stage::Sent(port));
+        }
+        match passed {
+            Passed::Dropped => self.drops(port, out),
+            Passed::Control | Passed::Down(_) => Ok(()),
+        }
+    }
+
+    /// It is dropped.
+    fn drops<W: Write>(&mut self, port: u8, out: &mut W) -> Result<(), Failure> {
+        self.progress.lose(port, Stage::Dropped(port));
+        self.say(&Event::Drops(port), out)
     }
 
     /// A FIS is on its way to the controller.
     fn rises(&mut self, alloc: Global, machine: &Machine) -> Result<(), Failure> {
         self.has_waited = false;
         self.rising = match machine.incoming() {
-            Some(frame) if self.is_on => Some(frame.copy(alloc)?),
+            Some(frame) if self.telling.is_on() => Some(frame.copy(alloc)?),
             _ => None,
         };
         Ok(())
     }
 
+    /// The controller took it.
+    fn takes<W: Write>(&mut self, took: Took, out: &mut W) -> Result<(), Failure> {
+        self.is_taken = true;
+        let report = took.report;
+        let outcome = match took.ignored {
+            Some(why) => Outcome::Ignored(why, self.progress.fault_of(report.dev)),
+            None => Outcome::Heard(Hearing {
+                report,
+                brought: took.brought,
+                first: self.progress.first_fault(report.dev),
+            }),
+        };
+        if let Some(cause) = report.fault {
+            self.progress.fault(report.dev, cause);
+        }
+        self.ends(outcome, out)
+    }
+
     /// It went over the link.
     fn ends<W: Write>(&mut self, outcome: Outcome, out: &mut W) -> Result<(), Failure> {
         self.is_resting = false;
+        self.fises = self.fises.saturating_add(1);
         let frame = self.rising.take();
-        self.write("up", frame.as_ref(), outcome, out)
+        self.say_moved("up", frame.as_ref(), None, outcome, out)
     }
 
     /// Nothing can move. The FIS on its way to the controller waits.
     fn rests<W: Write>(&mut self, machine: &Machine, out: &mut W) -> Result<(), Failure> {
         self.is_resting = true;
-        if self.has_waited {
-            return Ok(());
+        if !self.has_waited {
+            self.has_waited = true;
+            let waits = Outcome::Hindered(Hindrance::NotReceiving);
+            self.say_moved("waits", machine.incoming(), None, waits, out)?;
         }
-        self.has_waited = true;
-        let waits = Outcome::Hindered(Hindrance::NotReceiving);
-        self.write("waits", machine.incoming(), waits, out)
+        self.tell_open(machine, out)
     }
 
-    /// Writes a FIS, if that is asked for.
-    fn write<W: Write>(
-        &self,
+    /// Writes which slots are still in use, and what they wait for.
+    fn tell_open<W: Write>(&mut self, machine: &Machine, out: &mut W) -> Result<(), Failure> {
+        if !self.telling.is_on() {
+            return Ok(());
+        }
+        let issued = value_of(machine, Register::PxCi);
+        let armed = value_of(machine, Register::PxSact);
+        for slot in 0..32_u8 {
+            let bit = bit_of(slot);
+            if (issued | armed) & bit != 0 {
+                let open = self.progress.open(slot, issued & bit != 0);
+                self.say(&Event::Open(open), out)?;
+            }
+        }
+        Ok(())
+    }
+
+    /// Writes a FIS at the link.
+    fn say_moved<W: Write>(
+        &mut self,
         way: &str,
         frame: Option<&Frame>,
+        slot: Option<u8>,
         outcome: Outcome,
         out: &mut W,
     ) -> Result<(), Failure> {
-        if let (true, Some(frame)) = (self.is_on, frame) {
-            let moved = Moved {
-                way,
-                frame,
-                outcome,
-            };
-            writeln!(out, "{moved}")?;
-        }
-        Ok(())
+        let Some(frame) = frame else {
+            return Ok(());
+        };
+        let moved = Moved {
+            way,
+            frame,
+            slot,
+            number: self.fises,
+            outcome,
+        };
+        self.say(&Event::Moves(moved), out)
     }
 }
