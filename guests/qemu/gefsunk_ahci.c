@@ -24,6 +24,7 @@
 #include "qemu/main-loop.h"
 #include "qemu/memalign.h"
 #include "qemu/module.h"
+#include "qemu/thread.h"
 #include "hw/block/block.h"
 #include "hw/hotplug.h"
 #include "hw/pci/msi.h"
@@ -689,13 +690,28 @@ static bool load_work(GefsunkAhci *s, const gef_event *event)
     return true;
 }
 
+static void *restore(void *opaque)
+{
+    GefsunkAhci *s = opaque;
+    return (void *)(uintptr_t)gef_machine_restore(&s->machine, s->state, s->state_size);
+}
+
+/* A state arrives in a coroutine, whose stack is too small for the call: so it has a thread of its own. */
+static gef_status restored(GefsunkAhci *s)
+{
+    QemuThread thread;
+    qemu_thread_create(&thread, "gefsunk-restore", restore, s, QEMU_THREAD_JOINABLE);
+    return (uintptr_t)qemu_thread_join(&thread);
+}
+
 static int post_load(void *opaque, int version)
 {
     GefsunkAhci *s = opaque;
+    gef_event event = s->event; /* that waits for bus mastering, if one does */
+    bool is_fit = (event.kind == GEF_EVENT_READ_GUEST || event.kind == GEF_EVENT_WRITE_GUEST) && event.u.read.len <= DISK_LIMIT;
     gef_status status;
-    gef_event event;
     must(gef_machine_free(&s->machine));
-    status = gef_machine_restore(&s->machine, s->state, s->state_size);
+    status = is_fit || !s->has_event ? restored(s) : GEF_BAD_STATE;
     if (status != GEF_OK) {
         error_report("gefsunk-ahci: %s", gef_status_text(status));
         must(gef_machine_new(&s->machine, s->ports, s->port0_open));
