@@ -472,7 +472,8 @@ gef_status gef_machine_remove(gef_machine *machine, uint8_t port);
 /* ---- a machine: what is to be done */
 
 /*
- * Says what is to be done next. GEF_NO_MEMORY: nothing is lost; ask again.
+ * Says what is to be done next. Behind GEF_EVENT_WRITE_GUEST and GEF_EVENT_AGAIN ask again before the guest reads a register: registers
+ * tell of a FIS at once, and the guest is to see them only when all that it brings is written. GEF_NO_MEMORY: nothing is lost; ask again.
  * Can return GEF_CLOSED, GEF_NO_MEMORY.
  */
 gef_status gef_machine_next(gef_machine *machine, gef_event *event);

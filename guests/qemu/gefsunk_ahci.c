@@ -24,6 +24,7 @@
 #include "qemu/main-loop.h"
 #include "qemu/memalign.h"
 #include "qemu/module.h"
+#include "qemu/thread.h"
 #include "hw/block/block.h"
 #include "hw/hotplug.h"
 #include "hw/pci/msi.h"
@@ -161,7 +162,21 @@ static void answer(Work *work, bool is_done)
 
 static void begin_work(Work *work);
 
-/* The backend did it, or did not: then the guest is told, or not, or the machine stops, as rerror and werror say. */
+/* A discard goes on with its next range. What begins while the backend is drained would wait, and end behind that. */
+static void go_on(Work *work)
+{
+    work->at++;
+    if (controller_of(work->disk)->is_held) {
+        QTAILQ_INSERT_TAIL(&work->disk->stopped, work, next);
+    } else {
+        begin_work(work);
+    }
+}
+
+/*
+ * The backend did it, or did not: then the guest is told, or not, or the machine stops, as rerror and werror say. Sectors that were
+ * not read, and of which the guest is not told, are zeroes.
+ */
 static void worked(void *opaque, int ret)
 {
     Work *work = opaque;
@@ -173,6 +188,8 @@ static void worked(void *opaque, int ret)
         block_acct_failed(blk_get_stats(blk), &work->account);
         if (action == BLOCK_ERROR_ACTION_STOP) {
             QTAILQ_INSERT_TAIL(&work->disk->stopped, work, next);
+        } else if (is_read) {
+            memset(work->bytes, 0, work->vector.size);
         }
         blk_error_action(blk, action, is_read, -ret);
     } else {
@@ -181,8 +198,7 @@ static void worked(void *opaque, int ret)
     if (action == BLOCK_ERROR_ACTION_REPORT) {
         answer(work, false);
     } else if (action == BLOCK_ERROR_ACTION_IGNORE && work->event.kind == GEF_EVENT_DISCARD) {
-        work->at++;
-        begin_work(work);
+        go_on(work);
     } else if (action == BLOCK_ERROR_ACTION_IGNORE) {
         answer(work, true);
     }
@@ -320,6 +336,15 @@ static bool has_next(GefsunkAhci *s)
     return s->event.kind != GEF_EVENT_NOTHING && !s->has_event;
 }
 
+/*
+ * Others may have their turn. Not within what a FIS writes to the guest's memory: the registers tell of the FIS already, and the guest
+ * is to see them only behind that.
+ */
+static bool may_pause(GefsunkAhci *s, unsigned count)
+{
+    return !s->log && count >= EVENTS && s->event.kind != GEF_EVENT_WRITE_GUEST && s->event.kind != GEF_EVENT_AGAIN;
+}
+
 /* Does what is to be done. Nothing that it does begins it anew, even if the guest has the function write to its own registers. */
 static void run(void *opaque)
 {
@@ -329,14 +354,14 @@ static void run(void *opaque)
         return;
     }
     s->is_busy = true;
-    for (; (s->log || count < EVENTS) && has_next(s); count++) {
+    while (!may_pause(s, count) && has_next(s)) {
         do_event(s, &s->event);
+        count++;
     }
     s->is_busy = false;
     if (s->event.kind == GEF_EVENT_NOTHING) {
         note(s, "settle\n");
-    }
-    if (count == EVENTS) {
+    } else if (!s->has_event) {
         qemu_bh_schedule(s->later);
     }
 }
@@ -395,14 +420,15 @@ static void changed(void *opaque, bool is_running, RunState state)
     }
 }
 
-/* The virtual machine stops: nothing begins any more, and what the media have to do is drained. It goes on: so does all. */
+/*
+ * The virtual machine stops: nothing begins any more, and what the media have to do is drained. It goes on: so does all, before the
+ * guest reads a register.
+ */
 static void held(void *opaque, bool is_running, RunState state)
 {
     GefsunkAhci *s = opaque;
     s->is_held = !is_running;
-    if (is_running) {
-        qemu_bh_schedule(s->later);
-    }
+    run(s);
 }
 
 /* All that the medium has to do is done, and its answers are given. */
@@ -664,13 +690,28 @@ static bool load_work(GefsunkAhci *s, const gef_event *event)
     return true;
 }
 
+static void *restore(void *opaque)
+{
+    GefsunkAhci *s = opaque;
+    return (void *)(uintptr_t)gef_machine_restore(&s->machine, s->state, s->state_size);
+}
+
+/* A state arrives in a coroutine, whose stack is too small for the call: so it has a thread of its own. */
+static gef_status restored(GefsunkAhci *s)
+{
+    QemuThread thread;
+    qemu_thread_create(&thread, "gefsunk-restore", restore, s, QEMU_THREAD_JOINABLE);
+    return (uintptr_t)qemu_thread_join(&thread);
+}
+
 static int post_load(void *opaque, int version)
 {
     GefsunkAhci *s = opaque;
+    gef_event event = s->event; /* that waits for bus mastering, if one does */
+    bool is_fit = (event.kind == GEF_EVENT_READ_GUEST || event.kind == GEF_EVENT_WRITE_GUEST) && event.u.read.len <= DISK_LIMIT;
     gef_status status;
-    gef_event event;
     must(gef_machine_free(&s->machine));
-    status = gef_machine_restore(&s->machine, s->state, s->state_size);
+    status = is_fit || !s->has_event ? restored(s) : GEF_BAD_STATE;
     if (status != GEF_OK) {
         error_report("gefsunk-ahci: %s", gef_status_text(status));
         must(gef_machine_new(&s->machine, s->ports, s->port0_open));
