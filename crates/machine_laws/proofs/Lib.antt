@@ -9,3 +9,4 @@ pub mod Calls
 pub mod Lawful
 pub mod Framed
 pub mod Held
+pub mod Rest

@@ -4,3 +4,4 @@ pub mod Disks
 pub mod Controllers
 pub mod ControllerLaws
 pub mod Lent
+pub mod Rest

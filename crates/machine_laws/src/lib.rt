@@ -5,8 +5,10 @@
 #![tactic(auto)]
 
 mod laws;
+mod rest;
 
 pub use laws::{
     controller_goes_on, controller_has_its_laws, disks_go_on, disks_have_their_laws,
     ports_are_apart, taken_frames_are_lent,
 };
+pub use rest::rest_is_owed;
