@@ -1,5 +1,5 @@
 -- A move at a port is one of the machine, and where nothing moved there the machine stays.
-use Rattle.std.proofs.Common.{◌≡◌, ℕ, ◌<◌, true, List, get_or, length, set, sym, ap, subst, ◌∙◌, Option, None, Some}
+use Rattle.std.proofs.Common.{◌≡◌, ℕ, ◌<◌, true, List, get_or, length, set, sym, ap, subst, ◌∙◌, Option, None, Some, refl}
 use Rattle.std.specs.Prelude.{nat_lt}
 use Rattle.std.proofs.lemmas.Bool.{ltb-true, lt-ltb}
 use Rattle.std.proofs.lemmas.List.{get_or-set_same, set-get_or}
@@ -32,13 +32,13 @@ at_port : (old : MachineState) (n port : ℕ) (a : Act) (new : MachineState) →
 at_port old n port a new is h = subst (λ (k : ℕ). ServesNext k a old new) (sym is) h
 
 moved : (old : MachineState) (port : ℕ) (a : Act) (fan : FanOut) (bay : Bay) → nat_lt port (length old.bays) ≡ true → BayDoes port old.fan (bay_at old port) a fan bay → MayDo old (Some a) (with_both old fan port bay)
-moved old port (act.Falls n) fan bay inside h = at_port old n port (act.Falls n) (with_both old fan port bay) h.0 (serves old port (act.Falls n) fan bay inside h)
-moved old port (act.Hears n unheard) fan bay inside h = at_port old n port (act.Hears n unheard) (with_both old fan port bay) h.0 (serves old port (act.Hears n unheard) fan bay inside h)
-moved old port (act.Points n) fan bay inside h = at_port old n port (act.Points n) (with_both old fan port bay) h.0 (serves old port (act.Points n) fan bay inside h)
-moved old port (act.Drops n) fan bay inside h = at_port old n port (act.Drops n) (with_both old fan port bay) h.0 (serves old port (act.Drops n) fan bay inside h)
-moved old port (act.Speaks n out) fan bay inside h = at_port old n port (act.Speaks n out) (with_both old fan port bay) h.0 (serves old port (act.Speaks n out) fan bay inside h)
-moved old port (act.Starts n place) fan bay inside h = at_port old n port (act.Starts n place) (with_both old fan port bay) h.0 (serves old port (act.Starts n place) fan bay inside h)
-moved old port (act.Asks id request) fan bay inside h = at_port old id.port port (act.Asks id request) (with_both old fan port bay) (ap (λ (i : MediumId). i.port) h.0) (serves old port (act.Asks id request) fan bay inside h)
+moved old port (act.Falls n) fan bay inside h = (refl, at_port old n port (act.Falls n) (with_both old fan port bay) h.0 (serves old port (act.Falls n) fan bay inside h))
+moved old port (act.Hears n unheard) fan bay inside h = (refl, at_port old n port (act.Hears n unheard) (with_both old fan port bay) h.0 (serves old port (act.Hears n unheard) fan bay inside h))
+moved old port (act.Points n) fan bay inside h = (refl, at_port old n port (act.Points n) (with_both old fan port bay) h.0 (serves old port (act.Points n) fan bay inside h))
+moved old port (act.Drops n) fan bay inside h = (refl, at_port old n port (act.Drops n) (with_both old fan port bay) h.0 (serves old port (act.Drops n) fan bay inside h))
+moved old port (act.Speaks n out) fan bay inside h = (refl, at_port old n port (act.Speaks n out) (with_both old fan port bay) h.0 (serves old port (act.Speaks n out) fan bay inside h))
+moved old port (act.Starts n place) fan bay inside h = (refl, at_port old n port (act.Starts n place) (with_both old fan port bay) h.0 (serves old port (act.Starts n place) fan bay inside h))
+moved old port (act.Asks id request) fan bay inside h = (refl, at_port old id.port port (act.Asks id request) (with_both old fan port bay) (ap (λ (i : MediumId). i.port) h.0) (serves old port (act.Asks id request) fan bay inside h))
 moved old port act.Rests fan bay inside h = absurd h
 moved old port (act.Writes w) fan bay inside h = absurd h
 moved old port act.LetsGo fan bay inside h = absurd h

@@ -1,6 +1,11 @@
 -- Moves one after another.
-use Rattle.std.proofs.Common.{◌≡◌, suc, None, Bool, refl, ap, ◌∙◌, sym, inl}
-use Rattle.ahci_machine.specs.Acts.{Moves, Steps, StepsBy, TurnsNext, turned}
+use Rattle.std.proofs.Common.{◌≡◌, ℕ, arith, inr, suc, Option, None, Some, Result, Ok, Bool, true, refl, ap, subst, ◌∙◌, sym, inl}
+use Rattle.std.specs.Prelude.{IfNone, min}
+use Rattle.std.proofs.lemmas.Bool.{cases_lt}
+use Rattle.std.specs.declared.alloc.AllocError.{AllocError}
+use Rattle.fan_out.specs.FanOuts.{port_count}
+use Rattle.ahci_machine.specs.Resting.{ArePortsQuiet, ArePortsQuietIn}
+use Rattle.ahci_machine.specs.Acts.{MayDo, MayStep, Moves, Steps, StepsBy, TurnsNext, moves, turned}
 use Rattle.ahci_machine.specs.Asked.{request_of}
 use Rattle.ahci_machine.specs.States.{MachineState}
 use Rattle.ahci_machine.specs.declared.act.Act.{Act}
@@ -44,3 +49,40 @@ rests_same old new same = record {
   does = inl refl;
   turns = same ∙ ap (λ (m : MachineState). turned old m.first m.turn) (sym same);
 }
+
+-- ---- a move is no rest
+
+abbrev ok : Act → Result Act AllocError
+ok a = Ok a
+
+still : moves act.Rests ≡ true → ⊥
+still h = cc h
+
+one_act : (a b : Act) → ok a ≡ ok b → a ≡ b
+one_act a b same = cc same
+
+pub no_rest : (A : Type 0) (a : Act) → moves a ≡ true → ok a ≡ ok act.Rests → A
+no_rest A a is same = absurd (still (subst (λ (x : Act). moves x ≡ true) (one_act a act.Rests same) is))
+
+pub done_moves : (old new : MachineState) (o : Option Act) (a : Act) → MayDo old o new → o ≡ Some a → moves a ≡ true
+done_moves old new o a does is = (subst (λ (x : Option Act). MayDo old x new) is does).0
+
+pub step_moves : (old new : MachineState) (o : Option Act) (a : Act) → MayStep old o new → o ≡ Some a → moves a ≡ true
+step_moves old new o a does is = (subst (λ (x : Option Act). MayStep old x new) is does).0
+
+-- ---- the ports have their turns
+
+quiet_all : (m : MachineState) (turn ports least : ℕ) → ports ≡ port_count m.fan → least ≡ min turn ports
+    → ArePortsQuietIn turn ports m → ArePortsQuietIn 0 least m → ArePortsQuiet m
+quiet_all m turn ports least all is later first port small inside = elim (cases_lt port turn) [
+  | inl before ↦ first port (omega arith) (omega (arith, all, is, small, before)) inside
+  | inr behind ↦ later port behind (omega (arith, all, small)) inside
+]
+
+pub quiet_both : (old middle : MachineState) (turn ports least : ℕ) (early late : Option Act) → ports ≡ port_count old.fan → least ≡ min turn ports
+    → early ≡ None → late ≡ None → MayStep old early middle → IfNone early (ArePortsQuietIn turn ports old)
+    → IfNone late (ArePortsQuietIn 0 least middle) → ArePortsQuiet old
+quiet_both old middle turn ports least None None all is a b same later first =
+    quiet_all old turn ports least all is later (subst (λ (m : MachineState). ArePortsQuietIn 0 least m) same first)
+quiet_both old middle turn ports least None (Some x) all is a b same later first = cc b
+quiet_both old middle turn ports least (Some x) late all is a b same later first = cc a

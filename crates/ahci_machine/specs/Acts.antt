@@ -234,9 +234,14 @@ Does old (act.Speaks port out) new = ServesNext port (act.Speaks port out) old n
 Does old (act.Starts port place) new = ServesNext port (act.Starts port place) old new
 Does old (act.Asks id request) new = ServesNext id.port (act.Asks id request) old new
 
+-- whether it moves anything
+abbrev pub moves : Act → Bool
+moves act.Rests = false
+moves other = true
+
 abbrev pub MayDo : MachineState → Option Act → MachineState → Type 0
 MayDo old None new = new ≡ old
-MayDo old (Some act) new = Does old act new
+MayDo old (Some act) new = (moves act ≡ true) × Does old act new
 
 -- whose turn is next is the machine's own choice
 abbrev pub turned : MachineState → (first : Bool) → (turn : ℕ) → MachineState
@@ -251,7 +256,7 @@ pub record Steps (old : MachineState) (act : Act) (new : MachineState) : Type 0 
 -- the same where there may be none
 abbrev pub MayStep : MachineState → Option Act → MachineState → Type 0
 MayStep old None new = new ≡ old
-MayStep old (Some act) new = Steps old act new
+MayStep old (Some act) new = (moves act ≡ true) × Steps old act new
 
 -- ---- a call
 

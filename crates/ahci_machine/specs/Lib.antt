@@ -8,3 +8,4 @@ pub mod Answers
 pub mod Ports
 pub mod Saved
 pub mod Streams
+pub mod Resting

@@ -1,7 +1,8 @@
 //! What is at a port.
 
-ghost use Rattle.std.specs.Prelude.{◌≡◌, IfOk, OnErr, replicate};
+ghost use Rattle.std.specs.Prelude.{◌≡◌, IfNone, IfOk, OnErr, replicate};
 ghost use Rattle.ahci_machine.specs.Bays.{BayMayDo, begun};
+ghost use Rattle.ahci_machine.specs.Resting.{NoneFalls, NoneIsAsked, NoneIsHeard, NoneIsSaid, NoneStarts};
 ghost use Rattle.ahci_machine.specs.States.{empty_bay};
 
 mod saved;
@@ -76,7 +77,8 @@ impl Bay {
     /// The next FIS of the host is there.
     #[tactic(auto, using(crate::proofs::FanLemmas::none_down))]
     pub(crate) fn fall(&mut self, fan: &mut FanOut, port: u8) -> Option<Act>
-        ensures { BayMayDo port fan.old self.old result fan.new self.new }
+        ensures does { BayMayDo port fan.old self.old result fan.new self.new }
+        ensures none { IfNone result (NoneFalls fan.old port self.old) }
     {
         if self.down.is_some() {
             return None;
@@ -91,6 +93,7 @@ impl Bay {
     /// The FIS that is there is heard, or the caller is told of it.
     pub(crate) fn hear(&mut self, alloc: Global, port: u8) -> Result<Option<Act>, AllocError>
         ensures ok { IfOk result (λ act. (fan : FanOut) → BayMayDo port fan self.old act fan self.new) }
+        ensures none { IfOk result (λ act. IfNone act (NoneIsHeard self.old)) }
         ensures err { OnErr result (self.new ≡ self.old) }
     {
         let Some(frame) = &self.down else {
@@ -122,6 +125,7 @@ impl Bay {
         port: u8,
     ) -> Result<Option<Act>, AllocError>
         ensures ok { IfOk result (λ act. BayMayDo port fan.old self.old act fan.new self.new) }
+        ensures none { IfOk result (λ act. IfNone act (NoneIsSaid fan.old port self.old)) }
         ensures err { OnErr result ((self.new ≡ self.old) × (fan.new ≡ fan.old)) }
     {
         let Unit::Disk(disk) = &mut self.unit else {
@@ -144,6 +148,7 @@ impl Bay {
     /// A command of a disk starts.
     pub(crate) fn start(&mut self, port: u8) -> Result<Option<Act>, AllocError>
         ensures ok { IfOk result (λ act. (fan : FanOut) → BayMayDo port fan self.old act fan self.new) }
+        ensures none { IfOk result (λ act. IfNone act (NoneStarts self.old)) }
         ensures err { OnErr result (self.new ≡ self.old) }
     {
         let Unit::Disk(disk) = &mut self.unit else {
@@ -157,7 +162,8 @@ impl Bay {
 
     /// A disk asks its medium.
     pub(crate) fn ask(&mut self, port: u8) -> Option<Act>
-        ensures { (fan : FanOut) → BayMayDo port fan self.old result fan self.new }
+        ensures does { (fan : FanOut) → BayMayDo port fan self.old result fan self.new }
+        ensures none { IfNone result (NoneIsAsked self.old) }
     {
         let Unit::Disk(disk) = &mut self.unit else {
             return None;

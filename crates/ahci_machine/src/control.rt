@@ -1,9 +1,10 @@
 //! What the controller has to do.
 
-ghost use Rattle.std.specs.Prelude.{◌≡◌, ◌<◌, None, Some, IfNone, IfOk, IfSome, OnErr, OnOk, slice_set};
+ghost use Rattle.std.specs.Prelude.{◌≡◌, ◌<◌, false, None, Some, IfNone, IfOk, IfSome, OnErr, OnOk, slice_set};
 ghost use Rattle.std.specs.Option.{option_map};
 ghost use Rattle.ahci_machine.specs.Acts.{AwaitsAt, GathersBy, MayDo, MissesOf, TurnsNext, feeding, lent_by};
 ghost use Rattle.ahci_machine.specs.Gathers.{asked_for, host_stamp as host_stamp_of};
+ghost use Rattle.ahci_machine.specs.Resting.{IsToldAll, NoneGathers, NoneGoes, NoneIsTaken, NoneRises, NothingIsDone};
 ghost use Rattle.ahci_machine.specs.States.{gathering_at};
 
 use crate::act::Act;
@@ -32,7 +33,8 @@ fn lent(write: Next) -> Lent
 impl Machine {
     /// What is to be written to the guest for the frame that was taken last, and for bytes that moved.
     pub(crate) fn write_next(&mut self) -> Option<Act>
-        ensures { MayDo self.old result self.new }
+        ensures does { MayDo self.old result self.new }
+        ensures none { IfNone result (self.old.writing ≡ false) }
     {
         if !self.writing {
             return None;
@@ -55,7 +57,8 @@ impl Machine {
 
     /// What the caller is to know of the interrupt.
     pub(crate) fn tell_next(&mut self) -> Option<Act>
-        ensures { MayDo self.old result self.new }
+        ensures does { MayDo self.old result self.new }
+        ensures none { IfNone result (IsToldAll self.old) }
     {
         let line = self.controller.line();
         if line != self.told {
@@ -110,6 +113,7 @@ impl Machine {
     /// What the controller said to do next is done, where no frame is on its way to the devices.
     pub(crate) fn do_next(&mut self, alloc: Global) -> Result<Option<Act>, AllocError>
         ensures ok { IfOk result (λ act. MayDo self.old act self.new) }
+        ensures none { IfOk result (λ act. IfNone act (NothingIsDone self.old)) }
         ensures err { OnErr result (self.new ≡ self.old) }
     {
         let Some(next) = self.kept else {
@@ -145,6 +149,7 @@ impl Machine {
     #[tactic(auto, using(crate::proofs::FanLemmas::sends_back))]
     pub(crate) fn send_next(&mut self, alloc: Global) -> Result<Option<Act>, AllocError>
         ensures ok { IfOk result (λ act. MayDo self.old act self.new) }
+        ensures none { IfOk result (λ act. IfNone act (NoneGoes self.old)) }
         ensures err { OnErr result (self.new ≡ self.old) }
     {
         let Some(frame) = self.outgoing.take() else {
@@ -218,7 +223,8 @@ impl Machine {
     /// controller said is done.
     pub(crate) fn gather_next(&mut self, dev: u8) -> Option<Act>
         requires { dev < 16 }
-        ensures { MayDo self.old result self.new }
+        ensures does { MayDo self.old result self.new }
+        ensures none { IfNone result (NoneGathers self.old dev) }
     {
         match self.waits(dev)? {
             Waits::Asked => None,
@@ -245,6 +251,7 @@ impl Machine {
     #[tactic(auto, using(crate::proofs::FanLemmas::none_up, crate::proofs::FanLemmas::refused_up))]
     pub(crate) fn rise_next(&mut self, alloc: Global) -> Result<Option<Act>, AllocError>
         ensures ok { IfOk result (λ act. MayDo self.old act self.new) }
+        ensures none { IfOk result (λ act. IfNone act (NoneRises self.old)) }
         ensures err { OnErr result (self.new ≡ self.old) }
     {
         if self.incoming.is_some() {
@@ -259,7 +266,8 @@ impl Machine {
 
     /// The controller takes the frame on its way, if it may. One that comes while the link is down is lost.
     pub(crate) fn take_next(&mut self) -> Option<Act>
-        ensures { MayDo self.old result self.new }
+        ensures does { MayDo self.old result self.new }
+        ensures none { IfNone result (NoneIsTaken self.old) }
     {
         if self.taken {
             return None;

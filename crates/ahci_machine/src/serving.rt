@@ -1,7 +1,10 @@
 //! The ports have their turns.
 
-ghost use Rattle.std.specs.Prelude.{◌≡◌, ◌<◌, IfOk, OnErr, length};
+ghost use Rattle.std.specs.Prelude.{◌≡◌, ◌<◌, IfNone, IfOk, None, OnErr, length};
+ghost use Rattle.fan_out.specs.FanOuts.{Tells};
 ghost use Rattle.ahci_machine.specs.Acts.{MayDo, MayStep};
+ghost use Rattle.ahci_machine.specs.Resting.{ArePortsQuiet, ArePortsQuietIn, IsQuietAt, NoneFalls, NoneIsAsked, NoneIsHeard, NoneIsSaid, NoneStarts};
+ghost use Rattle.ahci_machine.specs.States.{bay_at};
 
 use crate::act::Act;
 use crate::machine::Machine;
@@ -10,7 +13,8 @@ use std::alloc::{AllocError, Global};
 impl Machine {
     /// A device that is to begin anew does.
     pub(crate) fn begin_next(&mut self, alloc: Global) -> Option<Act>
-        ensures { MayDo self.old result self.new }
+        ensures does { MayDo self.old result self.new }
+        ensures none { IfNone result (Tells self.old.fan None self.old.fan) }
     {
         let port = self.fan.next_begun()?;
         if let Some(bay) = self.bays.get_mut(usize::from(port)) {
@@ -23,7 +27,8 @@ impl Machine {
     #[tactic(auto, using(crate::proofs::BayLemmas::served))]
     fn fall_at(&mut self, port: u8) -> Option<Act>
         requires { port < length self.old.bays }
-        ensures { MayDo self.old result self.new }
+        ensures does { MayDo self.old result self.new }
+        ensures none { IfNone result (NoneFalls self.old.fan port (bay_at self.old port)) }
     {
         self.bays[usize::from(port)].fall(&mut self.fan, port)
     }
@@ -33,6 +38,7 @@ impl Machine {
     fn hear_at(&mut self, alloc: Global, port: u8) -> Result<Option<Act>, AllocError>
         requires { port < length self.old.bays }
         ensures ok { IfOk result (λ act. MayDo self.old act self.new) }
+        ensures none { IfOk result (λ act. IfNone act (NoneIsHeard (bay_at self.old port))) }
         ensures err { OnErr result (self.new ≡ self.old) }
     {
         let act = self.bays[usize::from(port)].hear(alloc, port)?;
@@ -44,6 +50,7 @@ impl Machine {
     fn speak_at(&mut self, alloc: Global, port: u8) -> Result<Option<Act>, AllocError>
         requires { port < length self.old.bays }
         ensures ok { IfOk result (λ act. MayDo self.old act self.new) }
+        ensures none { IfOk result (λ act. IfNone act (NoneIsSaid self.old.fan port (bay_at self.old port))) }
         ensures err { OnErr result (self.new ≡ self.old) }
     {
         self.bays[usize::from(port)].speak(alloc, &mut self.fan, port)
@@ -54,6 +61,7 @@ impl Machine {
     fn start_at(&mut self, port: u8) -> Result<Option<Act>, AllocError>
         requires { port < length self.old.bays }
         ensures ok { IfOk result (λ act. MayDo self.old act self.new) }
+        ensures none { IfOk result (λ act. IfNone act (NoneStarts (bay_at self.old port))) }
         ensures err { OnErr result (self.new ≡ self.old) }
     {
         let act = self.bays[usize::from(port)].start(port)?;
@@ -64,7 +72,8 @@ impl Machine {
     #[tactic(auto, using(crate::proofs::BayLemmas::served_here))]
     fn ask_at(&mut self, port: u8) -> Option<Act>
         requires { port < length self.old.bays }
-        ensures { MayDo self.old result self.new }
+        ensures does { MayDo self.old result self.new }
+        ensures none { IfNone result (NoneIsAsked (bay_at self.old port)) }
     {
         self.bays[usize::from(port)].ask(port)
     }
@@ -72,6 +81,7 @@ impl Machine {
     // What is next at a port.
     fn serve(&mut self, alloc: Global, port: u8) -> Result<Option<Act>, AllocError>
         ensures ok { IfOk result (λ act. MayDo self.old act self.new) }
+        ensures none { IfOk result (λ act. IfNone act (port < length self.old.bays → IsQuietAt self.old port)) }
         ensures err { OnErr result (self.new ≡ self.old) }
     {
         if usize::from(port) >= self.bays.len() {
@@ -92,23 +102,33 @@ impl Machine {
         Ok(self.ask_at(port))
     }
 
-    /// What is next at the ports, each in its turn.
-    pub(crate) fn serve_next(&mut self, alloc: Global) -> Result<Option<Act>, AllocError>
+    // What is next at the first of these ports that has something to do.
+    fn serve_any(&mut self, alloc: Global, from: u8, to: u8) -> Result<Option<Act>, AllocError>
         ensures ok { IfOk result (λ act. MayStep self.old act self.new) }
+        ensures none { IfOk result (λ act. IfNone act (ArePortsQuietIn from to self.old)) }
         ensures err { OnErr result (self.new ≡ self.old) }
     {
-        let ports = self.fan.ports();
-        let mut port = self.turn;
-        for count in 0..ports {
-            let _ = count;
-            if port >= ports {
-                port = 0;
-            }
+        for port in from..to {
             if let Some(act) = self.serve(alloc, port)? {
                 self.turn = port + 1;
                 return Ok(Some(act));
             }
-            port += 1;
+        }
+        Ok(None)
+    }
+
+    /// What is next at the ports, each in its turn.
+    pub(crate) fn serve_next(&mut self, alloc: Global) -> Result<Option<Act>, AllocError>
+        ensures ok { IfOk result (λ act. MayStep self.old act self.new) }
+        ensures none { IfOk result (λ act. IfNone act (ArePortsQuiet self.old)) }
+        ensures err { OnErr result (self.new ≡ self.old) }
+    {
+        let (ports, turn) = (self.fan.ports(), self.turn);
+        if let Some(act) = self.serve_any(alloc, turn, ports)? {
+            return Ok(Some(act));
+        }
+        if let Some(act) = self.serve_any(alloc, 0, turn.min(ports))? {
+            return Ok(Some(act));
         }
         Ok(None)
     }

@@ -1,7 +1,10 @@
 //! What is next to do.
 
-ghost use Rattle.std.specs.Prelude.{◌≡◌, IfOk, OnErr};
+ghost use Rattle.std.specs.Prelude.{◌≡◌, ◌<◌, ℕ, false, IfNone, IfOk, Ok, OnErr};
 ghost use Rattle.ahci_machine.specs.Acts.{Asks, MayDo, Moves, Steps, unlent};
+ghost use Rattle.ahci_machine.specs.Resting.{ArePortsQuiet, EndsAtRest, IsAtRest, IsCarried, IsToldAll, NoneGathers, NothingIsSaid};
+ghost use Rattle.ahci_machine.specs.declared.act.Act.TheVariants.{Rests};
+ghost use Rattle.ahci_machine.specs.declared.request.Request.TheVariants.{Nothing};
 
 use crate::act::Act;
 use crate::machine::{Lent, Machine};
@@ -15,7 +18,8 @@ const BUDGET: u32 = 64;
 impl Machine {
     // The Data FISes whose bytes are read go on.
     fn gather_any(&mut self) -> Option<Act>
-        ensures { MayDo self.old result self.new }
+        ensures does { MayDo self.old result self.new }
+        ensures none { IfNone result ((dev : ℕ) → dev < 16 → NoneGathers self.old dev) }
     {
         for dev in 0..16_u8 {
             if let Some(act) = self.gather_next(dev) {
@@ -27,7 +31,9 @@ impl Machine {
 
     // What comes before all else: writes to the guest, and the line.
     fn urgent(&mut self) -> Option<Act>
-        ensures { MayDo self.old result self.new }
+        ensures does { MayDo self.old result self.new }
+        ensures written { IfNone result (self.old.writing ≡ false) }
+        ensures told { IfNone result (IsToldAll self.old) }
     {
         if let Some(act) = self.write_next() {
             return Some(act);
@@ -38,6 +44,7 @@ impl Machine {
     // What is on its way goes on.
     fn carry_next(&mut self, alloc: Global) -> Result<Option<Act>, AllocError>
         ensures ok { IfOk result (λ act. MayDo self.old act self.new) }
+        ensures none { IfOk result (λ act. IfNone act (IsCarried self.old)) }
         ensures err { OnErr result (self.new ≡ self.old) }
     {
         if let Some(act) = self.rise_next(alloc)? {
@@ -62,6 +69,8 @@ impl Machine {
     #[tactic(auto, using(crate::proofs::MoveLemmas::turns_first, crate::proofs::MoveLemmas::rests_same))]
     fn turn_or_serve(&mut self, alloc: Global) -> Result<Act, AllocError>
         ensures ok { IfOk result (λ act. Steps self.old act self.new) }
+        ensures ports { result ≡ Ok Rests → ArePortsQuiet self.old }
+        ensures said { result ≡ Ok Rests → NothingIsSaid self.old }
         ensures err { OnErr result (self.new ≡ self.old) }
     {
         if self.first && self.kept.is_none() {
@@ -81,9 +90,10 @@ impl Machine {
         }
     }
 
-    /// Makes one move. Where memory is refused, nothing changes.
+    /// Makes one move. It rests where there is none. Where memory is refused, nothing changes.
     pub fn step(&mut self, alloc: Global) -> Result<Act, AllocError>
         ensures ok { IfOk result (λ act. Steps self.old act self.new) }
+        ensures rests { result ≡ Ok Rests → IsAtRest self.old }
         ensures err { OnErr result (self.new ≡ self.old) }
     {
         if let Some(act) = self.urgent() {
@@ -95,10 +105,11 @@ impl Machine {
         self.turn_or_serve(alloc)
     }
 
-    /// Makes moves until one asks something of the caller, but at most 64.
+    /// Makes moves until one asks something of the caller, but at most 64. `Nothing` is asked only by a machine at rest.
     #[tactic(auto, using(crate::proofs::MoveLemmas::no_moves, crate::proofs::MoveLemmas::one_more))]
     pub fn next(&mut self, alloc: Global) -> Result<Request, AllocError>
         ensures ok { IfOk result (λ request. Asks (unlent self.old) request self.new) }
+        ensures rests { result ≡ Ok Nothing → EndsAtRest (unlent self.old) self.new }
         ensures err { OnErr result (Moves (unlent self.old) self.new) }
     {
         self.lent = Lent::Nothing;

@@ -230,6 +230,7 @@ go_reached : (e d : DiskState) (calls : List Call) (now : Inside) → IsReached 
 go_reached e d calls now r go is = record {
   profile = r.profile;
   limit = r.limit;
+  room = r.room;
   calls = r.calls ++ calls;
   are = more r.calls calls (new_disk r.profile r.limit) r.are (subst (λ (x : DiskState). AreCalls x calls) r.is go.are);
   is = one_disk d (after_calls e calls) (sym is ∙ go.is) ∙ ap (λ (x : DiskState). after_calls x calls) r.is

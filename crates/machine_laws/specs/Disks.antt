@@ -1,5 +1,5 @@
 -- Each disk of a machine goes by its own calls alone: those that are of its port (ACS-3, and `sata_disk_laws` for what they are).
-use Rattle.std.specs.Prelude.{◌≡◌, ◌==◌, ℕ, Bool, false, if◌then◌else◌, List, [], ◌∷◌, Option, Some, None, Result, Ok, Err}
+use Rattle.std.specs.Prelude.{◌≡◌, ◌==◌, ◌≤◌, ℕ, Bool, false, if◌then◌else◌, List, [], ◌∷◌, Option, Some, None, Result, Ok, Err}
 use Rattle.fis_view.specs.Frames.{Stamped}
 use Rattle.block_disk.specs.Requests.{AreSeenRightly, no_books}
 use Rattle.block_queue.specs.Deeds.{AllAreApart, AreNamed}
@@ -64,6 +64,8 @@ DisksGoOn = (old : MachineState) (deed : Deed) (new : MachineState) → Does old
 pub record IsReached (d : DiskState) : Type 0 where
   pub profile : Profile
   pub limit : ℕ
+  -- it holds a part of the largest size
+  pub room : 1048576 ≤ limit
   pub calls : List Call
   pub are : AreCalls (new_disk profile limit) calls
   pub is : d ≡ after_calls (new_disk profile limit) calls

@@ -7,3 +7,4 @@ pub mod Lent
 pub mod Rising
 pub mod Falling
 pub mod Feeding
+pub mod Rest

@@ -6,6 +6,7 @@
 
 mod falling;
 mod laws;
+mod rest;
 mod rising;
 
 pub use falling::{frames_fall_in_order, sent_frames_are_supplied};
@@ -13,4 +14,5 @@ pub use laws::{
     controller_goes_on, controller_has_its_laws, disks_go_on, disks_have_their_laws,
     ports_are_apart, taken_frames_are_lent,
 };
+pub use rest::rest_is_owed;
 pub use rising::{connections_end, data_rise_unchanged, frames_rise_in_order};

@@ -65,8 +65,8 @@ pub asks_keep : DisksAreReached → (old : MachineState) (told : Result Request 
 asks_keep law old (Ok request) new ok err are = asked_keep law (unlent old) request new ok (unlent_keeps law old are)
 asks_keep law old (Err e) new ok err are = steps_keep law err.count (unlent old) new err.steps (unlent_keeps law old are)
 
-pub puts_keep : DisksAreReached → (p : Profile) (limit : ℕ) (d : DiskState) → d ≡ new_disk p limit → (port : ℕ) (old : MachineState)
+pub puts_keep : DisksAreReached → (p : Profile) (limit : ℕ) → 1048576 ≤ limit → (d : DiskState) → d ≡ new_disk p limit → (port : ℕ) (old : MachineState)
     (told : Result (Unit {0}) (Inside × PortFault)) (new : MachineState) → Puts port (Disk d) old told new → Keeps old new
 unfolding after_calls
-puts_keep law p limit d new_one port old told new is =
-    keep law old new (Put port (Disk d) told) is (record { profile = p; limit = limit; calls = []; are = tt; is = new_one })
+puts_keep law p limit room d new_one port old told new is =
+    keep law old new (Put port (Disk d) told) is (record { profile = p; limit = limit; room = room; calls = []; are = tt; is = new_one })

@@ -1,10 +1,16 @@
 -- What a caller knows of each of its calls.
-use Rattle.std.specs.Prelude.{◌≡◌, ◌==◌, ℕ, false, List, [], ◌∷◌, Option}
+use Rattle.std.specs.Prelude.{◌≡◌, ◌<◌, ◌==◌, ℕ, true, false, List, [], ◌∷◌, Option}
+use Rattle.block_disk.specs.Table.{is_under_way}
+use Rattle.block_queue.specs.Line.{command_at}
+use Rattle.fan_out.specs.FanOuts.{port_count}
+use Rattle.sata_disk.specs.State.{DiskState, commands}
 use Rattle.ahci_machine.specs.States.{MachineState, bay_at}
+use Rattle.ahci_machine.specs.declared.bay.Unit.TheVariants.{Disk}
 use Rattle.machine_laws.specs.ControllerLaws.{ControllerHasLaws, ControllerRuns, HasLaws, RunsAreCalls, RunsRuled, calls_in}
 use Rattle.machine_laws.specs.Controllers.{GathersDue}
 use Rattle.machine_laws.specs.Deeds.{Deed, Moved, Unlent}
 use Rattle.machine_laws.specs.Disks.{AreReached}
+use Rattle.machine_laws.specs.Rest.{WaitsFor}
 use Rattle.machine_laws.specs.Lent.{FramesAreHeld, HoldsFrame, IsUnpowered, last_taken}
 
 -- each disk goes on to be one that calls of its own led to
@@ -14,6 +20,11 @@ Keeps old new = AreReached old → AreReached new
 -- what is at another port stays
 abbrev pub KeepsOthers : (port : ℕ) → MachineState → MachineState → Type 0
 KeepsOthers port old new = (other : ℕ) → (port == other) ≡ false → bay_at new other ≡ bay_at old other
+
+-- each command that is under way at a disk waits for somebody
+abbrev pub AllWait : MachineState → Type 0
+AllWait m = (port : ℕ) (d : DiskState) → port < port_count m.fan → (bay_at m port).unit ≡ Disk d
+    → (place : ℕ) → place < 33 → is_under_way (command_at (commands d) place) ≡ true → WaitsFor m port d
 
 -- ---- the controller
 

@@ -13,7 +13,7 @@ ghost use Rattle.machine_laws.specs.ControllerLaws.{OpensSo, WritesRightly};
 ghost use Rattle.machine_laws.specs.Deeds as deed;
 ghost use Rattle.machine_laws.specs.Disks.{AreReached, HasLaws};
 ghost use Rattle.machine_laws.specs.Lent.{HoldsFrame, Lends};
-ghost use Rattle.uses_machine_laws.specs.Kept.{Keeps, KeepsLaws, KeepsMoves, KeepsOthers, Laws};
+ghost use Rattle.uses_machine_laws.specs.Kept.{AllWait, Keeps, KeepsLaws, KeepsMoves, KeepsOthers, Laws};
 
 pub mod rising;
 mod falling;
@@ -147,15 +147,17 @@ pub fn offers(machine: &mut Machine, port: u8, frame: Frame) -> Result<(), Frame
 }
 
 /// The machine moves. What goes to the guest are bytes of the frame that was taken last, at the places of their command's table, or that
-/// frame, or PRDBC. The line that is told is the one that the registers show.
+/// frame, or PRDBC. The line that is told is the one that the registers show. Where it rests, each command of a disk waits for somebody.
 pub fn moves(alloc: Global, machine: &mut Machine) -> Result<Act, AllocError>
     ensures keeps { Keeps machine.old machine.new }
     ensures controller { IfOk result (λ move. KeepsLaws machine.old (deed.Moved move ∷ []) machine.new) }
     ensures writes { (write : next_move.Next) → result ≡ Ok (act.Writes write) → WritesRightly machine.old write machine.new }
     ensures lent { (write : next_move.Next) → result ≡ Ok (act.Writes write) → (last : Option (List ℕ)) → HoldsFrame machine.old last → Lends write last (lent_bytes machine.new) }
     ensures line { (line : Bool) → result ≡ Ok (act.Line line) → line ≡ line_shown machine.new.controller }
+    ensures waits { result ≡ Ok act.Rests → AreReached machine.old → AllWait machine.old }
 {
     machine_laws::disks_have_their_laws();
+    machine_laws::rest_is_owed();
     machine_laws::controller_has_its_laws();
     machine_laws::taken_frames_are_lent();
     controller_laws();

@@ -20,3 +20,6 @@ returns-clause-line c = line c.controller_has_its_laws.ensures.line c.args.machi
 
 pub returns-clause-lent : goal.returns-clause-lent
 returns-clause-lent c = lent c.taken_frames_are_lent.ensures.lent c.args.machine.now c.step-moved.new.self c.step-moved.result c.step-moved.ensures.ok
+
+pub returns-clause-waits : goal.returns-clause-waits
+returns-clause-waits c = λ rests are. c.rest_is_owed.ensures c.args.machine.now (c.step-moved.ensures.rests rests) are
