@@ -20,7 +20,6 @@ use Rattle.multiplier.proofs.Door.{gives, served_below}
 use Rattle.block_queue.specs.Line.{command_at}
 use Rattle.sata_disk.specs.Sending.{part_at}
 use Rattle.sata_disk.specs.State.{commands}
-use Rattle.sata_disk.specs.declared.out.Out.TheVariants.{Data}
 use Rattle.fan_out.specs.Calls.{FanCall, Plug, Pull, Send, GiveUp, GiveDown, Offer, Tell, Does as FanDoes, given, given_by}
 use Rattle.fan_out.specs.Fans.{FanState, IsFan}
 use Rattle.fan_out.specs.declared.fan_out.FanOut.{FanOut}

@@ -1,5 +1,5 @@
 -- Over every run the FISes of the devices go to the controller in order.
-use Rattle.std.proofs.Common.{◌≡◌, ℕ, zero, suc, ◌+◌, ◌≤◌, Bool, true, false, not, List, [], ◌∷◌, ◌++◌, append_assoc, map, min, replicate, Option, Some, None, refl, sym, ap, ◌∙◌, subst, arith}
+use Rattle.std.proofs.Common.{◌≡◌, ℕ, zero, suc, ◌≤◌, Bool, true, false, not, List, [], ◌∷◌, ◌++◌, append_assoc, map, min, replicate, Option, Some, None, refl, sym, ap, ◌∙◌, subst, arith}
 use Rattle.std.specs.Prelude.{◌||◌, if◌then◌else◌, is_some, slice_index_or, slice_set}
 use Rattle.std.specs.Option.{option_to_list}
 use Rattle.std.proofs.lemmas.Bool.{true≢false, false≢true}
@@ -20,7 +20,7 @@ use Rattle.fan_out.specs.declared.fan_out.FanOut.TheVariants.{Device, Multiplier
 use Rattle.fan_out.specs.declared.seat.Seat.{Seat}
 use Rattle.ahci_machine.specs.Registers.{link_stays, message_of, renewed}
 use Rattle.ahci_machine.specs.States.{MachineState, opening_end}
-use Rattle.machine_laws.proofs.RisDeeds.{Rising, deed_rises, outer, way}
+use Rattle.machine_laws.proofs.RisDeeds.{Rising, deed_rises, outer}
 use Rattle.machine_laws.proofs.RisFan.{FansPass, Passage, Through, fan_through, no_device, then_sends, two}
 use Rattle.machine_laws.proofs.RisStraight.{no_multiplier, opening_sound, renewed_none, renewed_sound, straight_through}
 use Rattle.machine_laws.specs.Deeds.{Deed, Does, Moved, Unlent, Wrote, Powered, Supplied, Missed, Answered, Put, Plugged, Pulled, Removed, FrameTaken, FrameOffered}

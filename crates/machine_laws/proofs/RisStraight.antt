@@ -1,5 +1,5 @@
 -- FISes pass the link of one device in order.
-use Rattle.std.proofs.Common.{◌≡◌, ℕ, ◌+◌, ◌<◌, ◌≤◌, ◌==◌, Bool, true, false, not, List, [], ◌∷◌, ◌++◌, append_assoc, Option, Some, None, Result, Ok, Err, refl, sym, ap, ◌∙◌, subst, arith}
+use Rattle.std.proofs.Common.{◌≡◌, ℕ, ◌<◌, ◌≤◌, ◌==◌, Bool, true, false, not, List, [], ◌∷◌, ◌++◌, append_assoc, Option, Some, None, Result, Ok, Err, refl, sym, ap, ◌∙◌, subst, arith}
 use Rattle.std.specs.Prelude.{if◌then◌else◌, ◌&&◌, nat_lt, is_none, is_some, slice_index, MatchOption, MatchResult}
 use Rattle.std.specs.Bool.{MatchBool}
 use Rattle.std.specs.Option.{option_to_list}
@@ -20,7 +20,7 @@ use Rattle.multiplier.specs.declared.multiplier.PmRefusal.TheVariants as refusal
 use Rattle.multiplier.proofs.Door.{still_up_to, up_to_is}
 use Rattle.fan_out.specs.Calls.{FanCall, Plug, Pull, Send, GiveUp, GiveDown, Offer, Tell, Does, given, given_by}
 use Rattle.fan_out.specs.Fans.{FanState}
-use Rattle.fan_out.specs.Seats.{after_sent, connection, left, next_connection, plug_refusal, told}
+use Rattle.fan_out.specs.Seats.{after_sent, connection, next_connection, plug_refusal, told}
 use Rattle.fan_out.specs.Straights.{GivesDown, GivesUp, OffersStraight, PlugsStraight, PullsStraight, SendsStraight, StraightState, TellsStraight, addressed, answering, joined, on_port, opening_straight, parted, pointed, renewed}
 use Rattle.fan_out.specs.declared.fan_out.FanOut.{FanOut}
 use Rattle.fan_out.specs.declared.fan_out.FanOut.TheVariants.{Device, Multiplier}
