@@ -455,7 +455,8 @@ gef_status gef_machine_plug(gef_machine *machine, uint8_t port);
 
 /*
  * Power comes to what is behind the controller: each disk and device that is plugged in begins anew, and the one at a port 0 that is
- * open from the start passes at once. Can return GEF_CLOSED.
+ * open from the start passes at once. The controller is not reset: a FIS that it took is written to the guest as ever.
+ * Can return GEF_CLOSED.
  */
 gef_status gef_machine_power_on(gef_machine *machine);
 

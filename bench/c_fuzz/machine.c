@@ -6,6 +6,7 @@
  *                               been given.
  *     machine errors            plays a list in which a disk asks for sectors between the error of another command and the FIS that
  *                               says so: they are wanted no more then, but a store is out until it is answered.
+ *     machine power             has power come to the disks while the bytes of a read are written: the rest of them comes.
  *     machine random SECONDS    plays lists of acts, while disks are pulled, plugged in and removed, and media answer late, in any
  *                               order, wrongly or never. In half of the lists the guest keeps to the rules: each sector has bytes
  *                               of its own, which each read that ends must have brought, to its places and nowhere else. In the
@@ -33,6 +34,7 @@ static unsigned long asked, refused; /* how often memory was asked for; the one 
 #define SLOT_BYTES 0x2000
 #include "driver.h"
 #include "media.h"
+#include "device.h"
 
 void *__real_malloc(size_t len);
 void *__real_realloc(void *at, size_t len);
@@ -45,44 +47,6 @@ void *__wrap_malloc(size_t len) {
 
 void *__wrap_realloc(void *at, size_t len) {
     return is_watched && ++asked == refused ? 0 : __real_realloc(at, len);
-}
-
-/* ---- a device of our own ------------------------------------------------------------------------------------------ */
-
-static uint32_t has_device; /* bit n: a device of our own is at port n */
-
-/* A FIS of any bytes, most of them of a known type and length. */
-static size_t any_fis(uint8_t *fis) {
-    static const uint8_t types[8] = {0x34, 0xA1, 0x39, 0x41, 0x5F, 0x46, 0x46, 0x27};
-    static const uint16_t lengths[8] = {20, 8, 4, 28, 20, 516, 8196, 20};
-    uint32_t kind = pick(8);
-    size_t len = pick(8) ? lengths[kind] : 4 * pick(2050), at;
-    for (at = 0; at < len; at++) fis[at] = (uint8_t)(pick(4) ? 0 : pick(256));
-    if (len) fis[0] = types[kind];
-    return len;
-}
-
-static void offer(unsigned port, const uint8_t *fis, size_t len) {
-    gef_status status;
-    CALL(status, gef_machine_offer(&machine, (uint8_t)port, fis, len));
-    if (status != GEF_OK && status != GEF_FULL && status != GEF_BAD_LENGTH) fail("offer", status);
-    if ((status == GEF_BAD_LENGTH) != (len < 4 || len > GEF_FIS_ROOM || len % 4)) fail("a length", (unsigned long)len);
-}
-
-static void send_signature(unsigned port) {
-    static const uint8_t signature[20] = {0x34, 0x00, 0x50, 0x01, 0x01, 0, 0, 0, 0, 0, 0, 0, 0x01};
-    offer(port, signature, sizeof signature);
-}
-
-/* It ends each command well, and hears no other FIS. */
-static void hear(unsigned port) {
-    static const uint8_t done[20] = {0x34, 0x40, 0x50};
-    uint8_t fis[GEF_FIS_ROOM];
-    size_t len;
-    if (port >= PORTS || !(has_device >> port & 1)) fail("a FIS for no device", port);
-    must("take", gef_machine_take_frame(&machine, (uint8_t)port, fis, sizeof fis, &len));
-    if (len < 4 || len > sizeof fis || fis[1] & 15) fail("a FIS for a device", (unsigned long)len);
-    if (fis[0] == 0x27 && fis[1] & 0x80) offer(port, done, sizeof done);
 }
 
 /* ---- events ------------------------------------------------------------------------------------------------------- */
@@ -685,6 +649,37 @@ static void play_errors(unsigned ports) {
     must("free", gef_machine_free(&machine));
 }
 
+/* ---- power comes meanwhile ---------------------------------------------------------------------------------------- */
+
+/* Does what is to be done, until bytes were written to the guest's memory from here on. */
+static void settle_to_write(uint64_t from) {
+    gef_event event;
+    do {
+        event = next_event();
+        if (event.kind == GEF_EVENT_NOTHING) fail("nothing is written there", (unsigned long)from);
+        do_event(&event);
+    } while (event.kind != GEF_EVENT_WRITE_GUEST || event.u.write.at != from);
+}
+
+/*
+ * Power comes to the disks between the two pieces of a read's bytes. That is no reset of the controller: the rest of a frame that it
+ * took is written.
+ */
+static void play_power(unsigned ports) {
+    is_honest = 1;
+    memset(slots, 0, sizeof slots);
+    begin(ports, 0);
+    bring_up(ports);
+    queue(1, 0, 0, 1, 2);
+    settle();
+    answer(asked_at(GEF_EVENT_LOAD, 1), 0);
+    settle_to_write(data_of(1));
+    must("power", gef_machine_power_on(&machine));
+    settle();
+    look(1);
+    must("free", gef_machine_free(&machine));
+}
+
 /* ---- memory is refused -------------------------------------------------------------------------------------------- */
 
 /* What the guest has at the end, and what was asked of the media. */
@@ -754,7 +749,10 @@ static void play_refused(unsigned ports) {
 }
 
 int main(int count, char **words) {
-    if (count == 2 && !strcmp(words[1], "errors")) {
+    if (count == 2 && !strcmp(words[1], "power")) {
+        play_power(0);
+        play_power(2);
+    } else if (count == 2 && !strcmp(words[1], "errors")) {
         play_errors(0);
         play_errors(2);
     } else if (count == 2 && !strcmp(words[1], "refused")) {

@@ -4,6 +4,8 @@ use Rattle.std.specs.Prelude.{◌≡◌, ◌+◌, ◌||◌, ◌&&◌, ℕ, nat_l
 use Rattle.fis_view.specs.Frames.{Stamped}
 use Rattle.ahci_controller.specs.Wide.{WritesWide}
 use Rattle.ahci_controller.specs.declared.access.Width.{Width}
+use Rattle.ahci_controller.specs.declared.next.Next.{Next}
+use Rattle.ahci_controller.specs.declared.next.Next.TheVariants as next
 use Rattle.ahci_controller.specs.declared.wide.WideWritten.{WideWritten}
 use Rattle.ahci_registers.specs.declared.link.Effect.{Effect}
 use Rattle.ahci_registers.specs.declared.link.Effect.TheVariants.{Nothing, LinkReset, LinkUp}
@@ -12,7 +14,7 @@ use Rattle.ahci_machine.specs.States.{MachineState, no_gathering}
 use Rattle.ahci_machine.specs.declared.machine.Lent.{Lent}
 use Rattle.ahci_machine.specs.declared.machine.Lent.TheVariants as lent
 
--- nothing is on its way any more, and each device begins anew
+-- The link was reset: nothing is on its way any more, and each device begins anew.
 abbrev pub renewed : MachineState → MachineState
 renewed m = record {
   controller = m.controller;
@@ -23,6 +25,40 @@ renewed m = record {
   writing = false;
   outgoing = None;
   kept = None;
+  gathering = no_gathering;
+  lent = lent.Nothing;
+  told = m.told;
+  message = m.message;
+  first = m.first;
+  turn = m.turn;
+}
+
+-- what is done with the guest's memory, and not with a device
+abbrev pub for_host : Next → Bool
+for_host (next.Order dev slot fis) = false
+for_host (next.Feed dev number slot offset len) = false
+for_host n = true
+
+abbrev pub kept_if : Bool → Next → Option Next
+kept_if true n = Some n
+kept_if false n = None
+
+abbrev pub kept_powered : Option Next → Option Next
+kept_powered None = None
+kept_powered (Some n) = kept_if (for_host n) n
+
+-- Power comes to what is behind the controller: nothing is on its way to the devices or from them any more, and each begins anew. That is
+-- no reset of the controller (AHCI 1.3.1, 10.4): it goes on to read commands, and to write the frame that it took.
+abbrev pub powered : MachineState → MachineState
+powered m = record {
+  controller = m.controller;
+  fan = renewed_end m.fan;
+  bays = m.bays;
+  incoming = if m.taken then m.incoming else None;
+  taken = m.taken;
+  writing = m.writing;
+  outgoing = None;
+  kept = kept_powered m.kept;
   gathering = no_gathering;
   lent = lent.Nothing;
   told = m.told;

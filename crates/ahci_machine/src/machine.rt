@@ -6,7 +6,7 @@ ghost use Rattle.hba_fbs.specs.Views.{IsCorePort};
 ghost use Rattle.ahci_controller.specs.Latch.{raised};
 ghost use Rattle.ahci_controller.specs.Rules.{IsRuled};
 ghost use Rattle.ahci_controller.specs.Wide.{read_wide};
-ghost use Rattle.ahci_machine.specs.Registers.{WritesMachine, lent_bytes, part_of, renewed};
+ghost use Rattle.ahci_machine.specs.Registers.{WritesMachine, for_host, kept_powered, lent_bytes, part_of, powered, renewed};
 ghost use Rattle.ahci_machine.specs.States.{IsOpeningMachine, no_gathering as no_gathering_of};
 
 mod saved;
@@ -81,6 +81,23 @@ fn no_gathering() -> [Option<Gathering>; 16]
     Default::default()
 }
 
+// Whether it is done with the guest, and not with a device.
+fn for_host(next: Next) -> bool
+    ensures { result ≡ for_host next }
+{
+    !matches!(next, Next::Order { .. } | Next::Feed { .. })
+}
+
+// What of it the controller is to do still where power comes to the devices.
+fn kept_powered(kept: Option<Next>) -> Option<Next>
+    ensures { result ≡ kept_powered kept }
+{
+    match kept {
+        Some(next) if for_host(next) => Some(next),
+        _ => None,
+    }
+}
+
 impl Machine {
     /// A machine whose controller opens, with nothing at its ports. With 0 ports one device may be straight behind it, else a
     /// multiplier with so many ports is, 15 at most; `legacy` has port 0 of that open from the start, for software that knows no
@@ -128,19 +145,30 @@ impl Machine {
         self.controller.read(offset, width)
     }
 
-    /// What is behind the controller begins anew, as at power-up, and as a write does that resets the link: nothing is on its way
-    /// any more, and each device that is plugged in begins. With `legacy` the one at port 0 is reached at once.
+    /// Power comes to what is behind the controller: nothing is on its way to the devices or from them any more, and each device
+    /// that is plugged in begins. With `legacy` the one at port 0 is reached at once. The controller is not reset: a frame that it
+    /// took is written to the guest as ever, and it goes on to read commands.
     pub fn power_on(&mut self)
-        ensures { self.new ≡ renewed self.old }
+        ensures { self.new ≡ powered self.old }
     {
-        self.incoming = None;
-        self.taken = false;
-        self.writing = false;
+        if !self.taken {
+            self.incoming = None;
+        }
         self.outgoing = None;
-        self.kept = None;
+        self.kept = kept_powered(self.kept);
         self.gathering = no_gathering();
         self.lent = Lent::Nothing;
         self.fan.renew();
+    }
+
+    // The link was reset, and with it what the controller had to write: what is behind it begins anew.
+    fn renew(&mut self)
+        ensures { self.new ≡ renewed self.old }
+    {
+        self.taken = false;
+        self.writing = false;
+        self.kept = None;
+        self.power_on();
     }
 
     /// Writes to the registers at an offset, the lower dword first. A write that resets the link, or has it up again, has what is
@@ -151,7 +179,7 @@ impl Machine {
         let written = self.controller.write(offset, width, value);
         self.message = self.message || written.low.message || written.high.message;
         if written.low.effect != Effect::Nothing || written.high.effect != Effect::Nothing {
-            self.power_on();
+            self.renew();
         }
         written
     }

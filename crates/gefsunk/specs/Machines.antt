@@ -14,7 +14,7 @@ use Rattle.ahci_controller.specs.declared.wide.WideWritten.{WideWritten}
 use Rattle.ahci_machine.specs.Acts.{Asks, Moves, unlent}
 use Rattle.ahci_machine.specs.Answers.{AnswersMachine, Holds, MissesMachine, OffersFrame, SuppliesMachine, TakesFrame, disk_at, ranges_in}
 use Rattle.ahci_machine.specs.Ports.{PlugsMachine, PullsMachine, Puts, Removes}
-use Rattle.ahci_machine.specs.Registers.{WritesMachine, lent_bytes, renewed}
+use Rattle.ahci_machine.specs.Registers.{WritesMachine, lent_bytes, powered}
 use Rattle.ahci_machine.specs.States.{IsOpeningMachine, MachineState}
 use Rattle.ahci_machine.specs.declared.answers.MediumError.{MediumError}
 use Rattle.ahci_machine.specs.declared.answers.MediumError.TheVariants as medium
@@ -60,7 +60,7 @@ WriteRule old offset width value answer new =
     (λ w. (answer ≡ status.Done) × Writes old offset w value new)
 
 abbrev pub PowerRule : MachineState → Status → MachineState → Type 0
-PowerRule old answer new = (answer ≡ status.Done) × (new ≡ renewed old)
+PowerRule old answer new = (answer ≡ status.Done) × (new ≡ powered old)
 
 -- ---- what is at the ports
 

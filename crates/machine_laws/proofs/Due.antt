@@ -13,7 +13,7 @@ use Rattle.ahci_machine.specs.Acts as acts
 use Rattle.ahci_machine.specs.Acts.{DoesBy, GoesBy, MissesOf, TurnsNext, kept_of, with_controller, with_gathering}
 use Rattle.ahci_machine.specs.Answers.{IsStale, MissesFor, MissesMachine, SuppliesData, SuppliesMachine, is_own, is_wanted, taken_bay}
 use Rattle.ahci_machine.specs.Gathers.{GatheringState, Supplies, asked_for, opening_gathering, overwritten, with_part}
-use Rattle.ahci_machine.specs.Registers.{link_stays, message_of, renewed}
+use Rattle.ahci_machine.specs.Registers.{for_host, kept_if, kept_powered, link_stays, message_of, powered, renewed}
 use Rattle.ahci_machine.specs.States.{MachineState, bay_at, gathering_at}
 use Rattle.ahci_machine.specs.declared.act.Act.{Act}
 use Rattle.ahci_machine.specs.declared.act.Act.TheVariants as act
@@ -88,6 +88,21 @@ nothing_due : (m : MachineState) → m.kept ≡ None → m.gathering ≡ replica
 nothing_due m kept gathering = record {
   kept = none_is m.kept (SaysDue m.controller) kept;
   gathering = λ dev. none_is (gathering_at m dev) (IsGathered m.controller m.kept dev) (ap (λ (l : List (Option GatheringState)). get_or l dev None) gathering ∙ none_at dev);
+}
+
+-- power comes: what is kept was due before, and nothing is gathered
+kept_by : (P : Next → Type 0) (on : Bool) (said : Next) → P said → IfSome (kept_if on said) P
+kept_by P true said h = h
+kept_by P false said h = tt
+
+kept_on : (P : Next → Type 0) (o : Option Next) → IfSome o P → IfSome (kept_powered o) P
+kept_on P None h = h
+kept_on P (Some said) h = kept_by P (for_host said) said h
+
+powered_due : (m : MachineState) → GathersDue m → GathersDue (powered m)
+powered_due m due = record {
+  kept = kept_on (SaysDue m.controller) m.kept due.kept;
+  gathering = λ dev. none_is (gathering_at (powered m) dev) (IsGathered m.controller (kept_powered m.kept) dev) (none_at dev);
 }
 
 -- what is put in its place is there, or there is no such place
@@ -351,7 +366,7 @@ stays_due old Unlent new h due = same_due old new (ap inner h) due
 stays_due old (Wrote offset width value written) new h due =
     wrote_due (link_stays written) old (record old { controller = new.controller; message = old.message || message_of written }) new h.rest
     (stay old (record old { controller = new.controller; message = old.message || message_of written }) (λ p n. write_stays offset width value p n old.controller new.controller written h.writes) (record { kept = refl; gathering = refl }) due)
-stays_due old Powered new h due = subst GathersDue (sym h) (nothing_due (renewed old) refl refl)
+stays_due old Powered new h due = subst GathersDue (sym h) (powered_due old due)
 stays_due old (Supplied w bytes) new h due = supplied_due w bytes old new h.answer h.supplies due
 stays_due old (Missed w) new h due = missed_due w old new h.answer h.misses due
 stays_due old (Answered id a told) new h due = same_due old new (beside.answered id a old new told h) due

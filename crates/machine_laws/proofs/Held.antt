@@ -29,7 +29,7 @@ use Rattle.ahci_machine.specs.Acts as acts
 use Rattle.ahci_machine.specs.Acts.{lent_by, with_controller, with_gathering}
 use Rattle.ahci_machine.specs.Answers.{IsStale, MissesFor, MissesMachine, SuppliesData, SuppliesMachine, is_own, is_wanted, taken_bay}
 use Rattle.ahci_machine.specs.Gathers.{GatheringState}
-use Rattle.ahci_machine.specs.Registers.{lent_bytes, lent_of, link_stays, message_of, part_of, renewed}
+use Rattle.ahci_machine.specs.Registers.{lent_bytes, lent_of, link_stays, message_of, part_of, powered, renewed}
 use Rattle.ahci_machine.specs.States.{MachineState, bay_at, gathering_at}
 use Rattle.ahci_machine.specs.declared.act.Act.{Act}
 use Rattle.ahci_machine.specs.declared.act.Act.TheVariants as act
@@ -44,7 +44,7 @@ use Rattle.machine_laws.proofs.Lawful.{writes}
 use Rattle.machine_laws.specs.ControllerLaws.{calls_in}
 use Rattle.machine_laws.specs.Controllers.{data_calls, deed_calls, lost_calls, miss_calls, move_calls, rest_calls, supply_calls}
 use Rattle.machine_laws.specs.Deeds.{Deed, Does, Moved, Unlent, Wrote, Powered, Supplied, Missed, Answered, Put, Plugged, Pulled, Removed, FrameTaken, FrameOffered}
-use Rattle.machine_laws.specs.Lent.{CarriesTaken, FramesAreHeld, FramesAreLent, HoldsFrame, IsOf, IsSilent, IsUnpowered, Lends, OpensHolding, is_framed, is_framed_by, last_taken}
+use Rattle.machine_laws.specs.Lent.{CarriesTaken, FramesAreHeld, FramesAreLent, HoldsFrame, IsOf, IsSilent, Lends, OpensHolding, is_framed, is_framed_by, last_taken}
 
 -- the machine goes on to have it
 hold : (old new : MachineState) (last : Option (List ℕ)) → IsCalm old.controller new.controller → new.incoming ≡ old.incoming → new.taken ≡ old.taken → HoldsFrame old last → HoldsFrame new last
@@ -183,28 +183,35 @@ wrote_holds false old new written message is w rest last was = empty_holds new l
 same_machine : (old m : MachineState) (first : Bool) (turn : ℕ) (last : Option (List ℕ)) → HoldsFrame m last → HoldsFrame (acts.turned m first turn) last
 same_machine old m first turn last h = record { silent = h.silent; taken = h.taken; frame = h.frame }
 
-not_powered : Deed → Type 0
-not_powered Powered = ⊥
-not_powered deed = Unit {0}
+-- what was taken is there as power comes
+taken_stays : (taken : Bool) (frame : Option Stamped) → taken ≡ true → (if taken then frame else None) ≡ frame
+taken_stays true frame h = refl
+taken_stays false frame h = absurd (false≢true h)
 
-deed_holds : (deed : Deed) (old new : MachineState) (does : Does old deed new) → not_powered deed → (last : Option (List ℕ)) → HoldsFrame old last → HoldsFrame new (last_taken last (deed_calls old deed new does))
-unfolding not_powered
-deed_holds (Moved a) old new h on last was =
+powered_holds : (old : MachineState) (last : Option (List ℕ)) → HoldsFrame old last → HoldsFrame (powered old) last
+powered_holds old last was = record {
+  silent = was.silent;
+  taken = was.taken;
+  frame = λ here. subst (λ (o : Option Stamped). MatchOption o ⊥ (λ f. last ≡ Some f.bytes)) (sym (taken_stays old.taken old.incoming (was.taken here))) (was.frame here);
+}
+
+deed_holds : (deed : Deed) (old new : MachineState) (does : Does old deed new) → (last : Option (List ℕ)) → HoldsFrame old last → HoldsFrame new (last_taken last (deed_calls old deed new does))
+deed_holds (Moved a) old new h last was =
     subst (λ (m : MachineState). HoldsFrame m (last_taken last (move_calls old a h.middle h.does))) (sym h.turns)
     (same_machine old h.middle new.first new.turn (last_taken last (move_calls old a h.middle h.does)) (moves_hold a old h.middle h.does last was))
-deed_holds Unlent old new h on last was = beside_holds old new last (ap inner h) was
-deed_holds (Wrote offset width value written) old new h on last was =
+deed_holds Unlent old new h last was = beside_holds old new last (ap inner h) was
+deed_holds (Wrote offset width value written) old new h last was =
     wrote_holds (link_stays written) old new written (old.message || message_of written) refl (wide (fits_width width offset) offset width value old.controller new.controller written h.writes) h.rest last was
-deed_holds Powered old new h on last was = absurd on
-deed_holds (Supplied w bytes) old new h on last was = supplies_hold w bytes old new h.answer h.supplies last was
-deed_holds (Missed w) old new h on last was = misses_hold w old new h.answer h.misses last was
-deed_holds (Answered id a told) old new h on last was = beside_holds old new last (beside.answered id a old new told h) was
-deed_holds (Put n unit told) old new h on last was = beside_holds old new last (beside.put n unit old new told h) was
-deed_holds (Plugged n told) old new h on last was = beside_holds old new last (beside.plugged n old new told h) was
-deed_holds (Pulled n told) old new h on last was = beside_holds old new last (beside.pulled n old new told h) was
-deed_holds (Removed n told) old new h on last was = beside_holds old new last (beside.taken n h.pulled new told h.takes ∙ beside.pulled n old h.pulled h.answer h.pulls) was
-deed_holds (FrameTaken n told) old new h on last was = beside_holds old new last (beside.frame_by (is_own (bay_at old n).unit) old new n (taken_bay (bay_at old n)) h.rest) was
-deed_holds (FrameOffered n frame told) old new h on last was = beside_holds old new last (ap inner h.rest) was
+deed_holds Powered old new h last was = subst (λ (m : MachineState). HoldsFrame m last) (sym h) (powered_holds old last was)
+deed_holds (Supplied w bytes) old new h last was = supplies_hold w bytes old new h.answer h.supplies last was
+deed_holds (Missed w) old new h last was = misses_hold w old new h.answer h.misses last was
+deed_holds (Answered id a told) old new h last was = beside_holds old new last (beside.answered id a old new told h) was
+deed_holds (Put n unit told) old new h last was = beside_holds old new last (beside.put n unit old new told h) was
+deed_holds (Plugged n told) old new h last was = beside_holds old new last (beside.plugged n old new told h) was
+deed_holds (Pulled n told) old new h last was = beside_holds old new last (beside.pulled n old new told h) was
+deed_holds (Removed n told) old new h last was = beside_holds old new last (beside.taken n h.pulled new told h.takes ∙ beside.pulled n old h.pulled h.answer h.pulls) was
+deed_holds (FrameTaken n told) old new h last was = beside_holds old new last (beside.frame_by (is_own (bay_at old n).unit) old new n (taken_bay (bay_at old n)) h.rest) was
+deed_holds (FrameOffered n frame told) old new h last was = beside_holds old new last (ap inner h.rest) was
 
 -- ---- runs
 
@@ -221,33 +228,12 @@ last_both (call.Said write ∷ es) fs last = last_both es fs last
 last_both (call.Gathered dev number frame fed ∷ es) fs last = last_both es fs last
 last_both (call.NotThere dev number fed ∷ es) fs last = last_both es fs last
 
-record Unpowered (deed : Deed) (later : List Deed) : Type 0 where
-  first : not_powered deed
-  rest : IsUnpowered later
-
-unpowered : (deed : Deed) (later : List Deed) → IsUnpowered (deed ∷ later) → Unpowered deed later
-unfolding not_powered
-unpowered Powered later h = absurd h
-unpowered (Moved a) later h = record { first = tt; rest = h }
-unpowered Unlent later h = record { first = tt; rest = h }
-unpowered (Wrote offset width value written) later h = record { first = tt; rest = h }
-unpowered (Supplied w bytes) later h = record { first = tt; rest = h }
-unpowered (Missed w) later h = record { first = tt; rest = h }
-unpowered (Answered id a told) later h = record { first = tt; rest = h }
-unpowered (Put n unit told) later h = record { first = tt; rest = h }
-unpowered (Plugged n told) later h = record { first = tt; rest = h }
-unpowered (Pulled n told) later h = record { first = tt; rest = h }
-unpowered (Removed n told) later h = record { first = tt; rest = h }
-unpowered (FrameTaken n told) later h = record { first = tt; rest = h }
-unpowered (FrameOffered n frame told) later h = record { first = tt; rest = h }
-
 pub held : FramesAreHeld
-held old [] new run on last was = subst (λ (m : MachineState). HoldsFrame m last) (sym run.1) was
-held old (deed ∷ later) new run on last was =
+held old [] new run last was = subst (λ (m : MachineState). HoldsFrame m last) (sym run.1) was
+held old (deed ∷ later) new run last was =
     let next : MachineState = run.1.0 in
-    let parts : Unpowered deed later = unpowered deed later on in
     subst (HoldsFrame new) (sym (last_both (deed_calls old deed next run.1.1) (calls_in next later new run.1.2) last))
-    (held next later new run.1.2 parts.rest (last_taken last (deed_calls old deed next run.1.1)) (deed_holds deed old next run.1.1 parts.first last was))
+    (held next later new run.1.2 (last_taken last (deed_calls old deed next run.1.1)) (deed_holds deed old next run.1.1 last was))
 
 pub opens_holding : OpensHolding
 opens_holding ports legacy m h =

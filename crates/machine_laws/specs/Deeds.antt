@@ -9,7 +9,7 @@ use Rattle.ahci_controller.specs.declared.wide.WideWritten.{WideWritten}
 use Rattle.ahci_machine.specs.Acts.{Steps, unlent}
 use Rattle.ahci_machine.specs.Answers.{AnswersMachine, MissesMachine, OffersFrame, SuppliesMachine, TakesFrame}
 use Rattle.ahci_machine.specs.Ports.{PlugsMachine, PullsMachine, Puts, Removes}
-use Rattle.ahci_machine.specs.Registers.{WritesMachine, renewed}
+use Rattle.ahci_machine.specs.Registers.{WritesMachine, powered}
 use Rattle.ahci_machine.specs.States.{MachineState}
 use Rattle.ahci_machine.specs.declared.act.Act.{Act}
 use Rattle.ahci_machine.specs.declared.answers.MediumError.{MediumError}
@@ -55,7 +55,7 @@ abbrev pub Does : MachineState → Deed → MachineState → Type 0
 Does old (Moved act) new = Steps old act new
 Does old Unlent new = new ≡ unlent old
 Does old (Wrote offset width value written) new = WritesMachine offset width value old written new
-Does old Powered new = new ≡ renewed old
+Does old Powered new = new ≡ powered old
 Does old (Supplied wanted bytes) new = Supplying wanted bytes old new
 Does old (Missed wanted) new = Missing wanted old new
 Does old (Answered id answer told) new = AnswersMachine id answer old told new

@@ -14,7 +14,7 @@ use Rattle.ahci_machine.specs.Registers.{lent_bytes, part_of}
 use Rattle.ahci_machine.specs.States.{IsOpeningMachine, MachineState}
 use Rattle.ahci_machine.specs.declared.act.Act.TheVariants as act
 use Rattle.machine_laws.specs.ControllerLaws.{RunsRuled, calls_in}
-use Rattle.machine_laws.specs.Deeds.{Deed, Does, Moved, Powered}
+use Rattle.machine_laws.specs.Deeds.{Deed, Does, Moved}
 
 -- bytes of a frame, or the frame, are to be written
 abbrev pub is_framed_by : Writes → Bool
@@ -42,14 +42,8 @@ pub record HoldsFrame (m : MachineState) (last : Option (List ℕ)) : Type 0 whe
 abbrev pub OpensHolding : Type 0
 OpensHolding = (ports : ℕ) (legacy : Bool) (m : MachineState) → IsOpeningMachine ports legacy m → HoldsFrame m None
 
--- power does not come meanwhile to what is behind the controller, but by a write to its registers
-abbrev pub IsUnpowered : List Deed → Type 0
-IsUnpowered [] = Unit {0}
-IsUnpowered (Powered ∷ later) = ⊥
-IsUnpowered (deed ∷ later) = IsUnpowered later
-
 abbrev pub FramesAreHeld : Type 0
-FramesAreHeld = (old : MachineState) (deeds : List Deed) (new : MachineState) (run : RunsRuled old deeds new) → IsUnpowered deeds
+FramesAreHeld = (old : MachineState) (deeds : List Deed) (new : MachineState) (run : RunsRuled old deeds new)
     → (last : Option (List ℕ)) → HoldsFrame old last → HoldsFrame new (last_taken last (calls_in old deeds new run))
 
 -- so what is lent are its bytes

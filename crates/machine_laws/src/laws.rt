@@ -61,8 +61,8 @@ pub fn controller_has_its_laws()
 }
 
 /// A law for callers; it runs no code. What the caller is told to write to the guest, a FIS or bytes of its payload, are bytes of the
-/// frame that the controller took last: those that are lent. So it is over every run of a machine in which
-/// [`power_on`](ahci_machine::Machine::power_on) is not called. The bytes of Data that go to their places are of that frame.
+/// frame that the controller took last: those that are lent. So it is over every run of a machine. The bytes of Data that go to their
+/// places are of that frame.
 pub fn taken_frames_are_lent()
     ensures opens { OpensHolding }
     ensures held { FramesAreHeld }

@@ -27,7 +27,7 @@ lawful laws old deeds new run = record {
   lawful = λ due.
       let runs : ControllerRuns old deeds new run = laws.runs old deeds new run due in
       record { runs = runs; laws = laws.have old deeds new run runs };
-  held = λ on last holds. laws.held old deeds new run on last holds;
+  held = λ last holds. laws.held old deeds new run last holds;
 }
 
 -- one call is a run

@@ -11,7 +11,7 @@ use Rattle.machine_laws.specs.Controllers.{GathersDue}
 use Rattle.machine_laws.specs.Deeds.{Deed, Moved, Unlent}
 use Rattle.machine_laws.specs.Disks.{AreReached}
 use Rattle.machine_laws.specs.Rest.{WaitsFor}
-use Rattle.machine_laws.specs.Lent.{FramesAreHeld, HoldsFrame, IsUnpowered, last_taken}
+use Rattle.machine_laws.specs.Lent.{FramesAreHeld, HoldsFrame, last_taken}
 
 -- each disk goes on to be one that calls of its own led to
 abbrev pub Keeps : MachineState → MachineState → Type 0
@@ -43,8 +43,8 @@ pub record IsLawful (old : MachineState) (deeds : List Deed) (new : MachineState
 pub record KeepsLaws (old : MachineState) (deeds : List Deed) (new : MachineState) : Type 0 where
   pub run : RunsRuled old deeds new
   pub lawful : GathersDue old → IsLawful old deeds new run
-  -- the machine goes on to have the frame of which something is to be written to the guest, where power does not come behind it
-  pub held : IsUnpowered deeds → (last : Option (List ℕ)) → HoldsFrame old last → HoldsFrame new (last_taken last (calls_in old deeds new run))
+  -- the machine goes on to have the frame of which something is to be written to the guest
+  pub held : (last : Option (List ℕ)) → HoldsFrame old last → HoldsFrame new (last_taken last (calls_in old deeds new run))
 
 -- the machine's own moves alone
 abbrev pub AreMoves : List Deed → Type 0
