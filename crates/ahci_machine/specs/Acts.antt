@@ -14,6 +14,7 @@ use Rattle.ahci_controller.specs.declared.feeding.Fed.TheVariants as fed
 use Rattle.ahci_controller.specs.declared.next.Next.{Next}
 use Rattle.ahci_controller.specs.declared.next.Next.TheVariants as next
 use Rattle.ahci_controller.specs.declared.taking.Hindrance.{Hindrance}
+use Rattle.ahci_controller.specs.declared.taking.Hindrance.TheVariants as hindered
 use Rattle.ahci_controller.specs.declared.taking.Took.{Took}
 use Rattle.fan_out.specs.FanOuts.{GivesUpThere, Sends, Tells}
 use Rattle.ahci_machine.specs.Asked.{request_of}
@@ -183,7 +184,15 @@ pub record TakesNext (took : Took) (old new : MachineState) : Type 0 where
     writing = true;
   }
 
+-- only where the link is down, or a command that cannot be served stopped the port (AHCI 1.3.1, 6.1); else a FIS waits
+abbrev pub is_lost : Hindrance → Bool
+is_lost hindered.LinkDown = true
+is_lost hindered.Failed = true
+is_lost hindered.NotReceiving = false
+is_lost hindered.Writing = false
+
 pub record LosesNext (why : Hindrance) (old new : MachineState) : Type 0 where
+  pub lost : is_lost why ≡ true
   pub there : is_some old.incoming ≡ true
   pub once : old.taken ≡ false
   pub is : hindrance old.controller ≡ Some why
