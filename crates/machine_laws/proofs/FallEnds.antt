@@ -17,7 +17,7 @@ use Rattle.fan_out.specs.declared.fan_out.FanOut.{FanOut}
 use Rattle.fan_out.specs.declared.fan_out.FanOut.TheVariants.{Device, Multiplier}
 use Rattle.fan_out.specs.declared.seat.Seat.{Seat}
 use Rattle.ahci_machine.specs.Bays.{begun}
-use Rattle.ahci_machine.specs.Registers.{link_stays, renewed}
+use Rattle.ahci_machine.specs.Registers.{link_stays, powered, renewed}
 use Rattle.ahci_machine.specs.States.{MachineState, bay_at, empty_bay}
 use Rattle.ahci_machine.specs.declared.bay.Bay.{Bay}
 use Rattle.machine_laws.proofs.Cases.{this_bay}
@@ -95,6 +95,10 @@ emptied : (m : MachineState) (n : ℕ) → way_to (renewed m) n ≡ option_to_li
 emptied m n =
     ap (λ (o : Option Stamped). option_to_list (bay_at m n).down ++ option_to_list o) (end_none m.fan n) ∙ append-nil (option_to_list (bay_at m n).down)
 
+powered_emptied : (m : MachineState) (n : ℕ) → way_to (powered m) n ≡ option_to_list (bay_at m n).down
+powered_emptied m n =
+    ap (λ (o : Option Stamped). option_to_list (bay_at m n).down ++ option_to_list o) (end_none m.fan n) ∙ append-nil (option_to_list (bay_at m n).down)
+
 wrote_by : (b : Bool) (m new : MachineState) (n : ℕ) → b ≡ false → new ≡ (if b then m else renewed m) → way_to new n ≡ option_to_list (bay_at m n).down
 wrote_by true m new n off is = absurd (false≢true (sym off))
 wrote_by false m new n off is = ap (λ (x : MachineState). way_to x n) is ∙ emptied m n
@@ -105,7 +109,7 @@ not_true false h = refl
 
 pub ports_emptied : ResetsEmptyPorts
 ports_emptied old (Wrote offset width value written) new h is n = wrote_by (link_stays written) _ new n (not_true (link_stays written) is) h.rest
-ports_emptied old Powered new h is n = ap (λ (m : MachineState). way_to m n) h ∙ emptied old n
+ports_emptied old Powered new h is n = ap (λ (m : MachineState). way_to m n) h ∙ powered_emptied old n
 ports_emptied old (Moved a) new h is n = absurd (false≢true is)
 ports_emptied old Unlent new h is n = absurd (false≢true is)
 ports_emptied old (Supplied w bytes) new h is n = absurd (false≢true is)

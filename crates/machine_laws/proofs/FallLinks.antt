@@ -35,7 +35,7 @@ use Rattle.ahci_machine.specs.Answers.{AnswersDisk, AnswersMachine, IsStale, Mis
 use Rattle.ahci_machine.specs.Bays.{begun, with_unit}
 use Rattle.ahci_machine.specs.Gathers.{GatheringState, frame_of, host_stamp}
 use Rattle.ahci_machine.specs.Ports.{PlugsIn, PlugsMachine, PullsMachine, PullsOut, Puts, TakesUnit, filled, has_bay, is_empty, on_bay}
-use Rattle.ahci_machine.specs.Registers.{link_stays, renewed}
+use Rattle.ahci_machine.specs.Registers.{for_host, kept_if, kept_powered, link_stays, renewed}
 use Rattle.ahci_machine.specs.States.{MachineState, bay_at, gathering_at}
 use Rattle.ahci_machine.specs.declared.act.Act.{Act}
 use Rattle.ahci_machine.specs.declared.act.Act.TheVariants as act
@@ -356,9 +356,24 @@ not_true : (b : Bool) → not b ≡ true → b ≡ false
 not_true true h = sym h
 not_true false h = refl
 
+-- what stays of what the controller said is no command's FIS
+for_host_ordered : (b : Bool) (n : Next) → for_host n ≡ b → ordered (kept_if b n) ≡ []
+for_host_ordered false n is = refl
+for_host_ordered true (next.Order dev slot fis) is = absurd (false≢true is)
+for_host_ordered true (next.Feed dev number slot offset len) is = refl
+for_host_ordered true (next.Payload m) is = refl
+for_host_ordered true (next.Posted m) is = refl
+for_host_ordered true (next.Counted c) is = refl
+for_host_ordered true (next.Read ask) is = refl
+for_host_ordered true next.Nothing is = refl
+
+none_ordered : (kept : Option Next) → ordered (kept_powered kept) ≡ []
+none_ordered None = refl
+none_ordered (Some n) = for_host_ordered (for_host n) n refl
+
 pub emptied : ResetsEmptyLinks
 emptied old (Wrote offset width value written) new h is = renewed_by (link_stays written) _ new (not_true (link_stays written) is) h.rest
-emptied old Powered new h is = ap leaving h
+emptied old Powered new h is = ap leaving h ∙ none_ordered old.kept
 emptied old (Moved a) new h is = absurd (false≢true is)
 emptied old Unlent new h is = absurd (false≢true is)
 emptied old (Supplied w bytes) new h is = absurd (false≢true is)

@@ -18,7 +18,7 @@ use Rattle.fan_out.specs.Straights.{StraightState, renewed as renewed_straight}
 use Rattle.fan_out.specs.declared.fan_out.FanOut.{FanOut}
 use Rattle.fan_out.specs.declared.fan_out.FanOut.TheVariants.{Device, Multiplier}
 use Rattle.fan_out.specs.declared.seat.Seat.{Seat}
-use Rattle.ahci_machine.specs.Registers.{link_stays, message_of, renewed}
+use Rattle.ahci_machine.specs.Registers.{link_stays, message_of, powered, renewed}
 use Rattle.ahci_machine.specs.States.{MachineState, opening_end}
 use Rattle.machine_laws.proofs.RisDeeds.{Rising, deed_rises, outer}
 use Rattle.machine_laws.proofs.RisFan.{FansPass, Passage, Through, fan_through, no_device, then_sends, two}
@@ -119,25 +119,48 @@ renewed_clear law old base new sound same is =
     subst (λ (m : MachineState). HaveRisen m no_frames) (sym is)
     (clear (renewed base) (end_sound law base.fan (subst IsSoundEnd (sym same) sound)) (end_none base.fan) refl refl)
 
+-- power leaves the frame that was taken
+powered_gives : (taken : Bool) (incoming : Option Stamped) → (if taken then [] else option_to_list (if taken then incoming else None)) ≡ []
+powered_gives true incoming = refl
+powered_gives false incoming = refl
+
+powered_taken : (taken : Bool) (incoming : Option Stamped) → (taken ≡ true → is_some incoming ≡ true) → taken ≡ true
+    → is_some (if taken then incoming else None) ≡ true
+powered_taken true incoming there now = there now
+powered_taken false incoming there now = absurd (false≢true now)
+
+powered_clear : FansRenew → (old new : MachineState) → IsSoundEnd old.fan → (old.taken ≡ true → is_some old.incoming ≡ true) → new ≡ powered old
+    → HaveRisen new no_frames
+powered_clear law old new sound there is = subst (λ (m : MachineState). HaveRisen m no_frames) (sym is) (record {
+  first = renewed_end old.fan;
+  sound = end_sound law old.fan sound;
+  none = end_none old.fan;
+  calls = [];
+  sends = (refl, refl);
+  gives = sym (powered_gives old.taken old.incoming);
+  taken = powered_taken old.taken old.incoming there;
+})
+
 wrote_clear : FansRenew → (stays : Bool) (old new : MachineState) (message : Bool) → IsSoundEnd old.fan → not stays ≡ true
     → new ≡ (if stays then record old { controller = new.controller; message = message } else renewed (record old { controller = new.controller; message = message })) → HaveRisen new no_frames
 wrote_clear law true old new message sound off is = absurd (false≢true off)
 wrote_clear law false old new message sound off is = renewed_clear law old (record old { controller = new.controller; message = message }) new sound refl is
 
-reset_clear : FansRenew → (deed : Deed) (old new : MachineState) → Does old deed new → is_reset deed ≡ true → IsSoundEnd old.fan → HaveRisen new no_frames
-reset_clear law (Wrote offset width value written) old new h on sound = wrote_clear law (link_stays written) old new (old.message || message_of written) sound on h.rest
-reset_clear law Powered old new h on sound = renewed_clear law old old new sound refl h
-reset_clear law (Moved a) old new h on sound = absurd (false≢true on)
-reset_clear law Unlent old new h on sound = absurd (false≢true on)
-reset_clear law (Supplied w bytes) old new h on sound = absurd (false≢true on)
-reset_clear law (Missed w) old new h on sound = absurd (false≢true on)
-reset_clear law (Answered id a told) old new h on sound = absurd (false≢true on)
-reset_clear law (Put n unit told) old new h on sound = absurd (false≢true on)
-reset_clear law (Plugged n told) old new h on sound = absurd (false≢true on)
-reset_clear law (Pulled n told) old new h on sound = absurd (false≢true on)
-reset_clear law (Removed n told) old new h on sound = absurd (false≢true on)
-reset_clear law (FrameTaken n told) old new h on sound = absurd (false≢true on)
-reset_clear law (FrameOffered n frame told) old new h on sound = absurd (false≢true on)
+reset_clear : FansRenew → (deed : Deed) (old new : MachineState) → Does old deed new → is_reset deed ≡ true → IsSoundEnd old.fan
+    → (old.taken ≡ true → is_some old.incoming ≡ true) → HaveRisen new no_frames
+reset_clear law (Wrote offset width value written) old new h on sound there = wrote_clear law (link_stays written) old new (old.message || message_of written) sound on h.rest
+reset_clear law Powered old new h on sound there = powered_clear law old new sound there h
+reset_clear law (Moved a) old new h on sound there = absurd (false≢true on)
+reset_clear law Unlent old new h on sound there = absurd (false≢true on)
+reset_clear law (Supplied w bytes) old new h on sound there = absurd (false≢true on)
+reset_clear law (Missed w) old new h on sound there = absurd (false≢true on)
+reset_clear law (Answered id a told) old new h on sound there = absurd (false≢true on)
+reset_clear law (Put n unit told) old new h on sound there = absurd (false≢true on)
+reset_clear law (Plugged n told) old new h on sound there = absurd (false≢true on)
+reset_clear law (Pulled n told) old new h on sound there = absurd (false≢true on)
+reset_clear law (Removed n told) old new h on sound there = absurd (false≢true on)
+reset_clear law (FrameTaken n told) old new h on sound there = absurd (false≢true on)
+reset_clear law (FrameOffered n frame told) old new h on sound there = absurd (false≢true on)
 
 -- ---- each deed
 
@@ -168,7 +191,7 @@ one_deed : Laws → (deed : Deed) (old new : MachineState) (does : Does old deed
 one_deed laws deed old new does was h = by_reset (is_reset deed) refl
   where
     by_reset : (b : Bool) → is_reset deed ≡ b → HaveRisen new (more_frames b was (sent_by old deed new does) (came_by old deed new does))
-    by_reset true on = reset_clear laws.1 deed old new does on (sound_now laws old was h)
+    by_reset true on = reset_clear laws.1 deed old new does on (sound_now laws old was h) h.taken
     by_reset false on = more old new was (came_by old deed new does) (sent_by old deed new does) h (deed_rises deed old new does on h.taken)
 
 pub goes : Laws → GoesOnRising
