@@ -330,7 +330,7 @@ fn write_each<W: fmt::Write>(
     let mut before = marks.first;
     for number in 0..32_u8 {
         if value & bit_of(number) != 0 {
-            write!(f, "{before}{what} {number}")?;
+            write_numbered(before, what, number, f)?;
             before = marks.between;
         }
     }
@@ -339,4 +339,13 @@ fn write_each<W: fmt::Write>(
     } else {
         marks.last
     })
+}
+
+fn write_numbered<W: fmt::Write>(
+    before: &str,
+    what: &str,
+    number: u8,
+    f: &mut fmt::Formatter<W>,
+) -> fmt::Result {
+    write!(f, "{before}{what} {number}")
 }
