@@ -10,6 +10,7 @@ use Rattle.multiplier.specs.State.{PmState}
 use Rattle.hba_fbs.specs.Sending.{Data, Gives, Nothing, Order, Outgoing, Unreadable, outgoing}
 use Rattle.hba_fbs.specs.Views.{Port}
 use Rattle.hba_laws.specs.Isolation.{fails_by_bus}
+use Rattle.hba_driver.specs.declared.mode.Mode.TheVariants.{Switching}
 use Rattle.hba_driver.specs.Drivers.{Driver}
 use Rattle.hba_driver.specs.HostTurns.{Host}
 use Rattle.hba_driver.specs.declared.request.Request.{Request}
@@ -22,8 +23,9 @@ use Rattle.pm_world.specs.declared.step.Step.{Step}
 use Rattle.pm_world.specs.declared.step.Step.TheVariants as step
 use Rattle.pm_world.specs.declared.step.Answer.{Answer}
 use Rattle.pm_world.specs.declared.step.Answer.TheVariants as answer
-use Rattle.world_rests.specs.Rests.{DoesNothing, HasRound, IsAtRest, is_still}
+use Rattle.world_rests.specs.Rests.{DoesNothing, IsAtRest, IsOfRound, is_still}
 use Rattle.world_rests.specs.Laws.{StillRoundsRest}
+use Rattle.world_rests.proofs.Well.{size_in}
 use Rattle.world_rests.proofs.Parts.{AtBoth, AtDevice, at_both, at_device, set_same}
 
 -- ---- a device
@@ -206,4 +208,5 @@ stayed old (s ∷ steps) [] new spares still run = absurd run
 pub still_rounds_rest : PortsGoOn → StillRoundsRest
 still_rounds_rest goes config units fits before told old made steps answers new run still round =
     let s : StayedAt old steps new = stayed old steps answers new (goes config units fits before told old made).goes.next.gives still run in
-    (s.same, λ t of. let i = round t of in s.each i.0 t i.1)
+    let size : length old.devices ≡ config.ports = size_in Switching config units fits before told old made in
+    (s.same, λ t of. let i = round t (subst (λ (ports : ℕ). IsOfRound ports t) size of) in s.each i.0 t i.1)

@@ -361,6 +361,41 @@ opening_well mode config units fits =
       host = hosts_stay_sound.opens mode 0 (zeroed config.memory) (zeroed_right config.memory (sized config (length units) fits));
     }
 
+-- a step leaves as many devices as there were
+module _ (old : Places) (a : Answer) (new : Places) where
+  alone_size : (n : ℕ) (R : Place → Outcome → Place → Type 0) → OnDevice old n (Ok a) new R → length new.devices ≡ length old.devices
+  alone_size n R rule =
+      let d : AtDevice old n (Ok a) new R = at_device old n a new R rule in
+      ap (λ (w : Places). length w.devices) d.new_is ∙ length-set old.devices n d.after
+
+  both_size : (n : ℕ) (R : Place → PmState → Outcome → Place → PmState → Type 0) → OnDeviceAndMultiplier old n (Ok a) new R → length new.devices ≡ length old.devices
+  both_size n R rule =
+      let d : AtBoth old n (Ok a) new R = at_both old n a new R rule in
+      ap (λ (w : Places). length w.devices) d.new_is ∙ length-set old.devices n d.after
+
+size_after : (old : Places) (s : Step) (a : Answer) (new : Places) → Rule old s (Ok a) new → length new.devices ≡ length old.devices
+size_after old (step.Came n) a new rule = alone_size old a new n (CameRule n) rule
+size_after old (step.Gone n) a new rule = alone_size old a new n (GoneRule n) rule
+size_after old (step.DiskSend n) a new rule = alone_size old a new n (DiskSendRule n) rule
+size_after old (step.Inject n bytes) a new rule = alone_size old a new n (InjectRule n bytes) rule
+size_after old (step.DiskTake n) a new rule = alone_size old a new n (DiskTakeRule n) rule
+size_after old (step.PmPresence n) a new rule = both_size old a new n (PmPresenceRule n) rule
+size_after old (step.PmFromDevice n) a new rule = both_size old a new n (PmFromDeviceRule n) rule
+size_after old (step.PmDown n) a new rule = both_size old a new n (PmDownRule n) rule
+size_after old other a new rule = ap (λ (w : Places). length w.devices) rule.1
+
+run_size : (old : Places) (steps : List Step) (answers : List Answer) (new : Places) → Run old steps answers new → length new.devices ≡ length old.devices
+run_size old [] [] new run = ap (λ (w : Places). length w.devices) run
+run_size old (s ∷ steps) (a ∷ answers) new run = run_size run.0 steps answers new run.2 ∙ size_after old s a run.0 run.1
+run_size old [] (a ∷ answers) new run = absurd run
+run_size old (s ∷ steps) [] new run = absurd run
+
+-- a world has as many devices as its configuration has ports
+pub size_in : (mode : Mode) (config : Config) (units : List Attached) → is_config config (length units) ≡ true → (before : List Step) (told : List Answer) (now : Places)
+    → Run (new_world_in mode config units) before told now → length now.devices ≡ config.ports
+size_in mode config units fits before told now run =
+    run_size (new_world_in mode config units) before told now run ∙ length-map units (opening config.capacity) ∙ (fits_of config (length units) fits).same
+
 pub well_in : (mode : Mode) (config : Config) (units : List Attached) → is_config config (length units) ≡ true → (before : List Step) (told : List Answer) (now : Places)
     → Run (new_world_in mode config units) before told now → IsWell mode now
 well_in mode config units fits before told now run = run_well mode (new_world_in mode config units) before told now (opening_well mode config units fits) run

@@ -25,7 +25,7 @@ StillRoundsRest =
     (config : Config) (units : List Attached) → is_config config (length units) ≡ true
     → (before : List Step) (told : List Answer) (old : Places) → Run (new_world config units) before told old
     → (steps : List Step) (answers : List Answer) (new : Places) → Run old steps answers new
-    → list_all is_still answers ≡ true → HasRound (length old.devices) steps → (new ≡ old) × IsAtRest old
+    → list_all is_still answers ≡ true → HasRound config.ports steps → (new ≡ old) × IsAtRest old
 
 -- In a world at rest nothing moves, and its host waits.
 abbrev pub RestedHaveDone : Type 0
@@ -39,7 +39,7 @@ abbrev pub RestsAfter : Places → List Step → Places → Type 0
 RestsAfter old steps new =
     (config : Config) (units : List Attached) → is_config config (length units) ≡ true
     → (before : List Step) (told : List Answer) → Run (new_world config units) before told old
-    → HasRound (length old.devices) steps
+    → HasRound config.ports steps
     → (new ≡ old) × IsAtRest old × NothingMoves old × HostWaits old.host
 
 -- the run of these steps went to its end, and this says whether none of them did anything
