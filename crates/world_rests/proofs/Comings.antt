@@ -1,11 +1,11 @@
 -- For `rested_have_done`. What each port knows of the connections of its device, and of which connections the frames are that
 -- are on their way up. Connections come one after another, and each removal is recorded before the next coming.
 use Rattle.std.proofs.Common.{◌≡◌, ◌≢◌, ◌⊎◌, ℕ, zero, suc, ◌+◌, ◌<◌, ◌≤◌, ◌==◌, Bool, true, false, List, [], ◌∷◌, ◌++◌, length, map, replicate, Option, Some, None, refl, sym, ap, subst, ◌∙◌, inl, inr, arith}
-use Rattle.std.specs.Prelude.{slice_get, slice_set, slice_index_or, is_none, is_some, nat_le, if◌then◌else◌, IsTrue, Ok, MatchBool, MatchOption, ◌&&◌, not}
-use Rattle.std.proofs.lemmas.Bool.{cases_eq, eq-eqb, leb-true, true≢false}
+use Rattle.std.specs.Prelude.{slice_get, slice_index_or, is_none, is_some, nat_le, if◌then◌else◌, IsTrue, Ok, MatchBool, MatchOption}
+use Rattle.std.proofs.lemmas.Bool.{eq-eqb, leb-true, true≢false}
 use Rattle.std.proofs.lemmas.Option.{same_Some}
 use Rattle.fis_view.specs.Frames.{Stamped}
-use Rattle.pm_ports.specs.Port.{PortState, came_refusal, empty_port, gone_refusal, is_gone, is_present, is_up_to, left_in, with_connection, with_down, with_removal, with_up}
+use Rattle.pm_ports.specs.Port.{PortState, came_refusal, empty_port, gone_refusal, is_present, is_up_to, with_connection, with_down, with_removal, with_up}
 use Rattle.pm_ports.specs.declared.port.GoneError.TheVariants.{NotThere}
 use Rattle.pm_ports.specs.declared.port.PortError.TheVariants.{AlreadyThere, OldConnection}
 use Rattle.multiplier.specs.Arbiter.{control_port}
@@ -17,8 +17,8 @@ use Rattle.multiplier.specs.declared.multiplier.Passed.TheVariants as passed
 use Rattle.multiplier.proofs.Door.{each_port, gives, left_is, other_port, this_port, up_to}
 use Rattle.pm_world.specs.Attached.{Attached}
 use Rattle.pm_world.specs.DevicePaths.{ReachedAreOrderly}
-use Rattle.pm_world.specs.Places.{IsOrderly, Place, Places, Queue, is_config, new_world_in, opening, with_device, with_multiplier}
-use Rattle.pm_world.specs.Rules.{CameRule, DiskSendRule, DiskTakeRule, GoneRule, InjectRule, OnDevice, OnDeviceAndMultiplier, Outcome, PmDownRule, PmFromDeviceRule, PmFromHostRule, PmPresenceRule, PmUpRule, Rule, Run, came_refusal as place_came_refusal, gone_refusal as place_gone_refusal, largest, recorded}
+use Rattle.pm_world.specs.Places.{IsOrderly, Place, Places, Queue, new_world_in, opening}
+use Rattle.pm_world.specs.Rules.{CameRule, DiskSendRule, DiskTakeRule, GoneRule, InjectRule, OnDevice, OnDeviceAndMultiplier, Outcome, PmDownRule, PmFromDeviceRule, PmFromHostRule, PmPresenceRule, PmUpRule, Rule, Run, largest, recorded}
 use Rattle.pm_world.specs.Runs.{IsReached}
 use Rattle.pm_world.specs.declared.link.Change.{Change}
 use Rattle.pm_world.specs.declared.link.Change.TheVariants as change

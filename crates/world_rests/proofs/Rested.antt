@@ -1,15 +1,14 @@
 -- For `rested_have_done`. Where frames stand in a world at rest, and for what its host waits.
-use Rattle.std.proofs.Common.{◌≡◌, ◌≢◌, ◌⊎◌, ℕ, zero, suc, ◌+◌, ◌-◌, ◌<◌, ◌≤◌, ◌==◌, cond, Bool, true, false, IsTrue, List, [], ◌∷◌, ◌++◌, length, Option, Some, None, refl, sym, ap, subst, ◌∙◌, inl, inr, arith}
-use Rattle.std.specs.Prelude.{slice_get, ◌&&◌, ◌||◌, nat_lt, is_some, if◌then◌else◌, Ok, Err, MatchBool, MatchOption}
+use Rattle.std.proofs.Common.{◌≡◌, ◌≢◌, ◌⊎◌, ℕ, zero, suc, ◌+◌, ◌-◌, ◌<◌, ◌≤◌, ◌==◌, cond, Bool, true, false, IsTrue, List, [], ◌++◌, length, Option, Some, None, refl, sym, ap, subst, ◌∙◌, inl, inr, arith}
+use Rattle.std.specs.Prelude.{slice_get, ◌||◌, nat_lt, is_some, if◌then◌else◌, Ok, Err, MatchBool, MatchOption}
 use Rattle.std.specs.List.{find, range_with_len}
 use Rattle.std.specs.Option.{option_or}
 use Rattle.std.proofs.lemmas.Bool.{and_parts, cases_eq, eq-eqb, false≢true, true≢false, ltb-true, ne_eqb}
 use Rattle.std.proofs.lemmas.List.Folds.{find-append}
-use Rattle.std.proofs.lemmas.Option.{same_Some}
 use Rattle.fis_view.specs.Frames.{Stamped}
 use Rattle.pm_registers.specs.Port.{passes}
 use Rattle.pm_registers.specs.RegisterMap as map
-use Rattle.multiplier.specs.Arbiter.{circle_after, control_port, next_served}
+use Rattle.multiplier.specs.Arbiter.{control_port, next_served}
 use Rattle.multiplier.specs.Rules.{FromHostRule, ToControl, ToDevice, ToNobody, ToPort}
 use Rattle.multiplier.specs.State.{PmState, held, next_place, passes_to, pm_port, port_at, ready}
 use Rattle.multiplier.specs.declared.multiplier.PmRefusal.TheVariants as refusal
@@ -29,12 +28,12 @@ use Rattle.pm_world.specs.declared.step.Answer.TheVariants as answer
 use Rattle.pm_world.specs.declared.step.Step.TheVariants as step
 use Rattle.pm_world.specs.declared.step.StepError.TheVariants as error
 use Rattle.world_rests.specs.Laws.{RestedHaveDone}
-use Rattle.world_rests.specs.Rests.{DoesNothing, IsAtRest, NothingMoves, PortRests, is_still}
+use Rattle.world_rests.specs.Rests.{IsAtRest, NothingMoves, PortRests, is_still}
 use Rattle.world_rests.specs.Waits.{HostWaits}
 use Rattle.world_rests.proofs.Comings.{IsKnown, Of, all, known, known_reached}
 use Rattle.world_rests.proofs.Idle.{driver_waits}
 use Rattle.world_rests.proofs.Parts.{get_below, get_there}
-use Rattle.world_rests.proofs.Well.{HasSome, IsWell, well_in}
+use Rattle.world_rests.proofs.Well.{IsWell, well_in}
 
 neither : (a b : Bool) → (a || b) ≡ false → (a ≡ false) × (b ≡ false)
 neither true b e = absurd (true≢false e)
@@ -293,11 +292,14 @@ module _ (now : Places) (w : IsWell Switching now) (are : IsKnown now) (rests : 
     passed : n < 15 → (IsTrue place.plugged → map.forwards now.multiplier.registers n ≡ true) → (place.up.frames ≡ []) × ((port_at now.multiplier n).up ≡ None) × (IsTrue place.plugged → IsSilentAttached place.unit)
     passed low opens =
         let none : (port_at now.multiplier n).up ≡ None = holds_none low opens in
-        let empty : place.up.frames ≡ [] = linked none in
-        (empty, none, λ on. elim (silent on) [
-          | inl quiet ↦ quiet
-          | inr full ↦ absurd (not_full place.up (w.devices n place at).0 empty full)
-        ])
+        let empty : place.up.frames ≡ [] = linked none in (
+          empty,
+          none,
+          λ on. elim (silent on) [
+            | inl quiet ↦ quiet
+            | inr full ↦ absurd (not_full place.up (w.devices n place at).0 empty full)
+          ],
+        )
 
   most : length now.devices ≤ 15 → (n : ℕ) (place : Place) → slice_get now.devices n ≡ Some place → PortRests n place now.multiplier
   most few n place at =

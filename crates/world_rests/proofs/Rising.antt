@@ -1,5 +1,5 @@
 -- For `each_takes_turns`. Which frames go up and are taken over a run, by their ports.
-use Rattle.std.proofs.Common.{◌≡◌, ◌≢◌, ℕ, zero, suc, ◌+◌, ◌*◌, ◌<◌, ◌≤◌, ◌==◌, Bool, true, false, IsTrue, All, List, [], ◌∷◌, ◌++◌, append_assoc, length, map, Option, Some, None, refl, sym, ap, subst, ◌∙◌, arith, length-append}
+use Rattle.std.proofs.Common.{◌≡◌, ℕ, zero, suc, ◌+◌, ◌*◌, ◌≤◌, ◌==◌, Bool, true, false, IsTrue, All, List, [], ◌∷◌, ◌++◌, append_assoc, length, map, Option, Some, None, refl, sym, ap, subst, ◌∙◌, arith, length-append}
 use Rattle.std.specs.Prelude.{Ok, MatchBool, MatchOption, is_none, if◌then◌else◌}
 use Rattle.std.proofs.lemmas.List.{append-nil, length-map, map-append}
 use Rattle.fis_view.specs.Frames.{Stamped}
@@ -9,7 +9,7 @@ use Rattle.pm_ports.specs.Port.{came_refusal as port_came_refusal, gone_refusal 
 use Rattle.multiplier.specs.Arbiter.{IsServedInTurn, StaysReady, control_port}
 use Rattle.multiplier.specs.Between.{Answer as Answers, FromPort, Gives, Notice}
 use Rattle.multiplier.specs.Rules.{FromHostRule, ToControl, ToDevice, ToNobody, ToPort, with_device as connected, without_device}
-use Rattle.multiplier.specs.State.{PmState, control_stamp, next_place, passes_to, pm_port, port_at, ready, rising}
+use Rattle.multiplier.specs.State.{PmState, control_stamp, next_place, passes_to, pm_port, port_at, ready}
 use Rattle.multiplier.specs.declared.multiplier.Passed.{Passed}
 use Rattle.multiplier.specs.declared.multiplier.Passed.TheVariants as passed
 use Rattle.multiplier.proofs.Door.{gives}
@@ -26,10 +26,10 @@ use Rattle.pm_world.specs.declared.step.Step.{Step}
 use Rattle.pm_world.specs.declared.step.Step.TheVariants as step
 use Rattle.pm_world.specs.declared.step.Answer.{Answer}
 use Rattle.pm_world.specs.declared.step.Answer.TheVariants as answer
-use Rattle.world_rests.specs.Turns.{EachTakesTurns, HasOne, TakesTurns, rose, times_of, took, took_from}
+use Rattle.world_rests.specs.Turns.{EachTakesTurns, HasOne, rose, times_of, took, took_from}
 use Rattle.world_rests.proofs.Parts.{at_both, at_device, reached_after}
 use Rattle.world_rests.proofs.Served.{WaitsFifteen, front_each_sixteenth, served_each_sixteenth, times_both}
-use Rattle.world_rests.proofs.Well.{IsWell, well_after, well_reached}
+use Rattle.world_rests.proofs.Well.{IsWell, well_reached}
 
 -- no frame went up, and the host took none
 abbrev IsQuiet : Answer → Type 0

@@ -1,15 +1,15 @@
 -- For `rested_have_done`. What holds of every world that a run from a new one leads to: each link has room for a frame, the
 -- multiplier has as many ports as there are devices, and the host is sound.
-use Rattle.std.proofs.Common.{◌≡◌, ◌≢◌, ℕ, zero, suc, ◌<◌, ◌≤◌, ◌==◌, Bool, true, false, List, [], ◌∷◌, length, map, Option, Some, None, refl, sym, ap, subst, ◌∙◌, arith, rules}
-use Rattle.std.specs.Prelude.{slice_get, slice_set, is_none, is_some, nat_le, if◌then◌else◌, Ok, MatchOption, MatchBool, ◌&&◌, ◌%◌, bit_and}
-use Rattle.std.proofs.lemmas.Bool.{and_parts, eqb-true, leb-true}
+use Rattle.std.proofs.Common.{◌≡◌, ℕ, zero, suc, ◌<◌, ◌≤◌, ◌==◌, Bool, true, false, List, [], ◌∷◌, length, map, Option, Some, None, refl, sym, ap, subst, ◌∙◌, arith, rules}
+use Rattle.std.specs.Prelude.{slice_get, is_none, is_some, nat_le, if◌then◌else◌, Ok, MatchOption, MatchBool, ◌&&◌, ◌%◌, bit_and}
+use Rattle.std.proofs.lemmas.Bool.{eqb-true, leb-true}
 use Rattle.std.proofs.lemmas.Option.{same_Some}
 use Rattle.std.proofs.lemmas.List.{length-set, length-map}
 use Rattle.fis_view.specs.Frames.{Stamped}
 use Rattle.host_memory.specs.Memory.{is_memory_size, zeroed}
 use Rattle.pm_registers.specs.RegisterMap.{RegisterMap, control_written, port_at as registers_at, register_at, settled, summary, with_port, written}
 use Rattle.pm_registers.specs.Port.{port_written}
-use Rattle.pm_control.specs.Answers.{registers_after_request, registers_left}
+use Rattle.pm_control.specs.Answers.{registers_after_request}
 use Rattle.pm_control.specs.Requests.{request_in}
 use Rattle.pm_control.specs.declared.request.Request.{Request}
 use Rattle.pm_control.specs.declared.request.Request.TheVariants.{Write}
@@ -27,7 +27,7 @@ use Rattle.hba_driver.specs.HostTurns.{Does, Host, HostTurn, Polled, Pushed, Put
 use Rattle.hba_driver.specs.declared.request.Request.{Request as Asked}
 use Rattle.hba_driver.proofs.Door.{hosts_stay_sound, sound_turn, zeroed_right}
 use Rattle.pm_world.specs.Attached.{Attached}
-use Rattle.pm_world.specs.Places.{Place, Places, Queue, is_config, new_world_in, opening, opening_host_in, with_device, with_downward, with_host, with_multiplier, with_upward}
+use Rattle.pm_world.specs.Places.{Place, Places, Queue, is_config, new_world_in, opening, with_device, with_downward, with_host, with_multiplier, with_upward}
 use Rattle.pm_world.specs.Rules.{CameActs, CameRule, DiskSendActs, DiskSendRule, DiskTakeActs, DiskTakeRule, GoneActs, GoneRule, HostPushRule, HostTakeRule, InjectActs, InjectRule, OnDevice, OnDeviceAndMultiplier, Outcome, PmDownRule, PmFromDeviceRule, PmFromHostRule, PmPresenceRule, PmUpRule, PollRule, PutRule, Rule, Run, SubmitRule, TickRule, recorded}
 use Rattle.pm_world.specs.Runs.{IsReached}
 use Rattle.pm_world.specs.declared.link.Change.{Change}
