@@ -1,0 +1,48 @@
+-- For `rested`. The steps of a round of one port, and what a world that did nothing in one is.
+use Rattle.std.proofs.Common.{◌≡◌, ◌≢◌, ℕ, zero, suc, ◌<◌, Bool, true, false, List, [], ◌∷◌, length, map, Some, refl, sym, ap, subst, ◌∙◌, arith}
+use Rattle.std.specs.Prelude.{◌↔◌, Result, Ok, Err, slice_get}
+use Rattle.std.proofs.lemmas.List.{length-map}
+use Rattle.pm_world.specs.Attached.{Attached}
+use Rattle.pm_world.specs.Places.{Places, is_config, new_world}
+use Rattle.pm_world.specs.Rules.{Run}
+use Rattle.pm_world.specs.declared.step.Answer.{Answer}
+use Rattle.pm_world.specs.declared.step.Config.{Config}
+use Rattle.pm_world.specs.declared.step.Step.{Step}
+use Rattle.pm_world.specs.declared.step.Step.TheVariants as step
+use Rattle.world_rests.specs.Laws.{RestsAfter}
+use Rattle.world_rests.specs.Rests.{HasRound, IsOfRound, NothingMoves}
+use Rattle.world_rests.specs.Waits.{HostWaits}
+
+abbrev pub round : List Step
+round = step.PmPresence 0 ∷ step.DiskTake 0 ∷ step.DiskSend 0 ∷ step.PmFromDevice 0 ∷ step.PmDown 0 ∷ step.PmFromHost ∷ step.PmUp ∷ step.HostTake ∷ step.Tick ∷ step.HostPush ∷ []
+
+abbrev pub config : Config
+config = record { ports = 1; capacity = 2; memory = 0x200000 }
+
+first : (n : ℕ) → n < 1 → 0 ≡ n
+first zero low = refl
+first (suc n) low = absurd (omega (arith, low))
+
+has_round : HasRound 1 round
+has_round (step.PmPresence n) of = (0, ap (λ (k : ℕ). Some (step.PmPresence k)) (first n of))
+has_round (step.DiskTake n) of = (1, ap (λ (k : ℕ). Some (step.DiskTake k)) (first n of))
+has_round (step.DiskSend n) of = (2, ap (λ (k : ℕ). Some (step.DiskSend k)) (first n of))
+has_round (step.PmFromDevice n) of = (3, ap (λ (k : ℕ). Some (step.PmFromDevice k)) (first n of))
+has_round (step.PmDown n) of = (4, ap (λ (k : ℕ). Some (step.PmDown k)) (first n of))
+has_round step.PmFromHost of = (5, refl)
+has_round step.PmUp of = (6, refl)
+has_round step.HostTake of = (7, refl)
+has_round step.Tick of = (8, refl)
+has_round step.HostPush of = (9, refl)
+has_round other of = absurd of
+
+pub fits : {A E : Type 0} (r : Result A E) (e : E) (w : A) (b : Bool) → ((r ≡ Err e) ↔ (b ≡ false)) → r ≡ Ok w → b ≡ true
+fits r e w true both is = refl
+fits r e w false both is = absurd (let wrong : Ok w ≡ Err e = sym is ∙ both.1 refl in cc)
+
+pub moves_none : {X : Type 0} (seen : X → Attached) (items : List X) (opened old new : Places) (steps : List Step) (answers : List Answer) → opened ≡ new_world config (map seen items)
+    → is_config config (length items) ≡ true → Run opened steps answers old → RestsAfter old round new → NothingMoves new × HostWaits new.host
+moves_none seen items opened old new steps answers is right run rests =
+    let fit : is_config config (length (map seen items)) ≡ true = ap (λ (n : ℕ). is_config config n) (length-map items seen) ∙ right in
+    let r = rests config (map seen items) fit steps answers (subst (λ (w : Places). Run w steps answers old) is run) has_round in
+    (subst NothingMoves (sym r.0) r.2, subst (λ (w : Places). HostWaits w.host) (sym r.0) r.3)

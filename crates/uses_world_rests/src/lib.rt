@@ -1,0 +1,49 @@
+//! A caller that has the laws of a world at rest for a world that it made.
+#![tactic(auto)]
+
+ghost use Rattle.std.specs.Prelude.{IfSome};
+ghost use Rattle.world_rests.specs.Rests.{NothingMoves};
+ghost use Rattle.world_rests.specs.Waits.{HostWaits};
+
+use pm_world::{Config, PortDevice, Step, World};
+use std::alloc::Global;
+
+/// One step of each actor of a world with one port.
+const ROUND: [Step; 10] = [
+    Step::PmPresence(0),
+    Step::DiskTake(0),
+    Step::DiskSend(0),
+    Step::PmFromDevice(0),
+    Step::PmDown(0),
+    Step::PmFromHost,
+    Step::PmUp,
+    Step::HostTake,
+    Step::Tick,
+    Step::HostPush,
+];
+
+/// Makes a world of one unit, does these steps, and then a round. Gives the world if the round did nothing: then nothing moves,
+/// and the host waits, whatever the steps were.
+pub fn rested<D: PortDevice + Drop>(
+    alloc: Global,
+    units: Vec<D>,
+    steps: &[Step],
+) -> Option<World<D>>
+    ensures { IfSome result (λ world. NothingMoves world × HostWaits world.host) }
+{
+    let config = Config {
+        ports: 1,
+        capacity: 2,
+        memory: 0x20_0000,
+    };
+    let Ok(mut world) = World::new(alloc, config, units) else {
+        return None;
+    };
+    let Ok(_) = world.run(alloc, steps) else {
+        return None;
+    };
+    let Ok(true) = world_rests::rests(&mut world, alloc, &ROUND) else {
+        return None;
+    };
+    Some(world)
+}

@@ -1,0 +1,4 @@
+pub mod Rests
+pub mod Waits
+pub mod Turns
+pub mod Laws

@@ -1,0 +1,40 @@
+//! Laws, which run no code.
+
+ghost use Rattle.world_rests.specs.Laws.{IdleDriversWait, RestedHaveDone, StillRoundsRest};
+ghost use Rattle.world_rests.specs.Turns.{EachTakesTurns};
+
+/// Holds of any driver with FIS-based switching for which a tick has nothing to do, as a tick that is answered `Idle` says. Its
+/// port is open, and no fault is to be cleared. Slot 31 waits for an answer, a signature or a notification. Slot 30 waits for an
+/// answer or for the end of a software reset, or nothing is due for any device. The requests that wait are for devices that
+/// are not ready, and those that are issued are issued at the port.
+pub fn idle_drivers_wait()
+    ensures { IdleDriversWait }
+{}
+
+/// Holds of each world that a run from a new one with FIS-based switching leads to. Steps among which is each step of a round,
+/// and which are all answered `Idle` or `Blocked`, leave the world, and it is at rest.
+pub fn still_rounds_rest()
+    ensures { StillRoundsRest }
+{
+    pm_world::ports_go_on();
+}
+
+/// Holds of each world at rest that a run from a new one with FIS-based switching leads to, whatever its devices are. Nothing is
+/// on its way between multiplier and host, or down to a device, and the control port has nothing to send. At each port that
+/// forwards, or without a device, nothing is on its way up, and the device has nothing to send. Behind a port that does not
+/// forward what comes up waits. The host port has nothing to send, and the driver waits.
+pub fn rested_have_done()
+    ensures { RestedHaveDone }
+{
+    pm_world::paths_go_on();
+}
+
+/// Holds over every run of each world, in either mode, for each place of the multiplier that has a frame whenever one goes up. Between two
+/// frames of the place at most 15 of others go up. So a frame is taken once the host took those that were on its link, and 16 for
+/// each frame that was before it at its place, and for itself.
+pub fn each_takes_turns()
+    ensures { EachTakesTurns }
+{
+    multiplier::waits_for_at_most_fifteen();
+    pm_world::paths_go_on();
+}

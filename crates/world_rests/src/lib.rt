@@ -1,0 +1,10 @@
+//! When a world (`pm_world`) is at rest: no step of a round does anything. Then nothing is on its way but behind ports that
+//! do not forward, the host port has nothing to send, and the driver waits for others alone. And how many frames may go before
+//! one on its way up.
+#![tactic(auto)]
+
+mod laws;
+mod round;
+
+pub use laws::{each_takes_turns, idle_drivers_wait, rested_have_done, still_rounds_rest};
+pub use round::{is_still, rests};
