@@ -25,4 +25,4 @@ pub mod FallHeard
 pub mod FallData
 pub mod FallOrders
 pub mod FallEnds
-pub mod Rest
+pub mod Awaiting

@@ -1,4 +1,4 @@
-use Rattle.machine_laws.proofs.Rest.{owed}
+use Rattle.machine_laws.proofs.Awaiting.{owed}
 use Rattle.machine_laws.proofs.rest.rest_is_owed.Goals as goal
 
 pub returns : goal.returns
