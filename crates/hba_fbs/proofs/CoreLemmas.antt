@@ -1,6 +1,5 @@
 -- What the core decides, and what the shell makes of it.
 use Rattle.std.proofs.Common.{◌≡◌, ℕ, Bool, true, false, List, refl, sym, ◌∙◌, ap, subst, Option, Some, None}
-use Rattle.std.specs.Prelude.{IfSome}
 use Rattle.std.proofs.lemmas.Bool.{true≢false}
 use Rattle.fis_view.specs.declared.view.Fis.{Fis}
 use Rattle.fis_view.specs.declared.view.Fis.TheVariants as kind
@@ -9,7 +8,6 @@ use Rattle.rx_area.specs.declared.area.Posted.{Posted}
 use Rattle.slots.specs.Slots.{DeviceSlots}
 use Rattle.hba_fbs.specs.declared.hearing.Heard.{Heard}
 use Rattle.hba_fbs.specs.declared.report.TakeReport.{TakeReport}
-use Rattle.hba_fbs.specs.declared.report.Wrote.{Wrote}
 use Rattle.hba_fbs.specs.declared.room.Room.{Room}
 use Rattle.hba_fbs.specs.declared.room.Room.TheVariants.{Bytes, NoTable, Whole}
 use Rattle.hba_fbs.specs.declared.state.DeviceState.{DeviceState}
@@ -27,16 +25,6 @@ heard_deaf own state room (kind.Payload f) none = absurd (true≢false none)
 heard_deaf own state NoTable other none = refl
 heard_deaf own state (Bytes total) other none = refl
 heard_deaf own state Whole other none = refl
-
--- nothing is written where there is no table
-pub carries_none : (fis : Fis) → carries false fis ≡ false
-carries_none (kind.Payload f) = refl
-carries_none other = refl
-
--- a whole table has each place
-pub any_reaches : (wrote : Option Wrote) → IfSome wrote (λ w. Unit {0})
-any_reaches None = tt
-any_reaches (Some w) = tt
 
 decides_as : (old : Port) (dev : ℕ) (s t : Room) (fis : Option Fis) (report : TakeReport) (new : Port) → decided dev (view_of dev old) s fis ≡ decided dev (view_of dev old) t fis → Decides old dev s fis report new → Decides old dev t fis report new
 decides_as old dev s t fis report new e d = record {

@@ -1,6 +1,6 @@
 -- Free slots stay free, so each issued slot keeps its command.
 use Rattle.std.proofs.Common.{◌≡◌, ℕ, List, get_or, replicate, refl, ◌∙◌, ap, subst, inl, inr, Option, Some, None, arith}
-use Rattle.std.specs.Prelude.{IfSome, MatchOption}
+use Rattle.std.specs.Prelude.{MatchOption}
 use Rattle.std.proofs.lemmas.Bool.{cases_eq, cases_lt, eq-eqb}
 use Rattle.std.proofs.lemmas.List.{get_or-replicate, get_or_past}
 use Rattle.std.proofs.Math.ListN.{get_or-map, length-replicate}
@@ -28,11 +28,6 @@ here_by dev (Some i) h = rw (eq-eqb i.dev dev h) refl
 -- what is issued in a slot of the device is its own
 pub own_here : (dev slot : ℕ) (t : Slots) → MatchOption (issue_at t slot) ⊥ (λ i. i.dev ≡ dev) → own_issue (slots_of dev t) slot ≡ issue_at t slot
 own_here dev slot t h = own_at dev t slot ∙ here_by dev (issue_at t slot) h
-
--- what holds of the device of an issue holds of the device that is its owner
-pub of_owner : (P : ℕ → Type 0) (dev : ℕ) (o : Option Issue) → MatchOption o ⊥ (λ i. i.dev ≡ dev) → IfSome o (λ i. P i.dev) → P dev
-of_owner P dev None owner holds = absurd owner
-of_owner P dev (Some i) owner holds = subst P owner holds
 
 still_free : (dev slot : ℕ) (old new : Slots) (o : Option Issue) → issue_at new slot ≡ o → LeavesOthers dev old new → own_issue (slots_of dev new) slot ≡ None → issue_at old slot ≡ None → o ≡ None
 still_free dev slot old new None is others own free = refl

@@ -1,8 +1,7 @@
 -- A FIS that is heard, from the clauses of the call that hears it.
-use Rattle.std.proofs.Common.{◌≡◌, ℕ, Bool, true, false, ◌||◌, List, drop, sym, ap, ◌∙◌, subst, Option, Some, None}
+use Rattle.std.proofs.Common.{◌≡◌, ℕ, List, drop, sym, subst, Option, Some, None}
 use Rattle.std.specs.Prelude.{Result, Ok, IfOk}
-use Rattle.std.proofs.lemmas.Bool.{true≢false}
-use Rattle.fis_view.specs.Seen.{frame_of, seen}
+use Rattle.fis_view.specs.Seen.{frame_of}
 use Rattle.fis_view.specs.declared.view.Fis.{Fis}
 use Rattle.fis_view.specs.declared.view.FisFault.{FisFault}
 use Rattle.host_memory.specs.Memory.{Memory}
@@ -10,7 +9,7 @@ use Rattle.hba_fbs.specs.declared.report.TakeReport.{TakeReport}
 use Rattle.slots.specs.Slots.{KeepsFree}
 use Rattle.hba_fbs.specs.Posting.{posted}
 use Rattle.hba_fbs.specs.Tables.{Delivers, is_sound}
-use Rattle.hba_fbs.specs.Taking.{PostsIn, Takes, ignores, is_ignored, is_running, passes_over, errors_in, heard_now, heard_report, heard_view, place_in, row_for, settled, wrote_by}
+use Rattle.hba_fbs.specs.Taking.{PostsIn, Takes, errors_in, heard_now, heard_report, heard_view, place_in, row_for, settled, wrote_by}
 use Rattle.hba_fbs.specs.Views.{LeavesOtherViews, Port, view_of}
 
 pub whole_of : (seen : Result Fis FisFault) (fis : Fis) (bytes : List ℕ) → seen ≡ Ok fis → IfOk seen (λ f. frame_of f ≡ bytes) → frame_of fis ≡ bytes
@@ -40,15 +39,3 @@ takes_from old before dev admitted fis bytes report new after is whole own other
 pub takes_none : (old : Port) (before : Memory) (dev : ℕ) (admitted : Option Fis) (payload : List ℕ) (report : TakeReport) (new : Port) → admitted ≡ None → Takes old before dev None payload report new before
     → Takes old before dev admitted payload report new before
 takes_none old before dev admitted payload report new is h = subst (λ (o : Option Fis). Takes old before dev o payload report new before) (sym is) h
-
--- whether a frame is ignored, as the port tells of its FIS
-pub ignores_is : (dev : ℕ) (old : Port) (frame : List ℕ) (fis : Result Fis FisFault) (result : Bool) → fis ≡ seen frame
-    → result ≡ (passes_over old.registers.switching dev (view_of dev old) fis || is_ignored (is_running old) (view_of dev old) fis) → result ≡ ignores dev old frame
-ignores_is dev old frame fis result is tells =
-    tells ∙ ap (λ (s : Result Fis FisFault). passes_over old.registers.switching dev (view_of dev old) s || is_ignored (is_running old) (view_of dev old) s) is
-
-pub not_heard : {P : Type 0} (result ignored : Bool) → result ≡ ignored → result ≡ true → ignored ≡ false → P
-not_heard result ignored is told hears = absurd (true≢false (sym told ∙ is ∙ hears))
-
-pub not_ignored : {P : Type 0} (result ignored : Bool) → result ≡ ignored → result ≡ false → ignored ≡ true → P
-not_ignored result ignored is told gone = absurd (true≢false (sym gone ∙ sym is ∙ told))

@@ -1,5 +1,5 @@
 use Rattle.std.proofs.Common.{sym, ap, ◌∙◌}
-use Rattle.hba_fbs.specs.declared.turn.Turn.TheVariants.{Feeds, Orders}
+use Rattle.hba_fbs.specs.declared.turn.Turn.TheVariants.{Orders}
 use Rattle.hba_fbs.specs.Turning.{turn_of}
 use Rattle.hba_fbs.proofs.SendLemmas.{outgoing_for}
 use Rattle.hba_fbs.proofs.shell.HostPort.next_out.Goals as goal
@@ -8,13 +8,3 @@ pub returns-in-Orders-clause-gives : goal.returns-in-Orders-clause-gives
 returns-in-Orders-clause-gives c =
     let next = outgoing_for c.args.self.now c.args.memory.now (Orders c.in-Orders.dev c.in-Orders.slot c.in-Orders.command) (sym c.in-Orders.is ∙ c.next_out.ensures.value ∙ ap turn_of c.self.view_is) in
     rw next (c.give_order.ensures.gives c.args.memory.now)
-
-pub returns-in-Feeds-clause-gives : goal.returns-in-Feeds-clause-gives
-returns-in-Feeds-clause-gives c =
-    let next = outgoing_for c.args.self.now c.args.memory.now (Feeds c.in-Feeds.dev c.in-Feeds.slot c.in-Feeds.offset c.in-Feeds.len) (sym c.in-Feeds.is ∙ c.next_out.ensures.value ∙ ap turn_of c.self.view_is) in
-    rw next c.give_data.ensures.gives
-
-pub returns-in-Feeds-clause-refused : goal.returns-in-Feeds-clause-refused
-returns-in-Feeds-clause-refused c =
-    let next = outgoing_for c.args.self.now c.args.memory.now (Feeds c.in-Feeds.dev c.in-Feeds.slot c.in-Feeds.offset c.in-Feeds.len) (sym c.in-Feeds.is ∙ c.next_out.ensures.value ∙ ap turn_of c.self.view_is) in
-    rw next c.give_data.ensures.refused

@@ -1,9 +1,9 @@
 use Rattle.std.proofs.Common.{ap, sym, ◌∙◌}
 use Rattle.hba_fbs.specs.declared.room.Room.TheVariants as Room
-use Rattle.hba_fbs.specs.Taking.{admitted, ignores}
-use Rattle.hba_fbs.specs.Views.{DeviceView, Port}
+use Rattle.hba_fbs.specs.Taking.{admitted}
+use Rattle.hba_fbs.specs.Views.{DeviceView}
 use Rattle.hba_fbs.proofs.CoreLemmas.{decides_are, takes_bad}
-use Rattle.hba_fbs.proofs.TakeLemmas.{ignores_is, not_heard, not_ignored, takes_from, takes_none, whole_of}
+use Rattle.hba_fbs.proofs.TakeLemmas.{takes_from, takes_none, whole_of}
 use Rattle.hba_fbs.proofs.shell.HostPort.take_from.Goals as goal
 
 pub returns-in-Some-clause-heard : goal.returns-in-Some-clause-heard
@@ -23,24 +23,3 @@ returns-in-None-clause-own c other apart = rw (← c.self.view_is) (ap (λ (v : 
 
 pub invariant_of-self : goal.invariant_of-self
 invariant_of-self c = decides_are _ _ _ _ _ _ (c.hear_bad.ensures.decides Room.Whole) c.self.invariant
-
-pub returns-then-is_ignored-clause-heard : goal.returns-then-is_ignored-clause-heard
-returns-then-is_ignored-clause-heard c =
-    not_heard c.is_ignored.result _
-    (ignores_is c.args.dev c.self.inside.core c.args.frame.now.bytes c.fis-fis.result c.is_ignored.result c.fis-fis.ensures.view c.is_ignored.ensures ∙ ap (λ (p : Port). ignores c.args.dev p c.args.frame.now.bytes) c.self.view_is)
-    c.if-is_ignored.true
-
-pub returns-in-Some-clause-ignored : goal.returns-in-Some-clause-ignored
-returns-in-Some-clause-ignored c =
-    not_ignored c.is_ignored.result _
-    (ignores_is c.args.dev c.self.inside.core c.args.frame.now.bytes c.fis-fis.result c.is_ignored.result c.fis-fis.ensures.view c.is_ignored.ensures ∙ ap (λ (p : Port). ignores c.args.dev p c.args.frame.now.bytes) c.self.view_is)
-    c.if-is_ignored.false
-
-pub returns-in-None-clause-ignored : goal.returns-in-None-clause-ignored
-returns-in-None-clause-ignored c =
-    not_ignored c.is_ignored.result _
-    (ignores_is c.args.dev c.self.inside.core c.args.frame.now.bytes c.fis-fis.result c.is_ignored.result c.fis-fis.ensures.view c.is_ignored.ensures ∙ ap (λ (p : Port). ignores c.args.dev p c.args.frame.now.bytes) c.self.view_is)
-    c.if-is_ignored.false
-
-pub returns-in-Some-clause-own : goal.returns-in-Some-clause-own
-returns-in-Some-clause-own c other apart = ap (λ (v : DeviceView). v.fault) (c.hear_good.ensures.others other apart)
