@@ -161,18 +161,27 @@ fn write_flag<W: fmt::Write>(
 /// The most entries of a table that are told.
 const MOST_ENTRIES: usize = 4;
 
+/// Writes an entry of a table, behind others or none.
+fn write_entry<W: fmt::Write>(
+    entry: &[u8],
+    is_later: bool,
+    f: &mut fmt::Formatter<W>,
+) -> fmt::Result {
+    f.write_str(if is_later { ", " } else { "" })?;
+    let count = u64::from(dword_at(entry, 12) & 0x3F_FFFF) + 1;
+    write!(f, "{count} bytes at ")?;
+    match dword_at(entry, 4) {
+        0 => write!(f, "{:x}", dword_at(entry, 0)),
+        high => write!(f, "{high:x}{:08x}", dword_at(entry, 0)),
+    }
+}
+
 /// Writes entries of a table (AHCI 1.3.1, 4.2.3.3).
 fn write_table<W: fmt::Write>(bytes: &[u8], f: &mut fmt::Formatter<W>) -> fmt::Result {
-    let mut between = "";
+    let mut is_later = false;
     for entry in bytes.chunks_exact(16).take(MOST_ENTRIES) {
-        f.write_str(between)?;
-        let count = u64::from(dword_at(entry, 12) & 0x3F_FFFF) + 1;
-        write!(f, "{count} bytes at ")?;
-        match dword_at(entry, 4) {
-            0 => write!(f, "{:x}", dword_at(entry, 0))?,
-            high => write!(f, "{high:x}{:08x}", dword_at(entry, 0))?,
-        }
-        between = ", ";
+        write_entry(entry, is_later, f)?;
+        is_later = true;
     }
     match bytes.len() / 16 {
         entries if entries > MOST_ENTRIES => write!(f, ", .. {entries} entries"),

@@ -327,25 +327,38 @@ fn write_each<W: fmt::Write>(
     marks: Marks,
     f: &mut fmt::Formatter<W>,
 ) -> fmt::Result {
-    let mut before = marks.first;
+    let mut is_open = false;
     for number in 0..32_u8 {
         if value & bit_of(number) != 0 {
-            write_numbered(before, what, number, f)?;
-            before = marks.between;
+            write_lead(marks, is_open, f)?;
+            write_numbered(what, number, f)?;
+            is_open = true;
         }
     }
-    f.write_str(if before == marks.first {
-        ""
-    } else {
-        marks.last
-    })
+    write_end(marks, is_open, f)
 }
 
-fn write_numbered<W: fmt::Write>(
-    before: &str,
-    what: &str,
-    number: u8,
+/// What stands before a bit: others do, or none.
+fn write_lead<W: fmt::Write>(
+    marks: Marks,
+    is_open: bool,
     f: &mut fmt::Formatter<W>,
 ) -> fmt::Result {
-    write!(f, "{before}{what} {number}")
+    if is_open {
+        f.write_str(marks.between)
+    } else {
+        f.write_str(marks.first)
+    }
+}
+
+fn write_end<W: fmt::Write>(marks: Marks, is_open: bool, f: &mut fmt::Formatter<W>) -> fmt::Result {
+    if is_open {
+        f.write_str(marks.last)
+    } else {
+        Ok(())
+    }
+}
+
+fn write_numbered<W: fmt::Write>(what: &str, number: u8, f: &mut fmt::Formatter<W>) -> fmt::Result {
+    write!(f, "{what} {number}")
 }
