@@ -15,8 +15,8 @@ ghost use Rattle.machine_laws.specs.Disks.{AreReached, HasLaws};
 ghost use Rattle.machine_laws.specs.Lent.{HoldsFrame, Lends};
 ghost use Rattle.uses_machine_laws.specs.Kept.{AllWait, Keeps, KeepsLaws, KeepsMoves, KeepsOthers, Laws};
 
-pub mod rising;
 mod falling;
+pub mod rising;
 
 use ahci_controller::{WideWritten, Width};
 use ahci_machine::{Act, Machine, MediumError, MediumId, PortFault, Request, Told, Unit, Wanted};
