@@ -4,7 +4,7 @@
 #ifndef DEVICE_H
 #define DEVICE_H
 
-#include "media.h"
+#include "driver.h" /* and PORTS, how many ports there are */
 
 static uint32_t has_device; /* bit n: a device of our own is at port n */
 

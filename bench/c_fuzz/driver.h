@@ -22,6 +22,7 @@ enum { LIST = 0x1000, AREA = 0x2000, TABLES = 0x4000, TABLE = 0x100, DATA = 0x80
 static uint8_t memory[MEMORY];
 static gef_machine machine;
 static uint64_t state = 88172645463325252u;
+static int is_command_based; /* no FIS-based switching */
 
 /* Does what the machine asks for, until it asks for nothing: each program has one of its own. */
 static void settle(void);
@@ -114,7 +115,7 @@ static inline void put_entry(unsigned slot, unsigned number, uint32_t at, uint32
 }
 
 static inline void issue(unsigned slot, unsigned port, int is_queued) {
-    write_register(FBS, 1u | port << 8);
+    if (!is_command_based) write_register(FBS, 1u | port << 8);
     if (is_queued) write_register(SACT, 1u << slot);
     write_register(CI, 1u << slot);
 }
@@ -174,7 +175,7 @@ static inline void bring_up(unsigned ports) {
     write_register(FB, AREA);
     write_register(CMD, 0x20010);
     settle();
-    write_register(FBS, 1 | 15 << 8);
+    write_register(FBS, is_command_based ? 0 : 1 | 15 << 8);
     write_register(CMD, 0x20018); /* CLO: no signature came from port 15 */
     write_register(CMD, 0x20011);
     for (port = 0; port < ports; port++) open_port(port);
