@@ -1,4 +1,4 @@
-"""The part `every` of bench/pulls, which says what it tries: pulls-every.py PROGRAM [SCENE..]"""
+"""The part `every` of tests/pulls, which says what it tries: pulls_every.py PROGRAM [SCENE..]"""
 import collections, concurrent.futures, os, re, subprocess, sys, time
 
 program, *names = sys.argv[1:]
