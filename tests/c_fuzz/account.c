@@ -2,6 +2,7 @@
  * A guest that keeps to the rules at its disks, beside others that do not, and an interpreter of all that passes the door (account.h).
  *
  *     account SECONDS [SEED]
+ *     account lies            tells the interpreter of each kind of lie once; each must be noticed
  *
  * Lists of acts on a machine of one disk, or of four ports behind a multiplier: two disks that are used as a driver does, by queued,
  * DMA and PIO commands, with the write cache on and off; at a third port any commands; at the fourth a device that lies. Media keep what
@@ -9,7 +10,10 @@
  * errors are recovered from, and the machine is saved and restored, now and again to an earlier moment. Build it with the
  * sanitizers. Status 1 where a sentence does not hold.
  */
+#define _POSIX_C_SOURCE 200809L
+#include <sys/wait.h>
 #include <time.h>
+#include <unistd.h>
 #include "counted.h"
 
 #define SLOT_BYTES 0x2000
@@ -42,6 +46,17 @@ static struct {
 static uint32_t has_disk; /* bit n: a disk is at port n */
 static unsigned long errors_seen, logs_seen, restores_seen, goings_back, lists_seen;
 
+/* What a machine or a medium might do wrong. Where one is set, it happens now and then. */
+enum lie {
+    NONE, OTHER_BYTE, ELSEWHERE, WRITTEN_TWICE, NOT_WRITTEN, ENDS_EARLY, STORES_OTHERS, STORES_BESIDE, STORE_NOT_DONE, FLUSH_NOT_DONE,
+    MEDIUM_FORGETS, LOADED_BEFORE, LIES
+};
+static enum lie lie;
+
+static int tells(enum lie it) {
+    return lie == it && !pick(10);
+}
+
 /* ---- media ---------------------------------------------------------------------------------------------------------- */
 
 static void ask(const gef_event *event) {
@@ -51,7 +66,7 @@ static void ask(const gef_event *event) {
     size_t len = 0;
     if (guest.count == REQUESTS) fail("too many requests", REQUESTS);
     it->event = *event;
-    it->asked = account_asked();
+    it->asked = tells(LOADED_BEFORE) ? 0 : account_asked();
     it->is_stale = !(guest.is_ready >> event->port & 1) || account.is_wild >> event->port & 1;
     guest.count++;
     if (event->kind != GEF_EVENT_LOAD && event->kind != GEF_EVENT_STORE) return;
@@ -59,14 +74,15 @@ static void ask(const gef_event *event) {
     if (event->kind != GEF_EVENT_STORE) return;
     must("stored", gef_machine_stored(&machine, &event->u.medium.request, 0, bytes, sizeof bytes, &len));
     if (len != 512 * (size_t)count) fail("a store has other bytes", (unsigned long)len);
+    if (tells(STORES_OTHERS)) bytes[pick(512 * count)] ^= 4;
     for (at = 0; at < count && !(account.is_wild >> event->port & 1); at++)
-        it->version[at] = account_storing(event->port, (uint32_t)event->u.medium.lba + at, bytes + 512 * at);
+        it->version[at] = account_storing(event->port, (uint32_t)event->u.medium.lba + at + tells(STORES_BESIDE), bytes + 512 * at);
 }
 
 /* The medium has the first sectors of a store. */
 static void keep(const request *it, uint32_t count) {
     uint32_t at;
-    for (at = 0; at < count; at++) guest.medium[it->event.port][it->event.u.medium.lba + at] = it->version[at];
+    for (at = 0; at < count && !tells(MEDIUM_FORGETS); at++) guest.medium[it->event.port][it->event.u.medium.lba + at] = it->version[at];
 }
 
 static gef_status answer_load(const request *it) {
@@ -85,8 +101,8 @@ static gef_status answer_done(const request *it) {
     if (it->event.kind == GEF_EVENT_STORE) keep(it, it->event.u.medium.count);
     status = gef_machine_answer_done(&machine, &it->event.u.medium.request);
     if (status != GEF_OK) return status;
-    if (it->event.kind == GEF_EVENT_FLUSH) account_flushed(it->event.port, it->asked);
-    for (at = 0; at < it->event.u.medium.count && it->event.kind == GEF_EVENT_STORE; at++)
+    if (it->event.kind == GEF_EVENT_FLUSH && !tells(FLUSH_NOT_DONE)) account_flushed(it->event.port, it->asked);
+    for (at = 0; at < it->event.u.medium.count && it->event.kind == GEF_EVENT_STORE && !tells(STORE_NOT_DONE); at++)
         account_stored(it->event.port, (uint32_t)it->event.u.medium.lba + at, it->version[at]);
     return status;
 }
@@ -131,6 +147,14 @@ static void answer(size_t number, int may_fail) {
 
 /* ---- what is to be done --------------------------------------------------------------------------------------------- */
 
+/* Tells the interpreter of bytes that were written. */
+static void tell_written(uint64_t at, size_t len) {
+    if (at >= DATA && tells(OTHER_BYTE)) memory[at + pick((uint32_t)len)] ^= 1;
+    if (at >= DATA && tells(NOT_WRITTEN)) return;
+    if (tells(WRITTEN_TWICE)) account_lent(at, memory + at, len);
+    account_lent(tells(ELSEWHERE) && at >= DATA ? at + SLOT_BYTES / 2 : at, memory + at, len);
+}
+
 static void do_event(const gef_event *event) {
     switch (event->kind) {
     case GEF_EVENT_READ_GUEST:
@@ -141,7 +165,7 @@ static void do_event(const gef_event *event) {
     case GEF_EVENT_WRITE_GUEST:
         write_guest(event);
         if (event->u.write.at > MEMORY || event->u.write.len > MEMORY - event->u.write.at) fail("a write past the memory", event->u.write.at);
-        account_lent(event->u.write.at, memory + event->u.write.at, event->u.write.len);
+        tell_written(event->u.write.at, event->u.write.len);
         break;
     case GEF_EVENT_LINE: guest.line = event->u.up; break;
     case GEF_EVENT_TO_DEVICE: hear(event->port); break;
@@ -176,6 +200,7 @@ static void see_ends(void) {
     uint32_t left, slot;
     if (!has_status) return;
     left = read_register(SACT) | read_register(CI);
+    if (tells(ENDS_EARLY)) left &= ~(1u << pick(SLOTS));
     for (slot = 0; slot < SLOTS; slot++) {
         const command *it = &account.commands[slot];
         uint32_t port = 1u << it->port;
@@ -536,8 +561,27 @@ static void play(unsigned ports, int by_commands) {
     lists_seen++;
 }
 
+/* Each lie is noticed. */
+static int play_lies(void) {
+    int kind, status, at, missed = 0;
+    for (kind = NONE + 1; kind < LIES; kind++) {
+        pid_t child = fork();
+        if (!child) {
+            lie = (enum lie)kind;
+            for (at = 0; at < 20; at++) play(PORTS, 0);
+            exit(0);
+        }
+        if (child < 0 || waitpid(child, &status, 0) != child || !WIFEXITED(status) || WEXITSTATUS(status) != 1) {
+            printf("lie %d is not noticed\n", kind);
+            missed = 1;
+        }
+    }
+    return missed;
+}
+
 int main(int count, char **words) {
     clock_t until;
+    if (count == 2 && !strcmp(words[1], "lies")) return play_lies();
     if (count != 2 && count != 3) return 2;
     if (count == 3) state ^= strtoull(words[2], 0, 10) * 0x9E3779B97F4A7C15u;
     until = clock() + (clock_t)(strtod(words[1], 0) * CLOCKS_PER_SEC);

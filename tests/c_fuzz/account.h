@@ -19,7 +19,11 @@
 
 #include "driver.h"
 
-enum { PORTS = 4, SECTORS = 64, MOST = 8, ENTRIES = 4, LOADS = 16, VERSIONS = 48, MOST_BYTES = 512 * MOST };
+/* How many ports and sectors there are, how many sectors and entries a command has at most. */
+#ifndef ACCOUNT_SIZES
+enum { PORTS = 4, SECTORS = 64, MOST = 8, ENTRIES = 4 };
+#endif
+enum { LOADS = 16, VERSIONS = 48, MOST_BYTES = 512 * MOST };
 
 /* Versions that a sector may have. */
 typedef struct {
@@ -56,6 +60,7 @@ static struct {
     sector sectors[PORTS][SECTORS];
     unsigned long now, flush_asked[PORTS];   /* the clock; when the last flush that was answered had been asked for */
     uint32_t is_wild, cache, version;        /* ports, by bits; the last version */
+    uint64_t list, area;                     /* where the list of commands and the received area lie */
 } account;
 
 static unsigned long ended_reads, ended_writes, ended_flushes, bytes_brought, fetched_again; /* what was checked */
@@ -88,6 +93,8 @@ static void begin_account(uint32_t wild) {
     unsigned port, lba;
     memset(&account, 0, sizeof account);
     account.is_wild = wild;
+    account.list = LIST;
+    account.area = AREA;
     account.cache = (1u << PORTS) - 1;
     for (port = 0; port < PORTS; port++)
         for (lba = 0; lba < SECTORS; lba++) add_version(&account.sectors[port][lba].may, 0);
@@ -143,8 +150,8 @@ static void take_fis(command *it, const uint8_t *fis) {
     it->is_read = code == 0x60 || code == 0x25 || code == 0xC8 || code == 0x24 || code == 0x20 || code == 0x29 || code == 0xC4;
     it->is_write = code == 0x61 || code == 0x35 || code == 0x3D || code == 0xCA || code == 0x34 || code == 0x30 || code == 0x39 || code == 0xC5;
     it->is_flush = code == 0xEA || code == 0xE7;
-    it->lba = fis[4] | (uint32_t)fis[5] << 8;
-    it->count = it->is_queued ? fis[3] : fis[12];
+    it->lba = fis[4] | (uint32_t)fis[5] << 8 | (uint32_t)fis[6] << 16;
+    it->count = it->is_queued ? fis[3] | (uint32_t)fis[11] << 8 : fis[12] | (uint32_t)fis[13] << 8;
     it->lasts = !(account.cache >> it->port & 1) || code == 0x3D || (it->is_queued && fis[7] & 0x80);
     if (is_wild(it)) return;
     if (it->count > MOST && (it->is_read || it->is_write)) fail("a command of the guest's", it->count);
@@ -170,13 +177,13 @@ static void take_entries(command *it, unsigned from, const uint8_t *bytes, size_
 /* ---- what passes the door ----------------------------------------------------------------------------------------- */
 
 /* Nobody knows what became of the commands of these ports. They are no more. */
-static void lose_commands(uint32_t ports) {
+static inline void lose_commands(uint32_t ports) {
     unsigned slot;
     for (slot = 0; slot < SLOTS; slot++)
         if (account.commands[slot].is_open && ports >> account.commands[slot].port & 1) account.commands[slot].is_lost = 1;
 }
 
-static void forget_commands(uint32_t ports) {
+static inline void forget_commands(uint32_t ports) {
     unsigned slot;
     for (slot = 0; slot < SLOTS; slot++)
         if (ports >> account.commands[slot].port & 1) account.commands[slot].is_open = 0;
@@ -210,26 +217,27 @@ static void take_data(uint64_t at, const uint8_t *bytes, size_t len) {
     }
 }
 
+/* Whether these bytes are of the command's table: its FIS, or entries. */
+static int take_table(command *it, uint64_t at, const uint8_t *bytes, size_t len) {
+    uint64_t inside = at - it->table;
+    size_t skipped;
+    if (!it->table || at < it->table || inside >= 0x80 + 16 * (uint64_t)it->wanted_entries) return 0;
+    if (inside == 0 && len >= 20) take_fis(it, bytes);
+    skipped = inside >= 0x80 ? 0 : inside + len > 0x80 ? (size_t)(0x80 - inside) : len;
+    if (skipped < len) take_entries(it, (unsigned)((inside + skipped - 0x80) / 16), bytes + skipped, len - skipped);
+    return 1;
+}
+
 static void account_supplied(uint64_t at, const uint8_t *bytes, size_t len) {
     unsigned slot;
     account.now++;
-    if (at >= LIST && at + len <= LIST + 32 * SLOTS && len >= 16) {
-        command *it = &account.commands[(at - LIST) / 32];
+    if (at >= account.list && at + len <= account.list + 32 * SLOTS && len >= 16) {
+        command *it = &account.commands[(at - account.list) / 32];
         if (it->is_open) take_header(it, bytes);
         return;
     }
-    if (at >= TABLES && at < TABLES + TABLE * SLOTS) {
-        slot = (unsigned)((at - TABLES) / TABLE);
-        command *it = &account.commands[slot];
-        uint64_t inside = (at - TABLES) % TABLE;
-        if (!it->is_open) return;
-        if (inside == 0 && len >= 20) take_fis(it, bytes);
-        if (inside + len > 0x80) {
-            size_t skipped = inside < 0x80 ? (size_t)(0x80 - inside) : 0;
-            take_entries(it, (unsigned)((inside + skipped - 0x80) / 16), bytes + skipped, len - skipped);
-        }
-        return;
-    }
+    for (slot = 0; slot < SLOTS; slot++)
+        if (account.commands[slot].is_open && take_table(&account.commands[slot], at, bytes, len)) return;
     take_data(at, bytes, len);
 }
 
@@ -263,8 +271,8 @@ static void account_lent(uint64_t at, const uint8_t *bytes, size_t len) {
     unsigned slot;
     size_t number;
     account.now++;
-    if (at >= AREA && at + len <= AREA + 0x1000) return;
-    if (len == 4 && at >= LIST && at < LIST + 32 * SLOTS && (at - LIST) % 32 == 4) return;
+    if (at >= account.area && at + len <= account.area + 0x1000) return;
+    if (len == 4 && at >= account.list && at < account.list + 32 * SLOTS && (at - account.list) % 32 == 4) return;
     for (number = 0; number < len; number++) {
         int has_place = 0;
         for (slot = 0; slot < SLOTS && !has_place; slot++) {
@@ -291,7 +299,7 @@ static void account_loaded(uint32_t port, uint32_t lba, uint32_t version, unsign
 }
 
 /* A disk asks that a sector be stored: these are the bytes of a write under way. Returns its version. */
-static uint32_t account_storing(uint32_t port, uint32_t lba, const uint8_t *bytes) {
+static inline uint32_t account_storing(uint32_t port, uint32_t lba, const uint8_t *bytes) {
     unsigned slot;
     uint32_t byte;
     for (slot = 0; slot < SLOTS; slot++) {
@@ -305,7 +313,7 @@ static uint32_t account_storing(uint32_t port, uint32_t lba, const uint8_t *byte
     return 0;
 }
 
-static void account_stored(uint32_t port, uint32_t lba, uint32_t version) {
+static inline void account_stored(uint32_t port, uint32_t lba, uint32_t version) {
     unsigned slot;
     account.now++;
     for (slot = 0; slot < SLOTS; slot++) {
@@ -315,7 +323,7 @@ static void account_stored(uint32_t port, uint32_t lba, uint32_t version) {
     }
 }
 
-static void account_flushed(uint32_t port, unsigned long asked) {
+static inline void account_flushed(uint32_t port, unsigned long asked) {
     if (asked > account.flush_asked[port]) account.flush_asked[port] = asked;
 }
 
