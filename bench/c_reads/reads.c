@@ -4,7 +4,7 @@
  */
 #include <time.h>
 #define SLOT_BYTES 0x20000
-#include "../c_fuzz/driver.h"
+#include "../../tests/c_fuzz/driver.h"
 
 enum { SECTORS = 256 };
 

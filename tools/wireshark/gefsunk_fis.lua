@@ -3,7 +3,17 @@
 --
 --     tshark -X lua_script:tools/wireshark/gefsunk_fis.lua -r boot.pcapng
 --
--- The link type is USER0 (147). Filters are as `fis.command == 0x60`, `fis.port == 2 && fis.status.err == 1`.
+-- The link type is USER0 (147). A packet has, before the FIS:
+--
+--     0       1, the version of this form
+--     1       bit 0: from a device; bit 1: made of words; bit 2: dropped at the end of this link; bit 3: taken by nobody
+--     2       0: the host's link; 1: a device's
+--     3       port, 15 for the control port
+--     4..7    connection, big endian like the next two; ffffffff: none
+--     8..11   number of the FIS; ffffffff: none
+--     12..15  step
+--
+-- Filters are as `fis.command == 0x60`, `fis.port == 2 && fis.status.err == 1`.
 
 local fis = Proto("fis", "Serial ATA FIS")
 
