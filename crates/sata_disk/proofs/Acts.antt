@@ -1,7 +1,8 @@
 -- What becomes of the commands may be done.
-use Rattle.std.proofs.Common.{◌≡◌, ℕ, true, false, Some, None, refl, subst}
+use Rattle.std.proofs.Common.{◌≡◌, ℕ, ◌+◌, ◌≤◌, true, false, Some, None, refl, sym, subst}
 use Rattle.std.specs.Prelude.{Option, Bool, if◌then◌else◌}
 use Rattle.ata_reply.specs.declared.reply.Reply.TheVariants as reply
+use Rattle.block_command.specs.declared.command.Command.{Command}
 use Rattle.block_engine.specs.declared.aside.AsideStage.{AsideStage}
 use Rattle.block_engine.specs.declared.aside.AsideStage.TheVariants as stages
 use Rattle.ata_command.specs.Asks.{DiskFacts, IsAsked}
@@ -19,15 +20,17 @@ use Rattle.ata_command.specs.declared.control.Course.{Course}
 use Rattle.ata_command.specs.declared.control.Course.TheVariants.{Drop, Refuse, AbortAll, Take}
 use Rattle.ata_command.specs.declared.settings.Setting.{Setting}
 use Rattle.ata_command.specs.declared.settings.Setting.TheVariants as set
-use Rattle.ata_front.specs.Fronts.{commanded, commanded_by, controlled, refused_by, set_by, standing_by, taken, taken_power, task_of_smart}
+use Rattle.ata_front.specs.Fronts.{IsOf, MayTake, commanded, commanded_by, controlled, refused_by, set_by, standing_by, taken, taken_power, task_of_smart}
 use Rattle.ata_front.specs.declared.front.Front.{Front}
 use Rattle.ata_front.specs.declared.front.Heard.{Heard}
+use Rattle.ata_front.specs.declared.task.Act.{Act}
+use Rattle.ata_front.specs.declared.task.Act.TheVariants as act
 use Rattle.ata_front.specs.declared.task.Fault.{Fault}
 use Rattle.ata_front.specs.declared.task.Page.{Page}
 use Rattle.ata_front.specs.declared.task.Task.{Task}
 use Rattle.ata_front.specs.declared.task.Task.TheVariants.{Idle, Owes, Moves, Waits, Announces, Gives, Sends, Activates, Expects}
 use Rattle.sata_disk.specs.State.{IsBeside}
-use Rattle.sata_disk.specs.Hearing.{MayAct}
+use Rattle.sata_disk.specs.Hearing.{MayAct, TakesWithin}
 
 -- ## Where a command is heard, nothing is under way beside the queue
 
@@ -188,3 +191,17 @@ pub control_reset : (f : Front) (srst : Bool) → (f.in_reset ≡ true → f.tas
     → (controlled f srst).front.in_reset ≡ true → (controlled f srst).front.task ≡ Idle
 control_reset f true idle is = refl
 control_reset f false idle is = cleared_case f f.in_reset idle refl is
+
+-- ## What is taken is there
+
+moves_within : (d : DiskFacts) (a : Asked) (c : Command) → IsAsked d a → IsOf a c → c.lba + c.count ≤ d.sectors
+moves_within d (ask.Moves m) c is of' = let P : Command → Type 0 = λ k. k.lba + k.count ≤ d.sectors in subst P (sym of') is.within
+moves_within d a c is of' = absurd of'
+
+pub takes_within : (d : DiskFacts) (a : Asked) (x : Act) → IsAsked d a → MayTake x a → TakesWithin d.sectors x
+takes_within d a (act.Takes c) is may = moves_within d a c is may
+takes_within d a other is may = tt
+
+pub control_takes : (n : ℕ) (f : Front) (srst : Bool) → TakesWithin n (controlled f srst).act
+control_takes n f true = tt
+control_takes n f false = tt

@@ -1,8 +1,8 @@
 -- The first place that passes a test.
 use Rattle.std.proofs.Common.{◌≡◌, ℕ, zero, suc, ◌+◌, ◌<◌, true, false, Some, None, refl, sym, ap, ◌∙◌, arith, inl, inr}
-use Rattle.std.specs.Prelude.{Option, Bool, if◌then◌else◌}
+use Rattle.std.specs.Prelude.{Option, Bool, ◌||◌, if◌then◌else◌}
 use Rattle.std.proofs.lemmas.Bool.{cases_eq}
-use Rattle.block_queue.specs.Line.{first_below, or_this}
+use Rattle.block_queue.specs.Line.{any_below, first_below, or_this}
 
 first_here : (n : ℕ) (x : Option ℕ) (b : Bool) → x ≡ None → b ≡ true → or_this x (if b then Some n else None) ≡ Some n
 first_here n None true e f = refl
@@ -34,3 +34,17 @@ first_none test = refl
 pub first_more : (test : ℕ → Bool) (n : ℕ) → first_below test n ≡ None → test n ≡ false → first_below test (n + 1) ≡ None
 unfolding first_below
 first_more test n none e = let more : n + 1 ≡ suc n = omega arith in ap (first_below test) more ∙ none_here n _ _ none e
+
+-- ## No place passes a test
+
+pub any_first : (test : ℕ → Bool) → any_below test 0 ≡ false
+unfolding any_below
+any_first test = refl
+
+both_false : (a b : Bool) → a ≡ false → b ≡ false → (a || b) ≡ false
+both_false true b e f = absurd (cc)
+both_false false b e f = f
+
+pub any_more : (test : ℕ → Bool) (n : ℕ) → any_below test n ≡ false → test n ≡ false → any_below test (n + 1) ≡ false
+unfolding any_below
+any_more test n none e = let more : n + 1 ≡ suc n = omega arith in ap (any_below test) more ∙ both_false (test n) (any_below test n) e none

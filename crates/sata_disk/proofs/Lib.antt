@@ -5,3 +5,6 @@ mod Came
 mod Kept
 mod Outs
 mod SavedLemmas
+mod Within
+mod Asking
+mod Sent

@@ -1,6 +1,6 @@
 -- What a disk makes of a FIS of its host (Serial ATA 3.x, 10.5, FIS types, 11.4, software reset, and 13.6, native command queuing;
 -- ACS-3, 7.5, DATA SET MANAGEMENT, and 7.24, READ LOG EXT).
-use Rattle.std.specs.Prelude.{ℕ, ◌≡◌, ◌*◌, ◌/◌, ◌==◌, ◌<◌, ◌&&◌, nat_lt, Bool, true, false, List, map, drop, length, Option, Some, None, Result, Ok, if◌then◌else◌}
+use Rattle.std.specs.Prelude.{ℕ, ◌≡◌, ◌*◌, ◌/◌, ◌==◌, ◌+◌, ◌<◌, ◌≤◌, ◌&&◌, nat_lt, Bool, true, false, List, map, drop, length, Option, Some, None, Result, Ok, if◌then◌else◌}
 use Rattle.fis_view.specs.Table.{H2d, C, field}
 use Rattle.fis_view.specs.declared.view.Fis.{Fis}
 use Rattle.fis_view.specs.declared.view.Fis.TheVariants as view
@@ -56,6 +56,11 @@ MayAct s t act.Nothing = IsBeside t s
 MayAct s t (act.Takes c) = (c.place < 33) × IsCommand c × (is_queued c.protocol ≡ nat_lt c.place 32) × IsBeside t s
 MayAct s t act.Flushes = (s ≡ stages.Idle) × IsBeside t stages.Waiting
 MayAct s t act.Resets = Unit {0}
+
+-- a command that is taken lies within so many sectors
+abbrev pub TakesWithin : (sectors : ℕ) → Act → Type 0
+TakesWithin sectors (act.Takes c) = c.lba + c.count ≤ sectors
+TakesWithin sectors _ = Unit {0}
 
 -- ## Commands
 

@@ -1,16 +1,21 @@
 -- A SATA disk as words.
-use Rattle.std.specs.Prelude.{ℕ, List, Bool, true, false, not, ◌&&◌, ◌||◌, is_none}
+use Rattle.std.specs.Prelude.{ℕ, ◌+◌, nat_le, List, Option, Some, None, Bool, true, false, not, ◌&&◌, ◌||◌, is_none}
+use Rattle.std.specs.List.{list_all}
 use Rattle.std.proofs.Common.{ap}
 use Rattle.saved_state.specs.State.{IsToldApart, parts_apart, put_three, three_apart}
-use Rattle.block_engine.specs.Engine.{EngineState}
+use Rattle.block_command.specs.Moments.{Moment, part_lba}
+use Rattle.block_queue.specs.Line.{any_below, command_at}
+use Rattle.block_engine.specs.Engine.{EngineState, line}
 use Rattle.block_engine.specs.Saved.{KeepsEngine, engine_apart, put_engine}
 use Rattle.block_engine.specs.declared.aside.AsideStage.{AsideStage}
 use Rattle.block_engine.specs.declared.aside.AsideStage.TheVariants as stages
+use Rattle.block_engine.specs.declared.request.Range.{Range}
 use Rattle.ata_front.specs.declared.front.Front.{Front}
 use Rattle.ata_front.specs.declared.task.Task.{Task}
 use Rattle.ata_front.specs.declared.task.Task.TheVariants as tasks
 use Rattle.ata_front.specs.Saved.{KeepsFront, front_apart, put_front}
 use Rattle.disk_pages.specs.declared.profile.Profile.{Profile}
+use Rattle.disk_pages.specs.Profiles.{facts_of}
 use Rattle.disk_pages.specs.Saved.{KeepsProfile, profile_apart, put_profile}
 use Rattle.sata_disk.specs.State.{DiskState, IsDisk}
 
@@ -52,12 +57,27 @@ is_at_rest _ = false
 abbrev pub beside_fits : Task → AsideStage → Bool
 beside_fits task stage = is_waits task || is_at_rest stage
 
--- what the disk is to its host fits its commands
-abbrev pub fits : Front → EngineState → Bool
-fits f e = is_none e.schedule.fault && beside_fits f.task e.stage && (not f.in_reset || is_idle f.task)
+-- the command of a place has a sector that is not there, or more of it is done than it has
+abbrev pub is_past : (sectors : ℕ) → Option Moment → Bool
+is_past sectors None = false
+is_past sectors (Some m) = not (nat_le (part_lba m) (m.command.lba + m.command.count) && nat_le (m.command.lba + m.command.count) sectors)
+
+abbrev pub is_past_at : (sectors : ℕ) → EngineState → (place : ℕ) → Bool
+is_past_at sectors e p = is_past sectors (command_at (line e) p)
+
+abbrev pub is_within : (sectors : ℕ) → Range → Bool
+is_within sectors r = nat_le (r.lba + r.count) sectors
+
+-- no command, and no range of the last DATA SET MANAGEMENT, has
+abbrev pub are_within : (sectors : ℕ) → EngineState → Bool
+are_within sectors e = not (any_below (is_past_at sectors e) 33) && list_all (is_within sectors) e.ranges
+
+-- what the disk is, and what it is to its host, fits its commands
+abbrev pub fits : Profile → Front → EngineState → Bool
+fits p f e = (is_none e.schedule.fault && beside_fits f.task e.stage) && ((not f.in_reset || is_idle f.task) && are_within (facts_of p).sectors e)
 
 abbrev pub fit : DiskParts → Bool
-fit p = fits p.1 p.2
+fit p = fits p.0 p.1 p.2
 
 -- ## Words are those of one disk
 

@@ -1,14 +1,20 @@
 -- What a SATA disk is at one moment: what it is to its host, and its commands.
-use Rattle.std.specs.Prelude.{ℕ, zero, suc, ◌≡◌, ◌+◌, ◌^◌, Bool, true, Option, Some, None, if◌then◌else◌}
+use Rattle.std.specs.Prelude.{ℕ, zero, suc, ◌≡◌, ◌<◌, ◌≤◌, ◌+◌, ◌^◌, Bool, true, Option, Some, None, if◌then◌else◌}
+use Rattle.std.specs.List.{All}
+use Rattle.block_command.specs.Moments.{Moment}
 use Rattle.block_disk.specs.Table.{has_wire, is_under_way}
 use Rattle.block_queue.specs.Line.{Line, command_at, first_below}
 use Rattle.block_engine.specs.Engine.{EngineState, line, none_engaged}
 use Rattle.block_engine.specs.declared.aside.AsideStage.{AsideStage}
 use Rattle.block_engine.specs.declared.aside.AsideStage.TheVariants as stages
+use Rattle.block_engine.specs.declared.request.Range.{Range}
+use Rattle.block_engine.specs.declared.request.What.{What}
+use Rattle.block_engine.specs.declared.request.What.TheVariants as what
 use Rattle.ata_front.specs.Fronts.{opening}
 use Rattle.ata_front.specs.declared.front.Front.{Front}
 use Rattle.ata_front.specs.declared.task.Task.{Task}
 use Rattle.ata_front.specs.declared.task.Task.TheVariants as tasks
+use Rattle.disk_pages.specs.Profiles.{facts_of}
 use Rattle.disk_pages.specs.declared.profile.Profile.{Profile}
 
 pub record DiskState : Type 0 where
@@ -51,6 +57,31 @@ or_single (Some tag) = tag
 unfoldable pub data_place : Line → ℕ
 data_place l = or_single (first_below (has_link l) 32)
 
+-- ## Sectors that are there
+
+-- how many sectors the disk has
+abbrev pub sectors_of : DiskState → ℕ
+sectors_of d = (facts_of d.profile).sectors
+
+-- the command of a place lies within so many sectors, and no more of it is done than it has
+abbrev pub LiesWithin : (sectors : ℕ) → Option Moment → Type 0
+LiesWithin sectors None = Unit {0}
+LiesWithin sectors (Some m) = (m.done ≤ m.command.count) × (m.command.lba + m.command.count ≤ sectors)
+
+abbrev pub IsWithin : (sectors : ℕ) → Range → Type 0
+IsWithin sectors r = r.lba + r.count ≤ sectors
+
+-- so do all commands, and what the last DATA SET MANAGEMENT discards
+pub record AreWithin (sectors : ℕ) (e : EngineState) : Type 0 where
+  pub commands : (p : ℕ) → p < 33 → LiesWithin sectors (command_at (line e) p)
+  pub ranges : All (IsWithin sectors) e.ranges
+
+-- so does what the caller is asked to load or to store
+abbrev pub AsksWithin : (sectors : ℕ) → What → Type 0
+AsksWithin sectors (what.Load lba count) = lba + count ≤ sectors
+AsksWithin sectors (what.Store lba count) = lba + count ≤ sectors
+AsksWithin sectors _ = Unit {0}
+
 -- ## What every disk keeps
 
 -- a command beside the queue is under way only while the host waits for it
@@ -64,3 +95,5 @@ pub record IsDisk (d : DiskState) : Type 0 where
   pub beside : IsBeside d.front.task d.engine.stage
   -- while SRST is set the host waits for nothing
   pub reset : d.front.in_reset ≡ true → d.front.task ≡ tasks.Idle
+  -- whatever led to it, the caller is asked for no sector that is not there
+  pub within : AreWithin (sectors_of d) d.engine

@@ -2,14 +2,15 @@
 
 ghost use Rattle.std.specs.Prelude.{◌≡◌, ◌<◌, ◌≤◌, ◌↔◌, Err, IfOk, IfSome, IfNone, OnErr, OnOk, None, Some, false, true};
 ghost use Rattle.fis_view.specs.declared.frame.FrameError.TheVariants as FrameError;
+ghost use Rattle.std.specs.List.{All};
 ghost use Rattle.std.specs.Result.{result_err};
 ghost use Rattle.fis_view.specs.Seen.{seen};
 ghost use Rattle.block_queue.specs.Line.{command_at, may_send};
 ghost use Rattle.block_engine.specs.Engine.{IsEngineStart, IsRequested, answer_refusal, answered, started};
 ghost use Rattle.ata_front.specs.Fronts.{heard_data, owed, standing};
 ghost use Rattle.ata_front.specs.declared.task.Task.TheVariants as tasks;
-ghost use Rattle.sata_disk.specs.State.{DiskState, commands, new_disk, tags_of};
-ghost use Rattle.sata_disk.specs.Hearing.{MayAct, MayHear, MayRange, acted, carries_data, command_told, command_unheard, data_heard, data_unheard, discarding, fis_heard, fis_unheard, plugged, ranges_of, register_heard, register_told, register_unheard};
+ghost use Rattle.sata_disk.specs.State.{AsksWithin, DiskState, IsWithin, commands, new_disk, sectors_of, tags_of};
+ghost use Rattle.sata_disk.specs.Hearing.{MayAct, MayHear, MayRange, TakesWithin, acted, carries_data, command_told, command_unheard, data_heard, data_unheard, discarding, fis_heard, fis_unheard, plugged, ranges_of, register_heard, register_told, register_unheard};
 ghost use Rattle.sata_disk.specs.Sending.{IsFis, IsOut, after_sent, beside_reply, command_sent, is_framed, out_at, part_at};
 
 mod saved;
@@ -66,6 +67,7 @@ impl SataDisk {
     fn act(&mut self, alloc: Global, heard: Heard)
         requires may { MayAct self.old.engine.stage heard.front.task heard.act }
         requires reset { heard.front.in_reset ≡ true → heard.front.task ≡ tasks.Idle }
+        requires within { TakesWithin (sectors_of self.old) heard.act }
         ensures { self.new ≡ acted self.old heard }
     {
         self.front = heard.front;
@@ -171,11 +173,12 @@ impl SataDisk {
         self.engine.start_next()
     }
 
-    /// The request that is next is asked. None where there is none, or where 2^63 were asked. The bytes of a store are
-    /// [`SataDisk::bytes`] of its place, and the sectors of a discard [`SataDisk::ranges`], until they are answered.
+    /// The request that is next is asked, for sectors that are there. None where there is none, or where 2^63 were asked. The bytes
+    /// of a store are [`SataDisk::bytes`] of its place, and the sectors of a discard [`SataDisk::ranges`], until they are answered.
     pub fn next_request(&mut self) -> Option<Request>
         ensures asked { IsRequested self.old.engine self.new.engine result }
         ensures others { self.new ≡ record self.old { engine = self.new.engine } }
+        ensures within { IfSome result (λ request. AsksWithin (sectors_of self.old) request.what) }
     {
         self.engine.next_request()
     }
@@ -323,9 +326,10 @@ impl SataDisk {
         self.engine.get(place)
     }
 
-    /// The sectors that the last DATA SET MANAGEMENT discards.
+    /// The sectors that the last DATA SET MANAGEMENT discards: all are there.
     pub fn ranges(&self) -> &[Range]
-        ensures { result.now ≡ self.now.engine.ranges }
+        ensures value { result.now ≡ self.now.engine.ranges }
+        ensures within { All (IsWithin (sectors_of self.now)) result.now }
     {
         self.engine.ranges()
     }
