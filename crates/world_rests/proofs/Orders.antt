@@ -1,7 +1,7 @@
 -- For `rested_have_done`. While a command to the control port is unanswered, it is on its way there, or its answer on its way back.
-use Rattle.std.proofs.Common.{◌≡◌, ◌≢◌, ◌⊎◌, ℕ, ◌<◌, ◌≤◌, ◌==◌, ◌&&◌, ◌||◌, Bool, true, false, List, [], ◌∷◌, ◌++◌, length, refl, sym, ap, subst, ◌∙◌, inl, inr, Option, Some, None, Ok, Err, arith}
+use Rattle.std.proofs.Common.{◌≡◌, ◌≢◌, ◌⊎◌, ℕ, ◌==◌, ◌&&◌, ◌||◌, Bool, true, false, List, [], ◌∷◌, ◌++◌, length, refl, sym, ap, subst, ◌∙◌, inl, inr, Option, Some, None, Ok, Err, arith}
 use Rattle.std.specs.Prelude.{bit_and, if◌then◌else◌, is_none, is_some, not, MatchBool, MatchOption, Result}
-use Rattle.std.proofs.lemmas.Bool.{cases_Bool, cases_eq, cases_lt, eq-eqb, eqb-true, false≢true, true≢false}
+use Rattle.std.proofs.lemmas.Bool.{cases_Bool, cases_eq, cases_lt, eq-eqb, false≢true, true≢false}
 use Rattle.std.proofs.lemmas.Option.{same_Some}
 use Rattle.fis_view.specs.Built.{IsBuilt, cut, d2h_given}
 use Rattle.fis_view.specs.Frames.{Stamped}
@@ -39,12 +39,11 @@ use Rattle.hba_fbs.specs.Posting.{signs}
 use Rattle.hba_fbs.specs.Views.{DeviceView, Port, view_of}
 use Rattle.slots.specs.Slots.{DeviceSlots, Issue, own_issue}
 use Rattle.slots.specs.Work.{is_queued, needs_all}
-use Rattle.hba_driver.specs.declared.mode.Mode.TheVariants.{Switching}
 use Rattle.hba_driver.specs.declared.request.Request.{Request as Wanted}
 use Rattle.hba_driver.specs.Between.{AreOfTheir, IsGoing}
 use Rattle.hba_driver.specs.Going.{IsOfControl}
-use Rattle.hba_driver.specs.HostTurns.{Does, Host, HostTurn, Polled, Pushed, Put, Submitted, Ticked, Took, Tooks}
-use Rattle.hba_driver.specs.Slot31.{Asks, IsAt31, MayBe31, Resets, Signs, Stage31, Turns31, control_of}
+use Rattle.hba_driver.specs.HostTurns.{Does, Host, HostTurn, Polled, Pushed, Put, Submitted, Ticked, Took}
+use Rattle.hba_driver.specs.Slot31.{Asks, IsAt31, MayBe31, Resets, Signs, Stage31, Turns31}
 use Rattle.hba_driver.proofs.Door.{control_in31, going_opens, going_turn, none_issued, turn31, turn_addressed, turn_their, zeroed_right}
 use Rattle.pm_world.specs.Attached.{Attached}
 use Rattle.pm_world.specs.Line.{AreResets, HasLine, IsReset, NoneDown, NoneUp, OnLine, OneOrderAtATime, is_register, is_reply}

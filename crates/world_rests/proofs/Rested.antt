@@ -34,7 +34,7 @@ use Rattle.pm_world.specs.declared.step.Answer.TheVariants as answer
 use Rattle.pm_world.specs.declared.step.Step.TheVariants as step
 use Rattle.pm_world.specs.declared.step.StepError.TheVariants as error
 use Rattle.world_rests.specs.Laws.{RestedHaveDone}
-use Rattle.world_rests.specs.Rests.{HasAnswered, IsAtRest, NothingMoves, PortRests, is_still}
+use Rattle.world_rests.specs.Rests.{IsAtRest, NothingMoves, PortRests, is_still}
 use Rattle.world_rests.specs.Sent.{ControlHasAnswered, PortWaits}
 use Rattle.world_rests.specs.Waits.{DriverWaits, HostWaits}
 use Rattle.world_rests.proofs.Comings.{IsKnown, Of, all, known, known_reached}

@@ -1,7 +1,7 @@
 -- For `rested_have_done`. What has not gone out of a host port that may send nothing.
 use Rattle.std.proofs.Common.{◌≡◌, ◌⊎◌, ℕ, ◌<◌, ◌≤◌, Bool, true, false, refl, sym, ap, subst, ◌∙◌, inl, inr, Option, Some, None, arith}
 use Rattle.std.specs.Prelude.{◌&&◌, ◌||◌, not, is_none, is_some, MatchOption}
-use Rattle.std.proofs.lemmas.Bool.{cases_Bool, false≢true, true≢false}
+use Rattle.std.proofs.lemmas.Bool.{false≢true, true≢false}
 use Rattle.port_errors.specs.Errors.{cause_of}
 use Rattle.slots.specs.Commands.{has_outstanding, may_begin, may_go}
 use Rattle.slots.specs.Data.{payload}

@@ -1,13 +1,13 @@
 -- For `rested_have_done`. Each FIS that a disk is to send next is that of some bytes, so a disk that may send none has none to
 -- send.
-use Rattle.std.proofs.Common.{◌≡◌, ◌≢◌, ℕ, zero, suc, ◌+◌, ◌-◌, ◌*◌, ◌/◌, ◌%◌, ◌^◌, ◌<◌, ◌≤◌, ◌&&◌, Bool, true, false, List, [], ◌∷◌, ◌++◌, bit_and, drop, length, take, refl, sym, ap, subst, ◌∙◌, arith, Option, Some, None, length-append}
+use Rattle.std.proofs.Common.{◌≡◌, ℕ, zero, suc, ◌+◌, ◌-◌, ◌*◌, ◌/◌, ◌%◌, ◌^◌, ◌<◌, ◌≤◌, ◌&&◌, Bool, true, false, List, [], ◌∷◌, ◌++◌, bit_and, drop, length, refl, sym, ap, subst, ◌∙◌, arith, Option, Some, None, length-append}
 use Rattle.std.proofs.Math.Nat.{div-add-mod, mul_comm, mul-le-mul_right}
 use Rattle.std.proofs.lemmas.Bool.Decides.{nat_tests}
 use Rattle.std.proofs.lemmas.List.{length-drop, length-replicate, length-take-le}
 use Rattle.std.proofs.lemmas.Option.{same_Some}
-use Rattle.std.specs.Prelude.{if◌then◌else◌, min, nat_lt, not, option_map, replicate}
+use Rattle.std.specs.Prelude.{if◌then◌else◌, nat_lt, not, option_map, replicate}
 use Rattle.std.specs.Int.{byte_at, from_bool, to_le_bytes, w32, w64}
-use Rattle.fis_view.specs.Between.{AreBytes, IsBytes, IsHead, activate_list, bits_list, d2h_list, setup_list}
+use Rattle.fis_view.specs.Between.{AreBytes, IsHead, activate_list, bits_list, d2h_list, setup_list}
 use Rattle.fis_view.specs.Frames.{IsPayload}
 use Rattle.fis_view.specs.declared.build.D2hFields.{D2hFields}
 use Rattle.fis_view.specs.declared.build.DmaActivateFields.{DmaActivateFields}
@@ -24,13 +24,13 @@ use Rattle.disk_model.specs.declared.plan.DiskPlan.{DiskPlan}
 use Rattle.disk_model.specs.declared.plan.Profile.{Profile}
 use Rattle.disk_model.specs.declared.plan.Profile.TheVariants.{Bare, Stock}
 use Rattle.disk_model.specs.declared.request.Command.{Command}
-use Rattle.disk_model.specs.Between.{Agrees, Asked, Fresh, IsQueue, IsReading, IsWriting, Moves, SetUp, Stage}
+use Rattle.disk_model.specs.Between.{Asked, Fresh, IsQueue, IsReading, IsWriting, Moves, SetUp, Stage}
 use Rattle.disk_model.specs.Chunks.{asks_for, chunk_count, chunk_from, chunk_setup, chunks, error_of, fault_of, first_bad, report, sectors_at, sends_left}
 use Rattle.disk_model.specs.Disks.{Moment, Started, Turn, Writing, begun, begun_write, pick_turn, picked, read_turn, starts, turn, write_turn}
 use Rattle.disk_model.specs.Ledger.{Moving}
 use Rattle.disk_model.specs.Pages.{bare_data, checksum, error_head, error_log, filled_to, capabilities, linked_words, names, page_bytes, profile_data, queuing_words, serial_words, stock_data, stock_front, stock_names, stock_summed, timings, versions}
 use Rattle.disk_model.specs.Runs.{IsTurn}
-use Rattle.disk_model.specs.Sendings.{Activates, Carries, Sending, Shows, answer_sent, bits, page_follows, register, setup}
+use Rattle.disk_model.specs.Sendings.{Activates, Carries, Sending, Shows, answer_sent, bits, register, setup}
 use Rattle.disk_model.proofs.Door.{chunk_part, picked_in, sends_left_next, some_chunks}
 use Rattle.world_rests.proofs.PageBytes.{page_built, page_list}
 

@@ -1,7 +1,7 @@
 -- For `rested_have_done`. The command in slot 31 that went out, over the turns of a host: it stays until its answer comes, which
 -- frees the slot.
-use Rattle.std.proofs.Common.{◌≡◌, ◌≢◌, ◌⊎◌, ℕ, zero, suc, ◌+◌, ◌<◌, ◌≤◌, ◌==◌, Bool, true, false, List, [], ◌∷◌, length, map, refl, sym, ap, subst, ◌∙◌, inl, inr, Option, Some, None, Ok, arith}
-use Rattle.std.specs.Prelude.{◌&&◌, ◌||◌, not, is_none, is_some, if◌then◌else◌, MatchOption, Result, slice_index_or, slice_set}
+use Rattle.std.proofs.Common.{◌≡◌, ◌≢◌, ◌⊎◌, ℕ, zero, suc, ◌<◌, ◌≤◌, ◌==◌, Bool, true, false, List, [], ◌∷◌, length, map, refl, sym, ap, subst, ◌∙◌, inl, inr, Option, Some, None, arith}
+use Rattle.std.specs.Prelude.{◌&&◌, ◌||◌, not, if◌then◌else◌, slice_index_or, slice_set}
 use Rattle.std.specs.List.{flat_map, range_with_len}
 use Rattle.std.specs.Int.{from_bool}
 use Rattle.std.specs.Option.{option_map}
@@ -11,19 +11,14 @@ use Rattle.std.proofs.lemmas.List.FromFn.{get_or-map-range_with_len, length-rang
 use Rattle.std.proofs.lemmas.Option.{same_Some}
 use Rattle.fis_view.specs.Built.{IsBuilt, cut, h2d_given}
 use Rattle.fis_view.specs.Frames.{Stamped}
-use Rattle.fis_view.specs.Seen.{seen}
-use Rattle.fis_view.specs.Table.{C, D2h, H2d, Status, Error, Bits, SActive, field, places}
+use Rattle.fis_view.specs.Table.{C, H2d, places}
 use Rattle.fis_view.specs.declared.build.H2dFields.{H2dFields}
-use Rattle.fis_view.specs.declared.view.Fis.{Fis}
-use Rattle.fis_view.specs.declared.view.Fis.TheVariants as view
-use Rattle.fis_view.specs.declared.view.FisFault.{FisFault}
 use Rattle.host_memory.specs.Memory.{Memory}
-use Rattle.port_errors.specs.declared.cause.DeviceCause.{DeviceCause}
 use Rattle.port_errors.specs.declared.cause.DeviceCause.TheVariants as cause
 use Rattle.pm_control.specs.Requests.{IsCommand}
 use Rattle.hba_commands.specs.declared.command.Command.{Command}
-use Rattle.slots.specs.Commands.{after_complete, answer_for, answer_of, answered_as, answered_issue, completed, is_done, is_slot}
-use Rattle.slots.specs.Slots.{DeviceSlots, Issue, Slots, freed, has_bit, holds, is_queued_issue, is_waiting, is_whole_issue, issue_at, match_some, new_issue, no_own_slots, own_issue, owned_by, slots_of, waiting}
+use Rattle.slots.specs.Commands.{answer_for, answer_of, answered_as, answered_issue, completed, is_done, is_slot}
+use Rattle.slots.specs.Slots.{DeviceSlots, Issue, Slots, freed, holds, is_waiting, is_whole_issue, match_some, new_issue, no_own_slots, own_issue, slots_of, waiting}
 use Rattle.slots.specs.Table.{IsIssue, IsTable, waits_for}
 use Rattle.slots.specs.Work.{is_queued, needs_all}
 use Rattle.slots.specs.declared.answer.Answered.{Answered}
@@ -33,16 +28,13 @@ use Rattle.hba_fbs.specs.declared.hearing.Heard.{Heard}
 use Rattle.hba_fbs.specs.declared.hearing.Happening.TheVariants as happening
 use Rattle.hba_fbs.specs.declared.register.Register.{Register}
 use Rattle.hba_fbs.specs.declared.register.Register.TheVariants.{Cmd, Ci, Fbs}
-use Rattle.hba_fbs.specs.declared.report.TakeReport.{TakeReport}
-use Rattle.hba_fbs.specs.declared.state.DeviceState.{DeviceState}
-use Rattle.hba_fbs.specs.Hearing.{answered, faulty, heard_bits, heard_d2h, heard_fis, heard_register, named, quietly}
+use Rattle.hba_fbs.specs.Hearing.{answered, faulty, heard_bits, heard_d2h, heard_register, named, quietly}
 use Rattle.hba_fbs.specs.Issuing.{aimed, asked, issue_with, issues_with, view_issued}
-use Rattle.hba_fbs.specs.Posting.{signs}
 use Rattle.hba_fbs.specs.Registers.{falls}
 use Rattle.hba_fbs.specs.Sending.{Data, Gives, Nothing, Order, Outgoing, Unreadable, outgoing}
 use Rattle.hba_fbs.specs.Status.{after_reset, is_busy, is_error, with_bits, with_file}
-use Rattle.hba_fbs.specs.Taking.{admitted, device_cause, heard_view, ignores, is_ignored, is_running, passes_over, port_of, view_after_hearing}
-use Rattle.hba_fbs.specs.Views.{DeviceView, Port, flushed_view, stopped_view, view_of}
+use Rattle.hba_fbs.specs.Taking.{view_after_hearing}
+use Rattle.hba_fbs.specs.Views.{DeviceView, Port, stopped_view, view_of}
 use Rattle.hba_fbs.specs.Writing.{cleared_by, is_device, view_after}
 use Rattle.hba_laws.proofs.Door.{is_own, own_freed}
 use Rattle.hba_laws.specs.Hosts as event
@@ -52,9 +44,9 @@ use Rattle.hba_driver.proofs.Door.{each_run_tells, turns_are_events}
 use Rattle.hba_driver.specs.declared.order.Order.{Order as Asked}
 use Rattle.hba_driver.specs.declared.order.Order.TheVariants.{ResetOn, ResetOff, AwaitSignature, Watch}
 use Rattle.hba_driver.specs.Events.{IsSoundHost, events_over, gave, shared_by, took}
-use Rattle.hba_driver.specs.HostTurns.{Does, DoesAll, Host, Pushed, Ticked, Ticks, Took, Tooks}
+use Rattle.hba_driver.specs.HostTurns.{Does, DoesAll, Host, Pushed, Ticked, Ticks}
 use Rattle.hba_driver.specs.Orders.{order_fields}
-use Rattle.hba_driver.specs.Slot31.{Asks, Follows31, IsAt31, IsFree31, IsIn, IsUnsent, Pushes31, Resets, Signs, Stage31, Turns31, Waits, control_of, is_off, is_on}
+use Rattle.hba_driver.specs.Slot31.{Follows31, IsAt31, IsFree31, IsIn, Pushes31, Resets, Signs, Stage31, Turns31, control_of, is_off, is_on}
 
 -- a command of the control port in slot 31 went out, and the control port has no fault
 pub record IsAsking (v : DeviceView) : Type 0 where
