@@ -1,6 +1,6 @@
 -- For `rested`. The steps of a round of one port, and what a world that did nothing in one is.
-use Rattle.std.proofs.Common.{◌≡◌, ◌≢◌, ℕ, zero, suc, ◌<◌, Bool, true, false, List, [], ◌∷◌, length, map, Some, refl, sym, ap, subst, ◌∙◌, arith}
-use Rattle.std.specs.Prelude.{◌↔◌, Result, Ok, Err, slice_get}
+use Rattle.std.proofs.Common.{◌≡◌, ℕ, zero, suc, ◌<◌, Bool, true, false, List, [], ◌∷◌, length, map, Some, refl, sym, ap, subst, ◌∙◌, arith}
+use Rattle.std.specs.Prelude.{◌↔◌, Result, Ok, Err}
 use Rattle.std.proofs.lemmas.List.{length-map}
 use Rattle.pm_world.specs.Attached.{Attached}
 use Rattle.pm_world.specs.Places.{Places, is_config, new_world}
@@ -10,7 +10,7 @@ use Rattle.pm_world.specs.declared.step.Config.{Config}
 use Rattle.pm_world.specs.declared.step.Step.{Step}
 use Rattle.pm_world.specs.declared.step.Step.TheVariants as step
 use Rattle.world_rests.specs.Laws.{RestsAfter}
-use Rattle.world_rests.specs.Rests.{HasRound, IsOfRound, NothingMoves}
+use Rattle.world_rests.specs.Rests.{HasRound, NothingMoves}
 use Rattle.world_rests.specs.Waits.{HostWaits}
 
 abbrev pub round : List Step

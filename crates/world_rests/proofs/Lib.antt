@@ -2,6 +2,12 @@ mod Parts
 mod Well
 mod Comings
 mod Idle
+mod Sending
+mod PageBytes
+mod Shown
+mod Owes
+mod Slot31
+mod Orders
 mod Still
 mod Rested
 mod Served

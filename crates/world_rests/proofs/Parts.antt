@@ -81,7 +81,7 @@ set_each P (a ∷ xs) (suc i) y is each (suc j) x at = set_each (λ k. P (suc k)
 
 -- ---- a run and one more step
 
-run_more : (first old : Places) (steps : List Step) (answers : List Answer) (s : Step) (a : Answer) (new : Places) → Run first steps answers old → Rule old s (Ok a) new → Run first (steps ++ s ∷ []) (answers ++ a ∷ []) new
+pub run_more : (first old : Places) (steps : List Step) (answers : List Answer) (s : Step) (a : Answer) (new : Places) → Run first steps answers old → Rule old s (Ok a) new → Run first (steps ++ s ∷ []) (answers ++ a ∷ []) new
 run_more first old [] [] s a new run rule = (new, subst (λ (w : Places). Rule w s (Ok a) new) run rule, refl)
 run_more first old (t ∷ steps) (b ∷ answers) s a new run rule = (run.0, run.1, run_more run.0 old steps answers s a new run.2 rule)
 run_more first old [] (b ∷ answers) s a new run rule = absurd run

@@ -12,13 +12,19 @@ use Rattle.multiplier.specs.Arbiter.{control_port, next_served}
 use Rattle.multiplier.specs.Rules.{FromHostRule, ToControl, ToDevice, ToNobody, ToPort}
 use Rattle.multiplier.specs.State.{PmState, held, next_place, passes_to, pm_port, port_at, ready}
 use Rattle.multiplier.specs.declared.multiplier.PmRefusal.TheVariants as refusal
+use Rattle.slots.specs.Slots.{own_issue, owned_by}
+use Rattle.slots.proofs.Door.{own_at}
 use Rattle.hba_fbs.specs.Sending.{MayRest}
+use Rattle.hba_fbs.specs.Views.{view_of}
 use Rattle.hba_driver.specs.declared.mode.Mode.TheVariants.{Switching}
 use Rattle.hba_driver.specs.HostTurns.{Host, sight_in}
 use Rattle.hba_driver.specs.Ticks.{acts}
 use Rattle.pm_ports.specs.Port.{rises as rises_from}
+use Rattle.disk_model.specs.Laws.{AfterEachRun, SilentRight}
 use Rattle.pm_world.specs.Attached.{IsSilentAttached}
 use Rattle.pm_world.specs.DevicePaths.{ReachedAreOrderly}
+use Rattle.pm_world.specs.Line.{OneOrderAtATime}
+use Rattle.pm_world.specs.PortsGoOn.{PortGoesOn, PortsGoOn}
 use Rattle.pm_world.specs.Runs.{IsReached}
 use Rattle.pm_world.specs.declared.link.Change.{Change}
 use Rattle.pm_world.specs.Places.{IsFull, Place, Places, Queue, with_device, with_multiplier}
@@ -29,10 +35,15 @@ use Rattle.pm_world.specs.declared.step.Step.TheVariants as step
 use Rattle.pm_world.specs.declared.step.StepError.TheVariants as error
 use Rattle.world_rests.specs.Laws.{RestedHaveDone}
 use Rattle.world_rests.specs.Rests.{IsAtRest, NothingMoves, PortRests, is_still}
-use Rattle.world_rests.specs.Waits.{HostWaits}
+use Rattle.world_rests.specs.Sent.{ControlHasAnswered, PortWaits}
+use Rattle.world_rests.specs.Waits.{DriverWaits, HostWaits}
 use Rattle.world_rests.proofs.Comings.{IsKnown, Of, all, known, known_reached}
 use Rattle.world_rests.proofs.Idle.{driver_waits}
+use Rattle.world_rests.proofs.Orders.{none_asking}
+use Rattle.world_rests.proofs.Owes.{silent_answers}
 use Rattle.world_rests.proofs.Parts.{get_below, get_there}
+use Rattle.world_rests.proofs.Sending.{port_waits}
+use Rattle.world_rests.proofs.Slot31.{IsAsking}
 use Rattle.world_rests.proofs.Well.{IsWell, well_in}
 
 neither : (a b : Bool) → (a || b) ≡ false → (a ≡ false) × (b ≡ false)
@@ -180,7 +191,7 @@ at_port now n place a new R at rule =
     subst (λ (o : Option Place). MatchOption o ((Ok a ≡ Err error.NoSuchPort) × (new ≡ now))
     (λ p. (after : Place) × (left : PmState) × R p now.multiplier (Ok a) after left × (new ≡ with_multiplier (with_device now n after) left))) at rule
 
-module _ (now : Places) (w : IsWell Switching now) (are : IsKnown now) (rests : IsAtRest now) where
+module _ (law : AfterEachRun SilentRight) (now : Places) (w : IsWell Switching now) (are : IsKnown now) (rests : IsAtRest now) where
   upward : now.upward.frames ≡ []
   upward = let d = rests step.HostTake tt in took_all now.upward now.host d.answer now.upward now.host d.still d.rule.0
 
@@ -310,6 +321,7 @@ module _ (now : Places) (w : IsWell Switching now) (are : IsKnown now) (rests : 
         presence = presence n place at;
         rises = rises n (omega (arith, low, few));
         passed = passed n place at (omega (arith, low, few));
+        answered = λ on opens. silent_answers law place.unit ((passed n place at (omega (arith, low, few)) (λ there. opens)).2 on);
         shut = silent n place at;
       }
 
@@ -335,13 +347,31 @@ module _ (now : Places) (w : IsWell Switching now) (are : IsKnown now) (rests : 
   pub moves_none : length now.devices ≤ 15 → NothingMoves now
   moves_none few = record { upward = upward; downward = downward; answer = answer_none; notice = control.0; ports = most few }
 
-  pub host_waits : HostWaits now.host
-  host_waits = record { port = port_rests; driver = driver_waits (sight_in now.host) now.host.driver w.host.drives idle }
+  driver : DriverWaits (sight_in now.host) now.host.driver
+  driver = driver_waits (sight_in now.host) now.host.driver w.host.drives idle
 
-pub rested_have_done : ReachedAreOrderly → RestedHaveDone
-rested_have_done orderly config units fits before told now run rests =
+  port : PortGoesOn now → PortWaits now.host.port
+  port goes = port_waits now.host w.host port_rests driver.opened driver.restarted goes.goes.faultless driver.faultless
+
+  -- what is issued to the control port did not go out
+  control_answers : PortWaits now.host.port → (IsAsking (view_of 15 now.host.port) → ⊥) → ControlHasAnswered now.host.port
+  control_answers waits none issue there own = elim (waits.sent 31 issue (omega arith) there) [
+    | inr back ↦ back
+    | inl sent ↦
+        let all : length now.host.port.slots.issues ≡ 32 = w.host.ruled.table.slots in
+        let its : own_issue (view_of 15 now.host.port).slots 31 ≡ Some issue =
+        own_at 15 now.host.port.slots 31 (omega (arith, all)) ∙ ap (owned_by 15) there ∙ ap (λ (b : Bool). if b then Some issue else None) (eq-eqb issue.dev 15 own) in
+        absurd (none (record { issue = issue; there = its; sent = sent; well = waits.faultless 15 }))
+  ]
+
+  pub host_waits : PortGoesOn now → (now.downward.frames ≡ [] → now.multiplier.answer ≡ None → now.upward.frames ≡ [] → IsAsking (view_of 15 now.host.port) → ⊥) → HostWaits now.host
+  host_waits goes none =
+      record { port = port goes; control = control_answers (port goes) (none downward answer_none upward); driver = driver }
+
+pub rested_have_done : AfterEachRun SilentRight → OneOrderAtATime → PortsGoOn → ReachedAreOrderly → RestedHaveDone
+rested_have_done law lines goes orderly config units fits before told now run rests =
     let r : IsReached now = record { mode = Switching; config = config; units = units; fits = fits; steps = before; answers = told; run = run } in
     let are : IsKnown now = known_reached orderly now r in
     let w : IsWell Switching now = well_in Switching config units fits before told now run in
     let few : length now.devices ≤ 15 = w.most in
-    (moves_none now w are rests few, host_waits now w are rests)
+    (moves_none law now w are rests few, host_waits law now w are rests (goes config units fits before told now run) (none_asking lines goes config units fits before told now run))

@@ -339,7 +339,7 @@ fits_of config units fits = cases (nat_le 1 config.ports) (nat_le config.ports 1
     cases true true true true true true true true few room same fits = record { few = leb-true config.ports 15 few; room = leb-true 1 config.capacity room; same = eqb-true units config.ports same }
     cases _ _ _ _ _ _ _ _ few room same fits = absurd (cc)
 
-sized : (config : Config) (units : ℕ) → is_config config units ≡ true → is_memory_size config.memory ≡ true
+pub sized : (config : Config) (units : ℕ) → is_config config units ≡ true → is_memory_size config.memory ≡ true
 sized config units right = search rules
 
 opening_some : (capacity : ℕ) → 1 ≤ capacity → (units : List Attached) (n : ℕ) (place : Place) → slice_get (map (opening capacity) units) n ≡ Some place → HasSome place

@@ -1,4 +1,5 @@
 pub mod Rests
+pub mod Sent
 pub mod Waits
 pub mod Turns
 pub mod Laws

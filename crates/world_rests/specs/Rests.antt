@@ -4,7 +4,12 @@ use Rattle.std.specs.Prelude.{ℕ, ◌≡◌, ◌<◌, ◌⊎◌, Bool, IsTrue, 
 use Rattle.std.specs.Prelude.{slice_get}
 use Rattle.pm_registers.specs.RegisterMap.{forwards}
 use Rattle.multiplier.specs.State.{PmState, held, port_at}
-use Rattle.pm_world.specs.Attached.{IsSilentAttached}
+use Rattle.disk_model.specs.declared.unit.Unit.TheVariants.{Disk}
+use Rattle.disk_model.specs.Histories.{Happening}
+use Rattle.disk_model.specs.Laws.{OwesNothing}
+use Rattle.disk_model.specs.Ledger.{IsSize, ledger}
+use Rattle.disk_model.specs.Runs.{DiskStandsFor}
+use Rattle.pm_world.specs.Attached.{Attached, IsSilentAttached, Modelled}
 use Rattle.pm_world.specs.Places.{IsFull, Place, Places}
 use Rattle.pm_world.specs.Rules.{Rule}
 use Rattle.pm_world.specs.declared.step.Answer.{Answer}
@@ -51,11 +56,21 @@ pub record DoesNothing (now : Places) (s : Step) : Type 0 where
 abbrev pub IsAtRest : Places → Type 0
 IsAtRest now = (s : Step) → IsOfRound (length now.devices) s → DoesNothing now s
 
+-- ---- what a device owes
+
+-- A disk has answered all that it heard: by the FISes of each history that it stands for, each command and each reset was
+-- answered, and each page came; and no command is outstanding, or a write waits for Data that the disk asked for.
+abbrev pub HasAnswered : Attached → Type 0
+HasAnswered (Modelled (Disk disk)) =
+    (history : List Happening) → DiskStandsFor disk history → IsSize disk.plan disk.sectors → OwesNothing (ledger history)
+HasAnswered device = Unit {0}
+
 -- ---- where frames stand
 
 -- What stands at port n. Nothing is on its way down to the device, and no change of its presence is left to record. If the port
--- forwards, or no device is plugged in, nothing is on its way up, and the device has nothing to send. What is on its way up
--- from a device behind a port that does not forward waits there, and the device is silent or its link is full.
+-- forwards, or no device is plugged in, nothing is on its way up, and the device has nothing to send: if it is a disk, it has
+-- answered all that it heard. What is on its way up from a device behind a port that does not forward waits there, and the
+-- device is silent or its link is full.
 pub record PortRests (n : ℕ) (place : Place) (pm : PmState) : Type 0 where
   pub down : place.down.frames ≡ []
   pub falls : (port_at pm n).down ≡ None
@@ -63,6 +78,7 @@ pub record PortRests (n : ℕ) (place : Place) (pm : PmState) : Type 0 where
   pub rises : held pm n ≡ None
   pub passed : (IsTrue place.plugged → forwards pm.registers n ≡ true)
       → (place.up.frames ≡ []) × ((port_at pm n).up ≡ None) × (IsTrue place.plugged → IsSilentAttached place.unit)
+  pub answered : IsTrue place.plugged → forwards pm.registers n ≡ true → HasAnswered place.unit
   pub shut : IsTrue place.plugged → IsSilentAttached place.unit ⊎ IsFull place.up
 
 -- Nothing is on its way between multiplier and host, and the control port has nothing to send.

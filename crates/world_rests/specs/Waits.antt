@@ -3,7 +3,6 @@
 -- command that is issued, for the end of a software reset, for a notification or a signature, or for a client.
 use Rattle.std.specs.Prelude.{ℕ, ◌≡◌, ◌≢◌, ◌<◌, ◌≤◌, Bool, true, false, List, Option, Some, None, slice_index_or}
 use Rattle.slots.specs.Slots.{has_bit}
-use Rattle.hba_fbs.specs.Sending.{MayRest}
 use Rattle.hba_driver.specs.declared.order.Order.TheVariants.{AwaitSignature, Watch}
 use Rattle.hba_driver.specs.declared.path.Path.{Path}
 use Rattle.hba_driver.specs.declared.path.Stage.TheVariants.{AwaitReset}
@@ -14,6 +13,7 @@ use Rattle.hba_driver.specs.Drivers.{Driver, Entry, device_at, entry_at, is_issu
 use Rattle.hba_driver.specs.HostTurns.{Host, sight_in}
 use Rattle.hba_driver.specs.Seeing.{Sight}
 use Rattle.hba_driver.specs.Turns.{is_in_reset}
+use Rattle.world_rests.specs.Sent.{ControlHasAnswered, PortWaits}
 
 -- ---- slot 31
 
@@ -59,7 +59,8 @@ pub record DriverWaits (v : Sight) (d : Driver) : Type 0 where
   pub slot30 : Waits30 v d.plan
   pub requests : RequestsWait v d.plan d.entries
 
--- the host: no command may go out, no data is due to a device, and the driver waits
+-- the host: its port has sent what it may, the control port has answered, and the driver waits
 pub record HostWaits (h : Host) : Type 0 where
-  pub port : MayRest h.port
+  pub port : PortWaits h.port
+  pub control : ControlHasAnswered h.port
   pub driver : DriverWaits (sight_in h) h.driver

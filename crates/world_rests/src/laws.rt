@@ -21,11 +21,16 @@ pub fn still_rounds_rest()
 
 /// Holds of each world at rest that a run from a new one with FIS-based switching leads to, whatever its devices are. Nothing is
 /// on its way between multiplier and host, or down to a device, and the control port has nothing to send. At each port that
-/// forwards, or without a device, nothing is on its way up, and the device has nothing to send. Behind a port that does not
-/// forward what comes up waits. The host port has nothing to send, and the driver waits.
+/// forwards, or without a device, nothing is on its way up, and the device has nothing to send; if it is a disk of
+/// `disk_model`, it has answered all that it heard. Behind a port that does not forward what comes up waits. The host port
+/// runs, no device is faulty, each has the data that it asked for, and each command that is issued was sent, unless its device
+/// holds it back. The control port has answered each command that went out to it. The driver waits.
 pub fn rested_have_done()
     ensures { RestedHaveDone }
 {
+    disk_model::is_silent_where_nothing_is_owed();
+    pm_world::one_order_at_a_time();
+    pm_world::ports_go_on();
     pm_world::paths_go_on();
 }
 
