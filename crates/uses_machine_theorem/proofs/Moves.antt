@@ -1,0 +1,42 @@
+-- What a move lends was brought.
+use Rattle.std.proofs.Common.{◌≡◌, ℕ, Bool, List, [], ◌∷◌, ◌++◌, Result, Ok, Err, refl, subst}
+use Rattle.std.specs.Prelude.{IfOk}
+use Rattle.std.specs.declared.alloc.AllocError.{AllocError}
+use Rattle.hba_fbs.specs.Views.{IsCorePort}
+use Rattle.slots.specs.Table.{IsTable}
+use Rattle.ahci_controller.specs.Rules.{IsRuled}
+use Rattle.ahci_controller.specs.declared.next.Next.TheVariants as next
+use Rattle.ahci_machine.specs.Acts.{Steps}
+use Rattle.ahci_machine.specs.States.{HasRules, IsOpeningMachine, MachineState}
+use Rattle.ahci_machine.specs.declared.act.Act.{Act}
+use Rattle.ahci_machine.specs.declared.act.Act.TheVariants as act
+use Rattle.machine_laws.specs.ControllerLaws.{RunsRuled}
+use Rattle.machine_laws.specs.Deeds.{Deed, Does, Moved}
+use Rattle.machine_theorem.specs.Parts.{PayloadIsBrought}
+use Rattle.uses_machine_theorem.specs.Led.{IsLed, LendsBrought}
+
+pub ruled : (m : MachineState) → IsCorePort m.controller.core → IsTable m.controller.core.slots → IsRuled m.controller → HasRules m
+ruled m port slots rules = record { port = port; slots = slots; rules = rules }
+
+pub opened : (ports : ℕ) (legacy : Bool) (m : MachineState) → IsOpeningMachine ports legacy m → HasRules m → IsLed m
+opened ports legacy m opens rules = record { ports = ports; legacy = legacy; first = m; opens = opens; deeds = []; run = (rules, refl) }
+
+-- one deed more
+more : (deeds : List Deed) (first old new : MachineState) (deed : Deed) → RunsRuled first deeds old → Does old deed new → HasRules new → RunsRuled first (deeds ++ deed ∷ []) new
+more [] first old new deed run does rules = (run.0, (new, subst (λ (m : MachineState). Does m deed new) run.1 does, (rules, refl)))
+more (d ∷ later) first old new deed run does rules = (run.0, (run.1.0, run.1.1, more later run.1.0 old new deed run.1.2 does rules))
+
+pub led : (old new : MachineState) (told : Result Act AllocError) → IfOk told (λ a. Steps old a new) → HasRules new → IsLed old → IfOk told (λ a. IsLed new)
+led old new (Ok a) step rules was = record {
+  ports = was.ports;
+  legacy = was.legacy;
+  first = was.first;
+  opens = was.opens;
+  deeds = was.deeds ++ Moved a ∷ [];
+  run = more was.deeds was.first old new (Moved a) was.run step rules;
+}
+led old new (Err e) step rules was = tt
+
+pub brought : PayloadIsBrought → (old new : MachineState) (told : Result Act AllocError) → IfOk told (λ a. Steps old a new) → LendsBrought old told new
+brought law old new told step m is was =
+    law was.ports was.legacy was.first was.opens was.deeds old was.run m new (subst (λ (t : Result Act AllocError). IfOk t (λ a. Steps old a new)) is step)
