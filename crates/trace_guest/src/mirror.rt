@@ -2,7 +2,7 @@
 
 use crate::opening::Sizes;
 use fis_view::{Fis, Frame};
-use pm_registers::{CONTROL_PORT, DET_MASK, PSCR_CONTROL, PSCR_ERROR, PSCR_STATUS, PmRegisters};
+use pm_registers::{CONTROL_PORT, PSCR_CONTROL, PSCR_ERROR, PSCR_STATUS, PmRegisters};
 use trace_text::{Closed, bit_of};
 
 /// A write to a register of the multiplier.
@@ -15,9 +15,6 @@ pub struct PmWrite {
 
 /// WRITE PORT MULTIPLIER.
 const WRITE_PORT_MULTIPLIER: u8 = 0xE8;
-
-/// DET of SControl that holds a device in reset.
-const DET_RESET: u32 = 1;
 
 impl PmWrite {
     /// The write that a frame for the control port asks for, if it does.
@@ -54,10 +51,6 @@ impl Mirror {
         }
     }
 
-    fn is_there(&self, port: u8) -> bool {
-        self.there & bit_of(port) != 0
-    }
-
     /// A disk comes to a port.
     pub fn plug(&mut self, port: u8) {
         if port < self.registers.ports() {
@@ -85,25 +78,16 @@ impl Mirror {
         }
     }
 
-    /// The control port did this. A device that was in reset and is no more begins a new connection.
+    /// The control port did this. A disk whose reset ends begins a new connection, by which no register changes any more: the
+    /// write itself has set DIAG.X.
     pub fn write(&mut self, write: PmWrite) {
         let PmWrite {
             port,
             register,
             value,
         } = write;
-        let was_reset = self.is_in_reset(port);
         // What it refuses changes nothing.
         let _ = self.registers.write(port, register, value);
-        let is_begun = register == PSCR_CONTROL && was_reset && !self.is_in_reset(port);
-        if is_begun && self.is_there(port) {
-            self.pull(port);
-            self.plug(port);
-        }
-    }
-
-    fn is_in_reset(&self, port: u8) -> bool {
-        port != CONTROL_PORT && self.value(port, PSCR_CONTROL) & DET_MASK == DET_RESET
     }
 
     fn value(&self, port: u8, register: u16) -> u32 {
