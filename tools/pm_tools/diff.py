@@ -24,7 +24,7 @@ from pm_tools.trace import CONTROL_PORT, NotATrace, Step, Trace, read_trace
 
 AROUND = 2  # how many lines that are alike stand round a difference
 DIFFERENT, UNREADABLE = 1, 4
-LOOSE = ((r"(, |of |done )?\bslot \d+( ticket \d+)?", r"\1"), (r" fis \d+", ""), (r"\btag \d+", "tag"))
+LOOSE = ((r"(, |of |done )?\bslot \d+( ticket \d+)?", r"\1"), (r" fis \d+", ""), (r"\btag \d+", "tag"), (r" at #\d+", ""))
 
 
 def loose(text: str) -> str:

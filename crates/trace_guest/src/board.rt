@@ -2,6 +2,7 @@
 
 use crate::event::Access;
 use crate::medium::{Medium, aborted};
+use crate::opening::Sizes;
 use crate::telling::Telling;
 use crate::tracer::Tracer;
 use ahci_controller::Width;
@@ -18,6 +19,8 @@ use trace_text::Failure;
 #[derive(Drop)]
 pub struct Seat<F: Drop> {
     medium: Medium<F>,
+    /// How many sectors it has.
+    sectors: u64,
     is_there: bool,
     /// How often it was plugged in or its link was reset, which is the number of its connection.
     conn: u32,
@@ -25,9 +28,10 @@ pub struct Seat<F: Drop> {
 
 impl<F: Read + Write + Seek + OpenFile + Drop> Seat<F> {
     /// A disk that is not plugged in.
-    pub fn new(medium: Medium<F>) -> Seat<F> {
+    pub fn new(medium: Medium<F>, sectors: u64) -> Seat<F> {
         Seat {
             medium,
+            sectors,
             is_there: false,
             conn: 0,
         }
@@ -64,12 +68,13 @@ impl<F: Read + Write + Seek + OpenFile + Drop> Board<F> {
         memory: FlatGuest,
         seats: Vec<Seat<F>>,
         telling: Telling,
+        sizes: Sizes,
     ) -> Board<F> {
         Board {
             machine,
             memory,
             seats,
-            tracer: Tracer::new(telling),
+            tracer: Tracer::new(telling, sizes),
         }
     }
 
@@ -79,6 +84,7 @@ impl<F: Read + Write + Seek + OpenFile + Drop> Board<F> {
         let seat = self.seats.get_mut(usize::from(port))?;
         self.machine.plug(port).ok()?;
         seat.is_there = true;
+        self.tracer.plug(port, seat.sectors);
         Some(seat.connect())
     }
 
@@ -87,6 +93,7 @@ impl<F: Read + Write + Seek + OpenFile + Drop> Board<F> {
         let seat = self.seats.get_mut(usize::from(port))?;
         self.machine.pull(alloc, port).ok()?;
         seat.is_there = false;
+        self.tracer.pull(port);
         Some(seat.conn)
     }
 
@@ -134,8 +141,14 @@ impl<F: Read + Write + Seek + OpenFile + Drop> Board<F> {
     }
 
     /// Writes that it did, if that is asked for.
-    pub fn tell_put<W: Write>(&mut self, at: u64, len: usize, out: &mut W) -> Result<(), Failure> {
-        self.tracer.tell_put(at, len, out)
+    pub fn tell_put<W: Write>(
+        &mut self,
+        at: u64,
+        bytes: &[u8],
+        out: &mut W,
+    ) -> Result<(), Failure> {
+        self.tracer
+            .tell_put(&self.machine, &self.memory, at, bytes, out)
     }
 
     /// Reads the guest's memory, from an address on.

@@ -2,12 +2,14 @@
 
 use crate::open::OpenSlot;
 use crate::warning::Warning;
+use crate::why::Why;
 use ahci_controller::{Hindrance, NotTaken};
 use block_engine::What;
 use fis_view::Frame;
 use hba_fbs::{Ignored, TakeReport, WriteError, Wrote};
 use port_errors::DeviceCause;
 use sata_disk::Unheard;
+use trace_text::{Closed, Compared};
 
 /// One thing that a trace tells of.
 #[derive(Drop)]
@@ -17,10 +19,7 @@ pub enum Event<'a> {
     /// The driver writes a register.
     Writes(Access),
     /// The driver writes bytes to the guest's memory.
-    Puts {
-        at: u64,
-        len: usize,
-    },
+    Puts(Put<'a>),
     /// The port ignores what was written last.
     Ignores(WriteError),
     /// The driver breaks a rule for software.
@@ -43,7 +42,7 @@ pub enum Event<'a> {
     /// A FIS goes over the link, or waits at its end.
     Moves(Moved<'a>),
     /// The multiplier drops the FIS for this port that came down last.
-    Drops(u8),
+    Drops(Closed),
     /// A disk does not hear a FIS.
     Unheard {
         port: u8,
@@ -79,6 +78,15 @@ pub enum Part {
     Table(u8),
     /// Data for the device at this port.
     Data(u8),
+}
+
+/// Bytes that the driver writes to the guest's memory.
+#[derive(Clone, Copy)]
+pub struct Put<'a> {
+    pub at: u64,
+    pub bytes: &'a [u8],
+    /// The part of a command that begins there, if that is known.
+    pub part: Option<Part>,
 }
 
 /// Bytes that the controller reads.
@@ -129,6 +137,8 @@ pub struct Hearing {
     pub brought: Option<Wrote>,
     /// The first fault of its device, if it had one before.
     pub first: Option<DeviceCause>,
+    /// What its fault compares, if that is known.
+    pub compared: Option<Compared>,
 }
 
 /// What became of a FIS.
@@ -155,4 +165,6 @@ pub struct Moved<'a> {
     /// Its number among those that went over the link.
     pub number: u64,
     pub outcome: Outcome,
+    /// Why the disk fails the command that goes down, or the only one that this FIS can be about.
+    pub why: Option<Why>,
 }

@@ -1,13 +1,12 @@
 //! A thing that a trace tells of, as an object of JSON.
 
-use crate::event::{Access, Event, Fetch, Hearing, Moved, Outcome, Part, Store, Stored};
+use crate::event::{Access, Event, Fetch, Hearing, Moved, Outcome, Part, Put, Store, Stored};
 use crate::event_text::{AskedWords, write_answer};
-use crate::fault::{device_fault, port_fault};
 use crate::register_text::{BitsArray, name_of};
 use ahci_controller::Hindrance;
 use ahci_registers::Register;
 use std::fmt;
-use trace_text::{FrameShort, bit_of, named_slots};
+use trace_text::{Compared, FrameShort, bit_of, device_fault, named_slots, port_fault};
 
 /// What a trace tells of, as an object of JSON in one line. No string of it needs an escape.
 #[derive(Drop)]
@@ -54,7 +53,7 @@ fn sides_of(event: &Event<'_>) -> Sides {
     match event {
         Event::Reads(_) => Sides::new("reads", "driver", "host"),
         Event::Writes(_) => Sides::new("writes", "driver", "host"),
-        Event::Puts { .. } => Sides::new("puts", "driver", "memory"),
+        Event::Puts(_) => Sides::new("puts", "driver", "memory"),
         Event::Ignores(_) => Sides::new("ignores", "host", "driver"),
         Event::Warns(_) => Sides::new("warns", "host", "driver"),
         Event::Ends(_) => Sides::new("ends", "host", "driver"),
@@ -83,7 +82,8 @@ fn sides_of_moved(moved: &Moved<'_>) -> Sides {
 fn port_of(event: &Event<'_>) -> Option<u8> {
     match event {
         Event::Issues { dev, .. } => Some(*dev),
-        Event::Drops(port) | Event::Unheard { port, .. } | Event::Asks { port, .. } => Some(*port),
+        Event::Drops(closed) => Some(closed.port),
+        Event::Unheard { port, .. } | Event::Asks { port, .. } => Some(*port),
         Event::Fetches(fetch) => match fetch.part {
             Part::Data(port) => Some(port),
             _ => None,
@@ -101,11 +101,22 @@ fn slots_of(event: &Event<'_>) -> u32 {
         Event::Issues { slot, .. } | Event::Misses(slot) => bit_of(*slot),
         Event::Refuses(refused) => bit_of(refused.slot),
         Event::Open(open) => bit_of(open.slot),
-        Event::Fetches(fetch) => match fetch.part {
-            Part::Header(slot) | Part::Fis(slot) | Part::Table(slot) => bit_of(slot),
-            Part::Data(_) => 0,
-        },
+        Event::Fetches(fetch) => slots_of_part(fetch.part),
+        Event::Puts(
+            Put {
+                part: Some(part),
+                ..
+            },
+        ) => slots_of_part(*part),
         _ => 0,
+    }
+}
+
+/// The slot of a part of a command, as a mask.
+fn slots_of_part(part: Part) -> u32 {
+    match part {
+        Part::Header(slot) | Part::Fis(slot) | Part::Table(slot) => bit_of(slot),
+        Part::Data(_) => 0,
     }
 }
 
@@ -144,12 +155,15 @@ impl fmt::Display for SlotArray {
 fn write_more<W: fmt::Write>(event: &Event<'_>, f: &mut fmt::Formatter<W>) -> fmt::Result {
     match event {
         Event::Reads(access) | Event::Writes(access) => write_access(*access, f),
-        Event::Puts { at, len } => write!(f, ",\"address\":\"{at:x}\",\"length\":{len}"),
+        Event::Puts(put) => write_put(*put, f),
         Event::Ignores(why) => write!(f, ",\"why\":\"{why}\""),
         Event::Warns(warning) => write!(f, ",\"section\":\"{}\"", warning.section()),
         Event::Line(is_up) => write!(f, ",\"up\":{is_up}"),
         Event::Fetches(fetch) => write_fetch(fetch, f),
-        Event::Drops(_) => f.write_str(",\"dropped\":\"by the multiplier\""),
+        Event::Drops(closed) => {
+            f.write_str(",\"dropped\":\"by the multiplier\"")?;
+            write!(f, ",\"why\":\"{closed}\"")
+        }
         Event::Unheard { why, .. } => write!(f, ",\"ignored\":true,\"why\":\"{why}\""),
         Event::Stores(store) => write_store(*store, f),
         Event::Asks { what, failed, .. } => {
@@ -179,13 +193,24 @@ fn write_access<W: fmt::Write>(access: Access, f: &mut fmt::Formatter<W>) -> fmt
     }
 }
 
-fn write_fetch<W: fmt::Write>(fetch: &Fetch<'_>, f: &mut fmt::Formatter<W>) -> fmt::Result {
-    let part = match fetch.part {
+fn part_name(part: Part) -> &'static str {
+    match part {
         Part::Header(_) => "header",
         Part::Fis(_) => "command",
         Part::Table(_) => "table",
         Part::Data(_) => "data",
-    };
+    }
+}
+
+fn write_put<W: fmt::Write>(put: Put<'_>, f: &mut fmt::Formatter<W>) -> fmt::Result {
+    if let Some(part) = put.part {
+        write!(f, ",\"part\":\"{}\"", part_name(part))?;
+    }
+    write_place(put.at, put.bytes.len(), false, f)
+}
+
+fn write_fetch<W: fmt::Write>(fetch: &Fetch<'_>, f: &mut fmt::Formatter<W>) -> fmt::Result {
+    let part = part_name(fetch.part);
     let (at, len, is_lost) = (fetch.at, fetch.len, fetch.bytes.is_none());
     write!(f, ",\"part\":\"{part}\"")?;
     write_place(at, len, is_lost, f)
@@ -231,10 +256,14 @@ fn write_moved<W: fmt::Write>(moved: &Moved<'_>, f: &mut fmt::Formatter<W>) -> f
     };
     write_slots(slots, f)?;
     match moved.outcome {
-        Outcome::Sent => Ok(()),
-        Outcome::Heard(hearing) => write_hearing(hearing, f),
-        Outcome::Ignored(..) => f.write_str(",\"ignored\":true"),
-        Outcome::Hindered(why) => write_hindrance(why, f),
+        Outcome::Sent => {}
+        Outcome::Heard(hearing) => write_hearing(hearing, f)?,
+        Outcome::Ignored(..) => f.write_str(",\"ignored\":true")?,
+        Outcome::Hindered(why) => write_hindrance(why, f)?,
+    }
+    match moved.why {
+        Some(why) => write!(f, ",\"why\":\"{why}\""),
+        None => Ok(()),
     }
 }
 
@@ -253,6 +282,9 @@ fn write_hearing<W: fmt::Write>(hearing: Hearing, f: &mut fmt::Formatter<W>) -> 
         (Some(cause), _) => write!(f, ",\"fault\":\"{}\"", device_fault(cause))?,
         (None, Some(cause)) => write!(f, ",\"fault\":\"{}\"", port_fault(cause))?,
         (None, None) => {}
+    }
+    if let Some(Compared { found, wanted }) = hearing.compared {
+        write!(f, ",\"found\":\"{found}\",\"wanted\":\"{wanted}\"")?;
     }
     match report.done {
         0 => Ok(()),

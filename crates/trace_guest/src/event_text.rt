@@ -1,7 +1,8 @@
 //! A line of a trace.
 
-use crate::event::{Access, Event, Fetch, Hearing, Moved, Outcome, Part, Refused, Store, Stored};
-use crate::fault::{device_fault, port_fault};
+use crate::event::{
+    Access, Event, Fetch, Hearing, Moved, Outcome, Part, Put, Refused, Store, Stored,
+};
 use crate::open::OpenSlot;
 use crate::register_text::{BitsText, name_of};
 use ahci_controller::{Hindrance, NotTaken};
@@ -11,14 +12,14 @@ use guest_fetch::Refusal;
 use hba_fbs::Ignored;
 use port_errors::DeviceCause;
 use std::fmt;
-use trace_text::{FrameShort, bit_of};
+use trace_text::{FrameShort, bit_of, device_fault, port_fault};
 
 impl fmt::Display for Event<'_> {
     fn fmt<W: fmt::Write>(&self, f: &mut fmt::Formatter<W>) -> fmt::Result {
         match self {
             Event::Reads(access) => write_access("reads", *access, f),
             Event::Writes(access) => write_access("writes", *access, f),
-            Event::Puts { at, len } => write!(f, "driver puts {len} bytes at {at:x}"),
+            Event::Puts(put) => write_put(*put, f),
             Event::Ignores(why) => write!(f, "ignored: {why}"),
             Event::Warns(warning) => write!(f, "{warning}"),
             Event::Ends(slots) => write!(f, "controller ends {}", SlotWords(*slots)),
@@ -29,7 +30,7 @@ impl fmt::Display for Event<'_> {
             Event::Refuses(refused) => write_refused(*refused, f),
             Event::Misses(slot) => write!(f, "slot {slot} fails: no memory for its data"),
             Event::Moves(moved) => write_moved(moved, f),
-            Event::Drops(port) => write_dropped(*port, f),
+            Event::Drops(closed) => write!(f, "multiplier drops it: {closed}"),
             Event::Unheard { port, why } => write!(f, "disk {port}: unheard: {why}"),
             Event::Stores(store) => write_store(*store, f),
             Event::Asks { port, what, failed } => {
@@ -89,6 +90,60 @@ fn write_access<W: fmt::Write>(
             "driver {does} {offset:x} {value:08x}: no register begins there"
         ),
     }
+}
+
+/// Writes where the driver puts bytes, and what they mean there.
+fn write_put<W: fmt::Write>(put: Put<'_>, f: &mut fmt::Formatter<W>) -> fmt::Result {
+    let Put { at, bytes, part } = put;
+    write!(f, "driver puts {} bytes at {at:x}: ", bytes.len())?;
+    match part {
+        Some(Part::Header(slot)) => {
+            write!(f, "header of slot {slot}: ")?;
+            write_header(bytes, f)
+        }
+        Some(Part::Fis(slot)) => {
+            write!(f, "command of slot {slot}: ")?;
+            write_command(command_in(bytes), f)?;
+            write_entries_in(bytes, f)
+        }
+        Some(Part::Table(slot)) => {
+            write!(f, "table of slot {slot}: ")?;
+            write_table(bytes, f)
+        }
+        _ => write_bytes(bytes, f),
+    }
+}
+
+/// The bytes of the command FIS at the start of a table.
+fn command_in(bytes: &[u8]) -> &[u8] {
+    bytes.get(..20).unwrap_or(bytes)
+}
+
+/// Writes the entries of a table that is put whole, if it is.
+fn write_entries_in<W: fmt::Write>(bytes: &[u8], f: &mut fmt::Formatter<W>) -> fmt::Result {
+    match bytes.get(0x80..) {
+        Some(entries) if entries.len() >= 16 => {
+            f.write_str(", table ")?;
+            write_table(entries, f)
+        }
+        _ => Ok(()),
+    }
+}
+
+/// The most bytes that are told.
+const MOST_BYTES: usize = 16;
+
+/// Writes bytes as they lie in memory, dword by dword.
+fn write_bytes<W: fmt::Write>(bytes: &[u8], f: &mut fmt::Formatter<W>) -> fmt::Result {
+    let mut between = "";
+    for dword in bytes.chunks(4).take(MOST_BYTES / 4) {
+        f.write_str(between)?;
+        for byte in dword {
+            write!(f, "{byte:02x}")?;
+        }
+        between = " ";
+    }
+    f.write_str(if bytes.len() > MOST_BYTES { " .." } else { "" })
 }
 
 /// Writes what the controller reads, and what it found.
@@ -158,6 +213,20 @@ fn write_flag<W: fmt::Write>(
     f.write_str(if value & bit_of(bit) != 0 { name } else { "" })
 }
 
+/// How many bytes an entry of a table has.
+fn bytes_of_entry(entry: &[u8]) -> u64 {
+    u64::from(dword_at(entry, 12) & 0x3F_FFFF) + 1
+}
+
+/// How many bytes entries of a table have.
+pub fn bytes_of_table(bytes: &[u8]) -> u64 {
+    let mut sum = 0u64;
+    for entry in bytes.chunks_exact(16) {
+        sum = sum.saturating_add(bytes_of_entry(entry));
+    }
+    sum
+}
+
 /// The most entries of a table that are told.
 const MOST_ENTRIES: usize = 4;
 
@@ -168,8 +237,7 @@ fn write_entry<W: fmt::Write>(
     f: &mut fmt::Formatter<W>,
 ) -> fmt::Result {
     f.write_str(if is_later { ", " } else { "" })?;
-    let count = u64::from(dword_at(entry, 12) & 0x3F_FFFF) + 1;
-    write!(f, "{count} bytes at ")?;
+    write!(f, "{} bytes at ", bytes_of_entry(entry))?;
     match dword_at(entry, 4) {
         0 => write!(f, "{:x}", dword_at(entry, 0)),
         high => write!(f, "{high:x}{:08x}", dword_at(entry, 0)),
@@ -231,10 +299,14 @@ fn write_moved<W: fmt::Write>(moved: &Moved<'_>, f: &mut fmt::Formatter<W>) -> f
         FrameShort(moved.frame.bytes())
     )?;
     match moved.outcome {
-        Outcome::Sent => Ok(()),
-        Outcome::Heard(hearing) => write_hearing(hearing, f),
-        Outcome::Ignored(why, fault) => write_ignored(why, fault, f),
-        Outcome::Hindered(why) => f.write_str(hindrance_words(why)),
+        Outcome::Sent => {}
+        Outcome::Heard(hearing) => write_hearing(hearing, f)?,
+        Outcome::Ignored(why, fault) => write_ignored(why, fault, f)?,
+        Outcome::Hindered(why) => f.write_str(hindrance_words(why))?,
+    }
+    match moved.why {
+        Some(why) => write!(f, "; {why}"),
+        None => Ok(()),
     }
 }
 
@@ -258,6 +330,9 @@ fn write_hearing<W: fmt::Write>(hearing: Hearing, f: &mut fmt::Formatter<W>) -> 
         return Ok(());
     };
     write!(f, "; fault {}", device_fault(cause))?;
+    if let Some(compared) = hearing.compared {
+        write!(f, "{compared}")?;
+    }
     match hearing.first {
         Some(first) => write!(f, ", the first of its device was {}", device_fault(first)),
         None => Ok(()),
@@ -295,15 +370,6 @@ fn hindrance_words(why: Hindrance) -> &'static str {
         Hindrance::NotReceiving => "; PxCMD.FRE is 0",
         Hindrance::Writing => "; another is not written yet",
     }
-}
-
-/// Writes that the multiplier drops what came down.
-fn write_dropped<W: fmt::Write>(port: u8, f: &mut fmt::Formatter<W>) -> fmt::Result {
-    write!(f, "multiplier drops it: ")?;
-    write!(
-        f,
-        "port {port} is not there, has no device, is closed, or X of its SError is set"
-    )
 }
 
 /// What a disk asks of its medium, as words.

@@ -138,7 +138,7 @@ impl<F: Read + Write + Seek + OpenFile + Drop> Opening<F> {
         };
         let mut machine = Machine::new(alloc, sizes.ports, false)?;
         let seats = seats_of(alloc, &mut machine, shapes_of(sizes.ports, disks)?)?;
-        Ok(Board::new(machine, memory, seats, telling))
+        Ok(Board::new(machine, memory, seats, telling, sizes))
     }
 }
 
@@ -166,9 +166,10 @@ fn seats_of<F: Read + Write + Seek + OpenFile + Drop>(
             Some(shape) => shape,
             None => Shape::plain(),
         };
+        let sectors = shape.sectors;
         let Built { disk, medium } = shape.into_disk(alloc, port)?;
         let _ = machine.put(port, Unit::Disk(disk));
-        seats.push(Seat::new(medium))?;
+        seats.push(Seat::new(medium, sectors))?;
         port = port.saturating_add(1);
     }
     Ok(seats)

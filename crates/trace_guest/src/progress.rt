@@ -3,7 +3,7 @@
 use crate::event::Part;
 use crate::open::{OpenSlot, Stage};
 use port_errors::DeviceCause;
-use trace_text::bit_of;
+use trace_text::{Flow, Moving, Transfer, bit_of};
 
 /// What a trace knows of a slot.
 #[derive(Clone, Copy)]
@@ -15,6 +15,20 @@ pub struct SlotSeen {
     pub named: u8,
     /// Whether PxSACT had it then.
     pub is_armed: bool,
+    /// The first bytes of its command, once they were read.
+    pub command: Option<[u8; 20]>,
+    /// How many bytes the entries of its table have that were read.
+    room: Option<u64>,
+}
+
+impl SlotSeen {
+    /// The code of its command, once it was read.
+    pub fn code(self) -> Option<u8> {
+        match self.command {
+            Some([_, _, code, ..]) => Some(code),
+            None => None,
+        }
+    }
 }
 
 /// A slot of which nothing is known.
@@ -23,6 +37,8 @@ const UNSEEN: SlotSeen = SlotSeen {
     parts: 0,
     named: 0,
     is_armed: false,
+    command: None,
+    room: None,
 };
 
 /// What a trace knows of all slots and devices.
@@ -38,6 +54,8 @@ pub struct Progress {
     /// By device: whether the header of its last command has C, so that hardware clears BSY once the FIS is gone. With
     /// command-based switching, all are device 0.
     clears: [bool; 16],
+    /// How far the data of commands went.
+    flow: Flow,
 }
 
 impl Progress {
@@ -49,6 +67,7 @@ impl Progress {
             faults: [None; 16],
             failed: None,
             clears: [false; 16],
+            flow: Flow::new(),
         }
     }
 
@@ -66,6 +85,7 @@ impl Progress {
 
     /// These slots are written to PxCI, while PxFBS names this device and PxSACT has these slots.
     pub fn issue(&mut self, mask: u32, named: u8, armed: u32) {
+        self.flow.issue(mask);
         for slot in 0..32_u8 {
             let bit = bit_of(slot);
             if mask & bit != 0 {
@@ -75,6 +95,8 @@ impl Progress {
                         parts: 0,
                         named,
                         is_armed: armed & bit != 0,
+                        command: None,
+                        room: None,
                     };
                 }
             }
@@ -93,6 +115,81 @@ impl Progress {
             1 => Part::Fis(slot),
             _ => Part::Table(slot),
         }
+    }
+
+    /// The command of a slot is this one.
+    pub fn read_command(&mut self, slot: u8, bytes: &[u8]) {
+        let (Some(seen), Some(first)) = (self.slot_mut(slot), bytes.get(..20)) else {
+            return;
+        };
+        if first.len() == 20 {
+            let mut command = [0; 20];
+            command.copy_from_slice(first);
+            seen.command = Some(command);
+        }
+    }
+
+    /// Entries of the table of a slot have so many bytes.
+    pub fn read_table(&mut self, slot: u8, bytes: u64) {
+        if let Some(seen) = self.slot_mut(slot) {
+            seen.room = Some(seen.room.unwrap_or(0).saturating_add(bytes));
+        }
+    }
+
+    /// How far the data of commands went.
+    pub fn flow(&self) -> &Flow {
+        &self.flow
+    }
+
+    /// The same, to note more.
+    pub fn flow_mut(&mut self) -> &mut Flow {
+        &mut self.flow
+    }
+
+    /// Of these slots those whose commands are for this device.
+    pub fn out_of(&self, dev: u8, mask: u32) -> u32 {
+        let mut out = 0u32;
+        for slot in 0..32_u8 {
+            let bit = bit_of(slot);
+            if mask & bit != 0 && self.slot(slot).stage.port() == Some(dev) {
+                out |= bit;
+            }
+        }
+        out
+    }
+
+    /// The only one of these slots whose command was sent; None if there are more.
+    pub fn only_sent(&self, mask: u32) -> Option<u8> {
+        let mut only = None;
+        for slot in 0..32_u8 {
+            if mask & bit_of(slot) != 0 && self.slot(slot).stage.is_sent() {
+                if only.is_some() {
+                    return None;
+                }
+                only = Some(slot);
+            }
+        }
+        only
+    }
+
+    /// The command in the lowest of these slots, if it moves bytes, or of those only one whose bytes did not all come.
+    pub fn moving(&self, mask: u32, is_short: bool) -> Option<Moving> {
+        for slot in 0..32_u8 {
+            if mask & bit_of(slot) != 0 {
+                let seen = self.slot(slot);
+                let transfer = Transfer::of(&seen.command?)?;
+                let came = self.flow.came(slot);
+                if !is_short || came < transfer.bytes {
+                    return Some(Moving {
+                        slot,
+                        transfer,
+                        came,
+                        room: seen.room,
+                    });
+                }
+            }
+        }
+        None
     }
 
     /// The command of a slot came so far.

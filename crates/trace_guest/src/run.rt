@@ -205,7 +205,7 @@ impl<F: Read + Write + Seek + OpenFile + Drop> Scene<F> {
                 if self.board.put(at, bytes).is_err() {
                     return Err(words.refused_at(2, Refusal::Range, Wanted::GuestArea));
                 }
-                self.board.tell_put(at, bytes.len(), out)?;
+                self.board.tell_put(at, bytes, out)?;
                 Reply::Put
             }
             Action::Show(at, len) => self.show(alloc, at, len, words)?,

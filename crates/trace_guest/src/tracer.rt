@@ -1,21 +1,29 @@
 //! What is written of the moves of a machine.
 
-use crate::event::{Access, Event, Fetch, Hearing, Moved, Outcome, Part, Refused, Store, Stored};
+use crate::event::{
+    Access, Event, Fetch, Hearing, Moved, Outcome, Part, Put, Refused, Store, Stored,
+};
 use crate::event_json::EventJson;
-use crate::event_text::dword_at;
+use crate::event_text::{bytes_of_table, dword_at};
+use crate::mirror::{Mirror, PmWrite};
 use crate::open::Stage;
+use crate::opening::Sizes;
 use crate::progress::Progress;
+use crate::structures::part_at;
 use crate::telling::Telling;
 use crate::warning::{Warning, broken_by, named_by, value_of};
+use crate::why::{DiskSeen, Why};
 use ahci_controller::{Fed, Hindrance, Next, NotTaken, Took, Written};
 use ahci_machine::{Act, GuestRead, Machine, Told, Wanted};
 use ahci_registers::{Effect, Register};
 use block_engine::{Failure as Failed, What};
 use fis_view::Frame;
+use guest_bytes::FlatGuest;
 use multiplier::Passed;
+use port_errors::DeviceCause;
 use std::alloc::Global;
 use std::io::Write;
-use trace_text::{Failure, bit_of};
+use trace_text::{Compared, Failure, Known, bit_of, slots_about};
 
 /// A FIS on its way down.
 #[derive(Clone, Copy)]
@@ -23,6 +31,8 @@ struct Falling {
     port: u8,
     /// The slot of its command, if it is one.
     slot: Option<u8>,
+    /// The write to a register of the multiplier that it asks for, if it does.
+    write: Option<PmWrite>,
 }
 
 /// Writes what the driver does, what the controller decides, and each FIS that goes over the link, if that is asked for.
@@ -38,6 +48,13 @@ pub struct Tracer {
     /// It was told that PxCMD.PMA is 0.
     has_warned: bool,
     progress: Progress,
+    /// How large the board is.
+    sizes: Sizes,
+    mirror: Mirror,
+    /// By port: how many sectors its disk has, 0 while none is there.
+    sectors: [u64; 16],
+    /// The ports to which SET MULTIPLE MODE went, a bit each.
+    blocks: u32,
     falling: Option<Falling>,
     /// A copy of the FIS that is on its way to the controller, if it is to be written what comes of it.
     rising: Option<Frame>,
@@ -52,6 +69,9 @@ pub struct Tracer {
 /// PxCMD.PMA.
 const MULTIPLIER: u32 = 0x2_0000;
 
+/// SET MULTIPLE MODE.
+const SET_MULTIPLE: u8 = 0xC6;
+
 /// C of a header (AHCI 1.3.1, 4.2.2).
 const CLEAR: u32 = 0x400;
 
@@ -62,7 +82,7 @@ fn is_queued(command: u8) -> bool {
 
 impl Tracer {
     /// Of a machine on which nothing is on its way.
-    pub fn new(telling: Telling) -> Tracer {
+    pub fn new(telling: Telling, sizes: Sizes) -> Tracer {
         Tracer {
             telling,
             step: 0,
@@ -70,6 +90,10 @@ impl Tracer {
             line: false,
             has_warned: false,
             progress: Progress::new(),
+            sizes,
+            mirror: Mirror::new(sizes),
+            sectors: [0; 16],
+            blocks: 0,
             falling: None,
             rising: None,
             is_taken: false,
@@ -105,9 +129,38 @@ impl Tracer {
         self.say(&Event::Reads(access), out)
     }
 
+    /// The disk of a port was plugged in, which has so many sectors.
+    pub fn plug(&mut self, port: u8, sectors: u64) {
+        self.mirror.plug(port);
+        self.set_sectors(port, sectors);
+    }
+
+    fn set_sectors(&mut self, port: u8, sectors: u64) {
+        if let Some(place) = self.sectors.get_mut(usize::from(port)) {
+            *place = sectors;
+        }
+    }
+
+    /// The disk of a port was pulled.
+    pub fn pull(&mut self, port: u8) {
+        self.mirror.pull(port);
+        self.set_sectors(port, 0);
+    }
+
     /// The guest wrote bytes to its memory.
-    pub fn tell_put<W: Write>(&mut self, at: u64, len: usize, out: &mut W) -> Result<(), Failure> {
-        self.say(&Event::Puts { at, len }, out)
+    pub fn tell_put<W: Write>(
+        &mut self,
+        machine: &Machine,
+        memory: &FlatGuest,
+        at: u64,
+        bytes: &[u8],
+        out: &mut W,
+    ) -> Result<(), Failure> {
+        if !self.telling.is_on() {
+            return Ok(());
+        }
+        let part = part_at(machine, memory, at, bytes.len());
+        self.say(&Event::Puts(Put { at, bytes, part }), out)
     }
 
     /// A register is about to be written.
@@ -168,6 +221,7 @@ impl Tracer {
         }
         if written.effect != Effect::Nothing {
             self.progress.stop();
+            self.mirror.renew(self.sizes);
         }
         self.tell_line(machine, out)
     }
@@ -208,6 +262,10 @@ impl Tracer {
         match (part, bytes) {
             (Part::Header(slot), Some(bytes)) => self.judge_header(machine, slot, bytes, out),
             (Part::Fis(slot), Some(bytes)) => self.judge_command(slot, bytes, out),
+            (Part::Table(slot), Some(bytes)) => {
+                self.progress.read_table(slot, bytes_of_table(bytes));
+                Ok(())
+            }
             _ => Ok(()),
         }
     }
@@ -247,6 +305,7 @@ impl Tracer {
         bytes: &[u8],
         out: &mut W,
     ) -> Result<(), Failure> {
+        self.progress.read_command(slot, bytes);
         let command = bytes.get(2).copied().unwrap_or(0);
         if !is_queued(command) || self.progress.slot(slot).is_armed {
             return Ok(());
@@ -344,8 +403,8 @@ impl Tracer {
             } => self.falls(machine, dev, None, out)?,
             Act::Sends(passed) => self.sends(passed, out)?,
             Act::Rises => self.rises(alloc, machine)?,
-            Act::Takes(took) => self.takes(took, out)?,
-            Act::Loses(why) => self.ends(Outcome::Hindered(why), out)?,
+            Act::Takes(took) => self.takes(machine, took, out)?,
+            Act::Loses(why) => self.ends(Outcome::Hindered(why), None, out)?,
             Act::LetsGo => self.is_taken = false,
             Act::Rests => self.rests(machine, out)?,
             Act::Misses { slot, fed } => self.tell_missed(slot, fed, out)?,
@@ -370,17 +429,49 @@ impl Tracer {
         slot: Option<u8>,
         out: &mut W,
     ) -> Result<(), Failure> {
-        self.falling = Some(Falling { port, slot });
+        let write = machine.outgoing().and_then(PmWrite::of);
+        self.falling = Some(Falling { port, slot, write });
         self.fises = self.fises.saturating_add(1);
-        self.say_moved("down", machine.outgoing(), slot, Outcome::Sent, out)
+        let why = match slot {
+            Some(slot) => self.why_of(port, slot),
+            None => None,
+        };
+        self.note_block(port, slot);
+        self.say_moved("down", machine.outgoing(), slot, Outcome::Sent, why, out)
+    }
+
+    /// SET MULTIPLE MODE may go down to this port.
+    fn note_block(&mut self, port: u8, slot: Option<u8>) {
+        if let Some(slot) = slot {
+            if self.progress.slot(slot).code() == Some(SET_MULTIPLE) {
+                self.blocks |= bit_of(port);
+            }
+        }
+    }
+
+    /// Why the disk of a port fails the command of a slot, if it does.
+    fn why_of(&self, port: u8, slot: u8) -> Option<Why> {
+        let sectors = self.sectors.get(usize::from(port)).copied().unwrap_or(0);
+        if sectors == 0 {
+            return None;
+        }
+        let disk = DiskSeen {
+            port,
+            sectors,
+            has_block: self.blocks & bit_of(port) != 0,
+        };
+        Why::of(&self.progress.slot(slot).command?, disk)
     }
 
     /// It went over the link.
     fn sends<W: Write>(&mut self, passed: Passed, out: &mut W) -> Result<(), Failure> {
         self.is_resting = false;
-        let Some(Falling { port, slot }) = self.falling.take() else {
+        let Some(Falling { port, slot, write }) = self.falling.take() else {
             return Ok(());
         };
+        if let (Some(write), Passed::Control) = (write, passed) {
+            self.mirror.write(write);
+        }
         if let Some(slot) = slot {
             self.progress.reach(slot, Stage::Sent(port));
         }
@@ -393,7 +484,8 @@ impl Tracer {
     /// It is dropped.
     fn drops<W: Write>(&mut self, port: u8, out: &mut W) -> Result<(), Failure> {
         self.progress.lose(port, Stage::Dropped(port));
-        self.say(&Event::Drops(port), out)
+        let closed = self.mirror.port(port);
+        self.say(&Event::Drops(closed), out)
     }
 
     /// A FIS is on its way to the controller.
@@ -407,29 +499,85 @@ impl Tracer {
     }
 
     /// The controller took it.
-    fn takes<W: Write>(&mut self, took: Took, out: &mut W) -> Result<(), Failure> {
+    fn takes<W: Write>(
+        &mut self,
+        machine: &Machine,
+        took: Took,
+        out: &mut W,
+    ) -> Result<(), Failure> {
         self.is_taken = true;
         let report = took.report;
+        let waiting = value_of(machine, Register::PxCi) | value_of(machine, Register::PxSact);
+        let commands = self.progress.out_of(report.dev, waiting);
         let outcome = match took.ignored {
             Some(why) => Outcome::Ignored(why, self.progress.fault_of(report.dev)),
             None => Outcome::Heard(Hearing {
                 report,
                 brought: took.brought,
                 first: self.progress.first_fault(report.dev),
+                compared: self.compare(took, commands),
             }),
         };
-        if let Some(cause) = report.fault {
-            self.progress.fault(report.dev, cause);
+        let why = self.why_failed(took, commands);
+        self.note_taken(took);
+        self.ends(outcome, why, out)
+    }
+
+    /// What the fault compares that the FIS on its way made. The commands of its device in these slots are out.
+    fn compare(&self, took: Took, commands: u32) -> Option<Compared> {
+        let cause = took.report.fault?;
+        let frame = self.rising.as_ref()?.bytes();
+        let about = match took.brought.or(took.report.wrote) {
+            Some(wrote) => bit_of(wrote.slot),
+            None => slots_about(frame, commands),
+        };
+        let known = Known {
+            out: commands,
+            command: self.progress.moving(about, cause == DeviceCause::Short),
+            left: self.progress.flow().left(took.report.dev),
+        };
+        Compared::of(cause, frame, known)
+    }
+
+    /// Why the disk failed the only command of its device that was sent, of those in these slots.
+    fn why_failed(&self, took: Took, commands: u32) -> Option<Why> {
+        if took.report.fault != Some(DeviceCause::TaskFile) {
+            return None;
         }
-        self.ends(outcome, out)
+        let error = self.rising.as_ref()?.bytes().get(3).copied()?;
+        let slot = self.progress.only_sent(commands)?;
+        self.why_of(took.report.dev, slot)
+            .filter(|why| error & why.error() != 0)
+    }
+
+    /// Notes what the FIS on its way brought.
+    fn note_taken(&mut self, took: Took) {
+        let report = took.report;
+        if let Some(wrote) = took.brought.or(report.wrote) {
+            self.progress
+                .flow_mut()
+                .come(report.dev, wrote.slot, wrote.len);
+        }
+        match (report.fault, &self.rising) {
+            (Some(cause), _) => self.progress.fault(report.dev, cause),
+            (None, Some(frame)) if took.ignored.is_none() => {
+                self.progress.flow_mut().hear(report.dev, frame.bytes());
+            }
+            _ => {}
+        }
     }
 
     /// It went over the link.
-    fn ends<W: Write>(&mut self, outcome: Outcome, out: &mut W) -> Result<(), Failure> {
+    fn ends<W: Write>(
+        &mut self,
+        outcome: Outcome,
+        why: Option<Why>,
+        out: &mut W,
+    ) -> Result<(), Failure> {
         self.is_resting = false;
         self.fises = self.fises.saturating_add(1);
         let frame = self.rising.take();
-        self.say_moved("up", frame.as_ref(), None, outcome, out)
+        self.say_moved("up", frame.as_ref(), None, outcome, why, out)
     }
 
     /// Nothing can move. The FIS on its way to the controller waits.
@@ -438,7 +586,7 @@ impl Tracer {
         if !self.has_waited {
             self.has_waited = true;
             let waits = Outcome::Hindered(Hindrance::NotReceiving);
-            self.say_moved("waits", machine.incoming(), None, waits, out)?;
+            self.say_moved("waits", machine.incoming(), None, waits, None, out)?;
         }
         self.tell_open(machine, out)
     }
@@ -467,6 +615,7 @@ impl Tracer {
         frame: Option<&Frame>,
         slot: Option<u8>,
         outcome: Outcome,
+        why: Option<Why>,
         out: &mut W,
     ) -> Result<(), Failure> {
         let Some(frame) = frame else {
@@ -478,6 +627,7 @@ impl Tracer {
             slot,
             number: self.fises,
             outcome,
+            why,
         };
         self.say(&Event::Moves(moved), out)
     }

@@ -36,10 +36,9 @@ impl Warning {
     /// The section of AHCI 1.3.1 that has the rule.
     pub fn section(self) -> &'static str {
         match self {
-            Warning::StartsDeaf
-            | Warning::MovesArea(_)
-            | Warning::IssuedBusy(_)
-            | Warning::NoMultiplier { .. } => "3.3.7",
+            Warning::StartsDeaf => "10.3.1",
+            Warning::MovesArea(_) | Warning::IssuedBusy(_) | Warning::NoMultiplier { .. } =>
+                "3.3.7",
             Warning::MovesList(_) => "10.1.2",
             Warning::SwitchesRunning | Warning::OtherDevice { .. } => "3.3.16",
             Warning::ResetsRunning => "3.3.11",

@@ -1,14 +1,16 @@
 //! What a step that moved something tells about itself.
 
 use crate::places::Waiting;
-use crate::reason::{Reason, device_fault};
+use crate::reason::{Fault, Reason};
 use crate::tickets::{Asked, AskedList, SlotList, Tickets};
 use fis_view::Frame;
 use hba_driver::{Completion, Outcome};
 use hba_fbs::TakeReport;
-use port_errors::PortCause;
 use std::fmt;
-use trace_text::{ErrorLog, ErrorText, FrameShort, StatusText, bit_of, named_slots};
+use trace_text::{
+    Closed, Compared, ErrorLog, ErrorText, FrameShort, StatusText, bit_of, device_fault,
+    named_slots, port_fault,
+};
 
 /// Who did what in a step.
 #[derive(Clone, Copy)]
@@ -87,6 +89,8 @@ pub enum Upshot {
     Report(Hearing),
     /// The FIS was let go.
     Dropped(&'static str),
+    /// The multiplier let the FIS go, whose port passes none.
+    Closed(Closed),
     /// The control port heard it.
     Control,
     /// A connection came or went, and this many frames were dropped because of that.
@@ -114,6 +118,10 @@ pub struct Hearing {
     pub log: Option<ErrorLog>,
     /// The slots of the requests one of which the device failed.
     pub failed: u32,
+    /// What its fault compares, if that is known.
+    pub compared: Option<Compared>,
+    /// The earlier fault of the device but for which this would not have happened.
+    pub follows: Option<Fault>,
 }
 
 /// How a request ended.
@@ -142,19 +150,11 @@ impl Upshot {
             Upshot::Report(hearing) => {
                 hearing.fault().is_some() || hearing.report.ignored || hearing.log.is_some()
             }
-            Upshot::Dropped(_) => true,
+            Upshot::Dropped(_) | Upshot::Closed(_) => true,
             Upshot::Connection { is_gone, .. } => is_gone,
             Upshot::Polled(ending) => ending.completion.outcome != Outcome::Done,
             Upshot::Plain | Upshot::Control | Upshot::Submitted(_) | Upshot::Put { .. } => false,
         }
-    }
-}
-
-/// The name of a cause for which the port is stopped.
-fn port_fault(cause: PortCause) -> &'static str {
-    match cause {
-        PortCause::BadControl => "bad-control",
-        PortCause::Bus => "bus",
     }
 }
 
@@ -385,6 +385,7 @@ fn write_upshot<W: fmt::Write>(
         Upshot::Plain => Ok(()),
         Upshot::Report(hearing) => write_hearing(hearing, tickets, f),
         Upshot::Dropped(why) => write!(f, "; dropped: {why}"),
+        Upshot::Closed(closed) => write!(f, "; dropped: {closed}"),
         Upshot::Control => f.write_str("; heard by the control port"),
         Upshot::Connection { conn, is_gone, .. } => {
             let what = if is_gone { "went" } else { "came" };
@@ -510,7 +511,8 @@ fn write_hearing<W: fmt::Write>(
 ) -> fmt::Result {
     let report = hearing.report;
     if report.ignored {
-        return f.write_str("; taken by nobody");
+        f.write_str("; taken by nobody")?;
+        return write_first(hearing.follows, f);
     }
     write_range(report, tickets, f)?;
     write_done(report.done, tickets, f)?;
@@ -521,9 +523,21 @@ fn write_hearing<W: fmt::Write>(
         return Ok(());
     };
     write!(f, "; fault {cause}")?;
+    if let Some(compared) = hearing.compared {
+        write!(f, "{compared}")?;
+    }
+    write_first(hearing.follows, f)?;
     match hearing.failed {
         0 => Ok(()),
         mask => write!(f, " of {}", AskedList { mask, tickets }),
+    }
+}
+
+/// Writes from which earlier fault this follows.
+fn write_first<W: fmt::Write>(first: Option<Fault>, f: &mut fmt::Formatter<W>) -> fmt::Result {
+    match first {
+        Some(first) => write!(f, ", follows from {first}"),
+        None => Ok(()),
     }
 }
 

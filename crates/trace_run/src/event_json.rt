@@ -6,7 +6,7 @@ use crate::text::write_outcome;
 use crate::tickets::{SlotArray, Tickets};
 use hba_driver::Outcome;
 use std::fmt;
-use trace_text::FrameShort;
+use trace_text::{Compared, FrameShort};
 
 /// A step as an object of JSON, in one line. No string of it needs an escape.
 #[derive(Drop)]
@@ -112,6 +112,7 @@ fn write_ends<W: fmt::Write>(
     match event.upshot {
         Upshot::Report(hearing) => write_hearing(hearing, f),
         Upshot::Dropped(why) => write!(f, ",\"dropped\":\"{why}\""),
+        Upshot::Closed(closed) => write!(f, ",\"dropped\":\"{closed}\""),
         Upshot::Connection { conn, is_gone, .. } => {
             write!(f, ",\"conn\":{conn},\"gone\":{is_gone}")?;
             match event.dropped(tickets) {
@@ -129,6 +130,12 @@ fn write_ends<W: fmt::Write>(
 fn write_hearing<W: fmt::Write>(hearing: Hearing, f: &mut fmt::Formatter<W>) -> fmt::Result {
     if let Some(cause) = hearing.fault() {
         write!(f, ",\"fault\":\"{cause}\"")?;
+    }
+    if let Some(Compared { found, wanted }) = hearing.compared {
+        write!(f, ",\"found\":\"{found}\",\"wanted\":\"{wanted}\"")?;
+    }
+    if let Some(first) = hearing.follows {
+        write!(f, ",\"follows\":\"{first}\"")?;
     }
     if let Some(log) = hearing.log {
         write!(f, ",\"log\":\"{log}\"")?;

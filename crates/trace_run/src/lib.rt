@@ -3,6 +3,7 @@
 #![tactic(auto)]
 
 mod agenda;
+mod blame;
 mod due;
 mod event;
 mod event_json;

@@ -2,6 +2,7 @@
 
 use port_errors::DeviceCause;
 use std::fmt;
+use trace_text::device_fault;
 
 /// A fault of a device.
 #[derive(Clone, Copy)]
@@ -9,6 +10,13 @@ pub struct Fault {
     /// The number of the step that made it.
     pub step: u64,
     pub cause: DeviceCause,
+}
+
+impl fmt::Display for Fault {
+    fn fmt<W: fmt::Write>(&self, f: &mut fmt::Formatter<W>) -> fmt::Result {
+        let Fault { step, cause } = *self;
+        write!(f, "fault {} at #{step}", device_fault(cause))
+    }
 }
 
 /// Why a request failed, or was given up.
@@ -22,29 +30,10 @@ pub enum Reason {
     Other(u32),
 }
 
-/// The name of a cause for which a device is faulty.
-pub fn device_fault(cause: DeviceCause) -> &'static str {
-    match cause {
-        DeviceCause::TaskFile => "task-file",
-        DeviceCause::BadTag => "bad-tag",
-        DeviceCause::Overflow => "overflow",
-        DeviceCause::Stray => "stray",
-        DeviceCause::Twice => "twice",
-        DeviceCause::Fragments => "fragments",
-        DeviceCause::Short => "short",
-        DeviceCause::BadFis => "bad-fis",
-        DeviceCause::WrongWay => "wrong-way",
-    }
-}
-
 impl fmt::Display for Reason {
     fn fmt<W: fmt::Write>(&self, f: &mut fmt::Formatter<W>) -> fmt::Result {
         match self {
-            Reason::Reset(Fault { step, cause }) => write!(
-                f,
-                "the reset after fault {} at #{step}",
-                device_fault(*cause)
-            ),
+            Reason::Reset(fault) => write!(f, "the reset after {fault}"),
             Reason::Named(lba) => write!(f, "lba {lba}"),
             Reason::Other(ticket) => write!(f, "ticket {ticket}'s error"),
         }

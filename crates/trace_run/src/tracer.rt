@@ -1,5 +1,6 @@
 //! Tells about each step of a run that moved something.
 
+use crate::blame::Blame;
 use crate::event::{Act, Change, Ending, Event, EventText, Hearing, Mark, Registers, Upshot};
 use crate::event_json::EventJson;
 use crate::places::{Places, Waiting};
@@ -12,12 +13,16 @@ use hba_driver::{Completion, Ticket};
 use hba_fbs::{HostPort, Register, TakeReport};
 use host_memory::HostMemory;
 use multiplier::Passed;
+use pm_registers::{PSCR_CONTROL, PSCR_ERROR, PSCR_STATUS};
 use pm_world::{Answer, Hop, Step, World};
 use port_errors::DeviceCause;
 use std::alloc::{AllocError, Global};
 use std::io::Write;
 use std::mem;
-use trace_text::{ErrorLog, Failure, bit_of};
+use trace_text::{
+    Closed, Compared, ErrorLog, Failure, Flow, Known, Moving, Transfer, bit_of, named_slots,
+    slots_about,
+};
 
 /// What is seen of a world before a step of it.
 #[derive(Drop)]
@@ -93,6 +98,8 @@ pub struct Tracer {
     /// How many times each port of the multiplier recorded that its device came or went.
     recorded: [u32; 16],
     places: Places,
+    flow: Flow,
+    blame: Blame,
 }
 
 impl Tracer {
@@ -104,6 +111,8 @@ impl Tracer {
             tickets: Tickets::new(),
             recorded: [0; 16],
             places: Places::new(alloc),
+            flow: Flow::new(),
+            blame: Blame::new(),
         }
     }
 
@@ -250,7 +259,7 @@ impl Tracer {
             Answer::Came { port, conn } => connection(Act::Came(*port), *port, *conn, false),
             Answer::Gone { port, conn } => connection(Act::Gone(*port), *port, *conn, true),
             Answer::Presence(port) => self.presence(world, *port, sight),
-            Answer::Ticked => tick(world, sight),
+            Answer::Ticked => self.ticked(world, sight),
             Answer::Submitted(ticket) => self.submit(world, step, *ticket),
             Answer::Polled(completion) => self.polled(*completion),
             Answer::Took { port, report, .. } => {
@@ -275,6 +284,7 @@ impl Tracer {
             None => 0,
         };
         let dropped = world.multiplier().dropped().saturating_sub(sight.dropped);
+        self.blame.begin(port);
         let upshot = Upshot::Connection {
             conn: (count / 2).saturating_add(1),
             is_gone: count % 2 == 1,
@@ -290,6 +300,10 @@ impl Tracer {
         if let Some(log) = log {
             self.tickets.log(report.dev, log);
         }
+        let out = out_of(world, report.dev);
+        let compared = self.compare(world, answer, report, out);
+        let follows = self.first_fault(world, answer, report);
+        self.note_flow(answer, report, follows, out);
         let failed = match report.fault {
             Some(DeviceCause::TaskFile) => {
                 self.tickets.waiting(report.dev) & out_slots(world.host())
@@ -304,7 +318,107 @@ impl Tracer {
             report,
             log,
             failed,
+            compared,
+            follows,
         }
+    }
+
+    /// What the fault compares that a FIS made. The commands of its device in these slots are out.
+    fn compare(
+        &self,
+        world: &World,
+        answer: &Answer,
+        report: TakeReport,
+        out: u32,
+    ) -> Option<Compared> {
+        let cause = report.fault?;
+        let frame = taken(answer)?;
+        let about = match report.wrote {
+            Some(wrote) => bit_of(wrote.slot),
+            None => slots_about(frame, out),
+        };
+        let known = Known {
+            out,
+            command: self.moving(world, about, cause == DeviceCause::Short),
+            left: self.flow.left(report.dev),
+        };
+        Compared::of(cause, frame, known)
+    }
+
+    /// The command in the lowest of these slots, if it moves bytes, or of those only one whose bytes did not all come.
+    fn moving(&self, world: &World, mask: u32, is_short: bool) -> Option<Moving> {
+        for slot in 0..32_u8 {
+            if mask & bit_of(slot) != 0 {
+                let command = command_of(world.memory(), usize::from(slot))?;
+                let transfer = Transfer::of(command)?;
+                let came = self.flow.came(slot);
+                if !is_short || came < transfer.bytes {
+                    return Some(Moving {
+                        slot,
+                        transfer,
+                        came,
+                        room: None,
+                    });
+                }
+            }
+        }
+        None
+    }
+
+    /// The earlier fault of its device but for which a FIS would have been heard, or would not have made this one.
+    fn first_fault(&self, world: &World, answer: &Answer, report: TakeReport) -> Option<Fault> {
+        let (dev, frame) = (report.dev, taken(answer)?);
+        if report.ignored {
+            return self
+                .blame
+                .first_of(dev)
+                .filter(|_| is_deaf_to(world.host(), dev));
+        }
+        match (report.fault?, *frame.first()?) {
+            (DeviceCause::BadTag, SETUP) => {
+                let tag = named_slots(frame).trailing_zeros() as u8;
+                self.blame.reason_of(tag, dev)
+            }
+            (DeviceCause::Stray, _) => self.blame.setup_of(dev),
+            _ => None,
+        }
+    }
+
+    /// Notes how far the data went, and what this fault led to.
+    fn note_flow(&mut self, answer: &Answer, report: TakeReport, follows: Option<Fault>, out: u32) {
+        let Some(frame) = taken(answer) else {
+            return;
+        };
+        let dev = report.dev;
+        let step = self.number;
+        let first = match (follows, report.fault) {
+            (None, Some(cause)) => Some(Fault { step, cause }),
+            (follows, _) => follows,
+        };
+        if frame.first() == Some(&SETUP) {
+            self.blame.set_setup(dev, first);
+        }
+        if let (Some(first), Some(_)) = (first, report.fault) {
+            self.blame.fault(dev, first, out);
+            return;
+        }
+        if let Some(wrote) = report.wrote {
+            self.flow.come(dev, wrote.slot, wrote.len);
+        }
+        if is_signature(frame) {
+            self.blame.begin(dev);
+        }
+        self.flow.hear(dev, frame);
+    }
+
+    /// The driver did something.
+    fn ticked<'a>(&mut self, world: &'a World, sight: &Sight) -> Event<'a> {
+        let event = tick(world, sight);
+        if let Some(change) = event.registers {
+            self.flow.issue(change.issued());
+            self.blame.issue(change.issued());
+        }
+        event
     }
 
     /// The driver took a request.
@@ -344,6 +458,43 @@ impl Tracer {
 /// The slots of the commands that a host port has issued and that have not ended.
 fn out_slots(port: &HostPort) -> u32 {
     shown(port, Register::Ci) | shown(port, Register::Sact)
+}
+
+/// The slots of the commands of a device that have not ended.
+fn out_of(world: &World, device: u8) -> u32 {
+    let out = out_slots(world.host());
+    let mut mask = 0u32;
+    for slot in 0..32_u8 {
+        if out & bit_of(slot) != 0 {
+            let command = command_of(world.memory(), usize::from(slot));
+            if command.map(port_of) == Some(device) {
+                mask |= bit_of(slot);
+            }
+        }
+    }
+    mask
+}
+
+/// Whether a host port hears nothing of a device because of its fault alone.
+fn is_deaf_to(port: &HostPort, device: u8) -> bool {
+    let is_running = shown(port, Register::Cmd) & 1 != 0 && port.port_cause().is_none();
+    is_running && device < 16 && port.cause(device).is_some()
+}
+
+/// The bytes of a FIS that the host port took.
+fn taken(answer: &Answer) -> Option<&[u8]> {
+    match answer {
+        Answer::Took { bytes, .. } => Some(bytes.as_slice()),
+        _ => None,
+    }
+}
+
+/// The type of a DMA Setup FIS.
+const SETUP: u8 = 0x41;
+
+/// Whether a FIS of these bytes is a signature, with which a device begins: Count and LBA 7:0 are 1.
+fn is_signature(frame: &[u8]) -> bool {
+    matches!(frame, [0x34, _, _, 1, 1, _, _, _, _, _, _, _, 1, ..])
 }
 
 /// The log of a device that a FIS brought whole, as the answer to a command that asks for it.
@@ -433,7 +584,12 @@ fn move_of<'a>(world: &'a World, sight: &'a Sight, answer: &'a Answer) -> Event<
         }
         Answer::Passed(passed) => {
             let port = left.map(|frame| frame.pm_port());
-            down(Act::PmTakesDown, port, passed_to(*passed), left)
+            down(
+                Act::PmTakesDown,
+                port,
+                passed_to(world, *passed, port),
+                left,
+            )
         }
         Answer::Down(port) => {
             let frame = world.newest_on(Hop::PmToDevice(*port));
@@ -486,11 +642,24 @@ fn dropped_if(is_dropped: bool, why: &'static str) -> Upshot {
     }
 }
 
-fn passed_to(passed: Passed) -> Upshot {
-    match passed {
-        Passed::Control => Upshot::Control,
-        Passed::Down(_) => Upshot::Plain,
-        Passed::Dropped => Upshot::Dropped("its port is absent or does not forward"),
+fn passed_to(world: &World, passed: Passed, port: Option<u8>) -> Upshot {
+    match (passed, port) {
+        (Passed::Control, _) => Upshot::Control,
+        (Passed::Down(_), _) => Upshot::Plain,
+        (Passed::Dropped, Some(port)) => Upshot::Closed(closed(world, port)),
+        (Passed::Dropped, None) => Upshot::Dropped("its port passes none"),
+    }
+}
+
+/// The registers of a port of the multiplier.
+fn closed(world: &World, port: u8) -> Closed {
+    let registers = world.multiplier().registers();
+    Closed {
+        port,
+        ports: registers.ports(),
+        status: registers.read(port, PSCR_STATUS).unwrap_or(0),
+        error: registers.read(port, PSCR_ERROR).unwrap_or(0),
+        control: registers.read(port, PSCR_CONTROL).unwrap_or(0),
     }
 }
 
