@@ -11,7 +11,7 @@ export PREFIX DESTDIR
 all:
 	c/build
 	packaging/firmware
-	./pm_trace decode < /dev/null
+	bin/pm_trace decode < /dev/null
 
 install:
 	packaging/install

@@ -1,5 +1,5 @@
 # shellcheck shell=bash disable=SC2154
-# How ./pm_trace builds its programs. To be sourced; the paths that it uses are those of ./pm_trace.
+# How bin/pm_trace builds its programs. To be sourced; the paths that it uses are those of bin/pm_trace.
 
 # Whether this program is there, and no source is newer.
 is_built() {
@@ -41,7 +41,7 @@ build_proved() {
     mkdir -p "${proved%/*}" && stamp=$(mktemp "${proved%/*}/built.XXXXXX") || return 1
     trap 'rm -f "$stamp"; kill $!; exit 130' INT TERM
     echo "pm_trace: no proved program, or a source is newer: it is proved and built now, an hour of processor time" >&2
-    echo "pm_trace: './pm_trace --unproved ..' builds one without a proof in a minute or two, keeps it, and then answers at once" >&2
+    echo "pm_trace: 'pm_trace --unproved ..' builds one without a proof in a minute or two, keeps it, and then answers at once" >&2
     # rt runs what it has built: with an empty input that does nothing.
     (cd "$top/crates/pm_trace" && exec "${RT:-rt}" run -- decode) </dev/null >"$proved_log" 2>&1 &
     [ ! -t 2 ] || say_progress $! "$stamp"

@@ -1,5 +1,5 @@
 # shellcheck shell=bash disable=SC2154
-# The words of ./pm_trace: what is wrong with them, and the help. To be sourced; `top` is the top of the repository.
+# The words of bin/pm_trace: what is wrong with them, and the help. To be sourced; `top` is the top of the repository.
 
 # Whether a word names a tool of tools/pm_tools.
 is_tool() {
@@ -51,7 +51,7 @@ misuse() {
                     { echo "${word%%=*} stands twice" && return; }
                 seen="$seen${word%%=*} "
                 ;;
-            *" --unproved") echo "--unproved comes first, as in ./pm_trace --unproved $mode" && return ;;
+            *" --unproved") echo "--unproved comes first, as in pm_trace --unproved $mode" && return ;;
             *" -"?*) echo "'$word' is no word of $mode, or has no value" && return ;;
             *)
                 [ -z "$file" ] || { echo "'$word' is one file too many" && return; }

@@ -7,7 +7,7 @@ use crate::ffi;
 
 macro_rules! errors {
     ($($(#[$doc:meta])* $name:ident = $status:literal,)*) => {
-        /// Why a call did not do what it was asked: each status of `include/gefsunk.h`, by the same number. The header says at each
+        /// Why a call did not do what it was asked: each status of `c/include/gefsunk.h`, by the same number. The header says at each
         /// call which of them it may answer.
         #[derive(Debug, Clone, Copy, PartialEq, Eq, Hash)]
         #[non_exhaustive]

@@ -1,4 +1,4 @@
-//! All that is unsafe: the declarations of `include/gefsunk.h`, one for one, and safe calls over them.
+//! All that is unsafe: the declarations of `c/include/gefsunk.h`, one for one, and safe calls over them.
 //!
 //! A call that takes references alone is safe by itself: a handle is closed or was opened by the library, since nobody else can make
 //! one, no copy of it can be made, and a handle of another kind is refused. One that takes a slice is safe by the function over

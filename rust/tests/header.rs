@@ -8,7 +8,7 @@ use gefsunk::Error;
 /// The header: in a clone, or as it is installed.
 fn header() -> Option<String> {
     let here = Path::new(env!("CARGO_MANIFEST_DIR"));
-    ["../include/gefsunk.h", "../../../include/gefsunk.h"]
+    ["../c/include/gefsunk.h", "../../../include/gefsunk.h"]
         .iter()
         .find_map(|place| std::fs::read_to_string(here.join(place)).ok())
 }

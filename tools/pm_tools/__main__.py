@@ -1,4 +1,4 @@
-"""The tools of ./pm_trace, by their names. With --check before the name, only the words of the tool are judged."""
+"""The tools of bin/pm_trace, by their names. With --check before the name, only the words of the tool are judged."""
 from __future__ import annotations
 
 import importlib

@@ -1,7 +1,7 @@
 """Draws a trace of `pm_trace run` or `pm_trace guest`, of `--json` or `--trace`, as a ladder, in SVG or as a page of HTML:
 
-    ./pm_trace run --json examples/one-read.scenario | ./pm_chart > one-read.svg
-    ./pm_trace run --json examples/one-read.scenario | ./pm_chart --html > one-read.html
+    bin/pm_trace run --json examples/one-read.scenario | bin/pm_chart > one-read.svg
+    bin/pm_trace run --json examples/one-read.scenario | bin/pm_chart --html > one-read.html
 
 A lane for the driver, the host port, the multiplier and each disk; time goes down. An arrow is a FIS on a link, from
 the step that sent it to the step that took it, with its decoded name; its colour is that of its device, grey the

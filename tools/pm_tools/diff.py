@@ -1,7 +1,7 @@
 """Compares two traces by what happened in them, and not by the numbers of steps:
 
-    ./pm_trace run --trace before.scenario > before && ./pm_trace run --trace after.scenario > after
-    ./pm_trace diff before after
+    bin/pm_trace run --trace before.scenario > before && bin/pm_trace run --trace after.scenario > after
+    bin/pm_trace diff before after
 
 A and B are traces of `run` or `guest`, each of `--json` or `--trace`. The steps of each port are compared by themselves, so
 that it does not count which device was served first; with --order it counts. Numbers of steps, FISes, slots and tickets

@@ -1,6 +1,6 @@
 """Plays random scenarios of honest and lying devices, and checks the sentences of docs/THEOREM.md on what they print:
 
-    ./pm_trace fuzz --seed 7 --steps 40 --runs 20
+    bin/pm_trace fuzz --seed 7 --steps 40 --runs 20
 
 Each seed makes one scenario: disks and scripts, reads, writes and flushes whose places overlap, FISes that are injected in a
 device's place, removals, and steps in any order; in one of five with command-based switching, where the sentence of honest

@@ -1,7 +1,7 @@
 """Writes the FISes of a trace as packets, for Wireshark and tshark with tools/wireshark/gefsunk_fis.lua:
 
-    ./pm_trace run --json examples/one-read.scenario | ./pm_trace pcapng > one-read.pcapng
-    ./pm_trace pcapng --play cases/guest/linux-boot.scenario > boot.pcapng
+    bin/pm_trace run --json examples/one-read.scenario | bin/pm_trace pcapng > one-read.pcapng
+    bin/pm_trace pcapng --play cases/guest/linux-boot.scenario > boot.pcapng
     tshark -X lua_script:tools/wireshark/gefsunk_fis.lua -r boot.pcapng
 
 A packet is a FIS that is put on the host's link; with --links all, on any link, each device's link an interface of its

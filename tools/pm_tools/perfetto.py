@@ -1,6 +1,6 @@
 """Turns a trace into the trace event format of Chrome, for ui.perfetto.dev:
 
-    ./pm_trace run --json examples/fifteen-disks.scenario | ./pm_trace perfetto > fifteen.json
+    bin/pm_trace run --json examples/fifteen-disks.scenario | bin/pm_trace perfetto > fifteen.json
 
 One step is one microsecond. There is a process for the units, one for the links and one for the slots. A slice on a link is a
 FIS from the step that sends it to the step that takes it; arrows join the slices of one FIS. A slice of a slot is a request

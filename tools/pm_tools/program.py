@@ -28,8 +28,8 @@ class Program:
 
     @staticmethod
     def found() -> "Program":
-        """The program that ./pm_trace names in PM_TRACE; without it, ./pm_trace itself."""
-        return Program(Path(os.environ.get("PM_TRACE") or TOP / "pm_trace"))
+        """The program that bin/pm_trace names in PM_TRACE; without it, bin/pm_trace itself."""
+        return Program(Path(os.environ.get("PM_TRACE") or TOP / "bin/pm_trace"))
 
     def play(self, words: Sequence[str], text: str) -> Ended:
         """Plays a scenario, given as standard input."""

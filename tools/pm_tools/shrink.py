@@ -1,6 +1,6 @@
 """Makes a scenario as short as it can be while its output still has a pattern:
 
-    ./pm_trace shrink --keep 'fault task-file' examples/bad-sector.scenario > short.scenario
+    bin/pm_trace shrink --keep 'fault task-file' examples/bad-sector.scenario > short.scenario
 
 PATTERN is a regular expression of Python, and is looked for in standard output and standard error, in which ^ and $ are the
 ends of a line. The scenario is played with the words of its first comment (`# pm_trace guest --trace`), or with those of

@@ -1,4 +1,4 @@
--- Serial ATA FISes for Wireshark and tshark, as `./pm_trace pcapng` writes them (docs/TOOLS.md): 16 bytes of this project,
+-- Serial ATA FISes for Wireshark and tshark, as `bin/pm_trace pcapng` writes them (docs/TOOLS.md): 16 bytes of this project,
 -- and then the FIS. The fields are those of Serial ATA 3.x, 10.5.
 --
 --     tshark -X lua_script:tools/wireshark/gefsunk_fis.lua -r boot.pcapng

@@ -1,5 +1,5 @@
 //! A machine of the bindings for Rust whose allocations are refused, one in each run: what was refused is asked again, and the guest's
-//! memory, the medium and the registers must end as where nothing was refused. `bench/c` links it with malloc and realloc wrapped.
+//! memory, the medium and the registers must end as where nothing was refused. `tests/c` links it with malloc and realloc wrapped.
 
 use std::ffi::c_void;
 use std::sync::atomic::{AtomicBool, AtomicU32, Ordering::SeqCst};

@@ -1,13 +1,16 @@
-"""The part `every` of bench/pulls, which says what it tries: pulls-every.py PROGRAM [SCENE..]"""
-import collections, concurrent.futures, os, re, subprocess, sys, time
+"""The part `every` of tests/pulls, which says what it tries."""
+import collections
+import concurrent.futures
+import os
+import re
+import subprocess
+import sys
+import time
 
-program, *names = sys.argv[1:]
+from proved import opening_bytes
+
+program = None
 START = 0x100200
-
-
-def opening_bytes(sector, count):
-    """What the sectors of a disk hold at first."""
-    return bytes((sector + place // 512 + place % 512) % 256 for place in range(512 * count))
 
 
 class Request:
@@ -267,9 +270,13 @@ def every(number, scene):
     return len(alone) + len(pairs), bad
 
 
-chosen = [(number, scene) for number, scene in enumerate(SCENES) if scene.name in names or not names]
-if not chosen:
-    sys.exit("no such scene: " + ", ".join(scene.name for scene in SCENES))
-totals = [every(number, scene) for number, scene in chosen]
-print(f"{sum(runs for runs, _ in totals)} runs, {sum(bad for _, bad in totals)} of them wrong")
-sys.exit(any(bad for _, bad in totals))
+def play(played_program, names):
+    """Tries the scenes of these names, or all. Answers how many runs were right, and how many wrong."""
+    global program
+    program = played_program
+    chosen = [(number, scene) for number, scene in enumerate(SCENES) if scene.name in names or not names]
+    if not chosen:
+        sys.exit("no such scene: " + ", ".join(scene.name for scene in SCENES))
+    totals = [every(number, scene) for number, scene in chosen]
+    bad = sum(bad for _, bad in totals)
+    return sum(runs for runs, _ in totals) - bad, bad
