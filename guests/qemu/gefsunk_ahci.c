@@ -11,6 +11,11 @@
  * With `record=FILE` it writes down what a driver does and what it gets, from the last reset of the machine on, and guests/linux/case
  * makes a case of that. The media are answered at once then, so that the machine comes to rest within each access.
  *
+ * With `log=FILE` it writes down each access of the driver to registers, and each FIS that the driver is shown, with the time of the
+ * virtual machine, and all else goes on as ever.
+ *
+ * With `faults=FILE`, or by the monitor (qom-set sata faults FILE), disks and their links fail as a script says (gefsunk_faults.c).
+ *
  * All that moves is gef_machine's (gefsunk.h). The device gives it the guest's accesses to registers, and does what it asks:
  * the guest's memory is read and written by the function's own DMA, so that bus mastering and an IOMMU count, and the sectors
  * of disks are those of block backends.
@@ -49,12 +54,24 @@ void gefsunk_note(GefsunkAhci *s, const char *format, ...)
     va_end(words);
 }
 
-/* Bytes of the guest's memory. A FIS stands in words before them. */
+/* In a log, when it was. */
+static void note_time(GefsunkAhci *s)
+{
+    if (!s->record) {
+        gefsunk_note(s, "%.6f ", (double)qemu_clock_get_ns(QEMU_CLOCK_VIRTUAL) / NANOSECONDS_PER_SECOND);
+    }
+}
+
+/* Bytes of the guest's memory. A FIS stands in words before them; of anything else a log has nothing. */
 static void note_bytes(GefsunkAhci *s, const char *what, uint64_t at, const uint8_t *bytes, size_t len)
 {
     char text[GEF_TEXT_ROOM];
-    if (s->log && gef_fis_text(bytes, len, text, sizeof text) == GEF_OK) {
+    if (s->log && len <= 64 && gef_fis_text(bytes, len, text, sizeof text) == GEF_OK) {
+        note_time(s);
         gefsunk_note(s, "# %s\n", text);
+    }
+    if (!s->record) {
+        return;
     }
     gefsunk_note(s, "%s %" PRIx64 " ", what, at);
     for (size_t i = 0; i < len; i++) {
@@ -102,11 +119,20 @@ static void do_event(GefsunkAhci *s, const gef_event *event)
     case GEF_EVENT_LINE:
         s->is_up = event->u.up;
         set_line(s);
+        note_time(s);
         gefsunk_note(s, "line %s\n", s->is_up ? "up" : "down");
         break;
     case GEF_EVENT_MESSAGE:
         if (msi_enabled(PCI_DEVICE(s))) {
             msi_notify(PCI_DEVICE(s), 0);
+        }
+        break;
+    case GEF_EVENT_TO_DEVICE:
+        gefsunk_fis_hear(s, s->disks[event->port]);
+        break;
+    case GEF_EVENT_BEGINS:
+        if (s->disks[event->port] && s->disks[event->port]->fis) {
+            gefsunk_fis_begin(s->disks[event->port]);
         }
         break;
     default:
@@ -133,26 +159,31 @@ static bool has_next(GefsunkAhci *s)
  */
 static bool may_pause(GefsunkAhci *s, unsigned count)
 {
-    return !s->log && count >= EVENTS && s->event.kind != GEF_EVENT_WRITE_GUEST && s->event.kind != GEF_EVENT_AGAIN;
+    return !s->record && count >= EVENTS && s->event.kind != GEF_EVENT_WRITE_GUEST && s->event.kind != GEF_EVENT_AGAIN;
 }
 
 /* Nothing that it does begins it anew, even if the guest has the function write to its own registers. */
 void gefsunk_run(GefsunkAhci *s)
 {
     unsigned count = 0;
+    bool rests = false;
     if (s->is_busy || s->is_held) {
         return;
     }
     s->is_busy = true;
-    while (!may_pause(s, count) && has_next(s)) {
-        do_event(s, &s->event);
+    while (!rests && !may_pause(s, count)) {
+        if (has_next(s)) {
+            do_event(s, &s->event);
+        } else {
+            rests = !gefsunk_fis_move(s);
+        }
         count++;
     }
     s->is_busy = false;
-    if (s->event.kind == GEF_EVENT_NOTHING) {
-        gefsunk_note(s, "settle\n");
-    } else if (!s->has_event) {
+    if (!rests) {
         qemu_bh_schedule(s->later);
+    } else if (!s->has_event && s->record) {
+        gefsunk_note(s, "settle\n");
     }
 }
 
@@ -166,6 +197,7 @@ static uint64_t read_register(void *opaque, hwaddr at, unsigned size)
     GefsunkAhci *s = opaque;
     uint64_t value;
     gefsunk_must(gef_machine_read(&s->machine, at, size, &value));
+    note_time(s);
     gefsunk_note(s, "read %u %" PRIx64 " %0*" PRIx64 "\n", size, at, (int)(2 * size), value);
     return at == 0 && !s->fbs ? value & ~(uint64_t)CAP_FBSS : value;
 }
@@ -174,6 +206,7 @@ static void write_register(void *opaque, hwaddr at, uint64_t value, unsigned siz
 {
     GefsunkAhci *s = opaque;
     if (!s->is_busy) {
+        note_time(s);
         gefsunk_note(s, "write %u %" PRIx64 " %" PRIx64 "\n", size, at, value);
         gefsunk_must(gef_machine_write(&s->machine, at, size, value));
         gefsunk_run(s);
@@ -214,7 +247,7 @@ static void init_bus_class(ObjectClass *klass, void *data)
 static void make(GefsunkAhci *s)
 {
     gefsunk_must(gef_machine_new(&s->machine, s->ports, s->port0_open));
-    s->log = s->log ? freopen(s->record, "w", s->log) : NULL;
+    s->log = s->record ? freopen(s->record, "w", s->log) : s->log;
     gefsunk_note(s, "ports %u\n", s->ports);
     for (unsigned port = 0; port < MOST_PORTS; port++) {
         if (s->disks[port]) {
@@ -263,13 +296,15 @@ static void write_config(PCIDevice *dev, uint32_t at, uint32_t value, int len)
 static void realize(PCIDevice *dev, Error **errp)
 {
     GefsunkAhci *s = GEFSUNK_AHCI(dev);
+    const char *file;
     if (s->ports > MOST_PORTS) {
         error_setg(errp, "ports is 0 to %d: 0 for one disk and no multiplier", MOST_PORTS);
         return;
     }
-    s->log = s->record ? fopen(s->record, "w") : NULL;
-    if (s->record && !s->log) {
-        error_setg_file_open(errp, errno, s->record);
+    file = s->record ?: s->accesses;
+    s->log = file ? fopen(file, "w") : NULL;
+    if (file && !s->log) {
+        error_setg_file_open(errp, errno, file);
         return;
     }
     msi_init(dev, MSI, 1, true, false, NULL); /* a board without messages has the line */
@@ -289,6 +324,9 @@ static void realize(PCIDevice *dev, Error **errp)
     s->is_held = !runstate_is_running();
     s->changes = qdev_add_vm_change_state_handler(DEVICE(dev), held, s);
     make(s);
+    if (s->faults) {
+        gefsunk_faults_load(s, s->faults, errp);
+    }
 }
 
 static void leave(PCIDevice *dev)
@@ -297,6 +335,8 @@ static void leave(PCIDevice *dev)
     qemu_del_vm_change_state_handler(s->changes);
     qemu_bh_delete(s->later);
     gef_machine_free(&s->machine);
+    gefsunk_faults_load(s, "", NULL);
+    g_free(s->faults);
     g_free(s->state);
     g_free(s->works);
     if (s->log) {
@@ -305,11 +345,27 @@ static void leave(PCIDevice *dev)
     msi_uninit(dev);
 }
 
+static char *get_faults(Object *obj, Error **errp)
+{
+    return g_strdup(GEFSUNK_AHCI(obj)->faults);
+}
+
+/* While the machine runs, too: the script begins. */
+static void set_faults(Object *obj, const char *file, Error **errp)
+{
+    GefsunkAhci *s = GEFSUNK_AHCI(obj);
+    if (!DEVICE(obj)->realized || gefsunk_faults_load(s, file, errp)) {
+        g_free(s->faults);
+        s->faults = g_strdup(file);
+    }
+}
+
 static Property properties[] = {
     DEFINE_PROP_UINT8("ports", GefsunkAhci, ports, MOST_PORTS),
     DEFINE_PROP_BOOL("port0-open", GefsunkAhci, port0_open, true),
     DEFINE_PROP_BOOL("fbs", GefsunkAhci, fbs, true),
     DEFINE_PROP_STRING("record", GefsunkAhci, record),
+    DEFINE_PROP_STRING("log", GefsunkAhci, accesses),
     DEFINE_PROP_END_OF_LIST(),
 };
 
@@ -326,6 +382,7 @@ static void init_class(ObjectClass *klass, void *data)
     dc->reset = reset;
     dc->vmsd = &gefsunk_vmstate;
     device_class_set_props(dc, properties);
+    object_class_property_add_str(klass, "faults", get_faults, set_faults);
     set_bit(DEVICE_CATEGORY_STORAGE, dc->categories);
 }
 

@@ -1,6 +1,7 @@
 /*
- * The parts of the device: the controller (gefsunk_ahci.c), the disks on its bus and their media (gefsunk_disk.c), and what is
- * saved and restored (gefsunk_state.c).
+ * The parts of the device: the controller (gefsunk_ahci.c), the disks on its bus and their media (gefsunk_disk.c), what is saved
+ * and restored (gefsunk_state.c), disks by themselves, whose FISes can be met (gefsunk_fis.c), and faults by a script
+ * (gefsunk_faults.c).
  */
 #ifndef HW_IDE_GEFSUNK_AHCI_H
 #define HW_IDE_GEFSUNK_AHCI_H
@@ -27,23 +28,55 @@ typedef struct Work {
     uint8_t *bytes; /* of a load or a store */
     QEMUIOVector vector;
     BlockAcctCookie account;
-    size_t at; /* of a discard: the number of its range */
+    size_t at;   /* of a discard: the number of its range */
+    int64_t due; /* of one that its medium keeps waiting: until when */
     QTAILQ_ENTRY(Work) next;
 } Work;
 typedef QTAILQ_HEAD(Works, Work) Works;
+
+/* How the medium of a disk fails. */
+typedef struct GefsunkMedium {
+    bool is_stuck, fails;
+    int64_t delay;           /* nanoseconds before it does anything */
+    uint64_t bad, bad_count; /* sectors that cannot be read */
+    Works waiting;
+    QEMUTimer *timer;
+} GefsunkMedium;
+
+/* A FIS of a disk, on its way up. */
+typedef struct GefsunkFrame {
+    QTAILQ_ENTRY(GefsunkFrame) next;
+    int64_t due;
+    size_t len;
+    uint8_t bytes[GEF_FIS_ROOM];
+} GefsunkFrame;
+
+/* A disk by itself, and its end of the link. */
+typedef struct GefsunkLink {
+    gef_disk disk;
+    QTAILQ_HEAD(, GefsunkFrame) up; /* what it sends, the first one first */
+    bool is_deaf, is_mute, is_held; /* it hears nothing; nothing of it goes up; that waits */
+    QEMUTimer *timer;
+} GefsunkLink;
 
 struct GefsunkDisk {
     DeviceState parent_obj;
     BlockConf conf;
     VMChangeStateEntry *changes;
     Works stopped; /* what goes on as the machine does, after an error */
+    GefsunkMedium medium;
+    GefsunkLink link; /* where `fis` is on */
+    Error *stays;     /* why it is not migrated */
     /* properties */
     int32_t port;
     uint32_t depth;
     uint16_t rotation_rate;
     uint64_t wwn;
     char *serial, *model, *firmware;
+    bool fis;
 };
+
+typedef struct GefsunkFaults GefsunkFaults;
 
 struct GefsunkAhci {
     PCIDevice parent_obj;
@@ -60,11 +93,12 @@ struct GefsunkAhci {
     /* as it is saved: the machine, and what its media have to do still */
     uint8_t *state, *works;
     uint32_t state_size, works_size;
-    FILE *log;             /* of a recording */
+    FILE *log;             /* of a recording, or of accesses */
+    GefsunkFaults *script; /* of faults, if there is one */
     /* properties */
     uint8_t ports;
     bool port0_open, fbs;
-    char *record;
+    char *record, *accesses, *faults;
 };
 
 /* ---- gefsunk_ahci.c */
@@ -72,7 +106,7 @@ struct GefsunkAhci {
 /* Anything but GEF_OK is a mistake of the device, or there is no memory left. */
 void gefsunk_must(gef_status status);
 
-/* A line of a recording, or a part of one, if there is a recording. */
+/* A line of the log, or a part of one, if there is a log. */
 void gefsunk_note(GefsunkAhci *s, const char *format, ...) G_GNUC_PRINTF(2, 3);
 
 /* Does what is to be done. */
@@ -85,15 +119,49 @@ GefsunkAhci *gefsunk_controller_of(GefsunkDisk *disk);
 /* A disk is put at its port, and plugged in. */
 gef_status gefsunk_put(GefsunkAhci *s, GefsunkDisk *disk);
 
-/* What is asked of a medium: made of an event, and begun. */
+/* What is asked of a medium: made of an event, begun, and answered: it was done, or failed at a sector. */
 Work *gefsunk_new_work(GefsunkAhci *s, const gef_event *event);
 void gefsunk_begin_work(Work *work);
+void gefsunk_answer(Work *work, bool is_done, uint64_t lba);
 
 /* A disk asks its medium. */
 void gefsunk_ask_medium(GefsunkAhci *s, const gef_event *event);
 
 /* All that the medium has to do is done, and its answers are given. */
 void gefsunk_settle(GefsunkAhci *s, GefsunkDisk *disk);
+
+/* ---- gefsunk_fis.c */
+
+/* A disk by itself is made, and goes. */
+gef_status gefsunk_fis_new(GefsunkDisk *disk, const gef_disk_profile *profile);
+void gefsunk_fis_free(GefsunkDisk *disk);
+
+/* It begins anew; it hears a FIS that waits for it; it sends one; what it sent and nobody took is dropped. */
+void gefsunk_fis_begin(GefsunkDisk *disk);
+void gefsunk_fis_hear(GefsunkAhci *s, GefsunkDisk *disk);
+void gefsunk_fis_say(GefsunkDisk *disk, const uint8_t *fis, size_t len, int64_t delay);
+void gefsunk_fis_drop(GefsunkDisk *disk);
+
+/* Such disks ask their media, and send what they have to, as far as that goes: whether one did. */
+bool gefsunk_fis_move(GefsunkAhci *s);
+
+/* ---- gefsunk_faults.c */
+
+/* A script from a file takes the place of the one before; with an empty name there is none. */
+bool gefsunk_faults_load(GefsunkAhci *s, const char *file, Error **errp);
+
+/* A FIS passes between a disk and its port, and may be changed: what becomes of it. */
+typedef struct GefsunkPassage {
+    bool is_lost, is_twice;
+    int64_t delay;
+} GefsunkPassage;
+GefsunkPassage gefsunk_faults_meet(GefsunkAhci *s, GefsunkDisk *disk, bool is_up, uint8_t *fis, size_t *len);
+
+/* The medium fails at this work, or keeps it waiting: whether it took it. */
+bool gefsunk_faults_take(Work *work);
+
+/* What a medium keeps waiting is begun, if it is time. */
+void gefsunk_faults_wake(void *disk);
 
 /* ---- gefsunk_state.c */
 

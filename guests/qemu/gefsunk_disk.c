@@ -8,6 +8,7 @@
 #include "qemu/module.h"
 #include "hw/qdev-properties.h"
 #include "hw/qdev-properties-system.h"
+#include "migration/blocker.h"
 #include "sysemu/sysemu.h"
 #include "gefsunk_ahci.h"
 
@@ -22,16 +23,28 @@ static void end_work(Work *work)
     g_free(work);
 }
 
-/* The disk is told. It may refuse that, since a reset ends requests: then nobody waits for it. */
-static void answer(Work *work, bool is_done)
+/* The same of a disk of the machine, and of one by itself. */
+static gef_status told(GefsunkAhci *s, Work *work, bool is_done, uint64_t lba)
+{
+    const gef_request *request = &work->event.u.medium.request;
+    bool is_load = work->event.kind == GEF_EVENT_LOAD;
+    uint32_t error = is_load ? GEF_UNC : GEF_ABRT;
+    gef_disk *own = &work->disk->link.disk;
+    if (work->disk->fis) {
+        return !is_done ? gef_disk_answer_failed(own, request, error, lba) :
+               is_load ? gef_disk_answer_loaded(own, request, work->bytes, work->vector.size) :
+               gef_disk_answer_done(own, request);
+    }
+    return !is_done ? gef_machine_answer_failed(&s->machine, request, error, lba) :
+           is_load ? gef_machine_answer_loaded(&s->machine, request, work->bytes, work->vector.size) :
+           gef_machine_answer_done(&s->machine, request);
+}
+
+/* The disk may refuse an answer, since a reset ends requests: then nobody waits for it. */
+void gefsunk_answer(Work *work, bool is_done, uint64_t lba)
 {
     GefsunkAhci *s = gefsunk_controller_of(work->disk);
-    const gef_event *e = &work->event;
-    bool is_load = e->kind == GEF_EVENT_LOAD;
-    gef_status status =
-        !is_done ? gef_machine_answer_failed(&s->machine, &e->u.medium.request, is_load ? GEF_UNC : GEF_ABRT, e->u.medium.lba) :
-        is_load ? gef_machine_answer_loaded(&s->machine, &e->u.medium.request, work->bytes, work->vector.size) :
-        gef_machine_answer_done(&s->machine, &e->u.medium.request);
+    gef_status status = told(s, work, is_done, lba);
     if (status != GEF_NOT_OUT && status != GEF_OTHER_DISK) {
         gefsunk_must(status);
     }
@@ -73,11 +86,11 @@ static void worked(void *opaque, int ret)
         block_acct_done(blk_get_stats(blk), &work->account);
     }
     if (action == BLOCK_ERROR_ACTION_REPORT) {
-        answer(work, false);
+        gefsunk_answer(work, false, work->event.u.medium.lba);
     } else if (action == BLOCK_ERROR_ACTION_IGNORE && work->event.kind == GEF_EVENT_DISCARD) {
         go_on(work);
     } else if (action == BLOCK_ERROR_ACTION_IGNORE) {
-        answer(work, true);
+        gefsunk_answer(work, true, 0);
     }
 }
 
@@ -88,8 +101,10 @@ static void begin_discard(Work *work)
     GefsunkAhci *s = gefsunk_controller_of(work->disk);
     gef_range range;
     int64_t at, len;
-    if (gef_machine_discarded(&s->machine, &work->event.u.medium.request, work->at, &range) != GEF_OK) {
-        answer(work, true);
+    gef_status status = work->disk->fis ? gef_disk_discarded(&work->disk->link.disk, work->at, &range) :
+                        gef_machine_discarded(&s->machine, &work->event.u.medium.request, work->at, &range);
+    if (status != GEF_OK) {
+        gefsunk_answer(work, true, 0);
         return;
     }
     at = range.lba * BDRV_SECTOR_SIZE;
@@ -103,6 +118,9 @@ void gefsunk_begin_work(Work *work)
     BlockBackend *blk = work->disk->conf.blk;
     uint32_t kind = work->event.kind;
     int64_t at = work->event.u.medium.lba * BDRV_SECTOR_SIZE;
+    if (gefsunk_faults_take(work)) {
+        return;
+    }
     if (kind == GEF_EVENT_DISCARD) {
         begin_discard(work);
         return;
@@ -130,7 +148,9 @@ Work *gefsunk_new_work(GefsunkAhci *s, const gef_event *event)
         qemu_iovec_init_buf(&work->vector, work->bytes, len);
     }
     if (event->kind == GEF_EVENT_STORE) {
-        gefsunk_must(gef_machine_stored(&s->machine, &event->u.medium.request, 0, work->bytes, len, &filled));
+        gefsunk_must(work->disk->fis ?
+                     gef_disk_stored(&work->disk->link.disk, &event->u.medium.request, 0, work->bytes, len, &filled) :
+                     gef_machine_stored(&s->machine, &event->u.medium.request, 0, work->bytes, len, &filled));
         assert(filled == len);
     }
     return work;
@@ -144,20 +164,26 @@ void gefsunk_ask_medium(GefsunkAhci *s, const gef_event *event)
         return;
     }
     gefsunk_begin_work(gefsunk_new_work(s, event));
-    if (s->log) {
+    if (s->record) {
         blk_drain(s->disks[event->port]->conf.blk);
     }
 }
 
-gef_status gefsunk_put(GefsunkAhci *s, GefsunkDisk *disk)
+static gef_disk_profile profile_of(GefsunkDisk *disk)
 {
-    gef_disk_profile profile = {
+    return (gef_disk_profile) {
         .model = disk->model, .serial = disk->serial, .firmware = disk->firmware, .wwn = disk->wwn,
         .sectors = blk_getlength(disk->conf.blk) / BDRV_SECTOR_SIZE,
         .physical = disk->conf.physical_block_size, .rotation = disk->rotation_rate, .depth = disk->depth,
         .trim = disk->conf.discard_granularity != 0, .limit = DISK_LIMIT,
     };
-    gef_status status = gef_machine_put_disk(&s->machine, disk->port, &profile);
+}
+
+gef_status gefsunk_put(GefsunkAhci *s, GefsunkDisk *disk)
+{
+    gef_disk_profile profile = profile_of(disk);
+    gef_status status = disk->fis ? gef_machine_put_device(&s->machine, disk->port) :
+                        gef_machine_put_disk(&s->machine, disk->port, &profile);
     if (status == GEF_OK) {
         gefsunk_note(s, "disk %d sectors %" PRIu64 "\n", disk->port, profile.sectors);
         gefsunk_must(gef_machine_plug(&s->machine, disk->port));
@@ -185,6 +211,10 @@ void gefsunk_settle(GefsunkAhci *s, GefsunkDisk *disk)
     s->is_held = was_held;
     while ((work = QTAILQ_FIRST(&disk->stopped))) {
         QTAILQ_REMOVE(&disk->stopped, work, next);
+        end_work(work);
+    }
+    while ((work = QTAILQ_FIRST(&disk->medium.waiting))) {
+        QTAILQ_REMOVE(&disk->medium.waiting, work, next);
         end_work(work);
     }
 }
@@ -221,25 +251,43 @@ static bool has_medium(GefsunkDisk *disk, Error **errp)
     return blkconf_apply_backend_options(&disk->conf, false, true, errp);
 }
 
+/* A disk by itself is made first, and cannot be migrated. */
+static bool is_made(GefsunkAhci *s, GefsunkDisk *disk, Error **errp)
+{
+    gef_disk_profile profile = profile_of(disk);
+    gef_status status = disk->fis ? gefsunk_fis_new(disk, &profile) : GEF_OK;
+    if (status == GEF_OK) {
+        status = gefsunk_put(s, disk);
+    }
+    if (status != GEF_OK) {
+        error_setg(errp, "%s", gef_status_text(status));
+        return false;
+    }
+    if (disk->fis) {
+        error_setg(&disk->stays, "a disk with fis=on is not migrated");
+        return migrate_add_blocker(disk->stays, errp) == 0;
+    }
+    return true;
+}
+
 static void realize_disk(DeviceState *dev, Error **errp)
 {
     GefsunkDisk *disk = GEFSUNK_DISK(dev);
     GefsunkAhci *s = gefsunk_controller_of(disk);
     static unsigned serials;
-    gef_status status;
     QTAILQ_INIT(&disk->stopped);
+    QTAILQ_INIT(&disk->medium.waiting);
     if (!has_port(s, disk, errp) || !has_medium(disk, errp)) {
         return;
     }
     disk->serial = disk->serial ?: g_strdup_printf("GF%05u", ++serials);
     disk->model = disk->model ?: g_strdup("GEFSUNK DISK");
     disk->firmware = disk->firmware ?: g_strdup("1");
-    status = gefsunk_put(s, disk);
-    if (status != GEF_OK) {
-        error_setg(errp, "%s", gef_status_text(status));
+    if (!is_made(s, disk, errp)) {
         return;
     }
     s->disks[disk->port] = disk;
+    disk->medium.timer = timer_new_ns(QEMU_CLOCK_VIRTUAL, gefsunk_faults_wake, disk);
     disk->changes = qdev_add_vm_change_state_handler(dev, changed, disk);
     blk_iostatus_enable(disk->conf.blk);
     add_boot_device_path(disk->conf.bootindex, dev, "/disk@0");
@@ -256,6 +304,12 @@ static void unrealize_disk(DeviceState *dev)
     s->disks[disk->port] = NULL;
     gefsunk_note(s, "gone %d\n", disk->port);
     gefsunk_must(gef_machine_remove(&s->machine, disk->port));
+    timer_free(disk->medium.timer);
+    if (disk->fis) {
+        gefsunk_fis_free(disk);
+        migrate_del_blocker(disk->stays);
+        error_free(disk->stays);
+    }
     gefsunk_run(s);
 }
 
@@ -275,6 +329,7 @@ static Property disk_properties[] = {
     DEFINE_PROP_STRING("serial", GefsunkDisk, serial),
     DEFINE_PROP_STRING("model", GefsunkDisk, model),
     DEFINE_PROP_STRING("ver", GefsunkDisk, firmware),
+    DEFINE_PROP_BOOL("fis", GefsunkDisk, fis, false),
     DEFINE_PROP_END_OF_LIST(),
 };
 
