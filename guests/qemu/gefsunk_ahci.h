@@ -20,12 +20,14 @@ OBJECT_DECLARE_SIMPLE_TYPE(GefsunkDisk, GEFSUNK_DISK)
 
 #define MOST_PORTS 15
 #define DISK_LIMIT (4u << 20) /* the most bytes that the commands of a disk hold */
+#define SPARES 4              /* buffers that a disk keeps, for at most 2,048 sectors each */
 
 /* Something that a disk's medium is to do. */
 typedef struct Work {
     GefsunkDisk *disk;
     gef_event event;
     uint8_t *bytes; /* of a load or a store */
+    size_t room;
     QEMUIOVector vector;
     BlockAcctCookie account;
     size_t at;   /* of a discard: the number of its range */
@@ -64,6 +66,10 @@ struct GefsunkDisk {
     BlockConf conf;
     VMChangeStateEntry *changes;
     Works stopped; /* what goes on as the machine does, after an error */
+    struct {
+        uint8_t *bytes;
+        size_t room;
+    } spares[SPARES];
     GefsunkMedium medium;
     GefsunkLink link; /* where `fis` is on */
     Error *stays;     /* why it is not migrated */

@@ -17,9 +17,52 @@ GefsunkAhci *gefsunk_controller_of(GefsunkDisk *disk)
     return GEFSUNK_AHCI(qdev_get_parent_bus(DEVICE(disk))->parent);
 }
 
+/* Bytes for some work: a spare buffer, or a new one. New pages for each would take half of the time of a long transfer. */
+static void take_bytes(Work *work, size_t len)
+{
+    GefsunkDisk *disk = work->disk;
+    for (unsigned at = 0; at < SPARES; at++) {
+        if (disk->spares[at].room >= len) {
+            work->bytes = disk->spares[at].bytes;
+            work->room = disk->spares[at].room;
+            disk->spares[at].room = 0;
+            return;
+        }
+    }
+    work->bytes = blk_blockalign(disk->conf.blk, len);
+    work->room = len;
+}
+
+/* They are spare, if they are more than those of another buffer. */
+static void give_bytes(Work *work)
+{
+    GefsunkDisk *disk = work->disk;
+    for (unsigned at = 0; at < SPARES; at++) {
+        if (disk->spares[at].room < work->room) {
+            uint8_t *less = disk->spares[at].room ? disk->spares[at].bytes : NULL;
+            disk->spares[at].bytes = work->bytes;
+            disk->spares[at].room = work->room;
+            qemu_vfree(less);
+            return;
+        }
+    }
+    qemu_vfree(work->bytes);
+}
+
+static void free_spares(GefsunkDisk *disk)
+{
+    for (unsigned at = 0; at < SPARES; at++) {
+        if (disk->spares[at].room) {
+            qemu_vfree(disk->spares[at].bytes);
+        }
+    }
+}
+
 static void end_work(Work *work)
 {
-    qemu_vfree(work->bytes);
+    if (work->room) {
+        give_bytes(work);
+    }
     g_free(work);
 }
 
@@ -144,7 +187,7 @@ Work *gefsunk_new_work(GefsunkAhci *s, const gef_event *event)
     work->disk = s->disks[event->port];
     work->event = *event;
     if (len) {
-        work->bytes = blk_blockalign(work->disk->conf.blk, len);
+        take_bytes(work, len);
         qemu_iovec_init_buf(&work->vector, work->bytes, len);
     }
     if (event->kind == GEF_EVENT_STORE) {
@@ -305,6 +348,7 @@ static void unrealize_disk(DeviceState *dev)
     gefsunk_note(s, "gone %d\n", disk->port);
     gefsunk_must(gef_machine_remove(&s->machine, disk->port));
     timer_free(disk->medium.timer);
+    free_spares(disk);
     if (disk->fis) {
         gefsunk_fis_free(disk);
         migrate_del_blocker(disk->stays);
