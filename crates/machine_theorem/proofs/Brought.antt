@@ -62,7 +62,7 @@ in_order (Some x) c d count w m is h at =
     let same : x ≡ w = same_Some x w is in
     let offset : w.offset ≡ d.wrote.offset + count = ap (λ (y : Carried). y.offset) (sym same) ∙ h.offset in
     let behind : m.from ≡ 4 + count = at ∙ ap (λ (y : Carried). y.from) (sym same) ∙ h.from in
-    record { slot = ap (λ (y : Carried). y.slot) (sym same) ∙ h.slot; behind = omega (arith, behind); at = omega (arith, offset, behind) }
+    record { own = ap (λ (y : Carried). y.slot) (sym same) ∙ h.slot; behind = omega (arith, behind); at = omega (arith, offset, behind) }
 
 -- ---- one write
 
@@ -124,7 +124,7 @@ by_carrying old deeds now run runs m bytes k lends placed (Some d) is said of ty
       placed = placed;
       runs = runs;
       supplied = λ below source issued. read_from _ (kept now.controller placed.carried.slot) source placed.command (k.sources placed.carried.slot below).issued issued placed.kept_is;
-      data = d;
+      last = d;
       is_last = is;
       frame = own.frame;
       order = λ numbered. in_order now.controller.writes.payload now.controller d (said numbered).count placed.carried m placed.is (said numbered).left placed.from;

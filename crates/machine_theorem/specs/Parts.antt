@@ -23,10 +23,10 @@ use Rattle.machine_laws.specs.Rising.{is_multiplier}
 use Rattle.machine_theorem.specs.Origins.{IsSentIn}
 
 -- The bytes of the FIS have the offsets in the command that the controller told of as it took the FIS, in order.
-pub record AreInOrder (data : Carrying) (slot offset : ℕ) (m : Move) : Type 0 where
-  pub slot : slot ≡ data.wrote.slot
+pub record AreInOrder (d : Carrying) (slot offset : ℕ) (m : Move) : Type 0 where
+  pub own : slot ≡ d.wrote.slot
   pub behind : 4 ≤ m.from
-  pub at : offset + 4 ≡ data.wrote.offset + m.from
+  pub at : offset + 4 ≡ d.wrote.offset + m.from
 
 -- The caller is told to write bytes to the guest as payload.
 pub record IsBrought (old : MachineState) (deeds : List Deed) (now : MachineState) (run : RunsRuled old deeds now) (m : Move) (bytes : List ℕ)
@@ -42,10 +42,10 @@ pub record IsBrought (old : MachineState) (deeds : List Deed) (now : MachineStat
       → (sources_after placed.carried.slot no_sources old.controller (calls_in old deeds now run) now.controller runs.calls).issued ≡ Some source
       → command_of source ≡ Some (unmoved placed.command)
   -- The FIS is the one that the controller took last.
-  pub data : Carrying
-  pub is_last : carrying_after None old.controller (calls_in old deeds now run) now.controller runs.calls ≡ Some data
-  pub frame : data.frame ≡ fis.bytes
-  pub order : AreNumbered data → AreInOrder data placed.carried.slot placed.carried.offset m
+  pub last : Carrying
+  pub is_last : carrying_after None old.controller (calls_in old deeds now run) now.controller runs.calls ≡ Some last
+  pub frame : last.frame ≡ fis.bytes
+  pub order : AreNumbered last → AreInOrder last placed.carried.slot placed.carried.offset m
 
 -- So it is at each such write, over every run from a machine that opens, whatever its guest, its devices and its media do.
 abbrev pub PayloadIsBrought : Type 0

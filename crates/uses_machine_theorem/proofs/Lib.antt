@@ -1,1 +1,1 @@
-mod Moves
+mod LedLemmas

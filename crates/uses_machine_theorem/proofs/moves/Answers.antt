@@ -1,4 +1,4 @@
-use Rattle.uses_machine_theorem.proofs.Moves.{brought, led, ruled}
+use Rattle.uses_machine_theorem.proofs.LedLemmas.{brought, led, ruled}
 use Rattle.uses_machine_theorem.proofs.moves.Goals as goal
 
 pub returns-clause-led : goal.returns-clause-led

@@ -1,4 +1,4 @@
-use Rattle.uses_machine_theorem.proofs.Moves.{opened, ruled}
+use Rattle.uses_machine_theorem.proofs.LedLemmas.{opened, ruled}
 use Rattle.uses_machine_theorem.proofs.opens.Goals as goal
 
 pub returns : goal.returns
