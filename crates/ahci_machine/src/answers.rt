@@ -70,7 +70,10 @@ impl Machine {
             }
             Supply::Stale => Ok(Told::Stale),
             Supply::More => Ok(Told::Kept),
-            Supply::Issued { dev } => Ok(Told::Issued { slot, dev }),
+            Supply::Issued { dev } => {
+                self.hints.issued(slot);
+                Ok(Told::Issued { slot, dev })
+            }
         }
     }
 
@@ -100,6 +103,7 @@ impl Machine {
     ) -> Result<Told, AllocError>
         ensures { SuppliesMachine wanted bytes.now self.old result self.new }
     {
+        self.hints.turns = true;
         match wanted {
             Wanted::Command { slot, number } => {
                 let supply = self.controller.supply(alloc, slot, number, bytes);
@@ -143,6 +147,7 @@ impl Machine {
     pub fn no_memory(&mut self, wanted: Wanted) -> Result<Told, AllocError>
         ensures { MissesMachine wanted self.old result self.new }
     {
+        self.hints.turns = true;
         match wanted {
             Wanted::Command { slot, number } => {
                 let supply = self.controller.no_memory(slot, number);
@@ -172,6 +177,7 @@ impl Machine {
     pub fn answer(&mut self, id: MediumId, answer: Answer) -> Result<(), MediumError>
         ensures { AnswersMachine id answer self.old result self.new }
     {
+        self.hints.at(id.port);
         let Some(bay) = self.bays.get_mut(usize::from(id.port)) else {
             return Err(MediumError::OtherDisk);
         };
@@ -208,6 +214,7 @@ impl Machine {
     pub fn take_frame(&mut self, port: u8) -> Option<Frame>
         ensures { TakesFrame port self.old result self.new }
     {
+        self.hints.at(port);
         let bay = self.bays.get_mut(usize::from(port))?;
         match bay.unit {
             Unit::Own => {
@@ -223,6 +230,7 @@ impl Machine {
     pub fn offer(&mut self, port: u8, frame: Frame) -> Result<(), Frame>
         ensures { OffersFrame port frame self.old result self.new }
     {
+        self.hints.rises = true;
         let Some(bay) = self.bays.get(usize::from(port)) else {
             return Err(frame);
         };

@@ -78,6 +78,7 @@ impl Machine {
         ensures { TurnsNext result self.old self.new }
     {
         let next = self.controller.next();
+        self.hints.said(&next);
         self.kept = match next {
             Next::Nothing => None,
             _ => Some(next),
@@ -106,6 +107,7 @@ impl Machine {
     {
         if feed.dev < 16 {
             self.gathering[usize::from(feed.dev)] = Some(Gathering::new(alloc, feed)?);
+            self.hints.feeds(feed.dev);
         }
         Ok(())
     }
@@ -155,8 +157,12 @@ impl Machine {
         let Some(frame) = self.outgoing.take() else {
             return Ok(None);
         };
+        let port = frame.pm_port();
         match self.fan.send(alloc, frame) {
-            Ok(passed) => Ok(Some(Act::Sends(passed))),
+            Ok(passed) => {
+                self.hints.passes(port);
+                Ok(Some(Act::Sends(passed)))
+            }
             Err((frame, refusal)) => {
                 self.outgoing = Some(frame);
                 match refusal {
@@ -173,6 +179,7 @@ impl Machine {
     {
         let dev = gathering.feed.dev;
         let fed = self.controller.gathered(dev, gathering.feed.number);
+        self.hints.turns = true;
         match fed {
             Fed::Goes { message, .. } => {
                 self.message = self.message || message;
@@ -191,6 +198,7 @@ impl Machine {
         ensures { MissesOf feed result self.old self.new }
     {
         let fed = self.controller.not_there(feed.dev, feed.number);
+        self.hints.turns = true;
         if let Fed::Missed { message, .. } = fed {
             self.message = self.message || message;
         }
@@ -226,7 +234,11 @@ impl Machine {
         ensures does { MayDo self.old result self.new }
         ensures none { IfNone result (NoneGathers self.old dev) }
     {
-        match self.waits(dev)? {
+        let Some(waits) = self.waits(dev) else {
+            self.hints.feeds_none(dev);
+            return None;
+        };
+        match waits {
             Waits::Asked => None,
             Waits::Whole if self.kept.is_some() || self.outgoing.is_some() => None,
             Waits::Wants(read) => {
@@ -258,9 +270,16 @@ impl Machine {
             return Ok(None);
         }
         self.incoming = self.fan.next_up(alloc)?;
-        match self.incoming {
-            Some(_) => Ok(Some(Act::Rises)),
-            None => Ok(None),
+        match &self.incoming {
+            Some(frame) => {
+                self.hints.at(frame.pm_port());
+                self.hints.rises = self.bays.len() > 1;
+                Ok(Some(Act::Rises))
+            }
+            None => {
+                self.hints.rises = false;
+                Ok(None)
+            }
         }
     }
 
@@ -278,6 +297,7 @@ impl Machine {
         let _ = frame.bytes();
         match self.controller.take(frame) {
             Ok(took) => {
+                self.hints.heard(frame);
                 self.message = self.message || took.message;
                 self.taken = true;
                 self.writing = true;

@@ -10,6 +10,7 @@ mod answers;
 mod bay;
 mod control;
 mod gathering;
+mod hints;
 mod machine;
 mod ports;
 mod request;

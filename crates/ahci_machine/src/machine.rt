@@ -13,6 +13,7 @@ mod saved;
 
 use crate::bay::Bay;
 use crate::gathering::Gathering;
+use crate::hints::Hints;
 use ahci_controller::{Controller, Next, WideWritten, Width};
 use ahci_registers::Effect;
 use fan_out::FanOut;
@@ -65,6 +66,8 @@ pub struct Machine {
     pub(crate) first: bool,
     /// The port whose turn is next.
     pub(crate) turn: u8,
+    /// Where it looks first. It is no part of the machine's state.
+    pub(crate) hints: Hints,
 }
 
 impl Model for Machine {
@@ -126,6 +129,7 @@ impl Machine {
             message: false,
             first: false,
             turn: 0,
+            hints: Hints::new(),
         })
     }
 
@@ -159,6 +163,7 @@ impl Machine {
         self.gathering = no_gathering();
         self.lent = Lent::Nothing;
         self.fan.renew();
+        self.hints.shaken();
     }
 
     // The link was reset, and with it what the controller had to write: what is behind it begins anew.
@@ -177,6 +182,7 @@ impl Machine {
         ensures { WritesMachine offset width value self.old result self.new }
     {
         let written = self.controller.write(offset, width, value);
+        self.hints.written();
         self.message = self.message || written.low.message || written.high.message;
         if written.low.effect != Effect::Nothing || written.high.effect != Effect::Nothing {
             self.renew();

@@ -35,6 +35,7 @@ impl Machine {
     pub fn put(&mut self, port: u8, unit: Unit) -> Result<(), (Unit, PortFault)>
         ensures { Puts port unit self.old result self.new }
     {
+        self.hints.at(port);
         let Some(bay) = self.bays.get_mut(usize::from(port)) else {
             return Err((unit, PortFault::NoPort));
         };
@@ -52,6 +53,7 @@ impl Machine {
     pub fn plug(&mut self, port: u8) -> Result<(), PortFault>
         ensures { PlugsMachine port self.old result self.new }
     {
+        self.hints.shaken();
         let Some(bay) = self.bays.get(usize::from(port)) else {
             return Err(PortFault::NoPort);
         };
@@ -85,6 +87,7 @@ impl Machine {
         requires { port < length self.old.bays }
         ensures { PullsPart port self.old result self.new }
     {
+        self.hints.shaken();
         match self.fan.pull(port) {
             Ok(()) => {
                 self.bays[usize::from(port)].drops_all(alloc);

@@ -16,7 +16,11 @@ impl Machine {
         ensures does { MayDo self.old result self.new }
         ensures none { IfNone result (Tells self.old.fan None self.old.fan) }
     {
-        let port = self.fan.next_begun()?;
+        let Some(port) = self.fan.next_begun() else {
+            self.hints.begins = false;
+            return None;
+        };
+        self.hints.at(port);
         if let Some(bay) = self.bays.get_mut(usize::from(port)) {
             bay.drops_all(alloc);
         }
@@ -94,6 +98,7 @@ impl Machine {
             return Ok(Some(act));
         }
         if let Some(act) = self.speak_at(alloc, port)? {
+            self.hints.rises = true;
             return Ok(Some(act));
         }
         if let Some(act) = self.start_at(port)? {
@@ -111,8 +116,28 @@ impl Machine {
         for port in from..to {
             if let Some(act) = self.serve(alloc, port)? {
                 self.turn = port + 1;
+                self.first = true;
                 return Ok(Some(act));
             }
+        }
+        Ok(None)
+    }
+
+    /// What is next at the ports where something may be to do, each in its turn.
+    pub(crate) fn serve_likely(&mut self, alloc: Global) -> Result<Option<Act>, AllocError>
+        ensures ok { IfOk result (λ act. MayStep self.old act self.new) }
+        ensures err { OnErr result (self.new ≡ self.old) }
+    {
+        for _ in 0..16_u8 {
+            let Some(port) = self.hints.port_from(self.turn) else {
+                return Ok(None);
+            };
+            if let Some(act) = self.serve(alloc, port)? {
+                self.turn = port.saturating_add(1);
+                self.first = true;
+                return Ok(Some(act));
+            }
+            self.hints.rests_at(port);
         }
         Ok(None)
     }
@@ -130,6 +155,7 @@ impl Machine {
         if let Some(act) = self.serve_any(alloc, 0, turn.min(ports))? {
             return Ok(Some(act));
         }
+        self.hints.ports_rest();
         Ok(None)
     }
 }

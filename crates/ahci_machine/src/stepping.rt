@@ -1,8 +1,8 @@
 //! What is next to do.
 
 ghost use Rattle.std.specs.Prelude.{◌≡◌, ◌<◌, ℕ, false, IfNone, IfOk, Ok, OnErr};
-ghost use Rattle.ahci_machine.specs.Acts.{Asks, MayDo, Moves, Steps, unlent};
-ghost use Rattle.ahci_machine.specs.Resting.{ArePortsQuiet, EndsAtRest, IsAtRest, IsCarried, IsToldAll, NoneGathers, NothingIsSaid};
+ghost use Rattle.ahci_machine.specs.Acts.{Asks, MayDo, MayStep, Moves, Steps, unlent};
+ghost use Rattle.ahci_machine.specs.Resting.{EndsAtRest, IsAtRest, IsCarried, IsToldAll, NoneGathers, NothingIsSaid};
 ghost use Rattle.ahci_machine.specs.declared.act.Act.TheVariants.{Rests};
 ghost use Rattle.ahci_machine.specs.declared.request.Request.TheVariants.{Nothing};
 
@@ -65,28 +65,100 @@ impl Machine {
         Ok(self.begin_next(alloc))
     }
 
-    // What the ports do, or else what the controller has to do: they take turns.
-    #[tactic(auto, using(crate::proofs::MoveLemmas::turns_first, crate::proofs::MoveLemmas::rests_same))]
-    fn turn_or_serve(&mut self, alloc: Global) -> Result<Act, AllocError>
-        ensures ok { IfOk result (λ act. Steps self.old act self.new) }
-        ensures ports { result ≡ Ok Rests → ArePortsQuiet self.old }
-        ensures said { result ≡ Ok Rests → NothingIsSaid self.old }
+    // The Data FISes go on whose bytes were noticed to be read.
+    fn gather_likely(&mut self) -> Option<Act>
+        ensures { MayDo self.old result self.new }
+    {
+        for device in 0..16_u8 {
+            if self.hints.may_feed(device) {
+                if let Some(act) = self.gather_next(device) {
+                    return Some(act);
+                }
+            }
+        }
+        None
+    }
+
+    // What goes on of what was noticed to be on its way.
+    fn carry_likely(&mut self, alloc: Global) -> Result<Option<Act>, AllocError>
+        ensures ok { IfOk result (λ act. MayDo self.old act self.new) }
         ensures err { OnErr result (self.new ≡ self.old) }
     {
-        if self.first && self.kept.is_none() {
-            self.first = false;
-            return Ok(Act::Turns(self.turn_next()));
+        if self.incoming.is_some() {
+            if let Some(act) = self.take_next() {
+                return Ok(Some(act));
+            }
+        } else if self.hints.rises {
+            if let Some(act) = self.rise_next(alloc)? {
+                return Ok(Some(act));
+            }
         }
-        if let Some(act) = self.serve_next(alloc)? {
-            self.first = true;
-            return Ok(act);
+        if self.outgoing.is_some() {
+            if let Some(act) = self.send_next(alloc)? {
+                return Ok(Some(act));
+            }
         }
         if self.kept.is_some() {
-            return Ok(Act::Rests);
+            if let Some(act) = self.do_next(alloc)? {
+                return Ok(Some(act));
+            }
+        }
+        if self.hints.is_feeding() {
+            if let Some(act) = self.gather_likely() {
+                return Ok(Some(act));
+            }
+        }
+        if self.hints.begins {
+            return Ok(self.begin_next(alloc));
+        }
+        Ok(None)
+    }
+
+    // What the controller has to do, where it was noticed to.
+    fn turn_likely(&mut self) -> Option<Act>
+        ensures { MayStep self.old result self.new }
+    {
+        if !self.hints.turns || self.kept.is_some() {
+            return None;
+        }
+        self.first = false;
+        Some(Act::Turns(self.turn_next()))
+    }
+
+    // What was noticed to be next. The ports and the controller take turns.
+    fn likely(&mut self, alloc: Global) -> Result<Option<Act>, AllocError>
+        ensures ok { IfOk result (λ act. MayStep self.old act self.new) }
+        ensures err { OnErr result (self.new ≡ self.old) }
+    {
+        if let Some(act) = self.carry_likely(alloc)? {
+            return Ok(Some(act));
+        }
+        if self.first || !self.hints.is_any_at() {
+            if let Some(act) = self.turn_likely() {
+                return Ok(Some(act));
+            }
+        }
+        if self.bays.len() > 1 {
+            if let Some(act) = self.serve_likely(alloc)? {
+                return Ok(Some(act));
+            }
+            return Ok(self.turn_likely());
+        }
+        Ok(None)
+    }
+
+    // What the controller has to do, where nothing else is next.
+    #[tactic(auto, using(crate::proofs::MoveLemmas::rests_same))]
+    fn turn_last(&mut self) -> Act
+        ensures ok { Steps self.old result self.new }
+        ensures said { result ≡ Rests → NothingIsSaid self.old }
+    {
+        if self.kept.is_some() {
+            return Act::Rests;
         }
         match self.turn_next() {
-            Next::Nothing => Ok(Act::Rests),
-            next => Ok(Act::Turns(next)),
+            Next::Nothing => Act::Rests,
+            next => Act::Turns(next),
         }
     }
 
@@ -99,10 +171,16 @@ impl Machine {
         if let Some(act) = self.urgent() {
             return Ok(act);
         }
+        if let Some(act) = self.likely(alloc)? {
+            return Ok(act);
+        }
+        if let Some(act) = self.serve_next(alloc)? {
+            return Ok(act);
+        }
         if let Some(act) = self.carry_next(alloc)? {
             return Ok(act);
         }
-        self.turn_or_serve(alloc)
+        Ok(self.turn_last())
     }
 
     /// Makes moves until one asks something of the caller, but at most 64. `Nothing` is asked only by a machine at rest.

@@ -6,6 +6,7 @@ ghost use Rattle.ahci_machine.specs.Saved.{between_of, lent_words, machine_words
 use super::{Lent, Machine};
 use crate::bay::Bay;
 use crate::gathering::Gathering;
+use crate::hints::Hints;
 use ahci_controller::{Controller, Next};
 use fan_out::FanOut;
 use fis_view::Frame;
@@ -127,6 +128,7 @@ impl Saved for Machine {
             message,
             first,
             turn,
+            hints: Hints::everywhere(),
         })
     }
 }

@@ -1,0 +1,5 @@
+use Rattle.std.proofs.Common.{◌≡◌}
+use Rattle.ahci_machine.proofs.machine.Machine.serve_likely.Given as goal
+
+abbrev pub invariant-loop : goal.invariant-loop
+invariant-loop l = l.self ≡ l.fn.self
