@@ -96,8 +96,8 @@ walked_on ranks set rest new n p oldest walked first less = record {
   gone = λ q low below. elim (cases_eq q p) [
     | inl same ↦ rw same less.here
     | inr apart ↦ less.others q below apart ∙ elim (cases_lt q p) [
-        | inl lower ↦ first.before q lower
-        | inr higher ↦ absurd (let e = walked.gone p (omega (arith, low, apart, higher)) first.below in let f = first.has in cc)
+      | inl lower ↦ first.before q lower
+      | inr higher ↦ absurd (let e = walked.gone p (omega (arith, low, apart, higher)) first.below in let f = first.has in cc)
     ]
   ];
   within = λ q low e. elim (cases_eq q p) [
@@ -152,10 +152,10 @@ pub is_first : (set : ℕ) → set < 2 ^ 64 → trailing_zeros w64 set < 33 → 
 is_first set bound low = elim (cases_eq set 0) [
   | inl none ↦ absurd (let e : trailing_zeros w64 set ≡ 64 = ap (trailing_zeros w64) none ∙ trailing_of_zero 64 in omega (arith, low, e))
   | inr some ↦ (let bits = bit_at-trailing_zeros w64 set (omega (arith, some)) bound in record {
-      below = low;
-      has = eq-eqb _ _ bits.1;
-      before = λ q lower. no_bit set q (bits.2 q lower);
-    })
+    below = low;
+    has = eq-eqb _ _ bits.1;
+    before = λ q lower. no_bit set q (bits.2 q lower);
+  })
 ]
 
 pub is_nowhere : (set : ℕ) → set < 2 ^ 64 → 33 ≤ trailing_zeros w64 set → PassesNowhere (has_bit set)
