@@ -567,10 +567,10 @@ gef_status gef_machine_save(gef_machine *machine, uint8_t *bytes, size_t room, s
  * Makes the machine whose state these bytes are, and opens the handle: it is the machine that was saved. The line is where it was; the
  * guest's memory and the media are yours to restore.
  *
- * Bytes of anybody may be passed: they give a machine whose calls are as safe as those of any other, or are refused. But such a machine
- * may ask for sectors behind the end of its disk, and give a request the number of another that is out. So where the bytes may be
- * somebody else's, test `lba` and `count` of each event, and each range of a discard, before you use them, and know your requests by
- * a number of your own.
+ * Bytes of anybody may be passed: they give a machine whose calls are as safe as those of any other, or are refused: also where two
+ * requests of a disk have one number, or one has a number that is still to be given. But such a machine may ask for sectors behind the
+ * end of its disk. So where the bytes may be somebody else's, test `lba` and `count` of each event, and each range of a discard, before
+ * you use them.
  * Can return GEF_OPEN (free it first), GEF_NOT_A_STATE, GEF_OTHER_VERSION, GEF_BAD_STATE, GEF_NO_MEMORY.
  */
 gef_status gef_machine_restore(gef_machine *machine, const uint8_t *bytes, size_t len);
