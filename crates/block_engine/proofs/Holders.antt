@@ -135,9 +135,13 @@ answered_less l m p d s e outs orphans Discard n low is = is
 answered_case : (l : Line) (x : Queue) (p : ℕ) (b d : Bool) (s : AsideStage) (e : Option ℕ) → x.out ≡ set l.queue.out p 0 → x.next ≡ l.queue.next
     → AreNumbered l s e
     → AreNumbered (record l { queue = if b then x else l.queue; orphans = if d then set l.orphans p None else l.orphans }) s e
-answered_case l x p true d s e out next are = less l s e _ s e (omega (arith, next))
-    (answered_less l _ p d s e (λ q n is. out_case l.queue.out p q n (ap (λ xs. number_at xs q) (sym out) ∙ is)) refl) are
-answered_case l x p false d s e out next are = less l s e _ s e (omega arith) (answered_less l _ p d s e (λ q n is. is) refl) are
+answered_case l x p true d s e out next are =
+    let m : Line = record l { queue = x; orphans = if d then set l.orphans p None else l.orphans } in
+    less l s e m s e (omega (arith, next))
+    (answered_less l m p d s e (λ q n is. out_case l.queue.out p q n (ap (λ xs. number_at xs q) (sym out) ∙ is)) refl) are
+answered_case l x p false d s e out next are =
+    let m : Line = record l { queue = l.queue; orphans = if d then set l.orphans p None else l.orphans } in
+    less l s e m s e (omega arith) (answered_less l m p d s e (λ q n is. is) refl) are
 
 pub answered_line : (l : Line) (p number : ℕ) (i : Input) (s : AsideStage) (e : Option ℕ) → AreNumbered l s e
     → AreNumbered (line_answered l p number i) s e

@@ -148,8 +148,8 @@ made_on test made new rest less n p is walked first with' here without = record 
   gone = λ q low below. elim (cases_eq q p) [
     | inl same ↦ rw same without.here
     | inr apart ↦ without.others q below apart ∙ elim (cases_lt q p) [
-        | inl lower ↦ first.before q lower
-        | inr higher ↦ absurd (let e = walked.gone p (omega (arith, low, apart, higher)) first.below in let f = first.has in cc)
+      | inl lower ↦ first.before q lower
+      | inr higher ↦ absurd (let e = walked.gone p (omega (arith, low, apart, higher)) first.below in let f = first.has in cc)
     ]
   ];
   done = λ q low e. elim (cases_eq q p) [
