@@ -567,10 +567,9 @@ gef_status gef_machine_save(gef_machine *machine, uint8_t *bytes, size_t room, s
  * Makes the machine whose state these bytes are, and opens the handle: it is the machine that was saved. The line is where it was; the
  * guest's memory and the media are yours to restore.
  *
- * Bytes of anybody may be passed: they give a machine whose calls are as safe as those of any other, and which asks for no sector that
- * its disks do not have, or are refused. But such a machine may give a request the number of another that is out. So where the bytes
- * may be somebody else's, know your requests by a number of your own. The disks have as many sectors as the bytes say: that your media
- * have them is yours to test.
+ * Bytes of anybody may be passed: they give a machine whose calls are as safe as those of any other, which asks for no sector that its
+ * disks do not have, and where no two requests of a disk have one number, or are refused. The disks have as many sectors as the bytes
+ * say: that your media have them is yours to test.
  * Can return GEF_OPEN (free it first), GEF_NOT_A_STATE, GEF_OTHER_VERSION, GEF_BAD_STATE, GEF_NO_MEMORY.
  */
 gef_status gef_machine_restore(gef_machine *machine, const uint8_t *bytes, size_t len);

@@ -144,7 +144,7 @@ impl Machine {
     }
 
     /// The machine whose state these bytes are. Bytes of anybody give a machine whose calls are as safe as ever, or are refused; but it
-    /// may ask for sectors behind the end of a disk, and give a request the number of another that is out.
+    /// may ask for sectors behind the end of a disk. Two requests of a disk never have one number.
     ///
     /// # Errors
     /// [`Error::NotAState`], [`Error::OtherVersion`], [`Error::BadState`] and [`Error::NoMemory`].

@@ -1,7 +1,7 @@
 -- A command of a block disk at one moment, what it does next, and what it makes of what it is given
 -- (ACS-3, 4, protocols; Serial ATA 3.x, 10.5, FIS types, and 13.6, native command queuing).
 use Rattle.std.specs.Prelude.{ℕ, ◌+◌, ◌-◌, ◌*◌, ◌<◌, ◌≤◌, ◌==◌, ◌^◌, Bool, true, false, List, [], ◌++◌, length}
-use Rattle.std.specs.Prelude.{take, drop, nat_lt, if◌then◌else◌, ◌&&◌, Option, Some, None}
+use Rattle.std.specs.Prelude.{take, drop, nat_lt, not, if◌then◌else◌, ◌&&◌, Option, Some, None}
 use Rattle.block_command.specs.declared.answer.AnswerError.{AnswerError}
 use Rattle.block_command.specs.declared.answer.AnswerError.TheVariants.{OtherKind, OtherLength}
 use Rattle.block_command.specs.declared.command.Command.{Command}
@@ -102,6 +102,18 @@ part_lba m = m.command.lba + m.done
 -- the bytes of the next Data FIS
 abbrev pub part_of : Moment → List ℕ
 part_of m = take (chunk m.command (length m.bytes - m.sent)) (drop m.sent m.bytes)
+
+-- ## When memory is taken
+
+-- its start takes the memory of a write's first part
+abbrev pub starts_write : Moment → Stage → Bool
+starts_write m Waiting = m.command.write
+starts_write m _ = false
+
+-- Data that come are kept: they were asked for, and are no more than that
+abbrev pub keeps_data : Moment → Stage → List ℕ → Bool
+keeps_data m Receiving part = not (nat_lt (chunk m.command (part_len m.command m.done - length m.bytes)) (length part))
+keeps_data m _ part = false
 
 -- ## What was next was done
 

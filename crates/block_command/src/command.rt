@@ -1,9 +1,9 @@
 //! A command and its stages.
 
-ghost use Rattle.std.specs.Prelude.{◌≡◌, ◌+◌, ◌-◌, ◌*◌, ◌<◌, ◌≤◌, ◌^◌, [], length, IfOk, OnOk, OnErr, take, drop};
+ghost use Rattle.std.specs.Prelude.{◌≡◌, true, ◌+◌, ◌-◌, ◌*◌, ◌<◌, ◌≤◌, ◌^◌, [], length, IfOk, OnOk, OnErr, take, drop};
 ghost use Rattle.std.specs.Result.{result_err};
 ghost use Rattle.block_command.specs.Moments.{failure_fault, flush_fault, load_fault, store_fault};
-ghost use Rattle.block_command.specs.Moments.{IsCommand, IsMoment, Moment, after_came, after_failed, after_flushed, after_loaded, after_stored, chunk, data_stage, first_data_stage, gone, holds, is_ended, is_queued, is_storing, is_verify, opening, part_count, part_len, part_lba, part_of, read_end, read_on, runs, sent_to, set_up_stage, started, turn_of, write_on};
+ghost use Rattle.block_command.specs.Moments.{IsCommand, IsMoment, Moment, after_came, after_failed, after_flushed, after_loaded, after_stored, chunk, data_stage, first_data_stage, gone, holds, is_ended, is_queued, is_storing, is_verify, keeps_data, opening, part_count, part_len, part_lba, part_of, read_end, read_on, runs, sent_to, set_up_stage, started, starts_write, turn_of, write_on};
 
 mod saved;
 
@@ -327,6 +327,7 @@ impl BlockCommand {
     pub fn start(&mut self) -> Result<(), AllocError>
         ensures ok { OnOk result (self.new ≡ gone self.old self.old.stage) }
         ensures err { OnErr result (self.new ≡ self.old) }
+        ensures room { OnErr result (starts_write self.old self.old.stage ≡ true) }
     {
         if let Stage::Waiting = self.stage {
             if self.command.write {
@@ -412,6 +413,7 @@ impl BlockCommand {
     pub fn came(&mut self, part: &[u8]) -> Result<(), AllocError>
         ensures ok { OnOk result (self.new ≡ after_came self.old self.old.stage part.now) }
         ensures err { OnErr result (self.new ≡ self.old) }
+        ensures room { OnErr result (keeps_data self.old self.old.stage part.now ≡ true) }
     {
         let whole = self.part_count() as usize * 512;
         let Stage::Receiving = self.stage else {

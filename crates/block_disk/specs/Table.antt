@@ -4,7 +4,7 @@ use Rattle.std.specs.Option.{option_map}
 use Rattle.block_command.specs.declared.command.Command.{Command}
 use Rattle.block_command.specs.declared.command.Turn.{Turn}
 use Rattle.block_command.specs.declared.command.Turn.TheVariants as turn
-use Rattle.block_command.specs.Moments.{Moment, opening, holds, is_ended, turn_of}
+use Rattle.block_command.specs.Moments.{Moment, opening, holds, is_ended, keeps_data, starts_write, turn_of}
 use Rattle.block_command.specs.declared.answer.AnswerError.{AnswerError}
 use Rattle.block_command.specs.declared.answer.AnswerError.TheVariants.{NotOut}
 use Rattle.block_command.specs.Laws.{Input, after, refusal}
@@ -69,3 +69,15 @@ may_go_at d (Some m) = not (wants_wire (turn_of m.stage)) || is_none d.wire
 
 abbrev pub may_go : Table → ℕ → Bool
 may_go d place = may_go_at d (at d place)
+
+-- ## When memory is taken
+
+-- the start of the command of a place takes the memory of a write
+abbrev pub starts_write_at : Option Moment → Bool
+starts_write_at None = false
+starts_write_at (Some m) = starts_write m m.stage
+
+-- Data that come for it are kept
+abbrev pub keeps_data_at : Option Moment → List ℕ → Bool
+keeps_data_at None part = false
+keeps_data_at (Some m) part = keeps_data m m.stage part

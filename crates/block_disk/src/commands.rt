@@ -4,7 +4,7 @@ ghost use Rattle.std.specs.Prelude.{◌≡◌, true, ◌<◌, ◌≤◌, IfOk, I
 ghost use Rattle.std.specs.Result.{result_err};
 ghost use Rattle.block_command.specs.Moments.{IsCommand, Moment};
 ghost use Rattle.block_command.specs.Laws.{Comes, Fails, Flushes, Goes, Loads, Stores};
-ghost use Rattle.block_disk.specs.Table.{Table, at, freed, has_wire, is_under_way, may_go, none_under_way, refusal_at, wants_wire, wire_with, with_input, with_taken};
+ghost use Rattle.block_disk.specs.Table.{Table, at, freed, has_wire, is_under_way, keeps_data_at, may_go, none_under_way, refusal_at, starts_write_at, wants_wire, wire_with, with_input, with_taken};
 
 mod saved;
 
@@ -192,6 +192,7 @@ impl Commands {
         requires place { place < 33 }
         ensures ok { OnOk result (self.new ≡ with_input self.old place (Comes part.now)) }
         ensures err { OnErr result (self.new ≡ self.old) }
+        ensures room { OnErr result (keeps_data_at (at self.old place) part.now ≡ true) }
     {
         if let Some(command) = &mut self.by_place[place as usize] {
             command.came(part)?;
@@ -236,6 +237,7 @@ impl Commands {
         requires may { may_go self.old place ≡ true }
         ensures ok { OnOk result (self.new ≡ with_input self.old place Goes) }
         ensures err { OnErr result (self.new ≡ self.old) }
+        ensures room { OnErr result (starts_write_at (at self.old place) ≡ true) }
     {
         if let Some(command) = &mut self.by_place[place as usize] {
             command.start()?;

@@ -4,7 +4,7 @@ ghost use Rattle.std.specs.Prelude.{◌≡◌, ◌+◌, ◌<◌, ◌≤◌, ◌^
 ghost use Rattle.std.specs.Result.{result_err};
 ghost use Rattle.block_command.specs.Moments.{IsCommand, Moment};
 ghost use Rattle.block_command.specs.Laws.{Comes, Fails, Flushes, Goes, Loads, Stores};
-ghost use Rattle.block_disk.specs.Table.{at, is_under_way, may_go, with_input, with_taken};
+ghost use Rattle.block_disk.specs.Table.{at, is_under_way, keeps_data_at, may_go, starts_write_at, with_input, with_taken};
 ghost use Rattle.block_disk.specs.Requests.{Queue, answer_refusal, asks, is_fis, is_out, is_request, may_send, none_queued, number_at, queue_reset, with_answer, with_asked, with_drawn, with_table};
 
 mod saved;
@@ -119,6 +119,7 @@ impl Requests {
         requires may { may_go self.old.table place ≡ true }
         ensures ok { OnOk result (self.new ≡ with_table self.old (with_input self.old.table place Goes)) }
         ensures err { OnErr result (self.new ≡ self.old) }
+        ensures room { OnErr result (starts_write_at (at self.old.table place) ≡ true) }
     {
         self.commands.start(place)
     }
@@ -181,6 +182,7 @@ impl Requests {
         requires { place < 33 }
         ensures ok { OnOk result (self.new ≡ with_table self.old (with_input self.old.table place (Comes part.now))) }
         ensures err { OnErr result (self.new ≡ self.old) }
+        ensures room { OnErr result (keeps_data_at (at self.old.table place) part.now ≡ true) }
     {
         self.commands.came(place, part)
     }
@@ -192,6 +194,13 @@ impl Requests {
     {
         let number = self.out[place as usize];
         if 0 < number { Some(number) } else { None }
+    }
+
+    /// The number that the next request gets. Those that were given are below it.
+    pub fn next_number(&self) -> u64
+        ensures { result ≡ self.now.next }
+    {
+        self.next
     }
 
     /// Whether the request of this number is out at this place.

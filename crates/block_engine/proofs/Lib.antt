@@ -4,3 +4,4 @@ pub mod Asked
 pub mod Runs
 pub mod Alone
 pub mod Failures
+pub mod Holders

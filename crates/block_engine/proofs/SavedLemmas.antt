@@ -2,7 +2,8 @@
 use Rattle.std.proofs.Common.{◌≡◌, ℕ, List, sym, subst}
 use Rattle.block_engine.specs.declared.request.Range.{Range}
 use Rattle.block_engine.specs.Engine.{EngineState}
-use Rattle.block_engine.specs.Saved.{KeepsEngine, KeepsParts, Parts, put_engine, put_parts}
+use Rattle.block_engine.specs.Numbers.{AreNumbered}
+use Rattle.block_engine.specs.Saved.{KeepsEngine, KeepsParts, Parts, parts_of, put_engine, put_parts}
 
 abbrev pub engine_of : Parts → List Range → EngineState
 engine_of parts ranges = record {
@@ -15,7 +16,8 @@ engine_of parts ranges = record {
 }
 
 pub restored : (parts : Parts) (old new : List ℕ) (ranges : List Range) → ranges ≡ parts.2.0 → (old ≡ put_parts parts new) × KeepsParts parts
-    → (old ≡ put_engine (engine_of parts ranges) new) × KeepsEngine (engine_of parts ranges)
-restored parts old new ranges is from =
-    let P : List Range → Type 0 = λ xs. (old ≡ put_engine (engine_of parts xs) new) × KeepsEngine (engine_of parts xs) in
-    subst P (sym is) from
+    → AreNumbered parts.0.line parts.1.1 parts.2.1 → (old ≡ put_engine (engine_of parts ranges) new) × KeepsEngine (engine_of parts ranges)
+restored parts old new ranges is from are =
+    let P : List Range → Type 0 = λ xs. (old ≡ put_engine (engine_of parts xs) new) × KeepsParts (parts_of (engine_of parts xs)) in
+    let both = subst P (sym is) from in
+    (both.0, (both.1, are))

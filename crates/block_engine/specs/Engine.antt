@@ -8,7 +8,7 @@ use Rattle.block_command.specs.declared.command.Turn.{Turn}
 use Rattle.block_command.specs.declared.command.Turn.TheVariants as turn
 use Rattle.block_command.specs.Moments.{Moment, is_storing, part_count, part_lba, runs, turn_of}
 use Rattle.block_command.specs.Laws.{Input, Loads, Stores, Flushes, Fails}
-use Rattle.block_disk.specs.Table.{is_under_way}
+use Rattle.block_disk.specs.Table.{is_under_way, starts_write_at}
 use Rattle.block_disk.specs.Requests.{with_asked, with_drawn}
 use Rattle.block_queue.specs.Line.{IsOldest, Line, PassesNowhere, awaits, command_at, first_below, line_answered, line_gone, line_refusal, line_reset, line_taken, may_send, with_queue}
 use Rattle.block_scheduler.specs.declared.scheduler.NextFis.TheVariants as fis
@@ -30,6 +30,7 @@ use Rattle.block_engine.specs.declared.request.Request.{Request}
 use Rattle.block_engine.specs.declared.request.What.{What}
 use Rattle.block_engine.specs.declared.request.What.TheVariants as what
 use Rattle.block_engine.specs.Aside.{asks_for, is_over, is_waiting, settled}
+use Rattle.block_engine.specs.Numbers.{is_number}
 
 pub record EngineState : Type 0 where
   pub schedule : Schedule
@@ -99,6 +100,12 @@ with_failures e failures = record e { failures = failures }
 abbrev pub IsEngineStart : EngineState → Option ℕ → Type 0
 IsEngineStart e (Some p) = (discards e ≡ false) × IsNextStart e.schedule (Some p)
 IsEngineStart e None = (discards e ≡ true) ⊎ IsNextStart e.schedule None
+
+-- what starts next is a write: its start takes memory
+pub record StartsWrite (e : EngineState) : Type 0 where
+  pub place : ℕ
+  pub next : IsEngineStart e (Some place)
+  pub writes : starts_write_at (command_at (line e) place) ≡ true
 
 abbrev pub started : EngineState → Option ℕ → EngineState
 started e None = e
@@ -182,10 +189,6 @@ failed_at e p number f = record e {
   schedule = with_line e.schedule (line_answered (line e) p number Fails);
   failures = failed_own e p f (runs_at (command_at (line e) p));
 }
-
-abbrev pub is_number : Option ℕ → ℕ → Bool
-is_number None number = false
-is_number (Some n) number = n == number
 
 -- the number is of the command beside the queue, or of a dropped discard
 abbrev pub is_beside : EngineState → ℕ → Bool

@@ -1,5 +1,5 @@
 -- The engine as words.
-use Rattle.std.specs.Prelude.{◌≡◌, ℕ, ◌<◌, ◌^◌, List, ◌∷◌, Option, length, refl}
+use Rattle.std.specs.Prelude.{◌≡◌, ℕ, ◌<◌, ◌^◌, Bool, List, ◌∷◌, Option, length, refl}
 use Rattle.std.specs.List.{AllByRecursion}
 use Rattle.std.proofs.Common.{ap, sym, ◌∙◌}
 use Rattle.saved_state.specs.State.{IsToldApart, KeepsOption, put_all, put_list, put_number, put_option, put_pair, put_three}
@@ -14,7 +14,8 @@ use Rattle.block_engine.specs.declared.request.ErrorKind.{ErrorKind}
 use Rattle.block_engine.specs.declared.request.ErrorKind.TheVariants.{Uncorrectable, NotFound, Aborted}
 use Rattle.block_engine.specs.declared.request.Failure.{Failure}
 use Rattle.block_engine.specs.declared.request.Range.{Range}
-use Rattle.block_engine.specs.Engine.{EngineState}
+use Rattle.block_engine.specs.Engine.{EngineState, line}
+use Rattle.block_engine.specs.Numbers.{AreNumbered, are_numbered}
 
 -- ## What a command beside the queue asks for, and how far it has come
 
@@ -103,8 +104,13 @@ KeepsParts parts = KeepsSchedule parts.0 × (Unit {0} × KeepsStage parts.1.1)
 abbrev pub put_engine : EngineState → List ℕ → List ℕ
 put_engine e rest = put_parts (parts_of e) rest
 
+-- its parts keep their rules, and no two requests that are not answered have one number
 abbrev pub KeepsEngine : EngineState → Type 0
-KeepsEngine e = KeepsParts (parts_of e)
+KeepsEngine e = KeepsParts (parts_of e) × AreNumbered (line e) e.stage e.dropped
+
+-- what is tested of parts
+abbrev pub fit : Parts → Bool
+fit parts = are_numbered parts.0.line parts.1.1 parts.2.1
 
 -- ## Words are those of one value
 
@@ -167,7 +173,7 @@ parts_told_apart = three_apart put_schedule KeepsSchedule schedule_apart
     (put_all (put_option put_failure)) (λ all. (length all ≡ 33) × AllByRecursion (KeepsOption KeepsFailure) all) failures_apart)
 
 pub engine_apart : IsToldApart put_engine KeepsEngine
-engine_apart = parts_apart put_parts KeepsParts KeepsEngine parts_of parts_told_apart (λ e k. k)
+engine_apart = parts_apart put_parts KeepsParts KeepsEngine parts_of parts_told_apart (λ e k. k.0)
     (λ a b e. ap (λ p. record {
       schedule = p.0;
       kind = p.1.0;

@@ -4,19 +4,20 @@ ghost use Rattle.std.specs.Prelude.{◌≡◌, ◌<◌, ◌≤◌, ◌^◌, ◌�
 ghost use Rattle.std.specs.Result.{result_err};
 ghost use Rattle.block_command.specs.Moments.{IsCommand, Moment};
 ghost use Rattle.block_command.specs.Laws.{Comes, Fails, Flushes, Loads, Stores};
-ghost use Rattle.block_disk.specs.Table.{is_under_way, with_input};
+ghost use Rattle.block_disk.specs.Table.{is_under_way, keeps_data_at, with_input};
 ghost use Rattle.block_disk.specs.Requests.{asks, with_table};
 ghost use Rattle.block_queue.specs.Line.{PassesNowhere, awaits, command_at, first_below, line_answered, line_refusal, may_send, with_queue};
 ghost use Rattle.block_scheduler.specs.Sets.{asks_at};
 ghost use Rattle.block_scheduler.specs.Schedule.{Schedule, ends_sent, held, is_quiet, line_sent, with_line};
 ghost use Rattle.block_engine.specs.Aside.{settled};
-ghost use Rattle.block_engine.specs.Engine.{AsksNothing, EngineState, IsEngineFis, IsEngineStart, IsRequested, MayGo, answer_refusal, answered, aside_asked, aside_due, aside_sent, aside_taken, aside_what, beside_answered, beside_failed, beside_other, beside_refusal, discards, done_at, done_of, done_refusal, dropped_by, engine_reset, fail_refusal, failed_at, failed_by, failure_misfit, has_part, is_asked, is_beside, is_discard, is_in_part, is_number, line, load_refusal, loaded_at, may_ask, none_engaged, on_line, or_else, place_asked, runs_at, started, taken, what_at, what_of, with_schedule};
+ghost use Rattle.block_engine.specs.Engine.{AsksNothing, EngineState, IsEngineFis, IsEngineStart, IsRequested, MayGo, StartsWrite, answer_refusal, answered, aside_asked, aside_due, aside_sent, aside_taken, aside_what, beside_answered, beside_failed, beside_other, beside_refusal, discards, done_at, done_of, done_refusal, dropped_by, engine_reset, fail_refusal, failed_at, failed_by, failure_misfit, has_part, is_asked, is_beside, is_discard, is_in_part, line, load_refusal, loaded_at, may_ask, none_engaged, on_line, or_else, place_asked, runs_at, started, taken, what_at, what_of, with_schedule};
 ghost use Rattle.block_engine.specs.declared.aside.AsideKind.TheVariants.{Flush, Discard};
 ghost use Rattle.block_engine.specs.declared.aside.AsideStage.TheVariants.{Idle};
 
 mod saved;
 
 use crate::aside::{AsideKind, AsideStage, asks_for, is_over, is_waiting, settled};
+use crate::numbers::is_number;
 use crate::request::{Answer, ErrorKind, Failure, Range, Request, What};
 use block_command::{AnswerError, BlockCommand, Command, Turn};
 use block_scheduler::{NextFis, Scheduler};
@@ -47,10 +48,13 @@ pub struct Engine {
 
 impl Model for Engine {
     ghost use Rattle.block_engine.specs.Engine.{EngineState};
+    ghost use Rattle.block_engine.specs.Numbers.{AreNumbered};
 
     ghost Value = { EngineState };
 
     ghost view = { λ e. record { schedule = e.scheduler; kind = e.kind; stage = e.stage; ranges = e.ranges.items; dropped = e.dropped; failures = e.failures } };
+
+    ghost invariant = { λ e. AreNumbered e.scheduler.line e.stage e.dropped };
 }
 
 /// What a command asks for now.
@@ -93,16 +97,6 @@ fn dropped_by(kind: AsideKind, stage: AsideStage, was: Option<u64>) -> Option<u6
             AsideStage::Asked(number) => Some(number),
             _ => was,
         },
-    }
-}
-
-/// Whether this is the number.
-fn is_number(known: Option<u64>, number: u64) -> bool
-    ensures { result ≡ is_number known number }
-{
-    match known {
-        None => false,
-        Some(known) => known == number,
     }
 }
 
@@ -234,9 +228,10 @@ impl Engine {
         requires is { IsCommand command }
         ensures { self.new ≡ taken self.old command }
     {
-        if !self.scheduler.is_taken(command.place) {
-            self.failures[command.place as usize] = None;
+        if self.scheduler.is_taken(command.place) {
+            return;
         }
+        self.failures[command.place as usize] = None;
         self.scheduler.take(alloc, command);
     }
 
@@ -269,11 +264,12 @@ impl Engine {
     }
 
     /// Starts the command that may start next, and says its place. While a discard is out none does. A write takes
-    /// the memory of its first part then.
+    /// the memory of its first part then, and nothing else asks for memory.
     pub fn start_next(&mut self) -> Result<Option<u8>, AllocError>
         ensures next { IfOk result (λ place. IsEngineStart self.old place) }
         ensures ok { IfOk result (λ place. self.new ≡ started self.old place) }
         ensures err { OnErr result (self.new ≡ self.old) }
+        ensures room { OnErr result (StartsWrite self.old) }
     {
         if self.discards() {
             return Ok(None);
@@ -469,9 +465,10 @@ impl Engine {
         }
         let own = self.runs(place);
         self.scheduler.failed(place, number)?;
-        if own {
-            self.failures[place as usize] = Some(failure);
+        if !own {
+            return Ok(());
         }
+        self.failures[place as usize] = Some(failure);
         Ok(())
     }
 
@@ -483,9 +480,10 @@ impl Engine {
     {
         let own = asks_for(self.stage, number);
         self.settle(number, false)?;
-        if own {
-            self.failures[32] = Some(failure);
+        if !own {
+            return Ok(());
         }
+        self.failures[32] = Some(failure);
         Ok(())
     }
 
@@ -507,18 +505,19 @@ impl Engine {
         }
         if asks_for(self.stage, number) {
             self.stage = settled(well);
-        } else {
-            self.dropped = None;
+            return Ok(());
         }
+        self.dropped = None;
         Ok(())
     }
 
-    /// Data came for a command.
+    /// Data came for a command. Memory is asked for only where they are kept: they were asked for, and are no more than that.
     pub fn came(&mut self, place: u8, part: &[u8]) -> Result<(), AllocError>
         requires { place < 33 }
         ensures ok { OnOk result (self.new ≡ on_line self.old (with_queue (line self.old)
             (with_table (line self.old).queue (with_input (line self.old).queue.table place (Comes part.now))))) }
         ensures err { OnErr result (self.new ≡ self.old) }
+        ensures room { OnErr result (keeps_data_at (command_at (line self.old) place) part.now ≡ true) }
     {
         self.scheduler.came(place, part)
     }

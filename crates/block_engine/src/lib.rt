@@ -4,6 +4,7 @@
 mod aside;
 mod engine;
 mod laws;
+mod numbers;
 mod request;
 
 pub use aside::{AsideKind, AsideStage, asides_are_earned};

@@ -1,3 +1,4 @@
 pub mod Line
+pub mod Places
 pub mod Deeds
 pub mod Saved

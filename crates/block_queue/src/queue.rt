@@ -4,13 +4,15 @@ ghost use Rattle.std.specs.Prelude.{◌≡◌, ◌<◌, ◌≤◌, ◌^◌, true
 ghost use Rattle.std.specs.Result.{result_err};
 ghost use Rattle.block_command.specs.Moments.{IsCommand, Moment};
 ghost use Rattle.block_command.specs.Laws.{Comes, Fails, Flushes, Goes, Loads, Stores};
-ghost use Rattle.block_disk.specs.Table.{at, has_wire, is_under_way, with_input};
+ghost use Rattle.block_disk.specs.Table.{at, has_wire, is_under_way, keeps_data_at, starts_write_at, with_input};
 ghost use Rattle.block_disk.specs.Requests.{asks, number_at, with_asked, with_drawn, with_table};
 ghost use Rattle.block_queue.specs.Line.{IsOldest, Line, PassesNowhere, any_below, awaits, bars, command_at, first_below, first_ranks, has_bit, is_in_way, is_of, line_refusal, orphan_refusal, refused_by, left_of, line_answered, line_forgets, line_gone, line_reset, line_taken, may_send, may_start, moved_back, none_in_line, orphan, share, starts, waits_for, with_queue};
+ghost use Rattle.block_queue.specs.Places.{older};
 ghost use Rattle.block_queue.specs.Saved.{line_of};
 
 mod saved;
 
+use crate::places::{first_in, without};
 use block_command::{AnswerError, BlockCommand, Command, Turn};
 use block_disk::Requests;
 use std::alloc::{AllocError, Global};
@@ -108,14 +110,6 @@ fn first_ranks() -> [u8; 33]
     ranks
 }
 
-/// Whether a set has this place.
-fn has_bit(set: u64, place: u8) -> bool
-    requires { place < 64 }
-    ensures { result ≡ has_bit set place }
-{
-    set >> place & 1 == 1
-}
-
 /// Whether this is the start.
 fn is_start(turn: Turn) -> bool
     ensures { result ≡ starts turn }
@@ -187,6 +181,22 @@ fn left_of(requests: &Requests, place: u8, was: Option<Orphan>) -> Option<Orphan
     })
 }
 
+/// Of a place and of one that was found before, the one whose command was taken first.
+fn older(ranks: &[u8; 33], found: Option<u8>, place: u8) -> u8
+    requires place { place < 33 }
+    requires found { IfSome found (λ p. p < 33) }
+    ensures { result ≡ older ranks.now found place }
+{
+    match found {
+        None => place,
+        Some(found) => if ranks[place as usize] < ranks[found as usize] {
+            place
+        } else {
+            found
+        },
+    }
+}
+
 impl CommandQueue {
     /// No command is under way.
     pub fn new(alloc: Global) -> Result<CommandQueue, AllocError>
@@ -237,6 +247,21 @@ impl CommandQueue {
         self.orphans[place as usize]
     }
 
+    /// The number of the request that is out at this place.
+    pub fn number(&self, place: u8) -> Option<u64>
+        requires { place < 33 }
+        ensures { result ≡ number_at self.now.queue.out place }
+    {
+        self.requests.number(place)
+    }
+
+    /// The number that the next request gets. Those that were given are below it.
+    pub fn next_number(&self) -> u64
+        ensures { result ≡ self.now.queue.next }
+    {
+        self.requests.next_number()
+    }
+
     /// The queued command whose Data are on the link.
     pub fn wire(&self) -> Option<u8>
         ensures value { result ≡ self.now.queue.table.wire }
@@ -274,14 +299,13 @@ impl CommandQueue {
         ensures none { IfNone result (PassesNowhere (has_bit set)) }
     {
         let mut oldest = None;
-        for place in 0..33_u8 {
-            let first = match oldest {
-                None => true,
-                Some(other) => self.ranks[place as usize] < self.ranks[other as usize],
+        let mut rest = set;
+        for _walked in 0..33_u8 {
+            let Some(place) = first_in(rest) else {
+                return oldest;
             };
-            if first && has_bit(set, place) {
-                oldest = Some(place);
-            }
+            oldest = Some(older(&self.ranks, oldest, place));
+            rest = without(rest, place);
         }
         oldest
     }
@@ -292,6 +316,7 @@ impl CommandQueue {
         requires may { may_start self.old place ≡ true }
         ensures ok { OnOk result (self.new ≡ line_gone self.old place) }
         ensures err { OnErr result (self.new ≡ self.old) }
+        ensures room { OnErr result (starts_write_at (command_at self.old place) ≡ true) }
     {
         self.requests.start(place)
     }
@@ -339,6 +364,7 @@ impl CommandQueue {
         ensures ok { OnOk result (self.new
             ≡ with_queue self.old (with_table self.old.queue (with_input self.old.queue.table place (Comes part.now)))) }
         ensures err { OnErr result (self.new ≡ self.old) }
+        ensures room { OnErr result (keeps_data_at (command_at self.old place) part.now ≡ true) }
     {
         self.requests.came(place, part)
     }

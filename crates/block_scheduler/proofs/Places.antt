@@ -1,8 +1,8 @@
 -- Sets of places.
-use Rattle.std.proofs.Common.{◌≡◌, ◌≢◌, ℕ, ◌+◌, ◌*◌, ◌%◌, ◌^◌, ◌<◌, true, false, List, Some, None, refl, sym, ap, ◌∙◌, arith, inl, inr, ◌⊎◌, w32, w64, bit_or, bit_and}
-use Rattle.std.specs.Prelude.{Option, Bool, is_none, nat_eq, not, ◌&&◌, ◌||◌}
+use Rattle.std.proofs.Common.{◌≡◌, ◌≢◌, ℕ, ◌+◌, ◌*◌, ◌%◌, ◌^◌, ◌<◌, ◌≤◌, true, false, List, Some, None, refl, sym, ap, ◌∙◌, arith, inl, inr, ◌⊎◌, w32, w64, bit_or, bit_and}
+use Rattle.std.specs.Prelude.{Option, Bool, IfSome, IfNone, is_none, nat_eq, not, ◌&&◌, ◌||◌}
 use Rattle.std.specs.Int.{bit_not}
-use Rattle.std.proofs.lemmas.Bool.{cases_eq, eq-eqb}
+use Rattle.std.proofs.lemmas.Bool.{cases_eq, cases_lt, eq-eqb, false_from_ne_true}
 use Rattle.std.proofs.lemmas.Nat.Bits.{bit_at_set_same, bit_at_set_other, bit_at_clear_same, bit_at_clear_other, bit_at-zero}
 use Rattle.block_command.specs.declared.command.Stage.{Stage}
 use Rattle.block_command.specs.declared.command.Stage.TheVariants.{SetUpRead, SetUpWrite, End, Fail}
@@ -11,9 +11,10 @@ use Rattle.block_disk.specs.Table.{has_wire, wants_wire}
 use Rattle.block_disk.specs.Requests.{is_request}
 use Rattle.block_disk.specs.Requests as requests
 use Rattle.block_queue.proofs.Door.{of_and}
-use Rattle.block_queue.specs.Line.{IsOldest, Line, PassesNowhere, command_at, has_bit, may_send, starts}
+use Rattle.block_queue.specs.Line.{IsOldest, Line, PassesNowhere, command_at, has_bit, may_send, may_start, may_start_at, starts}
+use Rattle.block_queue.specs.Places.{IsFirstIn, IsWithout}
 use Rattle.block_scheduler.specs.declared.sets.Sets.{Sets}
-use Rattle.block_scheduler.specs.Sets.{AreSets, IsNoted, IsSetOf, IsTagsOf, IsWith, IsWithTag, asks_at, is_end, sends_alone, sends_at, turn_at}
+use Rattle.block_scheduler.specs.Sets.{AreSets, IsNoted, IsSetOf, IsTagsOf, IsWith, IsWithTag, asks_at, is_end, sends_alone, sends_at, turn_at, waits_at}
 
 abbrev pub bit : ℕ → Bool
 bit n = nat_eq n 1
@@ -129,6 +130,63 @@ place_more test old new p is low with' here before q below = elim (cases_eq q p)
   | inr apart ↦ with'.others q (omega (arith, below, low)) apart ∙ before q (omega (arith, below, apart))
 ]
 
+-- ## A set that is made by a walk: the places that were taken out of the rest have what they are to have
+
+pub record IsMade (test : ℕ → Bool) (made rest n : ℕ) : Type 0 where
+  pub gone : (q : ℕ) → q < n → q < 33 → has_bit rest q ≡ false
+  pub done : (q : ℕ) → q < 33 → has_bit rest q ≡ false → has_bit made q ≡ test q
+
+pub made_none : (test : ℕ → Bool) (set : ℕ) → ((q : ℕ) → q < 33 → has_bit set q ≡ false → test q ≡ false) → IsMade test set set 0
+made_none test set none = record {
+  gone = λ q low _. absurd (omega (arith, low));
+  done = λ q low e. e ∙ sym (none q low e);
+}
+
+pub made_on : (test : ℕ → Bool) (made new rest less n p : ℕ) (is : Bool) → IsMade test made rest n → IsFirstIn rest p
+    → IsWith made new p is → is ≡ test p → IsWithout rest less p → IsMade test new less (n + 1)
+made_on test made new rest less n p is walked first with' here without = record {
+  gone = λ q low below. elim (cases_eq q p) [
+    | inl same ↦ rw same without.here
+    | inr apart ↦ without.others q below apart ∙ elim (cases_lt q p) [
+      | inl lower ↦ first.before q lower
+      | inr higher ↦ absurd (let e = walked.gone p (omega (arith, low, apart, higher)) first.below in let f = first.has in cc)
+    ]
+  ];
+  done = λ q low e. elim (cases_eq q p) [
+    | inl same ↦ ap (has_bit new) same ∙ with'.here ∙ here ∙ sym (ap test same)
+    | inr apart ↦ with'.others q low apart ∙ walked.done q low (sym (without.others q low apart) ∙ e)
+  ];
+}
+
+pub made_all : (test : ℕ → Bool) (made rest n : ℕ) → IsMade test made rest n → PassesNowhere (has_bit rest) → IsSetOf made test
+made_all test made rest n walked none = λ q low. walked.done q low (none q low)
+
+pub made_end : (test : ℕ → Bool) (made rest n : ℕ) → 33 ≤ n → IsMade test made rest n → IsSetOf made test
+made_end test made rest n all walked = λ q low. walked.done q low (walked.gone q (omega (arith, low, all)) low)
+
+-- ## What may start waits for its start
+
+may_case : (l : Line) (p : ℕ) (x : Option Moment) → may_start_at l p x ≡ true → starts (turn_at x) ≡ true
+may_case l p None e = absurd (cc)
+may_case l p (Some m) e = (of_and _ _ e).0
+
+pub may_waits : (l : Line) (p : ℕ) → may_start l p ≡ true → waits_at l p ≡ true
+may_waits l p e = may_case l p (command_at l p) e
+
+pub waits_not : (l : Line) (set : ℕ) → IsSetOf set (waits_at l) → (q : ℕ) → q < 33 → has_bit set q ≡ false → may_start l q ≡ false
+waits_not l set of q low e = false_from_ne_true _ (λ may. let f = sym (of q low) ∙ e in let g = may_waits l q may in cc)
+
+pub none_ready : (l : Line) (set : ℕ) → IsSetOf set (waits_at l) → PassesNowhere (has_bit set) → PassesNowhere (may_start l)
+none_ready l set of none = λ q low. waits_not l set of q low (none q low)
+
+pub first_ready : (l : Line) (set p : ℕ) → IsSetOf set (waits_at l) → IsOldest l.ranks (has_bit set) p → may_start l p ≡ true
+    → IsOldest l.ranks (may_start l) p
+first_ready l set p of oldest may = record {
+  below = oldest.below;
+  passes = may;
+  first = λ q low e. oldest.first q low (of q low ∙ may_waits l q e);
+}
+
 -- ## Tests that agree
 
 pub oldest_as : (ranks : List ℕ) (f g : ℕ → Bool) (p : ℕ) → ((q : ℕ) → q < 33 → f q ≡ g q) → IsOldest ranks f p → IsOldest ranks g p
@@ -140,3 +198,15 @@ oldest_as ranks f g p same oldest = record {
 
 pub nowhere_as : (f g : ℕ → Bool) → ((q : ℕ) → q < 33 → f q ≡ g q) → PassesNowhere f → PassesNowhere g
 nowhere_as f g same none = λ q low. sym (same q low) ∙ none q low
+
+pub some_as : (ranks : List ℕ) (set : ℕ) (test : ℕ → Bool) (o : Option ℕ) → IsSetOf set test → IfSome o (IsOldest ranks (has_bit set)) → IfSome o (IsOldest ranks test)
+some_as ranks set test None of is = tt
+some_as ranks set test (Some p) of is = oldest_as ranks (has_bit set) test p of is
+
+pub none_as : (set : ℕ) (test : ℕ → Bool) (o : Option ℕ) → IsSetOf set test → IfNone o (PassesNowhere (has_bit set)) → IfNone o (PassesNowhere test)
+none_as set test None of is = nowhere_as (has_bit set) test of is
+none_as set test (Some p) of is = tt
+
+pub if_none : (o : Option ℕ) (P : Type 0) → P → IfNone o P
+if_none None P p = p
+if_none (Some n) P p = tt

@@ -4,17 +4,17 @@ ghost use Rattle.std.specs.Prelude.{◌≡◌, ◌&&◌, ◌<◌, ◌≤◌, ◌
 ghost use Rattle.std.specs.Result.{result_err};
 ghost use Rattle.block_command.specs.Moments.{IsCommand, Moment};
 ghost use Rattle.block_command.specs.Laws.{Comes, Fails, Flushes, Loads, Stores};
-ghost use Rattle.block_disk.specs.Table.{is_under_way, with_input};
-ghost use Rattle.block_disk.specs.Requests.{asks, with_asked, with_drawn, with_table};
+ghost use Rattle.block_disk.specs.Table.{is_under_way, keeps_data_at, starts_write_at, with_input};
+ghost use Rattle.block_disk.specs.Requests.{asks, number_at, with_asked, with_drawn, with_table};
 ghost use Rattle.block_queue.specs.Line.{IsOldest, PassesNowhere, awaits, command_at, first_below, has_bit, line_answered, line_gone, line_refusal, line_reset, line_taken, may_send, may_start, orphan, with_queue};
 ghost use Rattle.block_scheduler.specs.Sets.{IsSetOf, asks_at, ends_at, turn_at};
 ghost use Rattle.block_scheduler.specs.Schedule.{IsNextFis, IsNextStart, MayGo, Schedule, end_sent, ends_sent, fits, held, held_at, is_busy, is_quiet, line_sent, held_for, held_of, none_scheduled, with_line};
 
 mod saved;
 
-use crate::sets::{Sets, is_end, is_fail, with_place};
+use crate::sets::{Sets, is_fail, with_place};
 use block_command::{AnswerError, BlockCommand, Command, Turn};
-use block_queue::{CommandQueue, Orphan};
+use block_queue::{CommandQueue, Orphan, first_in, without};
 use std::alloc::{AllocError, Global};
 use std::marker::Model;
 
@@ -133,6 +133,29 @@ impl Scheduler {
         self.queue.get(place)
     }
 
+    /// The store of a place that a reset dropped, and that is not answered.
+    pub fn orphan(&self, place: u8) -> Option<Orphan>
+        requires { place < 33 }
+        ensures { result ≡ orphan self.now.line place }
+    {
+        self.queue.orphan(place)
+    }
+
+    /// The number of the request that is out at this place.
+    pub fn number(&self, place: u8) -> Option<u64>
+        requires { place < 33 }
+        ensures { result ≡ number_at self.now.line.queue.out place }
+    {
+        self.queue.number(place)
+    }
+
+    /// The number that the next request gets. Those that were given are below it.
+    pub fn next_number(&self) -> u64
+        ensures { result ≡ self.now.line.queue.next }
+    {
+        self.queue.next_number()
+    }
+
     /// Whether the place is under way.
     pub fn is_taken(&self, place: u8) -> bool
         requires { place < 33 }
@@ -197,11 +220,28 @@ impl Scheduler {
     fn ready(&self) -> u64
         ensures { IsSetOf result (may_start self.now.line) }
     {
-        let mut ready = 0;
-        for place in 0..33_u8 {
+        let mut ready = self.sets.waiting;
+        let mut rest = self.sets.waiting;
+        for _walked in 0..33_u8 {
+            let Some(place) = first_in(rest) else {
+                return ready;
+            };
             ready = with_place(ready, place, self.queue.may_start(place));
+            rest = without(rest, place);
         }
         ready
+    }
+
+    /// Of the commands that may start, the one that was taken first. Mostly it is the first of those that wait for their start.
+    fn oldest_ready(&self) -> Option<u8>
+        ensures some { IfSome result (IsOldest self.now.line.ranks (may_start self.now.line)) }
+        ensures none { IfNone result (PassesNowhere (may_start self.now.line)) }
+    {
+        let first = self.queue.oldest(self.sets.waiting)?;
+        if self.queue.may_start(first) {
+            return Some(first);
+        }
+        self.queue.oldest(self.ready())
     }
 
     /// The command that starts next: of those that may, the one that was taken first, if there is room for it. All
@@ -209,10 +249,7 @@ impl Scheduler {
     pub fn next_start(&self) -> Option<u8>
         ensures { IsNextStart self.now result }
     {
-        if self.sets.waiting == 0 {
-            return None;
-        }
-        let place = self.queue.oldest(self.ready())?;
+        let place = self.oldest_ready()?;
         if self.fits(place) { Some(place) } else { None }
     }
 
@@ -223,6 +260,7 @@ impl Scheduler {
         requires fits { fits self.old place ≡ true }
         ensures ok { OnOk result (self.new ≡ with_line self.old (line_gone self.old.line place)) }
         ensures err { OnErr result (self.new ≡ self.old) }
+        ensures room { OnErr result (starts_write_at (command_at self.old.line place) ≡ true) }
     {
         self.queue.start(place)?;
         let turn = turn_of(&self.queue, place);
@@ -329,7 +367,7 @@ impl Scheduler {
         requires { tag < 32 }
         ensures { self.new ≡ with_line self.old (end_sent self.old.line tag) }
     {
-        let ends = is_end(turn_of(&self.queue, tag));
+        let ends = has_bit(self.sets.ending as u64, tag);
         if ends && self.queue.may_send(tag) {
             self.send_one(tag);
         }
@@ -350,6 +388,7 @@ impl Scheduler {
         ensures ok { OnOk result (self.new ≡ with_line self.old (with_queue self.old.line
             (with_table self.old.line.queue (with_input self.old.line.queue.table place (Comes part.now))))) }
         ensures err { OnErr result (self.new ≡ self.old) }
+        ensures room { OnErr result (keeps_data_at (command_at self.old.line place) part.now ≡ true) }
     {
         self.queue.came(place, part)?;
         let turn = turn_of(&self.queue, place);

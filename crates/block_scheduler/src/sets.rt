@@ -48,7 +48,7 @@ fn with_tag(tags: u32, place: u8, is: bool) -> u32
 }
 
 /// Whether this says that a command ended well.
-pub(crate) fn is_end(turn: Turn) -> bool
+fn is_end(turn: Turn) -> bool
     ensures { result ≡ is_end turn }
 {
     matches!(turn, Turn::End)

@@ -4,6 +4,7 @@ ghost use Rattle.block_engine.specs.Saved.{KeepsEngine, engine_apart, put_engine
 
 use super::Engine;
 use crate::aside::{AsideKind, AsideStage};
+use crate::numbers::are_numbered;
 use crate::request::{Failure, Range};
 use block_scheduler::Scheduler;
 use saved_state::{RestoreError, Saved, SavedList, Words, save_list};
@@ -38,6 +39,9 @@ impl Saved for Engine {
         };
         let (kind, stage) = asides;
         let (ranges, dropped, failures) = others;
+        if !are_numbered(&scheduler, stage, dropped) {
+            return Err(RestoreError::Broken);
+        }
         let ranges = ranges.into_vec();
         Ok(Engine {
             scheduler,

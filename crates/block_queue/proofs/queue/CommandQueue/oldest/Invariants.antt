@@ -1,6 +1,5 @@
-use Rattle.block_queue.specs.Line.{has_bit}
-use Rattle.block_queue.proofs.Oldest.{BestBelow}
+use Rattle.block_queue.proofs.Oldest.{IsWalked}
 use Rattle.block_queue.proofs.queue.CommandQueue.oldest.Given as goal
 
-abbrev pub invariant-loop-place : goal.invariant-loop-place
-invariant-loop-place l = BestBelow l.place l.self.ranks (has_bit l.set) l.oldest
+abbrev pub invariant-loop-walked : goal.invariant-loop-walked
+invariant-loop-walked l = IsWalked l.self.ranks l.set l.rest l._walked l.oldest
