@@ -143,8 +143,8 @@ impl Machine {
         Ok(state)
     }
 
-    /// The machine whose state these bytes are. Bytes of anybody give a machine whose calls are as safe as ever, or are refused; but it
-    /// may ask for sectors behind the end of a disk. Two requests of a disk never have one number.
+    /// The machine whose state these bytes are. Bytes of anybody give a machine whose calls are as safe as ever, which asks for no sector
+    /// that its disks do not have, and where no two requests of a disk have one number, or are refused.
     ///
     /// # Errors
     /// [`Error::NotAState`], [`Error::OtherVersion`], [`Error::BadState`] and [`Error::NoMemory`].
