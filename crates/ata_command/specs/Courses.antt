@@ -1,10 +1,10 @@
 -- Which commands may stand beside which (Serial ATA 3.x, 13.6, native command queuing; ACS-3, 4.16), and the software reset
 -- (Serial ATA 3.x, 11.4).
-use Rattle.std.specs.Prelude.{ℕ, ◌/◌, ◌%◌, ◌==◌, ◌&&◌, nat_lt, Bool, true, false, not, List, if◌then◌else◌}
+use Rattle.std.specs.Prelude.{ℕ, ◌/◌, ◌%◌, ◌==◌, ◌&&◌, nat_lt, Bool, true, false, not, List, Option, Some, None, if◌then◌else◌}
 use Rattle.std.specs.Int.{bit_at}
 use Rattle.fis_view.specs.Table.{H2d, Control, field}
 use Rattle.ata_command.specs.declared.asked.Asked.{Asked}
-use Rattle.ata_command.specs.declared.asked.Asked.TheVariants.{Moves, ReadsLog}
+use Rattle.ata_command.specs.declared.asked.Asked.TheVariants.{Moves, ReadsLog, Refused}
 use Rattle.ata_command.specs.declared.control.Course.{Course}
 use Rattle.ata_command.specs.declared.control.Course.TheVariants.{Drop, Refuse, AbortAll, Take}
 use Rattle.ata_command.specs.declared.control.Standing.{Standing}
@@ -19,9 +19,16 @@ abbrev pub is_error_log : Asked → Bool
 is_error_log (ReadsLog p) = (p.log == 0x10) && (p.page == 0) && (p.count == 1)
 is_error_log _ = false
 
--- Beside queued commands only another may stand, with a tag that is free. Any other command ends all of them.
+-- it is a queued command, and its tag is free
+abbrev pub is_queued_free : (tags : ℕ) → (tag : Option ℕ) → Bool
+is_queued_free tags None = false
+is_queued_free tags (Some tag) = is_tag_free tags tag
+
+-- Beside queued commands only another may stand, with a tag that is free; so it may where it is refused for itself, and its error is then
+-- that of a queued command. Any other command ends all of them, and its error is of none.
 abbrev pub stands_beside : Asked → (tags : ℕ) → Bool
 stands_beside (Moves m) tags = is_tag_free tags m.command.place
+stands_beside (Refused r) tags = is_queued_free tags r.tag
 stands_beside _ tags = false
 
 abbrev pub tag_course : Asked → (tags : ℕ) → Course

@@ -1,7 +1,7 @@
 //! Which commands may stand beside which, and the software reset.
 
 ghost use Rattle.std.specs.Prelude.{◌≡◌};
-ghost use Rattle.ata_command.specs.Courses.{course, is_error_log, is_tag_free, resets, tag_course};
+ghost use Rattle.ata_command.specs.Courses.{course, is_error_log, is_queued_free, is_tag_free, resets, tag_course};
 
 use crate::asked::Asked;
 use fis_view::RegH2D;
@@ -28,7 +28,7 @@ pub enum Course {
     Refuse,
     /// It is refused, and ends all queued commands.
     AbortAll,
-    /// It is taken.
+    /// It is taken, or refused for itself: an error of a queued command is its own then.
     Take,
 }
 
@@ -37,6 +37,16 @@ fn is_tag_free(tags: u32, place: u8) -> bool
     ensures { result ≡ is_tag_free tags place }
 {
     place < 32 && tags >> place & 1 == 0
+}
+
+/// Whether it is the tag of a queued command, and in none of a set.
+fn is_queued_free(tags: u32, tag: Option<u8>) -> bool
+    ensures { result ≡ is_queued_free tags tag }
+{
+    match tag {
+        None => false,
+        Some(tag) => is_tag_free(tags, tag),
+    }
 }
 
 /// Whether it is the NCQ Command Error log.
@@ -55,6 +65,7 @@ fn beside(asked: &Asked, tags: u32) -> Course
 {
     match asked {
         Asked::Moves(moved) if is_tag_free(tags, moved.command.place) => Course::Take,
+        Asked::Refused(refusal) if is_queued_free(tags, refusal.tag) => Course::Take,
         _ => Course::AbortAll,
     }
 }

@@ -1,7 +1,9 @@
 -- What the command of a FIS asks for is at the place that the FIS names, and moves whole sectors.
-use Rattle.std.proofs.Common.{◌≡◌, ℕ, zero, suc, ◌+◌, ◌*◌, ◌/◌, ◌%◌, ◌<◌, ◌≤◌, ◌^◌, ◌⊎◌, true, false, List, Some, None, refl, sym, ap, ◌∙◌, subst, arith, inl, inr}
+use Rattle.std.proofs.Common.{◌≡◌, ℕ, zero, suc, ◌+◌, ◌-◌, ◌*◌, ◌/◌, ◌%◌, ◌<◌, ◌≤◌, ◌^◌, ◌⊎◌, true, false, List, Some, None, refl, sym, ap, ◌∙◌, subst, arith, inl, inr}
 use Rattle.std.specs.Prelude.{Option, Bool, not, ◌==◌, ◌||◌, ◌&&◌, nat_le, if◌then◌else◌}
+use Rattle.std.specs.Int.{bit_at}
 use Rattle.std.proofs.lemmas.Bool.{cases_eq, eqb-true, lt-ltb}
+use Rattle.std.proofs.lemmas.Nat.Bits.{bit_at_above, bit_at_cat_high, bit_at_cat_low}
 use Rattle.fis_view.specs.Table.{H2d, Command, Count, Device, Features, Lba, field}
 use Rattle.block_command.specs.declared.command.Command as block
 use Rattle.block_command.specs.declared.command.Protocol.TheVariants as protocol
@@ -215,3 +217,44 @@ none_below l (suc n) e t low = elim (cases_eq t n) [
 pub no_tags : (l : Line) → (tags_of l == 0) ≡ true → NoTags l
 unfolding tags_of
 no_tags l e = none_below l 32 (eqb-true (tags_below l 32) 0 e)
+
+-- ## A tag is free where it is not taken
+
+bit_of : (n t : ℕ) (b : Bool) → n < 2 ^ t → bit_at (n + (if b then 2 ^ t else 0)) t ≡ (if b then 1 else 0)
+bit_of n t true low =
+    let more : n + 2 ^ t ≡ 1 * 2 ^ t + n = omega arith in
+    let none : t - t ≡ 0 = omega arith in
+    ap (λ x. bit_at x t) more ∙ bit_at_cat_high 1 t n t low (omega arith) ∙ ap (bit_at 1) none
+bit_of n t false low = let same : n + 0 ≡ n = omega arith in ap (λ x. bit_at x t) same ∙ bit_at_above n t t low (omega arith)
+
+bit_below : (n k t : ℕ) (b : Bool) → t < k → bit_at (n + (if b then 2 ^ k else 0)) t ≡ bit_at n t
+bit_below n k t true low =
+    let more : n + 2 ^ k ≡ 1 * 2 ^ k + n = omega arith in ap (λ x. bit_at x t) more ∙ bit_at_cat_low 1 k n t low
+bit_below n k t false low = let same : n + 0 ≡ n = omega arith in ap (λ x. bit_at x t) same
+
+less_case : (n k : ℕ) (b : Bool) → n < 2 ^ k → n + (if b then 2 ^ k else 0) < 2 ^ suc k
+less_case n k true low = omega (arith, low)
+less_case n k false low = omega (arith, low)
+
+tags_less : (l : Line) (n : ℕ) → tags_below l n < 2 ^ n
+unfolding tags_below
+tags_less l zero = omega arith
+tags_less l (suc n) = less_case (tags_below l n) n (is_taken l n) (tags_less l n)
+
+tag_bit : (l : Line) (n t : ℕ) → t < n → bit_at (tags_below l n) t ≡ (if is_taken l t then 1 else 0)
+unfolding tags_below
+tag_bit l zero t low = absurd (omega (arith, low))
+tag_bit l (suc n) t low = elim (cases_eq t n) [
+  | inl same ↦
+      let P : ℕ → Type 0 = λ k. bit_at (tags_below l n + (if is_taken l n then 2 ^ n else 0)) k ≡ (if is_taken l k then 1 else 0) in
+      subst P (sym same) (bit_of (tags_below l n) n (is_taken l n) (tags_less l n))
+  | inr apart ↦ bit_below (tags_below l n) n t (is_taken l n) (omega (arith, low, apart)) ∙ tag_bit l n t (omega (arith, low, apart))
+]
+
+free_bit : (b : Bool) → ((if b then 1 else 0) == 0) ≡ not b
+free_bit true = refl
+free_bit false = refl
+
+pub tag_free : (l : Line) (t : ℕ) → t < 32 → (bit_at (tags_of l) t == 0) ≡ not (is_taken l t)
+unfolding tags_of
+tag_free l t low = ap (λ n. n == 0) (tag_bit l 32 t low) ∙ free_bit (is_taken l t)

@@ -18,7 +18,7 @@ use Rattle.block_engine.specs.Engine.{EngineState, line}
 use Rattle.ata_reply.specs.declared.reply.Failure.{Failure}
 use Rattle.ata_reply.specs.declared.reply.Reply.{Reply}
 use Rattle.ata_reply.specs.declared.reply.Reply.TheVariants as replies
-use Rattle.ata_command.specs.Courses.{course, is_error_log, stands_beside, tag_course}
+use Rattle.ata_command.specs.Courses.{course, is_error_log, is_queued_free, stands_beside, tag_course}
 use Rattle.ata_command.specs.declared.asked.Asked.{Asked}
 use Rattle.ata_command.specs.declared.asked.Asked.TheVariants as ask
 use Rattle.ata_command.specs.declared.asked.Move.{Move}
@@ -425,6 +425,11 @@ beside_case : (h : Host) (f : Front) (e : EngineState) (place : ℕ) (a : Asked)
 beside_case h f e place a tags false stands low at' r is sound may = aborted_tracks h f e place _ _ low r.heard
 beside_case h f e place (ask.Moves m) tags true stands low at' r is sound may =
     moves_taken h f e place m low at'.0 at'.1 r (λ single. absurd (let tag = (of_and (nat_lt m.command.place 32) (bit_at tags m.command.place == 0) stands).0 in cc)) is may sound
+beside_case h f e place (ask.Refused x) tags true stands low at' r is sound may = queued_ends x.tag stands
+  where
+    queued_ends : (tag : Option ℕ) → is_queued_free tags tag ≡ true → TracksOf (host_with h place) (refused_by f x tag) e
+    queued_ends None free = absurd (cc)
+    queued_ends (Some tag) free = aborted_tracks h f e place _ _ low r.heard
 beside_case h f e place a tags true stands low at' r is sound may = absurd (cc)
 
 free_case : (h : Host) (f : Front) (e : EngineState) (place : ℕ) (a : Asked) (b : Bool) → (tags_of (line e) == 0) ≡ b → (place < 32) ⊎ (place ≡ 32)

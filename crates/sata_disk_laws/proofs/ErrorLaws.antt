@@ -56,17 +56,17 @@ still_some : (s other x : Option Fault) → x ≡ or_fault s other → is_some s
 still_some None other x e some = absurd (cc)
 still_some (Some f) other x e some = ap is_some e
 
-some_fault : (wait : Wait) (alone : Bool) (stands x : Option Fault) (r : Reply) → r ≡ aborted → OwesFault wait alone stands x r → is_some stands ≡ true → is_some x ≡ true
-some_fault wait alone stands x r same as' some =
-    let P : Reply → Type 0 = λ k. OwesFault wait alone stands x k in still_some stands _ x (subst P same as') some
+some_fault : (wait : Wait) (beside : Bool) (stands x : Option Fault) (r : Reply) → r ≡ aborted → OwesFault wait beside stands x r → is_some stands ≡ true → is_some x ≡ true
+some_fault wait beside stands x r same as' some =
+    let P : Reply → Type 0 = λ k. OwesFault wait beside stands x k in still_some stands _ x (subst P same as') some
 
-faulty_is : (wait : Wait) (alone : Bool) (stands x : Option Fault) (t : Task) → ForError t → FaultAs wait alone stands x t → is_some stands ≡ true → is_some x ≡ true
-faulty_is wait alone stands x tasks.Idle for' as' some = ap is_some as' ∙ some
-faulty_is wait alone stands x (tasks.Owes r) for' as' some = some_fault wait alone stands x r for' as' some
-faulty_is wait alone stands x (tasks.Announces p) for' as' some = ap is_some as' ∙ some
-faulty_is wait alone stands x (tasks.Gives p) for' as' some = ap is_some as' ∙ some
-faulty_is wait alone stands x (tasks.Sends p) for' as' some = ap is_some as' ∙ some
-faulty_is wait alone stands x t for' as' some = absurd for'
+faulty_is : (wait : Wait) (beside : Bool) (stands x : Option Fault) (t : Task) → ForError t → FaultAs wait beside stands x t → is_some stands ≡ true → is_some x ≡ true
+faulty_is wait beside stands x tasks.Idle for' as' some = ap is_some as' ∙ some
+faulty_is wait beside stands x (tasks.Owes r) for' as' some = some_fault wait beside stands x r for' as' some
+faulty_is wait beside stands x (tasks.Announces p) for' as' some = ap is_some as' ∙ some
+faulty_is wait beside stands x (tasks.Gives p) for' as' some = ap is_some as' ∙ some
+faulty_is wait beside stands x (tasks.Sends p) for' as' some = ap is_some as' ∙ some
+faulty_is wait beside stands x t for' as' some = absurd for'
 
 single_none : (h : Host) (t : Task) (x : Option Moment) → ForError t → WaitsAs h t x → is_under_way x ≡ false
 single_none h tasks.Idle x for' w = w.2
@@ -92,7 +92,7 @@ record Nothing (d : DiskState) : Type 0 where
 nothing_is : (h : Host) (w : Watch) (d : DiskState) → Knows h d → WatchesOf h w d.front → is_some w.fault ≡ true → Nothing d
 nothing_is h w d knows is some =
     let for' = is.only some in
-    let none = knows.faulty (faulty_is h.waits w.alone w.fault d.front.fault d.front.task for' is.fault some) in
+    let none = knows.faulty (faulty_is h.waits w.beside w.fault d.front.fault d.front.task for' is.fault some) in
     record {
       places = λ p low. elim (cases_lt p 32) [
         | inl below ↦ none p below
@@ -171,7 +171,7 @@ no_request d new r (Some p) none is = not_both _ _ (none.places p is.0.below) (a
 
 -- ## Where the host may send a command
 
-idle_fault : (h : Host) (w : Watch) (x : Option Fault) (t : Task) (y : Option Moment) → WaitsAs h t y → FaultAs h.waits w.alone w.fault x t → h.waits ≡ ForNothing → x ≡ w.fault
+idle_fault : (h : Host) (w : Watch) (x : Option Fault) (t : Task) (y : Option Moment) → WaitsAs h t y → FaultAs h.waits w.beside w.fault x t → h.waits ≡ ForNothing → x ≡ w.fault
 idle_fault h w x (tasks.Owes r) y waits as' free =
     absurd (let busy = owes_waits h r waits.0 in let none = ap waits_for_nothing free in cc)
 idle_fault h w x (tasks.Moves m) y waits as' free = as'.0
@@ -198,17 +198,17 @@ aborted_until_read own p limit calls are =
 
 -- ## The log
 
-page_fault : (wait : Wait) (alone : Bool) (stands x : Option Fault) (t : Task) (p : Page) → owed t ≡ Some (owe.Page p) → FaultAs wait alone stands x t → x ≡ stands
-page_fault wait alone stands x (tasks.Gives q) p e as' = as'
-page_fault wait alone stands x (tasks.Sends q) p e as' = as'
-page_fault wait alone stands x t p e as' = absurd (cc)
+page_fault : (wait : Wait) (beside : Bool) (stands x : Option Fault) (t : Task) (p : Page) → owed t ≡ Some (owe.Page p) → FaultAs wait beside stands x t → x ≡ stands
+page_fault wait beside stands x (tasks.Gives q) p e as' = as'
+page_fault wait beside stands x (tasks.Sends q) p e as' = as'
+page_fault wait beside stands x t p e as' = absurd (cc)
 
 pub log_tells_of_failure : engine.FailuresAreOwn → LogTellsOfFailure
 log_tells_of_failure own p limit calls page b are named out' fis' =
     let w = watch_in p limit calls in
     let d = reached p limit calls in
     let is = watches_in own p limit calls are in
-    let same = page_fault _ w.alone w.fault d.front.fault d.front.task _ out' is.fault in
+    let same = page_fault _ w.beside w.fault d.front.fault d.front.task _ out' is.fault in
     let P : Option log.LogPage → Type 0 = λ x. IsLog d.profile d.front x (drop 4 b) in
     let Q : Option Fault → Type 0 = λ x. IsErrorLog x (drop 4 b) in
     (subst Q same (subst P named fis'.0), fis'.1)

@@ -6,6 +6,7 @@ use Rattle.fis_view.specs.Seen.{seen}
 use Rattle.fis_view.specs.Table.{field, places, spelled}
 use Rattle.block_queue.specs.Line.{any_below}
 use Rattle.ata_reply.specs.declared.reply.AtaError.TheVariants.{NotFound, Uncorrectable}
+use Rattle.ata_reply.specs.declared.reply.Failure.{Failure}
 use Rattle.ata_reply.specs.declared.reply.Reply.TheVariants as replies
 use Rattle.ata_front.specs.Fronts.{page_announced}
 use Rattle.ata_front.specs.declared.task.Fault.TheVariants as faults
@@ -104,9 +105,28 @@ row_aborts : (p : Profile) (limit : ℕ) → (watch p limit (Hears (fis 0x80 0x6
 unfolding watch_of seen field places spelled bits any_below
 row_aborts p limit = refl
 
--- a queued command was refused alone: the error is its own
+-- a queued command was refused: the error is its own
 row_refused : (p : Profile) (limit : ℕ) → (watch p limit (Hears (fis 0x80 0x60 0x18 0)
     ∷ Sends (out.Own (replies.Failed (record { error = NotFound; lba = 7; wide = true }))) ∷ [])).fault
     ≡ Some (faults.Queued 3 (record { error = NotFound; lba = 7 }))
 unfolding watch_of seen field places spelled bits any_below
 row_refused p limit = refl
+
+-- a queued read with tag 3 is open, and another command comes and is refused
+abbrev beside_3 : (flags code count : ℕ) → Failure → List Call
+beside_3 flags code count f = Hears (fis 0x80 0x60 0x18 0) ∷ Sends (out.Own replies.Accepted) ∷ Hears (fis flags code count 0) ∷ Sends (out.Own (replies.Failed f)) ∷ []
+
+-- one with tag 4, which is past the end: so the error is its own there, too
+row_beside : (p : Profile) (limit : ℕ) → (watch p limit (beside_3 0x80 0x60 0x20 (record { error = NotFound; lba = 7; wide = true }))).fault
+    ≡ Some (faults.Queued 4 (record { error = NotFound; lba = 7 }))
+unfolding watch_of seen field places spelled bits any_below
+row_beside p limit = refl
+
+-- one with the same tag, and one that is not queued: the error is of none
+row_tag_twice : (p : Profile) (limit : ℕ) → (watch p limit (beside_3 0x80 0x60 0x18 (record { error = NotFound; lba = 7; wide = true }))).fault ≡ Some faults.Mixed
+unfolding watch_of seen field places spelled bits any_below
+row_tag_twice p limit = refl
+
+row_mixed : (p : Profile) (limit : ℕ) → (watch p limit (beside_3 0x80 0xEC 0 (record { error = NotFound; lba = 7; wide = true }))).fault ≡ Some faults.Mixed
+unfolding watch_of seen field places spelled bits any_below
+row_mixed p limit = refl

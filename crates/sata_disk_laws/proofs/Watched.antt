@@ -66,13 +66,13 @@ use Rattle.sata_disk_laws.proofs.Watching.{FaultAs, Watches, WatchesOf, command_
 -- ## A command alone ended
 
 -- the one that the host waits for, where no error stands: its failure is none of a queued command
-failed_none : (h : Host) (w : Watch) (f : Failure) → IsSingle h → w.alone ≡ true → w.fault ≡ None
-    → or_fault w.fault (errors.refused_by w.alone h.waits f) ≡ None
+failed_none : (h : Host) (w : Watch) (f : Failure) → IsSingle h → w.beside ≡ true → w.fault ≡ None
+    → or_fault w.fault (errors.refused_by w.beside h.waits f) ≡ None
 failed_none h w f single lone none =
-    ap (λ s. or_fault s (errors.refused_by w.alone h.waits f)) none ∙ ap (λ b. errors.refused_by b h.waits f) lone
+    ap (λ s. or_fault s (errors.refused_by w.beside h.waits f)) none ∙ ap (λ b. errors.refused_by b h.waits f) lone
     ∙ ap (λ v. errors.refused_for v f) single.1
 
-pub over_watches : (h : Host) (w : Watch) (x : Option Fault) (r : Reply) → IsSingle h → x ≡ w.fault → w.alone ≡ true → w.fault ≡ None → (w.aborts ≡ true → ⊥)
+pub over_watches : (h : Host) (w : Watch) (x : Option Fault) (r : Reply) → IsSingle h → x ≡ w.fault → w.beside ≡ true → w.fault ≡ None → (w.aborts ≡ true → ⊥)
     → (reply_got h r).in_reset ≡ h.in_reset → Watches (reply_got h r) (reply_watched h w r) x tasks.Idle
 over_watches h w x (replies.Failed f) single same lone none calm reset =
     let stays = failed_none h w f single lone none in
@@ -115,8 +115,8 @@ neutral_of d h w p r e = refl
 -- a queued command goes on
 idle_goes : (h k : Host) (w : Watch) (f : Front) → f.task ≡ tasks.Idle → k.in_reset ≡ h.in_reset → WatchesOf h w f → WatchesOf k w f
 idle_goes h k w f idle reset is =
-    let P : Task → Type 0 = λ t. FaultAs h.waits w.alone w.fault f.fault t in
-    let Q : Task → Type 0 = λ t. FaultAs k.waits w.alone w.fault f.fault t in
+    let P : Task → Type 0 = λ t. FaultAs h.waits w.beside w.fault f.fault t in
+    let Q : Task → Type 0 = λ t. FaultAs k.waits w.beside w.fault f.fault t in
     let same : f.fault ≡ w.fault = subst P idle is.fault in
     record { fault = subst Q (sym idle) same; only = is.only; aborts = is.aborts; reset = λ e. is.reset (sym reset ∙ e) }
 
@@ -308,7 +308,7 @@ out_watches h d w (out.Data p n) is due knows own watches = data_watches h d w p
 
 register_case : (h : Host) (d : DiskState) (w : Watch) (f : List ℕ) (b : Bool) → Knows h d → WatchesOf h w d.front
     → WatchesOf (if b then command_given h (place_in f) (unheard_of h) else control_given h (resets f))
-    (if b then command_watched h w f (unheard_of h) else (if resets f then reset_watched w else w))
+    (if b then command_watched h w (place_in f) f (unheard_of h) else (if resets f then reset_watched w else w))
     (if b then command_told d f else controlled d.front (resets f)).front
 register_case h d w f true knows watches =
     command_watches h w f (place_in f) d.front d.engine.stage (commands d) _ (asked_at f (facts_of d.profile) d.front.settings)

@@ -2,7 +2,8 @@
 use Rattle.std.proofs.Common.{◌≡◌, ℕ, zero, suc, ◌^◌, ◌<◌, true, false, List, Some, None, refl, sym, ap, ◌∙◌, subst, arith, inl, inr}
 use Rattle.std.specs.Prelude.{Option, Bool, not, nat_lt, ◌==◌, ◌&&◌, if◌then◌else◌}
 use Rattle.std.specs.Option.{is_some}
-use Rattle.std.proofs.lemmas.Bool.{cases_Bool, eq-eqb}
+use Rattle.std.proofs.lemmas.Bool.{cases_Bool, eq-eqb, ltb-true}
+use Rattle.std.specs.Int.{bit_at}
 use Rattle.block_queue.specs.Line.{Line, any_below}
 use Rattle.block_queue.proofs.Door.{any_found, any_none, of_and}
 use Rattle.block_engine.specs.declared.aside.AsideStage.{AsideStage}
@@ -10,7 +11,7 @@ use Rattle.ata_reply.specs.declared.reply.Failure.{Failure}
 use Rattle.ata_reply.specs.declared.reply.Reply.{Reply}
 use Rattle.ata_reply.specs.declared.reply.Reply.TheVariants as replies
 use Rattle.ata_command.specs.Asks.{tag_of_place}
-use Rattle.ata_command.specs.Courses.{course, is_error_log, stands_beside, tag_course}
+use Rattle.ata_command.specs.Courses.{course, is_error_log, is_queued_free, is_tag_free, stands_beside, tag_course}
 use Rattle.ata_command.specs.declared.asked.Asked.{Asked}
 use Rattle.ata_command.specs.declared.asked.Asked.TheVariants as ask
 use Rattle.ata_command.specs.declared.asked.LogPage.{LogPage}
@@ -40,25 +41,25 @@ use Rattle.sata_disk.specs.Hearing.{command_unheard}
 use Rattle.sata_disk.specs.declared.unheard.Unheard.{Unheard}
 use Rattle.sata_disk_laws.specs.Once.{Host, Wait, ForAnswer, ForEnd, ForLast, ForSignature, command_given, control_given, data_got, data_got_by, none_open, reply_got, unheard_of, wait_for}
 use Rattle.sata_disk_laws.specs.Errors as errors
-use Rattle.sata_disk_laws.specs.Errors.{Watch, command_watched, or_fault, page_watched, reads_error, refused_for, reply_watched, reset_watched}
-use Rattle.sata_disk_laws.proofs.AskedPlaces.{AskedAt, no_tags}
+use Rattle.sata_disk_laws.specs.Errors.{Watch, command_watched, goes_beside, or_fault, page_watched, reads_error, refused_for, reply_watched, reset_watched}
+use Rattle.sata_disk_laws.proofs.AskedPlaces.{AskedAt, no_tags, tag_free}
 use Rattle.sata_disk_laws.proofs.Commands.{heard_is}
 use Rattle.sata_disk_laws.proofs.Tracks.{NoTags, SameTags, TagsAs, Tracks}
 
 -- ## What is alike
 
-abbrev pub OwesFault : Wait → (alone : Bool) → Option Fault → Option Fault → Reply → Type 0
-OwesFault wait alone stands x (replies.Failed f) = x ≡ or_fault stands (errors.refused_by alone wait f)
-OwesFault wait alone stands x r = x ≡ stands
+abbrev pub OwesFault : Wait → (beside : Bool) → Option Fault → Option Fault → Reply → Type 0
+OwesFault wait beside stands x (replies.Failed f) = x ≡ or_fault stands (errors.refused_by beside wait f)
+OwesFault wait beside stands x r = x ≡ stands
 
 -- the front has the error that stands, or that will stand once its answer went
-abbrev pub FaultAs : Wait → (alone : Bool) → Option Fault → Option Fault → Task → Type 0
-FaultAs wait alone stands x (tasks.Owes r) = OwesFault wait alone stands x r
-FaultAs wait alone stands x (tasks.Moves m) = (x ≡ stands) × (alone ≡ true)
-FaultAs wait alone stands x (tasks.Waits p) = (x ≡ stands) × (alone ≡ true)
-FaultAs wait alone stands x (tasks.Activates n) = (x ≡ stands) × (alone ≡ true)
-FaultAs wait alone stands x (tasks.Expects n) = (x ≡ stands) × (alone ≡ true)
-FaultAs wait alone stands x t = x ≡ stands
+abbrev pub FaultAs : Wait → (beside : Bool) → Option Fault → Option Fault → Task → Type 0
+FaultAs wait beside stands x (tasks.Owes r) = OwesFault wait beside stands x r
+FaultAs wait beside stands x (tasks.Moves m) = (x ≡ stands) × (beside ≡ true)
+FaultAs wait beside stands x (tasks.Waits p) = (x ≡ stands) × (beside ≡ true)
+FaultAs wait beside stands x (tasks.Activates n) = (x ≡ stands) × (beside ≡ true)
+FaultAs wait beside stands x (tasks.Expects n) = (x ≡ stands) × (beside ≡ true)
+FaultAs wait beside stands x t = x ≡ stands
 
 -- what the front does while an error stands
 abbrev pub ForError : Task → Type 0
@@ -70,7 +71,7 @@ ForError (tasks.Sends p) = is_log_10 p ≡ true
 ForError _ = ⊥
 
 pub record Watches (h : Host) (w : Watch) (x : Option Fault) (t : Task) : Type 0 where
-  pub fault : FaultAs h.waits w.alone w.fault x t
+  pub fault : FaultAs h.waits w.beside w.fault x t
   pub only : is_some w.fault ≡ true → ForError t
   pub aborts : w.aborts ≡ true → t ≡ tasks.Owes aborted
   pub reset : h.in_reset ≡ true → w.fault ≡ None
@@ -88,18 +89,18 @@ abbrev pub is_failure : Task → Bool
 is_failure (tasks.Owes (replies.Failed f)) = true
 is_failure _ = false
 
-owes_calm : (wait : Wait) (alone : Bool) (stands x : Option Fault) (r : Reply) → x ≡ stands → is_failure (tasks.Owes r) ≡ false → OwesFault wait alone stands x r
-owes_calm wait alone stands x (replies.Failed f) e not' = absurd (cc)
-owes_calm wait alone stands x r e not' = e
+owes_calm : (wait : Wait) (beside : Bool) (stands x : Option Fault) (r : Reply) → x ≡ stands → is_failure (tasks.Owes r) ≡ false → OwesFault wait beside stands x r
+owes_calm wait beside stands x (replies.Failed f) e not' = absurd (cc)
+owes_calm wait beside stands x r e not' = e
 
-fault_calm : (wait : Wait) (alone : Bool) (stands x : Option Fault) (t : Task) → x ≡ stands → alone ≡ true → is_failure t ≡ false
-    → FaultAs wait alone stands x t
-fault_calm wait alone stands x (tasks.Owes r) e lone not' = owes_calm wait alone stands x r e not'
-fault_calm wait alone stands x (tasks.Moves m) e lone not' = (e, lone)
-fault_calm wait alone stands x (tasks.Waits p) e lone not' = (e, lone)
-fault_calm wait alone stands x (tasks.Activates n) e lone not' = (e, lone)
-fault_calm wait alone stands x (tasks.Expects n) e lone not' = (e, lone)
-fault_calm wait alone stands x t e lone not' = e
+fault_calm : (wait : Wait) (beside : Bool) (stands x : Option Fault) (t : Task) → x ≡ stands → beside ≡ true → is_failure t ≡ false
+    → FaultAs wait beside stands x t
+fault_calm wait beside stands x (tasks.Owes r) e lone not' = owes_calm wait beside stands x r e not'
+fault_calm wait beside stands x (tasks.Moves m) e lone not' = (e, lone)
+fault_calm wait beside stands x (tasks.Waits p) e lone not' = (e, lone)
+fault_calm wait beside stands x (tasks.Activates n) e lone not' = (e, lone)
+fault_calm wait beside stands x (tasks.Expects n) e lone not' = (e, lone)
+fault_calm wait beside stands x t e lone not' = e
 
 -- nothing is under way
 abbrev is_plain : Task → Bool
@@ -107,16 +108,16 @@ is_plain tasks.Idle = true
 is_plain (tasks.Owes replies.Done) = true
 is_plain _ = false
 
-fault_plain : (wait : Wait) (alone : Bool) (stands x : Option Fault) (t : Task) → x ≡ stands → is_plain t ≡ true → FaultAs wait alone stands x t
-fault_plain wait alone stands x tasks.Idle e plain = e
-fault_plain wait alone stands x (tasks.Owes replies.Done) e plain = e
-fault_plain wait alone stands x t e plain = absurd (cc)
+fault_plain : (wait : Wait) (beside : Bool) (stands x : Option Fault) (t : Task) → x ≡ stands → is_plain t ≡ true → FaultAs wait beside stands x t
+fault_plain wait beside stands x tasks.Idle e plain = e
+fault_plain wait beside stands x (tasks.Owes replies.Done) e plain = e
+fault_plain wait beside stands x t e plain = absurd (cc)
 
--- no error stands, and the command came alone
-pub calm : (h : Host) (w : Watch) (x : Option Fault) (t : Task) → x ≡ w.fault → w.fault ≡ None → w.aborts ≡ false → w.alone ≡ true
+-- no error stands, and nothing was in the way of the command
+pub calm : (h : Host) (w : Watch) (x : Option Fault) (t : Task) → x ≡ w.fault → w.fault ≡ None → w.aborts ≡ false → w.beside ≡ true
     → is_failure t ≡ false → Watches h w x t
-calm h w x t e none aborts alone not' = record {
-  fault = fault_calm h.waits w.alone w.fault x t e alone not';
+calm h w x t e none aborts beside not' = record {
+  fault = fault_calm h.waits w.beside w.fault x t e beside not';
   only = λ some. no_some w.fault _ none some;
   aborts = λ yes'. not_both w.aborts _ aborts yes';
   reset = λ e'. none;
@@ -150,13 +151,50 @@ some_open h l same some = elim (cases_Bool (any_below h.open_at 32)) [
   | inr none ↦ not_both _ _ some (tags_zero l (untaken h l same none))
 ]
 
--- ## A command is taken where no error stands and no tag is open
+-- ## Which commands go beside those that are open
+
+-- where nothing is open, each does
+goes_free : (h : Host) (place : ℕ) → any_below h.open_at 32 ≡ false → goes_beside h place ≡ true
+goes_free h place none = elim (cases_Bool (nat_lt place 32)) [
+  | inl low ↦ ap (λ b. if b then not (h.open_at place) else not (any_below h.open_at 32)) low ∙ ap (λ b. not b) (shut_at h place (ltb-true place 32 low) none)
+  | inr high ↦ ap (λ b. if b then not (h.open_at place) else not (any_below h.open_at 32)) high ∙ ap (λ b. not b) none
+]
+  where
+    shut_at : (h : Host) (place : ℕ) → place < 32 → any_below h.open_at 32 ≡ false → h.open_at place ≡ false
+    shut_at h place low none = elim (cases_Bool (h.open_at place)) [
+      | inl open' ↦ not_both _ _ none (any_found h.open_at 32 place low open')
+      | inr shut ↦ shut
+    ]
+
+-- where some tags are open, each whose tag is free
+goes_tagged : (h : Host) (l : Line) (place : ℕ) → SameTags h l → any_below h.open_at 32 ≡ true → goes_beside h place ≡ is_tag_free (tags_of l) place
+goes_tagged h l place same some = elim (cases_Bool (nat_lt place 32)) [
+  | inl low ↦
+      let below = ltb-true place 32 low in
+      ap (λ b. if b then not (h.open_at place) else not (any_below h.open_at 32)) low
+      ∙ ap (λ b. not b) (sym (same place below)) ∙ sym (tag_free l place below) ∙ sym (ap (λ b. b && (bit_at (tags_of l) place == 0)) low)
+  | inr high ↦
+      ap (λ b. if b then not (h.open_at place) else not (any_below h.open_at 32)) high ∙ ap (λ b. not b) some
+      ∙ sym (ap (λ b. b && (bit_at (tags_of l) place == 0)) high)
+]
+
+-- one that may stand there has a tag that is free, and no other has
+stands_free : (a : Asked) (tags place : ℕ) → AskedAt place a → (b : Bool) → stands_beside a tags ≡ b → b ≡ is_tag_free tags place
+stands_free (ask.Moves m) tags place at' b e = sym e ∙ ap (is_tag_free tags) at'.0
+stands_free (ask.Refused r) tags place at' b e = sym e ∙ ap (is_queued_free tags) at' ∙ tag_case tags place (nat_lt place 32) refl
+  where
+    tag_case : (tags place : ℕ) (c : Bool) → nat_lt place 32 ≡ c → is_queued_free tags (if c then Some place else None) ≡ is_tag_free tags place
+    tag_case tags place true low = refl
+    tag_case tags place false high = sym (ap (λ b. b && (bit_at tags place == 0)) high)
+stands_free other tags place at' b e = sym e ∙ sym (ap (is_tag_free tags) at')
+
+-- ## A command is taken where no error stands and nothing is in its way
 
 abbrev given : Host → (place : ℕ) → Host
 given h place = command_given h place None
 
-abbrev told : Host → Watch → List ℕ → Watch
-told h w bytes = command_watched h w bytes None
+abbrev told : Host → Watch → (place : ℕ) → List ℕ → Watch
+told h w place bytes = command_watched h w place bytes None
 
 sound_aborts : (x : Option Fault) (b : Bool) → x ≡ None → (is_some x && b) ≡ false
 sound_aborts x b e = ap (λ y. is_some y && b) e
@@ -198,21 +236,18 @@ queued_refused : (place tag : ℕ) (f : Failure) → Some tag ≡ tag_of_place p
     → refused_for (wait_for place) f ≡ Some (Queued tag (record { error = f.error; lba = f.lba }))
 queued_refused place tag f e = queued_case place tag f (nat_lt place 32) e
 
--- what stands once the answer went to a command that came alone
-alone_refused : (wait : Wait) (alone : Bool) (stands : Option Fault) (f : Failure) → stands ≡ None → alone ≡ true
-    → or_fault stands (errors.refused_by alone wait f) ≡ refused_for wait f
-alone_refused wait alone stands f none lone =
-    ap (λ s. or_fault s (errors.refused_by alone wait f)) none ∙ ap (λ b. errors.refused_by b wait f) lone
+-- what stands once the answer went to a command that nothing was in the way of
+free_refused : (wait : Wait) (beside : Bool) (stands : Option Fault) (f : Failure) → stands ≡ None → beside ≡ true
+    → or_fault stands (errors.refused_by beside wait f) ≡ refused_for wait f
+free_refused wait beside stands f none lone =
+    ap (λ s. or_fault s (errors.refused_by beside wait f)) none ∙ ap (λ b. errors.refused_by b wait f) lone
 
 module _ (h : Host) (w : Watch) (bytes : List ℕ) (place : ℕ) (f : Front) (none : w.fault ≡ None) (sound : f.fault ≡ None)
-    (shut : any_below h.open_at 32 ≡ false) where
-  lone : not (any_below h.open_at 32) ≡ true
-  lone = ap (λ b. not b) shut
+    (lone : goes_beside h place ≡ true) where
+  goes_calm : (t : Task) → is_failure t ≡ false → Watches (given h place) (told h w place bytes) f.fault t
+  goes_calm t not' = calm (given h place) (told h w place bytes) f.fault t (sound ∙ sym none) none (sound_aborts w.fault _ none) lone not'
 
-  goes_calm : (t : Task) → is_failure t ≡ false → Watches (given h place) (told h w bytes) f.fault t
-  goes_calm t not' = calm (given h place) (told h w bytes) f.fault t (sound ∙ sym none) none (sound_aborts w.fault _ none) lone not'
-
-  set_watches : (s : Setting) → WatchesAs (given h place) (told h w bytes) (taken f (ask.Sets s))
+  set_watches : (s : Setting) → WatchesAs (given h place) (told h w place bytes) (taken f (ask.Sets s))
   set_watches (set'.WriteCache true) = goes_calm _ refl
   set_watches (set'.WriteCache false) = goes_calm _ refl
   set_watches (set'.LookAhead on) = goes_calm _ refl
@@ -220,25 +255,25 @@ module _ (h : Host) (w : Watch) (bytes : List ℕ) (place : ℕ) (f : Front) (no
   set_watches (set'.Mode mode) = goes_calm _ refl
   set_watches (set'.Reverts on) = goes_calm _ refl
 
-  power_watches : (t : PowerTask) → WatchesAs (given h place) (told h w bytes) (taken f (ask.Power t))
+  power_watches : (t : PowerTask) → WatchesAs (given h place) (told h w place bytes) (taken f (ask.Power t))
   power_watches power.Check = goes_calm _ refl
   power_watches power.Idle = goes_calm _ refl
-  power_watches power.Standby = either_heard (given h place) (told h w bytes) f.settings.write_cache _ _ (goes_calm _ refl) (goes_calm _ refl)
+  power_watches power.Standby = either_heard (given h place) (told h w place bytes) f.settings.write_cache _ _ (goes_calm _ refl) (goes_calm _ refl)
 
   answered : (x : Option Fault) (a : Failure) → x ≡ refused_for (wait_for place) a
-      → Watches (given h place) (told h w bytes) x (tasks.Owes (replies.Failed a))
+      → Watches (given h place) (told h w place bytes) x (tasks.Owes (replies.Failed a))
   answered x a e = record {
-    fault = e ∙ sym (alone_refused (wait_for place) _ w.fault a none lone);
+    fault = e ∙ sym (free_refused (wait_for place) _ w.fault a none lone);
     only = λ some. no_some w.fault _ none some;
     aborts = λ yes'. not_both _ _ (sound_aborts w.fault _ none) yes';
     reset = λ e'. none;
   }
 
-  refused_watches : (r : Refusal) (tag : Option ℕ) → tag ≡ tag_of_place place → WatchesAs (given h place) (told h w bytes) (refused_by f r tag)
+  refused_watches : (r : Refusal) (tag : Option ℕ) → tag ≡ tag_of_place place → WatchesAs (given h place) (told h w place bytes) (refused_by f r tag)
   refused_watches r None e = answered f.fault _ (sound ∙ sym (single_refused place _ e))
   refused_watches r (Some tag) e = answered _ _ (sym (queued_refused place tag _ e))
 
-  taken_watches : (a : Asked) → AskedAt place a → WatchesAs (given h place) (told h w bytes) (taken f a)
+  taken_watches : (a : Asked) → AskedAt place a → WatchesAs (given h place) (told h w place bytes) (taken f a)
   taken_watches (ask.Moves m) at' = goes_calm (moves_task m) (moves_calm _ _)
   taken_watches (ask.Sets s) at' = set_watches s
   taken_watches (ask.ReadsLog p) at' = goes_calm (log_task p) (log_calm _ _)
@@ -252,7 +287,7 @@ module _ (h : Host) (w : Watch) (bytes : List ℕ) (place : ℕ) (f : Front) (no
 module _ (h : Host) (w : Watch) (bytes : List ℕ) (place : ℕ) (f : Front) where
   -- an error stands: the log is read, or the command is aborted
   log_watches : (p : LogPage) (b : Bool) → f.fault ≡ w.fault → is_error_log (ask.ReadsLog p) ≡ true → reads_error bytes ≡ true → h.in_reset ≡ false
-      → Watches (given h place) (told h w bytes) f.fault (if b then tasks.Sends (pages.Log p) else tasks.Announces (pages.Log p))
+      → Watches (given h place) (told h w place bytes) f.fault (if b then tasks.Sends (pages.Log p) else tasks.Announces (pages.Log p))
   log_watches p true same error reads clear = record {
     fault = same;
     only = λ some. (of_and (p.log == 0x10) (p.page == 0) (of_and ((p.log == 0x10) && (p.page == 0)) (p.count == 1) error).0).0;
@@ -278,7 +313,7 @@ module _ (h : Host) (w : Watch) (bytes : List ℕ) (place : ℕ) (f : Front) whe
   stands_still x other e = ap (λ z. or_fault z other) e ∙ sym e
 
   error_watches : (a : Asked) (x : Fault) (b : Bool) → is_error_log a ≡ b → is_error_log a ≡ reads_error bytes → f.fault ≡ w.fault → w.fault ≡ Some x
-      → h.in_reset ≡ false → WatchesAs (given h place) (told h w bytes) (commanded_by f a (if b then Take else Refuse))
+      → h.in_reset ≡ false → WatchesAs (given h place) (told h w place bytes) (commanded_by f a (if b then Take else Refuse))
   error_watches a x false error reads same is clear = record {
     fault = same ∙ sym (stands_still x _ is);
     only = λ some. refl;
@@ -289,18 +324,18 @@ module _ (h : Host) (w : Watch) (bytes : List ℕ) (place : ℕ) (f : Front) whe
   error_watches a x true error reads same is clear = absurd (cc)
 
   -- it may not stand beside the queued commands, and ends them
-  mixed_watches : (x : Failure) → w.fault ≡ None → any_below h.open_at 32 ≡ true
-      → Watches (given h place) (told h w bytes) (Some Mixed) (tasks.Owes (replies.Failed x))
-  mixed_watches x none some = record {
-    fault = sym (ap (λ s. or_fault s (errors.refused_by (not (any_below h.open_at 32)) (wait_for place) x)) none
-        ∙ ap (λ b. errors.refused_by (not b) (wait_for place) x) some);
+  mixed_watches : (x : Failure) → w.fault ≡ None → goes_beside h place ≡ false
+      → Watches (given h place) (told h w place bytes) (Some Mixed) (tasks.Owes (replies.Failed x))
+  mixed_watches x none apart = record {
+    fault = sym (ap (λ s. or_fault s (errors.refused_by (goes_beside h place) (wait_for place) x)) none
+        ∙ ap (λ b. errors.refused_by b (wait_for place) x) apart);
     only = λ e. no_some w.fault _ none e;
     aborts = λ yes'. not_both _ _ (sound_aborts w.fault _ none) yes';
     reset = λ e. none;
   }
 
   tag_watches : (m : Moving) (b : Bool) → b ≡ true → f.fault ≡ w.fault → w.fault ≡ None
-      → Watches (given h place) (told h w bytes) f.fault (if b then tasks.Owes replies.Accepted else tasks.Moves m)
+      → Watches (given h place) (told h w place bytes) f.fault (if b then tasks.Owes replies.Accepted else tasks.Moves m)
   tag_watches m false e same none = absurd (cc)
   tag_watches m true e same none = record {
     fault = same;
@@ -309,23 +344,26 @@ module _ (h : Host) (w : Watch) (bytes : List ℕ) (place : ℕ) (f : Front) whe
     reset = λ e'. none;
   }
 
-  beside_watches : (a : Asked) (tags : ℕ) (b : Bool) → stands_beside a tags ≡ b → f.fault ≡ w.fault → w.fault ≡ None → any_below h.open_at 32 ≡ true
-      → WatchesAs (given h place) (told h w bytes) (commanded_by f a (if b then Take else AbortAll))
-  beside_watches a tags false e same none some = mixed_watches _ none some
-  beside_watches (ask.Moves m) tags true e same none some = tag_watches _ (nat_lt m.command.place 32) (of_and (nat_lt m.command.place 32) _ e).0 same none
-  beside_watches a tags true e same none some = absurd (cc)
+  beside_watches : (a : Asked) (tags : ℕ) (b : Bool) → stands_beside a tags ≡ b → AskedAt place a → goes_beside h place ≡ is_tag_free tags place
+      → f.fault ≡ None → w.fault ≡ None → WatchesAs (given h place) (told h w place bytes) (commanded_by f a (if b then Take else AbortAll))
+  beside_watches a tags false e at' goes sound none = mixed_watches _ none (goes ∙ sym (stands_free a tags place at' false e))
+  beside_watches (ask.Moves m) tags true e at' goes sound none =
+      tag_watches _ (nat_lt m.command.place 32) (of_and (nat_lt m.command.place 32) _ e).0 (sound ∙ sym none) none
+  beside_watches (ask.Refused r) tags true e at' goes sound none =
+      refused_watches h w bytes place f none sound (goes ∙ sym (stands_free (ask.Refused r) tags place at' true e)) r r.tag at'
+  beside_watches a tags true e at' goes sound none = absurd (cc)
 
   free_watches : (a : Asked) (l : Line) (b : Bool) → (tags_of l == 0) ≡ b → AskedAt place a → SameTags h l → f.fault ≡ None → w.fault ≡ None
-      → WatchesAs (given h place) (told h w bytes) (commanded_by f a (if b then Take else tag_course a (tags_of l)))
+      → WatchesAs (given h place) (told h w place bytes) (commanded_by f a (if b then Take else tag_course a (tags_of l)))
   free_watches a l true e at' same sound none =
-      taken_watches h w bytes place f none sound (none_open' h l same (no_tags l e)) a at'
+      taken_watches h w bytes place f none sound (goes_free h place (none_open' h l same (no_tags l e))) a at'
   free_watches a l false e at' same sound none =
-      beside_watches a (tags_of l) _ refl (sound ∙ sym none) none (some_open h l same e)
+      beside_watches a (tags_of l) _ refl at' (goes_tagged h l place same (some_open h l same e)) sound none
 
   task_watches : (a : Asked) (l : Line) (t : Task) (x : Option Fault) → f.task ≡ t → f.fault ≡ x → AskedAt place a → is_error_log a ≡ reads_error bytes
-      → h.in_reset ≡ false → TagsAs h t l → FaultAs h.waits w.alone w.fault x t → WatchesOf h w f
+      → h.in_reset ≡ false → TagsAs h t l → FaultAs h.waits w.beside w.fault x t → WatchesOf h w f
       → WatchesAs (command_given h place (command_unheard (standing_by t x (tags_of l))))
-      (command_watched h w bytes (command_unheard (standing_by t x (tags_of l)))) (commanded_by f a (course a (standing_by t x (tags_of l))))
+      (command_watched h w place bytes (command_unheard (standing_by t x (tags_of l)))) (commanded_by f a (course a (standing_by t x (tags_of l))))
   task_watches a l tasks.Idle None idle sound at' reads clear tags as' is =
       free_watches a l _ refl at' tags sound (sym as')
   task_watches a l tasks.Idle (Some x) idle faulty at' reads clear tags as' is =
@@ -335,21 +373,21 @@ module _ (h : Host) (w : Watch) (bytes : List ℕ) (place : ℕ) (f : Front) whe
   reset_watches : (a : Asked) (l : Line) (b : Bool) → f.in_reset ≡ b → h.in_reset ≡ f.in_reset → AskedAt place a → is_error_log a ≡ reads_error bytes
       → TagsAs h f.task l → WatchesOf h w f
       → WatchesAs (command_given h place (command_unheard (if b then stand.Reset else standing_by f.task f.fault (tags_of l))))
-      (command_watched h w bytes (command_unheard (if b then stand.Reset else standing_by f.task f.fault (tags_of l))))
+      (command_watched h w place bytes (command_unheard (if b then stand.Reset else standing_by f.task f.fault (tags_of l))))
       (commanded_by f a (course a (if b then stand.Reset else standing_by f.task f.fault (tags_of l))))
   reset_watches a l true e same at' reads tags is = is
   reset_watches a l false e same at' reads tags is = task_watches a l f.task f.fault refl refl at' reads (same ∙ e) tags is.fault is
 
 pub command_watches : (h : Host) (w : Watch) (bytes : List ℕ) (place : ℕ) (f : Front) (s : AsideStage) (l : Line) (a : Asked) → AskedAt place a
     → is_error_log a ≡ reads_error bytes → Tracks h f s l → WatchesOf h w f
-    → WatchesAs (command_given h place (unheard_of h)) (command_watched h w bytes (unheard_of h)) (commanded_by f a (course a (standing f (tags_of l))))
+    → WatchesAs (command_given h place (unheard_of h)) (command_watched h w place bytes (unheard_of h)) (commanded_by f a (course a (standing f (tags_of l))))
 command_watches h w bytes place f s l a at' reads tracks is =
-    let P : Option Unheard → Type 0 = λ x. WatchesAs (command_given h place x) (command_watched h w bytes x) (commanded_by f a (course a (standing f (tags_of l)))) in
+    let P : Option Unheard → Type 0 = λ x. WatchesAs (command_given h place x) (command_watched h w place bytes x) (commanded_by f a (course a (standing f (tags_of l)))) in
     subst P (heard_is h f s l (tags_of l) tracks) (reset_watches h w bytes place f a l _ refl tracks.reset at' reads tracks.tags is)
 
 -- ## A reset
 
-pub plug_watches : (h : Host) (w : Watch) (t : Task) → FaultAs h.waits w.alone None None t → Watches h (reset_watched w) None t
+pub plug_watches : (h : Host) (w : Watch) (t : Task) → FaultAs h.waits w.beside None None t → Watches h (reset_watched w) None t
 plug_watches h w t as' = record { fault = as'; only = λ some. absurd (cc); aborts = λ yes'. absurd (cc); reset = λ e'. refl }
 
 cleared_watches : (h : Host) (w : Watch) (f : Front) (a b : Bool) → h.in_reset ≡ a → f.in_reset ≡ b → h.in_reset ≡ f.in_reset
@@ -361,7 +399,7 @@ cleared_watches h w f true false e g same idle is = absurd (cc)
 cleared_watches h w f false true e g same idle is = absurd (cc)
 cleared_watches h w f true true e g same idle is =
     let none = is.reset e in
-    let P : Task → Type 0 = λ t. FaultAs h.waits w.alone w.fault f.fault t in
+    let P : Task → Type 0 = λ t. FaultAs h.waits w.beside w.fault f.fault t in
     let as' : f.fault ≡ w.fault = subst P (idle g) is.fault in
     record {
       fault = as';
@@ -387,7 +425,7 @@ got_reset h (replies.Announce a) = announced_case h (a.to_host && a.last)
 got_reset h r = refl
 
 -- the answer went
-pub goes_watches : (h : Host) (w : Watch) (x : Option Fault) (r : Reply) → OwesFault h.waits w.alone w.fault x r
+pub goes_watches : (h : Host) (w : Watch) (x : Option Fault) (r : Reply) → OwesFault h.waits w.beside w.fault x r
     → (w.aborts ≡ true → r ≡ aborted) → (h.in_reset ≡ true → w.fault ≡ None) → (h.in_reset ≡ true → ⊥) → Watches (reply_got h r) (reply_watched h w r) x tasks.Idle
 goes_watches h w x (replies.Failed f) as' aborts reset clear =
     record { fault = as'; only = λ some. tt; aborts = λ yes'. absurd (cc); reset = λ e. absurd (clear e) }
@@ -437,15 +475,15 @@ data_reset h v = refl
 -- a page went, and the error with its log
 gone_watches : (k : Host) (w : Watch) (x : Option Fault) (t : Task) (b : Bool) → x ≡ w.fault → (is_some w.fault ≡ true → b ≡ true) → (w.aborts ≡ true → ⊥)
     → is_plain t ≡ true → (k.in_reset ≡ true → ⊥)
-    → Watches k (record { alone = w.alone; aborts = w.aborts; fault = if b then None else w.fault; failures = w.failures }) (if b then None else x) t
+    → Watches k (record { beside = w.beside; aborts = w.aborts; fault = if b then None else w.fault; failures = w.failures }) (if b then None else x) t
 gone_watches k w x t true same log aborts plain clear = record {
-  fault = fault_plain k.waits w.alone None None t refl plain;
+  fault = fault_plain k.waits w.beside None None t refl plain;
   only = λ some. absurd (cc);
   aborts = λ yes'. absurd (aborts yes');
   reset = λ e. refl;
 }
 gone_watches k w x t false same log aborts plain clear = record {
-  fault = fault_plain k.waits w.alone w.fault x t same plain;
+  fault = fault_plain k.waits w.beside w.fault x t same plain;
   only = λ some. absurd (let not' = log some in cc);
   aborts = λ yes'. absurd (aborts yes');
   reset = λ e. absurd (clear e);

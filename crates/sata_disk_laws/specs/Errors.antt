@@ -1,7 +1,7 @@
 -- The error of a queued command ends all of them. Then each command is aborted until the NCQ Command Error log is sent, and that log tells
 -- of the command that failed (Serial ATA 3.x, 13.6, native command queuing; ACS-3, 9.13, NCQ Command Error log). Which error stands is
 -- told by the FISes, those of the host and those that it got, and by what the caller answered.
-use Rattle.std.specs.Prelude.{ℕ, ◌≡◌, ◌<◌, ◌==◌, ◌⊎◌, ◌&&◌, ◌||◌, Bool, true, false, not, List, [], ◌∷◌, drop, Option, Some, None, Result, Ok, if◌then◌else◌}
+use Rattle.std.specs.Prelude.{ℕ, ◌≡◌, ◌<◌, ◌==◌, ◌⊎◌, ◌&&◌, ◌||◌, nat_lt, Bool, true, false, not, List, [], ◌∷◌, drop, Option, Some, None, Result, Ok, if◌then◌else◌}
 use Rattle.std.specs.Option.{is_some}
 use Rattle.fis_view.specs.Table.{H2d, Command, field}
 use Rattle.fis_view.specs.Seen.{seen}
@@ -38,11 +38,11 @@ use Rattle.sata_disk.specs.declared.out.Out.TheVariants as out
 use Rattle.sata_disk.specs.declared.unheard.Unheard.{Unheard}
 use Rattle.sata_disk_laws.specs.Calls.{AreCalls, Call, Hears, Plugs, Sends, after_call, steps_of}
 use Rattle.sata_disk_laws.specs.Laws.{reached}
-use Rattle.sata_disk_laws.specs.Once.{ForAnswer, ForNothing, Host, Wait, host_after, host_of, new_host, unheard_of}
+use Rattle.sata_disk_laws.specs.Once.{ForAnswer, ForNothing, Host, Wait, host_after, host_of, new_host, place_in, unheard_of}
 
 pub record Watch : Type 0 where
-  -- the last command came while the host had no queued command open
-  pub alone : Bool
+  -- none that the host had open was in the way of the last command
+  pub beside : Bool
   -- it came while an error stood, and does not read its log: its abort is due
   pub aborts : Bool
   -- the error that stands
@@ -51,7 +51,7 @@ pub record Watch : Type 0 where
   pub failures : ℕ → Option caller.Failure
 
 abbrev pub new_watch : Watch
-new_watch = record { alone = true; aborts = false; fault = None; failures = λ place. None }
+new_watch = record { beside = true; aborts = false; fault = None; failures = λ place. None }
 
 -- ## What the host sends
 
@@ -59,21 +59,25 @@ new_watch = record { alone = true; aborts = false; fault = None; failures = λ p
 abbrev pub reads_error : List ℕ → Bool
 reads_error f = (field H2d Command f == 0x2F || field H2d Command f == 0x47) && is_error_log (ReadsLog (log_page f false))
 
-abbrev pub command_watched : Host → Watch → List ℕ → Option Unheard → Watch
-command_watched h w f None = record {
-  alone = not (any_below h.open_at 32);
+-- A queued command goes beside others with a tag that is not open; any other only where no queued command is open.
+abbrev pub goes_beside : Host → (place : ℕ) → Bool
+goes_beside h place = if nat_lt place 32 then not (h.open_at place) else not (any_below h.open_at 32)
+
+abbrev pub command_watched : Host → Watch → (place : ℕ) → List ℕ → Option Unheard → Watch
+command_watched h w place f None = record {
+  beside = goes_beside h place;
   aborts = is_some w.fault && not (reads_error f);
   fault = w.fault;
   failures = w.failures;
 }
-command_watched h w f (Some why) = w
+command_watched h w place f (Some why) = w
 
 -- a reset ends the error
 abbrev pub reset_watched : Watch → Watch
-reset_watched w = record { alone = w.alone; aborts = false; fault = None; failures = w.failures }
+reset_watched w = record { beside = w.beside; aborts = false; fault = None; failures = w.failures }
 
 abbrev pub register_watched : Host → Watch → List ℕ → Watch
-register_watched h w f = if is_command f then command_watched h w f (unheard_of h) else (if resets f then reset_watched w else w)
+register_watched h w f = if is_command f then command_watched h w (place_in f) f (unheard_of h) else (if resets f then reset_watched w else w)
 
 abbrev pub fis_watched : Host → Watch → Result Fis FisFault → Watch
 fis_watched h w (Ok (view.RegH2D f)) = register_watched h w f
@@ -81,13 +85,13 @@ fis_watched h w _ = w
 
 -- ## What the disk sends
 
--- a command that came alone: a queued one is refused for itself
+-- a queued command is refused for itself, and any other is none of the queue
 abbrev pub refused_for : Wait → Failure → Option Fault
 refused_for (ForAnswer tag) f = Some (Queued tag (record { error = f.error; lba = f.lba }))
 refused_for wait f = None
 
--- A Register FIS with an error. It ends the queued commands beside which the command came: none of them failed.
-abbrev pub refused_by : (alone : Bool) → Wait → Failure → Option Fault
+-- A Register FIS with an error. Where the command may not go beside the queued ones that are open, it ends them, and none of them failed.
+abbrev pub refused_by : (beside : Bool) → Wait → Failure → Option Fault
 refused_by false wait f = Some Mixed
 refused_by true wait f = refused_for wait f
 
@@ -98,9 +102,9 @@ or_fault (Some fault) other = Some fault
 
 abbrev pub reply_watched : Host → Watch → Reply → Watch
 reply_watched h w (replies.Failed f) = record {
-  alone = w.alone;
+  beside = w.beside;
   aborts = false;
-  fault = or_fault w.fault (refused_by w.alone h.waits f);
+  fault = or_fault w.fault (refused_by w.beside h.waits f);
   failures = w.failures;
 }
 reply_watched h w r = w
@@ -108,7 +112,7 @@ reply_watched h w r = w
 -- A Set Device Bits FIS with an error: this command failed, as the caller answered, or since more Data came than it asked for.
 abbrev pub of_watched : DiskState → Host → Watch → (place : ℕ) → Reply → Watch
 of_watched d h w p (replies.Aborts error) = record {
-  alone = w.alone;
+  beside = w.beside;
   aborts = w.aborts;
   fault = Some (Queued p (trouble_by (w.failures p) (command_at (commands d) p)));
   failures = w.failures;
@@ -117,7 +121,7 @@ of_watched d h w p r = reply_watched h w r
 
 -- the log ends the error
 abbrev pub page_watched : Watch → Page → Watch
-page_watched w p = record { alone = w.alone; aborts = w.aborts; fault = if is_log_10 p then None else w.fault; failures = w.failures }
+page_watched w p = record { beside = w.beside; aborts = w.aborts; fault = if is_log_10 p then None else w.fault; failures = w.failures }
 
 abbrev pub out_watched : DiskState → Host → Watch → Out → Watch
 out_watched d h w (out.Own r) = reply_watched h w r

@@ -161,6 +161,51 @@ fn queued_error_and_its_log(rt: HostRuntime) {
 }
 
 #[test]
+fn queued_read_past_the_end_and_its_log(rt: HostRuntime) {
+    let alloc = rt.alloc();
+    let mut bench = plugged(&rt, alloc);
+    // tag 3 waits for its sectors, and tag 5 has a sector behind the last one: IDNF, at sector 4,096
+    bench.gives(&rt, alloc, queued(0x60, 7, 1, 3));
+    assert!(rt; bench.sends(&rt, alloc));
+    let load = bench.asks(&rt).expect(&rt, "a load");
+    assert!(rt; bench.gives(&rt, alloc, queued(0x60, 4095, 2, 5)).is_none());
+    bench.settles(&rt, alloc);
+    has_sent(
+        &rt,
+        alloc,
+        &mut bench,
+        &[ACCEPTED, "34405110001000000000000000000000"],
+    );
+    // tag 3 ended with it
+    let late = Answer::Loaded(some_bytes(&rt, alloc, 512, 5));
+    assert!(rt; bench.disk.answer(load.number, late).is_err());
+    // the log has tag 5, with NQ clear, Status 41h, Error 10h and the sector
+    bench.gives(&rt, alloc, command(0x2F, 0x10, 1));
+    bench.settles(&rt, alloc);
+    has_sent(
+        &rt,
+        alloc,
+        &mut bench,
+        &[LAST_IN, "46000000050041100010004000000000"],
+    );
+}
+
+#[test]
+fn a_tag_that_is_out_ends_all(rt: HostRuntime) {
+    let alloc = rt.alloc();
+    let mut bench = plugged(&rt, alloc);
+    bench.gives(&rt, alloc, queued(0x60, 7, 1, 3));
+    assert!(rt; bench.sends(&rt, alloc));
+    // which command the tag names is not clear then: the log has NQ, and no tag
+    assert!(rt; bench.gives(&rt, alloc, queued(0x60, 4095, 2, 3)).is_none());
+    bench.settles(&rt, alloc);
+    has_sent(&rt, alloc, &mut bench, &[ACCEPTED, ABORTED]);
+    bench.gives(&rt, alloc, command(0x2F, 0x10, 1));
+    bench.settles(&rt, alloc);
+    has_sent(&rt, alloc, &mut bench, &[LAST_IN, "46000000800000000000"]);
+}
+
+#[test]
 fn a_reset_and_a_late_answer(rt: HostRuntime) {
     let alloc = rt.alloc();
     let mut bench = plugged(&rt, alloc);

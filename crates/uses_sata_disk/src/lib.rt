@@ -7,6 +7,7 @@ ghost use Rattle.ata_front.specs.declared.task.Page.TheVariants as pages;
 ghost use Rattle.disk_pages.specs.Logs.{log_named};
 ghost use Rattle.disk_pages.specs.declared.log.LogPage.TheVariants.{NcqError};
 ghost use Rattle.sata_disk.specs.Sending.{IsFis, IsOut};
+ghost use Rattle.sata_disk.specs.State.{AsksWithin, sectors_of};
 ghost use Rattle.sata_disk.specs.declared.out.Out.TheVariants as Out;
 ghost use Rattle.sata_disk_laws.specs.Calls.{Answers, Asks, Hears, Plugs, Sends, Starts};
 ghost use Rattle.sata_disk_laws.specs.Told.{Says};
@@ -50,9 +51,10 @@ pub fn start(disk: &mut SataDisk) -> Result<Option<u8>, AllocError>
     disk.start_next()
 }
 
-/// Takes the next request.
+/// Takes the next request. It is for sectors that are there, whatever led to the disk.
 pub fn ask(disk: &mut SataDisk) -> Option<Request>
-    ensures { IfSome result (λ request. Extends disk.old disk.new (Asks request)) }
+    ensures asked { IfSome result (λ request. Extends disk.old disk.new (Asks request)) }
+    ensures within { IfSome result (λ request. AsksWithin (sectors_of disk.old) request.what) }
 {
     disk.next_request()
 }

@@ -38,6 +38,14 @@ const REFUSED: Asked = Asked::Refused(Refusal {
     tag: None,
 });
 
+/// A queued command with tag 5 whose sectors end behind those of the disk.
+const PAST_THE_END: Asked = Asked::Refused(Refusal {
+    error: AtaError::NotFound,
+    lba: 0x2_0000_0000,
+    wide: true,
+    tag: Some(5),
+});
+
 /// Commands that move sectors.
 const MOVES: [Row; 9] = [
     // READ FPDMA QUEUED of 8 sectors, tag 5
@@ -330,6 +338,17 @@ fn queued_commands_stand_alone(rt: HostRuntime) {
         course_of(&Asked::Flushes, Standing::Queued(1)),
         Course::AbortAll
     );
+    // an error of its own: past the end, and a tag that the disk does not have; not so where the tag is out
+    assert_eq!(rt; course_of(&PAST_THE_END, Standing::Queued(1)), Course::Take);
+    assert_eq!(rt;
+        course_of(&OTHERS[0].asked, Standing::Queued(1)),
+        Course::Take
+    );
+    assert_eq!(rt;
+        course_of(&PAST_THE_END, Standing::Queued(1 << 5)),
+        Course::AbortAll
+    );
+    assert_eq!(rt; course_of(&REFUSED, Standing::Queued(1)), Course::AbortAll);
     assert_eq!(rt; course_of(&queued, Standing::Error), Course::Refuse);
     assert_eq!(rt; course_of(&OTHERS[14].asked, Standing::Error), Course::Take);
     assert_eq!(rt;

@@ -1,6 +1,8 @@
 //! What a disk owes its host, command by command, and the FISes of a command that moves sectors.
 
-use ata_command::{Asked, LogPage, Move, Multiple, Setting, Settings, Standing, TransferMode};
+use ata_command::{
+    Asked, LogPage, Move, Multiple, Refusal, Setting, Settings, Standing, TransferMode,
+};
 use ata_front::{Act, Fault, Front, Heard, Owed, Page, Purpose, Task, Trouble, command_reply};
 use ata_reply::{Announcement, AtaError, Failure, Reply, SetUp};
 use block_command::{BlockCommand, Command, Protocol};
@@ -110,6 +112,33 @@ fn an_error_is_read(rt: HostRuntime) {
     let front = sent(&rt, front, Owed::Page(Page::Log(page)));
     let front = sent(&rt, front, Owed::Reply(Reply::Done));
     assert_eq!(rt; front.fault, None);
+}
+
+#[test]
+fn a_queued_command_is_refused_beside_another(rt: HostRuntime) {
+    let refused = Asked::Refused(Refusal {
+        error: AtaError::NotFound,
+        lba: 77,
+        wide: true,
+        tag: Some(5),
+    });
+    let heard = ready(&rt).command(refused, 1);
+    assert_eq!(rt; heard.act, Act::Resets);
+    let trouble = Trouble {
+        error: AtaError::NotFound,
+        lba: 77,
+    };
+    assert_eq!(rt; heard.front.fault, Some(Fault::Queued(5, trouble)));
+    let failed = Reply::Failed(Failure {
+        error: AtaError::NotFound,
+        lba: 77,
+        wide: true,
+    });
+    sent(&rt, heard.front, Owed::Reply(failed));
+    // the tag is out: the error is of none
+    let heard = ready(&rt).command(refused, 1 << 5);
+    assert_eq!(rt; heard.front.fault, Some(Fault::Mixed));
+    sent(&rt, heard.front, Owed::Reply(ABORTED));
 }
 
 #[test]
