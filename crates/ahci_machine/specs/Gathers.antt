@@ -1,6 +1,6 @@
 -- The bytes of a Data FIS to a device (Serial ATA 3.x, 46h) come from the guest's memory part by part, from the places of its
 -- command's table (AHCI 1.3.1, 4.2.3.3 and 5.3).
-use Rattle.std.specs.Prelude.{◌≡◌, ◌≢◌, ℕ, ◌+◌, ◌-◌, ◌≤◌, ◌<◌, ◌^◌, ◌==◌, ◌&&◌, Bool, true, false, if◌then◌else◌, is_some, List, ◌∷◌, ◌++◌, Option, Some, None, MatchOption, ⊤, length, replicate, take, drop, slice_get}
+use Rattle.std.specs.Prelude.{◌≡◌, ◌≢◌, ℕ, ◌+◌, ◌-◌, ◌≤◌, ◌==◌, ◌&&◌, Bool, true, false, if◌then◌else◌, is_some, List, ◌∷◌, ◌++◌, Option, Some, None, length, replicate, take, drop, slice_get}
 use Rattle.fis_view.specs.Frames.{Stamped, is_frame}
 use Rattle.fis_view.specs.declared.frame.Stamp.{Stamp}
 use Rattle.guest_fetch.specs.declared.moves.Move.{Move}
@@ -40,20 +40,11 @@ pub record Reads (g : GatheringState) (c : ControllerState) (read : GuestRead) :
   pub head : slice_get moves 0 ≡ Some first
   pub is : read ≡ read_at g first
 
--- the table of the command, as it was supplied, has no place for its next byte
-pub record PlacesNone (g : GatheringState) (c : ControllerState) : Type 0 where
-  pub moves : Option (List Move)
-  pub places : Places c g.feed.slot (g.feed.offset + g.done) (g.feed.len - g.done) moves
-  pub none : MatchOption moves ⊤ (λ m. slice_get m 0 ≡ None)
-
-abbrev pub LiesNowhere : GatheringState → ControllerState → Type 0
-LiesNowhere g c = g.feed.slot < 32 → g.done ≤ g.feed.len → g.feed.offset + g.done < 2 ^ 32 → PlacesNone g c
-
 abbrev pub Awaits : GatheringState → ControllerState → Waits → Type 0
 Awaits g c Asked = is_some g.asked ≡ true
 Awaits g c Whole = (g.asked ≡ None) × (g.done ≡ g.feed.len)
 Awaits g c (Wants read) = (g.asked ≡ None) × (g.done ≢ g.feed.len) × Reads g c read
-Awaits g c Nowhere = (g.asked ≡ None) × (g.done ≢ g.feed.len) × LiesNowhere g c
+Awaits g c Nowhere = (g.asked ≡ None) × (g.done ≢ g.feed.len)
 
 -- ---- what comes
 
