@@ -135,13 +135,15 @@ const MOST_BYTES: usize = 16;
 
 /// Writes bytes as they lie in memory, dword by dword.
 fn write_bytes<W: fmt::Write>(bytes: &[u8], f: &mut fmt::Formatter<W>) -> fmt::Result {
-    let mut between = "";
+    let mut is_first = true;
     for dword in bytes.chunks(4).take(MOST_BYTES / 4) {
-        f.write_str(between)?;
+        if !is_first {
+            f.write_str(" ")?;
+        }
         for byte in dword {
             write!(f, "{byte:02x}")?;
         }
-        between = " ";
+        is_first = false;
     }
     f.write_str(if bytes.len() > MOST_BYTES { " .." } else { "" })
 }
