@@ -24,10 +24,8 @@ pub struct SlotSeen {
 impl SlotSeen {
     /// The code of its command, once it was read.
     pub fn code(self) -> Option<u8> {
-        match self.command {
-            Some([_, _, code, ..]) => Some(code),
-            None => None,
-        }
+        let command = self.command?;
+        Some(command[2])
     }
 }
 
