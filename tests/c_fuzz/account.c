@@ -21,7 +21,7 @@
 #include "device.h"
 
 enum { REQUESTS = 256, WILD_DISK = 2, LIAR = 3, GAP = 64 };
-enum { SDE = 4, DEC = 2, TFES = 0x40000000 };
+enum { SDE = 4, DEC = 2 }; /* of PxFBS: a device has an error; to clear it */
 
 typedef struct {
     gef_event event;
@@ -39,7 +39,7 @@ static struct {
     uint32_t is_ready, is_in, is_alone, cache_on; /* ports: at work; plugged in; with a command that is not queued; its new cache */
     uint32_t is_quiet;                            /* ports where no queued command begins now */
     uint32_t failed_lba[PORTS];                  /* where a load or store failed last */
-    unsigned ports, line;
+    unsigned ports;
     uint64_t tags[PORTS]; /* bit n: the queued command in slot n may be the one that failed */
 } guest;
 
@@ -167,13 +167,13 @@ static void do_event(const gef_event *event) {
         if (event->u.write.at > MEMORY || event->u.write.len > MEMORY - event->u.write.at) fail("a write past the memory", event->u.write.at);
         tell_written(event->u.write.at, event->u.write.len);
         break;
-    case GEF_EVENT_LINE: guest.line = event->u.up; break;
     case GEF_EVENT_TO_DEVICE: hear(event->port); break;
     case GEF_EVENT_BEGINS:
         if (has_device >> event->port & 1) send_signature(event->port);
         break;
     case GEF_EVENT_NOTHING:
     case GEF_EVENT_AGAIN:
+    case GEF_EVENT_LINE:
     case GEF_EVENT_MESSAGE: break;
     default: ask(event); break;
     }
