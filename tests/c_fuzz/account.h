@@ -318,8 +318,8 @@ static inline void account_stored(uint32_t port, uint32_t lba, uint32_t version)
     account.now++;
     for (slot = 0; slot < SLOTS; slot++) {
         command *it = &account.commands[slot];
-        if (it->is_open && it->is_write && it->port == port && it->version == version && lba >= it->lba && lba < it->lba + it->count)
-            it->stored[lba - it->lba] = account.now;
+        if (!it->is_open || !it->is_write || is_wild(it) || it->port != port || it->version != version) continue;
+        if (lba >= it->lba && lba < it->lba + it->count) it->stored[lba - it->lba] = account.now;
     }
 }
 
