@@ -8,6 +8,7 @@ from __future__ import annotations
 import re
 from typing import Iterator, Sequence
 
+from pm_tools.commands import Refused
 from pm_tools.guest_bytes import play_guest
 from pm_tools.program import Program
 from pm_tools.shrink import words_of
@@ -16,7 +17,7 @@ from pm_tools.trace import Trace, read_json
 MOST_LINES = 400_000
 
 
-class NotPlayed(Exception):
+class NotPlayed(Refused):
     """The scenario cannot be played so, and why."""
 
 
