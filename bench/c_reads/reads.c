@@ -30,15 +30,14 @@ static void load(const gef_event *event) {
     must("loaded", gef_machine_answer_loaded(&machine, &event->u.medium.request, from, 512 * (size_t)event->u.medium.count));
 }
 
-static void settle(void) {
+static int step(void) {
     gef_event event;
-    do {
-        must("next", gef_machine_next(&machine, &event));
-        if (event.kind == GEF_EVENT_READ_GUEST)
-            must("supply", gef_machine_supply(&machine, &event.u.read.wanted, memory + event.u.read.at, event.u.read.len));
-        if (event.kind == GEF_EVENT_WRITE_GUEST) lend(&event);
-        if (event.kind == GEF_EVENT_LOAD) load(&event);
-    } while (event.kind != GEF_EVENT_NOTHING);
+    must("next", gef_machine_next(&machine, &event));
+    if (event.kind == GEF_EVENT_READ_GUEST)
+        must("supply", gef_machine_supply(&machine, &event.u.read.wanted, memory + event.u.read.at, event.u.read.len));
+    if (event.kind == GEF_EVENT_WRITE_GUEST) lend(&event);
+    if (event.kind == GEF_EVENT_LOAD) load(&event);
+    return event.kind != GEF_EVENT_NOTHING;
 }
 
 int main(int count, char **words) {
@@ -48,11 +47,7 @@ int main(int count, char **words) {
     uint8_t fis[20];
     double start;
     if (sectors < 1 || sectors > SECTORS) return 2;
-    must("new", gef_machine_new(&machine, 0, 0));
-    must("put", gef_machine_put_disk(&machine, 0, &profile));
-    must("plug", gef_machine_plug(&machine, 0));
-    must("power", gef_machine_power_on(&machine));
-    bring_up(0);
+    begin_with(&profile);
     start = now();
     for (at = 0; at < reads; at++) {
         unsigned slot = (unsigned)(at % SLOTS);

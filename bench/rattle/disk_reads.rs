@@ -1,18 +1,14 @@
 //! Reads of 256 sectors through a disk's `on_frame` and `next_out` alone, beside a plain copy of the same bytes.
 #![tactic(auto)]
 
+mod read_fis;
+
 use disk_model::{Device, Disk, DiskPlan};
-use fis_view::{Frame, H2dFields, Stamp, h2d};
+use fis_view::{Frame, h2d};
+use read_fis::{STAMP, read_of};
 use std::alloc::{AllocError, Global};
 use std::io;
 use std::time::Instant;
-
-const STAMP: Stamp = Stamp {
-    port: 0,
-    conn: 1,
-    number: 0,
-    shown: [0; 15],
-};
 
 /// The bytes of one read.
 const BYTES: usize = 131_072;
@@ -44,21 +40,6 @@ fn copy(alloc: Global, source: &[u8], reads: u32) -> Result<u64, AllocError> {
     Ok(bytes)
 }
 
-fn read_command(alloc: Global) -> Result<Frame, AllocError> {
-    let fields = H2dFields {
-        pm_port: 0,
-        c: true,
-        command: 0x60,
-        features: 256,
-        lba: 1000,
-        device: 0x40,
-        count: 0,
-        icc: 0,
-        control: 0,
-    };
-    h2d(alloc, &fields, STAMP)
-}
-
 fn main(rt: HostRuntime) -> io::Result<()> {
     let alloc = rt.alloc();
     let reads = 20_000;
@@ -66,7 +47,7 @@ fn main(rt: HostRuntime) -> io::Result<()> {
         println!(rt; "no memory")?;
         return Ok(());
     };
-    let command = read_command(alloc)?;
+    let command = h2d(alloc, &read_of(256), STAMP)?;
     let source = vec![in alloc; 0x5A; BYTES]?;
     let start = Instant::now(&rt)?;
     let served = serve(alloc, &mut disk, &command, reads)?;

@@ -190,12 +190,6 @@ static int step(void) {
     return event.kind != GEF_EVENT_NOTHING;
 }
 
-static void settle(void) {
-    unsigned long steps = 0;
-    while (step())
-        if (++steps > 1000000) fail("still moves", steps);
-}
-
 static void see_ends(void) {
     uint32_t left, slot;
     if (!has_status) return;
@@ -246,13 +240,7 @@ static void put_fis(uint8_t *fis, unsigned slot, uint8_t code, uint32_t lba, uin
         if (lasts) fis[7] |= 0x80;
         return;
     }
-    memset(fis, 0, 20);
-    fis[0] = 0x27;
-    fis[1] = 0x80;
-    fis[2] = code;
-    fis[4] = (uint8_t)lba;
-    fis[7] = 0x40;
-    fis[12] = (uint8_t)count;
+    plain_fis(fis, code, 0, (uint8_t)lba, (uint8_t)count);
 }
 
 /* A read or a write of a few sectors. */
@@ -431,17 +419,7 @@ static void reset_port(unsigned port) {
     settle();
     if (read_register(CI) & 1) return;
     write_multiplier(port, 2, 1);
-    write_multiplier(port, 2, 0);
-    write_multiplier(port, 1, 0xFFFFFFFFu);
-}
-
-static uint8_t *saved_bytes(size_t *len) {
-    uint8_t *bytes;
-    must("size", gef_machine_state_size(&machine, len));
-    bytes = malloc(*len);
-    if (!bytes) exit(2);
-    must("save", gef_machine_save(&machine, bytes, *len, len));
-    return bytes;
+    open_port(port);
 }
 
 static void restore(const uint8_t *bytes, size_t len) {
@@ -460,7 +438,7 @@ static struct {
 
 static void save_moment(void) {
     free(moment.bytes);
-    moment.bytes = saved_bytes(&moment.len);
+    moment.bytes = state_of(&moment.len);
     memcpy(moment.memory, memory, MEMORY);
     memcpy(moment.guest, &guest, sizeof guest);
     memcpy(moment.account, &account, sizeof account);
@@ -485,7 +463,7 @@ static void save_or_go_back(void) {
     case 0: save_moment(); break;
     case 1: go_back(); break;
     default:
-        bytes = saved_bytes(&len);
+        bytes = state_of(&len);
         restore(bytes, len);
         free(bytes);
     }

@@ -65,15 +65,6 @@ static struct {
 
 static unsigned long ended_reads, ended_writes, ended_flushes, bytes_brought, fetched_again; /* what was checked */
 
-static void fill_sector(uint8_t *bytes, uint32_t port, uint32_t lba, uint32_t version) {
-    size_t at;
-    for (at = 0; at < 512; at += 8) {
-        uint32_t low = version, high = (port + 1) << 24 | (uint32_t)(at / 8) << 16 | lba;
-        memcpy(bytes + at, &low, 4);
-        memcpy(bytes + at + 4, &high, 4);
-    }
-}
-
 static void add_version(versions *to, uint32_t version) {
     unsigned at;
     for (at = 0; at < to->count; at++)
@@ -162,14 +153,14 @@ static void take_fis(command *it, const uint8_t *fis) {
 static void take_header(command *it, const uint8_t *header) {
     it->wanted_entries = header[2] | (unsigned)header[3] << 8;
     it->port = header[1] >> 4;
-    it->table = header[8] | (uint64_t)header[9] << 8 | (uint64_t)header[10] << 16 | (uint64_t)header[11] << 24;
+    it->table = dword_at(header + 8);
     if (it->port == 15) it->port = PORTS - 1; /* orders to the multiplier have no bytes */
 }
 
 static void take_entries(command *it, unsigned from, const uint8_t *bytes, size_t len) {
     for (; len >= 16 && from < ENTRIES; from++, bytes += 16, len -= 16) {
-        it->entry[from].at = bytes[0] | (uint64_t)bytes[1] << 8 | (uint64_t)bytes[2] << 16 | (uint64_t)bytes[3] << 24;
-        it->entry[from].len = 1 + (bytes[12] | (uint32_t)bytes[13] << 8 | (uint32_t)(bytes[14] & 0x3F) << 16);
+        it->entry[from].at = dword_at(bytes);
+        it->entry[from].len = 1 + (dword_at(bytes + 12) & 0x3FFFFF);
         if (it->entries <= from) it->entries = from + 1;
     }
 }

@@ -68,22 +68,21 @@ static void read_room(const gef_event *event) {
     must("supply", gef_machine_supply(&machine, &event->u.read.wanted, bytes, event->u.read.len));
 }
 
-static void settle(void) {
+static int step(void) {
     gef_event event;
-    for (;;) {
-        must("next", gef_machine_next(&machine, &event));
-        if (event.kind == GEF_EVENT_READ_GUEST) read_room(&event);
-        if (event.kind == GEF_EVENT_WRITE_GUEST) write_room(&event);
-        if (event.kind >= GEF_EVENT_LOAD && event.kind <= GEF_EVENT_DISCARD) {
-            if (event.kind == GEF_EVENT_STORE || event.kind == GEF_EVENT_DISCARD) fail("a boot that writes", event.kind);
-            if (request_count == 256) fail("too many requests", 256);
-            asked_at[request_count] = account_asked();
-            requests[request_count++] = event;
-        }
-        if (event.kind != GEF_EVENT_NOTHING) continue;
-        if (!request_count) return;
-        answer_first();
+    must("next", gef_machine_next(&machine, &event));
+    if (event.kind == GEF_EVENT_READ_GUEST) read_room(&event);
+    if (event.kind == GEF_EVENT_WRITE_GUEST) write_room(&event);
+    if (event.kind >= GEF_EVENT_LOAD && event.kind <= GEF_EVENT_DISCARD) {
+        if (event.kind == GEF_EVENT_STORE || event.kind == GEF_EVENT_DISCARD) fail("a boot that writes", event.kind);
+        if (request_count == 256) fail("too many requests", 256);
+        asked_at[request_count] = account_asked();
+        requests[request_count++] = event;
     }
+    if (event.kind != GEF_EVENT_NOTHING) return 1;
+    if (!request_count) return 0;
+    answer_first();
+    return 1;
 }
 
 /* ---- a line of the scenario ------------------------------------------------------------------------------------------- */

@@ -8,68 +8,19 @@
  *
  * Link it with -Wl,--wrap=malloc,--wrap=realloc, and build it with the sanitizers. Status 1 where something is not so.
  */
-#include <stdio.h>
-#include <stdlib.h>
-#include <string.h>
 #include <time.h>
-#include "gefsunk.h"
+#include "basics.h"
+#include "refusing.h"
 
 enum { PORTS = 2, TAGS = 32, SECTORS = 256, MOST_SECTORS = 40, ROOM = 512 * MOST_SECTORS };
 
 static gef_pm pm;
 static gef_disk disks[PORTS];
-static uint64_t state = 88172645463325252u;
 
-/* ---- memory ------------------------------------------------------------------------------------------------------ */
-
-static int is_watched;
-static unsigned long asked, refused; /* how often memory was asked for; the one that is refused */
-
-void *__real_malloc(size_t len);
-void *__real_realloc(void *at, size_t len);
-void *__wrap_malloc(size_t len);
-void *__wrap_realloc(void *at, size_t len);
-
-void *__wrap_malloc(size_t len) {
-    return is_watched && ++asked == refused ? 0 : __real_malloc(len);
-}
-
-void *__wrap_realloc(void *at, size_t len) {
-    return is_watched && ++asked == refused ? 0 : __real_realloc(at, len);
-}
-
-/* A call, and the same once more where memory was refused. */
-#define CALL(status, call) \
-    do { \
-        is_watched = 1; \
-        (status) = (call); \
-        if ((status) == GEF_NO_MEMORY && refused) (status) = (call); \
-        is_watched = 0; \
-    } while (0)
-
-static uint32_t pick(uint32_t below) {
-    state ^= state << 13;
-    state ^= state >> 7;
-    state ^= state << 17;
-    return (uint32_t)(state >> 20) % below;
-}
-
-static void fail(const char *what, unsigned long number) {
-    printf("%s: %lu\n", what, number);
-    exit(1);
-}
-
-static void must(const char *what, gef_status status) {
-    if (status != GEF_OK) fail(what, (unsigned long)status);
-}
-
-/* Each sector has these bytes, from the start on and for good. */
+/* Each sector has its bytes from the start on and for good. */
 static void fill(uint8_t *bytes, uint32_t port, uint64_t lba, uint32_t count) {
     uint32_t at;
-    for (at = 0; at < 64 * count; at++) {
-        uint64_t word = (uint64_t)(port + 1) << 56 | (uint64_t)(at % 64) << 32 | (lba + at / 64);
-        memcpy(bytes + 8 * at, &word, 8);
-    }
+    for (at = 0; at < count; at++) fill_sector(bytes + 512 * at, port, lba + at, 0);
 }
 
 /* ---- the host ----------------------------------------------------------------------------------------------------- */
@@ -107,13 +58,8 @@ static void issue(unsigned port, unsigned tag, int is_write, uint32_t lba, uint3
     it.count = count;
     commands[port][tag] = it;
     is_waiting[port] = 1;
-    fis[0] = 0x27;
+    queued_fis(fis, tag, is_write ? 0x61 : 0x60, lba, count);
     fis[1] = (uint8_t)(0x80 | port);
-    fis[2] = is_write ? 0x61 : 0x60;
-    fis[3] = (uint8_t)count;
-    fis[4] = (uint8_t)lba;
-    fis[7] = 0x40;
-    fis[12] = (uint8_t)(tag << 3);
 }
 
 /* The next bytes of a write, as many as a Data FIS has. */
@@ -146,10 +92,6 @@ static void end(unsigned port, unsigned tag) {
     ended++;
 }
 
-static uint32_t number_at(const uint8_t *bytes) {
-    return bytes[0] | (uint32_t)bytes[1] << 8 | (uint32_t)bytes[2] << 16 | (uint32_t)bytes[3] << 24;
-}
-
 static void hear(const uint8_t *fis, size_t len) {
     unsigned port = fis[1] & 15, tag;
     if (port == 15) return;
@@ -163,7 +105,7 @@ static void hear(const uint8_t *fis, size_t len) {
         if (fis[1] & 0x80) send_data(port);
     }
     for (tag = 0; tag < TAGS && fis[0] == 0xA1; tag++)
-        if (number_at(fis + 4) >> tag & 1) end(port, tag);
+        if (dword_at(fis + 4) >> tag & 1) end(port, tag);
 }
 
 /* ---- media -------------------------------------------------------------------------------------------------------- */
@@ -268,16 +210,7 @@ static void settle_all(void) {
 /* ---- scenes ------------------------------------------------------------------------------------------------------- */
 
 static void write_register(unsigned port, uint8_t number, uint32_t value) {
-    uint8_t *fis = say(20);
-    fis[0] = 0x27;
-    fis[1] = 0x8F;
-    fis[2] = 0xE8;
-    fis[3] = number;
-    fis[4] = (uint8_t)(value >> 8);
-    fis[5] = (uint8_t)(value >> 16);
-    fis[6] = (uint8_t)(value >> 24);
-    fis[7] = (uint8_t)port;
-    fis[12] = (uint8_t)value;
+    multiplier_fis(say(20), port, number, value);
     settle();
 }
 

@@ -7,10 +7,7 @@
 #ifndef DRIVER_H
 #define DRIVER_H
 
-#include <stdio.h>
-#include <stdlib.h>
-#include <string.h>
-#include "gefsunk.h"
+#include "basics.h"
 
 #ifndef CALL
 #define CALL(status, call) ((status) = (call))
@@ -21,26 +18,15 @@ enum { LIST = 0x1000, AREA = 0x2000, TABLES = 0x4000, TABLE = 0x100, DATA = 0x80
 
 static uint8_t memory[MEMORY];
 static gef_machine machine;
-static uint64_t state = 88172645463325252u;
 static int is_command_based; /* no FIS-based switching */
 
-/* Does what the machine asks for, until it asks for nothing: each program has one of its own. */
-static void settle(void);
+/* Does the next thing that the machine asks for, and answers whether there was one: each program has one of its own. */
+static int step(void);
 
-static inline uint32_t pick(uint32_t below) {
-    state ^= state << 13;
-    state ^= state >> 7;
-    state ^= state << 17;
-    return (uint32_t)(state >> 20) % below;
-}
-
-static inline void fail(const char *what, unsigned long number) {
-    printf("%s: %lu\n", what, number);
-    exit(1);
-}
-
-static inline void must(const char *what, gef_status status) {
-    if (status != GEF_OK) fail(what, (unsigned long)status);
+static inline void settle(void) {
+    unsigned long steps = 0;
+    while (step())
+        if (++steps > 1000000) fail("still moves", steps);
 }
 
 /* ---- the guest's memory ------------------------------------------------------------------------------------------- */
@@ -120,29 +106,10 @@ static inline void issue(unsigned slot, unsigned port, int is_queued) {
     write_register(CI, 1u << slot);
 }
 
-/* A queued command, 60h or 61h, of 1 to 65,535 sectors. */
-static inline void queued_fis(uint8_t *fis, unsigned slot, uint8_t code, uint32_t lba, uint32_t count) {
-    memset(fis, 0, 20);
-    fis[0] = 0x27;
-    fis[1] = 0x80;
-    fis[2] = code;
-    fis[3] = (uint8_t)count;
-    fis[4] = (uint8_t)lba;
-    fis[5] = (uint8_t)(lba >> 8);
-    fis[6] = (uint8_t)(lba >> 16);
-    fis[7] = 0x40;
-    fis[11] = (uint8_t)(count >> 8);
-    fis[12] = (uint8_t)(slot << 3);
-}
-
 /* Any other command, with the number of its sectors, in slot 0; its bytes lie at the slot's data. */
 static inline void plain(unsigned port, uint8_t code, uint8_t features, uint8_t lba, uint8_t count, uint32_t bytes, int is_write) {
-    uint8_t fis[20] = {0x27, 0x80};
-    fis[2] = code;
-    fis[3] = features;
-    fis[4] = lba;
-    fis[7] = 0x40;
-    fis[12] = count;
+    uint8_t fis[20];
+    plain_fis(fis, code, features, lba, count);
     put_command(0, port, fis, is_write, bytes != 0);
     if (bytes) put_entry(0, 0, data_of(0), bytes);
     issue(0, port, 0);
@@ -151,13 +118,8 @@ static inline void plain(unsigned port, uint8_t code, uint8_t features, uint8_t 
 
 /* Writes a register of the multiplier. */
 static inline void write_multiplier(unsigned port, uint8_t number, uint32_t value) {
-    uint8_t fis[20] = {0x27, 0x80, 0xE8};
-    fis[3] = number;
-    fis[4] = (uint8_t)(value >> 8);
-    fis[5] = (uint8_t)(value >> 16);
-    fis[6] = (uint8_t)(value >> 24);
-    fis[7] = (uint8_t)port;
-    fis[12] = (uint8_t)value;
+    uint8_t fis[20];
+    multiplier_fis(fis, port, number, value);
     put_command(0, 15, fis, 0, 0);
     issue(0, 15, 0);
     settle();
@@ -179,6 +141,29 @@ static inline void bring_up(unsigned ports) {
     write_register(CMD, 0x20018); /* CLO: no signature came from port 15 */
     write_register(CMD, 0x20011);
     for (port = 0; port < ports; port++) open_port(port);
+}
+
+/* A machine without a multiplier, with this disk. */
+static inline void begin_with(const gef_disk_profile *profile) {
+    must("new", gef_machine_new(&machine, 0, 0));
+    must("put", gef_machine_put_disk(&machine, 0, profile));
+    must("plug", gef_machine_plug(&machine, 0));
+    must("power", gef_machine_power_on(&machine));
+    bring_up(0);
+}
+
+/* The state of the machine, in memory of its own. */
+static inline uint8_t *state_of(size_t *len) {
+    uint8_t *bytes;
+    gef_status status;
+    CALL(status, gef_machine_state_size(&machine, len));
+    must("size", status);
+    bytes = malloc(*len);
+    if (!bytes) fail("no memory for a state", (unsigned long)*len);
+    if (gef_machine_save(&machine, bytes, *len - 1, len) != GEF_TOO_SHORT) fail("a short room", (unsigned long)*len);
+    CALL(status, gef_machine_save(&machine, bytes, *len, len));
+    must("save", status);
+    return bytes;
 }
 
 /* A reset of the link: all that was under way is gone, and each device begins anew. */

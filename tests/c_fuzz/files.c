@@ -47,14 +47,13 @@ int __wrap_fdatasync(int fd) {
 
 /* ---- the guest ---------------------------------------------------------------------------------------------------- */
 
-static void settle(void) {
+static int step(void) {
     gef_event event;
-    do {
-        must("next", gef_machine_next(&machine, &event));
-        if (event.kind == GEF_EVENT_READ_GUEST) read_guest(&event);
-        if (event.kind == GEF_EVENT_WRITE_GUEST) write_guest(&event);
-        if (gef_files_is_for(&event)) must("file", gef_files_serve(&machine, file, room, &event));
-    } while (event.kind != GEF_EVENT_NOTHING);
+    must("next", gef_machine_next(&machine, &event));
+    if (event.kind == GEF_EVENT_READ_GUEST) read_guest(&event);
+    if (event.kind == GEF_EVENT_WRITE_GUEST) write_guest(&event);
+    if (gef_files_is_for(&event)) must("file", gef_files_serve(&machine, file, room, &event));
+    return event.kind != GEF_EVENT_NOTHING;
 }
 
 /* A command of 8 sectors from sector 8 on, or of none: its Error, and the sector that it names. */
@@ -101,11 +100,7 @@ static void make(void) {
     if (file < 0 || unlink(name) || ftruncate(file, 512 * SECTORS + 100)) fail("no file", 0);
     must("sectors", (gef_status)gef_files_sectors(file, &profile.sectors));
     if (profile.sectors != SECTORS) fail("sectors", (unsigned long)profile.sectors);
-    must("new", gef_machine_new(&machine, 0, 0));
-    must("put", gef_machine_put_disk(&machine, 0, &profile));
-    must("plug", gef_machine_plug(&machine, 0));
-    must("power", gef_machine_power_on(&machine));
-    bring_up(0);
+    begin_with(&profile);
 }
 
 int main(void) {

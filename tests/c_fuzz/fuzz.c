@@ -55,6 +55,13 @@ static int after(gef_status status, uint32_t answers, uint32_t open, uint32_t la
     return status < GEF_PLUGGED_IN ? allowed(status, answers) : open && status <= GEF_BAD_STATE && later >> (status - GEF_PLUGGED_IN) & 1;
 }
 
+/* Whether the answer of a call that frees is right; the handle is closed then. */
+static int freed(gef_status status, int *is_open) {
+    if (status != (*is_open ? GEF_OK : GEF_CLOSED)) return 0;
+    *is_open = 0;
+    return 1;
+}
+
 /* One call; 0 where its answer is none that the header allows. */
 static int call(gef_pm *pm, int *is_open) {
     static uint8_t room[GEF_FIS_ROOM];
@@ -72,10 +79,7 @@ static int call(gef_pm *pm, int *is_open) {
         return allowed(status, BIT(GEF_OK) | BIT(GEF_BAD_PORTS)) && (status == GEF_OK) == (port >= 1 && port <= 15);
     case 1:
         if (port & 0x1C) return 1;
-        status = gef_pm_free(pm);
-        if (status != (*is_open ? GEF_OK : GEF_CLOSED)) return 0;
-        *is_open = 0;
-        return 1;
+        return freed(gef_pm_free(pm), is_open);
     case 2:
         status = gef_pm_plug(pm, port);
         return allowed(status, closed | (open & (BIT(GEF_OK) | BIT(GEF_NO_PORT) | BIT(GEF_ALREADY_THERE))));
@@ -191,39 +195,48 @@ static int is_request(const gef_event *event) {
     return event->kind >= GEF_EVENT_FLUSH || (count >= 1 && count <= 2048 && lba + count <= 281474976710655u);
 }
 
-/* ---- a disk -------------------------------------------------------------------------------------------------------- */
+/* ---- answers to disks ---------------------------------------------------------------------------------------------- */
 
 static uint8_t bytes_of_sectors[2048 * 512];
 
+/* Either of both handles calls, the one that is no null pointer. */
+#define OF_EITHER(name, ...) (machine ? gef_machine_##name(machine, __VA_ARGS__) : gef_disk_##name(disk, __VA_ARGS__))
+
 /* An answer to a request of a disk, or a look at it; 0 where what comes of it is none that the header allows. */
-static int answer_disk(gef_disk *disk, asked *events, uint32_t closed, uint32_t open) {
+static int answer(gef_disk *disk, gef_machine *machine, asked *events, uint32_t closed, uint32_t open) {
+    uint32_t other_disk = machine ? AFTER(GEF_OTHER_DISK) : 0, others = other_disk | AFTER(GEF_NOT_OUT) | AFTER(GEF_OTHER_KIND);
     const gef_event *event = one_of(events);
     gef_request request = request_of(event);
-    uint8_t kind = next();
+    uint8_t kind = next(), other;
     size_t len = 0, room = next() & 1 ? sizeof bytes_of_sectors : next();
+    uint32_t good = closed | (open & BIT(GEF_OK));
     gef_range range;
     gef_status status;
     switch (kind % 6) {
     case 0:
-        status = gef_disk_answer_loaded(disk, &request, bytes_of_sectors, kind & 0x80 ? room : 512 * (size_t)event->u.medium.count);
-        return after(status, closed | (open & BIT(GEF_OK)), open, AFTER(GEF_NOT_OUT) | AFTER(GEF_OTHER_KIND) | AFTER(GEF_OTHER_LENGTH));
+        len = kind & 0x80 ? room : 512 * (size_t)event->u.medium.count;
+        status = OF_EITHER(answer_loaded, &request, bytes_of_sectors, len);
+        return after(status, good, open, others | AFTER(GEF_OTHER_LENGTH));
     case 1:
     case 2:
-        status = gef_disk_answer_done(disk, &request);
-        return after(status, closed | (open & BIT(GEF_OK)), open, AFTER(GEF_NOT_OUT) | AFTER(GEF_OTHER_KIND));
+        status = OF_EITHER(answer_done, &request);
+        return after(status, good, open, others);
     case 3:
-        status = gef_disk_answer_failed(disk, &request, kind & 0x80 ? next() : GEF_ABRT, event->u.medium.lba + (kind >> 6 & 1));
-        return after(status, closed | (open & BIT(GEF_OK)), open,
-                     AFTER(GEF_BAD_ERROR) | AFTER(GEF_NOT_OUT) | AFTER(GEF_OTHER_KIND) | AFTER(GEF_OTHER_SECTOR));
+        other = kind & 0x80 ? next() : GEF_ABRT;
+        status = OF_EITHER(answer_failed, &request, other, event->u.medium.lba + (kind >> 6 & 1));
+        return after(status, good, open, others | AFTER(GEF_BAD_ERROR) | AFTER(GEF_OTHER_SECTOR));
     case 4:
-        status = gef_disk_stored(disk, &request, next(), bytes_of_sectors, room, &len);
-        if (len > room) return 0;
-        return after(status, closed | (open & BIT(GEF_OK)), open, AFTER(GEF_NOT_OUT) | AFTER(GEF_OTHER_KIND));
+        other = next();
+        status = OF_EITHER(stored, &request, other, bytes_of_sectors, room, &len);
+        return len <= room && after(status, good, open, others);
     default:
-        status = gef_disk_discarded(disk, next() & 3, &range);
-        return allowed(status, closed | (open & (BIT(GEF_OK) | BIT(GEF_NOTHING))));
+        other = next() & 3;
+        status = machine ? gef_machine_discarded(machine, &request, other, &range) : gef_disk_discarded(disk, other, &range);
+        return after(status, good | (open & BIT(GEF_NOTHING)), open, other_disk);
     }
 }
+
+/* ---- a disk -------------------------------------------------------------------------------------------------------- */
 
 /* One call on a disk; 0 where its answer is none that the header allows. */
 static int call_disk(gef_disk *disk, int *is_open, asked *events) {
@@ -244,10 +257,7 @@ static int call_disk(gef_disk *disk, int *is_open, asked *events) {
         return made(status, &profile);
     case 1:
         if (kind & 0x1C) return 1;
-        status = gef_disk_free(disk);
-        if (status != (*is_open ? GEF_OK : GEF_CLOSED)) return 0;
-        *is_open = 0;
-        return 1;
+        return freed(gef_disk_free(disk), is_open);
     case 2: return allowed(gef_disk_plug(disk), closed | (open & BIT(GEF_OK)));
     case 3:
     case 4:
@@ -264,7 +274,7 @@ static int call_disk(gef_disk *disk, int *is_open, asked *events) {
         status = gef_disk_next(disk, &event);
         if (status == GEF_OK && event.kind) events->kept[events->count++ % 4] = event;
         return allowed(status, closed | (open & BIT(GEF_OK))) && (status != GEF_OK || !event.kind || is_request(&event));
-    default: return answer_disk(disk, events, closed, open);
+    default: return answer(disk, 0, events, closed, open);
     }
 }
 
@@ -331,36 +341,6 @@ static int any_write(gef_machine *machine, uint8_t kind, uint32_t closed, uint32
     value = (uint64_t)value_of(next()) << (kind & 0x40 ? kind & 0x1F : 0);
     status = gef_machine_write(machine, at, width, value);
     return allowed(status, closed | (open & (is_width ? BIT(GEF_OK) : BIT(GEF_BAD_WIDTH))));
-}
-
-/* An answer to a request of a disk, or a look at it. */
-static int answer_machine(gef_machine *machine, asked *events, uint32_t closed, uint32_t open) {
-    static const uint32_t others = AFTER(GEF_OTHER_DISK) | AFTER(GEF_NOT_OUT) | AFTER(GEF_OTHER_KIND);
-    const gef_event *event = one_of(events);
-    gef_request request = request_of(event);
-    uint8_t kind = next();
-    size_t len = 0, room = next() & 1 ? sizeof bytes_of_sectors : next();
-    gef_range range;
-    gef_status status;
-    switch (kind % 6) {
-    case 0:
-        status = gef_machine_answer_loaded(machine, &request, bytes_of_sectors, kind & 0x80 ? room : 512 * (size_t)event->u.medium.count);
-        return after(status, closed | (open & BIT(GEF_OK)), open, others | AFTER(GEF_OTHER_LENGTH));
-    case 1:
-    case 2:
-        status = gef_machine_answer_done(machine, &request);
-        return after(status, closed | (open & BIT(GEF_OK)), open, others);
-    case 3:
-        status = gef_machine_answer_failed(machine, &request, kind & 0x80 ? next() : GEF_ABRT, event->u.medium.lba + (kind >> 6 & 1));
-        return after(status, closed | (open & BIT(GEF_OK)), open, others | AFTER(GEF_BAD_ERROR) | AFTER(GEF_OTHER_SECTOR));
-    case 4:
-        status = gef_machine_stored(machine, &request, next(), bytes_of_sectors, room, &len);
-        if (len > room) return 0;
-        return after(status, closed | (open & BIT(GEF_OK)), open, others);
-    default:
-        status = gef_machine_discarded(machine, &request, next() & 3, &range);
-        return after(status, closed | (open & (BIT(GEF_OK) | BIT(GEF_NOTHING))), open, AFTER(GEF_OTHER_DISK));
-    }
 }
 
 /* What is to be done is asked for, and done at once where it is of the guest's memory. */
@@ -444,10 +424,7 @@ static int call_machine(gef_machine *machine, int *is_open, asked *events) {
         return status == (ports > 15 ? GEF_BAD_PORTS : GEF_OK);
     case 1:
         if (kind & 0x1C) return 1;
-        status = gef_machine_free(machine);
-        if (status != (*is_open ? GEF_OK : GEF_CLOSED)) return 0;
-        *is_open = 0;
-        return 1;
+        return freed(gef_machine_free(machine), is_open);
     case 2: return wide_read(machine, (uint32_t)next() << (kind & 3), next() % 10u, *is_open);
     case 3: return any_write(machine, kind, closed, open);
     case 4:
@@ -461,7 +438,7 @@ static int call_machine(gef_machine *machine, int *is_open, asked *events) {
     case 9:
         status = kind & 0x80 ? gef_machine_no_memory(machine, &wanted) : gef_machine_supply(machine, &wanted, room, room_len);
         return after(status, closed | (open & BIT(GEF_OK)), open, AFTER(GEF_NOT_WANTED));
-    case 10: return answer_machine(machine, events, closed, open);
+    case 10: return answer(0, machine, events, closed, open);
     default: put_command(kind); return 1;
     }
 }

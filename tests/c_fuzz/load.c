@@ -59,10 +59,6 @@ static int step(void) {
     return event.kind != GEF_EVENT_NOTHING;
 }
 
-static void settle(void) {
-    while (step()) continue;
-}
-
 static void begin(const load *of) {
     gef_disk_profile profile = {"LOAD", 0, "1", 0, 0, 512, 1, 32, 0, GEF_LEAST_LIMIT};
     char serial[] = "DISK A";
@@ -84,13 +80,6 @@ static void begin(const load *of) {
 
 /* ---- the load ----------------------------------------------------------------------------------------------------- */
 
-/* A sector of each version of each place has bytes of its own. */
-static void fill(uint8_t *bytes, uint32_t port, uint32_t lba, uint32_t version) {
-    uint64_t word = (uint64_t)port << 56 | (uint64_t)lba << 32 | version;
-    size_t at;
-    for (at = 0; at < 512; at += 8) memcpy(bytes + at, &word, 8);
-}
-
 static int is_taken(const slot *wanted) {
     size_t at;
     for (at = 0; at < SLOTS; at++)
@@ -111,7 +100,7 @@ static void refill(const load *of, uint32_t number) {
     if (is_taken(&wanted)) return;
     slots[number] = wanted;
     for (at = 0; at < wanted.count && wanted.is_write; at++)
-        fill(bytes + 512 * at, wanted.port, wanted.lba + at, ++versions[wanted.port][wanted.lba + at]);
+        fill_sector(bytes + 512 * at, wanted.port, wanted.lba + at, ++versions[wanted.port][wanted.lba + at]);
     queued_fis(fis, number, wanted.is_write ? 0x61 : 0x60, wanted.lba, wanted.count);
     put_command(number, wanted.port, fis, wanted.is_write, 1);
     put_entry(number, 0, data_of(number), 512 * wanted.count);
@@ -125,7 +114,7 @@ static void look(uint32_t number) {
     uint32_t at;
     for (at = it->lba; at < it->lba + it->count; at++) {
         uint32_t version = versions[it->port][at];
-        fill(bytes, it->port, at, version);
+        fill_sector(bytes, it->port, at, version);
         if (it->is_write && memcmp(bytes, media[it->port] + 512 * at, 512)) fail("a write brought other bytes", at);
         if (!it->is_write && version && memcmp(bytes, memory + data_of(number) + 512 * (at - it->lba), 512))
             fail("a read brought other bytes", at);

@@ -19,35 +19,12 @@
 #include <stdlib.h>
 #include <time.h>
 #include "counted.h"
-
-/* A call, and the same once more where memory was refused. */
-static int is_watched;
-#define CALL(status, call) \
-    do { \
-        is_watched = 1; \
-        (status) = (call); \
-        if ((status) == GEF_NO_MEMORY && refused) (status) = (call); \
-        is_watched = 0; \
-    } while (0)
-static unsigned long asked, refused; /* how often memory was asked for; the one that is refused */
+#include "refusing.h"
 
 #define SLOT_BYTES 0x2000
 #include "driver.h"
 #include "media.h"
 #include "device.h"
-
-void *__real_malloc(size_t len);
-void *__real_realloc(void *at, size_t len);
-void *__wrap_malloc(size_t len);
-void *__wrap_realloc(void *at, size_t len);
-
-void *__wrap_malloc(size_t len) {
-    return is_watched && ++asked == refused ? 0 : __real_malloc(len);
-}
-
-void *__wrap_realloc(void *at, size_t len) {
-    return is_watched && ++asked == refused ? 0 : __real_realloc(at, len);
-}
 
 /* ---- events ------------------------------------------------------------------------------------------------------- */
 
@@ -92,12 +69,6 @@ static int step(void) {
     gef_event event = next_event();
     do_event(&event);
     return event.kind != GEF_EVENT_NOTHING;
-}
-
-static void settle(void) {
-    unsigned long steps = 0;
-    while (step())
-        if (++steps > 1000000) fail("still moves", steps);
 }
 
 /* All requests are answered, until nothing is asked any more. */
@@ -145,20 +116,6 @@ static void begin(unsigned ports, uint32_t devices) {
 /* ---- saved and restored ------------------------------------------------------------------------------------------- */
 
 static unsigned long saved_seen, states_refused, states_taken, unknown_asked; /* the last: what was asked of media by unknown machines */
-
-/* The state of the machine, in memory of its own. */
-static uint8_t *state_of(size_t *len) {
-    uint8_t *bytes;
-    gef_status status;
-    CALL(status, gef_machine_state_size(&machine, len));
-    must("size", status);
-    bytes = malloc(*len);
-    if (!bytes) fail("no memory for a state", (unsigned long)*len);
-    if (gef_machine_save(&machine, bytes, *len - 1, len) != GEF_TOO_SHORT) fail("a short room", (unsigned long)*len);
-    CALL(status, gef_machine_save(&machine, bytes, *len, len));
-    must("save", status);
-    return bytes;
-}
 
 /* The machine is saved and freed; the one that is restored has the same state, and goes on. */
 static void save_and_restore(void) {
@@ -291,7 +248,7 @@ static void queue(uint32_t number, uint32_t port, int is_write, uint32_t lba, ui
     it.first = 2 + 2 * pick(256 * count - 2);
     slots[number] = it;
     for (byte = 0; byte < 512 * count; byte++) {
-        if (byte % 512 == 0) fill(sector, port, lba + byte / 512);
+        if (byte % 512 == 0) fill_sector(sector, port, lba + byte / 512, 0);
         *place(number, byte) = is_write ? sector[byte % 512] : 0xEE;
     }
     queued_fis(fis, number, is_write ? 0x61 : 0x60, lba, count);
@@ -307,7 +264,7 @@ static void look(uint32_t number) {
     uint8_t sector[512];
     uint32_t byte;
     for (byte = 0; byte < 512 * it->count; byte++) {
-        if (byte % 512 == 0) fill(sector, it->port, it->lba + byte / 512);
+        if (byte % 512 == 0) fill_sector(sector, it->port, it->lba + byte / 512, 0);
         if (*place(number, byte) != sector[byte % 512]) fail("a read brought other bytes", number);
     }
 }
@@ -372,6 +329,14 @@ static void pull_or_plug(unsigned port) {
     }
 }
 
+/* The guest keeps to the rules from the start on. */
+static void begin_honestly(unsigned ports, uint32_t devices) {
+    is_honest = 1;
+    memset(slots, 0, sizeof slots);
+    begin(ports, devices);
+    bring_up(ports);
+}
+
 static void act_honestly(unsigned ports) {
     static const uint32_t widths[4] = {1, 2, 4, 8};
     unsigned port = pick(ports ? ports : 1), number = 1 + pick(SLOTS - 1), count = 1 + pick(MOST_SECTORS);
@@ -402,10 +367,7 @@ static void play_honestly(unsigned ports) {
     unsigned at;
     uint8_t *state;
     size_t len;
-    is_honest = 1;
-    memset(slots, 0, sizeof slots);
-    begin(ports, ports == PORTS ? 1u << (PORTS - 1) : 0);
-    bring_up(ports);
+    begin_honestly(ports, ports == PORTS ? 1u << (PORTS - 1) : 0);
     is_ready = is_in & has_disk;
     for (at = 0; at < 2000; at++) act_honestly(ports);
     state = state_of(&len);
@@ -618,10 +580,7 @@ static size_t asked_at(uint32_t kind, uint64_t lba) {
  */
 static void play_errors(unsigned ports) {
     gef_event data, late, store;
-    is_honest = 1;
-    memset(slots, 0, sizeof slots);
-    begin(ports, 0);
-    bring_up(ports);
+    begin_honestly(ports, 0);
     queue(4, 0, 1, 40, 2);
     settle();
     outdate(1);
@@ -666,10 +625,7 @@ static void settle_to_write(uint64_t from) {
  * took is written.
  */
 static void play_power(unsigned ports) {
-    is_honest = 1;
-    memset(slots, 0, sizeof slots);
-    begin(ports, 0);
-    bring_up(ports);
+    begin_honestly(ports, 0);
     queue(1, 0, 0, 1, 2);
     settle();
     answer(asked_at(GEF_EVENT_LOAD, 1), 0);
@@ -691,10 +647,7 @@ typedef struct {
 /* The guest brings all up, resets the link, and has each disk do what a disk can do. */
 static void scene(found *now, unsigned ports) {
     unsigned disk, disks = ports ? ports - 1 : 1;
-    is_honest = 1;
-    memset(slots, 0, sizeof slots);
-    begin(ports, ports ? 1u << disks : 0);
-    bring_up(ports);
+    begin_honestly(ports, ports ? 1u << disks : 0);
     reset_link();
     bring_up(ports);
     for (disk = 0; disk < disks; disk++) {

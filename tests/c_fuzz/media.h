@@ -9,13 +9,6 @@
 
 enum { PORTS = 4, SECTORS = 64, MOST_SECTORS = 8, REQUESTS = 512 };
 
-/* Each sector has these bytes, from the start on and for good. */
-static void fill(uint8_t *bytes, uint32_t port, uint64_t lba) {
-    uint64_t word = (uint64_t)(port + 1) << 56 | 0x00C0FFEE00000000u | lba;
-    size_t at;
-    for (at = 0; at < 512; at += 8) memcpy(bytes + at, &word, 8);
-}
-
 /* A request that was not answered yet, and whether something may have ended it: then its answer may be refused. */
 typedef struct {
     gef_event event;
@@ -38,7 +31,7 @@ static void check_store(const gef_event *event) {
     must("stored", gef_machine_stored(&machine, &event->u.medium.request, cut, bytes + cut, sizeof bytes - cut, &rest));
     if (len != cut || len + rest != whole) fail("a store has other bytes than its sectors", (unsigned long)(len + rest));
     for (at = 0; at < event->u.medium.count && is_honest; at++) {
-        fill(wanted, event->port, event->u.medium.lba + at);
+        fill_sector(wanted, event->port, event->u.medium.lba + at, 0);
         if (memcmp(bytes + 512 * at, wanted, 512)) fail("a store brought other bytes", (unsigned long)(event->u.medium.lba + at));
     }
 }
@@ -124,7 +117,7 @@ static gef_status answer_well(const gef_event *event) {
         CALL(status, gef_machine_answer_done(&machine, &event->u.medium.request));
         return status;
     }
-    for (at = 0; at < event->u.medium.count; at++) fill(bytes + 512 * at, event->port, event->u.medium.lba + at);
+    for (at = 0; at < event->u.medium.count; at++) fill_sector(bytes + 512 * at, event->port, event->u.medium.lba + at, 0);
     CALL(status, gef_machine_answer_loaded(&machine, &event->u.medium.request, bytes, 512 * (size_t)event->u.medium.count));
     return status;
 }

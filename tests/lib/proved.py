@@ -23,6 +23,32 @@ def preloaded(name, folder):
     return library
 
 
+def ended(command, text=b"", environment=None):
+    """The status of a run, None where it takes more than a minute, the output, and what stands on standard error."""
+    try:
+        run = subprocess.run(command, input=text, capture_output=True, env=environment, timeout=60)
+    except subprocess.TimeoutExpired:
+        return None, b"", b""
+    return run.returncode, run.stdout, run.stderr
+
+
+def measured(command, source, printed=os.devnull):
+    """Runs a program on a file: the processor time that it took, and its peak of memory in bytes."""
+    with open(source, "rb") as given, open(printed, "wb") as taken:
+        child = os.posix_spawn(command[0], command, {}, file_actions=[
+            (os.POSIX_SPAWN_DUP2, given.fileno(), 0), (os.POSIX_SPAWN_DUP2, taken.fileno(), 1)])
+        _, status, usage = os.wait4(child, 0)
+    if status:
+        sys.exit(f"{command[0]}: status {status}")
+    return usage.ru_utime + usage.ru_stime, usage.ru_maxrss * 1024
+
+
+def opened(disks, sectors, word="", words=""):
+    """The first lines of a scenario: so many disks, plugged in and brought up."""
+    return [f"ports {disks} capacity 4 memory 16{word}", *(f"disk {disk} sectors {sectors}{words}" for disk in range(disks)),
+            *(f"came {disk}" for disk in range(disks)), "settle 100000"]
+
+
 def end(passed, failed):
     """Ends a check: its last line counts, and its status is 1 where one failed."""
     print(f"{passed} passed, {failed} failed")

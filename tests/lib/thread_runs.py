@@ -1,7 +1,13 @@
 """Runs of `pm_trace threads`, for the check and the measurement of that name."""
 import re
+import signal
+import sys
 
 AREA, SLOTS = 0x101000, 30
+
+# A signal that ends this process ends the run that it waits for too.
+for number in (signal.SIGHUP, signal.SIGINT, signal.SIGTERM):
+    signal.signal(number, lambda number, _: sys.exit(128 + number))
 
 
 def are_done(ended, reads):

@@ -17,19 +17,17 @@ from __future__ import annotations
 
 import argparse
 import sys
-from pathlib import Path
 from typing import Optional, Sequence
 
+from pm_tools.commands import add_trace, parser_of, reading
 from pm_tools.ladder import Window, ladder_of
 from pm_tools.page import page_of
 from pm_tools.svg import svg_of
 from pm_tools.trace import NotATrace, read_trace
 
-REFUSED, UNREADABLE = 1, 4
-
 
 def parser() -> argparse.ArgumentParser:
-    words = argparse.ArgumentParser(prog="pm_chart", description=__doc__, formatter_class=argparse.RawDescriptionHelpFormatter)
+    words = parser_of("pm_chart", __doc__)
     words.add_argument("--html", action="store_true", help="a page of HTML in place of a picture")
     words.add_argument("--from", dest="first", type=int, default=0, metavar="N", help="only steps from number N on")
     words.add_argument("--to", dest="last", type=int, metavar="N", help="only steps up to number N")
@@ -37,22 +35,16 @@ def parser() -> argparse.ArgumentParser:
     words.add_argument("--page", type=int, default=50, metavar="ROWS",
                        help="name the lanes anew after each ROWS rows of a picture (50)")
     words.add_argument("--title", default="pm_trace", help="the title")
-    words.add_argument("trace", nargs="?", type=Path, metavar="TRACE", help="the trace; without it, standard input")
+    add_trace(words)
     return words
 
 
 def main(words: Optional[Sequence[str]] = None) -> int:
     given = parser().parse_args(words)
-    try:
+    with reading("pm_chart"):
         trace = read_trace(given.trace)
         ladder = ladder_of(trace.steps, Window(given.first, given.last, given.port))
         if not ladder.steps:
             raise NotATrace("no step of the trace is to be drawn")
-    except NotATrace as error:
-        print(f"pm_chart: {error}", file=sys.stderr)
-        return REFUSED
-    except (OSError, UnicodeDecodeError) as error:
-        print(f"pm_chart: cannot be read: {error}", file=sys.stderr)
-        return UNREADABLE
     sys.stdout.write(page_of(ladder, given.title) if given.html else svg_of(ladder, given.title, max(1, given.page)))
     return 0

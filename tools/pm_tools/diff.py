@@ -16,14 +16,14 @@ from __future__ import annotations
 import argparse
 import difflib
 import re
-import sys
 from pathlib import Path
 from typing import Iterator, Optional, Sequence
 
-from pm_tools.trace import CONTROL_PORT, NotATrace, Step, Trace, read_trace
+from pm_tools.commands import parser_of, reading
+from pm_tools.trace import CONTROL_PORT, Step, Trace, read_trace
 
 AROUND = 2  # how many lines that are alike stand round a difference
-DIFFERENT, UNREADABLE = 1, 4
+DIFFERENT = 1
 LOOSE = ((r"(, |of |done )?\bslot \d+( ticket \d+)?", r"\1"), (r" fis \d+", ""), (r"\btag \d+", "tag"), (r" at #\d+", ""))
 
 
@@ -98,8 +98,7 @@ def differences(one: Trace, other: Trace, is_ordered: bool, is_exact: bool) -> I
 
 
 def parser() -> argparse.ArgumentParser:
-    words = argparse.ArgumentParser(prog="pm_trace diff", description=__doc__,
-                                    formatter_class=argparse.RawDescriptionHelpFormatter)
+    words = parser_of("pm_trace diff", __doc__)
     words.add_argument("--order", action="store_true", help="compare all ports as one sequence")
     words.add_argument("--exact", action="store_true", help="numbers of FISes, slots, tags and tickets count, too")
     words.add_argument("one", type=Path, metavar="A")
@@ -109,14 +108,8 @@ def parser() -> argparse.ArgumentParser:
 
 def main(words: Optional[Sequence[str]] = None) -> int:
     given = parser().parse_args(words)
-    try:
+    with reading("pm_trace diff"):
         one, other = read_trace(given.one), read_trace(given.other)
-    except NotATrace as error:
-        print(f"pm_trace diff: {error}", file=sys.stderr)
-        return DIFFERENT
-    except (OSError, UnicodeDecodeError) as error:
-        print(f"pm_trace diff: cannot be read: {error}", file=sys.stderr)
-        return UNREADABLE
     status = 0
     for title, count, said in differences(one, other, given.order, given.exact):
         print(f"{title}: {'differs' if said else f'{count} steps alike'}")

@@ -13,6 +13,7 @@ import argparse
 import sys
 from typing import Optional, Sequence
 
+from pm_tools.commands import parser_of
 from pm_tools.fuzz_check import Checker, Violated
 from pm_tools.fuzz_make import Maker
 from pm_tools.playing import flat
@@ -73,8 +74,7 @@ def told(program: Program, seed: int, steps: int, is_shrunk: bool) -> bool:
 
 
 def parser() -> argparse.ArgumentParser:
-    words = argparse.ArgumentParser(prog="pm_trace fuzz", description=__doc__,
-                                    formatter_class=argparse.RawDescriptionHelpFormatter)
+    words = parser_of("pm_trace fuzz", __doc__)
     words.add_argument("--seed", type=int, required=True, metavar="N", help="the first seed")
     words.add_argument("--steps", type=int, default=40, metavar="N", help="how many acts a scenario has (40)")
     words.add_argument("--runs", type=int, default=1, metavar="N", help="how many seeds, one after the other (1)")

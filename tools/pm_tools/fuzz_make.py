@@ -4,11 +4,9 @@ from __future__ import annotations
 import random
 from dataclasses import dataclass, field
 
-from pm_tools.playing import round_steps
+from pm_tools.playing import STEPS, STEPS_OF_PORT, round_steps
 
 FIRST, SECTORS = 0x101000, 16  # the places of all requests
-STEPS_OF_PORT = ("pmpresence", "disktake", "disksend", "pmfromdevice", "pmdown")
-STEPS = ("pmfromhost", "pmup", "hosttake", "tick", "hostpush")
 SIGNATURE = "3440500101000000000000000100000000000000"
 # What a device answers to IDENTIFY DEVICE that has queued commands (ACS-3, 7.12.7, words 75 and 76): a PIO Setup, and Data.
 IDENTIFY = ("5f60580000000000000000000000005000020000", "46000000" + "00" * 150 + "1f00" "0001" + "00" * 358)

@@ -183,10 +183,7 @@ def recorded(lines: Sequence[Shown], printed: Sequence[str]) -> Trace:
 def play_guest(program: Program, lines: Sequence[str]) -> Trace:
     """The trace of `guest`, with bytes."""
     def play(played: Sequence[str]) -> list[str]:
-        ended = program.play(["guest", "--trace"], "".join(line + "\n" for line in played))
-        if ended.status != 0:
-            raise ValueError(f"the scenario ends with status {ended.status}: {ended.errors.strip()}")
-        return ended.printed.splitlines()
+        return program.lines(["guest", "--trace"], "".join(line + "\n" for line in played))
 
     shown = list(lines_to_play(lines, link_lines(play(lines))))
     return recorded(shown, play([one.line for one in shown]))

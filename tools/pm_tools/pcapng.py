@@ -18,10 +18,11 @@ import sys
 from pathlib import Path
 from typing import BinaryIO, Optional, Sequence
 
+from pm_tools.commands import add_trace, parser_of, reading
 from pm_tools.frames import bytes_of
-from pm_tools.playing import NotPlayed, played
+from pm_tools.playing import played
 from pm_tools.program import Program
-from pm_tools.trace import NotATrace, Step, Trace, read_trace
+from pm_tools.trace import Step, Trace, read_trace
 
 LINKTYPE_USER0 = 147
 SECTION, INTERFACE, PACKET = 0x0A0D0D0A, 1, 6
@@ -29,7 +30,6 @@ COMMENT, NAME, FLAGS = 1, 2, 2  # options; 2 is if_name of an interface, and epb
 INBOUND, OUTBOUND = 1, 2
 UP, MADE, DROPPED, IGNORED = 1, 2, 4, 8
 NONE = 0xFFFFFFFF
-REFUSED, UNREADABLE = 1, 4
 
 
 def padded(data: bytes) -> bytes:
@@ -98,24 +98,17 @@ def write_packets(trace: Trace, is_all: bool, out: BinaryIO) -> int:
 
 
 def parser() -> argparse.ArgumentParser:
-    words = argparse.ArgumentParser(prog="pm_trace pcapng", description=__doc__,
-                                    formatter_class=argparse.RawDescriptionHelpFormatter)
+    words = parser_of("pm_trace pcapng", __doc__)
     words.add_argument("--links", choices=("host", "all"), default="host", help="which links (host)")
     input_words = words.add_mutually_exclusive_group()
     input_words.add_argument("--play", type=Path, metavar="SCENARIO", help="play this scenario, in place of a trace")
-    input_words.add_argument("trace", nargs="?", type=Path, metavar="TRACE", help="the trace; without it, standard input")
+    add_trace(input_words)
     return words
 
 
 def main(words: Optional[Sequence[str]] = None) -> int:
     given = parser().parse_args(words)
-    try:
+    with reading("pm_trace pcapng"):
         trace = played(Program.found(), given.play.read_text(encoding="utf-8")) if given.play else read_trace(given.trace)
         write_packets(trace, given.links == "all", sys.stdout.buffer)
-    except (NotATrace, NotPlayed) as error:
-        print(f"pm_trace pcapng: {error}", file=sys.stderr)
-        return REFUSED
-    except (OSError, UnicodeDecodeError) as error:
-        print(f"pm_trace pcapng: cannot be read: {error}", file=sys.stderr)
-        return UNREADABLE
     return 0

@@ -10,18 +10,16 @@ from __future__ import annotations
 
 import argparse
 import json
-import sys
 from dataclasses import dataclass, field
-from pathlib import Path
 from typing import Any, Optional, Sequence
 
+from pm_tools.commands import add_trace, parser_of, reading
 from pm_tools.ladder import Bar, Window, lane_of, ladder_of, unit_of
 from pm_tools.names import note_of, short_name
 from pm_tools.trace import NotATrace, Step, read_trace
 
 UNITS, LINKS, SLOTS = 1, 2, 3
 PROCESSES = {UNITS: "units", LINKS: "links", SLOTS: "slots"}
-REFUSED, UNREADABLE = 1, 4
 
 Event = dict[str, Any]
 
@@ -126,25 +124,17 @@ def events_of(steps: list[Step]) -> list[Event]:
 
 
 def parser() -> argparse.ArgumentParser:
-    words = argparse.ArgumentParser(prog="pm_trace perfetto", description=__doc__,
-                                    formatter_class=argparse.RawDescriptionHelpFormatter)
-    words.add_argument("trace", nargs="?", type=Path, metavar="TRACE",
-                       help="the trace; without it, standard input")
+    words = parser_of("pm_trace perfetto", __doc__)
+    add_trace(words)
     return words
 
 
 def main(words: Optional[Sequence[str]] = None) -> int:
     given = parser().parse_args(words)
-    try:
+    with reading("pm_trace perfetto"):
         steps = read_trace(given.trace).steps
         if not steps:
             raise NotATrace("the trace has no step")
-    except NotATrace as error:
-        print(f"pm_trace perfetto: {error}", file=sys.stderr)
-        return REFUSED
-    except (OSError, UnicodeDecodeError) as error:
-        print(f"pm_trace perfetto: cannot be read: {error}", file=sys.stderr)
-        return UNREADABLE
     events = ",\n".join(json.dumps(event) for event in events_of(steps))
     print(f'{{"displayTimeUnit": "ns", "traceEvents": [\n{events}\n]}}')
     return 0

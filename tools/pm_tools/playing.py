@@ -9,22 +9,18 @@ import re
 from typing import Iterator, Sequence
 
 from pm_tools.guest_bytes import play_guest
-from pm_tools.program import Program
+from pm_tools.program import NotPlayed, Program
 from pm_tools.shrink import words_of
 from pm_tools.trace import Trace, read_json
 
 MOST_LINES = 400_000
-
-
-class NotPlayed(Exception):
-    """The scenario cannot be played so, and why."""
+STEPS_OF_PORT = ("pmpresence", "disktake", "disksend", "pmfromdevice", "pmdown")
+STEPS = ("pmfromhost", "pmup", "hosttake", "tick", "hostpush")
 
 
 def round_steps(ports: int) -> list[str]:
     """The lines of a round, as docs/SCENARIOS.md has them."""
-    of_port = ("pmpresence", "disktake", "disksend", "pmfromdevice", "pmdown")
-    lines = [f"step {name} {port}" for port in range(ports) for name in of_port]
-    return [*lines, *(f"step {name}" for name in ("pmfromhost", "pmup", "hosttake", "tick", "hostpush"))]
+    return [*(f"step {name} {port}" for port in range(ports) for name in STEPS_OF_PORT), *(f"step {name}" for name in STEPS)]
 
 
 def without_comment(line: str) -> str:
@@ -51,19 +47,12 @@ def flat(lines: Sequence[str]) -> Iterator[str]:
             (yield line) if block is None else block.append(line)
 
 
-def play_run(program: Program, text: str) -> Trace:
-    ended = program.play(["run", "--bytes"], text)
-    if ended.status != 0:
-        raise NotPlayed(f"the scenario ends with status {ended.status}: {ended.errors.strip()}")
-    return read_json(ended.printed.splitlines(), "what it printed")
-
-
 def played(program: Program, text: str) -> Trace:
     """The trace of a scenario, with the bytes of its FISes as far as they can be known."""
     lines = text.splitlines()
     mode = words_of(lines)[0]
     if mode == "run":
-        return play_run(program, text)
+        return read_json(program.lines(["run", "--bytes"], text), "what it printed")
     if mode == "guest":
         try:
             return play_guest(program, list(flat(lines)))

@@ -7,7 +7,13 @@ from dataclasses import dataclass
 from pathlib import Path
 from typing import Sequence
 
+from pm_tools.commands import Refused
+
 TOP = Path(__file__).resolve().parents[2]
+
+
+class NotPlayed(Refused):
+    """The scenario cannot be played so, and why."""
 
 
 @dataclass(frozen=True)
@@ -38,3 +44,10 @@ class Program:
         except subprocess.TimeoutExpired as late:
             return Ended(None, (late.stdout or b"").decode(errors="replace"), (late.stderr or b"").decode(errors="replace"))
         return Ended(run.returncode, run.stdout.decode(errors="replace"), run.stderr.decode(errors="replace"))
+
+    def lines(self, words: Sequence[str], text: str) -> list[str]:
+        """The lines that a scenario prints which ends well."""
+        ended = self.play(words, text)
+        if ended.status != 0:
+            raise NotPlayed(f"the scenario ends with status {ended.status}: {ended.errors.strip()}")
+        return ended.printed.splitlines()

@@ -16,11 +16,12 @@ import sys
 from pathlib import Path
 from typing import Callable, Optional, Sequence
 
+from pm_tools.commands import parser_of, reading
 from pm_tools.program import Program
 
 NUMBER = re.compile(r"(?<![\w:])\d+(?!\w)")
 WORDS = re.compile(r"#\s*pm_trace\s+(.+)")
-NOT_THERE, UNREADABLE = 1, 4
+NOT_THERE = 1
 
 Lines = list[str]
 Test = Callable[[Lines], bool]
@@ -149,8 +150,7 @@ def words_of(lines: Lines) -> list[str]:
 
 
 def parser() -> argparse.ArgumentParser:
-    words = argparse.ArgumentParser(prog="pm_trace shrink", description=__doc__,
-                                    formatter_class=argparse.RawDescriptionHelpFormatter)
+    words = parser_of("pm_trace shrink", __doc__)
     words.add_argument("--keep", required=True, metavar="PATTERN", help="what the output has to have still")
     words.add_argument("--words", metavar="WORDS", help="the words of pm_trace, as one: 'run --only faults'")
     words.add_argument("scenario", type=Path, metavar="FILE")
@@ -159,11 +159,8 @@ def parser() -> argparse.ArgumentParser:
 
 def main(words: Optional[Sequence[str]] = None) -> int:
     given = parser().parse_args(words)
-    try:
+    with reading("pm_trace shrink"):
         all_lines = given.scenario.read_text(encoding="utf-8").splitlines()
-    except (OSError, UnicodeDecodeError) as error:
-        print(f"pm_trace shrink: cannot be read: {error}", file=sys.stderr)
-        return UNREADABLE
     lines = [line.strip() for line in all_lines if line.strip() and not line.startswith("#")]
     try:
         keeper = Keeper(Program.found(), given.words.split() if given.words else words_of(all_lines), given.keep)

@@ -8,6 +8,8 @@ from dataclasses import dataclass, replace
 from pathlib import Path
 from typing import Any, Iterable, Iterator, Optional
 
+from pm_tools.commands import Refused
+
 CONTROL_PORT = 15
 
 # What only `guest --json` tells of. The units are those that do it.
@@ -17,7 +19,7 @@ GUEST_ACTS = {"reads": "driver", "writes": "driver", "puts": "driver", "ignores"
 GUEST_TROUBLE = ("ignores", "warns", "refuses", "drops", "unheard", "open")
 
 
-class NotATrace(Exception):
+class NotATrace(Refused):
     """The input is no trace, and why."""
 
 
