@@ -1,2 +1,4 @@
 pub mod Origins
 pub mod Parts
+pub mod Commands
+pub mod Ends

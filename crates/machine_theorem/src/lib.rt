@@ -4,6 +4,10 @@
 //! the disks.
 #![tactic(auto)]
 
+mod commands;
+mod ends;
 mod parts;
 
+pub use commands::commands_come_from_slots;
+pub use ends::ends_come_from_devices;
 pub use parts::payload_comes_from_devices;
