@@ -11,3 +11,4 @@ mod FromHost
 mod Names
 mod EndSent
 mod Falls
+mod AtMoments

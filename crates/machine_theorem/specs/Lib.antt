@@ -2,3 +2,4 @@ pub mod Origins
 pub mod Parts
 pub mod Commands
 pub mod Ends
+pub mod Moments
