@@ -69,7 +69,7 @@ first_none : (device : Option ℕ) → (first_port device).down ≡ None
 first_none None = refl
 first_none (Some conn) = refl
 
-opening_none : (legacy is_there : Bool) (ports n : ℕ) → (port_at (opening_multiplier ports legacy is_there) n).down ≡ None
+pub opening_none : (legacy is_there : Bool) (ports n : ℕ) → (port_at (opening_multiplier ports legacy is_there) n).down ≡ None
 opening_none false is_there ports n = ap (λ (p : port.PortState). p.down) (of_empty 15 n)
 opening_none true is_there ports n =
     kept_part (λ p. p.down) (replicate 15 port.empty_port) 0 (first_port (if is_there then Some 1 else None))

@@ -66,7 +66,7 @@ no_some {A = A} {x = x} h = none-some x h
 -- ---- lists
 
 -- a list, with one more or none
-abbrev and_one : List Stamped → Bool → Stamped → List Stamped
+abbrev pub and_one : List Stamped → Bool → Stamped → List Stamped
 and_one was b frame = was ++ (if b then frame ∷ [] else [])
 
 with_none : (now was : List Stamped) (b : Bool) (frame : Stamped) → b ≡ false → now ≡ was → now ≡ and_one was b frame
@@ -96,7 +96,7 @@ present_by false p conn is = absurd (no_some is)
 present : (m : PmState) (n conn : ℕ) → passes_to m n ≡ Some conn → (port_at m n).present ≡ Some conn
 present m n conn is = present_by _ (port_at m n).present conn is
 
-abbrev down_of : PmState → ℕ → Option Stamped
+abbrev pub down_of : PmState → ℕ → Option Stamped
 down_of m n = (port_at m n).down
 
 kept_down : (m : PmState) (k : ℕ) (p : port.PortState) → p.down ≡ down_of m k → (n : ℕ) → (get_or (set m.ports k p) n port.empty_port).down ≡ down_of m n
@@ -153,7 +153,7 @@ device_fell old k conn frame (passed.Down m) new is h n =
 device_fell old k conn frame passed.Control new is h n = absurd h
 device_fell old k conn frame passed.Dropped new is h n = absurd h
 
-host_fell : (old : PmState) (frame : Stamped) (went : Passed) (new : PmState) → FromHostRule old frame (Ok went) new → (n : ℕ) → Fell old new went frame n
+pub host_fell : (old : PmState) (frame : Stamped) (went : Passed) (new : PmState) → FromHostRule old frame (Ok went) new → (n : ℕ) → Fell old new went frame n
 host_fell old frame went new h n =
     by_bool (Fell old new went frame n) (ToControl old frame (Ok went) new)
     (MatchOption (passes_to old (pm_port frame)) (ToNobody old (Ok went) new) (λ conn. ToDevice old (pm_port frame) conn frame (Ok went) new))
@@ -281,7 +281,7 @@ straight_same old new went frame n out is =
     (with_none (option_to_list (waits_down (Device new) n)) (option_to_list (waits_down (Device old) n)) false (falling old.seat.last frame) refl
     (ap (λ (s : StraightState). option_to_list (waits_down (Device s) n)) is))
 
-straight_fell : (old : StraightState) (frame : Stamped) (went : Passed) (new : StraightState) → straight.SendsStraight old frame (Ok went) new → (n : ℕ)
+pub straight_fell : (old : StraightState) (frame : Stamped) (went : Passed) (new : StraightState) → straight.SendsStraight old frame (Ok went) new → (n : ℕ)
     → FellTo (Device old) (Device new) went frame n
 straight_fell old frame went new h n =
     by_bool (FellTo (Device old) (Device new) went frame n) _ ((sent went ≡ sent passed.Dropped) × (new ≡ old)) old.seat.is_there h
@@ -435,7 +435,7 @@ pulls_at (Multiplier old) k r (Multiplier new) h n same = pulls_fan old k r new 
 pulls_at (Device old) k r (Multiplier new) h n same = absurd h
 pulls_at (Multiplier old) k r (Device new) h n same = absurd h
 
-pulls_none : (r : Result (Unit {0}) NotThere) (old new : FanOut) → MatchResult r (λ _. ⊥) (λ _. new ≡ old) → new ≡ old
+pub pulls_none : (r : Result (Unit {0}) NotThere) (old new : FanOut) → MatchResult r (λ _. ⊥) (λ _. new ≡ old) → new ≡ old
 pulls_none (Ok x) old new h = absurd h
 pulls_none (Err e) old new h = h
 

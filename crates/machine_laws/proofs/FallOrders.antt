@@ -17,10 +17,10 @@ use Rattle.ahci_controller.specs.declared.next.Next.{Next}
 use Rattle.ahci_controller.specs.declared.next.Next.TheVariants as next
 use Rattle.controller_laws.specs.Sources.{CoreHasSupplied, IsIssuedFrom, command_of}
 use Rattle.machine_laws.proofs.Calls.{ruled}
-use Rattle.machine_laws.specs.Feeding.{IsFisOf, IsOrderOf, OrdersAreIssued}
+use Rattle.machine_laws.specs.Feeding.{IsFisOf, IsOrderOf, OrdersAreIssued, OrdersAreOfSlots}
 
 -- what it says to do next, if it is a command, is the one of its slot
-abbrev IsSound : ControllerState → Next → Type 0
+abbrev pub IsSound : ControllerState → Next → Type 0
 IsSound c (next.Order dev slot fis) = IsOrderOf c dev slot fis
 IsSound c said = Unit {0}
 
@@ -98,7 +98,7 @@ same_core c (next.Counted x) h = tt
 same_core c next.Nothing h = tt
 same_core c (next.Read ask) h = tt
 
-turns : (c : ControllerState) (result : Next) (d : ControllerState) → Turns c result d → IsSound c result
+pub turns : (c : ControllerState) (result : Next) (d : ControllerState) → Turns c result d → IsSound c result
 turns c result d h = by (next_write c) (payload_sound c (λ s. next.Payload s.write) (payload_step c) (λ s. tt)) h
   where
     by : (o : Option Next) → MatchOption o (Unit {0}) (IsSound c)
@@ -119,3 +119,6 @@ issued law old dev slot fis new rules h =
           (subst (λ (o : Option core_command.Command). MatchOption o (Unit {0}) (IsIssuedFrom (command_of source))) is.is
           (law old.controller (ruled old rules) slot sources are source from));
     }
+
+pub of_slots : OrdersAreOfSlots
+of_slots c d dev slot fis h = turns c (next.Order dev slot fis) d h

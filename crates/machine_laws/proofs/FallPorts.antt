@@ -117,7 +117,7 @@ kept_by : (b : Bool) (k n : ℕ) (old new : MachineState) → (k == n) ≡ b →
 kept_by true k n old new is here there = subst (λ (j : ℕ). DownOf new j ≡ DownOf old j) (eqb-true k n is) here
 kept_by false k n old new is here there = there is
 
-abbrev down_in : List Bay → ℕ → Option Stamped
+abbrev pub down_in : List Bay → ℕ → Option Stamped
 down_in l n = (get_or l n empty_bay).down
 
 -- a bay is changed, and what it was given stays
@@ -192,7 +192,12 @@ stays : (a : Act) (k n : ℕ) (old new : MachineState) → acts.Does old a new �
 stays a k n old new h is down fan =
     still old new n (kept_by (k == n) k n old new refl down (λ off. off_bay old new n (moved a old new n h (is ∙ off)))) fan
 
-moves : (a : Act) (old new : MachineState) (n : ℕ) → acts.Does old a new → connection_at new.fan n ≡ connection_at old.fan n → begins (Moved a) n ≡ false
+-- the connection has to be the same where a frame goes
+abbrev pub NeedsMove : Act → MachineState → MachineState → ℕ → Type 0
+NeedsMove (act.Sends went) old new n = connection_at new.fan n ≡ connection_at old.fan n
+NeedsMove a old new n = Unit {0}
+
+moves : (a : Act) (old new : MachineState) (n : ℕ) → acts.Does old a new → NeedsMove a old new n → begins (Moved a) n ≡ false
     → Passes old new n (ends old (Moved a) n) (falls old (Moved a) n)
 moves act.Rests old new n h same go = quiet act.Rests old new n h refl (fan_same old new n (rests_fan old new h))
 moves (act.Writes w) old new n h same go = quiet (act.Writes w) old new n h refl (fan_same old new n (ap (λ (m : MachineState). m.fan) h.rest))
@@ -227,7 +232,7 @@ moves (act.Asks id request) old new n h same go =
 
 -- ---- calls
 
-same : (old new : MachineState) (n : ℕ) → new ≡ old → Passes old new n [] []
+pub same : (old new : MachineState) (n : ℕ) → new ≡ old → Passes old new n [] []
 same old new n is = still old new n (ap (λ (m : MachineState). DownOf m n) is) (ap (λ (m : MachineState). waits_down m.fan n) is)
 
 beside : (old new : MachineState) (n : ℕ) → new.bays ≡ old.bays → new.fan ≡ old.fan → Passes old new n [] []
@@ -313,7 +318,7 @@ pulled k old new told n h conn =
     (fans.pulls old.fan k there.answer new.fan there.pulls.pulls n conn))
     (λ outside is. same old new n is.1)
 
-taken_fan : (k : ℕ) (old new : MachineState) (told : Result Inside PortFault) → TakesUnit k old told new → new.fan ≡ old.fan
+pub taken_fan : (k : ℕ) (old new : MachineState) (told : Result Inside PortFault) → TakesUnit k old told new → new.fan ≡ old.fan
 taken_fan k old new told h =
     by_bool (new.fan ≡ old.fan)
     (MatchBool (is_empty (bay_at old k).unit) (IsErrOf told Absent × (new ≡ on_bay old k (with_unit (bay_at old k) Empty)))
@@ -324,7 +329,7 @@ taken_fan k old new told h =
     (λ empty is. ap (λ (m : MachineState). m.fan) is.1) (λ full is. ap (λ (m : MachineState). m.fan) is.1))
     (λ outside is. ap (λ (m : MachineState). m.fan) is.1)
 
-taken : (k : ℕ) (old new : MachineState) (told : Result Inside PortFault) (n : ℕ) → TakesUnit k old told new → Passes old new n [] []
+pub taken : (k : ℕ) (old new : MachineState) (told : Result Inside PortFault) (n : ℕ) → TakesUnit k old told new → Passes old new n [] []
 taken k old new told n h =
     by_bool (Passes old new n [] [])
     (MatchBool (is_empty (bay_at old k).unit) (IsErrOf told Absent × (new ≡ on_bay old k (with_unit (bay_at old k) Empty)))
@@ -395,28 +400,53 @@ offered_fan (Err e) k frame old new n h = ap (λ (m : MachineState). waits_down 
 
 -- ---- deeds
 
+-- or where a device is pulled
+abbrev pub Needs : Deed → MachineState → MachineState → ℕ → Type 0
+Needs (Moved a) old new n = NeedsMove a old new n
+Needs (Pulled k told) old new n = connection_at new.fan n ≡ connection_at old.fan n
+Needs (Removed k told) old new n = connection_at new.fan n ≡ connection_at old.fan n
+Needs deed old new n = Unit {0}
+
+turned_needs : (a : Act) (old middle : MachineState) (first : Bool) (turn n : ℕ) → NeedsMove a old (acts.turned middle first turn) n → NeedsMove a old middle n
+turned_needs (act.Sends went) old middle first turn n same = same
+turned_needs other old middle first turn n same = tt
+
+pub pass_by : (old : MachineState) (deed : Deed) (new : MachineState) (n : ℕ) → Does old deed new → Needs deed old new n → begins deed n ≡ false
+    → Passes old new n (ends old deed n) (falls old deed n)
+pass_by old (Moved a) new n h same go =
+    with_new old h.middle new n (ends old (Moved a) n) (falls old (Moved a) n) (ap (λ (m : MachineState). m.bays) h.turns) (ap (λ (m : MachineState). m.fan) h.turns)
+    (moves a old h.middle n h.does (turned_needs a old h.middle new.first new.turn n (subst (λ (m : MachineState). NeedsMove a old m n) h.turns same)) go)
+pass_by old Unlent new n h same go = beside old new n (ap (λ (m : MachineState). m.bays) h) (ap (λ (m : MachineState). m.fan) h)
+pass_by old (Wrote offset width value written) new n h same go =
+    wrote_by (link_stays written) old _ new n (not_false (link_stays written) go) refl refl h.rest
+pass_by old Powered new n h same go = absurd (false≢true (sym go))
+pass_by old (Supplied w bytes) new n h same go = supplied w bytes old new h.answer n h.supplies
+pass_by old (Missed w) new n h same go = missed w old new h.answer n h.misses
+pass_by old (Answered id a told) new n h same go = answered id a old new told n h
+pass_by old (Put k unit told) new n h same go = put k unit old new told n h
+pass_by old (Plugged k told) new n h same go = plugged k old new told n h
+pass_by old (Pulled k told) new n h same go = pulled k old new told n h same
+pass_by old (Removed k told) new n h same go =
+    chain old h.pulled new n
+    (pulled k old h.pulled h.answer n h.pulls (ap (λ (f : FanOut). connection_at f n) (sym (taken_fan k h.pulled new told h.takes)) ∙ same))
+    (taken k h.pulled new told n h.takes)
+pass_by old (FrameTaken k told) new n h same go = frame_taken (bay_at old k).unit k n told old new refl h.is h.rest
+pass_by old (FrameOffered k frame told) new n h same go =
+    still old new n (bays_same old new n (ap (λ (m : MachineState). m.bays) h.rest)) (offered_fan told k frame old new n h.back)
+
+same_move : (a : Act) (old new : MachineState) (n : ℕ) → connection_at new.fan n ≡ connection_at old.fan n → NeedsMove a old new n
+same_move (act.Sends went) old new n same = same
+same_move other old new n same = tt
+
+same_needs : (deed : Deed) (old new : MachineState) (n : ℕ) → connection_at new.fan n ≡ connection_at old.fan n → Needs deed old new n
+same_needs (Moved a) old new n same = same_move a old new n same
+same_needs (Pulled k told) old new n same = same
+same_needs (Removed k told) old new n same = same
+same_needs other old new n same = tt
+
 pub pass : (old : MachineState) (deed : Deed) (new : MachineState) (n : ℕ) → Does old deed new → Lasts old deed new n
     → Passes old new n (ends old deed n) (falls old deed n)
-pass old (Moved a) new n h lasts =
-    with_new old h.middle new n (ends old (Moved a) n) (falls old (Moved a) n) (ap (λ (m : MachineState). m.bays) h.turns) (ap (λ (m : MachineState). m.fan) h.turns)
-    (moves a old h.middle n h.does (ap (λ (m : MachineState). connection_at m.fan n) (sym h.turns) ∙ lasts.same) lasts.goes)
-pass old Unlent new n h lasts = beside old new n (ap (λ (m : MachineState). m.bays) h) (ap (λ (m : MachineState). m.fan) h)
-pass old (Wrote offset width value written) new n h lasts =
-    wrote_by (link_stays written) old _ new n (not_false (link_stays written) lasts.goes) refl refl h.rest
-pass old Powered new n h lasts = absurd (false≢true (sym lasts.goes))
-pass old (Supplied w bytes) new n h lasts = supplied w bytes old new h.answer n h.supplies
-pass old (Missed w) new n h lasts = missed w old new h.answer n h.misses
-pass old (Answered id a told) new n h lasts = answered id a old new told n h
-pass old (Put k unit told) new n h lasts = put k unit old new told n h
-pass old (Plugged k told) new n h lasts = plugged k old new told n h
-pass old (Pulled k told) new n h lasts = pulled k old new told n h lasts.same
-pass old (Removed k told) new n h lasts =
-    chain old h.pulled new n
-    (pulled k old h.pulled h.answer n h.pulls (ap (λ (f : FanOut). connection_at f n) (sym (taken_fan k h.pulled new told h.takes)) ∙ lasts.same))
-    (taken k h.pulled new told n h.takes)
-pass old (FrameTaken k told) new n h lasts = frame_taken (bay_at old k).unit k n told old new refl h.is h.rest
-pass old (FrameOffered k frame told) new n h lasts =
-    still old new n (bays_same old new n (ap (λ (m : MachineState). m.bays) h.rest)) (offered_fan told k frame old new n h.back)
+pass old deed new n h lasts = pass_by old deed new n h (same_needs deed old new n lasts.same) lasts.goes
 
 -- ---- runs
 

@@ -26,3 +26,6 @@ pub mod FallData
 pub mod FallOrders
 pub mod FallEnds
 pub mod Awaiting
+pub mod Lives
+pub mod Ways
+pub mod HeardSent

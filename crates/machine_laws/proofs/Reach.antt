@@ -40,13 +40,13 @@ some_none d is = subst is_some_here is tt
     is_some_here (Some z) = Unit {0}
 
 -- no disk is there
-abbrev NoneAt : MachineState → ℕ → Type 0
+abbrev pub NoneAt : MachineState → ℕ → Type 0
 NoneAt m port = disk_in (bay_at m port).unit ≡ None
 
-none_is : (u : Inside) (d : DiskState) → disk_in u ≡ None → u ≡ Disk d → ⊥
+pub none_is : (u : Inside) (d : DiskState) → disk_in u ≡ None → u ≡ Disk d → ⊥
 none_is u d none is = some_none d (sym (ap disk_in is) ∙ none)
 
-by_unit : (C : Type 0) (u : Inside) → ((e : DiskState) → u ≡ Disk e → C) → (disk_in u ≡ None → C) → C
+pub by_unit : (C : Type 0) (u : Inside) → ((e : DiskState) → u ≡ Disk e → C) → (disk_in u ≡ None → C) → C
 by_unit C (Disk e) there none = there e refl
 by_unit C Empty there none = none refl
 by_unit C Own there none = none refl
@@ -56,7 +56,7 @@ work_none Empty h = refl
 work_none Own h = refl
 work_none (Disk d) h = absurd (some_none d h)
 
-same_none : (old new : MachineState) (port : ℕ) → bay_at new port ≡ bay_at old port → NoneAt old port → NoneAt new port
+pub same_none : (old new : MachineState) (port : ℕ) → bay_at new port ≡ bay_at old port → NoneAt old port → NoneAt new port
 same_none old new port same none = ap (λ (b : Bay). disk_in b.unit) same ∙ none
 
 -- ---- moves
@@ -179,11 +179,11 @@ frame_none true false old new n own low is none =
     absurd (false≢true (sym (ap (λ (b : Bay). is_own b.unit) (get_or_past old.bays n empty_bay (ltb-false n (length old.bays) low))) ∙ own))
 frame_none false low old new n own is_low is none = by_eq old new n is none
 
-not_put : Deed → Bool
+unfoldable pub not_put : Deed → Bool
 not_put (Put n unit told) = false
 not_put deed = true
 
-stays_none : (deed : Deed) (old new : MachineState) (port : ℕ) → Does old deed new → not_put deed ≡ true → NoneAt old port → NoneAt new port
+pub stays_none : (deed : Deed) (old new : MachineState) (port : ℕ) → Does old deed new → not_put deed ≡ true → NoneAt old port → NoneAt new port
 unfolding not_put
 stays_none (Moved a) old new port h other none =
     same_none h.middle new port (ap (λ (m : MachineState). bay_at m port) h.turns) (move_stays a old h.middle port h.does none)
@@ -216,12 +216,12 @@ removed_none n old new told d there h =
 
 -- ---- reached
 
-more : (calls later : List Call) (d : DiskState) → AreCalls d calls → AreCalls (after_calls d calls) later → AreCalls d (calls ++ later)
+pub more : (calls later : List Call) (d : DiskState) → AreCalls d calls → AreCalls (after_calls d calls) later → AreCalls d (calls ++ later)
 unfolding after_calls
 more [] later d are next = next
 more (c ∷ calls) later d are next = (are.0, more calls later (after_call d c) are.1 next)
 
-after_more : (calls later : List Call) (d : DiskState) → after_calls d (calls ++ later) ≡ after_calls (after_calls d calls) later
+pub after_more : (calls later : List Call) (d : DiskState) → after_calls d (calls ++ later) ≡ after_calls (after_calls d calls) later
 unfolding after_calls
 after_more [] later d = refl
 after_more (c ∷ calls) later d = after_more calls later (after_call d c)
@@ -237,7 +237,7 @@ go_reached e d calls now r go is = record {
       ∙ sym (after_more r.calls calls (new_disk r.profile r.limit));
 }
 
-put_at : (n : ℕ) (unit : Inside) (told : Result (Unit {0}) (Inside × PortFault)) (old new : MachineState) (d : DiskState)
+pub put_at : (n : ℕ) (unit : Inside) (told : Result (Unit {0}) (Inside × PortFault)) (old new : MachineState) (d : DiskState)
     → Puts n unit old told new → NoneAt old n → (bay_at new n).unit ≡ Disk d → unit ≡ Disk d
 put_at n unit told old new d h none is =
     by_bool (unit ≡ Disk d)
@@ -285,7 +285,7 @@ kept_by true deed old new port e d is h there gone now r = absurd (none_is (bay_
 kept_by false deed old new port e d is h there gone now r =
     go_reached e d (calls_at old deed port) (bay_at new port).unit r (go_on old deed new h port e there is) now
 
-removed_at : (deed : Deed) (old new : MachineState) (port : ℕ) (e : DiskState) → Does old deed new → (bay_at old port).unit ≡ Disk e
+pub removed_at : (deed : Deed) (old new : MachineState) (port : ℕ) (e : DiskState) → Does old deed new → (bay_at old port).unit ≡ Disk e
     → is_removed deed port ≡ true → NoneAt new port
 removed_at (Removed n told) old new port e h there is =
     let same : n ≡ port = eqb-true n port is in
@@ -317,7 +317,7 @@ reached old [] new run puts are = subst AreReached (sym run) are
 reached old (deed ∷ later) new run puts are = reached run.next later new run.after puts.1 (one_deed deed old run.next run.does puts.0 are)
 
 -- an opening machine has none
-replicate_empty : (count port : ℕ) → get_or (replicate count empty_bay) port empty_bay ≡ empty_bay
+pub replicate_empty : (count port : ℕ) → get_or (replicate count empty_bay) port empty_bay ≡ empty_bay
 replicate_empty zero port = refl
 replicate_empty (suc count) zero = refl
 replicate_empty (suc count) (suc port) = replicate_empty count port

@@ -6,7 +6,9 @@ use Rattle.std.proofs.lemmas.List.{get_or-set_same, length-set}
 use Rattle.std.proofs.lemmas.List.Elements.{All-append, All-cons, All-contains, All-contains_itself, All-filter, All-nil, All-same, All-weaker, Contains-append_left, Contains-append_right, Contains-push}
 use Rattle.std.proofs.lemmas.Nat.{mod-mul-add}
 use Rattle.fis_view.specs.Frames.{IsFrame, Stamped, marked}
+use Rattle.fis_view.specs.Built.{IsBuilt, cut, set_bits_given}
 use Rattle.fis_view.specs.Seen.{kind_of_type, may_have, seen, view_as}
+use Rattle.fis_view.specs.Table.{Bits, SActive, field, places}
 use Rattle.fis_view.specs.declared.view.Fis.{Fis}
 use Rattle.fis_view.specs.declared.view.Fis.TheVariants as view
 use Rattle.fis_view.specs.declared.view.FisFault.{FisFault}
@@ -27,7 +29,7 @@ use Rattle.fan_out.specs.declared.fan_out.FanOut.TheVariants.{Device, Multiplier
 use Rattle.machine_laws.proofs.RisFan.{FansPass, Passage, after_one, fan_through, no_device}
 use Rattle.machine_laws.proofs.RisRun.{crosses}
 use Rattle.machine_laws.proofs.RisStraight.{straight_all}
-use Rattle.machine_laws.specs.Rising.{CarriesPart, DataAreSent, DataCarryParts, IsSoundEnd, Sends, held_at, is_multiplier, risen, untaken}
+use Rattle.machine_laws.specs.Rising.{CarriesPart, DataAreSent, DataCarryParts, IsNaming, IsSoundEnd, NamingAreSent, Sends, held_at, is_multiplier, risen, untaken}
 
 -- ---- what a disk sends
 
@@ -71,9 +73,41 @@ record OfPort (f : Stamped) : Type 0 where
   port : f.stamp.port < 15
   own : 1 < length f.bytes → pm_port f ≡ f.stamp.port
 
--- it is of the port in its stamp, or is no Data FIS
+-- the multiplier's own: a notice, which names no slot, or an answer, which is a Register FIS
+data IsOwn (f : List ℕ) : Type 0 where
+  IsNotified : seen f ≡ Ok (view.SetBits f) → field Bits SActive f ≡ 0 → IsOwn f
+  IsAnswer : slice_index f 0 ≡ 0x34 → IsOwn f
+
+no_slots : (f : List ℕ) → IsBuilt Bits (set_bits_given (record { pm_port = 15; n = true; i = true; status = 0x50; error = 0; sactive = 0 })) f
+    → field Bits SActive f ≡ 0
+unfolding places cut
+no_slots f built = let e : field Bits SActive f ≡ 0 = built.fields SActive in e
+
+-- none of these is Data
+own_data : (f : List ℕ) → slice_index f 0 ≡ 0x46 → IsOwn f → ⊥
+own_data f type (IsNotified viewed none) = not_bits f type viewed
+own_data f type (IsAnswer other) = omega (arith, other, type)
+
+-- a Register FIS is no Set Device Bits FIS
+answer_bits : (f : List ℕ) → slice_index f 0 ≡ 0x34 → seen f ≡ Ok (view.SetBits f) → ⊥
+unfolding seen
+answer_bits f type e = by_length (may_have (kind_of_type 0x34) (length f)) (ap (λ (k : ℕ). if may_have (kind_of_type k) (length f) then Ok (view_as (kind_of_type k) f) else Err WrongLength) (sym type) ∙ e)
+  where
+    no : Result Fis FisFault
+    no = Err WrongLength
+
+    by_length : (b : Bool) → (if b then Ok (view.RegD2H f) else no) ≡ Ok (view.SetBits f) → ⊥
+    by_length true h = false≢true (ap is_bits h)
+    by_length false h = false≢true (ap is_bits h)
+
+-- and none names a slot
+own_naming : (f : List ℕ) → IsNaming f → IsOwn f → ⊥
+own_naming f is (IsNotified viewed none) = is.some none
+own_naming f is (IsAnswer other) = answer_bits f other is.viewed
+
+-- it is of the port in its stamp, or the multiplier's own
 abbrev Placed : Stamped → Type 0
-Placed f = OfPort f ⊎ (slice_index f.bytes 0 ≡ 0x46 → ⊥)
+Placed f = OfPort f ⊎ IsOwn f.bytes
 
 rising_own : (n : ℕ) (was : Stamped) → n < 15 → OfPort (rising n was)
 rising_own n was less = record {
@@ -91,11 +125,10 @@ placed f g frame is h = by_way (gives f.multiplier frame g.multiplier h)
     by_way (FromPort n was at other there stamp rises rest) =
         let below = served_below (ready f.multiplier) f.multiplier.served n is.sound.served at in
         inl (subst OfPort (sym rises) (rising_own n was (omega (arith, below, other))))
-    by_way (Notice at due built rest) = inr (λ type. not_bits frame.bytes type built.0.viewed)
-    by_way (Answer at there rest) = inr (λ type.
+    by_way (Notice at due built rest) = inr (IsNotified built.0.viewed (no_slots frame.bytes built.0))
+    by_way (Answer at there rest) =
         let so = and_parts (frame.stamp.port == 15) (slice_index frame.bytes 0 == 0x34) (is.sound.answer frame there) in
-        let other : slice_index frame.bytes 0 ≡ 0x34 = eqb-true (slice_index frame.bytes 0) 0x34 so.1 in
-        omega (arith, other, type))
+        inr (IsAnswer (eqb-true (slice_index frame.bytes 0) 0x34 so.1))
 
 one_placed : (f g : FanState) (call : FanCall) → IsFan f → FanDoes (Multiplier f) call (Multiplier g) → All Placed (given_by call)
 one_placed f g (Plug n result) is h = All-nil Placed
@@ -156,12 +189,12 @@ abbrev Of : FanOut → List Stamped → Stamped → Type 0
 Of g sent f = Contains sent f × (is_multiplier g ≡ true → (f.stamp.port < 15) × (pm_port f ≡ f.stamp.port))
 
 of_device : FansPass → (e g : FanOut) (calls : List FanCall) (sent came rest : List Stamped) (f : Stamped) → IsSoundEnd e → ((n c : ℕ) → held_at n c e ≡ []) → Sends e calls sent g → given calls ≡ came ++ rest
-    → Contains came f → IsFrame f.bytes → slice_index f.bytes 0 ≡ 0x46 → Of g sent f
-of_device law (Device s) (Device t) calls sent came rest f sound none h is has framed type =
+    → Contains came f → IsFrame f.bytes → (IsOwn f.bytes → ⊥) → Of g sent f
+of_device law (Device s) (Device t) calls sent came rest f sound none h is has framed other =
     (in_sent (Device s) (Device t) (given calls) sent came rest f (straight_all s t calls sent sound h f.stamp.port f.stamp.conn) (none f.stamp.port f.stamp.conn) is has, λ off. absurd (false≢true off))
-of_device law (Device s) (Multiplier g) calls sent came rest f sound none h is has framed type = absurd (false≢true (crosses (Device s) (Multiplier g) calls sent h))
-of_device law (Multiplier k) (Device t) calls sent came rest f sound none h is has framed type = absurd (true≢false (crosses (Multiplier k) (Device t) calls sent h))
-of_device law (Multiplier k) (Multiplier g) calls sent came rest f sound none h is has framed type =
+of_device law (Device s) (Multiplier g) calls sent came rest f sound none h is has framed other = absurd (false≢true (crosses (Device s) (Multiplier g) calls sent h))
+of_device law (Multiplier k) (Device t) calls sent came rest f sound none h is has framed other = absurd (true≢false (crosses (Multiplier k) (Device t) calls sent h))
+of_device law (Multiplier k) (Multiplier g) calls sent came rest f sound none h is has framed other =
     by_place (All-contains Placed (came ++ rest) f (All-same Placed (came ++ rest) (given calls) (sym is) (all_placed law k g calls sent sound h)) (Contains-append_left came rest f has))
   where
     by_place : Placed f → Of (Multiplier g) sent f
@@ -169,9 +202,14 @@ of_device law (Multiplier k) (Multiplier g) calls sent came rest f sound none h 
       in_sent (Multiplier k) (Multiplier g) (given calls) sent came rest f ((fan_through law k g calls sent sound h).up f.stamp.port f.stamp.conn p.port) (none f.stamp.port f.stamp.conn) is has,
       λ so. (p.port, p.own (let bounds = frame_bounds f.bytes framed in omega (arith, bounds))),
     )
-    by_place (inr other) = absurd (other type)
+    by_place (inr own) = absurd (other own)
 
 pub data_sent : FansPass → DataAreSent
 data_sent law m frames h f has framed type =
-    let of = of_device law h.first m.fan h.calls frames.sent frames.came (untaken m) f h.sound h.none h.sends h.gives has framed type in
+    let of = of_device law h.first m.fan h.calls frames.sent frames.came (untaken m) f h.sound h.none h.sends h.gives has framed (own_data f.bytes type) in
+    record { sent = of.0; port = of.1 }
+
+pub naming_sent : FansPass → NamingAreSent
+naming_sent law m frames h f has framed is =
+    let of = of_device law h.first m.fan h.calls frames.sent frames.came (untaken m) f h.sound h.none h.sends h.gives has framed (own_naming f.bytes is) in
     record { sent = of.0; port = of.1 }

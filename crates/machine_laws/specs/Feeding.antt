@@ -9,6 +9,7 @@ use Rattle.hba_fbs.specs.Views.{last_command}
 use Rattle.guest_fetch.specs.Commands.{Fetched}
 use Rattle.guest_fetch.specs.declared.moves.Move.{Move}
 use Rattle.ahci_controller.specs.Feeding.{Places}
+use Rattle.ahci_controller.specs.Next.{Turns}
 use Rattle.ahci_controller.specs.States.{ControllerState}
 use Rattle.ahci_controller.specs.declared.feeding.Fed.{Fed}
 use Rattle.ahci_controller.specs.declared.next.Next.TheVariants as next
@@ -45,6 +46,10 @@ pub record IsOrdered (c : ControllerState) (dev slot : ℕ) (fis : List ℕ) : T
 abbrev pub OrdersAreIssued : Type 0
 OrdersAreIssued = (old : MachineState) (dev slot : ℕ) (fis : List ℕ) (new : MachineState) → HasRules old
     → Does old (Moved (act.Turns (next.Order dev slot fis))) new → IsOrdered old.controller dev slot fis
+
+-- so it is of each command that the controller says to send
+abbrev pub OrdersAreOfSlots : Type 0
+OrdersAreOfSlots = (c d : ControllerState) (dev slot : ℕ) (fis : List ℕ) → Turns c (next.Order dev slot fis) d → IsOrderOf c dev slot fis
 
 -- ---- Data
 

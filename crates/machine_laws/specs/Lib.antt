@@ -8,3 +8,4 @@ pub mod Rising
 pub mod Falling
 pub mod Feeding
 pub mod Rest
+pub mod Heard

@@ -6,6 +6,9 @@ use Rattle.std.specs.Prelude.{◌≡◌, ◌<◌, ◌==◌, ℕ, Bool, true, fal
 use Rattle.std.specs.List.{All, Contains}
 use Rattle.std.specs.Option.{option_to_list}
 use Rattle.fis_view.specs.Frames.{IsFrame, Stamped}
+use Rattle.fis_view.specs.Seen.{seen}
+use Rattle.fis_view.specs.Table.{Bits, SActive, field}
+use Rattle.fis_view.specs.declared.view.Fis.TheVariants as view
 use Rattle.pm_ports.specs.Port as port
 use Rattle.pm_ports.specs.declared.port.Offered.TheVariants.{Held}
 use Rattle.multiplier.specs.Passing.{held_of, of_conn}
@@ -261,3 +264,16 @@ pub record IsOfDevice (m : MachineState) (frames : Frames) (f : Stamped) : Type 
 abbrev pub DataAreSent : Type 0
 DataAreSent = (m : MachineState) (frames : Frames) → HaveRisen m frames → (f : Stamped) → Contains frames.came f → IsFrame f.bytes
     → slice_index f.bytes 0 ≡ 0x46 → IsOfDevice m frames f
+
+-- ---- ends of queued commands
+
+-- a Set Device Bits FIS (Serial ATA 3.x, 10.5, type A1h) that names a slot
+pub record IsNaming (f : List ℕ) : Type 0 where
+  pub viewed : seen f ≡ Ok (view.SetBits f)
+  pub some : field Bits SActive f ≡ 0 → ⊥
+
+-- Each such FIS that comes is one that a device sent, and behind a multiplier one of the port that its PM Port names: the notices of the
+-- multiplier itself name none.
+abbrev pub NamingAreSent : Type 0
+NamingAreSent = (m : MachineState) (frames : Frames) → HaveRisen m frames → (f : Stamped) → Contains frames.came f → IsFrame f.bytes
+    → IsNaming f.bytes → IsOfDevice m frames f

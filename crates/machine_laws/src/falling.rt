@@ -1,6 +1,6 @@
 //! What the controller sent, and what the devices hear.
 
-ghost use Rattle.machine_laws.specs.Feeding.{DataIsAskedInOrder, DataIsRead, DataIsWhatCame, OpensUnread, OrdersAreIssued};
+ghost use Rattle.machine_laws.specs.Feeding.{DataIsAskedInOrder, DataIsRead, DataIsWhatCame, OpensUnread, OrdersAreIssued, OrdersAreOfSlots};
 ghost use Rattle.machine_laws.specs.Falling.{BegunForgets, DisksHearThem, FramesGoWhereTheyShould, LinksPassInOrder, PortsPassInOrder, ResetsEmptyLinks, ResetsEmptyPorts};
 
 /// A law for callers; it runs no code. The FISes that the device at a port hears are those that the controller sent to it, in order, byte
@@ -23,6 +23,7 @@ pub fn frames_fall_in_order()
 /// command in its slot says. Bytes that are late, or that are given twice, are none of it.
 pub fn sent_frames_are_supplied()
     ensures orders { OrdersAreIssued }
+    ensures slots { OrdersAreOfSlots }
     ensures opens { OpensUnread }
     ensures read { DataIsRead }
     ensures whole { DataIsWhatCame }

@@ -5,11 +5,13 @@
 #![tactic(auto)]
 
 mod falling;
+mod heard;
 mod laws;
 mod rest;
 mod rising;
 
 pub use falling::{frames_fall_in_order, sent_frames_are_supplied};
+pub use heard::disks_hear_what_was_sent;
 pub use laws::{
     controller_goes_on, controller_has_its_laws, disks_go_on, disks_have_their_laws,
     ports_are_apart, taken_frames_are_lent,

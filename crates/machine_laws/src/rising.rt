@@ -1,6 +1,6 @@
 //! What the devices send goes to the controller in order.
 
-ghost use Rattle.machine_laws.specs.Rising.{ConnectionsLast, DataAreSent, DataCarryParts, FramesAreOver, FramesAreTaken, FramesRise, GoesOnRising, OpensRising, PullsEnd, ResetsEnd};
+ghost use Rattle.machine_laws.specs.Rising.{ConnectionsLast, DataAreSent, DataCarryParts, FramesAreOver, FramesAreTaken, FramesRise, GoesOnRising, NamingAreSent, OpensRising, PullsEnd, ResetsEnd};
 
 /// A law for callers; it runs no code. Over every run of a machine, for each port and each connection of its device: the FISes that came
 /// to the controller, and then those that are on their way, are those that the device sent, in order, each once; only the PM Port field
@@ -19,9 +19,10 @@ pub fn frames_rise_in_order()
 
 /// A law for callers; it runs no code. Each Data FIS that comes to the controller is one that a device sent, and behind a multiplier one
 /// of the port that its PM Port names: the multiplier's own FISes are none. One that a disk sends has the bytes that are next of its
-/// command, of which the laws of the disk speak, and no byte of them changes on the way.
+/// command, of which the laws of the disk speak, and no byte of them changes on the way. So is each Set Device Bits FIS that names a slot.
 pub fn data_rise_unchanged()
     ensures sent { DataAreSent }
+    ensures naming { NamingAreSent }
     ensures parts { DataCarryParts }
 {
     fan_out::fans_pass_in_order();

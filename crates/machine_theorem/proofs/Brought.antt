@@ -1,5 +1,5 @@
 -- One Data FIS, from the device to the guest.
-use Rattle.std.proofs.Common.{◌≡◌, ◌<◌, ◌+◌, ℕ, Bool, List, [], ◌∷◌, Option, Some, None, refl, sym, ap, ◌∙◌, subst, All, arith}
+use Rattle.std.proofs.Common.{◌≡◌, ◌<◌, ◌+◌, ℕ, Bool, List, [], ◌∷◌, Option, Some, None, refl, sym, ap, ◌∙◌, subst, arith}
 use Rattle.std.specs.Prelude.{MatchOption, slice_index}
 use Rattle.std.proofs.lemmas.List.Elements.{All-nil}
 use Rattle.std.proofs.lemmas.Option.{same_Some}
@@ -11,12 +11,11 @@ use Rattle.ahci_controller.specs.declared.next.Next.TheVariants as next
 use Rattle.ahci_controller.specs.declared.wants.Carried.{Carried}
 use Rattle.controller_laws.specs.Carrying.{AllAreSaid, AreLeft, AreSaid, Carrying, carrying_after}
 use Rattle.controller_laws.specs.Places.{IsPlaced}
-use Rattle.controller_laws.specs.Sources.{AreSources, IsReadFrom, Source, Sources, command_of, no_sources, sources_after, unmoved}
+use Rattle.controller_laws.specs.Sources.{AreSources, IsReadFrom, Source, command_of, no_sources, sources_after, unmoved}
 use Rattle.ahci_machine.specs.Registers.{lent_bytes, part_of}
 use Rattle.ahci_machine.specs.States.{HasRules, IsOpeningMachine, MachineState}
-use Rattle.ahci_machine.specs.declared.act.Act.TheVariants as act
 use Rattle.machine_laws.specs.ControllerLaws.{ControllerHasLaws, ControllerRuns, HasLaws, OpensLawful, RunsAreCalls, RunsRuled, WritesArePlaced, calls_in}
-use Rattle.machine_laws.specs.Deeds.{Deed, Does, Moved}
+use Rattle.machine_laws.specs.Deeds.{Deed}
 use Rattle.machine_laws.specs.Lent.{CarriesTaken, FramesAreHeld, FramesAreLent, HoldsFrame, IsOf, OpensHolding, last_taken}
 use Rattle.machine_laws.specs.Rising.{DataAreSent, GoesOnRising, OpensRising, no_frames}
 use Rattle.machine_theorem.specs.Origins.{IsSentIn}

@@ -1,5 +1,5 @@
 -- The frame whose bytes go to the guest is a Data FIS.
-use Rattle.std.proofs.Common.{◌≡◌, ℕ, Bool, true, false, List, [], ◌∷◌, Option, Some, None, refl, not}
+use Rattle.std.proofs.Common.{◌≡◌, ℕ, Bool, true, false, List, [], ◌∷◌, Option, Some, None, not}
 use Rattle.std.specs.Prelude.{slice_index}
 use Rattle.guest_fetch.specs.Commands.{Fetched}
 use Rattle.guest_fetch.specs.declared.moves.Move.{Move}

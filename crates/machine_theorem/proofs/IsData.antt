@@ -1,8 +1,7 @@
 -- Bytes are brought by a Data FIS, and by no other.
-use Rattle.std.proofs.Common.{◌≡◌, ℕ, ◌-◌, ◌&&◌, Bool, true, false, cond, eqb, List, length, refl, sym, ap, subst, ◌∙◌, arith, Option, Some, None}
+use Rattle.std.proofs.Common.{◌≡◌, ℕ, ◌-◌, Bool, true, false, cond, eqb, List, length, refl, sym, ap, subst, ◌∙◌, arith, Option, Some, None}
 use Rattle.std.specs.Prelude.{◌==◌, ◌||◌, is_some, slice_index, if◌then◌else◌, Result, Ok, Err}
 use Rattle.std.proofs.lemmas.Bool.{eqb-true}
-use Rattle.fis_view.specs.Frames.{IsFrame}
 use Rattle.fis_view.specs.Seen.{kind_of, kind_of_type, may_have, seen, view_as}
 use Rattle.fis_view.specs.Table as table
 use Rattle.fis_view.specs.Table.{Kind, Data, field}
@@ -19,8 +18,8 @@ use Rattle.slots.specs.Setup.{dma_context, out_setup, pio_fault, pio_issue, setu
 use Rattle.slots.specs.Slots.{DeviceSlots, context_of, match_some, own_issue, sent_pio}
 use Rattle.slots.specs.declared.answer.SetupError.{SetupError}
 use Rattle.slots.specs.declared.table.Context.{Context}
-use Rattle.hba_fbs.specs.Deciding.{Decides, Passes, decided, heard_within, is_past}
-use Rattle.hba_fbs.specs.Greeting.{Greets, greeted_in}
+use Rattle.hba_fbs.specs.Deciding.{Decides, decided, heard_within, is_past}
+use Rattle.hba_fbs.specs.Greeting.{Greets}
 use Rattle.hba_fbs.specs.Hearing.{answered, block_of, faulty, heard_d2h, heard_fis, heard_out, is_admitted, named, overflowed, quietly, set_up, tag_of}
 use Rattle.hba_fbs.specs.Status.{after_reset, is_busy, is_error, with_bits, with_file}
 use Rattle.hba_fbs.specs.Taking.{admitted, heard_report, ignores, port_of, wrote_by}

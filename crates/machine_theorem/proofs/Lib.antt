@@ -5,3 +5,10 @@ mod Taken
 mod Numbered
 mod Brought
 mod Own
+mod Ordered
+mod Still
+mod FromHost
+mod Names
+mod EndSent
+mod Falls
+mod AtMoments

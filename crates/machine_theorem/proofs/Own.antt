@@ -1,16 +1,15 @@
 -- What brings bytes for a slot is of the device that owns it.
-use Rattle.std.proofs.Common.{◌≡◌, ◌<◌, ℕ, Bool, true, List, [], ◌∷◌, ◌++◌, Option, Some, None, refl, sym, subst, All, Contains}
+use Rattle.std.proofs.Common.{◌≡◌, List, [], ◌∷◌, Option, Some, None, refl, sym, subst, All, Contains}
 use Rattle.std.specs.Prelude.{IfSome, slice_index}
 use Rattle.std.proofs.lemmas.List.Elements.{All-contains, All-nil, Contains-append_right, Contains-push}
 use Rattle.fis_view.specs.Frames.{Stamped}
 use Rattle.hba_fbs.specs.declared.report.Wrote.{Wrote}
-use Rattle.ahci_controller.specs.declared.taking.Took.{Took}
 use Rattle.controller_laws.specs.Carrying.{DataIsOwn, IsOwnData}
 use Rattle.controller_laws.specs.Events as call
-use Rattle.ahci_machine.specs.States.{HasRules, IsOpeningMachine, MachineState}
+use Rattle.ahci_machine.specs.States.{HasRules, MachineState}
 use Rattle.ahci_machine.specs.declared.act.Act.TheVariants as act
 use Rattle.machine_laws.specs.ControllerLaws.{RunsRuled}
-use Rattle.machine_laws.specs.Deeds.{Deed, Does, Moved}
+use Rattle.machine_laws.specs.Deeds.{Deed, Moved}
 use Rattle.machine_laws.specs.Rising.{Frames, HaveRisen, IsOfDevice, came_by, frames_after, frames_in, is_reset, no_frames, sent_by}
 use Rattle.machine_theorem.specs.Origins.{IsSentIn}
 use Rattle.machine_theorem.specs.Parts.{IsOwn, PartsAreOwn}
@@ -19,12 +18,12 @@ use Rattle.machine_theorem.proofs.IsData.{IsDataOr, brings_data}
 use Rattle.machine_theorem.proofs.Sent.{AllSent, each_sent}
 use Rattle.machine_theorem.proofs.Taken.{more_sent}
 
-last_ruled : (deeds : List Deed) (old new : MachineState) → RunsRuled old deeds new → HasRules new
+pub last_ruled : (deeds : List Deed) (old new : MachineState) → RunsRuled old deeds new → HasRules new
 last_ruled [] old new run = subst HasRules (sym run.1) run.0
 last_ruled (deed ∷ later) old new run = last_ruled later run.1.0 new run.1.2
 
 -- it holds of all that was sent since the link was reset
-all_in : (Q : Stamped → Type 0) (old : MachineState) (deeds : List Deed) (new : MachineState) (run : RunsRuled old deeds new) (was : Frames)
+pub all_in : (Q : Stamped → Type 0) (old : MachineState) (deeds : List Deed) (new : MachineState) (run : RunsRuled old deeds new) (was : Frames)
     → All Q was.sent → AllSent Q old deeds new run → All Q (frames_in was old deeds new run).sent
 all_in Q old [] new run was before all = before
 all_in Q old (deed ∷ later) new run was before all =

@@ -1,6 +1,6 @@
 -- What each device sends, and what its Data are.
-use Rattle.std.proofs.Common.{◌≡◌, ◌≢◌, ◌⊎◌, ℕ, ◌+◌, ◌*◌, ◌/◌, ◌<◌, Bool, true, false, List, [], ◌∷◌, ◌++◌, length, drop, Some, None, Option, Result, Ok, Err, refl, sym, ap, ◌∙◌, subst, arith, inl, inr, All, Contains}
-use Rattle.std.specs.Prelude.{if◌then◌else◌, slice_index, slice_set}
+use Rattle.std.proofs.Common.{◌≡◌, ℕ, ◌+◌, ◌*◌, ◌/◌, Bool, true, false, List, [], ◌∷◌, length, drop, Some, None, Option, Result, Ok, Err, refl, sym, ap, ◌∙◌, subst, arith, inl, inr, All, Contains}
+use Rattle.std.specs.Prelude.{if◌then◌else◌, slice_index}
 use Rattle.std.proofs.lemmas.Bool.{false≢true}
 use Rattle.std.proofs.lemmas.List.{drop-set-lt, get_or-set_other}
 use Rattle.std.proofs.lemmas.List.Elements.{All-cons, All-contains, All-contains_itself, All-nil, All-weaker, Contains-push}
@@ -8,7 +8,6 @@ use Rattle.fis_view.specs.Frames.{Stamped, marked}
 use Rattle.fis_view.specs.Seen.{kind_of_type, may_have, seen, view_as}
 use Rattle.fis_view.specs.declared.view.Fis.{Fis}
 use Rattle.fis_view.specs.declared.view.Fis.TheVariants as view
-use Rattle.fis_view.specs.declared.view.FisFault.{FisFault}
 use Rattle.fis_view.specs.declared.view.FisFault.TheVariants.{WrongLength}
 use Rattle.fan_out.specs.declared.fan_out.FanOut.{FanOut}
 use Rattle.fan_out.specs.declared.fan_out.FanOut.TheVariants.{Device, Multiplier}
@@ -21,23 +20,21 @@ use Rattle.block_queue.specs.Line.{command_at}
 use Rattle.disk_pages.specs.declared.profile.Profile.{Profile}
 use Rattle.sata_disk.specs.Pages.{IsPage}
 use Rattle.sata_disk.specs.Sending.{IsOut, part_at}
-use Rattle.sata_disk.specs.State.{DiskState, commands, new_disk}
+use Rattle.sata_disk.specs.State.{DiskState, commands}
 use Rattle.sata_disk.specs.declared.out.Out.{Out}
 use Rattle.sata_disk.specs.declared.out.Out.TheVariants as out
 use Rattle.sata_disk_books.specs.Books.{AreOfPage, CommandsAreAsked, DataAreGiven, page_in}
-use Rattle.sata_disk_laws.specs.Calls.{AreCalls, Call}
+use Rattle.sata_disk_laws.specs.Calls.{Call}
 use Rattle.sata_disk_laws.specs.Laws.{reached}
-use Rattle.ahci_machine.specs.Bays as bays
 use Rattle.ahci_machine.specs.States.{MachineState, bay_at}
 use Rattle.ahci_machine.specs.declared.act.Act.{Act}
 use Rattle.ahci_machine.specs.declared.act.Act.TheVariants as act
-use Rattle.ahci_machine.specs.declared.bay.Bay.{Bay}
 use Rattle.ahci_machine.specs.declared.bay.Unit.{Unit as Inside}
 use Rattle.ahci_machine.specs.declared.bay.Unit.TheVariants.{Disk}
 use Rattle.machine_laws.specs.ControllerLaws.{RunsRuled}
-use Rattle.machine_laws.specs.Deeds.{Deed, Does, Moved, Unlent, Wrote, Powered, Supplied, Missed, Answered, Put, Plugged, Pulled, Removed, FrameTaken, FrameOffered}
+use Rattle.machine_laws.specs.Deeds.{Deed, Does, Moved, FrameOffered}
 use Rattle.machine_laws.specs.Rising.{CarriesPart, DataCarryParts, is_multiplier, risen, sent_by, unless_back}
-use Rattle.machine_theorem.specs.Origins.{AreOfCommand, AreOwnPage, AreSectors, IsSentBy, IsSentIn, Origin, sender}
+use Rattle.machine_theorem.specs.Origins.{AreOfCommand, AreOwnPage, AreSectors, IsSentIn, Origin, sender}
 
 -- the laws, as the crates below have them
 pub record Laws : Type 0 where
@@ -52,7 +49,7 @@ data_by f v true h = cc
 data_by f v false h = absurd (cc)
 
 -- a FIS of type 46h is seen as Data
-seen_data : (f : List ℕ) (v : Fis) → slice_index f 0 ≡ 0x46 → seen f ≡ Ok v → v ≡ view.Payload f
+pub seen_data : (f : List ℕ) (v : Fis) → slice_index f 0 ≡ 0x46 → seen f ≡ Ok v → v ≡ view.Payload f
 unfolding seen
 seen_data f v type e =
     data_by f v (may_have (kind_of_type 0x46) (length f)) (ap (λ (k : ℕ). if may_have (kind_of_type k) (length f) then Ok (view_as (kind_of_type k) f) else Err WrongLength) (sym type) ∙ e)
@@ -82,14 +79,14 @@ no_reply reply.Activate f shows type = let same : view.DmaActivate f ≡ view.Pa
 marked_rest : (bytes : List ℕ) (port : ℕ) → drop 4 (marked bytes port) ≡ drop 4 bytes
 marked_rest bytes port = drop-set-lt 4 bytes 1 (slice_index bytes 1 / 16 * 16 + port) (omega arith)
 
-marked_type : (bytes : List ℕ) (port : ℕ) → slice_index (marked bytes port) 0 ≡ slice_index bytes 0
+pub marked_type : (bytes : List ℕ) (port : ℕ) → slice_index (marked bytes port) 0 ≡ slice_index bytes 0
 marked_type bytes port = get_or-set_other bytes 1 0 (slice_index bytes 1 / 16 * 16 + port) 0 (λ same. omega (arith, same))
 
 rest_is : (f : FanOut) (n : ℕ) (frame : Stamped) → drop 4 (risen f n frame).bytes ≡ drop 4 frame.bytes
 rest_is (Device s) n frame = marked_rest frame.bytes s.asked
 rest_is (Multiplier f) n frame = marked_rest frame.bytes n
 
-type_is : (f : FanOut) (n : ℕ) (frame : Stamped) → slice_index (risen f n frame).bytes 0 ≡ slice_index frame.bytes 0
+pub type_is : (f : FanOut) (n : ℕ) (frame : Stamped) → slice_index (risen f n frame).bytes 0 ≡ slice_index frame.bytes 0
 type_is (Device s) n frame = marked_type frame.bytes s.asked
 type_is (Multiplier f) n frame = marked_type frame.bytes n
 
@@ -108,11 +105,11 @@ record HasOrigin (old : MachineState) (deed : Deed) (f : Stamped) : Type 0 where
   port : is_multiplier old.fan ≡ true → f.stamp.port ≡ sender deed
   origin : slice_index f.bytes 0 ≡ 0x46 → Origin old deed (drop 4 f.bytes)
 
-stamped : (f : FanOut) (n : ℕ) (frame : Stamped) → is_multiplier f ≡ true → (risen f n frame).stamp.port ≡ n
+pub stamped : (f : FanOut) (n : ℕ) (frame : Stamped) → is_multiplier f ≡ true → (risen f n frame).stamp.port ≡ n
 stamped (Device s) n frame on = absurd (false≢true on)
 stamped (Multiplier f) n frame on = refl
 
-only : (P : Stamped → Type 0) (f : Stamped) → P f → All P (f ∷ [])
+pub only : (P : Stamped → Type 0) (f : Stamped) → P f → All P (f ∷ [])
 only P f h = All-cons P f [] h (All-nil P)
 
 -- the page of the books, with what was asked for

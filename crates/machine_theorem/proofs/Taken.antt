@@ -1,10 +1,10 @@
 -- The frame that was taken last is one that was sent.
-use Rattle.std.proofs.Common.{◌≡◌, ℕ, Bool, true, false, List, [], ◌∷◌, ◌++◌, Option, Some, None, Result, Ok, Err, refl, sym, ap, ◌∙◌, subst, inl, inr, All, Contains}
+use Rattle.std.proofs.Common.{◌≡◌, ℕ, Bool, true, false, List, [], ◌∷◌, ◌++◌, Option, Some, None, Result, Ok, Err, refl, sym, subst, inl, inr, All, Contains}
 use Rattle.std.specs.Prelude.{MatchOption, slice_index}
 use Rattle.std.specs.Bool.{MatchBool}
 use Rattle.std.specs.declared.alloc.AllocError.{AllocError}
 use Rattle.std.proofs.lemmas.List.Elements.{All-append, All-contains, All-nil, Contains-append_right, Contains-push}
-use Rattle.fis_view.specs.Frames.{IsFrame, Stamped}
+use Rattle.fis_view.specs.Frames.{Stamped}
 use Rattle.ahci_controller.specs.declared.taking.Hindrance.{Hindrance}
 use Rattle.ahci_controller.specs.declared.taking.Took.{Took}
 use Rattle.ahci_machine.specs.Acts as acts
@@ -20,8 +20,8 @@ use Rattle.ahci_machine.specs.declared.request.Wanted.TheVariants.{Command, Data
 use Rattle.controller_laws.specs.Events as call
 use Rattle.controller_laws.specs.Events.{Event}
 use Rattle.machine_laws.specs.ControllerLaws.{RunsRuled, calls_in}
-use Rattle.machine_laws.specs.Controllers.{data_calls, deed_calls, lost_calls, miss_calls, move_calls, rest_calls, supply_calls}
-use Rattle.machine_laws.specs.Deeds.{Deed, Does, Moved, Unlent, Wrote, Powered, Supplied, Missed, Answered, Put, Plugged, Pulled, Removed, FrameTaken, FrameOffered}
+use Rattle.machine_laws.specs.Controllers.{data_calls, deed_calls, lost_calls, miss_calls, rest_calls, supply_calls}
+use Rattle.machine_laws.specs.Deeds.{Deed, Does, Moved, Wrote, Supplied, Missed}
 use Rattle.machine_laws.specs.Lent.{last_taken}
 use Rattle.machine_laws.specs.Rising.{DataAreSent, Frames, GoesOnRising, HaveRisen, came_by, frames_after, is_reset, more_frames, sent_by}
 use Rattle.machine_theorem.proofs.Sent.{AllSent}

@@ -1,2 +1,5 @@
 pub mod Origins
 pub mod Parts
+pub mod Commands
+pub mod Ends
+pub mod Moments

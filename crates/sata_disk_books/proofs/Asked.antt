@@ -1,6 +1,6 @@
 -- Each command in the books was asked for by a FIS that was heard.
 use Rattle.std.proofs.Common.{◌≡◌, ℕ, zero, suc, true, false, List, [], ◌∷◌, ◌++◌, get_or, set, Some, None, refl, sym, ap, ◌∙◌, subst, append_assoc}
-use Rattle.std.specs.Prelude.{Option, Bool, MatchOption, ◌&&◌, if◌then◌else◌, replicate, Result, Ok, Err, drop}
+use Rattle.std.specs.Prelude.{Option, Bool, ◌&&◌, if◌then◌else◌, replicate, Result, Ok, drop}
 use Rattle.std.specs.Option.{option_map}
 use Rattle.fis_view.specs.Seen.{seen as view_seen}
 use Rattle.fis_view.specs.declared.view.Fis.{Fis}
@@ -38,8 +38,7 @@ use Rattle.ata_command.specs.declared.control.Course.TheVariants.{Drop, Refuse, 
 use Rattle.ata_command.specs.declared.settings.Setting.{Setting}
 use Rattle.ata_command.specs.declared.settings.Setting.TheVariants as setting
 use Rattle.ata_command.specs.Courses.{course, resets}
-use Rattle.ata_front.specs.Fronts.{commanded_by, controlled, heard_data, leaves, refused_by, set_by, standing, taken, taken_flush, taken_power}
-use Rattle.ata_front.specs.declared.front.Front.{Front}
+use Rattle.ata_front.specs.Fronts.{commanded_by, controlled, heard_data, refused_by, set_by, standing, taken, taken_flush, taken_power}
 use Rattle.ata_front.specs.declared.front.Heard.{Heard}
 use Rattle.ata_front.specs.declared.task.Act.{Act}
 use Rattle.ata_front.specs.declared.task.Act.TheVariants as act

@@ -1,3 +1,6 @@
 mod Walks
 mod Given
 mod Asked
+mod Ended
+mod Places
+mod NoEnds

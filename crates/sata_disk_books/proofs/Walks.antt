@@ -1,6 +1,6 @@
 -- A run that goes on: what it shows is what it showed before, and then what the last calls show where the disk stands then.
 use Rattle.std.proofs.Common.{◌≡◌, ℕ, zero, suc, true, false, List, [], ◌∷◌, ◌++◌, drop, Some, None, refl, sym, ap, ◌∙◌, append_assoc}
-use Rattle.std.specs.Prelude.{Option, Bool, ◌&&◌, if◌then◌else◌, Result, Ok}
+use Rattle.std.specs.Prelude.{Option, Bool, if◌then◌else◌, Result, Ok}
 use Rattle.fis_view.specs.Seen.{seen as view_seen}
 use Rattle.fis_view.specs.declared.view.Fis.{Fis}
 use Rattle.fis_view.specs.declared.view.Fis.TheVariants as view
@@ -8,8 +8,7 @@ use Rattle.fis_view.specs.declared.view.FisFault.{FisFault}
 use Rattle.block_disk.specs.Requests.{AreSeenRightly, Books, Seen, entered_by, seen}
 use Rattle.block_queue.specs.Deeds as deed
 use Rattle.block_queue.specs.Deeds.{Deed, act_of, after_deed, seen_of}
-use Rattle.block_queue.specs.Line.{Line, line_gone, line_reset, may_send}
-use Rattle.block_scheduler.specs.Sets.{ends_at}
+use Rattle.block_queue.specs.Line.{Line, line_gone, line_reset}
 use Rattle.block_scheduler.specs.Schedule.{Schedule, ends_sent, with_line}
 use Rattle.block_scheduler.specs.Laws.{Move, Takes, Starts, Asks, Sends, SendsEnds, Hears, Answers, Draws, Forgives, Resets, after_move, after_moves, all_deeds, deeds_of, ends_deeds}
 use Rattle.block_engine.specs.declared.request.Range.{Range}
@@ -36,6 +35,10 @@ unfolding books_after
 books_both [] ys b = refl
 books_both (x ∷ xs) ys b = books_both xs ys (entered_by b x)
 
+pub rightly_first : (xs ys : List Seen) (b : Books) → AreSeenRightly b (xs ++ ys) → AreSeenRightly b xs
+rightly_first [] ys b are = tt
+rightly_first (x ∷ xs) ys b are = (are.0, rightly_first xs ys (entered_by b x) are.1)
+
 pub rightly_then : (xs ys : List Seen) (b : Books) → AreSeenRightly b (xs ++ ys) → AreSeenRightly (books_after b xs) ys
 unfolding books_after
 rightly_then [] ys b are = are
@@ -51,7 +54,7 @@ deeds_both : (ds es : List Deed) (l : Line) → after_deeds l (ds ++ es) ≡ aft
 deeds_both [] es l = refl
 deeds_both (d ∷ ds) es l = deeds_both ds es (after_deed l d)
 
-seen_both : (ds es : List Deed) (l : Line) → seen_of l (ds ++ es) ≡ seen_of l ds ++ seen_of (after_deeds l ds) es
+pub seen_both : (ds es : List Deed) (l : Line) → seen_of l (ds ++ es) ≡ seen_of l ds ++ seen_of (after_deeds l ds) es
 unfolding seen_of
 seen_both [] es l = refl
 seen_both (d ∷ ds) es l = ap (λ x. seen l.queue (act_of d) ∷ x) (seen_both ds es (after_deed l d))
@@ -62,7 +65,7 @@ end_case : (l : Line) (tag : ℕ) (b : Bool) → after_deeds l (if b then deed.S
 end_case l tag true = refl
 end_case l tag false = refl
 
-ends_after : (l : Line) (n : ℕ) → after_deeds l (ends_deeds l n) ≡ ends_sent l n
+pub ends_after : (l : Line) (n : ℕ) → after_deeds l (ends_deeds l n) ≡ ends_sent l n
 unfolding ends_sent ends_deeds
 ends_after l zero = refl
 ends_after l (suc n) =

@@ -1,6 +1,7 @@
 //! The laws.
 
 ghost use Rattle.sata_disk_books.specs.Books.{CommandsAreAsked, DataAreGiven};
+ghost use Rattle.sata_disk_books.specs.Ended.{EndsAreOfPages, OnlyEndsEnd, PagesAreOfPlaces, PlacesAreTags};
 
 /// A law. In every run the Data FIS of a read that goes next has the bytes that the caller gave for the sectors of its command, those that
 /// come behind the bytes that went before. The books have that command, and what was given and sent for it since it was taken.
@@ -14,4 +15,20 @@ pub fn data_are_given()
 /// its sectors, its direction and its place.
 pub fn commands_are_asked()
     ensures { CommandsAreAsked }
+{}
+
+/// A law. In every run each tag in the Set Device Bits FIS that goes next is the place of a command in the books that has earned its end:
+/// of a read all bytes were given for its sectors, and all were sent; of a write all that came were stored, and flushed where they are to
+/// last. No other FIS says that a queued command ended well.
+pub fn ends_are_of_pages()
+    ensures ends { EndsAreOfPages }
+    ensures only { OnlyEndsEnd }
+{
+    sata_disk_laws::ends_are_earned();
+}
+
+/// A law. In every run the command that the books have at a place has this place. That of a queued command is the tag in its FIS.
+pub fn places_are_tags()
+    ensures pages { PagesAreOfPlaces }
+    ensures tags { PlacesAreTags }
 {}

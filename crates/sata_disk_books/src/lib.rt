@@ -3,4 +3,4 @@
 
 mod laws;
 
-pub use laws::{commands_are_asked, data_are_given};
+pub use laws::{commands_are_asked, data_are_given, ends_are_of_pages, places_are_tags};

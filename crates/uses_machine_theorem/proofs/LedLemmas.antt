@@ -6,14 +6,23 @@ use Rattle.hba_fbs.specs.Views.{IsCorePort}
 use Rattle.slots.specs.Table.{IsTable}
 use Rattle.ahci_controller.specs.Rules.{IsRuled}
 use Rattle.ahci_controller.specs.declared.next.Next.TheVariants as next
+use Rattle.disk_pages.specs.declared.profile.Profile.{Profile}
+use Rattle.sata_disk.specs.State.{DiskState, new_disk}
+use Rattle.sata_disk.specs.declared.out.Out.TheVariants as out
 use Rattle.ahci_machine.specs.Acts.{Steps}
+use Rattle.ahci_machine.specs.Ports.{Puts}
 use Rattle.ahci_machine.specs.States.{HasRules, IsOpeningMachine, MachineState}
 use Rattle.ahci_machine.specs.declared.act.Act.{Act}
 use Rattle.ahci_machine.specs.declared.act.Act.TheVariants as act
+use Rattle.ahci_machine.specs.declared.bay.Unit.{Unit as Inside}
+use Rattle.ahci_machine.specs.declared.bay.Unit.TheVariants.{Disk}
+use Rattle.ahci_machine.specs.declared.ports.PortFault.{PortFault}
 use Rattle.machine_laws.specs.ControllerLaws.{RunsRuled}
-use Rattle.machine_laws.specs.Deeds.{Deed, Does, Moved}
+use Rattle.machine_laws.specs.Deeds.{Deed, Does, Moved, Put}
+use Rattle.machine_theorem.specs.Ends.{EndsAreOfDevices}
+use Rattle.machine_theorem.specs.Moments.{DataAreOfSlots, PayloadIsOfSlots}
 use Rattle.machine_theorem.specs.Parts.{PayloadIsBrought}
-use Rattle.uses_machine_theorem.specs.Led.{IsLed, LendsBrought}
+use Rattle.uses_machine_theorem.specs.Led.{EndsEarned, IsLed, LendsBrought, LendsOfSlots, PutsNew, SpeaksOfSlots}
 
 pub ruled : (m : MachineState) → IsCorePort m.controller.core → IsTable m.controller.core.slots → IsRuled m.controller → HasRules m
 ruled m port slots rules = record { port = port; slots = slots; rules = rules }
@@ -40,3 +49,41 @@ led old new (Err e) step rules was = tt
 pub brought : PayloadIsBrought → (old new : MachineState) (told : Result Act AllocError) → IfOk told (λ a. Steps old a new) → LendsBrought old told new
 brought law old new told step m is was =
     law was.ports was.legacy was.first was.opens was.deeds old was.run m new (subst (λ (t : Result Act AllocError). IfOk t (λ a. Steps old a new)) is step)
+
+abbrev Told : Result Act AllocError → MachineState → MachineState → Type 0
+Told told old new = IfOk told (λ a. Steps old a new)
+
+told_is : (old new : MachineState) (told : Result Act AllocError) (a : Act) → Told told old new → told ≡ Ok a → Steps old a new
+told_is old new told a step is = subst (λ (t : Result Act AllocError). Told t old new) is step
+
+pub of_slots : PayloadIsOfSlots → (old new : MachineState) (told : Result Act AllocError) → IfOk told (λ a. Steps old a new) → LendsOfSlots old told new
+of_slots law old new told step m is was =
+    law was.ports was.legacy was.first was.opens was.deeds old was.run m new (told_is old new told (act.Writes (next.Payload m)) step is)
+
+pub speaks : DataAreOfSlots → (old new : MachineState) (told : Result Act AllocError) → IfOk told (λ a. Steps old a new) → SpeaksOfSlots old told
+speaks law old new told step n place len is was =
+    law was.ports was.legacy was.first was.opens was.deeds old was.run n place len new (told_is old new told (act.Speaks n (out.Data place len)) step is)
+
+pub ended : EndsAreOfDevices → (old new : MachineState) (told : Result Act AllocError) → IfOk told (λ a. Steps old a new) → HasRules new → EndsEarned old told new
+ended law old new told step rules took is was slot low shows hides =
+    let does : Steps old (act.Takes took) new = told_is old new told (act.Takes took) step is in
+    (does.does.frame, law was.ports was.legacy was.first was.opens was.deeds old was.run took new does rules slot low shows hides)
+
+-- ---- a disk is put at a port
+
+pub puts : (port : ℕ) (profile : Profile) (limit : ℕ) (disk : DiskState) → disk ≡ new_disk profile limit → (old new : MachineState)
+    (told : Result (Unit {0}) (Inside × PortFault)) → Puts port (Disk disk) old told new → HasRules new → PutsNew port profile limit old new
+puts port profile limit disk is old new told does rules was =
+    let now : Puts port (Disk (new_disk profile limit)) old told new = subst (λ (d : DiskState). Puts port (Disk d) old told new) is does in
+    let deed : Deed = Put port (Disk (new_disk profile limit)) told in (
+      told,
+      record {
+        ports = was.ports;
+        legacy = was.legacy;
+        first = was.first;
+        opens = was.opens;
+        deeds = was.deeds ++ deed ∷ [];
+        run = more was.deeds was.first old new deed was.run now rules;
+      },
+      refl,
+    )

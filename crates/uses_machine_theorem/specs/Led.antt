@@ -1,14 +1,27 @@
--- What a caller knows of its machine, and of what it is told to write.
-use Rattle.std.specs.Prelude.{◌≡◌, ℕ, Bool, List, Result, Ok}
+-- What a caller knows of its machine, of what it is told to write, and of its disks.
+use Rattle.std.specs.Prelude.{◌≡◌, ◌<◌, ℕ, Bool, true, false, List, [], ◌∷◌, ◌++◌, Result, Ok}
 use Rattle.std.specs.declared.alloc.AllocError.{AllocError}
+use Rattle.fis_view.specs.Frames.{Stamped}
+use Rattle.slots.specs.Slots.{has_bit}
 use Rattle.guest_fetch.specs.declared.moves.Move.{Move}
+use Rattle.ahci_registers.specs.declared.register.Register.TheVariants.{PxSact}
+use Rattle.ahci_controller.specs.Reading.{shown}
 use Rattle.ahci_controller.specs.declared.next.Next.TheVariants as next
+use Rattle.ahci_controller.specs.declared.taking.Took.{Took}
+use Rattle.disk_pages.specs.declared.profile.Profile.{Profile}
+use Rattle.sata_disk.specs.State.{new_disk}
+use Rattle.sata_disk.specs.declared.out.Out.TheVariants as out
 use Rattle.ahci_machine.specs.Registers.{lent_bytes}
 use Rattle.ahci_machine.specs.States.{IsOpeningMachine, MachineState}
 use Rattle.ahci_machine.specs.declared.act.Act.{Act}
 use Rattle.ahci_machine.specs.declared.act.Act.TheVariants as act
+use Rattle.ahci_machine.specs.declared.bay.Unit.{Unit as Inside}
+use Rattle.ahci_machine.specs.declared.bay.Unit.TheVariants.{Disk}
+use Rattle.ahci_machine.specs.declared.ports.PortFault.{PortFault}
 use Rattle.machine_laws.specs.ControllerLaws.{RunsRuled}
-use Rattle.machine_laws.specs.Deeds.{Deed}
+use Rattle.machine_laws.specs.Deeds.{Deed, Put}
+use Rattle.machine_theorem.specs.Ends.{IsEnded}
+use Rattle.machine_theorem.specs.Moments.{GivesNext, IsBroughtFor, OfNewDisk}
 use Rattle.machine_theorem.specs.Parts.{IsBrought}
 
 -- some run led here from a machine that opened
@@ -20,6 +33,26 @@ pub record IsLed (now : MachineState) : Type 0 where
   pub deeds : List Deed
   pub run : RunsRuled first deeds now
 
+-- A new disk is put at a port, or refused there: whatever run it was, it goes on with that.
+abbrev pub PutsNew : ℕ → Profile → (limit : ℕ) → MachineState → MachineState → Type 0
+PutsNew port profile limit old new = (led : IsLed old)
+    → (told : Result (Unit {0}) (Inside × PortFault)) × (after : IsLed new) × (after.deeds ≡ led.deeds ++ Put port (Disk (new_disk profile limit)) told ∷ [])
+
 -- A move says that payload is to be written: then the bytes that it lends were brought, in whatever run it was that led here.
 abbrev pub LendsBrought : MachineState → Result Act AllocError → MachineState → Type 0
 LendsBrought now told new = (m : Move) → told ≡ Ok (act.Writes (next.Payload m)) → (led : IsLed now) → IsBrought led.first led.deeds now led.run m (lent_bytes new)
+
+-- And they were sent for a command that came from a slot, if a disk sent them that was new as it was put at its port.
+abbrev pub LendsOfSlots : MachineState → Result Act AllocError → MachineState → Type 0
+LendsOfSlots now told new = (m : Move) → told ≡ Ok (act.Writes (next.Payload m)) → (led : IsLed now) → IsBroughtFor led.first led.deeds now led.run m (lent_bytes new)
+
+-- A move says that a disk sends Data for a command: they are the next bytes that the caller gave for the sectors of a command from a slot.
+abbrev pub SpeaksOfSlots : MachineState → Result Act AllocError → Type 0
+SpeaksOfSlots now told = (n place len : ℕ) → told ≡ Ok (act.Speaks n (out.Data place len)) → (led : IsLed now)
+    → OfNewDisk led.first led.deeds now led.run n place (GivesNext place)
+
+-- A bit of PxSACT falls by a move that takes a FIS: the device that owns the slot said so, and a disk has earned that.
+abbrev pub EndsEarned : MachineState → Result Act AllocError → MachineState → Type 0
+EndsEarned now told new = (took : Took) → told ≡ Ok (act.Takes took) → (led : IsLed now) → (slot : ℕ) → slot < 32
+    → has_bit (shown PxSact now.controller) slot ≡ true → has_bit (shown PxSact new.controller) slot ≡ false
+    → (fis : Stamped) × IsEnded led.first led.deeds now led.run new.fan fis slot

@@ -1,10 +1,12 @@
-//! A caller of a machine that knows where the bytes come from that it is told to write to the guest.
+//! A caller of a machine that knows where the bytes come from that it is told to write to the guest, and which commands its disks have.
 #![tactic(auto)]
 
-ghost use Rattle.std.specs.Prelude.{IfOk};
-ghost use Rattle.uses_machine_theorem.specs.Led.{IsLed, LendsBrought};
+ghost use Rattle.std.specs.Prelude.{◌≤◌, IfOk};
+ghost use Rattle.uses_machine_theorem.specs.Led.{EndsEarned, IsLed, LendsBrought, LendsOfSlots, PutsNew, SpeaksOfSlots};
 
-use ahci_machine::{Act, Machine};
+use ahci_machine::{Act, Machine, Unit};
+use disk_pages::Profile;
+use sata_disk::SataDisk;
 use std::alloc::{AllocError, Global};
 
 /// A machine with nothing at its ports.
@@ -16,13 +18,36 @@ pub fn opens(alloc: Global, ports: u8, legacy: bool) -> Result<Machine, AllocErr
     Ok(machine)
 }
 
+/// Puts a new disk at a port.
+pub fn puts(
+    alloc: Global,
+    machine: &mut Machine,
+    port: u8,
+    profile: Profile,
+    limit: u32,
+) -> Result<(), AllocError>
+    requires { 1048576 ≤ limit }
+    ensures { IfOk result (λ _. PutsNew port profile limit machine.old machine.new) }
+{
+    let disk = SataDisk::new(alloc, profile, limit)?;
+    let _ = machine.put(port, Unit::Disk(disk));
+    machine.keeps_rules();
+    Ok(())
+}
+
 /// The machine moves. Where it says that payload is to be written, the bytes that it lends are those of a Data FIS that a device sent: of a
-/// disk the next bytes that the caller gave for the sectors of the command.
+/// disk the next bytes that the caller gave for the sectors of the command, and this command came from a slot. Where it says that a disk sends
+/// Data, they are such bytes. Where a bit of PxSACT falls as it takes a FIS, the device that owns the slot said so, and a disk has earned that.
 pub fn moves(alloc: Global, machine: &mut Machine) -> Result<Act, AllocError>
     ensures led { IsLed machine.old → IfOk result (λ moved. IsLed machine.new) }
     ensures brought { LendsBrought machine.old result machine.new }
+    ensures slots { LendsOfSlots machine.old result machine.new }
+    ensures speaks { SpeaksOfSlots machine.old result }
+    ensures ended { EndsEarned machine.old result machine.new }
 {
     machine_theorem::payload_comes_from_devices();
+    machine_theorem::data_are_of_slots();
+    machine_theorem::ends_come_from_devices();
     machine.keeps_rules();
     let moved = machine.step(alloc);
     machine.keeps_rules();

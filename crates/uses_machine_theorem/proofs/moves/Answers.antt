@@ -1,4 +1,4 @@
-use Rattle.uses_machine_theorem.proofs.LedLemmas.{brought, led, ruled}
+use Rattle.uses_machine_theorem.proofs.LedLemmas.{brought, ended, led, of_slots, ruled, speaks}
 use Rattle.uses_machine_theorem.proofs.moves.Goals as goal
 
 pub returns-clause-led : goal.returns-clause-led
@@ -8,3 +8,14 @@ returns-clause-led c =
 
 pub returns-clause-brought : goal.returns-clause-brought
 returns-clause-brought c = brought c.payload_comes_from_devices.ensures.brought c.args.machine.now c.step-moved.new.self c.step-moved.result c.step-moved.ensures.ok
+
+pub returns-clause-slots : goal.returns-clause-slots
+returns-clause-slots c = of_slots c.data_are_of_slots.ensures.payload c.args.machine.now c.step-moved.new.self c.step-moved.result c.step-moved.ensures.ok
+
+pub returns-clause-speaks : goal.returns-clause-speaks
+returns-clause-speaks c = speaks c.data_are_of_slots.ensures.given c.args.machine.now c.step-moved.new.self c.step-moved.result c.step-moved.ensures.ok
+
+pub returns-clause-ended : goal.returns-clause-ended
+returns-clause-ended c =
+    ended c.ends_come_from_devices.ensures.ends c.args.machine.now c.step-moved.new.self c.step-moved.result c.step-moved.ensures.ok
+    (ruled c.step-moved.new.self c.keeps_rules-2.ensures.port c.keeps_rules-2.ensures.slots c.keeps_rules-2.ensures.rules)

@@ -1,0 +1,164 @@
+-- What is sent is sent at a moment of the run, and the disk's command then came from a slot.
+use Rattle.std.proofs.Common.{◌≡◌, ℕ, ◌<◌, Bool, true, List, [], ◌∷◌, ◌++◌, append_assoc, Option, Some, None, refl, sym, ap, ◌∙◌, subst, inl, inr}
+use Rattle.fis_view.specs.Frames.{Stamped}
+use Rattle.block_disk.specs.Laws.{Page}
+use Rattle.block_queue.specs.Line.{command_at, has_bit}
+use Rattle.disk_pages.specs.declared.profile.Profile.{Profile}
+use Rattle.sata_disk.specs.Sending.{IsOut, part_at}
+use Rattle.sata_disk.specs.State.{DiskState, commands, new_disk}
+use Rattle.sata_disk.specs.declared.out.Out.TheVariants as out
+use Rattle.sata_disk_books.specs.Books.{AreOfPage, DataAreGiven, page_in}
+use Rattle.sata_disk_books.specs.Ended.{EndsAreOfPages, HasEarned}
+use Rattle.sata_disk_laws.specs.Calls.{AreCalls, Call, after_calls}
+use Rattle.ahci_machine.specs.Registers.{lent_bytes}
+use Rattle.ahci_machine.specs.States.{HasRules, IsOpeningMachine, MachineState, bay_at}
+use Rattle.ahci_machine.specs.declared.act.Act.{Act}
+use Rattle.ahci_machine.specs.declared.act.Act.TheVariants as act
+use Rattle.ahci_machine.specs.declared.bay.Unit.TheVariants.{Disk}
+use Rattle.machine_laws.specs.ControllerLaws.{RunsRuled}
+use Rattle.machine_laws.specs.Deeds.{Deed, Does, Moved}
+use Rattle.machine_laws.specs.Heard.{DisksHaveLived, HasLived, life_in, no_life}
+use Rattle.machine_theorem.specs.Commands.{CommandsOfNewDisks}
+use Rattle.machine_theorem.specs.Ends.{IsEndBy, IsEndIn}
+use Rattle.machine_theorem.specs.Moments.{DataAreOfSlots, Earns, EndedAtMoments, EndsAreOfSlots, GivesNext, HasCommand, IsOfSlots, Moment, OfNewDisk, PayloadIsOfSlots, SentAtMoments}
+use Rattle.machine_theorem.specs.Origins.{IsSentBy, IsSentIn}
+use Rattle.machine_theorem.specs.Parts.{IsBrought, PayloadIsBrought}
+
+-- ---- moments
+
+-- one deed more
+more : (deeds : List Deed) (first old new : MachineState) (deed : Deed) → RunsRuled first deeds old → Does old deed new → HasRules new → RunsRuled first (deeds ++ deed ∷ []) new
+more [] first old new deed run does rules = (run.0, (new, subst (λ (m : MachineState). Does m deed new) run.1 does, (rules, refl)))
+more (d ∷ later) first old new deed run does rules = (run.0, (run.1.0, run.1.1, more later run.1.0 old new deed run.1.2 does rules))
+
+first_ruled : (deeds : List Deed) (old new : MachineState) → RunsRuled old deeds new → HasRules old
+first_ruled [] old new run = run.0
+first_ruled (deed ∷ later) old new run = run.0
+
+abbrev Holding : Type 1
+Holding = (at : MachineState) → (deed : Deed) → (new : MachineState) → Does at deed new → Type 0
+
+-- the moment, from deeds that came before
+moment_behind : (R : Holding) (old : MachineState) (past : List Deed) (m : MachineState) (deed : Deed) (later : List Deed) (next : MachineState) (does : Does m deed next)
+    → RunsRuled old past m → R m deed next does → Moment old (past ++ deed ∷ later) R
+moment_behind R old past m deed later next does first holds = record {
+  before = past;
+  at = m;
+  first = first;
+  deed = deed;
+  new = next;
+  does = does;
+  later = later;
+  is = refl;
+  holds = holds;
+}
+
+sent_from : (f : Stamped) (old : MachineState) (past : List Deed) (m : MachineState) → RunsRuled old past m → (deeds : List Deed) (now : MachineState) (run : RunsRuled m deeds now)
+    → IsSentIn f m deeds now run → Moment old (past ++ deeds) (IsSentBy f)
+sent_from f old past m first [] now run sent = absurd sent
+sent_from f old past m first (deed ∷ later) now run (inl by) = moment_behind (IsSentBy f) old past m deed later run.1.0 run.1.1 first by
+sent_from f old past m first (deed ∷ later) now run (inr is) =
+    subst (λ (l : List Deed). Moment old l (IsSentBy f)) (append_assoc past (deed ∷ []) later)
+    (sent_from f old (past ++ deed ∷ []) run.1.0 (more past old m run.1.0 deed first run.1.1 (first_ruled later run.1.0 now run.1.2)) later now run.1.2 is)
+
+pub sent_at : SentAtMoments
+sent_at f old deeds now run sent = sent_from f old [] old (first_ruled deeds old now run, refl) deeds now run sent
+
+ended_from : (f : Stamped) (tag : ℕ) (old : MachineState) (past : List Deed) (m : MachineState) → RunsRuled old past m → (deeds : List Deed) (now : MachineState)
+    (run : RunsRuled m deeds now) → IsEndIn f tag m deeds now run → Moment old (past ++ deeds) (IsEndBy f tag)
+ended_from f tag old past m first [] now run sent = absurd sent
+ended_from f tag old past m first (deed ∷ later) now run (inl by) = moment_behind (IsEndBy f tag) old past m deed later run.1.0 run.1.1 first by
+ended_from f tag old past m first (deed ∷ later) now run (inr is) =
+    subst (λ (l : List Deed). Moment old l (IsEndBy f tag)) (append_assoc past (deed ∷ []) later)
+    (ended_from f tag old (past ++ deed ∷ []) run.1.0 (more past old m run.1.0 deed first run.1.1 (first_ruled later run.1.0 now run.1.2)) later now run.1.2 is)
+
+pub ended_at : EndedAtMoments
+ended_at f tag old deeds now run sent = ended_from f tag old [] old (first_ruled deeds old now run, refl) deeds now run sent
+
+-- ---- what a disk sends
+
+pub record Laws : Type 0 where
+  pub lived : DisksHaveLived
+  pub fresh : CommandsOfNewDisks
+  pub given : DataAreGiven
+  pub ends : EndsAreOfPages
+
+module _ (laws : Laws) (ports : ℕ) (legacy : Bool) (old : MachineState) (opening : IsOpeningMachine ports legacy old) (deeds : List Deed) (now : MachineState)
+    (run : RunsRuled old deeds now) (n : ℕ) where
+  abbrev calls : List Call
+  calls = (life_in n no_life old deeds now run).calls
+
+  -- the page of a place, of which this holds
+  has_command : (d : DiskState) (there : (bay_at now n).unit ≡ Disk d) (lived : HasLived (life_in n no_life old deeds now run) d) (place : ℕ) (Holds : Page → Type 0) (p : Profile)
+      (limit : ℕ) → lived.disk ≡ new_disk p limit → (page : Page) → page_in p limit calls place ≡ Some page → Holds page → HasCommand old deeds now run n place Holds p limit
+  has_command d there lived place Holds p limit new page is holds =
+      record { page = page; is = is; holds = holds; command = laws.fresh ports legacy old opening deeds now run n d there lived p limit new place page is }
+
+  data_command : (d : DiskState) (there : (bay_at now n).unit ≡ Disk d) (lived : HasLived (life_in n no_life old deeds now run) d) (place : ℕ) (p : Profile) (limit : ℕ)
+      → lived.disk ≡ new_disk p limit → (x : Option Page) → page_in p limit calls place ≡ x → AreOfPage x (part_at (command_at (commands d) place))
+      → HasCommand old deeds now run n place (GivesNext place d) p limit
+  data_command d there lived place p limit new None is next = absurd next
+  data_command d there lived place p limit new (Some page) is next = has_command d there lived place (GivesNext place d) p limit new page is next
+
+  end_command : (d : DiskState) (there : (bay_at now n).unit ≡ Disk d) (lived : HasLived (life_in n no_life old deeds now run) d) (tag : ℕ) (p : Profile) (limit : ℕ)
+      → lived.disk ≡ new_disk p limit → (x : Option Page) → page_in p limit calls tag ≡ x → HasEarned x → HasCommand old deeds now run n tag (Earns d) p limit
+  end_command d there lived tag p limit new None is earned = absurd earned
+  end_command d there lived tag p limit new (Some page) is earned = has_command d there lived tag (Earns d) p limit new page is earned
+
+  data_of : (place len : ℕ) (d : DiskState) → (bay_at now n).unit ≡ Disk d → IsOut d (Some (out.Data place len)) → OfNewDisk old deeds now run n place (GivesNext place)
+  data_of place len d there next =
+      let lived : HasLived (life_in n no_life old deeds now run) d = laws.lived ports legacy old opening deeds now run n d there in
+      record {
+        disk = d;
+        there = there;
+        lived = lived;
+        new = λ p limit new.
+            let same : d ≡ after_calls (new_disk p limit) calls = lived.is ∙ ap (λ (x : DiskState). after_calls x calls) new in
+            let are : AreCalls (new_disk p limit) calls = subst (λ (x : DiskState). AreCalls x calls) new lived.are in
+            data_command d there lived place p limit new (page_in p limit calls place) refl
+            (subst (λ (x : DiskState). AreOfPage (page_in p limit calls place) (part_at (command_at (commands x) place))) (sym same)
+            (laws.given p limit calls place len are (subst (λ (x : DiskState). IsOut x (Some (out.Data place len))) same next)));
+      }
+
+  end_of : (tags tag : ℕ) → tag < 32 → has_bit tags tag ≡ true → (d : DiskState) → (bay_at now n).unit ≡ Disk d → IsOut d (Some (out.Ends tags))
+      → OfNewDisk old deeds now run n tag Earns
+  end_of tags tag low bit d there next =
+      let lived : HasLived (life_in n no_life old deeds now run) d = laws.lived ports legacy old opening deeds now run n d there in
+      record {
+        disk = d;
+        there = there;
+        lived = lived;
+        new = λ p limit new.
+            let same : d ≡ after_calls (new_disk p limit) calls = lived.is ∙ ap (λ (x : DiskState). after_calls x calls) new in
+            let are : AreCalls (new_disk p limit) calls = subst (λ (x : DiskState). AreCalls x calls) new lived.are in
+            end_command d there lived tag p limit new (page_in p limit calls tag) refl
+            (laws.ends p limit calls tags are (subst (λ (x : DiskState). IsOut x (Some (out.Ends tags))) same next) tag low bit);
+      }
+
+pub data_are : Laws → DataAreOfSlots
+data_are laws ports legacy old opening deeds now run n place len new does =
+    let h = does.does.does.1 in
+    data_of laws ports legacy old opening deeds now run n place len h.disk h.there h.next
+
+pub ends_are : Laws → EndsAreOfSlots
+ends_are laws ports legacy old opening deeds now run n tags new does tag low bit =
+    let h = does.does.does.1 in
+    end_of laws ports legacy old opening deeds now run n tags tag low bit h.disk h.there h.next
+
+-- ---- the payload
+
+module _ (laws : Laws) (ports : ℕ) (legacy : Bool) (old : MachineState) (opening : IsOpeningMachine ports legacy old) (before : List Deed) (at : MachineState)
+    (first : RunsRuled old before at) where
+  move_of : (a : Act) (new : MachineState) → Does at (Moved a) new → IsOfSlots old before at first (Moved a)
+  move_of (act.Speaks n (out.Data place len)) new does = data_are laws ports legacy old opening before at first n place len new does
+  move_of a new does = tt
+
+  deed_of : (deed : Deed) (new : MachineState) → Does at deed new → IsOfSlots old before at first deed
+  deed_of (Moved a) new does = move_of a new does
+  deed_of deed new does = tt
+
+pub payload_is : Laws → PayloadIsBrought → PayloadIsOfSlots
+payload_is laws law ports legacy old opening deeds now run m new does =
+    let brought : IsBrought old deeds now run m (lent_bytes new) = law ports legacy old opening deeds now run m new does in
+    let sent : Moment old deeds (IsSentBy brought.fis) = sent_at brought.fis old deeds now run brought.sent in
+    record { brought = brought; sent = sent; command = deed_of laws ports legacy old opening sent.before sent.at sent.first sent.deed sent.new sent.does }

@@ -1,0 +1,9 @@
+use Rattle.sata_disk_books.proofs.Ended.{ends_are_of_pages}
+use Rattle.sata_disk_books.proofs.NoEnds.{only_ends_end}
+use Rattle.sata_disk_books.proofs.laws.ends_are_of_pages.Goals as goal
+
+pub returns-clause-ends : goal.returns-clause-ends
+returns-clause-ends c = ends_are_of_pages c.ends_are_earned.ensures
+
+pub returns-clause-only : goal.returns-clause-only
+returns-clause-only c = only_ends_end
