@@ -1,7 +1,7 @@
 -- For `disks_are_honest`. Honest disks on each connection, over whole runs of a world.
-use Rattle.std.proofs.Common.{◌≡◌, ◌==◌, ℕ, ◌<◌, Bool, true, false, List, [], ◌∷◌, ◌++◌, append_assoc, length, refl, sym, ap, subst, ◌∙◌, inl, inr, Some}
+use Rattle.std.proofs.Common.{◌≡◌, ◌==◌, ℕ, ◌<◌, Bool, true, false, List, [], ◌∷◌, ◌++◌, append_assoc, length, refl, sym, ap, subst, ◌∙◌, inl, inr, Option, Some, None}
 use Rattle.std.proofs.Common.{Ok, arith}
-use Rattle.std.specs.Prelude.{if◌then◌else◌, slice_get}
+use Rattle.std.specs.Prelude.{if◌then◌else◌, slice_get, IsSomeAnd}
 use Rattle.std.specs.List.{list_any}
 use Rattle.std.proofs.lemmas.Bool.{eq-eqb, eqb-true, or_parts}
 use Rattle.std.proofs.lemmas.List.Folds.{list_any-append}
@@ -19,15 +19,15 @@ use Rattle.hba_driver.specs.HostTurns.{HostTurn}
 use Rattle.disk_simulation.proofs.Door.{run_to}
 use Rattle.multiplier.specs.State.{port_at}
 use Rattle.pm_registers.specs.RegisterMap.{forwards}
-use Rattle.pm_world.specs.Attached.{Attached, Modelled, plan_of}
+use Rattle.pm_world.specs.Attached.{Attached, Modelled, StandsFor, plan_of}
 use Rattle.pm_world.specs.Disks.{Before, DiskRun, EndedSince, FlushedSince, HasDisk, HonestDisks, Since, WasSubmitted, disk_history, host_turns}
-use Rattle.pm_world.specs.Places.{Places, is_config, new_world}
+use Rattle.pm_world.specs.Places.{Place, Places, is_config, new_world}
 use Rattle.pm_world.specs.Rules.{Rule, Run}
 use Rattle.pm_world.specs.Runs.{IsStepOf, over}
 use Rattle.pm_world.specs.HostTouches.{AreTouched}
 use Rattle.pm_world.specs.Turns.{turn_of}
-use Rattle.pm_world.specs.Units.{happens}
-use Rattle.pm_world.specs.Ends.{EndsMeet, HaveMet}
+use Rattle.pm_world.specs.Units.{LivesOn, happens}
+use Rattle.pm_world.specs.Ends.{EndsMeet, HaveMet, IsDiskWith}
 use Rattle.pm_world.specs.PathEnds.{IsThere, injects}
 use Rattle.pm_world.specs.declared.step.Answer.{Answer}
 use Rattle.pm_world.specs.declared.step.Answer.TheVariants as answer
@@ -325,6 +325,14 @@ module _ (config : Config) (units : List Attached) (n sectors : ℕ) (plan : Dis
   history_is : before ++ since ≡ disk_history config units n now d past
   history_is = refl
 
+  its_disk : (o : Option Place) → IsSomeAnd o (λ place. LivesOn (Modelled (Disk disk.disk)) (first_history ++ since) place.unit)
+      → IsSomeAnd o (λ place. IsDiskWith plan sectors (disk_history config units n now d past) place.unit)
+  its_disk None lives = lives
+  its_disk (Some place) lives = record {
+    stands = subst (StandsFor place.unit) (sym (append_assoc past first_history since)) (lives.stands_for past disk.stands);
+    is = lives.plan ∙ of_plan;
+  }
+
   -- host and disk are ends while the port is open to the disk
   have_met : IsThere n d.conn now → (port_at now.multiplier n).present ≡ Some d.conn → forwards now.multiplier.registers n ≡ true
       → HaveMet config units n sectors now d plan past
@@ -333,6 +341,9 @@ module _ (config : Config) (units : List Attached) (n sectors : ℕ) (plan : Dis
       (firm_at config units fits n below all_steps all_answers now all_run) there present opens plain_stage in
       let h = s.ends in
       record {
+        disk = its_disk (slice_get now.devices n)
+            (units_lived_on d.out (step.Came n ∷ d.steps) (answer.Came n d.conn ∷ d.answers) now d.run Switching config units fits d.first d.told d.made n
+            (Modelled (Disk disk.disk)) disk.there);
         touches = h.both.touches;
         touched = subst (λ (ts : List HostTurn). AreTouched config.memory ts now.host h.both.touches) turns_are h.both.touched;
         down = h.down;
