@@ -24,6 +24,7 @@ pub mod DevicePaths
 pub mod HostTouches
 pub mod HonestEnds
 pub mod Disks
+pub mod Ends
 pub mod Keeping
 pub mod Stale
 pub mod Connections

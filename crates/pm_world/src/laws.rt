@@ -4,6 +4,7 @@ ghost use Rattle.pm_world.specs.Connections.{ConnectionsFollow};
 ghost use Rattle.pm_world.specs.DevicePaths.{DroppedNeverComes, PluggedIsOnPath, ReachedAreOrderly};
 ghost use Rattle.pm_world.specs.DevicePaths.{UnitPathsGoOn, PathsGoOn};
 ghost use Rattle.pm_world.specs.Disks.{HonestDisks};
+ghost use Rattle.pm_world.specs.Ends.{EndsMeet};
 ghost use Rattle.pm_world.specs.Flushing.{FlushesFollowWrites};
 ghost use Rattle.pm_world.specs.InOrder.{ReadsFollowWrites};
 ghost use Rattle.pm_world.specs.Keeping.{PortsKeep};
@@ -72,6 +73,13 @@ pub fn paths_go_on()
 /// reports a Flush as done, the disk took one since that Flush was submitted.
 pub fn disks_are_honest()
     ensures { HonestDisks }
+{}
+
+/// Holds from the plugging of a disk on, as long as the disk is left alone (nothing is injected at its port), whatever was before and
+/// whatever the other devices do: while its port forwards, host and disk are the two ends of a link. What each did fits what the other
+/// did, except for what stands on the links and at the port.
+pub fn ends_meet()
+    ensures { EndsMeet }
 {}
 
 /// Holds after every run from a new world, where a poll answers that a request is done. The request

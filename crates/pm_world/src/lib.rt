@@ -24,7 +24,7 @@ pub use counts::{ConnCount, Counts};
 pub use device::{AnyDevice, PortDevice};
 pub use hop::Hop;
 pub use laws::{
-    commands_are_meant, connections_follow, disks_are_honest, flushes_follow_writes,
+    commands_are_meant, connections_follow, disks_are_honest, ends_meet, flushes_follow_writes,
     media_change_by_writes, none_is_stale, one_order_at_a_time, ordered_is_not_stale, paths_go_on,
     polled_errors_are_named, polled_is_honest, ports_go_on, ports_keep_to_one,
     ports_rest_at_a_flush, reads_bring_writes, reads_follow_writes, writes_are_as_submitted,

@@ -12,3 +12,9 @@ mod Still
 mod Rested
 mod Served
 mod Rising
+mod Taken
+mod Asking
+mod Open
+mod Answered
+mod Ready
+mod Disks

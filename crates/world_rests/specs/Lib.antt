@@ -3,3 +3,4 @@ pub mod Sent
 pub mod Waits
 pub mod Turns
 pub mod Laws
+pub mod Left

@@ -1,6 +1,7 @@
 //! Laws, which run no code.
 
 ghost use Rattle.world_rests.specs.Laws.{IdleDriversWait, RestedHaveDone, StillRoundsRest};
+ghost use Rattle.world_rests.specs.Left.{RestedDisksHaveDone};
 ghost use Rattle.world_rests.specs.Turns.{EachTakesTurns};
 
 /// Holds of any driver with FIS-based switching for which a tick has nothing to do, as a tick that is answered `Idle` says. Its
@@ -32,6 +33,18 @@ pub fn rested_have_done()
     pm_world::one_order_at_a_time();
     pm_world::ports_go_on();
     pm_world::paths_go_on();
+}
+
+/// Holds of each world at rest that a run from a new one with FIS-based switching leads to, for a disk of `disk_model` that was
+/// left alone since its plugging (nothing was injected at its port), is plugged in, and whose port forwards. No read or write is with
+/// the disk: what is issued for it and is a read or a write did not go out. While the driver takes the disk to be ready, and the
+/// host port shows neither BSY nor DRQ of it, no read or write for it waits or is issued.
+pub fn rested_disks_have_done()
+    ensures { RestedDisksHaveDone }
+{
+    rested_have_done();
+    pm_world::paths_go_on();
+    pm_world::ends_meet();
 }
 
 /// Holds over every run of each world, in either mode, for each place of the multiplier that has a frame whenever one goes up. Between two

@@ -1,7 +1,7 @@
 -- For `disks_are_honest`. Honest disks on each connection, over whole runs of a world.
-use Rattle.std.proofs.Common.{◌≡◌, ◌==◌, ℕ, ◌<◌, Bool, true, false, List, [], ◌∷◌, ◌++◌, append_assoc, length, refl, sym, ap, subst, ◌∙◌, inl, inr, Some}
+use Rattle.std.proofs.Common.{◌≡◌, ◌==◌, ℕ, ◌<◌, Bool, true, false, List, [], ◌∷◌, ◌++◌, append_assoc, length, refl, sym, ap, subst, ◌∙◌, inl, inr, Option, Some, None}
 use Rattle.std.proofs.Common.{Ok, arith}
-use Rattle.std.specs.Prelude.{if◌then◌else◌, slice_get}
+use Rattle.std.specs.Prelude.{if◌then◌else◌, slice_get, IsSomeAnd}
 use Rattle.std.specs.List.{list_any}
 use Rattle.std.proofs.lemmas.Bool.{eq-eqb, eqb-true, or_parts}
 use Rattle.std.proofs.lemmas.List.Folds.{list_any-append}
@@ -17,15 +17,18 @@ use Rattle.disk_model.specs.Runs.{IsDiskRun}
 use Rattle.hba_driver.specs.declared.mode.Mode.TheVariants.{Switching}
 use Rattle.hba_driver.specs.HostTurns.{HostTurn}
 use Rattle.disk_simulation.proofs.Door.{run_to}
-use Rattle.pm_world.specs.Attached.{Attached, Modelled, plan_of}
+use Rattle.multiplier.specs.State.{port_at}
+use Rattle.pm_registers.specs.RegisterMap.{forwards}
+use Rattle.pm_world.specs.Attached.{Attached, Modelled, StandsFor, plan_of}
 use Rattle.pm_world.specs.Disks.{Before, DiskRun, EndedSince, FlushedSince, HasDisk, HonestDisks, Since, WasSubmitted, disk_history, host_turns}
-use Rattle.pm_world.specs.Places.{Places, is_config, new_world}
+use Rattle.pm_world.specs.Places.{Place, Places, is_config, new_world}
 use Rattle.pm_world.specs.Rules.{Rule, Run}
 use Rattle.pm_world.specs.Runs.{IsStepOf, over}
 use Rattle.pm_world.specs.HostTouches.{AreTouched}
 use Rattle.pm_world.specs.Turns.{turn_of}
-use Rattle.pm_world.specs.Units.{happens}
-use Rattle.pm_world.specs.PathEnds.{injects}
+use Rattle.pm_world.specs.Units.{LivesOn, happens}
+use Rattle.pm_world.specs.Ends.{EndsMeet, HaveMet, IsDiskWith}
+use Rattle.pm_world.specs.PathEnds.{IsThere, injects}
 use Rattle.pm_world.specs.declared.step.Answer.{Answer}
 use Rattle.pm_world.specs.declared.step.Answer.TheVariants as answer
 use Rattle.pm_world.specs.declared.step.Config.{Config}
@@ -38,8 +41,10 @@ use Rattle.pm_world.proofs.honest.DisksLemmas.{ends_honestly, ends_later, flush_
 use Rattle.pm_world.proofs.honest.DisksLemmas.{part_front}
 use Rattle.pm_world.proofs.honest.EarlyLemmas.{ComesShut, comes_shut}
 use Rattle.pm_world.proofs.honest.EndsRuns.{its_port}
-use Rattle.pm_world.proofs.honest.StageRuns.{Hears, Stage, Waiting, hears, stage_rises, stage_run}
+use Rattle.pm_world.proofs.honest.EndsSteps.{running}
+use Rattle.pm_world.proofs.honest.StageRuns.{Hears, Stage, Waiting, hears, serves_open, stage_rises, stage_run}
 use Rattle.pm_world.proofs.honest.TakenLemmas.{took_since}
+use Rattle.pm_world.proofs.ports.FirmLemmas.{firm_at}
 use Rattle.pm_world.proofs.honest.FineLemmas.{further}
 use Rattle.pm_world.proofs.upward.Law.{run_append}
 use Rattle.pm_world.proofs.paths.RunLemmas.{if_some}
@@ -57,7 +62,8 @@ use Rattle.hba_driver.specs.Submits.{new_entry}
 use Rattle.hba_driver.specs.declared.slot.Phase.TheVariants.{Waits}
 use Rattle.hba_driver.specs.declared.request.Request.{Request}
 use Rattle.hba_driver.specs.declared.request.Ticket.{Ticket}
-use Rattle.disk_recovery.specs.Flushes.{AreFloorsOf, Floor, IsFloor, bare_floor, bare_floors, floor_for, floor_of, flushes_taken}
+use Rattle.disk_recovery.specs.Ends.{AreEnds, IsRunning}
+use Rattle.disk_recovery.specs.Flushes.{AreFloorsOf, Floor, IsFloor, bare_floor, bare_floors, floor_for, floor_of, flushes_taken, write_floors}
 use Rattle.disk_recovery.proofs.Door.{floor_stays}
 use Rattle.hba_driver.proofs.Door as accept
 use Rattle.pm_world.proofs.reported.ReportedLemmas.{StoodIn, SubmittedIn, later_of, renamed, step_stood, submitted_over}
@@ -316,6 +322,43 @@ module _ (config : Config) (units : List Attached) (n sectors : ℕ) (plan : Dis
   plain_stage : At bare_floors now since turns
   plain_stage = opens_over bare_floors d.steps d.answers now d.run.2 d.clean whole_run (none_floor (before ++ came))
 
+  history_is : before ++ since ≡ disk_history config units n now d past
+  history_is = refl
+
+  its_disk : (o : Option Place) → IsSomeAnd o (λ place. LivesOn (Modelled (Disk disk.disk)) (first_history ++ since) place.unit)
+      → IsSomeAnd o (λ place. IsDiskWith plan sectors (disk_history config units n now d past) place.unit)
+  its_disk None lives = lives
+  its_disk (Some place) lives = record {
+    stands = subst (StandsFor place.unit) (sym (append_assoc past first_history since)) (lives.stands_for past disk.stands);
+    is = lives.plan ∙ of_plan;
+  }
+
+  -- host and disk are ends while the port is open to the disk
+  have_met : IsThere n d.conn now → (port_at now.multiplier n).present ≡ Some d.conn → forwards now.multiplier.registers n ≡ true
+      → HaveMet config units n sectors now d plan past
+  have_met there present opens =
+      let s = serves_open config units fits n below plan sectors disk.size before first_run within right d.conn bare_floors now since turns
+      (firm_at config units fits n below all_steps all_answers now all_run) there present opens plain_stage in
+      let h = s.ends in
+      record {
+        disk = its_disk (slice_get now.devices n)
+            (units_lived_on d.out (step.Came n ∷ d.steps) (answer.Came n d.conn ∷ d.answers) now d.run Switching config units fits d.first d.told d.made n
+            (Modelled (Disk disk.disk)) disk.there);
+        touches = h.both.touches;
+        touched = subst (λ (ts : List HostTurn). AreTouched config.memory ts now.host h.both.touches) turns_are h.both.touched;
+        down = h.down;
+        up = h.up;
+        path = h.exact.path;
+        exact = h.exact.exact;
+        floors = write_floors bare_floors;
+        running =
+            subst (λ (xs : List Happening). IsRunning plan sectors xs h.both.touches now.host) history_is
+            (running config.memory right plan sectors disk.size (before ++ since) whole_run turns now
+            (now_at config units fits all_steps all_answers now all_run) h.both.touches h.both.touched);
+        ends =
+            subst (λ (xs : List Happening). AreEnds n now.host xs h.down h.up (write_floors bare_floors) h.both.touches) history_is h.both.ends.ends;
+      }
+
   module _ (s : Step) (port conn number : ℕ) (bytes : List ℕ) (report : TakeReport) (new : Places)
       (rule : Rule now s (Ok (answer.Took port conn number bytes report)) new) (here : (port == n) ≡ true) (same : conn ≡ d.conn) where
     abbrev IsHeard : (ℕ → Floor) → Type 0
@@ -410,3 +453,6 @@ pub disk_runs : (config : Config) (units : List Attached) (n sectors : ℕ) (pla
     → HasDisk units n plan sectors past → (now : Places) (d : DiskRun config units n now)
     → IsDiskRun plan sectors (disk_history config units n now d past)
 disk_runs config units n sectors plan past fits below disk now d = whole_run config units n sectors plan past fits below disk now d
+
+pub ends_meet : EndsMeet
+ends_meet config units n sectors plan past fits below disk now d there present opens = have_met config units n sectors plan past fits below disk now d there present opens

@@ -273,6 +273,17 @@ pub record IsPulled (n c : ℕ) (now : Places) (gone happened : List Happening) 
   pub reads : (ledger happened).reads ≡ (ledger gone).reads
   pub flushes : flushes_taken happened ≡ flushes_taken gone
 
+-- it is not there as that connection
+pub pulled_away : (n c : ℕ) (now : Places) (gone happened : List Happening) → IsPulled n c now gone happened → IsThere n c now → ⊥
+pulled_away n c now gone happened p there = by_place (slice_get now.devices n) p.later there
+  where
+    by_place : (o : Option Place) → IsLater c (ledger happened) o → MatchOption o ⊥ (λ place. (place.plugged ≡ true) × (place.conn ≡ c)) → ⊥
+    by_place None later there = there
+    by_place (Some place) later there =
+        let less : c < place.conn = (later.1 there.0).0 in
+        let same : place.conn ≡ c = there.1 in
+        absurd (omega (arith, less, same))
+
 -- it goes on while the port passes no later connection down
 pub pulled_after : (n c : ℕ) → n < 15 → (old : Places) (s : Step) (a : Answer) (new : Places) → Rule old s (Ok a) new → IsFirm n old
     → ((d : ℕ) → passes_to old.multiplier n ≡ Some d → d ≤ c) → (gone happened : List Happening) → IsPulled n c old gone happened

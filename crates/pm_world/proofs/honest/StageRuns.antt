@@ -3,7 +3,8 @@
 use Rattle.std.proofs.Common.{◌≡◌, ℕ, ◌<◌, ◌≤◌, ◌==◌, true, false, List, [], ◌∷◌, ◌++◌, append_assoc, length, refl, sym, ap, subst, ◌∙◌, inl, inr}
 use Rattle.std.proofs.Common.{Ok, Some, arith}
 use Rattle.std.specs.List.{list_any}
-use Rattle.std.proofs.lemmas.Bool.{cases_Bool, or_parts}
+use Rattle.std.specs.Prelude.{nat_le, nat_lt}
+use Rattle.std.proofs.lemmas.Bool.{and_parts, cases_Bool, leb-true, or_parts, true≢false}
 use Rattle.std.proofs.lemmas.List.{append-nil}
 use Rattle.fis_view.specs.Frames.{marked}
 use Rattle.host_memory.specs.Memory.{is_memory_size}
@@ -19,7 +20,7 @@ use Rattle.multiplier.specs.State.{passes_to, port_at}
 use Rattle.pm_registers.specs.RegisterMap as registers
 use Rattle.pm_world.specs.Attached.{Attached}
 use Rattle.pm_world.specs.Cleared.{is_cleared}
-use Rattle.pm_world.specs.PathEnds.{injects, unplugs}
+use Rattle.pm_world.specs.PathEnds.{IsThere, injects, unplugs}
 use Rattle.pm_world.specs.Places.{Places, is_config, new_world}
 use Rattle.pm_world.specs.Rules.{Rule, Run}
 use Rattle.pm_world.specs.Runs.{over}
@@ -32,6 +33,7 @@ use Rattle.pm_world.specs.declared.step.Answer.TheVariants as answer
 use Rattle.pm_world.specs.declared.step.Config.{Config}
 use Rattle.pm_world.specs.declared.step.Step.{Step}
 use Rattle.pm_world.specs.declared.step.Step.TheVariants as step
+use Rattle.pm_world.proofs.cleared.Cleared.{forwards_none}
 use Rattle.pm_world.proofs.honest.AnewLemmas.{IsAnew, cleared_anew, now_at, ordered_on}
 use Rattle.pm_world.proofs.honest.ComingLemmas.{ComesOn, IsComing, IsNext, IsOver, IsUnheard, comes_next, comes_on, coming_open, coming_over, over_on}
 use Rattle.pm_world.proofs.honest.ComingLemmas.{over_takes_none, passes_no_later, unflushed_by, unheard_comes, unheard_on, unheard_over}
@@ -40,7 +42,7 @@ use Rattle.pm_world.proofs.honest.EndsSteps.{HasEnds}
 use Rattle.pm_world.proofs.honest.FineLemmas.{further}
 use Rattle.pm_world.proofs.honest.FlushLemmas.{x_set}
 use Rattle.pm_world.proofs.honest.LiveLemmas.{open_or_waits}
-use Rattle.pm_world.proofs.honest.PulledLemmas.{Goes, IsPulled, Stuck, Unplugs, pulled_after, pulled_now, pulled_unsent, unplugs_or_not}
+use Rattle.pm_world.proofs.honest.PulledLemmas.{Goes, IsPulled, Stuck, Unplugs, pulled_after, pulled_away, pulled_now, pulled_unsent, unplugs_or_not}
 use Rattle.pm_world.proofs.honest.ShutLemmas.{WaitsFor, waits_after}
 use Rattle.pm_world.proofs.honest.WaitingLemmas.{IsWaiting, all_sent, waits_on}
 use Rattle.pm_world.proofs.meant.OrderTurns.{order_step}
@@ -84,6 +86,21 @@ module _ (config : Config) (units : List Attached) (fits : is_config config (len
     Leaving : IsLeaving floors now happened turns → Stage floors now happened turns
     -- nothing of it comes any more
     Over : IsOver n c now → Stage floors now happened turns
+
+  -- the unit is there, and its port passes FISes of it: the port is open to it
+  pub serves_open : (floors : ℕ → Floor) (now : Places) (happened : List Happening) (turns : List HostTurn) → IsFirm n now → IsThere n c now
+      → (port_at now.multiplier n).present ≡ Some c → registers.forwards now.multiplier.registers n ≡ true → Stage floors now happened turns
+      → IsServing config units fits n below plan sectors size earlier first within right c floors now happened turns
+  serves_open floors now happened turns firm there present opens (Serving s) = s
+  serves_open floors now happened turns firm there present opens (Waiting are w waits) =
+      absurd (true≢false (sym opens ∙ forwards_none n now.multiplier.registers (record { shows = firm.true_is.shows; told = waits present })))
+  serves_open floors now happened turns firm there present opens (Left h) = absurd (pulled_away n c now h.gone (earlier ++ happened) h.pulled there)
+  serves_open floors now happened turns firm there present opens (Leaving l) = absurd (pulled_away n c now l.gone (earlier ++ happened) l.pulled there)
+  serves_open floors now happened turns firm there present opens (Over o) =
+      let above : (port_at now.multiplier n).gone < c = ((firm.orderly.knows n).present c present).1 in
+      let most : c ≤ (port_at now.multiplier n).gone =
+      leb-true c (port_at now.multiplier n).gone (and_parts (nat_lt 0 c) (nat_le c (port_at now.multiplier n).gone) o.removed).1 in
+      absurd (omega (arith, above, most))
 
   -- ## A step
 
