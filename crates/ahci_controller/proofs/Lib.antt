@@ -6,3 +6,4 @@ pub mod rules
 pub mod Door
 pub mod TakeLemmas
 pub mod CircleLemmas
+pub mod WrittenLemmas

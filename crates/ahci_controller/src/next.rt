@@ -190,10 +190,14 @@ impl Parts {
     }
 
     /// What is next to be written to the guest.
+    #[tactic(auto, using(crate::proofs::WrittenLemmas::nothing_next))]
     pub(crate) fn next_write(&mut self) -> Option<Next>
         ensures next { result ≡ next_write_of self.old }
         ensures rest { self.new ≡ record self.old { writes = writes_next self.old } }
     {
+        if !self.writes.is_any() {
+            return None;
+        }
         let writes = self.writes;
         if let Some(step) = self.step() {
             self.writes = Writes {

@@ -1,6 +1,6 @@
 //! FISes of devices are taken.
 
-ghost use Rattle.std.specs.Prelude.{◌≡◌, ◌<◌, ◌^◌, true, bit_or, OnErr, IfOk};
+ghost use Rattle.std.specs.Prelude.{◌≡◌, ◌<◌, ◌^◌, ◌||◌, true, bit_or, is_some, OnErr, IfOk};
 ghost use Rattle.std.specs.Result.{result_err};
 ghost use Rattle.hba_fbs.specs.Bits.{without as without_of};
 ghost use Rattle.ahci_registers.specs.Lines.{LineEvent, is_due};
@@ -128,6 +128,13 @@ fn errors_of(report: &TakeReport) -> u16
     }
 }
 
+// Whether a report tells of a fault. Only then does it concern a slot.
+fn is_faulty(report: &TakeReport) -> bool
+    ensures { result ≡ (is_some report.now.fault || is_some report.now.stopped) }
+{
+    report.fault.is_some() || report.stopped.is_some()
+}
+
 impl Wants {
     // A FIS of a device came: what was wanted for its Data is wanted anew, if it still is.
     pub(crate) fn heard(&mut self, dev: u8)
@@ -140,7 +147,7 @@ impl Wants {
 
 impl Writes {
     // Whether something is to be written.
-    fn is_any(&self) -> bool
+    pub(crate) fn is_any(&self) -> bool
         ensures { result ≡ is_any_of self.now }
     {
         self.payload.is_some() || self.posted.is_some() || self.counted != 0
@@ -152,10 +159,9 @@ impl OwnRegisters {
     fn blamed(self, report: &TakeReport, slot: Option<u8>) -> OwnRegisters
         ensures { result ≡ blamed_by self report.now slot }
     {
-        let faulty = report.fault.is_some() || report.stopped.is_some();
         OwnRegisters {
             errors: self.errors | errors_of(report),
-            current: if faulty {
+            current: if is_faulty(report) {
                 slot.unwrap_or(self.current)
             } else {
                 self.current
@@ -235,7 +241,10 @@ impl Parts {
     fn spare(&self, frame: &Frame) -> Option<Wrote>
         ensures { result ≡ part_of self.now (port_of frame.now.bytes) (payload_of (seen frame.now.bytes)) }
     {
-        self.part(frame.pm_port(), payload(frame))
+        match payload(frame) {
+            0 => None,
+            len => self.part(frame.pm_port(), len),
+        }
     }
 
     // How many bytes the table has places for of the command for which a device sends Data.
@@ -327,7 +336,11 @@ impl Parts {
         ensures { self.new ≡ blamed_state self.old dev report.now }
     {
         self.wants.heard(dev);
-        self.own = self.own.blamed(report, self.core.concerned(dev));
+        if is_faulty(report) {
+            self.own = self.own.blamed(report, self.core.concerned(dev));
+        } else {
+            self.own = self.own.blamed(report, None);
+        }
     }
 
     // The next Data of the frame's device begin elsewhere.
