@@ -4,6 +4,7 @@ mod Ports
 mod Gone
 mod Sound
 mod GiveLemmas
+mod Lent
 mod PutBack
 mod UpSteps
 mod PassingLemmas

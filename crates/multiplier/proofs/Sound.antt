@@ -238,7 +238,7 @@ taken_sound pm n sound =
     record { served = low.served; registers = low.registers; room = low.room; ports = low.ports; answer = low.answer; shows = low.shows; given = sound.given }
 
 -- the same of a port that was lent as p and is q now
-at_default : (pm : PmState) (m : ℕ) (p : port.PortState) → IsSound pm → m < 15 → p ≡ slice_index_or pm.ports m p → slice_index_or pm.ports m p ≡ port_at pm m
+pub at_default : (pm : PmState) (m : ℕ) (p : port.PortState) → IsSound pm → m < 15 → p ≡ slice_index_or pm.ports m p → slice_index_or pm.ports m p ≡ port_at pm m
 at_default pm m p sound small here =
     let room : length pm.ports ≡ 15 = sound.room in
     sym here ∙ get_or_read pm.ports m p (omega arith) here port.empty_port
