@@ -114,12 +114,11 @@ module _ (pm old : PmState) (n m : ℕ) (p q : port.PortState) (lent : Lent pm o
 
   pub down_given : (frame : Stamped) (stamp : Stamp) → q ≡ port.with_down (slice_index_or pm.ports m p) None → Some frame ≡ (slice_index_or pm.ports m p).down → stamp ≡ frame.stamp
       → NextDownRule old n (Some frame) (record pm { ports = slice_set pm.ports m q; given = Some (Down n stamp) })
-  down_given frame stamp e down is =
-      (
-        ap (λ (r : port.PortState). r.down) (sym lent_is) ∙ sym down,
-        another (port.with_down (port_at old n) None) _ (e ∙ ap (λ r. port.with_down r None) lent_is)
+  down_given frame stamp e down is = (
+    ap (λ (r : port.PortState). r.down) (sym lent_is) ∙ sym down,
+    another (port.with_down (port_at old n) None) _ (e ∙ ap (λ r. port.with_down r None) lent_is)
         ∙ ap (λ (t : Stamp). let s : PmState = record (with_port old n (port.with_down (port_at old n) None)) { given = Some (Down n t) } in s) is,
-      )
+  )
 
   none_taken : (r : port.PortState) → r.down ≡ None → port.with_down r None ≡ r
   none_taken r e = ap (λ d. port.with_down r d) (sym e)

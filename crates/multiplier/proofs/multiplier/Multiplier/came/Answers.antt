@@ -15,8 +15,7 @@ invariant_of-self-2 c =
 
 pub returns : goal.returns
 returns c =
-    let lent = lends _ _ _ c.from.result _ c.self.view_is c.self.invariant c.requires (omega arith) c.index-self-from.is in
-    (
+    let lent = lends _ _ _ c.from.result _ c.self.view_is c.self.invariant c.requires (omega arith) c.index-self-from.is in (
       c.in_ok-came.ensures.refusal ∙ ap (λ p. port.came_refusal p c.args.conn) (lent_is _ _ _ _ _ c.came.new.self lent),
       came_back _ _ _ _ _ c.came.new.self lent c.insert.new.self c.args.conn c.in_ok-came.ensures.after c.insert.ensures,
     )

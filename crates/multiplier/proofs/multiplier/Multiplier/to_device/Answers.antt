@@ -15,8 +15,7 @@ invariant_of-self-in-Ok c =
 
 pub returns : goal.returns
 returns c =
-    let lent = lent_small _ _ _ c.from.result _ c.self.view_is c.self.invariant c.requires.there (omega arith) c.index-self-from.is in
-    (
+    let lent = lent_small _ _ _ c.from.result _ c.self.view_is c.self.invariant c.requires.there (omega arith) c.index-self-from.is in (
       refl,
       ap (λ (p : PortState). p.down) (sym (lent_is _ _ _ _ _ c.put_down.new.self lent)) ∙ c.in-Ok.ensures.0,
       down_back _ _ _ _ _ c.put_down.new.self lent _ _ c.in-Ok.ensures.1 c.falling.ensures,
