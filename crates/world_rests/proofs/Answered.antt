@@ -1,17 +1,17 @@
 -- For `rested_disks_have_done`. Where nothing is on its way between a disk and its host, and the disk owes nothing, no queued command
 -- is with the disk.
-use Rattle.std.proofs.Common.{◌≡◌, ◌==◌, eqb, ℕ, ◌<◌, Bool, true, false, List, [], ◌∷◌, ◌++◌, length, refl, sym, ap, subst, ◌∙◌, inl, inr, Option, Some, None, arith}
+use Rattle.std.proofs.Common.{◌≡◌, ◌==◌, eqb, ℕ, ◌<◌, Bool, true, false, List, [], ◌∷◌, ◌++◌, length, refl, sym, ap, subst, ◌∙◌, Option, Some, None, arith}
 use Rattle.std.specs.Prelude.{if◌then◌else◌, is_some}
 use Rattle.std.specs.List.{list_any}
 use Rattle.std.specs.Option.{option_map}
 use Rattle.std.proofs.lemmas.Bool.{eq-eqb, false≢true, true≢false}
 use Rattle.port_errors.specs.Errors.{cause_of}
 use Rattle.slots.specs.Data.{payload, payload_len}
-use Rattle.slots.specs.Slots.{DeviceSlots, Issue, context_of, issue_at, own_issue}
+use Rattle.slots.specs.Slots.{Issue, context_of, issue_at, own_issue}
 use Rattle.slots.specs.Work.{is_queued}
 use Rattle.slots.specs.declared.table.Context.{Context}
 use Rattle.slots.specs.declared.work.Work.{Work}
-use Rattle.hba_fbs.specs.Views.{DeviceView, view_of}
+use Rattle.hba_fbs.specs.Views.{view_of}
 use Rattle.disk_model.specs.declared.plan.DiskPlan.{DiskPlan}
 use Rattle.disk_model.specs.declared.request.Command.{Command}
 use Rattle.disk_model.specs.Anew.{IsCarefulSince, IsLinkedOn}
@@ -28,13 +28,13 @@ use Rattle.hba_laws.specs.Hosts as event
 use Rattle.hba_laws.proofs.Door.{own_here}
 use Rattle.hba_driver.specs.Events.{shared_by}
 use Rattle.hba_driver.specs.HostTurns.{Host}
-use Rattle.hba_driver.specs.Slot30.{Stage30, is_faulty}
+use Rattle.hba_driver.specs.Slot30.{is_faulty}
 use Rattle.hba_driver.proofs.Door.{is_alone}
 use Rattle.disk_simulation.specs.Anew.{IsKeptOn}
 use Rattle.disk_simulation.specs.Between.{IsThere}
 use Rattle.disk_simulation.specs.Joined.{IsJoined}
 use Rattle.disk_simulation.specs.Same.{InLife, Moves, Open, ReadEnded, SlotCommand, Unsent, WriteEnded}
-use Rattle.disk_simulation.specs.Together.{NoneQueued, Same}
+use Rattle.disk_simulation.specs.Together.{NoneQueued}
 use Rattle.disk_simulation.specs.Watched.{Erred, Fine, IsWatched, IsWatchedTo}
 use Rattle.disk_simulation.proofs.Door.{hosted_on_is_kept, there_by}
 use Rattle.disk_recovery.specs.Ends.{Apart, AreEnds, IsRunning, IsSetAside, IsTogether, Together}

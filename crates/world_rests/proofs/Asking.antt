@@ -1,6 +1,6 @@
 -- For `rested_disks_have_done`. While the ledger says that a disk asked for Data of a write, a context of the port is activated.
-use Rattle.std.proofs.Common.{◌≡◌, ◌==◌, ◌&&◌, ◌+◌, ◌-◌, ◌*◌, ℕ, Bool, true, false, List, [], ◌∷◌, drop, length, refl, sym, ap, subst, ◌∙◌, Option, Some, None, Ok, Err, Result}
-use Rattle.std.specs.Prelude.{not, if◌then◌else◌, find, is_some}
+use Rattle.std.proofs.Common.{◌≡◌, ◌==◌, ◌&&◌, ◌+◌, ◌*◌, ℕ, Bool, true, false, List, [], ◌∷◌, drop, length, refl, sym, ap, subst, ◌∙◌, Option, Some, None, Ok, Err, Result}
+use Rattle.std.specs.Prelude.{if◌then◌else◌, find}
 use Rattle.std.specs.Option.{option_map}
 use Rattle.std.proofs.lemmas.Bool.{false≢true, true≢false}
 use Rattle.fis_view.specs.Table.{Bits, BufferId, D2h, Offset, Pio, SActive, Setup, Status, field}
@@ -12,7 +12,7 @@ use Rattle.port_errors.specs.declared.cause.DeviceCause.TheVariants as cause
 use Rattle.slots.specs.Commands.{answer_of, answered_as, completed, is_done, is_slot}
 use Rattle.slots.specs.Data.{activated, after_activate, may_activate}
 use Rattle.slots.specs.Setup.{dma_context, setup_fault}
-use Rattle.slots.specs.Slots.{DeviceSlots, context_unless, freed, own_issue}
+use Rattle.slots.specs.Slots.{DeviceSlots, context_unless, own_issue}
 use Rattle.slots.specs.declared.answer.Answered.{Answered}
 use Rattle.slots.specs.declared.answer.Answered.TheVariants as answer
 use Rattle.slots.specs.declared.answer.SetupError.{SetupError}
@@ -29,7 +29,7 @@ use Rattle.hba_fbs.specs.Views.{DeviceView}
 use Rattle.disk_model.specs.declared.request.Command.{Command}
 use Rattle.disk_model.specs.Ends.{IsRight}
 use Rattle.disk_model.specs.Laws.{ShowsFirst}
-use Rattle.disk_model.specs.Ledger.{Accepts, Finishes, Ledger, Moving, Refuses, Reply, ShowsPage, Signs, activates, answered, ends, is_auto, listens_up, moves, sends_data, sets_up, starts_moving, takes_data, with_auto}
+use Rattle.disk_model.specs.Ledger.{Accepts, Finishes, Ledger, Moving, Refuses, Reply, ShowsPage, Signs, answered, ends, is_auto, listens_up, moves, sends_data, sets_up, starts_moving, takes_data, with_auto}
 use Rattle.disk_model.proofs.Door.{bits_up}
 use Rattle.hba_laws.specs.History.{History}
 use Rattle.disk_simulation.specs.Together.{AtMostAccepts, InTalk, AtMostAccepts, Pages, Queues, Replies, Shows}

@@ -1,11 +1,11 @@
 -- For `rested_disks_have_done`. In a world at rest nothing is on its way between a disk and its host.
-use Rattle.std.proofs.Common.{◌≡◌, ℕ, ◌<◌, Bool, true, false, IsTrue, List, [], ◌∷◌, ◌++◌, length, refl, sym, ap, subst, ◌∙◌, Option, Some, None, arith}
+use Rattle.std.proofs.Common.{◌≡◌, ℕ, Bool, true, IsTrue, List, [], ◌∷◌, ◌++◌, refl, sym, ap, subst, ◌∙◌, Option, Some, None, arith}
 use Rattle.std.specs.Prelude.{if◌then◌else◌, map, slice_get, IsSomeAnd, MatchOption}
 use Rattle.std.specs.List.{flat_map}
 use Rattle.std.specs.Option.{option_to_list}
 use Rattle.fis_view.specs.Frames.{Stamped}
 use Rattle.pm_registers.specs.RegisterMap.{forwards}
-use Rattle.multiplier.specs.State.{held, port_at}
+use Rattle.multiplier.specs.State.{port_at}
 use Rattle.disk_model.specs.declared.plan.DiskPlan.{DiskPlan}
 use Rattle.disk_model.specs.declared.unit.Unit.TheVariants.{Disk, Scripted}
 use Rattle.disk_model.specs.Histories.{DiskOf, Happening, Plan}
@@ -13,29 +13,27 @@ use Rattle.disk_model.specs.Laws.{OwesNothing}
 use Rattle.disk_model.specs.Ledger.{IsSize, ledger}
 use Rattle.hba_driver.specs.declared.mode.Mode.TheVariants.{Switching}
 use Rattle.disk_recovery.specs.Ends.{AreEnds}
-use Rattle.pm_world.specs.Attached.{Attached, Modelled, Own, plan_of}
+use Rattle.pm_world.specs.Attached.{Attached, Modelled, Own}
 use Rattle.pm_world.specs.DevicePaths.{ReachedAreOrderly}
-use Rattle.pm_world.specs.Disks.{DiskRun, HasDisk, disk_history}
+use Rattle.pm_world.specs.Disks.{disk_history}
 use Rattle.pm_world.specs.Downward.{falling_to, of_connection, on_down_link}
 use Rattle.pm_world.specs.Ends.{EndsMeet, HaveMet, IsDiskWith}
 use Rattle.pm_world.specs.PathEnds.{IsThere, descending_on, for_port}
-use Rattle.pm_world.specs.Places.{Place, Places, is_config, new_world}
+use Rattle.pm_world.specs.Places.{Place, Places, new_world}
 use Rattle.pm_world.specs.Rules.{Run}
 use Rattle.pm_world.specs.Runs.{IsReached}
 use Rattle.pm_world.specs.Traffic.{all_marked, of_conn, on_link, stamped, transit}
 use Rattle.pm_world.specs.declared.link.Change.{Change}
 use Rattle.pm_world.specs.declared.step.Answer.{Answer}
 use Rattle.pm_world.specs.declared.step.Answer.TheVariants as answer
-use Rattle.pm_world.specs.declared.step.Config.{Config}
 use Rattle.pm_world.specs.declared.step.Step.{Step}
 use Rattle.pm_world.specs.declared.step.Step.TheVariants as step
 use Rattle.world_rests.specs.Laws.{RestedHaveDone}
 use Rattle.world_rests.specs.Left.{NoneIsOut, RestedDisksHaveDone}
-use Rattle.world_rests.specs.Rests.{HasAnswered, IsAtRest, NothingMoves, PortRests}
-use Rattle.world_rests.specs.Waits.{HostWaits}
+use Rattle.world_rests.specs.Rests.{HasAnswered, NothingMoves, PortRests}
 use Rattle.world_rests.proofs.Answered.{none_is_out}
 use Rattle.world_rests.proofs.Ready.{none_is_left}
-use Rattle.world_rests.proofs.Comings.{IsKnown, Of, all, known, known_reached}
+use Rattle.world_rests.proofs.Comings.{Of, all, known, known_reached}
 
 run_both : (first old new : Places) (steps : List Step) (answers : List Answer) (more : List Step) (told : List Answer) → Run first steps answers old → Run old more told new
     → Run first (steps ++ more) (answers ++ told) new

@@ -1,9 +1,9 @@
 -- For `rested_disks_have_done`. Over all that a host does with a disk since both began anew: the tag of a queued command that was
 -- sent is taken, and Data that the disk asked for may go.
-use Rattle.std.proofs.Common.{◌≡◌, ◌==◌, eqb, ℕ, ◌<◌, Bool, true, false, List, [], ◌∷◌, ◌++◌, ◌≤◌, ◌%◌, length, refl, sym, ap, subst, ◌∙◌, inl, inr, Option, Some, None, Ok, Result, arith}
+use Rattle.std.proofs.Common.{◌≡◌, eqb, ℕ, ◌<◌, Bool, true, false, List, [], ◌∷◌, ◌++◌, ◌≤◌, ◌%◌, length, refl, sym, ap, subst, ◌∙◌, inl, inr, Option, Some, None, Ok, Result, arith}
 use Rattle.std.specs.Prelude.{if◌then◌else◌}
 use Rattle.std.specs.Option.{option_map}
-use Rattle.std.proofs.lemmas.Bool.{cases_lt, eq-eqb, le-ltb, lt-ltb, false≢true, true≢false}
+use Rattle.std.proofs.lemmas.Bool.{cases_lt, eq-eqb, le-ltb, lt-ltb, true≢false}
 use Rattle.std.proofs.lemmas.Bool.Decides.{nat_tests}
 use Rattle.std.proofs.lemmas.List.FromFn.{length-map-range_with_len}
 use Rattle.fis_view.specs.Frames.{IsFrame, IsPayload, Stamped, marked}
@@ -13,7 +13,7 @@ use Rattle.fis_view.specs.declared.view.Fis.{Fis}
 use Rattle.fis_view.specs.declared.view.Fis.TheVariants as view
 use Rattle.fis_view.specs.declared.view.FisFault.{FisFault}
 use Rattle.hba_commands.specs.declared.command.Command as issued_command
-use Rattle.slots.specs.Data.{gone_over, moved_on, payload_len}
+use Rattle.slots.specs.Data.{payload_len}
 use Rattle.slots.specs.Commands.{is_slot, with_sent}
 use Rattle.slots.specs.Setup.{begun, whole_context, with_own_context}
 use Rattle.slots.specs.Slots.{DeviceSlots, Issue, freed, holds, is_control, match_some, new_issue, own_issue}
@@ -24,10 +24,8 @@ use Rattle.slots.specs.declared.work.Kind.TheVariants.{DmaIn, DmaOut, QueuedRead
 use Rattle.slots.specs.declared.work.Work.{Work}
 use Rattle.hba_fbs.specs.declared.hearing.Fault.{Fault}
 use Rattle.hba_fbs.specs.declared.hearing.Fault.TheVariants as fault
-use Rattle.hba_fbs.specs.declared.hearing.Heard.{Heard}
 use Rattle.hba_fbs.specs.declared.register.Register.TheVariants.{Ci}
 use Rattle.hba_fbs.specs.declared.report.TakeReport.{TakeReport}
-use Rattle.hba_fbs.specs.Hearing.{moved}
 use Rattle.hba_fbs.specs.Issuing.{aimed, asked, issue_with, issued_slots, view_issued}
 use Rattle.hba_fbs.specs.Sending.{Data, Gives, Order, Outgoing, data_fis, gathered, outgoing}
 use Rattle.hba_fbs.specs.Tables.{is_sound, prds_of}
@@ -36,11 +34,10 @@ use Rattle.hba_fbs.specs.Views.{DeviceView, view_of}
 use Rattle.hba_fbs.specs.Writing.{view_after}
 use Rattle.disk_model.specs.declared.request.Request.{Request}
 use Rattle.disk_model.specs.declared.request.Request.TheVariants.{Queue}
-use Rattle.disk_model.specs.Between.{FitsOne, opened}
-use Rattle.disk_model.specs.Ends.{Fits, FitsData, IsAskedFor, IsFree, IsRight, MovesOther}
-use Rattle.disk_model.specs.Histories as told_of
+use Rattle.disk_model.specs.Between.{opened}
+use Rattle.disk_model.specs.Ends.{IsFree, IsRight, MovesOther}
 use Rattle.disk_model.specs.Histories.{Happening, Received, Sent}
-use Rattle.disk_model.specs.Ledger.{Ledger, Moving, answered, asks, ledger, listens, listens_down, listens_up, takes_data}
+use Rattle.disk_model.specs.Ledger.{Ledger, Moving, asks, ledger, listens, listens_down, listens_up, takes_data}
 use Rattle.disk_model.specs.Requests.{request_of}
 use Rattle.disk_model.proofs.Door.{ledger_push, opens_free}
 use Rattle.hba_laws.specs.Agreement.{work_of_issue, work_of_transfer}
@@ -51,7 +48,7 @@ use Rattle.hba_laws.specs.History.{Event, History, Transfer, issued}
 use Rattle.hba_laws.specs.Hosts.{Does, Gave, Host, TakesFrame, Wrote}
 use Rattle.hba_laws.specs.Sound.{IsHost}
 use Rattle.hba_laws.specs.Between.{GoesOut, HasContext, IsOwn, NotIssue, issue_below}
-use Rattle.hba_laws.proofs.Door.{goes_out, is_own, issued_before, own_below, own_here, own_issued}
+use Rattle.hba_laws.proofs.Door.{goes_out, is_own, issued_before, own_here, own_issued}
 use Rattle.disk_simulation.specs.Anew as anew
 use Rattle.disk_simulation.specs.Anew.{IsHostedOn, IsKeptOn, IsOpening, IsSignedWell, KeepsSlots}
 use Rattle.disk_simulation.specs.Between.{IsSigned, IsThere}
@@ -59,9 +56,9 @@ use Rattle.disk_simulation.specs.Heard.{IsTakenWell, IsToldSo}
 use Rattle.disk_simulation.specs.Joined.{IsAskedBy, IsJoined}
 use Rattle.disk_simulation.specs.Marked.{IsHeardAlike}
 use Rattle.disk_simulation.specs.Same.{SlotCommand}
-use Rattle.disk_simulation.specs.Together.{NoneQueued, Same, is_sent, told}
-use Rattle.disk_simulation.proofs.Door.{careful_before, heard_as_told, hosted_on_is_kept, marks_tell_nothing, signature_is_none, signed, there_by}
-use Rattle.world_rests.proofs.Asking.{IsAsked, asked_up, inactive, takes_quiet}
+use Rattle.disk_simulation.specs.Together.{NoneQueued, is_sent, told}
+use Rattle.disk_simulation.proofs.Door.{heard_as_told, hosted_on_is_kept, marks_tell_nothing, signature_is_none, signed, there_by}
+use Rattle.world_rests.proofs.Asking.{IsAsked, asked_up, takes_quiet}
 use Rattle.world_rests.proofs.Taken.{AreTaken, taken_down, taken_sent, taken_signed, taken_up}
 
 pub record IsOpen (n : ℕ) (host : Host) (past : History) (k : Ledger) : Type 0 where

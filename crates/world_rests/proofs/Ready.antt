@@ -1,10 +1,10 @@
 -- For `rested_disks_have_done`. Of a disk that the driver takes to be ready no read or write waits or is issued, once its port shows
 -- neither BSY nor DRQ.
-use Rattle.std.proofs.Common.{◌≡◌, ◌≢◌, ◌⊎◌, ℕ, ◌<◌, ◌≤◌, ◌==◌, Bool, true, false, List, [], max, bit_or, length, refl, sym, ap, subst, ◌∙◌, inl, inr, Option, Some, None, arith}
+use Rattle.std.proofs.Common.{◌≡◌, ℕ, ◌<◌, ◌≤◌, ◌==◌, Bool, true, false, List, [], max, bit_or, length, refl, sym, ap, subst, ◌∙◌, inl, inr, Option, Some, None, arith}
 use Rattle.std.specs.Prelude.{◌||◌, if◌then◌else◌, is_some, not}
 use Rattle.std.specs.Int.{bit_at}
 use Rattle.std.specs.Option.{option_map}
-use Rattle.std.proofs.lemmas.Bool.{and_parts, cases_Bool, eqb-true, false≢true, true≢false}
+use Rattle.std.proofs.lemmas.Bool.{and_parts, eqb-true, false≢true, true≢false}
 use Rattle.std.proofs.lemmas.Bool.Decides.{nat_tests}
 use Rattle.std.proofs.lemmas.Nat.Bits.{bit_at-lt, bit_at-zero, bit_at_or}
 use Rattle.host_memory.specs.Memory.{Memory}
@@ -23,15 +23,14 @@ use Rattle.hba_fbs.specs.Status.{is_busy, wants_data}
 use Rattle.hba_fbs.specs.Views.{Port, last_command, state_at, view_of}
 use Rattle.disk_model.specs.declared.plan.DiskPlan.{DiskPlan}
 use Rattle.disk_model.specs.Histories.{Happening}
-use Rattle.hba_laws.specs.Agreement.{IsHistoryOf, work_of_issue, work_of_transfer}
+use Rattle.hba_laws.specs.Agreement.{IsHistoryOf, work_of_issue}
 use Rattle.hba_laws.specs.Client.{Touches, own}
 use Rattle.hba_laws.specs.History.{Transfer, issued}
 use Rattle.hba_laws.proofs.Door.{own_here, own_in}
 use Rattle.hba_driver.specs.declared.mode.Mode.TheVariants.{Switching}
 use Rattle.hba_driver.specs.declared.path.Path.{Path}
-use Rattle.hba_driver.specs.declared.path.Stage.{Stage}
 use Rattle.hba_driver.specs.declared.plan.Device.{Device}
-use Rattle.hba_driver.specs.declared.plan.Device.TheVariants.{Ready, Recovering, Starting}
+use Rattle.hba_driver.specs.declared.plan.Device.TheVariants.{Ready, Starting}
 use Rattle.hba_driver.specs.declared.request.Work.{Work}
 use Rattle.hba_driver.specs.declared.request.Work.TheVariants as work
 use Rattle.hba_driver.specs.Drivers.{Entry, device_at, entry_at, is_issued, waits}
@@ -44,10 +43,10 @@ use Rattle.hba_driver.specs.Sights.{px_ci, px_sact, shown, sight_of}
 use Rattle.hba_driver.specs.Slot30.{Asks, Cleared, Clears, Faulty, IsPlan30, LogSent, Off, On, Sets, Stage30, is_faulty}
 use Rattle.hba_driver.specs.Tended.{Awaits, Fine, Identifies, IsLiveAt, IsTendedBy, Logs, Releases, Spoilt}
 use Rattle.hba_driver.proofs.Door.{issued_live, sight_is, told_of}
-use Rattle.disk_recovery.specs.Ends.{Apart, AreEnds, IsRunning, IsSetAside, IsTogether, Together}
+use Rattle.disk_recovery.specs.Ends.{Apart, AreEnds, IsRunning, IsTogether, Together}
 use Rattle.disk_recovery.proofs.Door.{request_kind}
 use Rattle.world_rests.specs.Left.{IsOccupied, NoneIsOut, NoneIsLeft}
-use Rattle.world_rests.specs.Sent.{HasOther, HasQueued, Holds, InReset, IsBusy, IsHeldBack, PortWaits, WantsData}
+use Rattle.world_rests.specs.Sent.{HasOther, HasQueued, Holds, InReset, IsBusy, PortWaits, WantsData}
 use Rattle.world_rests.specs.Waits.{DriverWaits}
 use Rattle.world_rests.proofs.Open.{WasIssued, was_issued}
 

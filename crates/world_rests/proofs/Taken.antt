@@ -1,5 +1,5 @@
 -- For `rested_disks_have_done`. The tag of a queued command that was sent is not free as long as the command is issued.
-use Rattle.std.proofs.Common.{◌≡◌, ◌==◌, ◌&&◌, ◌+◌, ◌^◌, eqb, ℕ, Bool, true, false, List, [], ◌∷◌, ◌++◌, drop, length, refl, sym, ap, subst, ◌∙◌, inl, inr, Option, Some, None, Ok, Err, Result}
+use Rattle.std.proofs.Common.{◌≡◌, ◌==◌, ◌&&◌, ◌+◌, ◌^◌, eqb, ℕ, Bool, true, false, List, [], ◌∷◌, ◌++◌, drop, length, refl, sym, ap, subst, ◌∙◌, inl, inr, Option, Some, None, Ok, Result}
 use Rattle.std.specs.Prelude.{◌*◌, ◌||◌, not, filter, if◌then◌else◌, find}
 use Rattle.std.specs.List.{list_any}
 use Rattle.std.proofs.lemmas.Bool.{cases_Bool, eq-eqb, eqb-true, or_parts, true≢false}
@@ -14,7 +14,7 @@ use Rattle.slots.specs.Slots.{has_bit, match_some}
 use Rattle.slots.specs.Work.{is_queued}
 use Rattle.disk_model.specs.declared.request.Command.{Command}
 use Rattle.disk_model.specs.Ends.{IsFree, IsRight, MovesOther, has}
-use Rattle.disk_model.specs.Ledger.{Ledger, Moving, Names, activates, answered, awaits, ends, is_auto, listens_up, moves, sends_data, sets_up, starts_moving, takes_data, with_auto}
+use Rattle.disk_model.specs.Ledger.{Ledger, Moving, Names, activates, answered, ends, is_auto, listens_up, moves, sends_data, sets_up, starts_moving, takes_data, with_auto}
 use Rattle.disk_model.specs.Between.{opened}
 use Rattle.disk_model.proofs.Door.{bits_up}
 use Rattle.hba_laws.specs.Between.{NotIssue}
