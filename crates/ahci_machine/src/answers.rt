@@ -103,9 +103,9 @@ impl Machine {
     ) -> Result<Told, AllocError>
         ensures { SuppliesMachine wanted bytes.now self.old result self.new }
     {
-        self.hints.turns = true;
         match wanted {
             Wanted::Command { slot, number } => {
+                self.hints.turns = true;
                 let supply = self.controller.supply(alloc, slot, number, bytes);
                 self.supplied(slot, supply)
             }

@@ -179,16 +179,13 @@ impl Machine {
     {
         let dev = gathering.feed.dev;
         let fed = self.controller.gathered(dev, gathering.feed.number);
-        self.hints.turns = true;
         match fed {
             Fed::Goes { message, .. } => {
                 self.message = self.message || message;
                 self.writing = true;
                 self.outgoing = gathering.into_frame();
             }
-            Fed::Stale => {}
-            Fed::Ended => {}
-            Fed::Missed { .. } => {}
+            Fed::Stale | Fed::Ended | Fed::Missed { .. } => self.hints.turns = true,
         }
         Act::Gathers { dev, fed }
     }

@@ -1,5 +1,7 @@
 //! Where something may be to do. Hints decide what is looked at first, and nothing else: before a machine rests it looks at all.
 
+ghost use Rattle.std.specs.Prelude.{◌<◌, IfSome};
+
 use ahci_controller::Next;
 use fis_view::Frame;
 
@@ -23,6 +25,8 @@ pub(crate) struct Hints {
     ports: u16,
     // The slots whose commands are issued and did not go, as a mask.
     unsent: u32,
+    // The devices that asked for data, and did not get it, as a mask.
+    asked: u16,
 }
 
 // The bit of a port, or of a device.
@@ -50,6 +54,7 @@ impl Hints {
             feeds: 0,
             ports: 0xFFFF,
             unsent: 0,
+            asked: 0,
         }
     }
 
@@ -58,6 +63,7 @@ impl Hints {
         Hints {
             feeds: 0xFFFF,
             unsent: 0xFFFF_FFFF,
+            asked: 0xFFFF,
             ..Hints::new()
         }
     }
@@ -81,18 +87,40 @@ impl Hints {
         self.unsent |= 1 << (slot % 32);
     }
 
-    /// The controller said this.
+    // Whether a command did not go, or a device asked for data.
+    fn is_any_due(&self) -> bool {
+        self.unsent != 0 || self.asked != 0
+    }
+
+    /// The controller said this. Where data or a command goes, none is to be read, so more is to do only if another is due.
     pub(crate) fn said(&mut self, next: &Next) {
-        self.turns = !matches!(next, Next::Nothing);
-        self.runs = self.runs || self.turns;
-        if let Next::Order { slot, .. } = next {
-            self.unsent &= !(1 << (*slot % 32));
+        match next {
+            Next::Nothing => {
+                self.asked = 0;
+                self.turns = false;
+                return;
+            }
+            Next::Order { slot, .. } => {
+                self.unsent &= !(1 << (*slot % 32));
+                self.turns = self.is_any_due();
+            }
+            Next::Feed { dev, .. } => {
+                self.asked &= !bit(*dev);
+                self.turns = self.is_any_due();
+            }
+            Next::Payload(_) | Next::Posted(_) | Next::Counted(_) | Next::Read(_) => {
+                self.turns = true;
+            }
         }
+        self.runs = true;
     }
 
     /// The controller took a frame.
     pub(crate) fn heard(&mut self, frame: &Frame) {
-        if self.unsent != 0 || self.feeds != 0 || !self.runs || asks_for_data(frame) {
+        if asks_for_data(frame) {
+            self.asked |= bit(frame.pm_port());
+        }
+        if self.is_any_due() || self.feeds != 0 || !self.runs {
             self.turns = true;
         }
     }
@@ -147,13 +175,17 @@ impl Hints {
         self.feeds &= !bit(dev);
     }
 
-    /// Whether one may be read.
-    pub(crate) fn is_feeding(&self) -> bool {
-        self.feeds != 0
-    }
-
-    /// Whether one of a device may be read.
-    pub(crate) fn may_feed(&self, dev: u8) -> bool {
-        self.feeds & bit(dev) != 0
+    /// The lowest device from this one on of which one may be read.
+    pub(crate) fn feeding_from(&self, dev: u8) -> Option<u8>
+        ensures { IfSome result (λ found. found < 16) }
+    {
+        if dev >= 16 {
+            return None;
+        }
+        let feeds = self.feeds >> dev << dev;
+        if feeds == 0 {
+            return None;
+        }
+        Some((feeds.trailing_zeros() % 16) as u8)
     }
 }

@@ -16,13 +16,25 @@ use std::alloc::{AllocError, Global};
 const BUDGET: u32 = 64;
 
 impl Machine {
+    // The Data FIS of a device goes on, if there is one.
+    fn gather_at(&mut self, dev: u8) -> Option<Act>
+        requires { dev < 16 }
+        ensures does { MayDo self.old result self.new }
+        ensures none { IfNone result (NoneGathers self.old dev) }
+    {
+        if self.gathering[usize::from(dev)].is_none() {
+            return None;
+        }
+        self.gather_next(dev)
+    }
+
     // The Data FISes whose bytes are read go on.
     fn gather_any(&mut self) -> Option<Act>
         ensures does { MayDo self.old result self.new }
         ensures none { IfNone result ((dev : ℕ) → dev < 16 → NoneGathers self.old dev) }
     {
         for dev in 0..16_u8 {
-            if let Some(act) = self.gather_next(dev) {
+            if let Some(act) = self.gather_at(dev) {
                 return Some(act);
             }
         }
@@ -69,12 +81,15 @@ impl Machine {
     fn gather_likely(&mut self) -> Option<Act>
         ensures { MayDo self.old result self.new }
     {
-        for device in 0..16_u8 {
-            if self.hints.may_feed(device) {
-                if let Some(act) = self.gather_next(device) {
-                    return Some(act);
-                }
+        let mut from = 0;
+        for _ in 0..16_u8 {
+            let Some(device) = self.hints.feeding_from(from) else {
+                return None;
+            };
+            if let Some(act) = self.gather_next(device) {
+                return Some(act);
             }
+            from = device + 1;
         }
         None
     }
@@ -103,10 +118,8 @@ impl Machine {
                 return Ok(Some(act));
             }
         }
-        if self.hints.is_feeding() {
-            if let Some(act) = self.gather_likely() {
-                return Ok(Some(act));
-            }
+        if let Some(act) = self.gather_likely() {
+            return Ok(Some(act));
         }
         if self.hints.begins {
             return Ok(self.begin_next(alloc));

@@ -1,5 +1,5 @@
 use Rattle.std.proofs.Common.{◌≡◌}
 use Rattle.ahci_machine.proofs.machine.Machine.gather_likely.Given as goal
 
-abbrev pub invariant-loop-device : goal.invariant-loop-device
-invariant-loop-device l = l.self ≡ l.fn.self
+abbrev pub invariant-loop : goal.invariant-loop
+invariant-loop l = l.self ≡ l.fn.self
