@@ -27,7 +27,7 @@ use Rattle.machine_theorem.specs.Parts.{IsBrought, PayloadIsBrought}
 -- ---- moments
 
 -- one deed more
-more : (deeds : List Deed) (first old new : MachineState) (deed : Deed) → RunsRuled first deeds old → Does old deed new → HasRules new → RunsRuled first (deeds ++ deed ∷ []) new
+pub more : (deeds : List Deed) (first old new : MachineState) (deed : Deed) → RunsRuled first deeds old → Does old deed new → HasRules new → RunsRuled first (deeds ++ deed ∷ []) new
 more [] first old new deed run does rules = (run.0, (new, subst (λ (m : MachineState). Does m deed new) run.1 does, (rules, refl)))
 more (d ∷ later) first old new deed run does rules = (run.0, (run.1.0, run.1.1, more later run.1.0 old new deed run.1.2 does rules))
 
