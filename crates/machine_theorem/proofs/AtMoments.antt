@@ -19,15 +19,15 @@ use Rattle.machine_laws.specs.ControllerLaws.{RunsRuled}
 use Rattle.machine_laws.specs.Deeds.{Deed, Does, Moved}
 use Rattle.machine_laws.specs.Heard.{DisksHaveLived, HasLived, life_in, no_life}
 use Rattle.machine_theorem.specs.Commands.{CommandsOfNewDisks}
-use Rattle.machine_theorem.specs.Ends.{IsEndBy, IsEndIn}
-use Rattle.machine_theorem.specs.Moments.{DataAreOfSlots, Earns, EndedAtMoments, EndsAreOfSlots, GivesNext, HasCommand, IsOfSlots, Moment, OfNewDisk, PayloadIsOfSlots, SentAtMoments}
+use Rattle.machine_theorem.specs.Ends.{EndOrigin, EndsAreOfDevices, HasEarnedAt, IsEndBy, IsEndIn, IsEnded}
+use Rattle.machine_theorem.specs.Moments.{CompletionsAreEarned, DataAreOfSlots, Earns, EndedAtMoments, EndsAreOfSlots, GivesNext, HasCommand, IsOfSlots, Moment, OfNewDisk, PayloadIsOfSlots, SentAtMoments, IsEndOfSlot}
 use Rattle.machine_theorem.specs.Origins.{IsSentBy, IsSentIn}
 use Rattle.machine_theorem.specs.Parts.{IsBrought, PayloadIsBrought}
 
 -- ---- moments
 
 -- one deed more
-more : (deeds : List Deed) (first old new : MachineState) (deed : Deed) → RunsRuled first deeds old → Does old deed new → HasRules new → RunsRuled first (deeds ++ deed ∷ []) new
+pub more : (deeds : List Deed) (first old new : MachineState) (deed : Deed) → RunsRuled first deeds old → Does old deed new → HasRules new → RunsRuled first (deeds ++ deed ∷ []) new
 more [] first old new deed run does rules = (run.0, (new, subst (λ (m : MachineState). Does m deed new) run.1 does, (rules, refl)))
 more (d ∷ later) first old new deed run does rules = (run.0, (run.1.0, run.1.1, more later run.1.0 old new deed run.1.2 does rules))
 
@@ -162,3 +162,39 @@ payload_is laws law ports legacy old opening deeds now run m new does =
     let brought : IsBrought old deeds now run m (lent_bytes new) = law ports legacy old opening deeds now run m new does in
     let sent : Moment old deeds (IsSentBy brought.fis) = sent_at brought.fis old deeds now run brought.sent in
     record { brought = brought; sent = sent; command = deed_of laws ports legacy old opening sent.before sent.at sent.first sent.deed sent.new sent.does }
+
+-- ---- the ends
+
+module _ (laws : Laws) (ports : ℕ) (legacy : Bool) (old : MachineState) (opening : IsOpeningMachine ports legacy old) (before : List Deed) (at : MachineState)
+    (first : RunsRuled old before at) where
+  of_earned : (n tag : ℕ) → HasEarnedAt at n tag → OfNewDisk old before at first n tag Earns
+  of_earned n tag h =
+      let lived : HasLived (life_in n no_life old before at first) h.disk = laws.lived ports legacy old opening before at first n h.disk h.there in
+      let since : List Call = (life_in n no_life old before at first).calls in
+      record {
+        disk = h.disk;
+        there = h.there;
+        lived = lived;
+        new = λ p limit new.
+            let same : h.disk ≡ after_calls (new_disk p limit) since = lived.is ∙ ap (λ (x : DiskState). after_calls x since) new in
+            let are : AreCalls (new_disk p limit) since = subst (λ (x : DiskState). AreCalls x since) new lived.are in
+            end_command laws ports legacy old opening before at first n h.disk h.there lived tag p limit new (page_in p limit since tag) refl (h.earned p limit since are same);
+      }
+
+  end_move : (a : Act) (tag : ℕ) → EndOrigin at (Moved a) tag → IsEndOfSlot old before at first (Moved a) tag
+  end_move (act.Speaks n out) tag origin = of_earned n tag origin
+  end_move a tag origin = tt
+
+  end_deed : (deed : Deed) (tag : ℕ) → EndOrigin at deed tag → IsEndOfSlot old before at first deed tag
+  end_deed (Moved a) tag origin = end_move a tag origin
+  end_deed deed tag origin = tt
+
+pub completions : Laws → EndsAreOfDevices → CompletionsAreEarned
+completions laws law ports legacy old opening deeds now run took new does rules slot low shows hides =
+    let ended : IsEnded old deeds now run new.fan does.does.frame slot = law ports legacy old opening deeds now run took new does rules slot low shows hides in
+    let sent : Moment old deeds (IsEndBy does.does.frame slot) = ended_at does.does.frame slot old deeds now run ended.sent in
+    record {
+      ended = ended;
+      sent = sent;
+      command = end_deed laws ports legacy old opening sent.before sent.at sent.first sent.deed slot sent.holds.origin;
+    }

@@ -12,3 +12,4 @@ mod Names
 mod EndSent
 mod Falls
 mod AtMoments
+mod OfGuest

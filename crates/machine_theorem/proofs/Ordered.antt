@@ -49,13 +49,13 @@ pub record Laws : Type 0 where
 
 -- ---- lists
 
-none_there : {C : Type 0} (f : Stamped) → Contains [] f → C
+pub none_there : {C : Type 0} (f : Stamped) → Contains [] f → C
 none_there f has = absurd (All-contains (λ (g : Stamped). ⊥) [] f (All-nil (λ (g : Stamped). ⊥)) has)
 
-is_one : (f g : Stamped) → Contains (g ∷ []) f → f ≡ g
+pub is_one : (f g : Stamped) → Contains (g ∷ []) f → f ≡ g
 is_one f g has = All-contains (λ (x : Stamped). x ≡ g) (g ∷ []) f (All-cons (λ (x : Stamped). x ≡ g) g [] refl (All-nil (λ (x : Stamped). x ≡ g))) has
 
-not_sent : {C : Type 0} (es : List Event) (f : Stamped) → sent_in es ≡ [] → Contains (sent_in es) f → C
+pub not_sent : {C : Type 0} (es : List Event) (f : Stamped) → sent_in es ≡ [] → Contains (sent_in es) f → C
 not_sent es f none has = none_there f (subst (λ (l : List Stamped). Contains l f) none has)
 
 -- ---- Data that go are for one of 16 devices
@@ -97,7 +97,7 @@ and_second : (a b : Bool) → (a && b) ≡ true → b ≡ true
 and_second true b h = h
 and_second false b h = absurd (false≢true h)
 
-abbrev does_go : Fed → Type 0
+abbrev pub does_go : Fed → Type 0
 does_go (fed.Goes message line) = Unit {0}
 does_go other = ⊥
 
@@ -110,7 +110,7 @@ feeds : (out : Bool) (c d : ControllerState) (dev : ℕ) (answer : Fed) → does
 feeds true c d dev answer goes h = fed_by (may_feed c.core dev) c d dev answer goes refl h
 feeds false c d dev answer goes h = absurd (subst does_go h.1 goes)
 
-fed_low : (c d : ControllerState) (dev number : ℕ) (answer : Fed) → IsTable c.core.slots → does_go answer → GathersIf (is_fed c.wants dev number) c dev answer d → dev < 16
+pub fed_low : (c d : ControllerState) (dev number : ℕ) (answer : Fed) → IsTable c.core.slots → does_go answer → GathersIf (is_fed c.wants dev number) c dev answer d → dev < 16
 fed_low c d dev number answer is goes h =
     let may : may_feed c.core dev ≡ true = feeds (is_fed c.wants dev number) c d dev answer goes h in
     low_dev c.core.slots dev is
@@ -119,15 +119,15 @@ fed_low c d dev number answer is goes h =
 
 -- ---- calls that send nothing
 
-rests : (old new : MachineState) (h : acts.RestsNow old new) → sent_in (rest_calls old new h) ≡ []
+pub rests : (old new : MachineState) (h : acts.RestsNow old new) → sent_in (rest_calls old new h) ≡ []
 rests old new (inl same) = refl
 rests old new (inr turns) = refl
 
-loses : (frame : Option Stamped) (why : Hindrance) → sent_in (lost_calls frame why) ≡ []
+pub loses : (frame : Option Stamped) (why : Hindrance) → sent_in (lost_calls frame why) ≡ []
 loses None why = refl
 loses (Some f) why = refl
 
-supplies : (w : Wanted) (bytes : List ℕ) (old : MachineState) (answer : Result Told AllocError) (new : MachineState) (h : SuppliesMachine w bytes old answer new)
+pub supplies : (w : Wanted) (bytes : List ℕ) (old : MachineState) (answer : Result Told AllocError) (new : MachineState) (h : SuppliesMachine w bytes old answer new)
     → sent_in (supply_calls w bytes old answer new h) ≡ []
 supplies (Command slot number) bytes old answer new h = refl
 supplies (Data dev number done) bytes old answer new h = refl
@@ -138,7 +138,7 @@ misses_data true None dev old it new h = refl
 misses_data true (Some g) dev old it new h = refl
 misses_data false there dev old it new h = refl
 
-misses : (w : Wanted) (old : MachineState) (answer : Result Told AllocError) (new : MachineState) (h : MissesMachine w old answer new)
+pub misses : (w : Wanted) (old : MachineState) (answer : Result Told AllocError) (new : MachineState) (h : MissesMachine w old answer new)
     → sent_in (miss_calls w old answer new h) ≡ []
 misses (Command slot number) old answer new h = refl
 misses (Data dev number done) old (Ok it) new h = misses_data (is_wanted old dev number done) (gathering_at old dev) dev old it new h
@@ -161,6 +161,16 @@ pub record IsOrder (first : ControllerState) (calls : List Event) (f : Stamped) 
   pub fis : List ℕ
   pub is : f ≡ record { bytes = fis; stamp = host_stamp dev }
   pub sent : IsSentFrom first calls dev slot fis
+
+-- ---- runs, one after another
+
+pub append_runs : (es fs : List Event) (a b c : ControllerState) → call.Runs a es b → call.Runs b fs c → call.Runs a (es ++ fs) c
+append_runs [] fs a b c one two = subst (λ (x : ControllerState). call.Runs x fs c) one.1 two
+append_runs (e ∷ es) fs a b c one two = (one.0, (one.1.0, one.1.1, append_runs es fs one.1.0 b c one.1.2 two))
+
+pub first_ruled : (deeds : List Deed) (old new : MachineState) → RunsRuled old deeds new → HasRules old
+first_ruled [] old new run = run.0
+first_ruled (deed ∷ later) old new run = run.0
 
 abbrev NoData : Stamped → Type 0
 NoData f = slice_index f.bytes 0 ≡ 0x46 → ⊥
@@ -198,14 +208,6 @@ module _ (laws : Laws) (f : Stamped) (other : NoData f) (first : ControllerState
   one deed m new does past rest so_far rules due read has = none_there f has
 
   -- ---- a run
-
-  append_runs : (es fs : List Event) (a b c : ControllerState) → call.Runs a es b → call.Runs b fs c → call.Runs a (es ++ fs) c
-  append_runs [] fs a b c one two = subst (λ (x : ControllerState). call.Runs x fs c) one.1 two
-  append_runs (e ∷ es) fs a b c one two = (one.0, (one.1.0, one.1.1, append_runs es fs one.1.0 b c one.1.2 two))
-
-  first_ruled : (deeds : List Deed) (old new : MachineState) → RunsRuled old deeds new → HasRules old
-  first_ruled [] old new run = run.0
-  first_ruled (deed ∷ later) old new run = run.0
 
   pub ordered : (m : MachineState) (deeds : List Deed) (now : MachineState) (run : RunsRuled m deeds now) (past : List Event) → call.Runs first past m.controller
       → GathersDue m → AllRead m → IsSentOut f m deeds now run → IsOrder first (past ++ calls_in m deeds now run) f

@@ -76,7 +76,7 @@ no_reply reply.Activate f shows type = let same : view.DmaActivate f ≡ view.Pa
 
 -- ---- only the PM Port is written on the way up
 
-marked_rest : (bytes : List ℕ) (port : ℕ) → drop 4 (marked bytes port) ≡ drop 4 bytes
+pub marked_rest : (bytes : List ℕ) (port : ℕ) → drop 4 (marked bytes port) ≡ drop 4 bytes
 marked_rest bytes port = drop-set-lt 4 bytes 1 (slice_index bytes 1 / 16 * 16 + port) (omega arith)
 
 pub marked_type : (bytes : List ℕ) (port : ℕ) → slice_index (marked bytes port) 0 ≡ slice_index bytes 0

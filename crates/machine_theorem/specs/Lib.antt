@@ -3,3 +3,4 @@ pub mod Parts
 pub mod Commands
 pub mod Ends
 pub mod Moments
+pub mod Guest

@@ -1,9 +1,14 @@
 -- What a disk sends, with the slot from which its command came (AHCI 1.3.1, 5.3; Serial ATA 3.x, 10.5, Data and Set Device Bits, and 13.6).
-use Rattle.std.specs.Prelude.{◌≡◌, ◌<◌, ℕ, Bool, true, List, ◌∷◌, ◌++◌, Some}
+use Rattle.std.specs.Prelude.{◌≡◌, ◌<◌, ℕ, Bool, true, false, List, ◌∷◌, ◌++◌, Some}
 use Rattle.fis_view.specs.Frames.{Stamped}
 use Rattle.block_command.specs.Laws.{IsEarned}
 use Rattle.block_disk.specs.Laws.{Page}
 use Rattle.block_queue.specs.Line.{command_at, has_bit}
+use Rattle.slots.specs.Slots.{has_bit as is_named}
+use Rattle.fan_out.specs.declared.fan_out.FanOut.{FanOut}
+use Rattle.ahci_registers.specs.declared.register.Register.TheVariants.{PxSact}
+use Rattle.ahci_controller.specs.Reading.{shown}
+use Rattle.ahci_controller.specs.declared.taking.Took.{Took}
 use Rattle.guest_fetch.specs.declared.moves.Move.{Move}
 use Rattle.ahci_controller.specs.declared.next.Next.TheVariants as next
 use Rattle.disk_pages.specs.declared.profile.Profile.{Profile}
@@ -12,14 +17,14 @@ use Rattle.sata_disk.specs.State.{DiskState, commands, new_disk}
 use Rattle.sata_disk.specs.declared.out.Out.TheVariants as out
 use Rattle.sata_disk_books.specs.Books.{AreNext, page_in}
 use Rattle.ahci_machine.specs.Registers.{lent_bytes}
-use Rattle.ahci_machine.specs.States.{IsOpeningMachine, MachineState, bay_at}
+use Rattle.ahci_machine.specs.States.{HasRules, IsOpeningMachine, MachineState, bay_at}
 use Rattle.ahci_machine.specs.declared.act.Act.TheVariants as act
 use Rattle.ahci_machine.specs.declared.bay.Unit.TheVariants.{Disk}
 use Rattle.machine_laws.specs.ControllerLaws.{RunsRuled}
 use Rattle.machine_laws.specs.Deeds.{Deed, Does, Moved}
 use Rattle.machine_laws.specs.Heard.{HasLived, life_in, no_life}
 use Rattle.machine_theorem.specs.Commands.{IsOfSlot}
-use Rattle.machine_theorem.specs.Ends.{IsEndBy, IsEndIn}
+use Rattle.machine_theorem.specs.Ends.{IsEndBy, IsEndIn, IsEnded}
 use Rattle.machine_theorem.specs.Origins.{IsSentBy, IsSentIn}
 use Rattle.machine_theorem.specs.Parts.{IsBrought}
 
@@ -102,3 +107,25 @@ abbrev pub PayloadIsOfSlots : Type 0
 PayloadIsOfSlots = (ports : ℕ) (legacy : Bool) (old : MachineState) → IsOpeningMachine ports legacy old
     → (deeds : List Deed) (now : MachineState) (run : RunsRuled old deeds now) (m : Move) (new : MachineState)
     → Does now (Moved (act.Writes (next.Payload m))) new → IsBroughtFor old deeds now run m (lent_bytes new)
+
+-- ---- the ends that the guest sees
+
+-- what says by a deed that a queued command ended well: if a disk says so that was new, its command of this tag has earned that, and came from a slot
+abbrev pub IsEndOfSlot : (old : MachineState) → (deeds : List Deed) → (now : MachineState) → RunsRuled old deeds now → Deed → (tag : ℕ) → Type 0
+IsEndOfSlot old deeds now run (Moved (act.Speaks n out)) tag = OfNewDisk old deeds now run n tag Earns
+IsEndOfSlot old deeds now run deed tag = Unit {0}
+
+pub record IsEndedFor (old : MachineState) (deeds : List Deed) (now : MachineState) (run : RunsRuled old deeds now) (end : FanOut) (fis : Stamped) (slot : ℕ) : Type 0 where
+  pub ended : IsEnded old deeds now run end fis slot
+  -- when its FIS was sent
+  pub sent : Moment old deeds (IsEndBy fis slot)
+  pub command : IsEndOfSlot old sent.before sent.at sent.first sent.deed slot
+
+-- Where a bit of PxSACT falls as a FIS is taken, the device that owns the slot sent it at a moment of the run; a disk's command of this tag had
+-- earned its end then, and had come from a slot.
+abbrev pub CompletionsAreEarned : Type 0
+CompletionsAreEarned = (ports : ℕ) (legacy : Bool) (old : MachineState) → IsOpeningMachine ports legacy old
+    → (deeds : List Deed) (now : MachineState) (run : RunsRuled old deeds now) (took : Took) (new : MachineState)
+    → (does : Does now (Moved (act.Takes took)) new) → HasRules new → (slot : ℕ) → slot < 32
+    → is_named (shown PxSact now.controller) slot ≡ true → is_named (shown PxSact new.controller) slot ≡ false
+    → IsEndedFor old deeds now run new.fan does.does.frame slot

@@ -1,6 +1,7 @@
 //! The commands of the disks, from the slots of the guest.
 
 ghost use Rattle.machine_theorem.specs.Commands.{CommandsAreOfSlots, CommandsOfNewDisks, DisksAreThere};
+ghost use Rattle.machine_theorem.specs.Guest.{HeardIsOfGuest};
 
 /// A law for callers; it runs no code. Over every run of a machine from its opening: the command that the books of a disk have at a place is
 /// one that its host asked for by a FIS which the controller sent from a slot, for the device that owns the command there, as it was supplied
@@ -18,4 +19,16 @@ pub fn commands_come_from_slots()
     machine_laws::sent_frames_are_supplied();
     machine_laws::disks_hear_what_was_sent();
     controller_laws::commands_are_supplied();
+}
+
+/// A law for callers; it runs no code. Over every run of a machine from its opening: each FIS that a disk heard since it was put at its port is the
+/// FIS of a command, as it was supplied for a slot and sent from there, or a Data FIS whose payload is what the caller supplied for it, in
+/// order: the bytes of each read that the machine asked for since the payload was due, each where the table of the slot's command says
+/// (`sent_frames_are_supplied` of `machine_laws`, `asked`). Behind a multiplier it was sent to this port.
+pub fn disks_hear_their_guest()
+    ensures { HeardIsOfGuest }
+{
+    machine_laws::controller_has_its_laws();
+    machine_laws::sent_frames_are_supplied();
+    machine_laws::disks_hear_what_was_sent();
 }

@@ -19,10 +19,11 @@ use Rattle.ahci_machine.specs.declared.bay.Unit.TheVariants.{Disk}
 use Rattle.ahci_machine.specs.declared.ports.PortFault.{PortFault}
 use Rattle.machine_laws.specs.ControllerLaws.{RunsRuled}
 use Rattle.machine_laws.specs.Deeds.{Deed, Does, Moved, Put}
-use Rattle.machine_theorem.specs.Ends.{EndsAreOfDevices}
-use Rattle.machine_theorem.specs.Moments.{DataAreOfSlots, PayloadIsOfSlots}
+use Rattle.machine_theorem.specs.Commands.{CommandsOfNewDisks}
+use Rattle.machine_theorem.specs.Guest.{HeardIsOfGuest}
+use Rattle.machine_theorem.specs.Moments.{CompletionsAreEarned, DataAreOfSlots, PayloadIsOfSlots}
 use Rattle.machine_theorem.specs.Parts.{PayloadIsBrought}
-use Rattle.uses_machine_theorem.specs.Led.{EndsEarned, IsLed, LendsBrought, LendsOfSlots, PutsNew, SpeaksOfSlots}
+use Rattle.uses_machine_theorem.specs.Led.{EndsEarned, IsLed, KnowsDisks, LendsBrought, LendsOfSlots, PutsNew, SpeaksOfSlots}
 
 pub ruled : (m : MachineState) → IsCorePort m.controller.core → IsTable m.controller.core.slots → IsRuled m.controller → HasRules m
 ruled m port slots rules = record { port = port; slots = slots; rules = rules }
@@ -64,7 +65,7 @@ pub speaks : DataAreOfSlots → (old new : MachineState) (told : Result Act Allo
 speaks law old new told step n place len is was =
     law was.ports was.legacy was.first was.opens was.deeds old was.run n place len new (told_is old new told (act.Speaks n (out.Data place len)) step is)
 
-pub ended : EndsAreOfDevices → (old new : MachineState) (told : Result Act AllocError) → IfOk told (λ a. Steps old a new) → HasRules new → EndsEarned old told new
+pub ended : CompletionsAreEarned → (old new : MachineState) (told : Result Act AllocError) → IfOk told (λ a. Steps old a new) → HasRules new → EndsEarned old told new
 ended law old new told step rules took is was slot low shows hides =
     let does : Steps old (act.Takes took) new = told_is old new told (act.Takes took) step is in
     (does.does.frame, law was.ports was.legacy was.first was.opens was.deeds old was.run took new does rules slot low shows hides)
@@ -87,3 +88,11 @@ puts port profile limit disk is old new told does rules was =
       },
       refl,
     )
+
+-- ---- what it knows of its disks
+
+pub knows : HeardIsOfGuest → CommandsOfNewDisks → (now : MachineState) → KnowsDisks now
+knows heard fresh now led n = record {
+  heard = heard led.ports led.legacy led.first led.opens led.deeds now led.run n;
+  commands = λ d there lived p limit new place page is. fresh led.ports led.legacy led.first led.opens led.deeds now led.run n d there lived p limit new place page is;
+}

@@ -1,5 +1,5 @@
 -- What a caller knows of its machine, of what it is told to write, and of its disks.
-use Rattle.std.specs.Prelude.{◌≡◌, ◌<◌, ℕ, Bool, true, false, List, [], ◌∷◌, ◌++◌, Result, Ok}
+use Rattle.std.specs.Prelude.{◌≡◌, ◌<◌, ℕ, Bool, true, false, List, [], ◌∷◌, ◌++◌, Some, Result, Ok}
 use Rattle.std.specs.declared.alloc.AllocError.{AllocError}
 use Rattle.fis_view.specs.Frames.{Stamped}
 use Rattle.slots.specs.Slots.{has_bit}
@@ -8,11 +8,13 @@ use Rattle.ahci_registers.specs.declared.register.Register.TheVariants.{PxSact}
 use Rattle.ahci_controller.specs.Reading.{shown}
 use Rattle.ahci_controller.specs.declared.next.Next.TheVariants as next
 use Rattle.ahci_controller.specs.declared.taking.Took.{Took}
+use Rattle.block_disk.specs.Laws.{Page}
 use Rattle.disk_pages.specs.declared.profile.Profile.{Profile}
-use Rattle.sata_disk.specs.State.{new_disk}
+use Rattle.sata_disk.specs.State.{DiskState, new_disk}
 use Rattle.sata_disk.specs.declared.out.Out.TheVariants as out
+use Rattle.sata_disk_books.specs.Books.{page_in}
 use Rattle.ahci_machine.specs.Registers.{lent_bytes}
-use Rattle.ahci_machine.specs.States.{IsOpeningMachine, MachineState}
+use Rattle.ahci_machine.specs.States.{IsOpeningMachine, MachineState, bay_at}
 use Rattle.ahci_machine.specs.declared.act.Act.{Act}
 use Rattle.ahci_machine.specs.declared.act.Act.TheVariants as act
 use Rattle.ahci_machine.specs.declared.bay.Unit.{Unit as Inside}
@@ -20,8 +22,10 @@ use Rattle.ahci_machine.specs.declared.bay.Unit.TheVariants.{Disk}
 use Rattle.ahci_machine.specs.declared.ports.PortFault.{PortFault}
 use Rattle.machine_laws.specs.ControllerLaws.{RunsRuled}
 use Rattle.machine_laws.specs.Deeds.{Deed, Put}
-use Rattle.machine_theorem.specs.Ends.{IsEnded}
-use Rattle.machine_theorem.specs.Moments.{GivesNext, IsBroughtFor, OfNewDisk}
+use Rattle.machine_laws.specs.Heard.{AllHeard, HasLived, life_in, no_life}
+use Rattle.machine_theorem.specs.Commands.{IsOfSlot}
+use Rattle.machine_theorem.specs.Guest.{IsOfGuest}
+use Rattle.machine_theorem.specs.Moments.{GivesNext, IsBroughtFor, IsEndedFor, OfNewDisk}
 use Rattle.machine_theorem.specs.Parts.{IsBrought}
 
 -- some run led here from a machine that opened
@@ -51,8 +55,20 @@ abbrev pub SpeaksOfSlots : MachineState → Result Act AllocError → Type 0
 SpeaksOfSlots now told = (n place len : ℕ) → told ≡ Ok (act.Speaks n (out.Data place len)) → (led : IsLed now)
     → OfNewDisk led.first led.deeds now led.run n place (GivesNext place)
 
--- A bit of PxSACT falls by a move that takes a FIS: the device that owns the slot said so, and a disk has earned that.
+-- A bit of PxSACT falls by a move that takes a FIS: the device that owns the slot said so; if a disk did that was new as it was put at its port,
+-- then its command of this tag had earned that when it sent the FIS, and came from a slot.
 abbrev pub EndsEarned : MachineState → Result Act AllocError → MachineState → Type 0
 EndsEarned now told new = (took : Took) → told ≡ Ok (act.Takes took) → (led : IsLed now) → (slot : ℕ) → slot < 32
     → has_bit (shown PxSact now.controller) slot ≡ true → has_bit (shown PxSact new.controller) slot ≡ false
-    → (fis : Stamped) × IsEnded led.first led.deeds now led.run new.fan fis slot
+    → (fis : Stamped) × IsEndedFor led.first led.deeds now led.run new.fan fis slot
+
+-- Each FIS that the disk at a port heard since it was put there is of a command in a slot, or has Data that were supplied; and if it was new then,
+-- each command that its books have came from a slot.
+pub record KnowsDisk (now : MachineState) (led : IsLed now) (n : ℕ) : Type 0 where
+  pub heard : AllHeard (IsOfGuest led.first led.deeds now led.run n) (life_in n no_life led.first led.deeds now led.run).calls
+  pub commands : (d : DiskState) → (bay_at now n).unit ≡ Disk d → (lived : HasLived (life_in n no_life led.first led.deeds now led.run) d) → (p : Profile) (limit : ℕ)
+      → lived.disk ≡ new_disk p limit → (place : ℕ) (page : Page) → page_in p limit (life_in n no_life led.first led.deeds now led.run).calls place ≡ Some page
+      → IsOfSlot led.first led.deeds now led.run n p limit (life_in n no_life led.first led.deeds now led.run).calls page.command
+
+abbrev pub KnowsDisks : MachineState → Type 0
+KnowsDisks now = (led : IsLed now) (n : ℕ) → KnowsDisk now led n

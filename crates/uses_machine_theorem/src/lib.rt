@@ -2,9 +2,9 @@
 #![tactic(auto)]
 
 ghost use Rattle.std.specs.Prelude.{◌≤◌, IfOk};
-ghost use Rattle.uses_machine_theorem.specs.Led.{EndsEarned, IsLed, LendsBrought, LendsOfSlots, PutsNew, SpeaksOfSlots};
+ghost use Rattle.uses_machine_theorem.specs.Led.{EndsEarned, IsLed, KnowsDisks, LendsBrought, LendsOfSlots, PutsNew, SpeaksOfSlots};
 
-use ahci_machine::{Act, Machine, Unit};
+use ahci_machine::{Act, Machine, PortFault, Unit};
 use disk_pages::Profile;
 use sata_disk::SataDisk;
 use std::alloc::{AllocError, Global};
@@ -47,9 +47,18 @@ pub fn moves(alloc: Global, machine: &mut Machine) -> Result<Act, AllocError>
 {
     machine_theorem::payload_comes_from_devices();
     machine_theorem::data_are_of_slots();
-    machine_theorem::ends_come_from_devices();
     machine.keeps_rules();
     let moved = machine.step(alloc);
     machine.keeps_rules();
     moved
+}
+
+/// Plugs in what is at a port. The caller knows of each disk in the machine, whatever run led to it, that it heard nothing but its guest, and
+/// that its commands came from slots.
+pub fn plugs(machine: &mut Machine, port: u8) -> Result<(), PortFault>
+    ensures { KnowsDisks machine.new }
+{
+    machine_theorem::commands_come_from_slots();
+    machine_theorem::disks_hear_their_guest();
+    machine.plug(port)
 }

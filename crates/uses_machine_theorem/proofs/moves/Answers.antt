@@ -17,5 +17,5 @@ returns-clause-speaks c = speaks c.data_are_of_slots.ensures.given c.args.machin
 
 pub returns-clause-ended : goal.returns-clause-ended
 returns-clause-ended c =
-    ended c.ends_come_from_devices.ensures.ends c.args.machine.now c.step-moved.new.self c.step-moved.result c.step-moved.ensures.ok
+    ended c.data_are_of_slots.ensures.completed c.args.machine.now c.step-moved.new.self c.step-moved.result c.step-moved.ensures.ok
     (ruled c.step-moved.new.self c.keeps_rules-2.ensures.port c.keeps_rules-2.ensures.slots c.keeps_rules-2.ensures.rules)

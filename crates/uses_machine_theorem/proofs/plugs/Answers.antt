@@ -1,0 +1,5 @@
+use Rattle.uses_machine_theorem.proofs.LedLemmas.{knows}
+use Rattle.uses_machine_theorem.proofs.plugs.Goals as goal
+
+pub returns : goal.returns
+returns c = knows c.disks_hear_their_guest.ensures c.commands_come_from_slots.ensures.fresh c.plug.new.self
