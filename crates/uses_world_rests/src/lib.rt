@@ -1,9 +1,10 @@
 //! A caller that has the laws of a world at rest for a world that it made.
 #![tactic(auto)]
 
-ghost use Rattle.std.specs.Prelude.{IfSome};
+ghost use Rattle.std.specs.Prelude.{IfSome, map};
 ghost use Rattle.world_rests.specs.Rests.{NothingMoves};
 ghost use Rattle.world_rests.specs.Waits.{HostWaits};
+ghost use Rattle.uses_world_rests.specs.Left.{DiskHasDoneIn};
 
 use pm_world::{Config, PortDevice, Step, World};
 use std::alloc::Global;
@@ -23,13 +24,14 @@ const ROUND: [Step; 10] = [
 ];
 
 /// Makes a world of one unit, does these steps, and then a round. Gives the world if the round did nothing: then nothing moves,
-/// and the host waits, whatever the steps were.
+/// and the host waits, whatever the steps were. If the unit is a disk that was left alone, no read or write is with it.
 pub fn rested<D: PortDevice + Drop>(
     alloc: Global,
     units: Vec<D>,
     steps: &[Step],
 ) -> Option<World<D>>
-    ensures { IfSome result (λ world. NothingMoves world × HostWaits world.host) }
+    ensures rests { IfSome result (λ world. NothingMoves world × HostWaits world.host) }
+    ensures disk { IfSome result (λ world. DiskHasDoneIn (map D.seen units.items) world) }
 {
     let config = Config {
         ports: 1,
@@ -45,5 +47,6 @@ pub fn rested<D: PortDevice + Drop>(
     let Ok(true) = world_rests::rests(&mut world, alloc, &ROUND) else {
         return None;
     };
+    world_rests::rested_disks_have_done();
     Some(world)
 }
