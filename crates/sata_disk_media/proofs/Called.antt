@@ -1,5 +1,5 @@
 -- What a call of a disk does to its commands are deeds that may be done; those of a call that asks and answers nothing are calm.
-use Rattle.std.proofs.Common.{◌≡◌, ℕ, zero, suc, ◌+◌, ◌<◌, ◌≤◌, true, false, List, [], ◌∷◌, ◌++◌, drop, Some, None, refl, sym, ap, ◌∙◌, arith, subst}
+use Rattle.std.proofs.Common.{◌≡◌, ℕ, zero, suc, ◌<◌, ◌≤◌, true, false, List, [], ◌∷◌, ◌++◌, drop, Some, None, refl, sym, arith, subst}
 use Rattle.std.specs.Prelude.{Option, Bool, ◌&&◌, if◌then◌else◌, Result, Ok}
 use Rattle.fis_view.specs.Seen.{seen as view_seen}
 use Rattle.fis_view.specs.declared.view.Fis.{Fis}

@@ -1,25 +1,22 @@
 -- The laws of read after write.
-use Rattle.std.proofs.Common.{◌≡◌, ℕ, zero, suc, ◌+◌, ◌-◌, ◌*◌, ◌<◌, ◌≤◌, true, false, List, [], ◌∷◌, ◌++◌, length, take, drop, get_or, set, Some, None, refl, sym, ap, ◌∙◌, arith, append_assoc, subst}
-use Rattle.std.specs.Prelude.{Option, Bool, ◌&&◌, nat_le, nat_lt, Ok, if◌then◌else◌}
+use Rattle.std.proofs.Common.{◌≡◌, ℕ, ◌+◌, ◌-◌, ◌*◌, ◌<◌, ◌≤◌, true, false, List, [], ◌∷◌, ◌++◌, length, take, drop, set, Some, None, refl, sym, ap, ◌∙◌, arith, append_assoc, subst}
+use Rattle.std.specs.Prelude.{Option, Bool, nat_lt, if◌then◌else◌}
 use Rattle.std.proofs.lemmas.Bool.{leb-true, ltb-true}
 use Rattle.std.proofs.lemmas.List.{append-nil, get_or-set_same, length-append, length-drop, take-append-le, drop-append-le}
 use Rattle.std.proofs.Math.Seq.{drop-append-add}
-use Rattle.fis_view.specs.Seen.{seen as view_seen}
-use Rattle.fis_view.specs.declared.view.Fis.TheVariants as view
 use Rattle.block_command.specs.declared.command.Command.{Command}
 use Rattle.block_command.specs.declared.command.Stage.{Stage}
 use Rattle.block_command.specs.declared.command.Stage.TheVariants as stage
 use Rattle.block_command.specs.declared.command.Protocol.{Protocol}
 use Rattle.block_command.specs.declared.command.Protocol.TheVariants as protocol
 use Rattle.block_command.specs.Laws.{Goes, IsEarned, Ledger, blank}
-use Rattle.block_command.specs.Moments.{Moment, is_ended, turn_of, whole}
+use Rattle.block_command.specs.Moments.{Moment, turn_of}
 use Rattle.block_command.proofs.Door.{Agrees, at, rights_then}
-use Rattle.block_disk.specs.Laws.{Page, Refused, Took, at_page, entered_in}
-use Rattle.block_disk.specs.Requests.{Books, OnLink, Seen, entered_by, no_books, out_after}
+use Rattle.block_disk.specs.Laws.{Page, Refused, Took, at_page}
+use Rattle.block_disk.specs.Requests.{Books, OnLink, Seen, entered_by, no_books}
 use Rattle.block_disk.specs.Table.{is_under_way}
-use Rattle.block_queue.specs.Deeds as deed
 use Rattle.block_queue.specs.Deeds.{seen_of}
-use Rattle.block_queue.specs.Line.{Line, command_at, has_bit}
+use Rattle.block_queue.specs.Line.{Line, command_at}
 use Rattle.block_queue.proofs.Door.{of_and}
 use Rattle.block_scheduler.specs.Laws.{all_deeds}
 use Rattle.block_scheduler.specs.Sets.{IsTagsOf, ends_at, is_end, turn_at}
@@ -28,7 +25,6 @@ use Rattle.block_scheduler.specs.declared.scheduler.NextFis.TheVariants as next_
 use Rattle.block_engine.specs.declared.request.Answer.{Answer}
 use Rattle.block_engine.specs.declared.request.Answer.TheVariants as answers
 use Rattle.block_engine.specs.declared.request.Range.{Range}
-use Rattle.block_engine.specs.declared.request.Request.{Request}
 use Rattle.block_engine.specs.declared.request.What.{What}
 use Rattle.block_engine.specs.declared.request.What.TheVariants as what
 use Rattle.block_engine.specs.Laws as engine
@@ -37,29 +33,24 @@ use Rattle.ata_front.specs.CommandFis.{asks_by}
 use Rattle.ata_reply.specs.declared.reply.AtaError.{AtaError}
 use Rattle.ata_reply.specs.declared.reply.Failure.{Failure}
 use Rattle.ata_reply.specs.declared.reply.Reply.TheVariants as replies
-use Rattle.ata_front.specs.declared.task.Act.TheVariants as act
 use Rattle.disk_pages.specs.declared.profile.Profile.{Profile}
-use Rattle.sata_disk.specs.Hearing.{register_told}
-use Rattle.sata_disk.specs.Sending.{IsOut, out_at, part_at}
-use Rattle.sata_disk.specs.State.{DiskState, commands, is_taken, new_disk}
+use Rattle.sata_disk.specs.Sending.{IsOut, out_at}
+use Rattle.sata_disk.specs.State.{DiskState, commands, new_disk}
 use Rattle.sata_disk.specs.declared.out.Out.{Out}
 use Rattle.sata_disk.specs.declared.out.Out.TheVariants as out
 use Rattle.sata_disk_laws.specs.Calls as call
 use Rattle.sata_disk_laws.specs.Calls.{AreCalls, Answers, Asks, Call, Hears, IsCall, Sends, act_steps, after_call, after_calls, fis_steps, steps_of}
 use Rattle.sata_disk_laws.specs.Laws.{reached, seen_in}
-use Rattle.sata_disk_laws.proofs.Door.{calls_after}
 use Rattle.sata_disk_books.specs.Books.{AreNext, AreOfPage, DataAreGiven, books_after, page_in}
 use Rattle.sata_disk_media.proofs.Walks.{books_both, shown_both, shown_from}
 use Rattle.sata_disk_media.specs.Cells.{Cell, Kept, Unknown, answered_cell, asked_cell, covers, in_ranges, kept_in, sector_of}
-use Rattle.sata_disk_media.specs.Laws.{AreSparing, EndsWell, HasSector, IsBrought, IsReadBack, IsTakenAt, IsUnread, LoadsBringWhatIsKept, ReadsBringWrites, Spares, WritesAreKept, next_data, sector_in, touches}
+use Rattle.sata_disk_media.specs.Laws.{AreSparing, EndsWell, HasSector, IsBrought, IsTakenAt, IsUnread, LoadsBringWhatIsKept, ReadsBringWrites, Spares, WritesAreKept, next_data, sector_in, touches}
 use Rattle.sata_disk_media.specs.Media.{IsHonest, cell_after, cell_of, kept, store_bytes}
 use Rattle.sata_disk_media.proofs.Called.{deeds_by}
-use Rattle.sata_disk_media.proofs.Loaded.{Given}
 use Rattle.sata_disk_media.proofs.Moments.{is_over}
 use Rattle.sata_disk_media.proofs.Requested.{page_of}
-use Rattle.sata_disk_media.proofs.Runs.{IsHeld, are_first, are_then, books_in, books_then, calls_given, run_held, unread_given}
-use Rattle.sata_disk_media.proofs.Stored.{Held}
-use Rattle.sata_disk_media.proofs.Walk.{shown_by, shown_one}
+use Rattle.sata_disk_media.proofs.Runs.{are_first, are_then, books_in, calls_given, run_held, unread_given}
+use Rattle.sata_disk_media.proofs.Walk.{shown_one}
 
 -- ## Loads
 

@@ -10,3 +10,4 @@ mod Loaded
 mod Runs
 mod Kept
 mod Rows
+mod Writes

@@ -1,5 +1,5 @@
 -- Of a command the loads that were asked for, and the sectors that they brought: what each deed of the commands leaves of that.
-use Rattle.std.proofs.Common.{◌≡◌, ◌≢◌, ℕ, zero, suc, ◌+◌, ◌-◌, ◌*◌, ◌<◌, ◌≤◌, true, false, List, [], ◌∷◌, ◌++◌, length, take, drop, get_or, set, Some, None, refl, sym, ap, ◌∙◌, arith, inl, inr, subst}
+use Rattle.std.proofs.Common.{◌≡◌, ◌≢◌, ℕ, ◌+◌, ◌-◌, ◌*◌, ◌<◌, ◌≤◌, true, false, List, ◌++◌, length, take, drop, get_or, set, Some, None, refl, sym, ap, ◌∙◌, arith, inl, inr, subst}
 use Rattle.std.specs.Prelude.{Option, Bool, ◌==◌, ◌&&◌, replicate, if◌then◌else◌}
 use Rattle.std.specs.Option.{option_map}
 use Rattle.std.proofs.lemmas.Bool.{cases_eq, cases_lt, eqb-true, le-leb, lt-ltb, ltb-true}
@@ -11,12 +11,12 @@ use Rattle.block_command.specs.declared.command.Stage.{Stage}
 use Rattle.block_command.specs.declared.command.Stage.TheVariants as stage
 use Rattle.block_command.specs.declared.command.Turn.{Turn}
 use Rattle.block_command.specs.declared.command.Turn.TheVariants as turn
-use Rattle.block_command.specs.Moments.{Moment, part_count, part_lba, turn_of}
+use Rattle.block_command.specs.Moments.{Moment, part_count, turn_of}
 use Rattle.block_command.specs.Laws as command
 use Rattle.block_command.specs.Laws.{Input, Goes, Comes, Loads, Happening, Ledger, AskedLoad, Loaded, SentSetUp, CameData, Stored, Flushed, after, blank, entered, given_to, happening, is_behind, shown, stored_in}
 use Rattle.block_command.proofs.Door.{Agrees, at}
 use Rattle.block_disk.specs.Table.{is_under_way}
-use Rattle.block_disk.specs.Laws.{At, Page, Refused, Shown, Took, at_page, entered_in, page_entered, shown_at}
+use Rattle.block_disk.specs.Laws.{At, Page, Refused, Took, at_page, entered_in, page_entered, shown_at}
 use Rattle.block_disk.specs.Requests.{Books, asks_at, entered_by, is_fis, is_out, is_request, out_after, seen, sends_at, told}
 use Rattle.block_disk.proofs.Door.{Matches, each_is}
 use Rattle.block_queue.specs.Deeds as deed
@@ -26,7 +26,7 @@ use Rattle.block_queue.proofs.Door.{of_and}
 use Rattle.block_engine.specs.declared.request.What.TheVariants as what
 use Rattle.block_engine.specs.Engine.{what_at}
 use Rattle.sata_disk_media.specs.Cells.{Cell, covers, sector_of}
-use Rattle.sata_disk_media.proofs.Stored.{Entered, Held, entered_page, is_calm}
+use Rattle.sata_disk_media.proofs.Stored.{Held, entered_page, is_calm}
 
 -- ## Sectors of bytes
 

@@ -1,15 +1,13 @@
 -- Over every run of an engine the requests that are not answered have numbers of their own.
-use Rattle.std.proofs.Common.{◌≡◌, ℕ, zero, suc, ◌<◌, true, false, List, [], ◌∷◌, Some, None, refl, sym, ap, ◌∙◌, arith, subst}
+use Rattle.std.proofs.Common.{◌≡◌, ℕ, true, false, Some, None, refl, sym, arith, subst}
 use Rattle.std.specs.Prelude.{Option, Bool, if◌then◌else◌}
 use Rattle.block_command.specs.Laws as command
-use Rattle.block_queue.specs.Line.{Line}
-use Rattle.block_engine.specs.declared.aside.AsideStage.{AsideStage}
 use Rattle.block_engine.specs.declared.request.Answer.{Answer}
 use Rattle.block_engine.specs.declared.request.Answer.TheVariants as answers
 use Rattle.block_engine.specs.Aside.{settled}
 use Rattle.block_engine.specs.Engine.{EngineState, answered, done_at, done_of, failed_by, line, loaded_at, none_engaged, place_of}
 use Rattle.block_engine.specs.Laws.{Step, Takes, TakesAside, Starts, Asks, AsksAside, Answers, Hears, Sends, SendsEnds, SendsAside, Forgives, Resets}
-use Rattle.block_engine.specs.Laws.{after_step, after_steps}
+use Rattle.block_engine.specs.Laws.{after_step}
 use Rattle.block_engine.specs.Numbers.{AreNumbered}
 use Rattle.block_engine.proofs.Holders.{answered_line, asked_aside, asked_line, drops, ends_line, none_dropped, none_numbered, reset_line, rests, same_line, sent_line, settled_less, taken_line, waits}
 

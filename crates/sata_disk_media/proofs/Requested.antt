@@ -1,24 +1,21 @@
 -- What a request leaves of what is held, and what an answer does.
-use Rattle.std.proofs.Common.{◌≡◌, ◌≢◌, ℕ, zero, suc, ◌+◌, ◌-◌, ◌*◌, ◌<◌, ◌≤◌, true, false, List, [], ◌∷◌, ◌++◌, length, take, drop, get_or, set, Some, None, refl, sym, ap, ◌∙◌, arith, inl, inr, ◌⊎◌, subst}
-use Rattle.std.specs.Prelude.{Option, Bool, not, ◌&&◌, ◌==◌, nat_lt, nat_le, if◌then◌else◌}
+use Rattle.std.proofs.Common.{◌≡◌, ◌≢◌, ℕ, ◌+◌, ◌-◌, ◌*◌, ◌<◌, ◌≤◌, true, false, List, ◌++◌, length, take, drop, get_or, set, Some, None, refl, sym, ap, ◌∙◌, arith, inl, inr, subst}
+use Rattle.std.specs.Prelude.{Option, Bool, ◌&&◌, ◌==◌, if◌then◌else◌}
 use Rattle.std.specs.Option.{option_map}
-use Rattle.std.proofs.lemmas.Bool.{cases_eq, cases_lt, cases_Bool, eqb-true, leb-true, le-leb, lt-ltb, ltb-true, ne_eqb, eq-eqb}
+use Rattle.std.proofs.lemmas.Bool.{cases_lt, eqb-true, leb-true, le-leb, lt-ltb, ltb-true, ne_eqb, eq-eqb}
 use Rattle.std.proofs.lemmas.Option.{same_Some}
-use Rattle.std.proofs.lemmas.List.{get_or-set_same, get_or-set_other, length-append, length-set, take-append-le, drop-append-le, length-drop}
+use Rattle.std.proofs.lemmas.List.{get_or-set_same, length-append, take-append-le, drop-append-le, length-drop}
 use Rattle.std.proofs.Math.Seq.{drop-append-add}
-use Rattle.block_command.specs.declared.answer.AnswerError.{AnswerError}
 use Rattle.block_command.specs.declared.command.Command.{Command}
-use Rattle.block_command.specs.declared.command.Protocol.{Protocol}
-use Rattle.block_command.specs.declared.command.Protocol.TheVariants.{Queued, Dma, Pio, Verify}
 use Rattle.block_command.specs.declared.command.Stage.{Stage}
 use Rattle.block_command.specs.declared.command.Stage.TheVariants as stage
-use Rattle.block_command.specs.Moments.{Moment, is_ended, is_storing, part_count, part_lba, part_len, runs, turn_of}
+use Rattle.block_command.specs.Moments.{Moment, is_ended, is_storing, part_count, part_lba, runs, turn_of}
 use Rattle.block_command.specs.Laws as command
 use Rattle.block_command.specs.Laws.{Input, Goes, Loads, Comes, Stores, Flushes, Fails, Happening, Ledger, AskedStore, after, entered, happening, refusal}
 use Rattle.block_command.proofs.Door.{Agrees, at}
 use Rattle.block_disk.specs.Table.{refusal_at, with_input}
-use Rattle.block_disk.specs.Laws.{At, Page, Shown, at_page, entered_in, page_entered, shown_at}
-use Rattle.block_disk.specs.Requests.{Answered, Books, asks_at, entered_by, is_answer, is_out, is_request, seen, told}
+use Rattle.block_disk.specs.Laws.{At, Page, at_page, entered_in, page_entered, shown_at}
+use Rattle.block_disk.specs.Requests.{Books, asks_at, entered_by, is_out, is_request, seen, told}
 use Rattle.block_disk.proofs.Door.{Agree, Matches}
 use Rattle.block_queue.specs.Deeds as deed
 use Rattle.block_queue.specs.Deeds.{IsDeed, act_of, after_deed}
@@ -28,10 +25,10 @@ use Rattle.block_engine.specs.declared.request.Answer.{Answer}
 use Rattle.block_engine.specs.declared.request.Answer.TheVariants as answers
 use Rattle.block_engine.specs.declared.request.Range.{Range}
 use Rattle.block_engine.specs.Engine.{what_at}
-use Rattle.sata_disk_media.specs.Cells.{Cell, Kept, Storing, Unknown, answered_cell, asked_cell, bytes_at, covers, sector_of}
+use Rattle.sata_disk_media.specs.Cells.{Cell, Kept, Storing, answered_cell, asked_cell, bytes_at, covers, sector_of}
 use Rattle.sata_disk_media.proofs.Apart.{IsRunning, alone}
-use Rattle.sata_disk_media.proofs.Moments.{HasPart, IsStoring, Runs, alive_of, done_not, is_over, is_stored, loaded_not, over_before, part_below, same_kept, store_part, storing_part, write_runs}
-use Rattle.sata_disk_media.proofs.Stored.{Claims, Each, Held, IsCalm, KeptClaim, StoringClaim, calm, entered_page, held_by, out_each, set_each, touch_each, touched}
+use Rattle.sata_disk_media.proofs.Moments.{HasPart, IsStoring, alive_of, done_not, is_over, is_stored, loaded_not, part_below, same_kept, store_part, storing_part, write_runs}
+use Rattle.sata_disk_media.proofs.Stored.{Claims, Each, Held, IsCalm, KeptClaim, entered_page, held_by, out_each, set_each, touch_each}
 
 no_bool : (b : Bool) → b ≡ true → b ≡ false → (P : Type 0) → P
 no_bool b e f P = absurd (cc)
@@ -166,14 +163,14 @@ store_each l b s cell q c done bytes sent h d held low here had cov =
     set_each l.queue.table.places b.pages out' s cell new q (Some (at c done bytes sent stage.Storing)) (option_map (λ p. page_entered p e) (at_page b.pages q))
     old held.line.places held.agree.kept.pages
     (λ p m g low' apart was has alive claims.
-      others_case l b s cell q c done bytes sent d held low here (part.write, part.more) cov p m g (get_or out' p 0) low' apart was has alive claims)
+    others_case l b s cell q c done bytes sent d held low here (part.write, part.more) cov p m g (get_or out' p 0) low' apart was has alive claims)
     (λ m g is page alive.
-      let P : Moment → Page → ℕ → Type 0 = λ x y z. Claims x y z s new in
-      let to : page_entered h e ≡ g = same_Some _ _ (sym (ap (λ y. option_map (λ p. page_entered p e) y) had) ∙ page) in
-      subst (λ x. P x g (get_or out' q 0)) (same_Some _ _ is) (subst (λ y. P (at c done bytes sent stage.Storing) y (get_or out' q 0)) to
-      (subst (λ z. P (at c done bytes sent stage.Storing) (page_entered h e) z) (sym number)
-      (own_claims c done bytes sent (page_entered h e) n s cell d (sym match'.0)
-      (record { write = part.write; behind = part.behind; more = part.more; long = part.long }) cov held.next (held.each q k h low here had refl).kept))))
+    let P : Moment → Page → ℕ → Type 0 = λ x y z. Claims x y z s new in
+    let to : page_entered h e ≡ g = same_Some _ _ (sym (ap (λ y. option_map (λ p. page_entered p e) y) had) ∙ page) in
+    subst (λ x. P x g (get_or out' q 0)) (same_Some _ _ is) (subst (λ y. P (at c done bytes sent stage.Storing) y (get_or out' q 0)) to
+    (subst (λ z. P (at c done bytes sent stage.Storing) (page_entered h e) z) (sym number)
+    (own_claims c done bytes sent (page_entered h e) n s cell d (sym match'.0)
+    (record { write = part.write; behind = part.behind; more = part.more; long = part.long }) cov held.next (held.each q k h low here had refl).kept))))
 
 -- ## A request is asked for
 
@@ -318,12 +315,12 @@ answer_each l b s cell q number i a k held low here only none keeps =
     let set' : Each places pages b.out s new = set_each l.queue.table.places b.pages b.out s cell new q (Some (after k i)) (option_map (λ p. page_entered p (told i)) (at_page b.pages q))
     held.each held.line.places held.agree.kept.pages
     (λ p m g low' apart was had alive claims. left_claims m g (get_or b.out p 0) s cell number a claims
-      (λ some same. apart (only p low' (omega (arith, some, same)) (ap (λ o. get_or o p 0) (sym held.agree.out) ∙ same)).0))
+    (λ some same. apart (only p low' (omega (arith, some, same)) (ap (λ o. get_or o p 0) (sym held.agree.out) ∙ same)).0))
     (λ m g is page alive.
-      let e : after k i ≡ m = same_Some _ _ is in
-      let w = entered_page b.pages q (told i) (at_page b.pages q) refl g page in
-      subst (λ z. Claims z g (get_or b.out q 0) s new) e (subst (λ z. Claims (after k i) z (get_or b.out q 0) s new) w.is
-      (record { kept = keeps w.was w.at (ap (λ x. is_over x.stage) e ∙ alive); storing = λ st. no_bool _ st none _ }))) in
+    let e : after k i ≡ m = same_Some _ _ is in
+    let w = entered_page b.pages q (told i) (at_page b.pages q) refl g page in
+    subst (λ z. Claims z g (get_or b.out q 0) s new) e (subst (λ z. Claims (after k i) z (get_or b.out q 0) s new) w.is
+    (record { kept = keeps w.was w.at (ap (λ x. is_over x.stage) e ∙ alive); storing = λ st. no_bool _ st none _ }))) in
     out_each places pages b.out s new q 0 set'
     (λ m f. ap (λ x. is_storing x.stage) (sym (same_Some (after k i) m (sym (get_or-set_same l.queue.table.places q (Some (after k i)) None (let long = held.line.places in omega (arith, low, long))) ∙ f))) ∙ none)
 

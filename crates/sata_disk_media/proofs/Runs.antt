@@ -1,24 +1,22 @@
 -- What is held, and what loads brought, over every run of a disk.
-use Rattle.std.proofs.Common.{◌≡◌, ℕ, zero, suc, ◌+◌, ◌-◌, ◌*◌, ◌<◌, ◌≤◌, true, false, List, [], ◌∷◌, ◌++◌, length, get_or, set, Some, None, refl, sym, ap, ◌∙◌, arith, append_assoc, subst}
+use Rattle.std.proofs.Common.{◌≡◌, ℕ, ◌<◌, true, false, List, [], ◌∷◌, ◌++◌, length, Some, None, refl, sym, ap, ◌∙◌, arith, append_assoc, subst}
 use Rattle.std.specs.Prelude.{Option, Bool, if◌then◌else◌, replicate}
-use Rattle.std.proofs.lemmas.Bool.{ltb-true}
 use Rattle.std.proofs.lemmas.List.{append-nil, length-replicate}
-use Rattle.std.proofs.lemmas.Option.{same_Some}
 use Rattle.block_command.specs.Laws.{Input, Fails, Flushes, Loads, Stores}
 use Rattle.block_command.specs.Moments.{Moment}
-use Rattle.block_disk.specs.Laws.{Page, at_page}
-use Rattle.block_disk.specs.Requests.{Books, Seen, entered_by, no_books, none_queued, seen}
-use Rattle.block_disk.proofs.Door.{Agree, each_is, kept_none}
+use Rattle.block_disk.specs.Laws.{at_page}
+use Rattle.block_disk.specs.Requests.{Books, entered_by, no_books, seen}
+use Rattle.block_disk.proofs.Door.{each_is, kept_none}
 use Rattle.block_queue.specs.Deeds as deed
 use Rattle.block_queue.specs.Deeds.{AreDeeds, Deed, act_of, after_deed, seen_of}
-use Rattle.block_queue.specs.Line.{Line, awaits, command_at, none_in_line}
+use Rattle.block_queue.specs.Line.{Line, command_at}
 use Rattle.block_queue.proofs.Door.{new_line}
 use Rattle.block_scheduler.specs.Laws.{all_deeds}
 use Rattle.block_engine.specs.declared.request.Answer.{Answer}
 use Rattle.block_engine.specs.declared.request.Answer.TheVariants as answers
 use Rattle.block_engine.specs.declared.request.Request.{Request}
 use Rattle.block_engine.specs.declared.request.What.TheVariants as what
-use Rattle.block_engine.specs.Engine.{IsAskedOf, done_of, none_engaged, place_of, what_at}
+use Rattle.block_engine.specs.Engine.{IsAskedOf, done_of, place_of, what_at}
 use Rattle.block_engine.specs.Laws as engine
 use Rattle.block_engine.specs.Laws.{all_moves}
 use Rattle.disk_pages.specs.declared.profile.Profile.{Profile}
@@ -26,17 +24,16 @@ use Rattle.sata_disk.specs.State.{DiskState, commands, new_disk}
 use Rattle.sata_disk_laws.specs.Calls as call
 use Rattle.sata_disk_laws.specs.Calls.{AreCalls, Answers, Asks, Call, IsCall, after_call, after_calls, all_steps, ask_steps, asked_by, steps_of}
 use Rattle.sata_disk_laws.specs.Laws.{reached, seen_in}
-use Rattle.sata_disk_laws.proofs.Door.{calls_after}
-use Rattle.sata_disk_books.specs.Books.{books_after, page_in}
-use Rattle.sata_disk_media.proofs.Walks.{after_deeds, books_both, shown_both, shown_from}
-use Rattle.sata_disk_media.specs.Cells.{Cell, Unknown, covers, sector_of}
+use Rattle.sata_disk_books.specs.Books.{books_after}
+use Rattle.sata_disk_media.proofs.Walks.{books_both, shown_both, shown_from}
+use Rattle.sata_disk_media.specs.Cells.{Cell, Unknown}
 use Rattle.sata_disk_media.specs.Laws.{IsBrought, IsUnread}
 use Rattle.sata_disk_media.specs.Media.{IsHonest, IsTrue, cell_after, cell_of, kept}
 use Rattle.sata_disk_media.proofs.Called.{AllOf, call_are, calm_call, calm_deeds, deeds_are, deeds_by}
-use Rattle.sata_disk_media.proofs.Loaded.{Brings, Given, GivenAt, Wanted, answered_given, asked_given, calm_given, given_more}
+use Rattle.sata_disk_media.proofs.Loaded.{Brings, GivenAt, answered_given, asked_given, calm_given, given_more}
 use Rattle.sata_disk_media.proofs.Numbers.{Numbered, new_numbered}
 use Rattle.sata_disk_media.proofs.Stored.{Each, Held, calm_held, is_calm}
-use Rattle.sata_disk_media.proofs.Walk.{call_held, call_numbered, line_one, shown_by, shown_one}
+use Rattle.sata_disk_media.proofs.Walk.{call_held, call_numbered, shown_by, shown_one}
 
 -- ## Lists of calls
 

@@ -1,35 +1,29 @@
 -- What a write of which the page keeps bytes has stored, a cell keeps: what each deed of the commands leaves of that.
-use Rattle.std.proofs.Common.{◌≡◌, ◌≢◌, ℕ, zero, suc, ◌+◌, ◌-◌, ◌*◌, ◌<◌, ◌≤◌, true, false, List, [], ◌∷◌, ◌++◌, length, take, drop, get_or, set, Some, None, refl, sym, ap, ◌∙◌, arith, inl, inr, ◌⊎◌, subst}
-use Rattle.std.specs.Prelude.{Option, Bool, not, ◌&&◌, ◌||◌, ◌==◌, nat_lt, replicate, if◌then◌else◌}
-use Rattle.std.specs.Option.{option_map, is_some}
-use Rattle.std.proofs.lemmas.Bool.{cases_eq, cases_lt, cases_Bool, eqb-true, leb-true, le-leb, lt-ltb, ltb-true, ne_eqb, eq-eqb}
+use Rattle.std.proofs.Common.{◌≡◌, ◌≢◌, ℕ, ◌+◌, ◌-◌, ◌*◌, ◌<◌, ◌≤◌, true, false, List, length, get_or, set, Some, None, refl, sym, ap, ◌∙◌, arith, inl, inr, subst}
+use Rattle.std.specs.Prelude.{Option, Bool, not, replicate, if◌then◌else◌}
+use Rattle.std.specs.Option.{option_map}
+use Rattle.std.proofs.lemmas.Bool.{cases_eq}
 use Rattle.std.proofs.lemmas.Option.{same_Some}
-use Rattle.std.proofs.lemmas.List.{get_or-set_same, get_or-set_other, length-replicate, length-set, length-append, take-append-le, drop-append-le, length-drop}
-use Rattle.std.proofs.Math.Seq.{drop-append-add}
-use Rattle.block_command.specs.declared.answer.AnswerError.{AnswerError}
+use Rattle.std.proofs.lemmas.List.{get_or-set_same, get_or-set_other, length-replicate, length-set}
 use Rattle.block_command.specs.declared.command.Command.{Command}
 use Rattle.block_command.specs.declared.command.Stage.{Stage}
-use Rattle.block_command.specs.declared.command.Stage.TheVariants.{Load, Loading, Store, Storing as Waits, Flush, Flushing, Ended}
+use Rattle.block_command.specs.declared.command.Stage.TheVariants.{Ended}
 use Rattle.block_command.specs.declared.command.Turn.{Turn}
 use Rattle.block_command.specs.declared.command.Turn.TheVariants as turn
-use Rattle.block_command.specs.Moments.{Moment, is_ended, is_storing, opening, part_count, part_lba, runs, turn_of}
-use Rattle.block_command.specs.Laws.{Input, Goes, Comes, Happening, Ledger, blank, after, entered, happening}
-use Rattle.block_command.proofs.Door.{Agrees, at}
+use Rattle.block_command.specs.Moments.{Moment, is_ended, is_storing, opening, part_count, part_lba, turn_of}
+use Rattle.block_command.specs.Laws.{Input, Goes, Comes, Happening, blank, after, happening}
 use Rattle.block_disk.specs.Table as table
 use Rattle.block_disk.specs.Table.{is_under_way, may_go, with_command, with_taken}
-use Rattle.block_disk.specs.Laws.{At, AtNone, Page, Refused, Reset, Shown, Took, at_page, entered_in, page_entered, shown_at}
-use Rattle.block_disk.specs.Requests.{Answered, Asked, Books, Drawn, IsAct, OnLink, Queue, Seen, after_act, asks_at, entered_by, is_fis, is_out, is_request, out_after, seen, sends_at, with_drawn, with_table}
-use Rattle.block_disk.proofs.Door.{Agree, Matches, each_is, one}
+use Rattle.block_disk.specs.Laws.{At, Page, Refused, Reset, Shown, Took, entered_in, page_entered, shown_at}
+use Rattle.block_disk.specs.Requests.{Answered, Asked, Books, Drawn, IsAct, OnLink, Queue, Seen, after_act, entered_by, is_fis, is_request, out_after, seen, sends_at, with_drawn, with_table}
+use Rattle.block_disk.proofs.Door.{Agree, each_is, one}
 use Rattle.block_queue.specs.Deeds as deed
 use Rattle.block_queue.specs.Deeds.{Deed, IsDeed, act_of, after_deed}
-use Rattle.block_queue.specs.Line.{IsLine, Line, command_at, line_taken, may_start_at, moved_back, starts, with_queue}
+use Rattle.block_queue.specs.Line.{IsLine, Line, command_at, may_start_at, moved_back, starts, with_queue}
 use Rattle.block_queue.proofs.Door.{any_at, line_after, of_and, of_or}
 use Rattle.block_scheduler.specs.Schedule.{is_busy, is_quiet}
-use Rattle.block_engine.specs.declared.request.Range.{Range}
-use Rattle.block_engine.specs.Engine.{what_at}
-use Rattle.sata_disk_media.specs.Cells.{Cell, Kept, Storing, asked_cell, covers, sector_of}
-use Rattle.sata_disk_media.proofs.Apart.{IsRunning, alone}
-use Rattle.sata_disk_media.proofs.Moments.{HasPart, IsStoring, Runs, alive_of, comes_storing, goes_not_stored, goes_storing, is_over, is_stored, over_before, part_below, same_kept, store_part, storing_part, write_runs}
+use Rattle.sata_disk_media.specs.Cells.{Cell, Kept, Storing, covers, sector_of}
+use Rattle.sata_disk_media.proofs.Moments.{comes_storing, goes_not_stored, goes_storing, is_over, is_stored, over_before, same_kept}
 
 -- ## Claims
 
@@ -125,12 +119,12 @@ touch_some : (places : List (Option Moment)) (pages : List (Option Page)) (out :
 touch_some places pages out s cell q i k was each long long' low calm' =
     set_each places pages out s cell cell q (Some (after k i)) _ each long long' (λ p m g l a h t alive c. c)
     (λ m g is page alive.
-      let e : after k i ≡ m = same_Some _ _ is in
-      let w = entered_page pages q (happening k i) (get_or pages q None) refl g page in
-      let alive' : is_over (after k i).stage ≡ false = ap (λ x. is_over x.stage) e ∙ alive in
-      subst (λ z. Claims z g (get_or out q 0) s cell) e (subst (λ z. Claims (after k i) z (get_or out q 0) s cell) w.is
-      (calm k (after k i) w.was (page_entered w.was (happening k i)) (get_or out q 0) s cell (each q k w.was low was w.at (over_before k i alive')) refl
-      (same_kept w.was.command w.was.ledger (happening k i) calm'.stored) calm'.still)))
+    let e : after k i ≡ m = same_Some _ _ is in
+    let w = entered_page pages q (happening k i) (get_or pages q None) refl g page in
+    let alive' : is_over (after k i).stage ≡ false = ap (λ x. is_over x.stage) e ∙ alive in
+    subst (λ z. Claims z g (get_or out q 0) s cell) e (subst (λ z. Claims (after k i) z (get_or out q 0) s cell) w.is
+    (calm k (after k i) w.was (page_entered w.was (happening k i)) (get_or out q 0) s cell (each q k w.was low was w.at (over_before k i alive')) refl
+    (same_kept w.was.command w.was.ledger (happening k i) calm'.stored) calm'.still)))
 
 pub touch_each : (places : List (Option Moment)) (pages : List (Option Page)) (out : List ℕ) (s : ℕ) (cell : Cell) (q : ℕ) (i : Input) (x : Option Moment)
     → get_or places q None ≡ x → Each places pages out s cell → length places ≡ 33 → length pages ≡ 33 → q < 33 → ((m : Moment) → x ≡ Some m → IsCalm m i)

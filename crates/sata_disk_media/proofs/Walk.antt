@@ -1,5 +1,5 @@
 -- What is held over each call of a disk.
-use Rattle.std.proofs.Common.{◌≡◌, ℕ, zero, suc, ◌<◌, ◌≤◌, true, false, List, [], ◌∷◌, ◌++◌, length, get_or, set, Some, None, refl, sym, ap, ◌∙◌, arith, inl, inr, subst}
+use Rattle.std.proofs.Common.{◌≡◌, ℕ, zero, suc, ◌<◌, true, false, List, [], ◌∷◌, ◌++◌, get_or, Some, None, refl, sym, ap, ◌∙◌, arith, inl, inr, subst}
 use Rattle.std.specs.Prelude.{Option, Bool, ◌&&◌, ◌||◌, ◌==◌, nat_lt, if◌then◌else◌}
 use Rattle.std.proofs.lemmas.Bool.{cases_eq, eq-eqb, eqb-true, lt-ltb}
 use Rattle.std.proofs.lemmas.List.{append-nil}
@@ -18,10 +18,10 @@ use Rattle.block_engine.specs.declared.numbers.Holder.TheVariants as holder
 use Rattle.block_engine.specs.declared.request.Answer.{Answer}
 use Rattle.block_engine.specs.declared.request.Answer.TheVariants as answers
 use Rattle.block_engine.specs.declared.request.Request.{Request}
-use Rattle.block_engine.specs.Engine.{EngineState, IsAskedOf, answer_refusal, done_of, done_refusal, fail_refusal, failure_misfit, line, load_refusal, may_ask, or_else, place_of, what_at}
+use Rattle.block_engine.specs.Engine.{EngineState, IsAskedOf, answer_refusal, done_of, done_refusal, fail_refusal, failure_misfit, line, load_refusal, or_else, place_of, what_at}
 use Rattle.block_engine.specs.Laws as engine
 use Rattle.block_engine.specs.Laws.{Step, after_step, after_steps, all_moves}
-use Rattle.block_engine.specs.Numbers.{AreNumbered, store_number}
+use Rattle.block_engine.specs.Numbers.{store_number}
 use Rattle.block_engine.proofs.Runs.{found_low}
 use Rattle.sata_disk.specs.State.{DiskState, commands}
 use Rattle.sata_disk_laws.specs.Calls as call
@@ -33,7 +33,7 @@ use Rattle.sata_disk_media.specs.Media.{cell_after, store_bytes}
 use Rattle.sata_disk_media.proofs.Called.{AllOf, call_are, calm_call, calm_deeds, deeds_are, deeds_by}
 use Rattle.sata_disk_media.proofs.Numbers.{Numbered, step_numbered}
 use Rattle.sata_disk_media.proofs.Requested.{Fits, IsOnly, answered_held, asked_held, left_claims}
-use Rattle.sata_disk_media.proofs.Stored.{Each, Held, calm_held, drawn_held, is_calm}
+use Rattle.sata_disk_media.proofs.Stored.{Held, calm_held, drawn_held, is_calm}
 
 -- ## One call by itself
 

@@ -6,6 +6,7 @@ use Rattle.block_command.specs.declared.command.Command.{Command}
 use Rattle.block_disk.specs.Laws.{Page}
 use Rattle.block_engine.specs.declared.request.Answer.{Answer}
 use Rattle.block_engine.specs.declared.request.Range.{Range}
+use Rattle.block_engine.specs.declared.request.Request.{Request}
 use Rattle.block_engine.specs.declared.request.What.{What}
 use Rattle.block_engine.specs.declared.request.What.TheVariants as what
 use Rattle.block_queue.specs.Line.{command_at, has_bit}
@@ -17,7 +18,7 @@ use Rattle.sata_disk.specs.State.{DiskState, commands, is_taken, new_disk}
 use Rattle.ata_reply.specs.declared.reply.Reply.TheVariants as replies
 use Rattle.sata_disk.specs.declared.out.Out.{Out}
 use Rattle.sata_disk.specs.declared.out.Out.TheVariants as out
-use Rattle.sata_disk_laws.specs.Calls.{AreCalls, Answers, Asks, Call, Hears, Sends, after_call}
+use Rattle.sata_disk_laws.specs.Calls.{AreCalls, Answers, Asks, Call, Hears, IsCall, Sends, after_call}
 use Rattle.sata_disk_laws.specs.Laws.{reached}
 use Rattle.sata_disk_books.specs.Books.{page_in}
 use Rattle.sata_disk_media.specs.Cells.{covers, in_ranges, sector_of}
@@ -75,6 +76,21 @@ WritesAreKept = (p : Profile) (limit : ℕ) (calls : List Call) (o : Out) (place
     → AreCalls (new_disk p limit) calls → IsOut (reached p limit calls) (Some o) → EndsWell o place
     → page_in p limit calls place ≡ Some g → g.command.write ≡ true → covers g.command.lba g.command.count s ≡ true
     → kept p limit calls s ≡ Some (sector_of g.command.lba s g.ledger.came)
+
+-- the request is of a write in the books that has this sector
+pub record IsOfWrite (p : Profile) (limit : ℕ) (calls : List Call) (r : Request) (s : ℕ) : Type 0 where
+  pub place : ℕ
+  pub at' : r.place ≡ Some place
+  pub page : Page
+  pub has : page_in p limit calls place ≡ Some page
+  pub writes : page.command.write ≡ true
+  pub covered : covers page.command.lba page.command.count s ≡ true
+
+-- In every run a store of a sector is asked for only for a write in the books that has it. A FIS of the host asked for that write
+-- (`commands_are_asked`), and its sectors are those that the FIS says.
+abbrev pub StoresAreOfWrites : Type 0
+StoresAreOfWrites = (p : Profile) (limit : ℕ) (calls : List Call) (r : Request) (lba count s : ℕ) → AreCalls (new_disk p limit) calls
+    → IsCall (reached p limit calls) (Asks r) → r.what ≡ what.Store lba count → covers lba count s ≡ true → IsOfWrite p limit calls r s
 
 -- ## Read after write
 

@@ -1,6 +1,6 @@
 //! The laws.
 
-ghost use Rattle.sata_disk_media.specs.Laws.{LoadsBringWhatIsKept, ReadsBringWrites, WritesAreKept};
+ghost use Rattle.sata_disk_media.specs.Laws.{LoadsBringWhatIsKept, ReadsBringWrites, StoresAreOfWrites, WritesAreKept};
 
 /// A law. In every run with an honest medium each whole sector of the Data FIS of a read that goes next has the bytes that the medium was
 /// known to keep as the load that brought it was answered.
@@ -14,6 +14,12 @@ pub fn loads_bring_what_is_kept()
 /// it: no store of another command and no discard disturbed them.
 pub fn writes_are_kept()
     ensures { WritesAreKept }
+{}
+
+/// A law. In every run a store of a sector is asked for only for a write in the books that has it. So where no other write of a sector was
+/// taken and none is under way, nothing else stores to it.
+pub fn stores_are_of_writes()
+    ensures { StoresAreOfWrites }
 {}
 
 /// A law. In every run with an honest medium a read that is heard after the end of a write went brings the bytes that came for that write,

@@ -3,4 +3,6 @@
 
 mod laws;
 
-pub use laws::{loads_bring_what_is_kept, reads_bring_writes, writes_are_kept};
+pub use laws::{
+    loads_bring_what_is_kept, reads_bring_writes, stores_are_of_writes, writes_are_kept,
+};
