@@ -11,3 +11,4 @@ mod Runs
 mod Kept
 mod Rows
 mod Writes
+mod Sparing

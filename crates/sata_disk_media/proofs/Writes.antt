@@ -1,13 +1,15 @@
 -- A store that is asked for is of a write in the books.
-use Rattle.std.proofs.Common.{◌≡◌, ℕ, ◌+◌, ◌<◌, true, List, Some, None, refl, sym, ◌∙◌, arith, subst}
-use Rattle.std.specs.Prelude.{Option}
+use Rattle.std.proofs.Common.{◌≡◌, ℕ, ◌+◌, ◌<◌, true, false, List, Some, None, refl, sym, ap, ◌∙◌, arith, subst}
+use Rattle.std.specs.Prelude.{not, Option}
 use Rattle.std.proofs.lemmas.Bool.{leb-true, ltb-true}
 use Rattle.block_command.specs.declared.command.Command.{Command}
 use Rattle.block_command.specs.declared.command.Stage.{Stage}
 use Rattle.block_command.specs.declared.command.Stage.TheVariants as stage
-use Rattle.block_command.specs.Moments.{Moment, part_count}
+use Rattle.block_command.specs.Moments.{Moment, is_ended, part_count, turn_of}
 use Rattle.block_command.proofs.Door.{Agrees, at}
 use Rattle.block_disk.specs.Laws.{Page}
+use Rattle.block_disk.specs.Requests.{asks_at, is_request}
+use Rattle.block_disk.specs.Table.{is_under_way}
 use Rattle.block_disk.proofs.Door.{Matches}
 use Rattle.block_queue.specs.Line.{command_at}
 use Rattle.block_queue.proofs.Door.{of_and}
@@ -74,6 +76,14 @@ aside_no : (k : AsideKind) (lba count : ℕ) → aside_what k ≡ what.Store lba
 aside_no kinds.Flush lba count e = cc
 aside_no kinds.Discard lba count e = cc
 
+request_alive : (st : Stage) → is_request (turn_of st) ≡ true → is_ended st ≡ false
+request_alive stage.Ended e = absurd (cc)
+request_alive st e = refl
+
+under_way : (x : Option Moment) → asks_at x ≡ true → is_under_way x ≡ true
+under_way None e = absurd (cc)
+under_way (Some m) e = ap not (request_alive m.stage e)
+
 ask_case : (p : Profile) (limit : ℕ) (calls : List Call) (r : Request) (lba count s : ℕ) (k : Option ℕ) → r.place ≡ k
     → ((q : ℕ) → Matches (command_at (commands (reached p limit calls)) q) (page_in p limit calls q))
     → IsAskedOf (reached p limit calls).engine (asked_by (reached p limit calls).engine k) r k → r.what ≡ what.Store lba count → covers lba count s ≡ true
@@ -81,7 +91,15 @@ ask_case : (p : Profile) (limit : ℕ) (calls : List Call) (r : Request) (lba co
 ask_case p limit calls r lba count s None at' match' is e cov = absurd (aside_no (reached p limit calls).engine.kind lba count (sym is.3 ∙ e))
 ask_case p limit calls r lba count s (Some q) at' match' is e cov =
     let w = of_case (command_at (commands (reached p limit calls)) q) (page_in p limit calls q) lba count s (match' q) (sym is.2 ∙ e) cov in
-    record { place = q; at' = at'; page = w.page; has = w.is; writes = w.writes; covered = w.covered }
+    record {
+      place = q;
+      at' = at';
+      page = w.page;
+      has = w.is;
+      writes = w.writes;
+      covered = w.covered;
+      taken = under_way (command_at (commands (reached p limit calls)) q) is.0.passes;
+    }
 
 pub stores_are_of_writes : StoresAreOfWrites
 stores_are_of_writes p limit calls r lba count s are is e cov =

@@ -9,6 +9,8 @@ use Rattle.block_engine.specs.declared.request.Range.{Range}
 use Rattle.block_engine.specs.declared.request.Request.{Request}
 use Rattle.block_engine.specs.declared.request.What.{What}
 use Rattle.block_engine.specs.declared.request.What.TheVariants as what
+use Rattle.block_engine.specs.Aside.{is_waiting}
+use Rattle.block_engine.specs.Engine.{is_discard}
 use Rattle.block_queue.specs.Line.{command_at, has_bit}
 use Rattle.ata_front.specs.declared.task.Act.TheVariants as act
 use Rattle.disk_pages.specs.declared.profile.Profile.{Profile}
@@ -77,7 +79,7 @@ WritesAreKept = (p : Profile) (limit : ℕ) (calls : List Call) (o : Out) (place
     → page_in p limit calls place ≡ Some g → g.command.write ≡ true → covers g.command.lba g.command.count s ≡ true
     → kept p limit calls s ≡ Some (sector_of g.command.lba s g.ledger.came)
 
--- the request is of a write in the books that has this sector
+-- the request is of a write in the books that has this sector, and is under way
 pub record IsOfWrite (p : Profile) (limit : ℕ) (calls : List Call) (r : Request) (s : ℕ) : Type 0 where
   pub place : ℕ
   pub at' : r.place ≡ Some place
@@ -85,6 +87,7 @@ pub record IsOfWrite (p : Profile) (limit : ℕ) (calls : List Call) (r : Reques
   pub has : page_in p limit calls place ≡ Some page
   pub writes : page.command.write ≡ true
   pub covered : covers page.command.lba page.command.count s ≡ true
+  pub taken : is_taken (commands (reached p limit calls)) place ≡ true
 
 -- In every run a store of a sector is asked for only for a write in the books that has it. A FIS of the host asked for that write
 -- (`commands_are_asked`), and its sectors are those that the FIS says.
@@ -117,6 +120,20 @@ pub record IsTakenAt (d : DiskState) (bytes : List ℕ) (place : ℕ) : Type 0 w
   pub takes : (register_told d fis).act ≡ act.Takes command
   pub place' : command.place ≡ place
   pub free : is_taken (commands d) place ≡ false
+
+-- ## Where no other write is under way
+
+-- no write that has the sector is under way, and no discard waits to be asked for
+pub record IsUndisturbed (p : Profile) (limit : ℕ) (calls : List Call) (s : ℕ) : Type 0 where
+  pub writes : (place : ℕ) (g : Page) → page_in p limit calls place ≡ Some g → g.command.write ≡ true → covers g.command.lba g.command.count s ≡ true
+      → is_taken (commands (reached p limit calls)) place ≡ false
+  pub discards : is_discard (reached p limit calls).engine.kind ≡ true → is_waiting (reached p limit calls).engine.stage ≡ false
+
+-- In every run, where at each moment of some calls no write that has a sector is under way and no discard waits, none of them asks for a
+-- store or a discard of it. So what happens in between is told by commands.
+abbrev pub UndisturbedIsSpared : Type 0
+UndisturbedIsSpared = (p : Profile) (limit : ℕ) (first later : List Call) (s : ℕ) → AreCalls (new_disk p limit) (first ++ later)
+    → ((before after : List Call) → later ≡ before ++ after → IsUndisturbed p limit (first ++ before) s) → AreSparing (reached p limit first) s later
 
 -- Behind the first calls the FIS goes that ends a write well. Then come others, and a FIS that asks for a read, and others, and Data of this
 -- place go next that have a sector of the write. In between no other store and no discard of it is asked for.

@@ -1,6 +1,6 @@
 //! The laws.
 
-ghost use Rattle.sata_disk_media.specs.Laws.{LoadsBringWhatIsKept, ReadsBringWrites, StoresAreOfWrites, WritesAreKept};
+ghost use Rattle.sata_disk_media.specs.Laws.{LoadsBringWhatIsKept, ReadsBringWrites, StoresAreOfWrites, UndisturbedIsSpared, WritesAreKept};
 
 /// A law. In every run with an honest medium each whole sector of the Data FIS of a read that goes next has the bytes that the medium was
 /// known to keep as the load that brought it was answered.
@@ -16,8 +16,7 @@ pub fn writes_are_kept()
     ensures { WritesAreKept }
 {}
 
-/// A law. In every run a store of a sector is asked for only for a write in the books that has it. So where no other write of a sector was
-/// taken and none is under way, nothing else stores to it.
+/// A law. In every run a store of a sector is asked for only for a write in the books that has it and is under way.
 pub fn stores_are_of_writes()
     ensures { StoresAreOfWrites }
 {}
@@ -29,4 +28,11 @@ pub fn reads_bring_writes()
 {
     loads_bring_what_is_kept();
     writes_are_kept();
+}
+
+/// A law. In every run, where no write that has a sector is under way and no discard waits, nothing asks for a store or a discard of it.
+pub fn undisturbed_is_spared()
+    ensures { UndisturbedIsSpared }
+{
+    stores_are_of_writes();
 }
