@@ -13,3 +13,7 @@ mod EndSent
 mod Falls
 mod AtMoments
 mod OfGuest
+mod Unread
+mod Armed
+mod Few
+mod Stood

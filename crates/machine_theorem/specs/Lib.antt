@@ -4,3 +4,4 @@ pub mod Commands
 pub mod Ends
 pub mod Moments
 pub mod Guest
+pub mod Standing
