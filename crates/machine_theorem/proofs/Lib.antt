@@ -17,3 +17,4 @@ mod Unread
 mod Armed
 mod Few
 mod Stood
+mod Completed

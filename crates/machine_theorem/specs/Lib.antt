@@ -5,3 +5,4 @@ pub mod Ends
 pub mod Moments
 pub mod Guest
 pub mod Standing
+pub mod Completed
