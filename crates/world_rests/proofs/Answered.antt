@@ -48,11 +48,11 @@ no_last : {X : Type 0} (xs : List (List ℕ)) (x : List ℕ) → [] ≡ xs ++ x 
 no_last [] x is = cc is
 no_last (y ∷ xs) x is = cc is
 
-linked_now : (base disk given : List Happening) → IsWatchedTo base disk given [] [] [] → IsLinkedOn base disk given [] [] []
+pub linked_now : (base disk given : List Happening) → IsWatchedTo base disk given [] [] [] → IsLinkedOn base disk given [] [] []
 linked_now base disk given (Fine linked) = linked
 linked_now base disk given (Erred followed later error below before disk_is up_is reports linked erred) = no_last before error up_is
 
-both_tell : (plan : DiskPlan) (sectors : ℕ) (base disk given : List Happening) → IsSize plan sectors → IsDiskRun plan sectors disk → IsLinkedOn base disk given [] [] []
+pub both_tell : (plan : DiskPlan) (sectors : ℕ) (base disk given : List Happening) → IsSize plan sectors → IsDiskRun plan sectors disk → IsLinkedOn base disk given [] [] []
     → IsCarefulSince base given → ledger given ≡ ledger disk
 unfolding with_up with_down
 both_tell plan sectors base disk given size run linked careful = (ends_agree_anew plan sectors base disk given [] [] [] size run linked careful).same
@@ -117,14 +117,22 @@ module _ (n : ℕ) (commands : ℕ → SlotCommand) (host : event.Host) (past : 
 
 -- ---- at either stage
 
-not_sent : (b : Bool) → (b ≡ true → ⊥) → b ≡ false
+pub none_first : (xs ys : List (List ℕ)) → [] ≡ xs ++ ys → xs ≡ []
+none_first [] ys is = refl
+none_first (x ∷ xs) ys is = cc is
+
+pub none_last : (xs ys : List (List ℕ)) → [] ≡ xs ++ ys → ys ≡ []
+none_last [] ys is = sym is
+none_last (x ∷ xs) ys is = cc is
+
+pub not_sent : (b : Bool) → (b ≡ true → ⊥) → b ≡ false
 not_sent true never = absurd (never refl)
 not_sent false never = refl
 
 module _ (n : ℕ) (below : n < 15) (plan : DiskPlan) (sectors : ℕ) (h : Host) (disk : List Happening) (floors : ℕ → ℕ) (touches : Touches)
     (running : IsRunning plan sectors disk touches h) (owes : OwesNothing (ledger disk)) (fed : payload (context_of h.port.slots n) ≡ None)
     (faultless : cause_of h.port.errors n ≡ None) where
-  own_at : (slot : ℕ) (issue : Issue) → slot < 32 → issue_at h.port.slots slot ≡ Some issue → issue.dev ≡ n → own_issue (view_of n h.port).slots slot ≡ Some issue
+  pub own_at : (slot : ℕ) (issue : Issue) → slot < 32 → issue_at h.port.slots slot ≡ Some issue → issue.dev ≡ n → own_issue (view_of n h.port).slots slot ≡ Some issue
   own_at slot issue low there its =
       let long : length h.port.slots.issues ≡ 32 = running.on.sound.ruled.table.slots in
       subst (λ (d : ℕ). own_issue (view_of d h.port).slots slot ≡ Some issue) its (own_here slot h.port.slots issue (omega (arith, long, low)) there)
@@ -145,14 +153,6 @@ module _ (n : ℕ) (below : n < 15) (plan : DiskPlan) (sectors : ℕ) (h : Host)
       was_issued slot issue (own n touches) (issued slot (own n touches)) refl (kept.joined.history.issued slot ∙ ap (option_map work_of_issue) here) in
       o.taken slot w.transfer w.there (ap (λ (x : Work). is_queued x.kind) w.work ∙ queued) (kept.joined.sent slot issue here ∙ sent)
       (all_free n t.commands (shared_by h) (own n touches) (ledger t.given) kept.joined o.asked fed (subst OwesNothing (sym same) owes) slot))
-    where
-      none_first : (xs ys : List (List ℕ)) → [] ≡ xs ++ ys → xs ≡ []
-      none_first [] ys is = refl
-      none_first (x ∷ xs) ys is = cc is
-
-      none_last : (xs ys : List (List ℕ)) → [] ≡ xs ++ ys → ys ≡ []
-      none_last [] ys is = sym is
-      none_last (x ∷ xs) ys is = cc is
 
   apart_none : IsSetAside n h disk [] [] → NoneIsOut n h.port
   apart_none a slot issue low there its queued =

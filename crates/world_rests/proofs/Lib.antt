@@ -15,6 +15,11 @@ mod Rising
 mod Taken
 mod Asking
 mod Open
+mod Frames
+mod Due
+mod Dues
 mod Answered
+mod NothingOut
 mod Ready
+mod Freed
 mod Disks

@@ -94,10 +94,10 @@ not_ignored host new frame report true is takes heard =
     absurd (true≢false (sym (ap (λ (r : TakeReport). r.ignored) said) ∙ heard))
 
 module _ (host new : Host) (frame : List ℕ) (report : TakeReport) (well : IsTakenWell host frame report new) where
-  heard_it : ignores (port_of frame) host.port frame ≡ false
+  pub heard_it : ignores (port_of frame) host.port frame ≡ false
   heard_it = not_ignored host new frame report (ignores (port_of frame) host.port frame) refl well.takes well.heard
 
-  heard_fine : (heard_now host.port host.memory (port_of frame) (admitted (port_of frame) (seen frame))).fault ≡ None
+  pub heard_fine : (heard_now host.port host.memory (port_of frame) (admitted (port_of frame) (seen frame))).fault ≡ None
   unfolding heard_report
   heard_fine =
       let reports = (well.takes.heard heard_it).reports in
@@ -157,10 +157,10 @@ module _ (n value : ℕ) (host new : Host) (commands next : ℕ → SlotCommand)
       ap (λ (b : Bool). if b then view_issued host.port.registers host.memory value (view_of n host.port) else view_of n host.port)
       (eq-eqb n (aimed host.port.registers host.memory.structure value) (sym chosen))
 
-  view_is : view_of n new.port ≡ view_issued host.port.registers host.memory value (view_of n host.port)
+  pub view_is : view_of n new.port ≡ view_issued host.port.registers host.memory value (view_of n host.port)
   view_is = does.1.views n (omega (arith, below)) ∙ view_issued_is
 
-  stood : (s : ℕ) (i : Issue) → i.sent ≡ true → own_issue (view_of n new.port).slots s ≡ Some i → own_issue (view_of n host.port).slots s ≡ Some i
+  pub stood : (s : ℕ) (i : Issue) → i.sent ≡ true → own_issue (view_of n new.port).slots s ≡ Some i → own_issue (view_of n host.port).slots s ≡ Some i
   stood s i sent there =
       let v : DeviceView = view_of n host.port in
       let dev : ℕ = aimed host.port.registers host.memory.structure value in
@@ -291,13 +291,13 @@ module _ (n slot : ℕ) (new : Host) (commands : ℕ → SlotCommand) (past : Hi
 
 -- ---- Data is sent
 
-record IsDue (n len : ℕ) (host : Host) : Type 0 where
-  context : Context
-  now : (view_of n host.port).slots.context ≡ Some context
-  asked : context.activated ≡ true
-  long : len ≡ payload_len context
+pub record IsDue (n len : ℕ) (host : Host) : Type 0 where
+  pub context : Context
+  pub now : (view_of n host.port).slots.context ≡ Some context
+  pub asked : context.activated ≡ true
+  pub long : len ≡ payload_len context
 
-due_out : (n offset len : ℕ) (host : Host) (command : issued_command.Command) → GoesOut host.port (Data n offset len command) → IsDue n len host
+pub due_out : (n offset len : ℕ) (host : Host) (command : issued_command.Command) → GoesOut host.port (Data n offset len command) → IsDue n len host
 unfolding GoesOut
 due_out n offset len host command goes = record { context = goes.0; now = goes.1; asked = goes.2; long = goes.3 }
 
