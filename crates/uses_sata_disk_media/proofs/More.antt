@@ -1,14 +1,11 @@
 -- The laws at a disk that a run led to.
-use Rattle.std.proofs.Common.{◌≡◌, ℕ, true, List, Some, None, refl, sym, ap, ◌∙◌, subst}
+use Rattle.std.proofs.Common.{Some, None, ap, ◌∙◌, subst}
 use Rattle.std.specs.Prelude.{Option}
-use Rattle.block_disk.specs.Laws.{Page}
 use Rattle.block_queue.specs.Line.{command_at}
-use Rattle.disk_pages.specs.declared.profile.Profile.{Profile}
 use Rattle.sata_disk.specs.Sending.{IsOut, part_at}
 use Rattle.sata_disk.specs.State.{DiskState, commands}
 use Rattle.sata_disk.specs.declared.out.Out.{Out}
 use Rattle.sata_disk.specs.declared.out.Out.TheVariants as out
-use Rattle.sata_disk_laws.specs.Calls.{Call}
 use Rattle.sata_disk_media.specs.Laws.{ReadsBringWrites, WritesAreKept, sector_in}
 use Rattle.uses_sata_disk_media.specs.Kept.{BringsWhatIsWritten, KeepsWhatIsWritten}
 
