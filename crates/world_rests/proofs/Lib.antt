@@ -8,6 +8,11 @@ mod Shown
 mod Owes
 mod Slot31
 mod Orders
+mod Ways
+mod Settled
+mod Calm
+mod Turning
+mod Signed
 mod Still
 mod Rested
 mod Served
@@ -18,3 +23,5 @@ mod Open
 mod Answered
 mod Ready
 mod Disks
+mod Noticed
+mod Watched

@@ -82,7 +82,7 @@ none_shown port memory s low unarmed none =
     ap (λ (m : ℕ). has_bit m s) (sact_is port) ∙ or_neither port.registers.armed (slots_where is_queued_issue port.slots) s armed queued in
     or_neither (shown port px_ci) (shown port px_sact) s unanswered second
 
-stands_at : (h : Host) (s : ℕ) → IsSoundHost h → s < 32 → h.port.registers.armed ≡ 0 → has_bit (sight_in h).issued s ≡ true → (i : Issue) × (issue_at h.port.slots s ≡ Some i)
+pub stands_at : (h : Host) (s : ℕ) → IsSoundHost h → s < 32 → h.port.registers.armed ≡ 0 → has_bit (sight_in h).issued s ≡ true → (i : Issue) × (issue_at h.port.slots s ≡ Some i)
 stands_at h s sound low unarmed seen = by_issue (issue_at h.port.slots s) refl
   where
     by_issue : (o : Option Issue) → issue_at h.port.slots s ≡ o → (i : Issue) × (o ≡ Some i)
@@ -92,7 +92,7 @@ stands_at h s sound low unarmed seen = by_issue (issue_at h.port.slots s) refl
 
 -- ---- kinds
 
-not_dma : (kind : Kind) → moved.is_queued kind ≡ true → is_dma kind ≡ true → ⊥
+pub not_dma : (kind : Kind) → moved.is_queued kind ≡ true → is_dma kind ≡ true → ⊥
 not_dma QueuedRead queued dma = false≢true dma
 not_dma QueuedWrite queued dma = false≢true dma
 not_dma other queued dma = false≢true queued
@@ -104,7 +104,7 @@ flushes work.Flush plain = refl
 
 -- ---- a ready device
 
-own_dev : (n s : ℕ) (slots : Slots) (j : Issue) → own_issue (slots_of n slots) s ≡ Some j → s < length slots.issues → j.dev ≡ n
+pub own_dev : (n s : ℕ) (slots : Slots) (j : Issue) → own_issue (slots_of n slots) s ≡ Some j → s < length slots.issues → j.dev ≡ n
 own_dev n s slots j here lt = by_owner (issue_at slots s) (sym (own_at n slots s lt) ∙ here)
   where
     by_test : (k : Issue) (b : Bool) → (k.dev == n) ≡ b → (if b then Some k else None) ≡ Some j → j.dev ≡ n

@@ -4,3 +4,4 @@ pub mod Waits
 pub mod Turns
 pub mod Laws
 pub mod Left
+pub mod Watches
