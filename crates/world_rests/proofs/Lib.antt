@@ -8,6 +8,11 @@ mod Shown
 mod Owes
 mod Slot31
 mod Orders
+mod Ways
+mod Settled
+mod ControlFile
+mod Turning
+mod Signed
 mod Still
 mod Rested
 mod Served
@@ -23,3 +28,5 @@ mod NothingOut
 mod Ready
 mod Freed
 mod Disks
+mod Noticed
+mod Watched

@@ -92,7 +92,7 @@ stands_at h s sound low unarmed seen = by_issue (issue_at h.port.slots s) refl
 
 -- ---- kinds
 
-not_dma : (kind : Kind) → moved.is_queued kind ≡ true → is_dma kind ≡ true → ⊥
+pub not_dma : (kind : Kind) → moved.is_queued kind ≡ true → is_dma kind ≡ true → ⊥
 not_dma QueuedRead queued dma = false≢true dma
 not_dma QueuedWrite queued dma = false≢true dma
 not_dma other queued dma = false≢true queued

@@ -5,3 +5,4 @@ pub mod Turns
 pub mod Laws
 pub mod Left
 pub mod Out
+pub mod Watches

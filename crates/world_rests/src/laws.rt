@@ -3,6 +3,7 @@
 ghost use Rattle.world_rests.specs.Laws.{IdleDriversWait, RestedHaveDone, StillRoundsRest};
 ghost use Rattle.world_rests.specs.Left.{RestedDisksHaveDone};
 ghost use Rattle.world_rests.specs.Turns.{EachTakesTurns};
+ghost use Rattle.world_rests.specs.Watches.{RestedDriversWatch};
 
 /// Holds of any driver with FIS-based switching for which a tick has nothing to do, as a tick that is answered `Idle` says. Its
 /// port is open, and no fault is to be cleared. Slot 31 waits for an answer, a signature or a notification. Slot 30 waits for an
@@ -45,6 +46,16 @@ pub fn rested_disks_have_done()
     rested_have_done();
     pm_world::paths_go_on();
     pm_world::ends_meet();
+}
+
+/// Holds of each world at rest that a run from a new one with FIS-based switching leads to, whatever its devices are. Slot 31 waits
+/// for a notification alone: no order is issued in it, and no signature of the control port is awaited.
+pub fn rested_drivers_watch()
+    ensures { RestedDriversWatch }
+{
+    rested_have_done();
+    pm_world::one_order_at_a_time();
+    pm_world::ports_go_on();
 }
 
 /// Holds over every run of each world, in either mode, for each place of the multiplier that has a frame whenever one goes up. Between two
