@@ -37,7 +37,8 @@ use Rattle.disk_simulation.specs.Heard.{IsTakenWell}
 use Rattle.disk_simulation.specs.Honest.{IsDoneHonestly}
 use Rattle.disk_simulation.specs.Hosted.{IsHosted}
 use Rattle.disk_simulation.specs.Joined.{AreCounted, IsJoined, IsShort, SentAgrees}
-use Rattle.disk_simulation.specs.Together.{InTalk, IsWaitedUnset, NoneQueued, Same, is_sent, told}
+use Rattle.disk_simulation.specs.Together.{InTalk, IsWaitedUnset, NoneQueued, NothingWaits, Same, is_sent}
+use Rattle.disk_simulation.specs.Together.{told}
 use Rattle.disk_simulation.specs.Same.{SlotCommand}
 
 -- ---- where they begin
@@ -58,6 +59,8 @@ pub record IsOpening (n : ℕ) (host : Host) (commands : ℕ → SlotCommand) (p
   pub unset : (view_of n host.port).slots.context ≡ None
   pub clear : IsClear k
   pub talk : InTalk past k
+  -- while the signature is to come, no command waits for its answer
+  pub calm : k.awaited ≡ Signs ∷ [] → NothingWaits past
 
 -- the slots of a device stay, and whether it has a block
 pub record KeepsSlots (n : ℕ) (old new : Host) : Type 0 where

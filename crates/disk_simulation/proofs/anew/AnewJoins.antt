@@ -19,7 +19,7 @@ use Rattle.disk_model.specs.Histories.{Happening, Plugged, Loaded, Received, Sen
 use Rattle.disk_model.specs.Ledger.{Ledger, ShowsPage, Signs, Wanted, empty, ledger, ledger_after, listens}
 use Rattle.disk_model.specs.Between.{FitsOne}
 use Rattle.disk_model.proofs.Door.{after_more, begins_anew, ledger_push}
-use Rattle.hba_laws.specs.Agreement.{ContextAgrees, IsHistoryOf, work_of_transfer}
+use Rattle.hba_laws.specs.Agreement.{ContextAgrees, IsHistoryOf, work_of_issue, work_of_transfer}
 use Rattle.hba_laws.specs.History as event
 use Rattle.hba_laws.specs.History.{History, Transfer, issued}
 use Rattle.hba_laws.specs.Hosts.{Host}
@@ -188,6 +188,8 @@ opens_signing n host commands past k history none tags owes =
       unset = none_at (view_of n host.port).slots.context (no_context n host past history none);
       clear = clear;
       talk = Replies Signs (record { outstanding = clear.outstanding; unanswered = clear.unanswered; moving = clear.moving }) owes.awaited tt owes.pages;
+      calm = λ signs s t here.
+          let bad : Some (work_of_transfer t) ≡ None = sym (ap (option_map work_of_transfer) here) ∙ history.issued s ∙ ap (option_map work_of_issue) (none s) in cc bad;
     }
 
 opens_paging : (n : ℕ) (host : Host) (commands : ℕ → SlotCommand) (past : History) (k : Ledger) (page : Wanted) → IsHistoryOf n host past
@@ -206,6 +208,7 @@ opens_paging n host commands past k page history alone sent unset waited tags ow
       talk =
           Shows (record { outstanding = clear.outstanding; unanswered = clear.unanswered; moving = clear.moving }) owes.awaited
           (subst AtMostOne (sym owes.pages) tt) waited;
+      calm = λ signs. let bad : ShowsPage ∷ [] ≡ Signs ∷ [] = sym owes.awaited ∙ signs in cc bad;
     }
 
 pub opens_after : OpensAfter
