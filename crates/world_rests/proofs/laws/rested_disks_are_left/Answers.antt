@@ -1,0 +1,6 @@
+use Rattle.world_rests.proofs.Disks as proof
+use Rattle.world_rests.proofs.laws.rested_disks_are_left.Goals as goal
+
+pub returns : goal.returns
+returns c =
+    proof.rested_disks_are_left (λ n host commands past k opening. opening.calm) c.rested_have_done.ensures c.paths_go_on.ensures.orderly c.ends_meet.ensures
