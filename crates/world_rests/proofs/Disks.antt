@@ -11,8 +11,11 @@ use Rattle.disk_model.specs.declared.unit.Unit.TheVariants.{Disk, Scripted}
 use Rattle.disk_model.specs.Histories.{DiskOf, Happening, Plan}
 use Rattle.disk_model.specs.Laws.{OwesNothing}
 use Rattle.disk_model.specs.Ledger.{IsSize, ledger}
+use Rattle.disk_simulation.specs.Files.{DisksSendTheirs}
 use Rattle.hba_driver.specs.declared.mode.Mode.TheVariants.{Switching}
-use Rattle.disk_recovery.specs.Ends.{AreEnds}
+use Rattle.hba_driver.specs.declared.plan.Device.TheVariants.{Ready}
+use Rattle.hba_driver.specs.Drivers.{device_at}
+use Rattle.disk_recovery.specs.Ends.{AreEnds, IsTogether}
 use Rattle.pm_world.specs.Attached.{Attached, Modelled, Own}
 use Rattle.pm_world.specs.DevicePaths.{ReachedAreOrderly}
 use Rattle.pm_world.specs.Disks.{disk_history}
@@ -29,10 +32,11 @@ use Rattle.pm_world.specs.declared.step.Answer.TheVariants as answer
 use Rattle.pm_world.specs.declared.step.Step.{Step}
 use Rattle.pm_world.specs.declared.step.Step.TheVariants as step
 use Rattle.world_rests.specs.Laws.{RestedHaveDone}
-use Rattle.world_rests.specs.Left.{NoneIsOut, RestedDisksHaveDone}
+use Rattle.world_rests.specs.Left.{IsOccupied, NoneIsOut, RestedDisksHaveDone}
 use Rattle.world_rests.specs.Rests.{HasAnswered, NothingMoves, PortRests}
-use Rattle.world_rests.proofs.Answered.{none_is_out}
-use Rattle.world_rests.proofs.Ready.{none_is_left}
+use Rattle.world_rests.proofs.Answered.{none_is_out, together_idle}
+use Rattle.world_rests.proofs.Calm.{GivenFits}
+use Rattle.world_rests.proofs.Ready.{none_is_left, none_is_shown}
 use Rattle.world_rests.proofs.Comings.{Of, all, known, known_reached}
 
 run_both : (first old new : Places) (steps : List Step) (answers : List Answer) (more : List Step) (told : List Answer) → Run first steps answers old → Run old more told new
@@ -101,8 +105,8 @@ module _ (n c : ℕ) (now : Places) (here : IsHere n c now) (moves : NothingMove
 
 -- ---- the law
 
-pub rested_disks_have_done : RestedHaveDone → ReachedAreOrderly → EndsMeet → RestedDisksHaveDone
-rested_disks_have_done have_done orderly meet config units n sectors plan past fits below disk now d there opens rests_now =
+pub rested_disks_have_done : DisksSendTheirs → GivenFits → RestedHaveDone → ReachedAreOrderly → EndsMeet → RestedDisksHaveDone
+rested_disks_have_done theirs fit have_done orderly meet config units n sectors plan past fits below disk now d there opens rests_now =
     let steps : List Step = d.first ++ step.Came n ∷ d.steps in
     let answers : List Answer = d.told ++ answer.Came n d.conn ∷ d.answers in
     let run : Run (new_world config units) (d.first ++ step.Came n ∷ d.steps) (d.told ++ answer.Came n d.conn ∷ d.answers) now =
@@ -130,8 +134,13 @@ rested_disks_have_done have_done orderly meet config units n sectors plan past f
     let out : NoneIsOut n now.host.port =
     none_is_out n below plan sectors now.host (disk_history config units n now d past) met.floors met.touches met.running owes (done.1.port.fed n (omega (arith, below)))
     (done.1.port.faultless n) ends in
+    let idle : device_at now.host.driver.plan n ≡ Ready → IsTogether n now.host (disk_history config units n now d past) [] [] met.floors met.touches → IsOccupied n now.host.port → ⊥ =
+    λ ready. together_idle n below plan sectors now.host (disk_history config units n now d past) met.floors met.touches met.running owes (done.1.port.fed n (omega (arith, below)))
+    (done.1.port.faultless n) theirs fit ready in
     record {
       out = out;
-      left = λ ready idle.
-          none_is_left n below plan sectors now.host (disk_history config units n now d past) met.floors met.touches met.running done.1.port done.1.driver out ready ends idle;
+      idle = λ ready.
+          none_is_shown n below plan sectors now.host (disk_history config units n now d past) met.floors met.touches met.running done.1.port done.1.driver out ready (idle ready) ends;
+      left = λ ready.
+          none_is_left n below plan sectors now.host (disk_history config units n now d past) met.floors met.touches met.running done.1.port done.1.driver out ready (idle ready) ends;
     }

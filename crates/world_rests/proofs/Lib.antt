@@ -15,6 +15,10 @@ mod Rising
 mod Taken
 mod Asking
 mod Open
+mod Long
+mod Paged
+mod Status
+mod Calm
 mod Answered
 mod Ready
 mod Disks
