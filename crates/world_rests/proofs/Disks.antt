@@ -11,9 +11,12 @@ use Rattle.disk_model.specs.declared.unit.Unit.TheVariants.{Disk, Scripted}
 use Rattle.disk_model.specs.Histories.{DiskOf, Happening, Plan}
 use Rattle.disk_model.specs.Laws.{OwesNothing}
 use Rattle.disk_model.specs.Ledger.{IsSize, ledger}
+use Rattle.disk_simulation.specs.Files.{DisksSendTheirs}
 use Rattle.hba_laws.specs.Client.{Touches}
 use Rattle.hba_driver.specs.declared.mode.Mode.TheVariants.{Switching}
-use Rattle.disk_recovery.specs.Ends.{AreEnds, IsRunning}
+use Rattle.hba_driver.specs.declared.plan.Device.TheVariants.{Ready}
+use Rattle.hba_driver.specs.Drivers.{device_at}
+use Rattle.disk_recovery.specs.Ends.{AreEnds, IsRunning, IsTogether}
 use Rattle.pm_world.specs.Attached.{Attached, Modelled, Own}
 use Rattle.pm_world.specs.DevicePaths.{ReachedAreOrderly}
 use Rattle.pm_world.specs.Disks.{DiskRun, HasDisk, disk_history}
@@ -31,15 +34,15 @@ use Rattle.pm_world.specs.declared.step.Answer.TheVariants as answer
 use Rattle.pm_world.specs.declared.step.Step.{Step}
 use Rattle.pm_world.specs.declared.step.Step.TheVariants as step
 use Rattle.world_rests.specs.Laws.{RestedHaveDone}
-use Rattle.world_rests.specs.Left.{NoneIsOut, RestedDisksHaveDone}
-use Rattle.world_rests.specs.Out.{NothingIsOut, RestedDisksAreLeft}
+use Rattle.world_rests.specs.Left.{IsOccupied, NoneIsOut, RestedDisksHaveDone}
+use Rattle.world_rests.specs.Out.{DiskIsFree, NothingIsOut, RestedDisksAreLeft}
 use Rattle.world_rests.specs.Rests.{HasAnswered, IsAtRest, NothingMoves, PortRests}
 use Rattle.world_rests.specs.Waits.{HostWaits}
-use Rattle.world_rests.proofs.Answered.{none_is_out}
-use Rattle.world_rests.proofs.Dues.{IsCalm}
+use Rattle.world_rests.proofs.Answered.{none_is_out, together_idle}
+use Rattle.world_rests.proofs.Calm.{GivenFits}
 use Rattle.world_rests.proofs.Freed.{is_free}
 use Rattle.world_rests.proofs.NothingOut.{nothing_is_out}
-use Rattle.world_rests.proofs.Ready.{none_is_left}
+use Rattle.world_rests.proofs.Ready.{none_is_left, none_is_shown}
 use Rattle.world_rests.proofs.Comings.{Of, all, known, known_reached}
 
 run_both : (first old new : Places) (steps : List Step) (answers : List Answer) (more : List Step) (told : List Answer) → Run first steps answers old → Run old more told new
@@ -154,22 +157,28 @@ has_rested have_done orderly meet config units n sectors plan past fits below di
 
 -- ---- the laws
 
-pub rested_disks_have_done : RestedHaveDone → ReachedAreOrderly → EndsMeet → RestedDisksHaveDone
-rested_disks_have_done have_done orderly meet config units n sectors plan past fits below disk now d there opens rests_now =
+pub rested_disks_have_done : DisksSendTheirs → GivenFits → RestedHaveDone → ReachedAreOrderly → EndsMeet → RestedDisksHaveDone
+rested_disks_have_done theirs fit have_done orderly meet config units n sectors plan past fits below disk now d there opens rests_now =
     let r : HasRested n plan sectors now = has_rested have_done orderly meet config units n sectors plan past fits below disk now d there opens rests_now in
     let out : NoneIsOut n now.host.port =
     none_is_out n below plan sectors now.host r.history r.floors r.touches r.running r.owes (r.host.port.fed n (omega (arith, below))) (r.host.port.faultless n) r.ends in
+    let idle : device_at now.host.driver.plan n ≡ Ready → IsTogether n now.host r.history [] [] r.floors r.touches → IsOccupied n now.host.port → ⊥ =
+    λ ready. together_idle n below plan sectors now.host r.history r.floors r.touches r.running r.owes (r.host.port.fed n (omega (arith, below))) (r.host.port.faultless n) theirs fit ready in
     record {
       out = out;
-      left = λ ready idle. none_is_left n below plan sectors now.host r.history r.floors r.touches r.running r.host.port r.host.driver out ready r.ends idle;
+      idle = λ ready. none_is_shown n below plan sectors now.host r.history r.floors r.touches r.running r.host.port r.host.driver out ready (idle ready) r.ends;
+      left = λ ready. none_is_left n below plan sectors now.host r.history r.floors r.touches r.running r.host.port r.host.driver out ready (idle ready) r.ends;
     }
 
-pub rested_disks_are_left : ((n : ℕ) → IsCalm n) → RestedHaveDone → ReachedAreOrderly → EndsMeet → RestedDisksAreLeft
-rested_disks_are_left calm have_done orderly meet config units n sectors plan past fits below disk now d there opens rests_now =
+pub rested_disks_are_left : RestedHaveDone → ReachedAreOrderly → EndsMeet → RestedDisksHaveDone → RestedDisksAreLeft
+rested_disks_are_left have_done orderly meet disks_have_done config units n sectors plan past fits below disk now d there opens rests_now =
     let r : HasRested n plan sectors now = has_rested have_done orderly meet config units n sectors plan past fits below disk now d there opens rests_now in
     let out : NothingIsOut n now.host.port =
-    nothing_is_out n below (calm n) plan sectors now.host r.history r.floors r.touches r.running r.owes (r.host.port.fed n (omega (arith, below))) (r.host.port.faultless n) r.ends in
+    nothing_is_out n below plan sectors now.host r.history r.floors r.touches r.running r.owes (r.host.port.fed n (omega (arith, below))) (r.host.port.faultless n) r.ends in
+    let free : (IsOccupied n now.host.port → ⊥) → DiskIsFree n now.host =
+    λ idle. is_free n below plan sectors now.host r.history r.floors r.touches r.running r.owes r.host.port r.host.driver out idle r.ends in
     record {
       out = out;
-      free = λ idle. is_free n below plan sectors now.host r.history r.floors r.touches r.running r.owes r.host.port r.host.driver out idle r.ends;
+      free = free;
+      ready = λ ready. free ((disks_have_done config units n sectors plan past fits below disk now d there opens rests_now).idle ready);
     }

@@ -1,10 +1,10 @@
 -- For `rested_disks_are_left`. While a command that is not queued waits at the port, the ledger owes its answer or its page: what
 -- a FIS of the disk leaves of that.
-use Rattle.std.proofs.Common.{◌≡◌, ◌==◌, ◌&&◌, ◌+◌, ◌-◌, ◌<◌, ◌≤◌, ◌⊎◌, eqb, ℕ, Bool, true, false, List, [], ◌∷◌, ◌++◌, drop, length, refl, sym, ap, subst, ◌∙◌, inl, inr, Option, Some, None, Ok, Err, Result, arith, All}
-use Rattle.std.specs.Prelude.{if◌then◌else◌, is_some, nat_le, nat_lt, not, slice_get, find, MatchOption, ◌||◌}
-use Rattle.std.specs.List.{list_all, range_with_len}
+use Rattle.std.proofs.Common.{◌≡◌, ◌==◌, ◌&&◌, ◌+◌, ◌-◌, ◌<◌, ◌≤◌, ◌⊎◌, ℕ, Bool, true, false, List, [], ◌∷◌, ◌++◌, drop, length, refl, sym, ap, subst, ◌∙◌, inl, inr, Option, Some, None, Ok, Err, Result, arith}
+use Rattle.std.specs.Prelude.{if◌then◌else◌, is_some, nat_le, nat_lt, not, slice_get, find, MatchOption}
+use Rattle.std.specs.List.{range_with_len}
 use Rattle.std.specs.Option.{option_map}
-use Rattle.std.proofs.lemmas.Bool.{and_from, and_parts, cases_eq, eq-eqb, eqb-true, false≢true, le-leb, lt-ltb, ltb-false, true≢false}
+use Rattle.std.proofs.lemmas.Bool.{and_from, eq-eqb, eqb-true, false≢true, le-leb, lt-ltb, ltb-false, true≢false}
 use Rattle.std.proofs.lemmas.List.{length-drop}
 use Rattle.std.proofs.lemmas.List.FromFn.{get_or-range_with_len, length-range_with_len}
 use Rattle.std.proofs.lemmas.List.Sums.{list_all-from_AllPass}
@@ -19,11 +19,10 @@ use Rattle.slots.specs.Data.{after_arrive}
 use Rattle.slots.specs.Setup.{out_setup, pio_fault, pio_issue}
 use Rattle.slots.specs.Slots.{DeviceSlots, Issue, has_bit, is_pio, is_queued_issue, is_waiting, match_some, own_issue, sent_pio}
 use Rattle.slots.specs.Slots as slots
-use Rattle.slots.specs.Table.{IsContextOf, IsIssue}
+use Rattle.slots.specs.Table.{IsIssue}
 use Rattle.slots.specs.Work.{is_queued, is_read}
 use Rattle.slots.specs.declared.answer.SetupError.{SetupError}
 use Rattle.slots.specs.declared.table.Context.{Context}
-use Rattle.slots.specs.declared.work.Kind.{Kind}
 use Rattle.slots.specs.declared.work.Kind.TheVariants.{NoData, PioIn}
 use Rattle.slots.specs.declared.work.Work.{Work}
 use Rattle.hba_fbs.specs.declared.hearing.Happening.TheVariants as happening
@@ -31,7 +30,7 @@ use Rattle.hba_fbs.specs.declared.hearing.Heard.{Heard}
 use Rattle.hba_fbs.specs.declared.report.Wrote.{Wrote}
 use Rattle.hba_fbs.specs.declared.state.DeviceState.{DeviceState}
 use Rattle.hba_fbs.specs.declared.status.Block.{Block}
-use Rattle.hba_fbs.specs.Hearing.{block_of, bus_failed, faulty, heard_bytes, heard_data, heard_data_of, heard_fis, heard_out, heard_pio, is_admitted, overflowed, quietly, set_up}
+use Rattle.hba_fbs.specs.Hearing.{block_of, bus_failed, faulty, heard_bytes, heard_data, heard_data_of, heard_fis, heard_out, is_admitted, overflowed, set_up}
 use Rattle.hba_fbs.specs.Status.{is_error, is_quiet, with_file}
 use Rattle.hba_fbs.specs.Taking.{admitted, heard}
 use Rattle.hba_fbs.specs.Views.{DeviceView}
@@ -46,7 +45,7 @@ use Rattle.hba_laws.specs.History.{Event, History, Transfer, carried, completes,
 use Rattle.hba_laws.proofs.Door.{issued_before}
 use Rattle.disk_simulation.specs.Answers.{IsIdle}
 use Rattle.disk_simulation.specs.Joined.{SentAgrees}
-use Rattle.disk_simulation.specs.Same.{InLife, IsEnded, Moves, Open, ReadEnded, SlotCommand, StandsOnce, Unsent, WriteEnded}
+use Rattle.disk_simulation.specs.Same.{InLife, Moves, Open, ReadEnded, SlotCommand, StandsOnce, Unsent, WriteEnded}
 use Rattle.disk_simulation.specs.Together as talk
 use Rattle.disk_simulation.specs.Together.{AtMostAccepts, InTalk, IsWaitedUnset, Same, is_sent, told}
 use Rattle.world_rests.proofs.Frames.{IsFull}

@@ -1,19 +1,16 @@
 -- For `rested_disks_are_left`. Over all that a host does with a disk since both began anew: while a command that is not queued
 -- waits at the port, the ledger owes its answer or its page.
-use Rattle.std.proofs.Common.{◌≡◌, ◌⊎◌, eqb, ℕ, ◌<◌, Bool, true, false, List, [], ◌∷◌, ◌++◌, ◌%◌, ◌==◌, ◌&&◌, refl, sym, ap, subst, ◌∙◌, inl, inr, Option, Some, None, Ok, Result, arith}
+use Rattle.std.proofs.Common.{◌≡◌, ◌⊎◌, ℕ, ◌<◌, true, false, List, [], ◌∷◌, ◌++◌, ◌%◌, ◌==◌, ◌&&◌, refl, sym, ap, subst, ◌∙◌, inl, inr, Option, Some, None, Ok, arith}
 use Rattle.std.specs.Prelude.{not}
 use Rattle.std.specs.Option.{option_map}
 use Rattle.std.proofs.lemmas.Bool.{and_parts, eqb-true, false≢true, true≢false}
 use Rattle.fis_view.specs.Frames.{IsFrame, Stamped, marked}
 use Rattle.fis_view.specs.Seen.{seen}
 use Rattle.fis_view.specs.Table.{Count, D2h, Error, Lba, Status, field}
-use Rattle.fis_view.specs.declared.view.Fis.{Fis}
 use Rattle.fis_view.specs.declared.view.Fis.TheVariants as view
-use Rattle.fis_view.specs.declared.view.FisFault.{FisFault}
 use Rattle.hba_commands.specs.declared.command.Command as issued_command
-use Rattle.slots.specs.Slots.{DeviceSlots, Issue, is_waiting, own_issue}
+use Rattle.slots.specs.Slots.{is_waiting, own_issue}
 use Rattle.slots.specs.Work.{is_queued}
-use Rattle.slots.specs.declared.work.Work.{Work}
 use Rattle.hba_fbs.specs.declared.register.Register.TheVariants.{Ci}
 use Rattle.hba_fbs.specs.declared.report.TakeReport.{TakeReport}
 use Rattle.hba_fbs.specs.declared.status.Block.{Block}
@@ -31,7 +28,7 @@ use Rattle.disk_model.specs.Between.{alone}
 use Rattle.disk_model.specs.Ends.{Fits, FitsRequest, IsRight, Rests}
 use Rattle.disk_model.specs.Histories.{Happening, Received, Sent}
 use Rattle.disk_model.specs.Laws.{AnswersFirst}
-use Rattle.disk_model.specs.Ledger.{Accepts, Finishes, Ledger, Moving, Refuses, Reply, ShowsPage, Signs, Wanted, asks, ledger, listens, listens_down, listens_up}
+use Rattle.disk_model.specs.Ledger.{Accepts, Finishes, Ledger, Refuses, Reply, ShowsPage, Signs, Wanted, asks, ledger, listens, listens_down, listens_up}
 use Rattle.disk_model.specs.Requests.{request_of}
 use Rattle.disk_model.proofs.Door.{asks_fits, ledger_push}
 use Rattle.hba_laws.specs.Agreement.{IssueAgrees, work_of_issue, work_of_transfer}
@@ -44,7 +41,7 @@ use Rattle.hba_laws.specs.Hosts.{Does, Host, Wrote}
 use Rattle.hba_laws.specs.Sound.{IsHost}
 use Rattle.hba_laws.proofs.Door.{goes_out, is_own, issued_before}
 use Rattle.disk_simulation.specs.Anew as anew
-use Rattle.disk_simulation.specs.Anew.{IsHostedOn, IsKeptOn, IsOpening, IsSignedWell}
+use Rattle.disk_simulation.specs.Anew.{IsHostedOn, IsKeptOn, IsSignedWell}
 use Rattle.disk_simulation.specs.Answers.{IsAlone, IsIdle}
 use Rattle.disk_simulation.specs.Between.{IsSigned, IsThere}
 use Rattle.disk_simulation.specs.Heard.{IsTakenWell}
@@ -53,17 +50,13 @@ use Rattle.disk_simulation.specs.Marked.{IsHeardAlike}
 use Rattle.disk_simulation.specs.Same.{SlotCommand}
 use Rattle.disk_simulation.specs.Together.{NothingWaits, told}
 use Rattle.disk_simulation.proofs.Door.{careful_before, hosted_on_is_kept, marks_ask_nothing, marks_tell_nothing, signed, there_by}
-use Rattle.world_rests.proofs.Due.{AreOwed, IsEnd, IsPlain, OwesIt, OwesPage, OwesReply, OwesShow, WaitsIn, idle_by, owed_up, plain_unqueued}
+use Rattle.world_rests.proofs.Due.{AreOwed, IsEnd, IsPlain, OwesIt, OwesPage, OwesReply, OwesShow, idle_by, owed_up, plain_unqueued}
 use Rattle.world_rests.proofs.Frames.{AllFull, IsFull, full_last, marked_full}
 use Rattle.world_rests.proofs.Open.{IsDue, WasIssued, due_out, heard_fine, heard_it, stood, view_is, was_issued}
 
 -- where both begin, the disk owes only this
 abbrev pub Begins : Ledger → Type 0
 Begins k = OwesOnly k (Signs ∷ []) [] ⊎ ((page : Wanted) × OwesOnly k (ShowsPage ∷ []) (page ∷ []))
-
--- no command waits then while the signature is to come
-abbrev pub IsCalm : ℕ → Type 0
-IsCalm n = (host : Host) (commands : ℕ → SlotCommand) (past : History) (k : Ledger) → IsOpening n host commands past k → k.awaited ≡ Signs ∷ [] → NothingWaits past
 
 opens : (block : Option Block) (past : History) (k : Ledger) → (k.awaited ≡ Signs ∷ [] → NothingWaits past) → Begins k → AreOwed block past k
 opens block past k calm begins s t waits = elim begins [
@@ -185,7 +178,7 @@ data_owed n offset len host command commands past k after bytes block next out j
 
 -- ---- all of it
 
-module _ (n : ℕ) (base : List Happening) (below : n < 15) (calm : IsCalm n) (begins : Begins (ledger base)) where
+module _ (n : ℕ) (base : List Happening) (below : n < 15) (begins : Begins (ledger base)) where
   kept : (host : Host) (given : List Happening) (commands : ℕ → SlotCommand) (past : History) → IsHostedOn n base host given commands past → IsKeptOn n base host given commands past
   kept host given commands past hosted = hosted_on_is_kept n base host given commands past below hosted
 
@@ -216,8 +209,8 @@ module _ (n : ℕ) (base : List Happening) (below : n < 15) (calm : IsCalm n) (b
 
   pub hosted_is_owed : (host : Host) (given : List Happening) (commands : ℕ → SlotCommand) (past : History) → AllFull given → IsHostedOn n base host given commands past
       → AreOwed (view_of n host.port).state.block past (ledger given)
-  hosted_is_owed host given commands past full (anew.opens h c p opening) = opens (view_of n h.port).state.block p (ledger base) (calm h c p (ledger base) opening) begins
-  hosted_is_owed host given commands past full (anew.stays old new g c p same hosted) =
+  hosted_is_owed host given commands past full (anew.opens h c p opening) = opens (view_of n h.port).state.block p (ledger base) opening.calm begins
+  hosted_is_owed host given commands past full (anew.stays old new g c p same whole hosted) =
       subst (λ (b : Option Block). AreOwed b p (ledger g)) (sym same.block) (hosted_is_owed old g c p full hosted)
   hosted_is_owed host given commands past full (anew.signs old new bytes report g c p sound plain framed from_n well right hosted) =
       taken_owed old new bytes g c p p plain from_n (kept old g c p hosted).joined (hosted_is_owed old g c p (full_last g (Sent bytes) full).0 hosted)

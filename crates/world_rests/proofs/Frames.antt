@@ -1,7 +1,6 @@
 -- For `rested_disks_are_left`. The Data of a page fills its command, and no more than that page is announced: each Data that a disk
 -- sends has 512 bytes or more, and E_Status of each PIO Setup has BSY, DRQ and ERR clear.
-use Rattle.std.proofs.Common.{◌≡◌, ℕ, ◌+◌, ◌*◌, ◌<◌, ◌≤◌, Bool, true, false, List, [], ◌∷◌, ◌++◌, append_assoc, drop, length, refl, sym, ap, subst, ◌∙◌, arith, Option, Some, None, Ok, Err, Result}
-use Rattle.std.proofs.lemmas.List.{append-nil}
+use Rattle.std.proofs.Common.{◌≡◌, ℕ, ◌<◌, ◌≤◌, Bool, true, false, List, [], ◌∷◌, ◌++◌, append_assoc, drop, length, refl, sym, ap, subst, ◌∙◌, arith, Some, None, Ok, Err, Result}
 use Rattle.std.specs.Prelude.{if◌then◌else◌}
 use Rattle.fis_view.specs.Built.{cut}
 use Rattle.fis_view.specs.Frames.{IsFrame, marked}
@@ -21,7 +20,7 @@ use Rattle.disk_model.specs.declared.plan.DiskPlan.{DiskPlan}
 use Rattle.disk_model.specs.Anew as anew
 use Rattle.disk_model.specs.Anew.{IsLinkedOn}
 use Rattle.disk_model.specs.Chunks.{chunk_count}
-use Rattle.disk_model.specs.Disks.{Moment, Turn, after, moment_after, opening, turn}
+use Rattle.disk_model.specs.Disks.{Moment, Turn, after, opening, turn}
 use Rattle.disk_model.specs.Histories.{Happening, Loaded, Plugged, Received, Sent}
 use Rattle.disk_model.specs.Ledger.{IsSize, ledger}
 use Rattle.disk_model.specs.Pages.{page_bytes}

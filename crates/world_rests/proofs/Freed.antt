@@ -1,23 +1,19 @@
 -- For `rested_disks_are_left`. Where no command is with a disk, and its port shows neither BSY nor DRQ of it, nothing is issued for it.
-use Rattle.std.proofs.Common.{◌≡◌, ◌⊎◌, ℕ, ◌<◌, Bool, true, false, List, [], ◌∷◌, length, refl, sym, ap, subst, ◌∙◌, inl, inr, Option, Some, None, arith}
+use Rattle.std.proofs.Common.{◌≡◌, ℕ, ◌<◌, Bool, true, false, List, [], ◌∷◌, length, refl, sym, ap, subst, ◌∙◌, inl, inr, Option, Some, None, arith}
 use Rattle.std.specs.Prelude.{◌||◌, is_some, not}
-use Rattle.std.proofs.lemmas.Bool.{and_parts, eqb-true, false≢true, true≢false}
-use Rattle.port_errors.specs.Errors.{cause_of}
+use Rattle.std.proofs.lemmas.Bool.{and_parts, false≢true, true≢false}
 use Rattle.slots.specs.Commands.{has_outstanding}
 use Rattle.slots.specs.Setup.{is_outstanding}
-use Rattle.slots.specs.Slots.{Issue, has_bit, holds as issue_holds, is_control, is_queued_issue, is_waiting, issue_at, lowest_below, new_issue, own_issue, slots_of, waiting}
+use Rattle.slots.specs.Slots.{Issue, has_bit, holds as issue_holds, is_control, is_queued_issue, is_waiting, lowest_below, new_issue, own_issue, slots_of, waiting}
 use Rattle.slots.specs.Table.{IsIssue}
-use Rattle.slots.specs.declared.work.Kind.TheVariants.{Control}
-use Rattle.slots.specs.declared.work.Work.{Work}
 use Rattle.slots.proofs.Door.{lowest_is}
 use Rattle.hba_commands.specs.Requests.{request_of, work_of}
 use Rattle.hba_fbs.specs.Status.{is_busy, wants_data}
 use Rattle.hba_fbs.specs.Views.{state_at, view_of}
 use Rattle.disk_model.specs.declared.plan.DiskPlan.{DiskPlan}
-use Rattle.disk_model.specs.Anew.{OwesOnly}
 use Rattle.disk_model.specs.Histories.{Happening}
 use Rattle.disk_model.specs.Laws.{OwesNothing}
-use Rattle.disk_model.specs.Ledger.{Reply, ShowsPage, Signs, ledger}
+use Rattle.disk_model.specs.Ledger.{ShowsPage, Signs, ledger}
 use Rattle.hba_laws.specs.Client.{Touches}
 use Rattle.hba_laws.proofs.Door.{is_own, own_here, own_in}
 use Rattle.hba_driver.specs.declared.path.Path.{Path}
@@ -31,17 +27,13 @@ use Rattle.hba_driver.specs.Orders.{control}
 use Rattle.hba_driver.specs.Served.{IsIssueOf}
 use Rattle.hba_driver.specs.Slot30.{Asks, Cleared, Clears, Faulty, IsSlot30, LogSent, Off, On, Sets, Stage30, is_faulty, is_resetting}
 use Rattle.hba_driver.specs.Tended.{IsLiveAt}
-use Rattle.hba_driver.specs.Turns.{is_in_reset}
-use Rattle.hba_driver.proofs.Door.{is_alone, issued_live, told_of}
-use Rattle.disk_simulation.specs.Anew.{IsKeptOn}
-use Rattle.disk_simulation.specs.Watched.{IsWatched}
-use Rattle.disk_simulation.proofs.Door.{hosted_on_is_kept}
+use Rattle.hba_driver.proofs.Door.{is_alone, told_of}
 use Rattle.disk_recovery.specs.Ends.{Apart, AreEnds, IsRunning, IsSetAside, IsTogether, Together}
 use Rattle.world_rests.specs.Left.{IsOccupied}
 use Rattle.world_rests.specs.Out.{AwaitsAtMost, DiskIsFree, NoRequestIsLeft, NothingIsIssued, NothingIsOut}
-use Rattle.world_rests.specs.Sent.{HasOther, HasQueued, Holds, InReset, IsBusy, IsHeldBack, PortWaits, WantsData}
+use Rattle.world_rests.specs.Sent.{HasOther, HasQueued, Holds, InReset, IsBusy, PortWaits, WantsData}
 use Rattle.world_rests.specs.Waits.{DriverWaits, ForCommand, ForEnd, ForNobody, Waits30}
-use Rattle.world_rests.proofs.Answered.{both_tell, linked_now, none_first, none_last}
+use Rattle.world_rests.proofs.Answered.{same_told}
 use Rattle.world_rests.proofs.NothingOut.{control_kind}
 use Rattle.world_rests.proofs.Ready.{own_dev, stands_at}
 
@@ -89,12 +81,7 @@ module _ (n : ℕ) (below : n < 15) (plan : DiskPlan) (sectors : ℕ) (h : Host)
 
   together_unreset : IsTogether n h disk [] [] floors touches → (view_of n h.port).state.resetting ≡ true → ⊥
   together_unreset t resets =
-      let stale : t.stale ≡ [] = none_first t.stale t.later t.up_is in
-      let later : t.later ≡ [] = none_last t.stale t.later t.up_is in
-      let watched : IsWatched t.base disk t.given [] [] [] =
-      subst (λ (xs : List (List ℕ)). IsWatched t.base disk t.given [] xs []) stale (subst (λ (xs : List (List ℕ)). IsWatched t.base disk t.given [] t.stale xs) later t.watched) in
-      let kept : IsKeptOn n t.base (shared_by h) t.given t.commands _ = hosted_on_is_kept n t.base (shared_by h) t.given t.commands _ below t.served.hosted in
-      let same : ledger t.given ≡ ledger disk = both_tell plan sectors t.base disk t.given running.size running.run (linked_now t.base disk t.given watched.to_error) kept.careful in
+      let same : ledger t.given ≡ ledger disk = same_told n below plan sectors h disk floors touches running t in
       let base : ledger t.base ≡ ledger disk = sym (ap ledger (t.served.resets resets).1) ∙ same in
       let none : (ledger t.base).awaited ≡ [] = ap (λ k. k.awaited) base ∙ owes.awaited in
       elim t.owes [

@@ -23,6 +23,10 @@ mod Open
 mod Frames
 mod Due
 mod Dues
+mod Long
+mod Paged
+mod Status
+mod Calm
 mod Answered
 mod NothingOut
 mod Ready

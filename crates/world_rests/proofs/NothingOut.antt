@@ -1,16 +1,15 @@
 -- For `rested_disks_are_left`. Where nothing is on its way between a disk and its host, and the disk owes nothing, no command is with
 -- the disk.
-use Rattle.std.proofs.Common.{◌≡◌, ◌⊎◌, ℕ, ◌<◌, Bool, true, false, List, [], ◌∷◌, ◌++◌, length, refl, sym, ap, subst, ◌∙◌, inl, inr, Option, Some, None, arith}
+use Rattle.std.proofs.Common.{◌≡◌, ℕ, ◌<◌, Bool, true, false, List, [], ◌∷◌, ◌++◌, refl, sym, ap, subst, ◌∙◌, inl, inr, Option, Some, None, arith}
 use Rattle.std.specs.Prelude.{is_some}
 use Rattle.std.specs.Option.{option_map}
 use Rattle.std.proofs.lemmas.Bool.{false≢true, true≢false}
 use Rattle.port_errors.specs.Errors.{cause_of}
 use Rattle.slots.specs.Data.{payload}
-use Rattle.slots.specs.Slots.{Issue, context_of, is_control, is_waiting, issue_at, own_issue}
+use Rattle.slots.specs.Slots.{Issue, context_of, is_control, issue_at, own_issue}
 use Rattle.slots.specs.Table.{IsIssue}
 use Rattle.slots.specs.Work.{is_queued}
-use Rattle.slots.specs.declared.work.Kind.{Kind}
-use Rattle.slots.specs.declared.work.Kind.TheVariants.{Control, NoData, PioIn}
+use Rattle.slots.specs.declared.work.Kind.TheVariants.{Control}
 use Rattle.slots.specs.declared.work.Work.{Work}
 use Rattle.hba_commands.specs.Requests.{request_of, work_of}
 use Rattle.hba_commands.specs.declared.command.Command.{Command}
@@ -20,10 +19,9 @@ use Rattle.disk_model.specs.Histories.{Happening}
 use Rattle.disk_model.specs.Laws.{OwesNothing}
 use Rattle.disk_model.specs.Ledger.{ledger}
 use Rattle.hba_laws.specs.Agreement.{IssueAgrees, work_of_issue}
-use Rattle.hba_laws.specs.Between.{IsOwn}
 use Rattle.hba_laws.specs.Client.{Touches, own}
-use Rattle.hba_laws.specs.History.{History, Transfer, is_at, issued, waiting_in}
-use Rattle.hba_laws.proofs.Door.{is_own, own_here}
+use Rattle.hba_laws.specs.History.{issued}
+use Rattle.hba_laws.proofs.Door.{is_own}
 use Rattle.hba_driver.specs.declared.path.Path.{Path}
 use Rattle.hba_driver.specs.declared.path.Stage.{Stage}
 use Rattle.hba_driver.specs.declared.path.Stage.TheVariants.{AssertReset, AwaitReset, Identify, ReadLog, ReleaseReset}
@@ -41,16 +39,14 @@ use Rattle.hba_driver.specs.Tended.{Awaits, Fine, Identifies, IsTendedBy, Logs, 
 use Rattle.hba_driver.proofs.Door.{is_alone}
 use Rattle.disk_simulation.specs.Anew.{IsKeptOn}
 use Rattle.disk_simulation.specs.Line.{Asked, Both, Failed, Held, Line, Loose, OnLine, Releasing, Resting}
-use Rattle.disk_simulation.specs.Watched.{IsWatched}
-use Rattle.disk_simulation.proofs.Door.{hosted_on_is_kept}
 use Rattle.disk_recovery.specs.Ends.{Apart, AreEnds, IsRunning, IsSetAside, IsTogether, Together}
 use Rattle.disk_recovery.specs.Stages.{Fits}
 use Rattle.disk_recovery.proofs.Door.{request_kind}
 use Rattle.world_rests.specs.Left.{NoneIsOut}
 use Rattle.world_rests.specs.Out.{NothingIsOut}
-use Rattle.world_rests.proofs.Answered.{both_tell, linked_now, none_first, none_is_out, none_last, not_sent, own_at}
+use Rattle.world_rests.proofs.Answered.{kept_at, linked_at, none_is_out, not_sent, own_at, same_told}
 use Rattle.world_rests.proofs.Due.{AreOwed, IsPlain, WaitsIn, owes_none, waits_if}
-use Rattle.world_rests.proofs.Dues.{IsCalm, hosted_is_owed}
+use Rattle.world_rests.proofs.Dues.{hosted_is_owed}
 use Rattle.world_rests.proofs.Frames.{AllFull, given_full}
 use Rattle.world_rests.proofs.Open.{WasIssued, was_issued}
 
@@ -80,7 +76,7 @@ control_kind dev n = refl
 
 -- ---- at either stage
 
-module _ (n : ℕ) (below : n < 15) (calm : IsCalm n) (plan : DiskPlan) (sectors : ℕ) (h : Host) (disk : List Happening) (floors : ℕ → ℕ) (touches : Touches)
+module _ (n : ℕ) (below : n < 15) (plan : DiskPlan) (sectors : ℕ) (h : Host) (disk : List Happening) (floors : ℕ → ℕ) (touches : Touches)
     (running : IsRunning plan sectors disk touches h) (owes : OwesNothing (ledger disk)) (fed : payload (context_of h.port.slots n) ≡ None)
     (faultless : cause_of h.port.errors n ≡ None) where
   at_own : (slot : ℕ) (issue : Issue) → slot < 32 → issue_at h.port.slots slot ≡ Some issue → issue.dev ≡ n → own_issue (view_of n h.port).slots slot ≡ Some issue
@@ -175,17 +171,13 @@ module _ (n : ℕ) (below : n < 15) (calm : IsCalm n) (plan : DiskPlan) (sectors
 
     never_out : ⊥
     never_out =
-        let stale : t.stale ≡ [] = none_first t.stale t.later t.up_is in
-        let later : t.later ≡ [] = none_last t.stale t.later t.up_is in
-        let watched : IsWatched t.base disk t.given [] [] [] =
-        subst (λ (xs : List (List ℕ)). IsWatched t.base disk t.given [] xs []) stale (subst (λ (xs : List (List ℕ)). IsWatched t.base disk t.given [] t.stale xs) later t.watched) in
-        let linked = linked_now t.base disk t.given watched.to_error in
-        let kept : IsKeptOn n t.base (shared_by h) t.given t.commands (own n touches) = hosted_on_is_kept n t.base (shared_by h) t.given t.commands (own n touches) below t.served.hosted in
-        let same : ledger t.given ≡ ledger disk = both_tell plan sectors t.base disk t.given running.size running.run linked kept.careful in
+        let linked = linked_at n below plan sectors h disk floors touches running t in
+        let kept : IsKeptOn n t.base (shared_by h) t.given t.commands (own n touches) = kept_at n below plan sectors h disk floors touches running t in
+        let same : ledger t.given ≡ ledger disk = same_told n below plan sectors h disk floors touches running t in
         let none : OwesNothing (ledger t.given) = subst OwesNothing (sym same) owes in
         let full : AllFull t.given = given_full plan sectors t.base disk t.given [] [] [] running.size running.run linked in
         let owed : AreOwed (view_of n h.port).state.block (own n touches) (ledger t.given) =
-        hosted_is_owed n t.base below calm t.owes (shared_by h) t.given t.commands (own n touches) full t.served.hosted in
+        hosted_is_owed n t.base below t.owes (shared_by h) t.given t.commands (own n touches) full t.served.hosted in
         let agrees : IssueAgrees slot issue (view_of n h.port).slots.context (own n touches) = kept.joined.history.agrees.issues_agree slot issue here in
         let waits : WaitsIn slot w.transfer (own n touches) = record {
           here = w.there;

@@ -11,7 +11,8 @@ use Rattle.disk_model.specs.declared.plan.DiskPlan.{DiskPlan}
 use Rattle.disk_model.specs.Histories.{Happening}
 use Rattle.hba_driver.specs.declared.path.Path.{Path}
 use Rattle.hba_driver.specs.declared.path.Stage.TheVariants.{AwaitReset}
-use Rattle.hba_driver.specs.Drivers.{Entry, entry_at, is_issued, waits}
+use Rattle.hba_driver.specs.declared.plan.Device.TheVariants.{Ready}
+use Rattle.hba_driver.specs.Drivers.{Entry, device_at, entry_at, is_issued, waits}
 use Rattle.hba_driver.specs.HostTurns.{Host}
 use Rattle.pm_world.specs.Attached.{Attached}
 use Rattle.pm_world.specs.Disks.{DiskRun, HasDisk}
@@ -40,15 +41,16 @@ NoRequestIsLeft n h =
 abbrev pub AwaitsAtMost : ℕ → Host → Type 0
 AwaitsAtMost n h = (p : Path) → h.driver.plan.path ≡ Some p → p.dev ≡ n → (p.asked ≡ false) × (p.stage ≡ AwaitReset)
 
--- While the port shows neither BSY nor DRQ of the disk, nothing is issued for it, no request of it waits, and slot 30 has no command for it.
+-- Nothing is issued for the disk, no request of it waits, and slot 30 has no command for it.
 pub record DiskIsFree (n : ℕ) (h : Host) : Type 0 where
   pub issued : NothingIsIssued n h.port
   pub requests : NoRequestIsLeft n h
   pub path : AwaitsAtMost n h
 
--- no command is with the disk
+-- No command is with the disk. It is free while the driver takes it to be ready, or its port shows neither BSY nor DRQ of it.
 pub record DiskIsLeft (n : ℕ) (h : Host) : Type 0 where
   pub out : NothingIsOut n h.port
+  pub ready : device_at h.driver.plan n ≡ Ready → DiskIsFree n h
   pub free : (IsOccupied n h.port → ⊥) → DiskIsFree n h
 
 -- That holds in a world at rest for a disk that is plugged in, and was left alone since then, behind a port that forwards.
