@@ -2,7 +2,7 @@
 -- after a software reset, or with the log after an error (AHCI 1.3.1, 5.3 and 6.2.2, error recovery; Serial
 -- ATA 3.x, 13.6, native command queuing). What was queued before was given up, whatever was in transit then.
 -- From there on the port, the history and the ledger agree again, as they did since the disk was new.
-use Rattle.std.specs.Prelude.{ℕ, ◌≡◌, ◌≢◌, ◌<◌, ◌++◌, true, false, List, [], ◌∷◌, Option, Some}
+use Rattle.std.specs.Prelude.{ℕ, ◌≡◌, ◌≢◌, ◌<◌, ◌⊎◌, ◌++◌, true, false, List, [], ◌∷◌, Option, Some}
 use Rattle.std.specs.Prelude.{None, Ok}
 use Rattle.fis_view.specs.Frames.{IsFrame, Stamped, marked}
 use Rattle.fis_view.specs.Seen.{seen}
@@ -37,7 +37,8 @@ use Rattle.disk_simulation.specs.Heard.{IsTakenWell}
 use Rattle.disk_simulation.specs.Honest.{IsDoneHonestly}
 use Rattle.disk_simulation.specs.Hosted.{IsHosted}
 use Rattle.disk_simulation.specs.Joined.{AreCounted, IsJoined, IsShort, SentAgrees}
-use Rattle.disk_simulation.specs.Together.{InTalk, IsWaitedUnset, NoneQueued, Same, is_sent, told}
+use Rattle.disk_simulation.specs.Together.{InTalk, IsWaitedUnset, NoneQueued, NothingWaits, Same, is_sent}
+use Rattle.disk_simulation.specs.Together.{told}
 use Rattle.disk_simulation.specs.Same.{SlotCommand}
 
 -- ---- where they begin
@@ -58,6 +59,8 @@ pub record IsOpening (n : ℕ) (host : Host) (commands : ℕ → SlotCommand) (p
   pub unset : (view_of n host.port).slots.context ≡ None
   pub clear : IsClear k
   pub talk : InTalk past k
+  -- while the signature is to come, no command waits for its answer
+  pub calm : k.awaited ≡ Signs ∷ [] → NothingWaits past
 
 -- the slots of a device stay, and whether it has a block
 pub record KeepsSlots (n : ℕ) (old new : Host) : Type 0 where
@@ -79,9 +82,11 @@ pub data IsHostedOn (n : ℕ) (base : List Happening) : Host → List Happening 
   opens : (host : Host) (commands : ℕ → SlotCommand) (past : History)
       → IsOpening n host commands past (ledger base) → IsHostedOn n base host base commands past
   -- Something happens at the port that leaves the slots of n and its block, and is no event of n: an event of
-  -- another device, an ignored frame of n, or a signature from before both began.
+  -- another device or an ignored frame of n, which leave its whole view, or a signature from before both
+  -- began, while nothing was told since.
   stays : (host new : Host) (given : List Happening) (commands : ℕ → SlotCommand) (past : History)
-      → KeepsSlots n host new → IsHostedOn n base host given commands past
+      → KeepsSlots n host new → (given ≡ base) ⊎ (view_of n new.port ≡ view_of n host.port)
+      → IsHostedOn n base host given commands past
       → IsHostedOn n base new given commands past
   -- the signature that ends the software reset is received: it is no event of the device's history
   signs : (host new : Host) (bytes : List ℕ) (report : TakeReport) (given : List Happening)

@@ -114,9 +114,9 @@ deed_quiet deed old new does = inr tt
 
 -- ---- histories
 
-record Told (c : ControllerState) : Type 0 where
-  past : ℕ → History
-  told : AreTold c.core past
+pub record Told (c : ControllerState) : Type 0 where
+  pub past : ℕ → History
+  pub told : AreTold c.core past
 
 first_kept : (events : List Event) (old new : ControllerState) → call.Runs old events new → IsController old
 first_kept [] old new run = run.0
@@ -127,7 +127,7 @@ no_more [] = refl
 no_more (e ∷ rest) = ap (λ (t : List CoreEvent). e ∷ t) (no_more rest)
 
 module _ (laws : Laws) where
-  core_events : (old new : ControllerState) (e : Event) → IsController old → IsController new → (does : call.Does old e new)
+  pub core_events : (old new : ControllerState) (e : Event) → IsController old → IsController new → (does : call.Does old e new)
       → AreCoreEvents old.core (of_event old e new does) new.core
   core_events old new e k l does =
       subst (λ (events : List CoreEvent). AreCoreEvents old.core events new.core) (no_more (of_event old e new does))
@@ -153,7 +153,7 @@ module _ (laws : Laws) where
   controller_runs ports legacy old opening deeds now run =
       laws.runs old deeds now run (laws.opens ports legacy old opening (first_ruled deeds old now run)).due
 
-  told_now : (ports : ℕ) (legacy : Bool) (old : MachineState) → IsOpeningMachine ports legacy old → (deeds : List Deed) (now : MachineState) (run : RunsRuled old deeds now)
+  pub told_now : (ports : ℕ) (legacy : Bool) (old : MachineState) → IsOpeningMachine ports legacy old → (deeds : List Deed) (now : MachineState) (run : RunsRuled old deeds now)
       → Told now.controller
   told_now ports legacy old opening deeds now run =
       let opened : OpensSo old = laws.opens ports legacy old opening (first_ruled deeds old now run) in
@@ -162,7 +162,7 @@ module _ (laws : Laws) where
 
   -- ---- as a FIS is taken
 
-  kept_of : (m : MachineState) → HasRules m → IsController m.controller
+  pub kept_of : (m : MachineState) → HasRules m → IsController m.controller
   kept_of m rules = record { port = rules.port; slots = rules.slots; rules = rules.rules }
 
   named_by : (now : MachineState) (took : Took) (new : MachineState) (does : Does now (Moved (act.Takes took)) new) → HasRules now → HasRules new → (t : Told now.controller)

@@ -13,3 +13,8 @@ mod EndSent
 mod Falls
 mod AtMoments
 mod OfGuest
+mod Unread
+mod Armed
+mod Few
+mod Stood
+mod Completed

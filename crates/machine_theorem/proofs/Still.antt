@@ -21,7 +21,7 @@ use Rattle.machine_theorem.specs.Commands.{AreNotIssued, is_issue, issues_in}
 
 -- ---- what was issued last stays
 
-abbrev Kept : Sources → Sources → Type 0
+abbrev pub Kept : Sources → Sources → Type 0
 Kept now was = now.issued ≡ was.issued
 
 pending_by : (b : Bool) (was : Sources) → Kept (if b then was else record { coming = None; issued = was.issued }) was
@@ -58,7 +58,7 @@ one_kept s old (call.Said write) new does was is = refl
 one_kept s old (call.Gathered dev number frame fed) new does was is = refl
 one_kept s old (call.NotThere dev number fed) new does was is = refl
 
-all_kept : (s : ℕ) (events : List Event) (old new : ControllerState) (run : call.Runs old events new) (was : Sources) → AreNotIssued s events
+pub all_kept : (s : ℕ) (events : List Event) (old new : ControllerState) (run : call.Runs old events new) (was : Sources) → AreNotIssued s events
     → Kept (sources_after s was old events new run) was
 all_kept s [] old new run was are = refl
 all_kept s (event ∷ later) old new run was are =

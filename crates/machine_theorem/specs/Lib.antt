@@ -4,3 +4,5 @@ pub mod Commands
 pub mod Ends
 pub mod Moments
 pub mod Guest
+pub mod Standing
+pub mod Completed

@@ -1,5 +1,6 @@
-//! The ends of queued commands, from the disks to PxSACT.
+//! The ends of commands, from the devices to PxSACT and PxCI.
 
+ghost use Rattle.machine_theorem.specs.Completed.{CompletionsAreOfDevices};
 ghost use Rattle.machine_theorem.specs.Ends.{EndsAreOfDevices, OthersEndNone};
 
 /// A law for callers; it runs no code. Over every run of a machine from its opening: a bit of PxSACT falls as a FIS is taken only by a Set Device
@@ -10,6 +11,22 @@ ghost use Rattle.machine_theorem.specs.Ends.{EndsAreOfDevices, OthersEndNone};
 pub fn ends_come_from_devices()
     ensures ends { EndsAreOfDevices }
     ensures others { OthersEndNone }
+{
+    sata_disk_books::ends_are_of_pages();
+    machine_laws::frames_rise_in_order();
+    machine_laws::data_rise_unchanged();
+    machine_laws::controller_has_its_laws();
+    controller_laws::events_are_core_events();
+    controller_laws::issues_fall();
+    controller_laws::active_falls();
+}
+
+/// A law for callers; it runs no code. Over every run of a machine from its opening: a bit of PxCI falls as a FIS is taken, and PxSACT does not show the
+/// slot, only by a FIS of the device that owns the slot's command and that ends it: what the FIS is to the device completes the command, after all
+/// that happened to it. A command that is not queued is completed by a Register FIS that answers it, as it was sent last and waits, and all bytes
+/// of a transfer were moved; or by the last Data of a PIO read.
+pub fn completions_are_of_devices()
+    ensures { CompletionsAreOfDevices }
 {
     sata_disk_books::ends_are_of_pages();
     machine_laws::frames_rise_in_order();

@@ -8,8 +8,10 @@ mod commands;
 mod ends;
 mod moments;
 mod parts;
+mod standing;
 
 pub use commands::{commands_come_from_slots, disks_hear_their_guest};
-pub use ends::ends_come_from_devices;
+pub use ends::{completions_are_of_devices, ends_come_from_devices};
 pub use moments::data_are_of_slots;
 pub use parts::payload_comes_from_devices;
+pub use standing::slots_have_one_command;

@@ -20,10 +20,12 @@ use Rattle.ahci_machine.specs.declared.ports.PortFault.{PortFault}
 use Rattle.machine_laws.specs.ControllerLaws.{RunsRuled}
 use Rattle.machine_laws.specs.Deeds.{Deed, Does, Moved, Put}
 use Rattle.machine_theorem.specs.Commands.{CommandsOfNewDisks}
+use Rattle.machine_theorem.specs.Completed.{CompletionsAreOfDevices}
 use Rattle.machine_theorem.specs.Guest.{HeardIsOfGuest}
 use Rattle.machine_theorem.specs.Moments.{CompletionsAreEarned, DataAreOfSlots, PayloadIsOfSlots}
 use Rattle.machine_theorem.specs.Parts.{PayloadIsBrought}
-use Rattle.uses_machine_theorem.specs.Led.{EndsEarned, IsLed, KnowsDisks, LendsBrought, LendsOfSlots, PutsNew, SpeaksOfSlots}
+use Rattle.machine_theorem.specs.Standing.{CommandsStand}
+use Rattle.uses_machine_theorem.specs.Led.{EndsCompleted, EndsEarned, IsLed, KnowsDisks, LendsBrought, LendsOfSlots, PutsNew, SpeaksOfSlots}
 
 pub ruled : (m : MachineState) → IsCorePort m.controller.core → IsTable m.controller.core.slots → IsRuled m.controller → HasRules m
 ruled m port slots rules = record { port = port; slots = slots; rules = rules }
@@ -70,6 +72,11 @@ ended law old new told step rules took is was slot low shows hides =
     let does : Steps old (act.Takes took) new = told_is old new told (act.Takes took) step is in
     (does.does.frame, law was.ports was.legacy was.first was.opens was.deeds old was.run took new does rules slot low shows hides)
 
+pub completed : CompletionsAreOfDevices → (old new : MachineState) (told : Result Act AllocError) → IfOk told (λ a. Steps old a new) → HasRules new → EndsCompleted old told new
+completed law old new told step rules took is was slot low shows hides none =
+    let does : Steps old (act.Takes took) new = told_is old new told (act.Takes took) step is in
+    (does.does.frame, law was.ports was.legacy was.first was.opens was.deeds old was.run took new does rules slot low shows hides none)
+
 -- ---- a disk is put at a port
 
 pub puts : (port : ℕ) (profile : Profile) (limit : ℕ) (disk : DiskState) → disk ≡ new_disk profile limit → (old new : MachineState)
@@ -91,8 +98,9 @@ puts port profile limit disk is old new told does rules was =
 
 -- ---- what it knows of its disks
 
-pub knows : HeardIsOfGuest → CommandsOfNewDisks → (now : MachineState) → KnowsDisks now
-knows heard fresh now led n = record {
+pub knows : HeardIsOfGuest → CommandsOfNewDisks → CommandsStand → (now : MachineState) → KnowsDisks now
+knows heard fresh stand now led n = record {
   heard = heard led.ports led.legacy led.first led.opens led.deeds now led.run n;
   commands = λ d there lived p limit new place page is. fresh led.ports led.legacy led.first led.opens led.deeds now led.run n d there lived p limit new place page is;
+  stands = λ p limit calls c of r since stood short. stand led.ports led.legacy led.first led.opens led.deeds now led.run n p limit calls c of r since stood short;
 }

@@ -1,18 +1,22 @@
 -- What a caller knows of its machine, of what it is told to write, and of its disks.
-use Rattle.std.specs.Prelude.{◌≡◌, ◌<◌, ℕ, Bool, true, false, List, [], ◌∷◌, ◌++◌, Some, Result, Ok}
+use Rattle.std.specs.Prelude.{◌≡◌, ◌<◌, ℕ, Bool, true, false, List, [], ◌∷◌, ◌++◌, length, Some, Result, Ok}
 use Rattle.std.specs.declared.alloc.AllocError.{AllocError}
 use Rattle.fis_view.specs.Frames.{Stamped}
 use Rattle.slots.specs.Slots.{has_bit}
 use Rattle.guest_fetch.specs.declared.moves.Move.{Move}
-use Rattle.ahci_registers.specs.declared.register.Register.TheVariants.{PxSact}
+use Rattle.ahci_registers.specs.declared.register.Register.{Register}
+use Rattle.ahci_registers.specs.declared.register.Register.TheVariants.{PxCi, PxSact}
 use Rattle.ahci_controller.specs.Reading.{shown}
 use Rattle.ahci_controller.specs.declared.next.Next.TheVariants as next
 use Rattle.ahci_controller.specs.declared.taking.Took.{Took}
+use Rattle.block_command.specs.declared.command.Command.{Command}
 use Rattle.block_disk.specs.Laws.{Page}
+use Rattle.controller_laws.specs.Events.{Event}
 use Rattle.disk_pages.specs.declared.profile.Profile.{Profile}
 use Rattle.sata_disk.specs.State.{DiskState, new_disk}
 use Rattle.sata_disk.specs.declared.out.Out.TheVariants as out
 use Rattle.sata_disk_books.specs.Books.{page_in}
+use Rattle.sata_disk_laws.specs.Calls.{Call}
 use Rattle.ahci_machine.specs.Registers.{lent_bytes}
 use Rattle.ahci_machine.specs.States.{IsOpeningMachine, MachineState, bay_at}
 use Rattle.ahci_machine.specs.declared.act.Act.{Act}
@@ -24,9 +28,11 @@ use Rattle.machine_laws.specs.ControllerLaws.{RunsRuled}
 use Rattle.machine_laws.specs.Deeds.{Deed, Put}
 use Rattle.machine_laws.specs.Heard.{AllHeard, HasLived, life_in, no_life}
 use Rattle.machine_theorem.specs.Commands.{IsOfSlot}
+use Rattle.machine_theorem.specs.Completed.{IsEndedInHistory}
 use Rattle.machine_theorem.specs.Guest.{IsOfGuest}
 use Rattle.machine_theorem.specs.Moments.{GivesNext, IsBroughtFor, IsEndedFor, OfNewDisk}
 use Rattle.machine_theorem.specs.Parts.{IsBrought}
+use Rattle.machine_theorem.specs.Standing.{HasStood, IsAsSupplied}
 
 -- some run led here from a machine that opened
 pub record IsLed (now : MachineState) : Type 0 where
@@ -62,13 +68,22 @@ EndsEarned now told new = (took : Took) → told ≡ Ok (act.Takes took) → (le
     → has_bit (shown PxSact now.controller) slot ≡ true → has_bit (shown PxSact new.controller) slot ≡ false
     → (fis : Stamped) × IsEndedFor led.first led.deeds now led.run new.fan fis slot
 
+-- A bit of PxCI falls by such a move, and PxSACT does not show the slot: the device that owns the slot completed its command by the FIS.
+abbrev pub EndsCompleted : MachineState → Result Act AllocError → MachineState → Type 0
+EndsCompleted now told new = (took : Took) → told ≡ Ok (act.Takes took) → (led : IsLed now) → (slot : ℕ) → slot < 32
+    → has_bit (shown PxCi now.controller) slot ≡ true → has_bit (shown PxCi new.controller) slot ≡ false
+    → has_bit (shown PxSact new.controller) slot ≡ false → (fis : Stamped) × IsEndedInHistory now.controller fis.bytes slot
+
 -- Each FIS that the disk at a port heard since it was put there is of a command in a slot, or has Data that were supplied; and if it was new then,
--- each command that its books have came from a slot.
+-- each command that its books have came from a slot. While the slot's bit has stood since an issue there, what was sent from it since is as supplied.
 pub record KnowsDisk (now : MachineState) (led : IsLed now) (n : ℕ) : Type 0 where
   pub heard : AllHeard (IsOfGuest led.first led.deeds now led.run n) (life_in n no_life led.first led.deeds now led.run).calls
   pub commands : (d : DiskState) → (bay_at now n).unit ≡ Disk d → (lived : HasLived (life_in n no_life led.first led.deeds now led.run) d) → (p : Profile) (limit : ℕ)
       → lived.disk ≡ new_disk p limit → (place : ℕ) (page : Page) → page_in p limit (life_in n no_life led.first led.deeds now led.run).calls place ≡ Some page
       → IsOfSlot led.first led.deeds now led.run n p limit (life_in n no_life led.first led.deeds now led.run).calls page.command
+  pub stands : (p : Profile) (limit : ℕ) (calls : List Call) (c : Command) → (of : IsOfSlot led.first led.deeds now led.run n p limit calls c)
+      → (r : Register) (since : List Event) → HasStood r of.slot since led.first led.deeds now led.run → length of.sent.later < length since
+      → IsAsSupplied led.first led.deeds now led.run of.slot of.fis
 
 abbrev pub KnowsDisks : MachineState → Type 0
 KnowsDisks now = (led : IsLed now) (n : ℕ) → KnowsDisk now led n

@@ -10,9 +10,10 @@ use Rattle.pm_world.specs.declared.step.Step.{Step}
 use Rattle.pm_world.specs.declared.step.Step.TheVariants as step
 use Rattle.world_rests.specs.Laws.{RestsAfter}
 use Rattle.world_rests.specs.Left.{RestedDisksHaveDone}
+use Rattle.world_rests.specs.Out.{RestedDisksAreLeft}
 use Rattle.world_rests.specs.Rests.{HasRound, IsAtRest, NothingMoves}
 use Rattle.world_rests.specs.Waits.{HostWaits}
-use Rattle.uses_world_rests.specs.Left.{DiskHasDoneIn, config}
+use Rattle.uses_world_rests.specs.Left.{DiskHasDoneIn, DiskIsLeftIn, config}
 
 abbrev pub round : List Step
 round = step.PmPresence 0 ∷ step.DiskTake 0 ∷ step.DiskSend 0 ∷ step.PmFromDevice 0 ∷ step.PmDown 0 ∷ step.PmFromHost ∷ step.PmUp ∷ step.HostTake ∷ step.Tick ∷ step.HostPush ∷ []
@@ -48,6 +49,13 @@ moves_none seen items opened old new steps answers is right run rests =
 pub disk_has_done : {X : Type 0} (seen : X → Attached) (items : List X) (opened old new : Places) (steps : List Step) (answers : List Answer) → opened ≡ new_world config (map seen items)
     → is_config config (length items) ≡ true → Run opened steps answers old → RestsAfter old round new → RestedDisksHaveDone → DiskHasDoneIn (map seen items) new
 disk_has_done seen items opened old new steps answers is right run rests law sectors plan past has d there opens =
+    let fit : is_config config (length (map seen items)) ≡ true = ap (λ (n : ℕ). is_config config n) (length-map items seen) ∙ right in
+    let r = rests config (map seen items) fit steps answers (subst (λ (w : Places). Run w steps answers old) is run) has_round in
+    law config (map seen items) 0 sectors plan past fit (omega (arith)) has new d there opens (subst IsAtRest (sym r.0) r.1)
+
+pub disk_is_left : {X : Type 0} (seen : X → Attached) (items : List X) (opened old new : Places) (steps : List Step) (answers : List Answer) → opened ≡ new_world config (map seen items)
+    → is_config config (length items) ≡ true → Run opened steps answers old → RestsAfter old round new → RestedDisksAreLeft → DiskIsLeftIn (map seen items) new
+disk_is_left seen items opened old new steps answers is right run rests law sectors plan past has d there opens =
     let fit : is_config config (length (map seen items)) ≡ true = ap (λ (n : ℕ). is_config config n) (length-map items seen) ∙ right in
     let r = rests config (map seen items) fit steps answers (subst (λ (w : Places). Run w steps answers old) is run) has_round in
     law config (map seen items) 0 sectors plan past fit (omega (arith)) has new d there opens (subst IsAtRest (sym r.0) r.1)

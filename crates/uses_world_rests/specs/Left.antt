@@ -1,4 +1,4 @@
--- What the host of a world of one disk has left with it, once a round does nothing: no read or write (`world_rests`, specs/Left.antt).
+-- What the host of a world of one disk has left with it, once a round does nothing: no command (`world_rests`, specs/Left.antt and Out.antt).
 use Rattle.std.specs.Prelude.{ℕ, ◌≡◌, true, List}
 use Rattle.pm_registers.specs.RegisterMap.{forwards}
 use Rattle.disk_model.specs.declared.plan.DiskPlan.{DiskPlan}
@@ -9,6 +9,7 @@ use Rattle.pm_world.specs.PathEnds.{IsThere}
 use Rattle.pm_world.specs.Places.{Places}
 use Rattle.pm_world.specs.declared.step.Config.{Config}
 use Rattle.world_rests.specs.Left.{DiskHasDone}
+use Rattle.world_rests.specs.Out.{DiskIsLeft}
 
 abbrev pub config : Config
 config = record { ports = 1; capacity = 2; memory = 0x200000 }
@@ -19,3 +20,9 @@ DiskHasDoneIn units now =
     (sectors : ℕ) (plan : DiskPlan) (past : List Happening) → HasDisk units 0 plan sectors past
     → (d : DiskRun config units 0 now) → IsThere 0 d.conn now → forwards now.multiplier.registers 0 ≡ true
     → DiskHasDone 0 now.host
+
+abbrev pub DiskIsLeftIn : List Attached → Places → Type 0
+DiskIsLeftIn units now =
+    (sectors : ℕ) (plan : DiskPlan) (past : List Happening) → HasDisk units 0 plan sectors past
+    → (d : DiskRun config units 0 now) → IsThere 0 d.conn now → forwards now.multiplier.registers 0 ≡ true
+    → DiskIsLeft 0 now.host

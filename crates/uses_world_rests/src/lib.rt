@@ -4,7 +4,7 @@
 ghost use Rattle.std.specs.Prelude.{IfSome, map};
 ghost use Rattle.world_rests.specs.Rests.{NothingMoves};
 ghost use Rattle.world_rests.specs.Waits.{HostWaits};
-ghost use Rattle.uses_world_rests.specs.Left.{DiskHasDoneIn};
+ghost use Rattle.uses_world_rests.specs.Left.{DiskHasDoneIn, DiskIsLeftIn};
 
 use pm_world::{Config, PortDevice, Step, World};
 use std::alloc::Global;
@@ -24,7 +24,7 @@ const ROUND: [Step; 10] = [
 ];
 
 /// Makes a world of one unit, does these steps, and then a round. Gives the world if the round did nothing: then nothing moves,
-/// and the host waits, whatever the steps were. If the unit is a disk that was left alone, no read or write is with it.
+/// and the host waits, whatever the steps were. If the unit is a disk that was left alone, no command is with it.
 pub fn rested<D: PortDevice + Drop>(
     alloc: Global,
     units: Vec<D>,
@@ -32,6 +32,7 @@ pub fn rested<D: PortDevice + Drop>(
 ) -> Option<World<D>>
     ensures rests { IfSome result (λ world. NothingMoves world × HostWaits world.host) }
     ensures disk { IfSome result (λ world. DiskHasDoneIn (map D.seen units.items) world) }
+    ensures left { IfSome result (λ world. DiskIsLeftIn (map D.seen units.items) world) }
 {
     let config = Config {
         ports: 1,
@@ -48,5 +49,6 @@ pub fn rested<D: PortDevice + Drop>(
         return None;
     };
     world_rests::rested_disks_have_done();
+    world_rests::rested_disks_are_left();
     Some(world)
 }

@@ -1,6 +1,6 @@
 -- For `rested_disks_have_done`. Where nothing is on its way between a disk and its host, and the disk owes nothing, no queued command
--- is with the disk.
-use Rattle.std.proofs.Common.{◌≡◌, ◌==◌, eqb, ℕ, ◌<◌, Bool, true, false, List, [], ◌∷◌, ◌++◌, length, refl, sym, ap, subst, ◌∙◌, Option, Some, None, arith}
+-- is with the disk, and the port shows neither BSY nor DRQ of it.
+use Rattle.std.proofs.Common.{◌≡◌, ◌==◌, eqb, ℕ, ◌<◌, Bool, true, false, List, [], ◌∷◌, ◌++◌, length, refl, sym, ap, subst, ◌∙◌, inl, inr, Option, Some, None, arith}
 use Rattle.std.specs.Prelude.{if◌then◌else◌, is_some}
 use Rattle.std.specs.List.{list_any}
 use Rattle.std.specs.Option.{option_map}
@@ -26,20 +26,24 @@ use Rattle.hba_laws.specs.Client.{Touches, own}
 use Rattle.hba_laws.specs.History.{History, Transfer, is_set_up, issued}
 use Rattle.hba_laws.specs.Hosts as event
 use Rattle.hba_laws.proofs.Door.{own_here}
+use Rattle.hba_driver.specs.declared.plan.Device.TheVariants.{Ready}
+use Rattle.hba_driver.specs.Drivers.{device_at}
 use Rattle.hba_driver.specs.Events.{shared_by}
 use Rattle.hba_driver.specs.HostTurns.{Host}
 use Rattle.hba_driver.specs.Slot30.{is_faulty}
 use Rattle.hba_driver.proofs.Door.{is_alone}
 use Rattle.disk_simulation.specs.Anew.{IsKeptOn}
 use Rattle.disk_simulation.specs.Between.{IsThere}
+use Rattle.disk_simulation.specs.Files.{DisksSendTheirs}
 use Rattle.disk_simulation.specs.Joined.{IsJoined}
 use Rattle.disk_simulation.specs.Same.{InLife, Moves, Open, ReadEnded, SlotCommand, Unsent, WriteEnded}
 use Rattle.disk_simulation.specs.Together.{NoneQueued}
 use Rattle.disk_simulation.specs.Watched.{Erred, Fine, IsWatched, IsWatchedTo}
 use Rattle.disk_simulation.proofs.Door.{hosted_on_is_kept, there_by}
 use Rattle.disk_recovery.specs.Ends.{Apart, AreEnds, IsRunning, IsSetAside, IsTogether, Together}
-use Rattle.world_rests.specs.Left.{NoneIsOut}
+use Rattle.world_rests.specs.Left.{IsOccupied, NoneIsOut}
 use Rattle.world_rests.proofs.Asking.{IsAsked}
+use Rattle.world_rests.proofs.Calm.{AreHeard, GivenFits, IsCalmOn, are_heard, calm_on}
 use Rattle.world_rests.proofs.Open.{IsOpen, WasIssued, hosted_is_open, was_issued}
 
 -- ---- both ends tell the same
@@ -117,42 +121,69 @@ module _ (n : ℕ) (commands : ℕ → SlotCommand) (host : event.Host) (past : 
 
 -- ---- at either stage
 
-not_sent : (b : Bool) → (b ≡ true → ⊥) → b ≡ false
+none_first : (xs ys : List (List ℕ)) → [] ≡ xs ++ ys → xs ≡ []
+none_first [] ys is = refl
+none_first (x ∷ xs) ys is = cc is
+
+none_last : (xs ys : List (List ℕ)) → [] ≡ xs ++ ys → ys ≡ []
+none_last [] ys is = sym is
+none_last (x ∷ xs) ys is = cc is
+
+pub not_sent : (b : Bool) → (b ≡ true → ⊥) → b ≡ false
 not_sent true never = absurd (never refl)
 not_sent false never = refl
 
 module _ (n : ℕ) (below : n < 15) (plan : DiskPlan) (sectors : ℕ) (h : Host) (disk : List Happening) (floors : ℕ → ℕ) (touches : Touches)
+    (running : IsRunning plan sectors disk touches h) (t : IsTogether n h disk [] [] floors touches) where
+  -- nothing is on its way, so each end has heard the other
+  pub linked_at : IsLinkedOn t.base disk t.given [] [] []
+  linked_at =
+      let stale : t.stale ≡ [] = none_first t.stale t.later t.up_is in
+      let later : t.later ≡ [] = none_last t.stale t.later t.up_is in
+      let watched : IsWatched t.base disk t.given [] [] [] =
+      subst (λ (xs : List (List ℕ)). IsWatched t.base disk t.given [] xs []) stale (subst (λ (xs : List (List ℕ)). IsWatched t.base disk t.given [] t.stale xs) later t.watched) in
+      linked_now t.base disk t.given watched.to_error
+
+  pub kept_at : IsKeptOn n t.base (shared_by h) t.given t.commands (own n touches)
+  kept_at = hosted_on_is_kept n t.base (shared_by h) t.given t.commands (own n touches) below t.served.hosted
+
+  pub same_told : ledger t.given ≡ ledger disk
+  same_told = both_tell plan sectors t.base disk t.given running.size running.run linked_at kept_at.careful
+
+module _ (n : ℕ) (below : n < 15) (plan : DiskPlan) (sectors : ℕ) (h : Host) (disk : List Happening) (floors : ℕ → ℕ) (touches : Touches)
     (running : IsRunning plan sectors disk touches h) (owes : OwesNothing (ledger disk)) (fed : payload (context_of h.port.slots n) ≡ None)
     (faultless : cause_of h.port.errors n ≡ None) where
-  own_at : (slot : ℕ) (issue : Issue) → slot < 32 → issue_at h.port.slots slot ≡ Some issue → issue.dev ≡ n → own_issue (view_of n h.port).slots slot ≡ Some issue
+  pub own_at : (slot : ℕ) (issue : Issue) → slot < 32 → issue_at h.port.slots slot ≡ Some issue → issue.dev ≡ n → own_issue (view_of n h.port).slots slot ≡ Some issue
   own_at slot issue low there its =
       let long : length h.port.slots.issues ≡ 32 = running.on.sound.ruled.table.slots in
       subst (λ (d : ℕ). own_issue (view_of d h.port).slots slot ≡ Some issue) its (own_here slot h.port.slots issue (omega (arith, long, low)) there)
 
   together_none : IsTogether n h disk [] [] floors touches → NoneIsOut n h.port
   together_none t slot issue low there its queued = not_sent issue.sent (λ sent.
-      let past : History = own n touches in
-      let stale : t.stale ≡ [] = none_first t.stale t.later t.up_is in
-      let later : t.later ≡ [] = none_last t.stale t.later t.up_is in
-      let watched : IsWatched t.base disk t.given [] [] [] =
-      subst (λ (xs : List (List ℕ)). IsWatched t.base disk t.given [] xs []) stale (subst (λ (xs : List (List ℕ)). IsWatched t.base disk t.given [] t.stale xs) later t.watched) in
-      let kept : IsKeptOn n t.base (shared_by h) t.given t.commands (own n touches) = hosted_on_is_kept n t.base (shared_by h) t.given t.commands (own n touches) below t.served.hosted in
-      let same : ledger t.given ≡ ledger disk =
-      both_tell plan sectors t.base disk t.given running.size running.run (linked_now t.base disk t.given watched.to_error) kept.careful in
+      let kept : IsKeptOn n t.base (shared_by h) t.given t.commands (own n touches) = kept_at n below plan sectors h disk floors touches running t in
+      let same : ledger t.given ≡ ledger disk = same_told n below plan sectors h disk floors touches running t in
       let o : IsOpen n (shared_by h) (own n touches) (ledger t.given) = hosted_is_open n t.base below (shared_by h) t.given t.commands (own n touches) t.served.hosted in
       let here : own_issue (view_of n h.port).slots slot ≡ Some issue = own_at slot issue low there its in
       let w : WasIssued slot issue (own n touches) =
       was_issued slot issue (own n touches) (issued slot (own n touches)) refl (kept.joined.history.issued slot ∙ ap (option_map work_of_issue) here) in
       o.taken slot w.transfer w.there (ap (λ (x : Work). is_queued x.kind) w.work ∙ queued) (kept.joined.sent slot issue here ∙ sent)
       (all_free n t.commands (shared_by h) (own n touches) (ledger t.given) kept.joined o.asked fed (subst OwesNothing (sym same) owes) slot))
-    where
-      none_first : (xs ys : List (List ℕ)) → [] ≡ xs ++ ys → xs ≡ []
-      none_first [] ys is = refl
-      none_first (x ∷ xs) ys is = cc is
 
-      none_last : (xs ys : List (List ℕ)) → [] ≡ xs ++ ys → ys ≡ []
-      none_last [] ys is = sym is
-      none_last (x ∷ xs) ys is = cc is
+  -- nor does the port show BSY or DRQ, once the driver takes the disk to be ready
+  pub together_idle : DisksSendTheirs → GivenFits → device_at h.driver.plan n ≡ Ready → IsTogether n h disk [] [] floors touches → IsOccupied n h.port → ⊥
+  together_idle theirs fits ready t occupied =
+      let linked : IsLinkedOn t.base disk t.given [] [] [] = linked_at n below plan sectors h disk floors touches running t in
+      let same : ledger t.given ≡ ledger disk = same_told n below plan sectors h disk floors touches running t in
+      let heard : AreHeard t.base t.given = are_heard plan sectors running.size theirs t.base disk t.given [] [] [] linked running.run in
+      let c : IsCalmOn n t.base below t.owes fits (shared_by h) t.given (own n touches) =
+      calm_on n t.base below t.owes fits (shared_by h) t.given t.commands (own n touches) t.served.hosted heard in
+      elim c.file [
+        | inl begun ↦ t.unready begun ready
+        | inr calm ↦ elim occupied [
+          | inl busy ↦ calm.busy busy (ap (λ (k : Ledger). k.awaited) same ∙ owes.awaited)
+          | inr wants ↦ (calm.wants wants).pages (ap (λ (k : Ledger). k.pages) same ∙ owes.pages)
+        ]
+      ]
 
   apart_none : IsSetAside n h disk [] [] → NoneIsOut n h.port
   apart_none a slot issue low there its queued =

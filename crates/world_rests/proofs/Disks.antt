@@ -1,5 +1,5 @@
--- For `rested_disks_have_done`. In a world at rest nothing is on its way between a disk and its host.
-use Rattle.std.proofs.Common.{◌≡◌, ℕ, Bool, true, IsTrue, List, [], ◌∷◌, ◌++◌, refl, sym, ap, subst, ◌∙◌, Option, Some, None, arith}
+-- For `rested_disks_have_done` and `rested_disks_are_left`. In a world at rest nothing is on its way between a disk and its host.
+use Rattle.std.proofs.Common.{◌≡◌, ℕ, ◌<◌, Bool, true, IsTrue, List, [], ◌∷◌, ◌++◌, length, refl, sym, ap, subst, ◌∙◌, Option, Some, None, arith}
 use Rattle.std.specs.Prelude.{if◌then◌else◌, map, slice_get, IsSomeAnd, MatchOption}
 use Rattle.std.specs.List.{flat_map}
 use Rattle.std.specs.Option.{option_to_list}
@@ -11,28 +11,38 @@ use Rattle.disk_model.specs.declared.unit.Unit.TheVariants.{Disk, Scripted}
 use Rattle.disk_model.specs.Histories.{DiskOf, Happening, Plan}
 use Rattle.disk_model.specs.Laws.{OwesNothing}
 use Rattle.disk_model.specs.Ledger.{IsSize, ledger}
+use Rattle.disk_simulation.specs.Files.{DisksSendTheirs}
+use Rattle.hba_laws.specs.Client.{Touches}
 use Rattle.hba_driver.specs.declared.mode.Mode.TheVariants.{Switching}
-use Rattle.disk_recovery.specs.Ends.{AreEnds}
+use Rattle.hba_driver.specs.declared.plan.Device.TheVariants.{Ready}
+use Rattle.hba_driver.specs.Drivers.{device_at}
+use Rattle.disk_recovery.specs.Ends.{AreEnds, IsRunning, IsTogether}
 use Rattle.pm_world.specs.Attached.{Attached, Modelled, Own}
 use Rattle.pm_world.specs.DevicePaths.{ReachedAreOrderly}
-use Rattle.pm_world.specs.Disks.{disk_history}
+use Rattle.pm_world.specs.Disks.{DiskRun, HasDisk, disk_history}
 use Rattle.pm_world.specs.Downward.{falling_to, of_connection, on_down_link}
 use Rattle.pm_world.specs.Ends.{EndsMeet, HaveMet, IsDiskWith}
 use Rattle.pm_world.specs.PathEnds.{IsThere, descending_on, for_port}
-use Rattle.pm_world.specs.Places.{Place, Places, new_world}
+use Rattle.pm_world.specs.Places.{Place, Places, is_config, new_world}
 use Rattle.pm_world.specs.Rules.{Run}
 use Rattle.pm_world.specs.Runs.{IsReached}
 use Rattle.pm_world.specs.Traffic.{all_marked, of_conn, on_link, stamped, transit}
 use Rattle.pm_world.specs.declared.link.Change.{Change}
+use Rattle.pm_world.specs.declared.step.Config.{Config}
 use Rattle.pm_world.specs.declared.step.Answer.{Answer}
 use Rattle.pm_world.specs.declared.step.Answer.TheVariants as answer
 use Rattle.pm_world.specs.declared.step.Step.{Step}
 use Rattle.pm_world.specs.declared.step.Step.TheVariants as step
 use Rattle.world_rests.specs.Laws.{RestedHaveDone}
-use Rattle.world_rests.specs.Left.{NoneIsOut, RestedDisksHaveDone}
-use Rattle.world_rests.specs.Rests.{HasAnswered, NothingMoves, PortRests}
-use Rattle.world_rests.proofs.Answered.{none_is_out}
-use Rattle.world_rests.proofs.Ready.{none_is_left}
+use Rattle.world_rests.specs.Left.{IsOccupied, NoneIsOut, RestedDisksHaveDone}
+use Rattle.world_rests.specs.Out.{DiskIsFree, NothingIsOut, RestedDisksAreLeft}
+use Rattle.world_rests.specs.Rests.{HasAnswered, IsAtRest, NothingMoves, PortRests}
+use Rattle.world_rests.specs.Waits.{HostWaits}
+use Rattle.world_rests.proofs.Answered.{none_is_out, together_idle}
+use Rattle.world_rests.proofs.Calm.{GivenFits}
+use Rattle.world_rests.proofs.Freed.{is_free}
+use Rattle.world_rests.proofs.NothingOut.{nothing_is_out}
+use Rattle.world_rests.proofs.Ready.{none_is_left, none_is_shown}
 use Rattle.world_rests.proofs.Comings.{Of, all, known, known_reached}
 
 run_both : (first old new : Places) (steps : List Step) (answers : List Answer) (more : List Step) (told : List Answer) → Run first steps answers old → Run old more told new
@@ -99,10 +109,22 @@ module _ (n c : ℕ) (now : Places) (here : IsHere n c now) (moves : NothingMove
       ∙ ap (λ (o : Option Place). all_marked n (of_conn c (on_link o))) here.at
       ∙ ap (λ (fs : List Stamped). all_marked n (of_conn c fs)) passed.0
 
--- ---- the law
+-- ---- both ends of the disk's link
 
-pub rested_disks_have_done : RestedHaveDone → ReachedAreOrderly → EndsMeet → RestedDisksHaveDone
-rested_disks_have_done have_done orderly meet config units n sectors plan past fits below disk now d there opens rests_now =
+-- The disk did all this, and owes nothing. Nothing is on its way between it and its host, and the host waits.
+record HasRested (n : ℕ) (plan : DiskPlan) (sectors : ℕ) (now : Places) : Type 0 where
+  history : List Happening
+  floors : ℕ → ℕ
+  touches : Touches
+  running : IsRunning plan sectors history touches now.host
+  owes : OwesNothing (ledger history)
+  ends : AreEnds n now.host history [] [] floors touches
+  host : HostWaits now.host
+
+has_rested : RestedHaveDone → ReachedAreOrderly → EndsMeet → (config : Config) (units : List Attached) (n sectors : ℕ) (plan : DiskPlan) (past : List Happening)
+    → is_config config (length units) ≡ true → n < 15 → HasDisk units n plan sectors past
+    → (now : Places) (d : DiskRun config units n now) → IsThere n d.conn now → forwards now.multiplier.registers n ≡ true → IsAtRest now → HasRested n plan sectors now
+has_rested have_done orderly meet config units n sectors plan past fits below disk now d there opens rests_now =
     let steps : List Step = d.first ++ step.Came n ∷ d.steps in
     let answers : List Answer = d.told ++ answer.Came n d.conn ∷ d.answers in
     let run : Run (new_world config units) (d.first ++ step.Came n ∷ d.steps) (d.told ++ answer.Came n d.conn ∷ d.answers) now =
@@ -117,21 +139,46 @@ rested_disks_have_done have_done orderly meet config units n sectors plan past f
     ap (λ (cs : List Change). (all cs (known (port_at now.multiplier n))).0) (sym rests.presence) ∙ of.present
     ∙ ap (λ (b : Bool). if b then Some here.place.conn else None) here.plugged ∙ ap (λ (c : ℕ). Some c) here.conn in
     let met : HaveMet config units n sectors now d plan past = meet config units n sectors plan past fits below disk now d there present opens in
-    let history : List Happening = disk_history config units n now d past in
     let down : met.down ≡ [] = sym met.exact ∙ none_descends n d.conn now here done.0 opens in
     let up : met.up ≡ [] = none_marked n met.up (sym (none_rises n d.conn now here done.0 opens) ∙ met.path.above) in
     let its : IsDiskWith plan sectors (disk_history config units n now d past) here.place.unit =
     subst (λ (o : Option Place). IsSomeAnd o (λ place. IsDiskWith plan sectors (disk_history config units n now d past) place.unit)) here.at met.disk in
-    let owes : OwesNothing (ledger (disk_history config units n now d past)) =
-    answers_all plan sectors (disk_history config units n now d past) here.place.unit met.running.size its (rests.answered on opens) in
-    let ends : AreEnds n now.host (disk_history config units n now d past) [] [] met.floors met.touches =
-    subst (λ (xs : List (List ℕ)). AreEnds n now.host (disk_history config units n now d past) xs [] met.floors met.touches) down
-    (subst (λ (xs : List (List ℕ)). AreEnds n now.host (disk_history config units n now d past) met.down xs met.floors met.touches) up met.ends) in
+    record {
+      history = disk_history config units n now d past;
+      floors = met.floors;
+      touches = met.touches;
+      running = met.running;
+      owes = answers_all plan sectors (disk_history config units n now d past) here.place.unit met.running.size its (rests.answered on opens);
+      ends =
+          subst (λ (xs : List (List ℕ)). AreEnds n now.host (disk_history config units n now d past) xs [] met.floors met.touches) down
+          (subst (λ (xs : List (List ℕ)). AreEnds n now.host (disk_history config units n now d past) met.down xs met.floors met.touches) up met.ends);
+      host = done.1;
+    }
+
+-- ---- the laws
+
+pub rested_disks_have_done : DisksSendTheirs → GivenFits → RestedHaveDone → ReachedAreOrderly → EndsMeet → RestedDisksHaveDone
+rested_disks_have_done theirs fit have_done orderly meet config units n sectors plan past fits below disk now d there opens rests_now =
+    let r : HasRested n plan sectors now = has_rested have_done orderly meet config units n sectors plan past fits below disk now d there opens rests_now in
     let out : NoneIsOut n now.host.port =
-    none_is_out n below plan sectors now.host (disk_history config units n now d past) met.floors met.touches met.running owes (done.1.port.fed n (omega (arith, below)))
-    (done.1.port.faultless n) ends in
+    none_is_out n below plan sectors now.host r.history r.floors r.touches r.running r.owes (r.host.port.fed n (omega (arith, below))) (r.host.port.faultless n) r.ends in
+    let idle : device_at now.host.driver.plan n ≡ Ready → IsTogether n now.host r.history [] [] r.floors r.touches → IsOccupied n now.host.port → ⊥ =
+    λ ready. together_idle n below plan sectors now.host r.history r.floors r.touches r.running r.owes (r.host.port.fed n (omega (arith, below))) (r.host.port.faultless n) theirs fit ready in
     record {
       out = out;
-      left = λ ready idle.
-          none_is_left n below plan sectors now.host (disk_history config units n now d past) met.floors met.touches met.running done.1.port done.1.driver out ready ends idle;
+      idle = λ ready. none_is_shown n below plan sectors now.host r.history r.floors r.touches r.running r.host.port r.host.driver out ready (idle ready) r.ends;
+      left = λ ready. none_is_left n below plan sectors now.host r.history r.floors r.touches r.running r.host.port r.host.driver out ready (idle ready) r.ends;
+    }
+
+pub rested_disks_are_left : RestedHaveDone → ReachedAreOrderly → EndsMeet → RestedDisksHaveDone → RestedDisksAreLeft
+rested_disks_are_left have_done orderly meet disks_have_done config units n sectors plan past fits below disk now d there opens rests_now =
+    let r : HasRested n plan sectors now = has_rested have_done orderly meet config units n sectors plan past fits below disk now d there opens rests_now in
+    let out : NothingIsOut n now.host.port =
+    nothing_is_out n below plan sectors now.host r.history r.floors r.touches r.running r.owes (r.host.port.fed n (omega (arith, below))) (r.host.port.faultless n) r.ends in
+    let free : (IsOccupied n now.host.port → ⊥) → DiskIsFree n now.host =
+    λ idle. is_free n below plan sectors now.host r.history r.floors r.touches r.running r.owes r.host.port r.host.driver out idle r.ends in
+    record {
+      out = out;
+      free = free;
+      ready = λ ready. free ((disks_have_done config units n sectors plan past fits below disk now d there opens rests_now).idle ready);
     }

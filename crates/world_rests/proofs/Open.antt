@@ -94,10 +94,10 @@ not_ignored host new frame report true is takes heard =
     absurd (true≢false (sym (ap (λ (r : TakeReport). r.ignored) said) ∙ heard))
 
 module _ (host new : Host) (frame : List ℕ) (report : TakeReport) (well : IsTakenWell host frame report new) where
-  heard_it : ignores (port_of frame) host.port frame ≡ false
+  pub heard_it : ignores (port_of frame) host.port frame ≡ false
   heard_it = not_ignored host new frame report (ignores (port_of frame) host.port frame) refl well.takes well.heard
 
-  heard_fine : (heard_now host.port host.memory (port_of frame) (admitted (port_of frame) (seen frame))).fault ≡ None
+  pub heard_fine : (heard_now host.port host.memory (port_of frame) (admitted (port_of frame) (seen frame))).fault ≡ None
   unfolding heard_report
   heard_fine =
       let reports = (well.takes.heard heard_it).reports in
@@ -157,10 +157,10 @@ module _ (n value : ℕ) (host new : Host) (commands next : ℕ → SlotCommand)
       ap (λ (b : Bool). if b then view_issued host.port.registers host.memory value (view_of n host.port) else view_of n host.port)
       (eq-eqb n (aimed host.port.registers host.memory.structure value) (sym chosen))
 
-  view_is : view_of n new.port ≡ view_issued host.port.registers host.memory value (view_of n host.port)
+  pub view_is : view_of n new.port ≡ view_issued host.port.registers host.memory value (view_of n host.port)
   view_is = does.1.views n (omega (arith, below)) ∙ view_issued_is
 
-  stood : (s : ℕ) (i : Issue) → i.sent ≡ true → own_issue (view_of n new.port).slots s ≡ Some i → own_issue (view_of n host.port).slots s ≡ Some i
+  pub stood : (s : ℕ) (i : Issue) → i.sent ≡ true → own_issue (view_of n new.port).slots s ≡ Some i → own_issue (view_of n host.port).slots s ≡ Some i
   stood s i sent there =
       let v : DeviceView = view_of n host.port in
       let dev : ℕ = aimed host.port.registers host.memory.structure value in
@@ -224,10 +224,10 @@ is_sending n slot host command sound goes =
 module _ (n slot : ℕ) (host new : Host) (frame : Stamped) (command : issued_command.Command) (f : List ℕ) (t : Transfer) (commands : ℕ → SlotCommand) (past : History) (k : Ledger)
     (sound : IsHost host) (does : Does host (Gave (Some frame)) new) (out : outgoing host.port host.memory ≡ Order n slot command) (here : issued slot past ≡ Some t)
     (cfis : seen command.cfis ≡ Ok (view.RegH2D f)) (joined : IsJoined n commands host past k) where
-  sends : Gives (Order n slot command) host.port host.memory (Some frame) new.port
+  pub sends : Gives (Order n slot command) host.port host.memory (Some frame) new.port
   sends = subst (λ (o : Outgoing). Gives o host.port host.memory (Some frame) new.port) out does.0
 
-  shown : seen frame.bytes ≡ Ok (view.RegH2D f)
+  pub shown : seen frame.bytes ≡ Ok (view.RegH2D f)
   shown = ap (λ (x : Stamped). seen x.bytes) sends.frame_is ∙ cfis
 
   going : IsSending n slot host
@@ -291,13 +291,13 @@ module _ (n slot : ℕ) (new : Host) (commands : ℕ → SlotCommand) (past : Hi
 
 -- ---- Data is sent
 
-record IsDue (n len : ℕ) (host : Host) : Type 0 where
-  context : Context
-  now : (view_of n host.port).slots.context ≡ Some context
-  asked : context.activated ≡ true
-  long : len ≡ payload_len context
+pub record IsDue (n len : ℕ) (host : Host) : Type 0 where
+  pub context : Context
+  pub now : (view_of n host.port).slots.context ≡ Some context
+  pub asked : context.activated ≡ true
+  pub long : len ≡ payload_len context
 
-due_out : (n offset len : ℕ) (host : Host) (command : issued_command.Command) → GoesOut host.port (Data n offset len command) → IsDue n len host
+pub due_out : (n offset len : ℕ) (host : Host) (command : issued_command.Command) → GoesOut host.port (Data n offset len command) → IsDue n len host
 unfolding GoesOut
 due_out n offset len host command goes = record { context = goes.0; now = goes.1; asked = goes.2; long = goes.3 }
 
@@ -312,8 +312,16 @@ module _ (n offset len : ℕ) (host new : Host) (frame : Stamped) (command : iss
   abbrev bytes : List ℕ
   bytes = gathered (prds_of host.memory command) offset len host.memory.client
 
-  data_open : IsOpen n host past k → IsOpen n new (event.Carried bytes ∷ past) (listens k (Received frame.bytes))
-  data_open o =
+  -- what the ledger hears of it, and which context it is of
+  pub record IsToldDown : Type 0 where
+    pub context : Context
+    pub there : (view_of n host.port).slots.context ≡ Some context
+    pub asks : IsAskedBy context k
+    pub long : length bytes ≡ asks.current.count
+    pub later : listens k (Received frame.bytes) ≡ takes_data k k.moving bytes
+
+  pub told_down : IsToldDown
+  told_down =
       let w : DeviceView = view_of n host.port in
       let owns : IsOwn n w.slots = is_own n host.port.slots sound.slots in
       let due : IsDue n len host = due_out n offset len host command (subst (GoesOut host.port) out (goes_out host.port host.memory)) in
@@ -331,12 +339,16 @@ module _ (n offset len : ℕ) (host new : Host) (frame : Stamped) (command : iss
       is_payload_by bytes (omega (arith, all, left_is, some, dwords)) (omega (arith, all, short)) (omega (arith, all, left_is, dwords)) in
       let frame_is : frame.bytes ≡ data_fis n bytes = ap (λ (x : Stamped). x.bytes) sends.frame_is in
       let shown : seen frame.bytes ≡ Ok (view.Payload (data_fis n bytes)) = ap seen frame_is ∙ payload_seen n bytes payload in
-      let later : listens k (Received frame.bytes) ≡ takes_data k k.moving bytes = ap (listens_down k) shown in
-      subst (IsOpen n new (event.Carried bytes ∷ past)) (sym later) (record {
+      record { context = due.context; there = due.now; asks = a; long = all; later = ap (listens_down k) shown }
+
+  data_open : IsOpen n host past k → IsOpen n new (event.Carried bytes ∷ past) (listens k (Received frame.bytes))
+  data_open o =
+      let d : IsToldDown = told_down in
+      subst (IsOpen n new (event.Carried bytes ∷ past)) (sym d.later) (record {
         taken = taken_down past k o.taken bytes;
         asked = λ v c now set there.
-            takes_quiet k a.current v bytes a.asked (eq-eqb (length bytes) a.current.count all)
-            (sym (ap (λ (m : Option Moving). (takes_data k m bytes).moving) a.moving) ∙ now) set;
+            takes_quiet k d.asks.current v bytes d.asks.asked (eq-eqb (length bytes) d.asks.current.count d.long)
+            (sym (ap (λ (m : Option Moving). (takes_data k m bytes).moving) d.asks.moving) ∙ now) set;
       })
 
 -- ---- all of it
@@ -366,7 +378,7 @@ module _ (n : ℕ) (base : List Happening) (below : n < 15) where
 
   pub hosted_is_open : (host : Host) (given : List Happening) (commands : ℕ → SlotCommand) (past : History) → IsHostedOn n base host given commands past → IsOpen n host past (ledger given)
   hosted_is_open host given commands past (anew.opens h c p opening) = opens n h c p (ledger base) opening
-  hosted_is_open host given commands past (anew.stays old new g c p same hosted) =
+  hosted_is_open host given commands past (anew.stays old new g c p same whole hosted) =
       let before : IsOpen n old p (ledger g) = hosted_is_open old g c p hosted in
       record { taken = before.taken; asked = λ v d now set there. before.asked v d now set (sym (ap (λ (own : DeviceSlots). own.context) same.slots) ∙ there) }
   hosted_is_open host given commands past (anew.signs old new bytes report g c p sound plain framed from_n well right hosted) =

@@ -63,27 +63,27 @@ use Rattle.world_rests.proofs.Well.{sized}
 
 -- ---- what is on its way
 
-abbrev Among : Stamped → List Stamped → Type 0
+abbrev pub Among : Stamped → List Stamped → Type 0
 Among f [] = ⊥
 Among f (x ∷ xs) = (x ≡ f) ⊎ Among f xs
 
-among_more : (f g : Stamped) (xs : List Stamped) → Among f xs → Among f (xs ++ g ∷ [])
+pub among_more : (f g : Stamped) (xs : List Stamped) → Among f xs → Among f (xs ++ g ∷ [])
 among_more f g [] is = absurd is
 among_more f g (x ∷ xs) (inl same) = inl same
 among_more f g (x ∷ xs) (inr rest) = inr (among_more f g xs rest)
 
-among_last : (f : Stamped) (xs : List Stamped) → Among f (xs ++ f ∷ [])
+pub among_last : (f : Stamped) (xs : List Stamped) → Among f (xs ++ f ∷ [])
 among_last f [] = inl refl
 among_last f (x ∷ xs) = inr (among_last f xs)
 
 -- an answer of the control port that ends a command
-record IsReply (f : Stamped) : Type 0 where
-  port : f.stamp.port ≡ control_port
-  from : port_of f.bytes ≡ 15
-  viewed : seen f.bytes ≡ Ok (view.RegD2H f.bytes)
-  done : is_busy (field D2h Status f.bytes) ≡ false
+pub record IsReply (f : Stamped) : Type 0 where
+  pub port : f.stamp.port ≡ control_port
+  pub from : port_of f.bytes ≡ 15
+  pub viewed : seen f.bytes ≡ Ok (view.RegD2H f.bytes)
+  pub done : is_busy (field D2h Status f.bytes) ≡ false
 
-data IsOwed (down : List Stamped) (waits : Option Stamped) (up : List Stamped) : Type 0 where
+pub data IsOwed (down : List Stamped) (waits : Option Stamped) (up : List Stamped) : Type 0 where
   Falls : (f : Stamped) → Among f down → pm_port f ≡ control_port → IsCommand f.bytes → IsOwed down waits up
   Waits : (f : Stamped) → waits ≡ Some f → IsReply f → IsOwed down waits up
   Rises : (f : Stamped) → Among f up → IsReply f → IsOwed down waits up
@@ -244,7 +244,7 @@ none_up [] f none there r = there
 none_up (x ∷ frames) f none (inl same) r = true≢false (sym (reply_is f r) ∙ ap is_reply (sym same) ∙ none.0)
 none_up (x ∷ frames) f none (inr rest) r = none_up frames f none.1 rest r
 
-none_owed : (down : List Stamped) (waits : Option Stamped) (up : List Stamped) → NoneDown down → waits ≡ None → NoneUp up → IsOwed down waits up → ⊥
+pub none_owed : (down : List Stamped) (waits : Option Stamped) (up : List Stamped) → NoneDown down → waits ≡ None → NoneUp up → IsOwed down waits up → ⊥
 none_owed down waits up none quiet clean (Falls f there own command) = none_down down f none there own
 none_owed down waits up none quiet clean (Waits f there reply) = absurd (let wrong : None ≡ Some f = sym quiet ∙ there in cc)
 none_owed down waits up none quiet clean (Rises f there reply) = none_up up f clean there reply
@@ -270,15 +270,15 @@ awaits_at other h down waits up at line a owed = absurd (none_owed down waits up
 
 -- ---- a frame that comes to the host
 
-bits_view : (v : DeviceView) (sound : Bool) (bytes : List ℕ) → heard_view 15 v sound (Some (view.SetBits bytes)) ≡ view_after_hearing v (heard_bits v.slots v.state (field Bits Status bytes) (field Bits Error bytes) (field Bits SActive bytes))
+pub bits_view : (v : DeviceView) (sound : Bool) (bytes : List ℕ) → heard_view 15 v sound (Some (view.SetBits bytes)) ≡ view_after_hearing v (heard_bits v.slots v.state (field Bits Status bytes) (field Bits Error bytes) (field Bits SActive bytes))
 unfolding heard_fis
 bits_view v sound bytes = refl
 
-register_view : (v : DeviceView) (sound : Bool) (bytes : List ℕ) → heard_view 15 v sound (Some (view.RegD2H bytes)) ≡ view_after_hearing v (signing bytes (heard_register v.slots v.state (field D2h Status bytes) (field D2h Error bytes)))
+pub register_view : (v : DeviceView) (sound : Bool) (bytes : List ℕ) → heard_view 15 v sound (Some (view.RegD2H bytes)) ≡ view_after_hearing v (signing bytes (heard_register v.slots v.state (field D2h Status bytes) (field D2h Error bytes)))
 unfolding heard_fis
 register_view v sound bytes = refl
 
-over_none : (on : Bool) (v : DeviceView) (fis : Result Fis FisFault) (dev : ℕ) → dev ≡ 15 → passes_over on dev v fis ≡ false
+pub over_none : (on : Bool) (v : DeviceView) (fis : Result Fis FisFault) (dev : ℕ) → dev ≡ 15 → passes_over on dev v fis ≡ false
 over_none true v fis dev own = refl
 over_none false v fis dev own = ap (λ (b : Bool). not b && is_of_transfer fis && owns_none v.slots) (eq-eqb dev 15 own)
 
@@ -310,7 +310,7 @@ is_heard h g frame own a w =
         runs_on h.port.registers.started (is_none h.port.errors.port) (g.way.sound.registers.starts w.opened (omega (arith, up))) (ap is_none g.calm.faultless)
 
 -- a port that hears a frame of the control port has no fault of it
-well_heard : (p : Port) (frame : List ℕ) → port_of frame ≡ 15 → ignores (port_of frame) p frame ≡ false → (view_of 15 p).fault ≡ None
+pub well_heard : (p : Port) (frame : List ℕ) → port_of frame ≡ 15 → ignores (port_of frame) p frame ≡ false → (view_of 15 p).fault ≡ None
 well_heard p frame own heard = by_fault (view_of 15 p).fault refl
   where
     quiet : (a running b c : Bool) → (a || (not running || true || c)) ≡ false → ⊥
@@ -410,10 +410,10 @@ module _ (old new : Host) (g : IsGoing old) (f : Stamped) (report : TakeReport) 
 
 -- ---- a world
 
-record IsOwing (now : Places) : Type 0 where
-  going : IsGoing now.host
-  their : AreOfTheir now.host.port
-  owed : IsAsking (view_of 15 now.host.port) → IsOwed now.downward.frames now.multiplier.answer now.upward.frames
+pub record IsOwing (now : Places) : Type 0 where
+  pub going : IsGoing now.host
+  pub their : AreOfTheir now.host.port
+  pub owed : IsAsking (view_of 15 now.host.port) → IsOwed now.downward.frames now.multiplier.answer now.upward.frames
 
 -- the host and what is on its way are as they were
 record IsKept (old new : Places) : Type 0 where
@@ -640,10 +640,13 @@ module _ (lines : OneOrderAtATime) (ports : PortsGoOn) (config : Config) (units 
     owed = λ a. absurd (let wrong = a.there in cc);
   }
 
+  pub owing_in : (steps : List Step) (answers : List Answer) (now : Places) → Run (new_world config units) steps answers now → IsOwing now
+  owing_in steps answers now run = run_owing [] [] (new_world config units) refl opening_owing steps answers now run
+
   -- where nothing is on its way between host and control port, no command of it is unanswered
   pub none_asking : (steps : List Step) (answers : List Answer) (now : Places) → Run (new_world config units) steps answers now → now.downward.frames ≡ [] → now.multiplier.answer ≡ None → now.upward.frames ≡ []
       → IsAsking (view_of 15 now.host.port) → ⊥
   none_asking steps answers now run down waits up a =
-      let is : IsOwing now = run_owing [] [] (new_world config units) refl opening_owing steps answers now run in
+      let is : IsOwing now = owing_in steps answers now run in
       none_owed [] None [] tt refl tt
       (subst (λ (x : List Stamped). IsOwed [] None x) up (subst (λ (x : Option Stamped). IsOwed [] x now.upward.frames) waits (subst (λ (x : List Stamped). IsOwed x now.multiplier.answer now.upward.frames) down (is.owed a))))

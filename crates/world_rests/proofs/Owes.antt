@@ -13,7 +13,7 @@ use Rattle.pm_world.specs.Attached.{Attached, IsSilentAttached, Modelled}
 use Rattle.world_rests.specs.Rests.{HasAnswered}
 use Rattle.world_rests.proofs.Shown.{HasChunks, no_turn, turn_shown}
 
-has_chunks : (plan : DiskPlan) (sectors : ℕ) → IsSize plan sectors → HasChunks plan
+pub has_chunks : (plan : DiskPlan) (sectors : ℕ) → IsSize plan sectors → HasChunks plan
 has_chunks plan sectors size =
     let some : Bool = nat_le 1 sectors in
     let few : Bool = nat_le sectors (most_sectors plan.profile) in

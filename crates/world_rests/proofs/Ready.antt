@@ -1,4 +1,4 @@
--- For `rested_disks_have_done`. Of a disk that the driver takes to be ready no read or write waits or is issued, once its port shows
+-- For `rested_disks_have_done`. Of a disk that the driver takes to be ready no read or write waits or is issued, since its port shows
 -- neither BSY nor DRQ.
 use Rattle.std.proofs.Common.{◌≡◌, ℕ, ◌<◌, ◌≤◌, ◌==◌, Bool, true, false, List, [], max, bit_or, length, refl, sym, ap, subst, ◌∙◌, inl, inr, Option, Some, None, arith}
 use Rattle.std.specs.Prelude.{◌||◌, if◌then◌else◌, is_some, not}
@@ -43,7 +43,7 @@ use Rattle.hba_driver.specs.Sights.{px_ci, px_sact, shown, sight_of}
 use Rattle.hba_driver.specs.Slot30.{Asks, Cleared, Clears, Faulty, IsPlan30, LogSent, Off, On, Sets, Stage30, is_faulty}
 use Rattle.hba_driver.specs.Tended.{Awaits, Fine, Identifies, IsLiveAt, IsTendedBy, Logs, Releases, Spoilt}
 use Rattle.hba_driver.proofs.Door.{issued_live, sight_is, told_of}
-use Rattle.disk_recovery.specs.Ends.{Apart, AreEnds, IsRunning, IsTogether, Together}
+use Rattle.disk_recovery.specs.Ends.{Apart, AreEnds, IsRunning, IsSetAside, IsTogether, Together}
 use Rattle.disk_recovery.proofs.Door.{request_kind}
 use Rattle.world_rests.specs.Left.{IsOccupied, NoneIsOut, NoneIsLeft}
 use Rattle.world_rests.specs.Sent.{HasOther, HasQueued, Holds, InReset, IsBusy, PortWaits, WantsData}
@@ -82,7 +82,7 @@ none_shown port memory s low unarmed none =
     ap (λ (m : ℕ). has_bit m s) (sact_is port) ∙ or_neither port.registers.armed (slots_where is_queued_issue port.slots) s armed queued in
     or_neither (shown port px_ci) (shown port px_sact) s unanswered second
 
-stands_at : (h : Host) (s : ℕ) → IsSoundHost h → s < 32 → h.port.registers.armed ≡ 0 → has_bit (sight_in h).issued s ≡ true → (i : Issue) × (issue_at h.port.slots s ≡ Some i)
+pub stands_at : (h : Host) (s : ℕ) → IsSoundHost h → s < 32 → h.port.registers.armed ≡ 0 → has_bit (sight_in h).issued s ≡ true → (i : Issue) × (issue_at h.port.slots s ≡ Some i)
 stands_at h s sound low unarmed seen = by_issue (issue_at h.port.slots s) refl
   where
     by_issue : (o : Option Issue) → issue_at h.port.slots s ≡ o → (i : Issue) × (o ≡ Some i)
@@ -92,7 +92,7 @@ stands_at h s sound low unarmed seen = by_issue (issue_at h.port.slots s) refl
 
 -- ---- kinds
 
-not_dma : (kind : Kind) → moved.is_queued kind ≡ true → is_dma kind ≡ true → ⊥
+pub not_dma : (kind : Kind) → moved.is_queued kind ≡ true → is_dma kind ≡ true → ⊥
 not_dma QueuedRead queued dma = false≢true dma
 not_dma QueuedWrite queued dma = false≢true dma
 not_dma other queued dma = false≢true queued
@@ -104,7 +104,7 @@ flushes work.Flush plain = refl
 
 -- ---- a ready device
 
-own_dev : (n s : ℕ) (slots : Slots) (j : Issue) → own_issue (slots_of n slots) s ≡ Some j → s < length slots.issues → j.dev ≡ n
+pub own_dev : (n s : ℕ) (slots : Slots) (j : Issue) → own_issue (slots_of n slots) s ≡ Some j → s < length slots.issues → j.dev ≡ n
 own_dev n s slots j here lt = by_owner (issue_at slots s) (sym (own_at n slots s lt) ∙ here)
   where
     by_test : (k : Issue) (b : Bool) → (k.dev == n) ≡ b → (if b then Some k else None) ≡ Some j → j.dev ≡ n
@@ -262,8 +262,16 @@ module _ (n : ℕ) (below : n < 15) (plan : DiskPlan) (sectors : ℕ) (h : Host)
   recovers Off well (inl at) = let wrong = sym ready ∙ at.device in absurd (cc wrong)
   recovers Off well (inr at) = let wrong = sym ready ∙ at.device in absurd (cc wrong)
 
-  pub none_is_left : AreEnds n h disk [] [] floors touches → (IsOccupied n h.port → ⊥) → NoneIsLeft n h
-  none_is_left (Together t) idle = none_left t idle
-  none_is_left (Apart a are) idle =
+  apart_never : IsSetAside n h disk [] [] → ⊥
+  apart_never a =
       let unfaulted : is_faulty a.stage ≡ false = sym a.at.fault ∙ ap is_some (port.faultless n) in
-      absurd (recovers a.stage unfaulted (a.at.apart unfaulted).plan)
+      recovers a.stage unfaulted (a.at.apart unfaulted).plan
+
+  module _ (idle : IsTogether n h disk [] [] floors touches → IsOccupied n h.port → ⊥) where
+    pub none_is_shown : AreEnds n h disk [] [] floors touches → IsOccupied n h.port → ⊥
+    none_is_shown (Together t) = idle t
+    none_is_shown (Apart a are) = λ occupied. apart_never a
+
+    pub none_is_left : AreEnds n h disk [] [] floors touches → NoneIsLeft n h
+    none_is_left (Together t) = none_left t (idle t)
+    none_is_left (Apart a are) = absurd (apart_never a)

@@ -177,7 +177,7 @@ identity_long : (profile : Profile) (sectors : ℕ) (auto : Bool) → length (pr
 identity_long Bare sectors auto = bare_long sectors auto
 identity_long (Stock serial) sectors auto = stock_long serial sectors auto
 
-page_long : (sectors : ℕ) (plan : DiskPlan) (p : Page) → length (page_bytes sectors plan p) ≡ 512
+pub page_long : (sectors : ℕ) (plan : DiskPlan) (p : Page) → length (page_bytes sectors plan p) ≡ 512
 page_long sectors plan (page.ErrorLog fault) = log_long fault
 page_long sectors plan page.Identity = identity_long plan.profile sectors plan.auto
 
@@ -235,7 +235,7 @@ from_below false all size count left some among less =
     omega (arith, low, less)
 
 -- a chunk has a sector, and no more than fit into a Data FIS
-chunk_some : (plan : DiskPlan) (c : Command) (left : ℕ) → 512 ≤ plan.chunk → 0 < c.count → 0 < left → left ≤ chunks plan c → 0 < chunk_count plan c left
+pub chunk_some : (plan : DiskPlan) (c : Command) (left : ℕ) → 512 ≤ plan.chunk → 0 < c.count → 0 < left → left ≤ chunks plan c → 0 < chunk_count plan c left
 chunk_some plan c left low some more among =
     let size : 0 < plan.chunk / 512 = omega (arith, low) in
     let below : chunk_from plan c left < c.count = from_below plan.last_first (chunks plan c) (plan.chunk / 512) c.count left more among (short (plan.chunk / 512) c.count size some) in
@@ -246,71 +246,100 @@ sectors_long medium lba count sectors long within =
     let rest : length (drop (512 * lba) medium) ≡ length medium - 512 * lba = length-drop (512 * lba) medium in
     length-take-le (512 * count) (drop (512 * lba) medium) (omega (arith, rest, long, within))
 
+pub data_long : (plan : DiskPlan) (sectors : ℕ) (medium : List ℕ) (c : Command) (left : ℕ) → 512 ≤ plan.chunk → length medium ≡ 512 * sectors → c.lba + c.count ≤ sectors → 0 < c.count → 0 < left
+    → left ≤ chunks plan c → length (sectors_at medium (c.lba + chunk_from plan c left) (chunk_count plan c left)) ≡ 512 * chunk_count plan c left
+data_long plan sectors medium c left low long within some more among =
+    let part = chunk_part plan c left low some more among in
+    let inside : chunk_from plan c left + chunk_count plan c left ≤ c.count = part.inside in
+    sectors_long medium (c.lba + chunk_from plan c left) (chunk_count plan c left) sectors long (omega (arith, inside, within))
+
 chunk_data_shown : (plan : DiskPlan) (sectors : ℕ) (medium : List ℕ) (c : Command) (left : ℕ) → 512 ≤ plan.chunk → plan.chunk ≤ 8192 → length medium ≡ 512 * sectors → c.lba + c.count ≤ sectors → 0 < c.count → 0 < left
     → left ≤ chunks plan c → CanBeShown (Carries (sectors_at medium (c.lba + chunk_from plan c left) (chunk_count plan c left)))
 chunk_data_shown plan sectors medium c left low high long within some more among =
-    let part = chunk_part plan c left low some more among in
-    let inside : chunk_from plan c left + chunk_count plan c left ≤ c.count = part.inside in
     let least : 0 < chunk_count plan c left = chunk_some plan c left low some more among in
     let most : chunk_count plan c left ≤ plan.chunk / 512 = omega arith in
     let all : length (sectors_at medium (c.lba + chunk_from plan c left) (chunk_count plan c left)) ≡ 512 * chunk_count plan c left =
-    sectors_long medium (c.lba + chunk_from plan c left) (chunk_count plan c left) sectors long (omega (arith, inside, within)) in
+    data_long plan sectors medium c left low long within some more among in
     data_shown (sectors_at medium (c.lba + chunk_from plan c left) (chunk_count plan c left)) (omega (arith, all, least)) (omega (arith, all, most, high)) (omega (arith, all))
 
 -- ---- the next FIS
-
-lifts : (s : Sending) (m : Moment) (t : Sending × Moment) → Some (s, m) ≡ Some t → CanBeShown s → CanBeShown t.0
-lifts s m t is shown = subst (λ (x : Sending × Moment). CanBeShown x.0) (same_Some (s, m) t is) shown
-
-read_shown : (m : Moment) (c : Command) (sends later : List Sending) (s : Sending) → sends ≡ s ∷ later → CanBeShown s → (t : Sending × Moment) → read_turn m c sends ≡ Some t → CanBeShown t.0
-read_shown m c sends later s is shown t e = lifts s _ t (sym (ap (read_turn m c) is) ∙ e) shown
-
-write_shown : (m : Moment) (w : Writing) (sends later : List Sending) (s : Sending) → sends ≡ s ∷ later → CanBeShown s → (t : Sending × Moment) → write_turn m w sends ≡ Some t → CanBeShown t.0
-write_shown m w sends later s is shown t e = lifts s _ t (sym (ap (write_turn m w) is) ∙ e) shown
 
 -- what is known about the chunks of a disk
 pub record HasChunks (plan : DiskPlan) : Type 0 where
   pub low : 512 ≤ plan.chunk
   pub high : plan.chunk ≤ 8192
 
-module _ (plan : DiskPlan) (sectors : ℕ) (sized : HasChunks plan) where
-  start_shown : (m : Moment) (c : Command) (write : Bool) → 0 < c.count → (t : Sending × Moment) → starts plan m c write ≡ Some t → CanBeShown t.0
-  start_shown m c false some t e = read_shown m c (sends_left plan m.medium c (chunks plan c)) _ _ (sends_left_next plan m.medium c (chunks plan c) (some_chunks plan c sized.low some)) (chunk_shown plan c (chunks plan c)) t e
-  start_shown m c true some t e = write_shown m (begun_write plan c) (asks_for plan c (chunks plan c)) _ _ refl (chunk_shown plan c (chunks plan c)) t e
+-- this is true of each FIS that a disk of this plan sends
+pub record OfEach (plan : DiskPlan) (sectors : ℕ) (P : Sending → Type 0) : Type 0 where
+  pub answers : (a : Answer) → P (answer_sent sectors plan a)
+  pub reports : (c : Command) (f : Fault) → fault_of plan sectors c ≡ Some f → P (report f)
+  pub setups : (c : Command) (left : ℕ) → P (chunk_setup plan c left)
+  pub activates : P Activates
+  pub carries : (medium : List ℕ) (c : Command) (left : ℕ) → length medium ≡ 512 * sectors → c.lba + c.count ≤ sectors → 0 < c.count → 0 < left → left ≤ chunks plan c
+      → P (Carries (sectors_at medium (c.lba + chunk_from plan c left) (chunk_count plan c left)))
 
-  begin_shown : (m : Moment) (c : Command) (bad : Option Fault) → fault_of plan sectors c ≡ bad → 0 < c.count → (t : Sending × Moment) → begun plan m c bad ≡ Some t → CanBeShown t.0
-  begin_shown m c None is some t e = start_shown m c c.write some t e
-  begin_shown m c (Some f) is some t e = lifts (report f) _ t e (report_shown plan sectors c f is)
+-- the moment with what it owes, and what it has started
+abbrev pub with_parts : Moment → List Answer → Option Started → Option Writing → Moment
+with_parts m owed s w = record m { owed = owed; started = s; writing = w }
 
-  pick_shown : (m : Moment) (o : Option Command) → IsQueue m.queued → picked plan.order m.queued ≡ o → (t : Sending × Moment) → pick_turn plan sectors m o ≡ Some t → CanBeShown t.0
-  pick_shown m None queue is t e = absurd (cc)
-  pick_shown m (Some c) queue is t e = begin_shown m c (fault_of plan sectors c) refl (picked_in plan.order m.queued c queue is).some t e
+module _ (P : Sending → Type 0) where
+  lifts : (s : Sending) (m : Moment) (t : Sending × Moment) → Some (s, m) ≡ Some t → P s → P t.0
+  lifts s m t is of = subst (λ (x : Sending × Moment). P x.0) (same_Some (s, m) t is) of
 
-  reading_shown : (m : Moment) (s : Started) (v : Moving) (left : ℕ) (up : Bool) → length m.medium ≡ 512 * sectors → IsReading plan sectors m.medium s v left up → (t : Sending × Moment) → read_turn m s.command s.sends ≡ Some t → CanBeShown t.0
-  reading_shown m s v left false long r t e =
-      read_shown m s.command s.sends _ _ (r.stage ∙ sends_left_next plan m.medium s.command left r.moving.more) (chunk_shown plan s.command left) t e
-  reading_shown m s v left true long r t e =
-      read_shown m s.command s.sends _ _ (r.stage.0 ∙ ap (drop 1) (sends_left_next plan m.medium s.command left r.moving.more))
-      (chunk_data_shown plan sectors m.medium s.command left sized.low sized.high long r.moving.inside r.moving.some r.moving.more r.moving.among) t e
+  read_of : (m : Moment) (c : Command) (sends later : List Sending) (s : Sending) → sends ≡ s ∷ later → P s → (t : Sending × Moment) → read_turn m c sends ≡ Some t → P t.0
+  read_of m c sends later s is of t e = lifts s _ t (sym (ap (read_turn m c) is) ∙ e) of
 
-  writing_shown : (m : Moment) (w : Writing) (v : Moving) (stage : Stage) → IsWriting plan sectors w v stage → (t : Sending × Moment) → write_turn m w w.sends ≡ Some t → CanBeShown t.0
-  writing_shown m w v Fresh r t e = write_shown m w w.sends _ _ r.stage.0 (chunk_shown plan w.command w.left) t e
-  writing_shown m w v SetUp r t e = write_shown m w w.sends _ _ r.stage.0 activate_shown t e
-  writing_shown m w v Asked r t e = let wrong : None ≡ Some t = sym (ap (write_turn m w) r.stage.0) ∙ e in absurd (cc)
+  write_of : (m : Moment) (w : Writing) (sends later : List Sending) (s : Sending) → sends ≡ s ∷ later → P s → (t : Sending × Moment) → write_turn m w sends ≡ Some t → P t.0
+  write_of m w sends later s is of t e = lifts s _ t (sym (ap (write_turn m w) is) ∙ e) of
 
-  abbrev with_parts : Moment → List Answer → Option Started → Option Writing → Moment
-  with_parts m owed s w = record m { owed = owed; started = s; writing = w }
+module _ (plan : DiskPlan) (sectors : ℕ) (sized : HasChunks plan) (P : Sending → Type 0) (each : OfEach plan sectors P) where
+  start_of : (m : Moment) (c : Command) (write : Bool) → 0 < c.count → (t : Sending × Moment) → starts plan m c write ≡ Some t → P t.0
+  start_of m c false some t e = read_of P m c (sends_left plan m.medium c (chunks plan c)) _ _ (sends_left_next plan m.medium c (chunks plan c) (some_chunks plan c sized.low some)) (each.setups c (chunks plan c)) t e
+  start_of m c true some t e = write_of P m (begun_write plan c) (asks_for plan c (chunks plan c)) _ _ refl (each.setups c (chunks plan c)) t e
 
-  pub turn_shown : (m : Moment) (owed : List Answer) (s : Option Started) (w : Option Writing) (v : Option Moving) → IsQueue m.queued → length m.medium ≡ 512 * sectors → Moves plan sectors m.medium m.queued owed s w v
-      → (t : Sending × Moment) → turn plan sectors (with_parts m owed s w) ≡ Some t → CanBeShown t.0
-  turn_shown m (a ∷ later) s w v queue long moves t e = lifts (answer_sent sectors plan a) _ t e (answer_shown sectors plan a)
-  turn_shown m [] None None None queue long moves t e = pick_shown (with_parts m [] None None) (picked plan.order m.queued) queue refl t e
-  turn_shown m [] None None (Some v) queue long moves t e = absurd moves
-  turn_shown m [] (Some s) None None queue long moves t e = absurd moves
-  turn_shown m [] (Some s) None (Some v) queue long moves t e = reading_shown (with_parts m [] (Some s) None) s v moves.0 moves.1 long moves.2 t e
-  turn_shown m [] None (Some w) None queue long moves t e = absurd moves
-  turn_shown m [] None (Some w) (Some v) queue long moves t e = writing_shown (with_parts m [] None (Some w)) w v moves.0 moves.1 t e
-  turn_shown m [] (Some s) (Some w) v queue long moves t e = absurd moves
+  begin_of : (m : Moment) (c : Command) (bad : Option Fault) → fault_of plan sectors c ≡ bad → 0 < c.count → (t : Sending × Moment) → begun plan m c bad ≡ Some t → P t.0
+  begin_of m c None is some t e = start_of m c c.write some t e
+  begin_of m c (Some f) is some t e = lifts P (report f) _ t e (each.reports c f is)
+
+  pick_of : (m : Moment) (o : Option Command) → IsQueue m.queued → picked plan.order m.queued ≡ o → (t : Sending × Moment) → pick_turn plan sectors m o ≡ Some t → P t.0
+  pick_of m None queue is t e = absurd (cc)
+  pick_of m (Some c) queue is t e = begin_of m c (fault_of plan sectors c) refl (picked_in plan.order m.queued c queue is).some t e
+
+  reading_of : (m : Moment) (s : Started) (v : Moving) (left : ℕ) (up : Bool) → length m.medium ≡ 512 * sectors → IsReading plan sectors m.medium s v left up → (t : Sending × Moment) → read_turn m s.command s.sends ≡ Some t → P t.0
+  reading_of m s v left false long r t e =
+      read_of P m s.command s.sends _ _ (r.stage ∙ sends_left_next plan m.medium s.command left r.moving.more) (each.setups s.command left) t e
+  reading_of m s v left true long r t e =
+      read_of P m s.command s.sends _ _ (r.stage.0 ∙ ap (drop 1) (sends_left_next plan m.medium s.command left r.moving.more))
+      (each.carries m.medium s.command left long r.moving.inside r.moving.some r.moving.more r.moving.among) t e
+
+  writing_of : (m : Moment) (w : Writing) (v : Moving) (stage : Stage) → IsWriting plan sectors w v stage → (t : Sending × Moment) → write_turn m w w.sends ≡ Some t → P t.0
+  writing_of m w v Fresh r t e = write_of P m w w.sends _ _ r.stage.0 (each.setups w.command w.left) t e
+  writing_of m w v SetUp r t e = write_of P m w w.sends _ _ r.stage.0 each.activates t e
+  writing_of m w v Asked r t e = let wrong : None ≡ Some t = sym (ap (write_turn m w) r.stage.0) ∙ e in absurd (cc)
+
+  pub turn_of : (m : Moment) (owed : List Answer) (s : Option Started) (w : Option Writing) (v : Option Moving) → IsQueue m.queued → length m.medium ≡ 512 * sectors → Moves plan sectors m.medium m.queued owed s w v
+      → (t : Sending × Moment) → turn plan sectors (with_parts m owed s w) ≡ Some t → P t.0
+  turn_of m (a ∷ later) s w v queue long moves t e = lifts P (answer_sent sectors plan a) _ t e (each.answers a)
+  turn_of m [] None None None queue long moves t e = pick_of (with_parts m [] None None) (picked plan.order m.queued) queue refl t e
+  turn_of m [] None None (Some v) queue long moves t e = absurd moves
+  turn_of m [] (Some s) None None queue long moves t e = absurd moves
+  turn_of m [] (Some s) None (Some v) queue long moves t e = reading_of (with_parts m [] (Some s) None) s v moves.0 moves.1 long moves.2 t e
+  turn_of m [] None (Some w) None queue long moves t e = absurd moves
+  turn_of m [] None (Some w) (Some v) queue long moves t e = writing_of (with_parts m [] None (Some w)) w v moves.0 moves.1 t e
+  turn_of m [] (Some s) (Some w) v queue long moves t e = absurd moves
+
+each_shown : (plan : DiskPlan) (sectors : ℕ) → HasChunks plan → OfEach plan sectors CanBeShown
+each_shown plan sectors sized = record {
+  answers = answer_shown sectors plan;
+  reports = report_shown plan sectors;
+  setups = chunk_shown plan;
+  activates = activate_shown;
+  carries = λ medium c left long within some more among. chunk_data_shown plan sectors medium c left sized.low sized.high long within some more among;
+}
+
+pub turn_shown : (plan : DiskPlan) (sectors : ℕ) → HasChunks plan → (m : Moment) (owed : List Answer) (s : Option Started) (w : Option Writing) (v : Option Moving) → IsQueue m.queued → length m.medium ≡ 512 * sectors
+    → Moves plan sectors m.medium m.queued owed s w v → (t : Sending × Moment) → turn plan sectors (with_parts m owed s w) ≡ Some t → CanBeShown t.0
+turn_shown plan sectors sized = turn_of plan sectors sized CanBeShown (each_shown plan sectors sized)
 
 -- a turn of which no bytes are to be had is none
 pub no_turn : (o : Turn) → ((t : Sending × Moment) → o ≡ Some t → CanBeShown t.0) → ((bytes : List ℕ) → IsTurn o bytes → ⊥) → o ≡ None

@@ -55,7 +55,7 @@ pub record IsAsking (v : DeviceView) : Type 0 where
   pub sent : issue.sent ≡ true
   pub well : v.fault ≡ None
 
-none_there : {P : Type 0} (i : Issue) (o : Option Issue) → o ≡ None → o ≡ Some i → P
+pub none_there : {P : Type 0} (i : Issue) (o : Option Issue) → o ≡ None → o ≡ Some i → P
 none_there i o none some = let wrong : None ≡ Some i = sym none ∙ some in absurd (cc)
 
 free_31 : own_issue no_own_slots 31 ≡ None
@@ -112,12 +112,12 @@ pub same_asks : (old new : Port) → new ≡ old → IsAsking (view_of 15 new) �
 same_asks old new same a = subst (λ (p : Port). IsAsking (view_of 15 p)) same a
 
 -- no frame comes or goes
-abbrev IsQuiet : HostEvent → Type 0
+abbrev pub IsQuiet : HostEvent → Type 0
 IsQuiet (event.Took frame report) = ⊥
 IsQuiet (event.Gave frame) = ⊥
 IsQuiet e = Unit {0}
 
-abbrev AreQuiet : List HostEvent → Type 0
+abbrev pub AreQuiet : List HostEvent → Type 0
 AreQuiet [] = Unit {0}
 AreQuiet (e ∷ es) = IsQuiet e × AreQuiet es
 
@@ -137,7 +137,7 @@ events_ask : (es : List HostEvent) (old new : event.Host) → AreQuiet es → ev
 events_ask [] old new quiet runs a = subst (λ (h : event.Host). IsAsking (view_of 15 h.port)) runs a
 events_ask (e ∷ es) old new quiet runs a = event_asks e old runs.0 quiet.0 runs.1 (events_ask es runs.0 new quiet.1 runs.2 a)
 
-are_quiet : (es : List HostEvent) → flat_map took es ≡ [] → flat_map gave es ≡ [] → AreQuiet es
+pub are_quiet : (es : List HostEvent) → flat_map took es ≡ [] → flat_map gave es ≡ [] → AreQuiet es
 are_quiet [] none_came none_went = tt
 are_quiet (event.Took frame report ∷ es) none_came none_went = absurd (cc)
 are_quiet (event.Gave frame ∷ es) none_came none_went = absurd (cc)
@@ -242,10 +242,10 @@ set_gives (a ∷ xs) (suc k) (suc j) x i e = elim (set_gives xs k j x i e) [
 ]
 
 -- slot 31 holds a command that went out
-record IsOut (own : DeviceSlots) : Type 0 where
-  issue : Issue
-  there : own_issue own 31 ≡ Some issue
-  sent : issue.sent ≡ true
+pub record IsOut (own : DeviceSlots) : Type 0 where
+  pub issue : Issue
+  pub there : own_issue own 31 ≡ Some issue
+  pub sent : issue.sent ≡ true
 
 answered_out : (o : Option Issue) (i : Issue) → option_map answered_issue o ≡ Some i → i.sent ≡ true → (was : Issue) × (o ≡ Some was) × (was.sent ≡ true)
 answered_out None i e sent = absurd (cc)

@@ -37,10 +37,11 @@ NoneIsLeft n h =
     (slot : ℕ) (e : Entry) → slot < 30 → entry_at h.driver.entries slot ≡ Some e → e.head.dev ≡ n → is_queued_work e.head.work ≡ true
     → (waits e.head || is_issued e.head) ≡ false
 
--- No read or write is with the disk. While the driver takes it to be ready, and its port shows neither BSY nor DRQ of it, none is left.
+-- No read or write is with the disk. While the driver takes it to be ready, its port shows neither BSY nor DRQ of it, and none is left.
 pub record DiskHasDone (n : ℕ) (h : Host) : Type 0 where
   pub out : NoneIsOut n h.port
-  pub left : device_at h.driver.plan n ≡ Ready → (IsOccupied n h.port → ⊥) → NoneIsLeft n h
+  pub idle : device_at h.driver.plan n ≡ Ready → IsOccupied n h.port → ⊥
+  pub left : device_at h.driver.plan n ≡ Ready → NoneIsLeft n h
 
 -- That holds in a world at rest for a disk that is plugged in, and was left alone since then, behind a port that forwards.
 abbrev pub RestedDisksHaveDone : Type 0

@@ -4,3 +4,5 @@ pub mod Waits
 pub mod Turns
 pub mod Laws
 pub mod Left
+pub mod Out
+pub mod Watches

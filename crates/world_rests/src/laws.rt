@@ -2,7 +2,9 @@
 
 ghost use Rattle.world_rests.specs.Laws.{IdleDriversWait, RestedHaveDone, StillRoundsRest};
 ghost use Rattle.world_rests.specs.Left.{RestedDisksHaveDone};
+ghost use Rattle.world_rests.specs.Out.{RestedDisksAreLeft};
 ghost use Rattle.world_rests.specs.Turns.{EachTakesTurns};
+ghost use Rattle.world_rests.specs.Watches.{RestedDriversWatch};
 
 /// Holds of any driver with FIS-based switching for which a tick has nothing to do, as a tick that is answered `Idle` says. Its
 /// port is open, and no fault is to be cleared. Slot 31 waits for an answer, a signature or a notification. Slot 30 waits for an
@@ -37,12 +39,38 @@ pub fn rested_have_done()
 
 /// Holds of each world at rest that a run from a new one with FIS-based switching leads to, for a disk of `disk_model` that was
 /// left alone since its plugging (nothing was injected at its port), is plugged in, and whose port forwards. No read or write is with
-/// the disk: what is issued for it and is a read or a write did not go out. While the driver takes the disk to be ready, and the
-/// host port shows neither BSY nor DRQ of it, no read or write for it waits or is issued.
+/// the disk: what is issued for it and is a read or a write did not go out. While the driver takes the disk to be ready, the host
+/// port shows neither BSY nor DRQ of it, and no read or write for it waits or is issued.
 pub fn rested_disks_have_done()
     ensures { RestedDisksHaveDone }
 {
+    disk_simulation::port_and_ledger_stay_joined();
+    disk_simulation::task_files_stay_fine();
     rested_have_done();
+    pm_world::paths_go_on();
+    pm_world::ends_meet();
+}
+
+/// Holds of each world at rest that a run from a new one with FIS-based switching leads to, whatever its devices are. Slot 31 waits
+/// for a notification alone: no order is issued in it, and no signature of the control port is awaited.
+pub fn rested_drivers_watch()
+    ensures { RestedDriversWatch }
+{
+    rested_have_done();
+    pm_world::one_order_at_a_time();
+    pm_world::ports_go_on();
+}
+
+/// Holds of each world at rest that a run from a new one with FIS-based switching leads to, for a disk of `disk_model` that was
+/// left alone since its plugging (nothing was injected at its port), is plugged in, and whose port forwards. No command is with the
+/// disk: what is issued for it did not go out, be it a read, a write, a FLUSH, an IDENTIFY DEVICE or the read of its error log.
+/// While the driver takes the disk to be ready, or the host port shows neither BSY nor DRQ of it, nothing is issued for it, no request
+/// of it waits or is issued, and slot 30 works on it at most to await the end of its software reset.
+pub fn rested_disks_are_left()
+    ensures { RestedDisksAreLeft }
+{
+    rested_have_done();
+    rested_disks_have_done();
     pm_world::paths_go_on();
     pm_world::ends_meet();
 }

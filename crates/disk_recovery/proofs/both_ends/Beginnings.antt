@@ -69,7 +69,7 @@ module _ (n : ℕ) (before : List Happening) where
       anew.opens h c p (opens_signing n h c p (ledger (before ++ Plugged ∷ [])) history none tags (begins_anew.plugged before))
   hosted_plugged host given commands past (since_new.stays old new g c p same hosted) is =
       anew.stays old new (before ++ Plugged ∷ []) c p
-      (record { slots = ap (λ (v : DeviceView). v.slots) same; block = ap (λ (v : DeviceView). v.state.block) same })
+      (record { slots = ap (λ (v : DeviceView). v.slots) same; block = ap (λ (v : DeviceView). v.state.block) same }) (inr same)
       (hosted_plugged old g c p hosted is)
   hosted_plugged host given commands past (since_new.issues old new value g c next p sound chosen does tags names counted hosted) is =
       anew.issues old new value (before ++ Plugged ∷ []) c next p sound chosen does tags names

@@ -103,7 +103,7 @@ signed_since base given bytes old new was is =
 -- nothing moved where both began anew
 pub base_clear : (n : ℕ) (base : List Happening) (host : event.Host) (given : List Happening) (commands : ℕ → SlotCommand) (past : History) → IsHostedOn n base host given commands past → IsClear (ledger base)
 base_clear n base host given commands past (anew.opens h c p opening) = opening.clear
-base_clear n base host given commands past (anew.stays old new g c p keeps hosted) = base_clear n base old g c p hosted
+base_clear n base host given commands past (anew.stays old new g c p keeps whole hosted) = base_clear n base old g c p hosted
 base_clear n base host given commands past (anew.signs old new bytes report g c p sound plain framed from_n well right hosted) = base_clear n base old g c p hosted
 base_clear n base host given commands past (anew.hears old new bytes report g c p sound plain framed from_n well right short hosted) = base_clear n base old g c p hosted
 base_clear n base host given commands past (anew.issues old new value g c next p sound chosen does tags names counted hosted) = base_clear n base old g c p hosted

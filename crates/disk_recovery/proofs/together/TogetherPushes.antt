@@ -105,7 +105,7 @@ module _ (n : ℕ) (base : List Happening) (old : Host) (frame : Option Stamped)
     hosted =
         subst (λ (p : History). IsHostedOn n base (shared_by new) (given ++ given_to n frame) commands p) (sym is)
         (subst (λ (xs : List Happening). IsHostedOn n base (shared_by new) xs commands (own n touches)) (sym (append-nil given) ∙ ap (λ (xs : List Happening). given ++ xs) (sym none))
-        (stays (shared_by old) (shared_by new) given commands (own n touches) (record { slots = ap (λ (v : DeviceView). v.slots) same; block = ap (λ (v : DeviceView). v.state.block) same }) h.hosted));
+        (stays (shared_by old) (shared_by new) given commands (own n touches) (record { slots = ap (λ (v : DeviceView). v.slots) same; block = ap (λ (v : DeviceView). v.state.block) same }) (inr same) h.hosted));
     plain = subst GavePlain (sym none) tt;
     state = ap (λ (v : DeviceView). v.state.resetting) same;
     none = λ set. none;

@@ -142,6 +142,6 @@ ignored_keep_on n base old frame report new run given commands touches below is 
     let view_is : view_of n new.port ≡ view_of n old.port = ap (λ (p : Port). view_of n p) skip.port in
     kept_on n base old frame report new run given commands touches h given
     (subst (λ (p : History). IsHostedOn n base (shared_by new) given commands p) (sym later)
-    (anew.stays (shared_by old) (shared_by new) given commands (own n touches) (record { slots = ap (λ (v : DeviceView). v.slots) view_is; block = ap (λ (v : DeviceView). v.state.block) view_is }) h.hosted))
+    (anew.stays (shared_by old) (shared_by new) given commands (own n touches) (record { slots = ap (λ (v : DeviceView). v.slots) view_is; block = ap (λ (v : DeviceView). v.state.block) view_is }) (inr view_is) h.hosted))
     (λ was. was) (λ fine signs. h.row fine (subst (λ (m : Memory). is_ata (seen (last_d2h m.structure n)) ≡ true) skip.memory signs))
     (λ there off. h.ended there (sym (ap (λ (v : DeviceView). v.state.resetting) view_is) ∙ off)) (λ set. h.resets (sym (ap (λ (v : DeviceView). v.state.resetting) view_is) ∙ set))

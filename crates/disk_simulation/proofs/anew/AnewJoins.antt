@@ -1,6 +1,6 @@
 -- For `hosts_begin_anew`. A host whose port refuses nothing of a disk is careful from where both began anew, and joined
 -- with the disk's ledger.
-use Rattle.std.proofs.Common.{◌≡◌, ℕ, ◌<◌, true, List, [], ◌∷◌, ◌++◌, append_assoc, refl, sym, ap, subst, ◌∙◌, Option, Some, None, arith}
+use Rattle.std.proofs.Common.{◌≡◌, ℕ, ◌<◌, true, List, [], ◌∷◌, ◌++◌, append_assoc, refl, sym, ap, subst, ◌∙◌, inr, Option, Some, None, arith}
 use Rattle.std.specs.Prelude.{is_some}
 use Rattle.std.specs.Option.{option_map}
 use Rattle.std.proofs.lemmas.Bool.{true≢false}
@@ -19,7 +19,7 @@ use Rattle.disk_model.specs.Histories.{Happening, Plugged, Loaded, Received, Sen
 use Rattle.disk_model.specs.Ledger.{Ledger, ShowsPage, Signs, Wanted, empty, ledger, ledger_after, listens}
 use Rattle.disk_model.specs.Between.{FitsOne}
 use Rattle.disk_model.proofs.Door.{after_more, begins_anew, ledger_push}
-use Rattle.hba_laws.specs.Agreement.{ContextAgrees, IsHistoryOf, work_of_transfer}
+use Rattle.hba_laws.specs.Agreement.{ContextAgrees, IsHistoryOf, work_of_issue, work_of_transfer}
 use Rattle.hba_laws.specs.History as event
 use Rattle.hba_laws.specs.History.{History, Transfer, issued}
 use Rattle.hba_laws.specs.Hosts.{Host}
@@ -133,7 +133,7 @@ module _ (n : ℕ) (base : List Happening) where
       → IsKeptOn n base host given commands past
   kept below host given commands past (anew.opens h c p opening) =
       record { careful = careful_base base; joined = opens_joined n h c p (ledger base) opening }
-  kept below host given commands past (anew.stays old new g c p same hosted) =
+  kept below host given commands past (anew.stays old new g c p same whole hosted) =
       let before : IsKeptOn n base old g c p = kept below old g c p hosted in
       record { careful = before.careful; joined = keeps_joined n old new c p (ledger g) same before.joined }
   kept below host given commands past (anew.signs old new bytes report g c p sound plain framed from_n well right hosted) =
@@ -188,6 +188,8 @@ opens_signing n host commands past k history none tags owes =
       unset = none_at (view_of n host.port).slots.context (no_context n host past history none);
       clear = clear;
       talk = Replies Signs (record { outstanding = clear.outstanding; unanswered = clear.unanswered; moving = clear.moving }) owes.awaited tt owes.pages;
+      calm = λ signs s t here.
+          let bad : Some (work_of_transfer t) ≡ None = sym (ap (option_map work_of_transfer) here) ∙ history.issued s ∙ ap (option_map work_of_issue) (none s) in cc bad;
     }
 
 opens_paging : (n : ℕ) (host : Host) (commands : ℕ → SlotCommand) (past : History) (k : Ledger) (page : Wanted) → IsHistoryOf n host past
@@ -206,6 +208,7 @@ opens_paging n host commands past k page history alone sent unset waited tags ow
       talk =
           Shows (record { outstanding = clear.outstanding; unanswered = clear.unanswered; moving = clear.moving }) owes.awaited
           (subst AtMostOne (sym owes.pages) tt) waited;
+      calm = λ signs. let bad : ShowsPage ∷ [] ≡ Signs ∷ [] = sym owes.awaited ∙ signs in cc bad;
     }
 
 pub opens_after : OpensAfter
@@ -213,7 +216,7 @@ opens_after = record { signing = opens_signing; paging = opens_paging }
 
 pub hosted_since_new : HostedSinceNew
 hosted_since_new n host given commands past (since_new.plugged h c p history none tags) = anew.opens h c p (opens_signing n h c p (ledger (Plugged ∷ [])) history none tags (begins_anew.plugged []))
-hosted_since_new n host given commands past (since_new.stays old new g c p same hosted) = anew.stays old new g c p (record { slots = ap (λ (v : DeviceView). v.slots) same; block = ap (λ (v : DeviceView). v.state.block) same }) (hosted_since_new n old g c p hosted)
+hosted_since_new n host given commands past (since_new.stays old new g c p same hosted) = anew.stays old new g c p (record { slots = ap (λ (v : DeviceView). v.slots) same; block = ap (λ (v : DeviceView). v.state.block) same }) (inr same) (hosted_since_new n old g c p hosted)
 hosted_since_new n host given commands past (since_new.hears old new bytes report g c p sound plain framed from_n well right short hosted) =
     anew.hears old new bytes report g c p sound plain framed from_n well right short (hosted_since_new n old g c p hosted)
 hosted_since_new n host given commands past (since_new.issues old new value g c next p sound chosen does tags names counted hosted) =

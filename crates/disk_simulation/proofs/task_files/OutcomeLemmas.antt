@@ -64,7 +64,7 @@ module _ (n : ℕ) (base : List Happening) (below : n < 15) where
   began : (host : Host) (given : List Happening) (commands : ℕ → SlotCommand) (past : History) → IsHostedOn n base host given commands past
       → IsClear (ledger base) × (given ≡ base → (view_of n host.port).slots.context ≡ None)
   began host given commands past (anew.opens h c p opening) = (opening.clear, λ same. opening.unset)
-  began host given commands past (anew.stays old new g c p keeps hosted) =
+  began host given commands past (anew.stays old new g c p keeps whole hosted) =
       let b = began old g c p hosted in
       (b.0, λ same. ap (λ (own : DeviceSlots). own.context) keeps.slots ∙ b.1 same)
   began host given commands past (anew.issues old new value g c next p sound chosen does tags names counted hosted) =

@@ -1,4 +1,4 @@
-use Rattle.uses_machine_theorem.proofs.LedLemmas.{brought, ended, led, of_slots, ruled, speaks}
+use Rattle.uses_machine_theorem.proofs.LedLemmas.{brought, completed, ended, led, of_slots, ruled, speaks}
 use Rattle.uses_machine_theorem.proofs.moves.Goals as goal
 
 pub returns-clause-led : goal.returns-clause-led
@@ -18,4 +18,9 @@ returns-clause-speaks c = speaks c.data_are_of_slots.ensures.given c.args.machin
 pub returns-clause-ended : goal.returns-clause-ended
 returns-clause-ended c =
     ended c.data_are_of_slots.ensures.completed c.args.machine.now c.step-moved.new.self c.step-moved.result c.step-moved.ensures.ok
+    (ruled c.step-moved.new.self c.keeps_rules-2.ensures.port c.keeps_rules-2.ensures.slots c.keeps_rules-2.ensures.rules)
+
+pub returns-clause-completed : goal.returns-clause-completed
+returns-clause-completed c =
+    completed c.completions_are_of_devices.ensures c.args.machine.now c.step-moved.new.self c.step-moved.result c.step-moved.ensures.ok
     (ruled c.step-moved.new.self c.keeps_rules-2.ensures.port c.keeps_rules-2.ensures.slots c.keeps_rules-2.ensures.rules)

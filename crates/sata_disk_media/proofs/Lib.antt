@@ -1,0 +1,14 @@
+mod Numbers
+mod Moments
+mod Apart
+mod Stored
+mod Requested
+mod Walks
+mod Called
+mod Walk
+mod Loaded
+mod Runs
+mod Kept
+mod Rows
+mod Writes
+mod Sparing

@@ -1,0 +1,20 @@
+//! A caller of a SATA disk that knows what its Data are, if its medium keeps what it was told to keep.
+#![tactic(auto)]
+
+ghost use Rattle.sata_disk.specs.Sending.{IsOut};
+ghost use Rattle.uses_sata_disk_media.specs.Kept.{BringsWhatIsWritten, KeepsWhatIsWritten};
+
+use sata_disk::{Out, SataDisk};
+use sata_disk_media::{reads_bring_writes, writes_are_kept};
+
+/// The FIS that goes next. Whatever run with an honest medium led to the disk: Data have, at each sector of a write that ended before the
+/// command was heard, the bytes of that write; and where the FIS says that a write ended well, the medium keeps the bytes of that write.
+pub fn next(disk: &SataDisk) -> Option<Out>
+    ensures next { IsOut disk.now result }
+    ensures brings { BringsWhatIsWritten disk.now result }
+    ensures keeps { KeepsWhatIsWritten disk.now result }
+{
+    reads_bring_writes();
+    writes_are_kept();
+    disk.next_out()
+}

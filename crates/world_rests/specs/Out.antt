@@ -1,0 +1,62 @@
+-- What a host at rest has out with a disk: nothing (AHCI 1.3.1, 5.3 and 5.6, how a port receives FISes, and how commands are
+-- completed; ACS-3, FLUSH CACHE EXT, IDENTIFY DEVICE, READ LOG EXT; Serial ATA 3.x, 13.6, native command queuing).
+--
+-- Cited: a disk that was left alone since its plugging (`pm_world`, specs/Disks.antt), and when its port shows BSY or DRQ
+-- (specs/Left.antt).
+use Rattle.std.specs.Prelude.{ℕ, ◌≡◌, ◌≢◌, ◌<◌, ◌||◌, true, false, List, length, Some}
+use Rattle.pm_registers.specs.RegisterMap.{forwards}
+use Rattle.slots.specs.Slots.{Issue, issue_at}
+use Rattle.hba_fbs.specs.Views.{Port}
+use Rattle.disk_model.specs.declared.plan.DiskPlan.{DiskPlan}
+use Rattle.disk_model.specs.Histories.{Happening}
+use Rattle.hba_driver.specs.declared.path.Path.{Path}
+use Rattle.hba_driver.specs.declared.path.Stage.TheVariants.{AwaitReset}
+use Rattle.hba_driver.specs.declared.plan.Device.TheVariants.{Ready}
+use Rattle.hba_driver.specs.Drivers.{Entry, device_at, entry_at, is_issued, waits}
+use Rattle.hba_driver.specs.HostTurns.{Host}
+use Rattle.pm_world.specs.Attached.{Attached}
+use Rattle.pm_world.specs.Disks.{DiskRun, HasDisk}
+use Rattle.pm_world.specs.PathEnds.{IsThere}
+use Rattle.pm_world.specs.Places.{Places, is_config}
+use Rattle.pm_world.specs.declared.step.Config.{Config}
+use Rattle.world_rests.specs.Left.{IsOccupied}
+use Rattle.world_rests.specs.Rests.{IsAtRest}
+
+-- no command is with the device: what is issued for it did not go out
+abbrev pub NothingIsOut : ℕ → Port → Type 0
+NothingIsOut n port =
+    (slot : ℕ) (issue : Issue) → slot < 32 → issue_at port.slots slot ≡ Some issue → issue.dev ≡ n → issue.sent ≡ false
+
+-- nothing is issued at the port for the device
+abbrev pub NothingIsIssued : ℕ → Port → Type 0
+NothingIsIssued n port = (slot : ℕ) (issue : Issue) → slot < 32 → issue_at port.slots slot ≡ Some issue → issue.dev ≢ n
+
+-- no request of the device waits or is issued
+abbrev pub NoRequestIsLeft : ℕ → Host → Type 0
+NoRequestIsLeft n h =
+    (slot : ℕ) (e : Entry) → slot < 30 → entry_at h.driver.entries slot ≡ Some e → e.head.dev ≡ n
+    → (waits e.head || is_issued e.head) ≡ false
+
+-- slot 30 works on the device at most to await the end of its software reset
+abbrev pub AwaitsAtMost : ℕ → Host → Type 0
+AwaitsAtMost n h = (p : Path) → h.driver.plan.path ≡ Some p → p.dev ≡ n → (p.asked ≡ false) × (p.stage ≡ AwaitReset)
+
+-- Nothing is issued for the disk, no request of it waits, and slot 30 has no command for it.
+pub record DiskIsFree (n : ℕ) (h : Host) : Type 0 where
+  pub issued : NothingIsIssued n h.port
+  pub requests : NoRequestIsLeft n h
+  pub path : AwaitsAtMost n h
+
+-- No command is with the disk. It is free while the driver takes it to be ready, or its port shows neither BSY nor DRQ of it.
+pub record DiskIsLeft (n : ℕ) (h : Host) : Type 0 where
+  pub out : NothingIsOut n h.port
+  pub ready : device_at h.driver.plan n ≡ Ready → DiskIsFree n h
+  pub free : (IsOccupied n h.port → ⊥) → DiskIsFree n h
+
+-- That holds in a world at rest for a disk that is plugged in, and was left alone since then, behind a port that forwards.
+abbrev pub RestedDisksAreLeft : Type 0
+RestedDisksAreLeft =
+    (config : Config) (units : List Attached) (n sectors : ℕ) (plan : DiskPlan) (past : List Happening)
+    → is_config config (length units) ≡ true → n < 15 → HasDisk units n plan sectors past
+    → (now : Places) (d : DiskRun config units n now) → IsThere n d.conn now → forwards now.multiplier.registers n ≡ true
+    → IsAtRest now → DiskIsLeft n now.host
