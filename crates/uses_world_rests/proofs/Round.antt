@@ -2,6 +2,7 @@
 use Rattle.std.proofs.Common.{◌≡◌, ℕ, zero, suc, ◌<◌, Bool, true, false, List, [], ◌∷◌, length, map, Some, refl, sym, ap, subst, ◌∙◌, arith}
 use Rattle.std.specs.Prelude.{◌↔◌, Result, Ok, Err}
 use Rattle.std.proofs.lemmas.List.{length-map}
+use Rattle.hba_driver.specs.HostTurns.{sight_in}
 use Rattle.pm_world.specs.Attached.{Attached}
 use Rattle.pm_world.specs.Places.{Places, is_config, new_world}
 use Rattle.pm_world.specs.Rules.{Run}
@@ -13,6 +14,7 @@ use Rattle.world_rests.specs.Left.{RestedDisksHaveDone}
 use Rattle.world_rests.specs.Out.{RestedDisksAreLeft}
 use Rattle.world_rests.specs.Rests.{HasRound, IsAtRest, NothingMoves}
 use Rattle.world_rests.specs.Waits.{HostWaits}
+use Rattle.world_rests.specs.Watches.{RestedDriversWatch, WaitsForNotice}
 use Rattle.uses_world_rests.specs.Left.{DiskHasDoneIn, DiskIsLeftIn, config}
 
 abbrev pub round : List Step
@@ -45,6 +47,14 @@ moves_none seen items opened old new steps answers is right run rests =
     let fit : is_config config (length (map seen items)) ≡ true = ap (λ (n : ℕ). is_config config n) (length-map items seen) ∙ right in
     let r = rests config (map seen items) fit steps answers (subst (λ (w : Places). Run w steps answers old) is run) has_round in
     (subst NothingMoves (sym r.0) r.2, subst (λ (w : Places). HostWaits w.host) (sym r.0) r.3)
+
+pub watches_alone : {X : Type 0} (seen : X → Attached) (items : List X) (opened old new : Places) (steps : List Step) (answers : List Answer) → opened ≡ new_world config (map seen items)
+    → is_config config (length items) ≡ true → Run opened steps answers old → RestsAfter old round new → RestedDriversWatch → WaitsForNotice (sight_in new.host) new.host.driver.plan
+watches_alone seen items opened old new steps answers is right run rests law =
+    let fit : is_config config (length (map seen items)) ≡ true = ap (λ (n : ℕ). is_config config n) (length-map items seen) ∙ right in
+    let made : Run (new_world config (map seen items)) steps answers old = subst (λ (w : Places). Run w steps answers old) is run in
+    let r = rests config (map seen items) fit steps answers made has_round in
+    subst (λ (w : Places). WaitsForNotice (sight_in w.host) w.host.driver.plan) (sym r.0) (law config (map seen items) fit steps answers old made r.1)
 
 pub disk_has_done : {X : Type 0} (seen : X → Attached) (items : List X) (opened old new : Places) (steps : List Step) (answers : List Answer) → opened ≡ new_world config (map seen items)
     → is_config config (length items) ≡ true → Run opened steps answers old → RestsAfter old round new → RestedDisksHaveDone → DiskHasDoneIn (map seen items) new

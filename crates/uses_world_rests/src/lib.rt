@@ -2,8 +2,10 @@
 #![tactic(auto)]
 
 ghost use Rattle.std.specs.Prelude.{IfSome, map};
+ghost use Rattle.hba_driver.specs.HostTurns.{sight_in};
 ghost use Rattle.world_rests.specs.Rests.{NothingMoves};
 ghost use Rattle.world_rests.specs.Waits.{HostWaits};
+ghost use Rattle.world_rests.specs.Watches.{WaitsForNotice};
 ghost use Rattle.uses_world_rests.specs.Left.{DiskHasDoneIn, DiskIsLeftIn};
 
 use pm_world::{Config, PortDevice, Step, World};
@@ -24,13 +26,15 @@ const ROUND: [Step; 10] = [
 ];
 
 /// Makes a world of one unit, does these steps, and then a round. Gives the world if the round did nothing: then nothing moves,
-/// and the host waits, whatever the steps were. If the unit is a disk that was left alone, no command is with it.
+/// and the host waits, whatever the steps were; slot 31 waits for a notification alone. If the unit is a disk that was left alone,
+/// no command is with it.
 pub fn rested<D: PortDevice + Drop>(
     alloc: Global,
     units: Vec<D>,
     steps: &[Step],
 ) -> Option<World<D>>
     ensures rests { IfSome result (λ world. NothingMoves world × HostWaits world.host) }
+    ensures watches { IfSome result (λ world. WaitsForNotice (sight_in world.host) world.host.driver.plan) }
     ensures disk { IfSome result (λ world. DiskHasDoneIn (map D.seen units.items) world) }
     ensures left { IfSome result (λ world. DiskIsLeftIn (map D.seen units.items) world) }
 {
@@ -50,5 +54,6 @@ pub fn rested<D: PortDevice + Drop>(
     };
     world_rests::rested_disks_have_done();
     world_rests::rested_disks_are_left();
+    world_rests::rested_drivers_watch();
     Some(world)
 }
