@@ -18,7 +18,7 @@ use Rattle.disk_model.specs.Anew.{IsCarefulSince, IsLinkedOn}
 use Rattle.disk_model.specs.Ends.{IsFree, MovesOther, has, with_down, with_up}
 use Rattle.disk_model.specs.Histories.{Happening}
 use Rattle.disk_model.specs.Laws.{OwesNothing, WaitsWell}
-use Rattle.disk_model.specs.Ledger.{IsSize, Ledger, Moving, ledger}
+use Rattle.disk_model.specs.Ledger.{IsSize, Ledger, Moving, ShowsPage, Signs, ledger}
 use Rattle.disk_model.specs.Runs.{IsDiskRun}
 use Rattle.disk_model.proofs.Door.{ends_agree_anew}
 use Rattle.hba_laws.specs.Agreement.{IsHistoryOf, IssueAgrees, is_for, work_of_issue, work_of_transfer}
@@ -26,8 +26,6 @@ use Rattle.hba_laws.specs.Client.{Touches, own}
 use Rattle.hba_laws.specs.History.{History, Transfer, is_set_up, issued}
 use Rattle.hba_laws.specs.Hosts as event
 use Rattle.hba_laws.proofs.Door.{own_here}
-use Rattle.hba_driver.specs.declared.plan.Device.TheVariants.{Ready}
-use Rattle.hba_driver.specs.Drivers.{device_at}
 use Rattle.hba_driver.specs.Events.{shared_by}
 use Rattle.hba_driver.specs.HostTurns.{Host}
 use Rattle.hba_driver.specs.Slot30.{is_faulty}
@@ -150,6 +148,15 @@ module _ (n : ℕ) (below : n < 15) (plan : DiskPlan) (sectors : ℕ) (h : Host)
   pub same_told : ledger t.given ≡ ledger disk
   same_told = both_tell plan sectors t.base disk t.given running.size running.run linked_at kept_at.careful
 
+  -- a disk that owes nothing has told something since both began anew, since it owed its signature or the page of its log then
+  pub has_told : OwesNothing (ledger disk) → t.given ≡ t.base → ⊥
+  has_told owes begun =
+      let none : (ledger t.base).awaited ≡ [] = ap (λ (k : Ledger). k.awaited) (sym (ap ledger begun) ∙ same_told) ∙ owes.awaited in
+      elim t.owes [
+        | inl signs ↦ let bad : [] ≡ Signs ∷ [] = sym none ∙ signs.awaited in cc bad
+        | inr (page, shows) ↦ let bad : [] ≡ ShowsPage ∷ [] = sym none ∙ shows.awaited in cc bad
+      ]
+
 module _ (n : ℕ) (below : n < 15) (plan : DiskPlan) (sectors : ℕ) (h : Host) (disk : List Happening) (floors : ℕ → ℕ) (touches : Touches)
     (running : IsRunning plan sectors disk touches h) (owes : OwesNothing (ledger disk)) (fed : payload (context_of h.port.slots n) ≡ None)
     (faultless : cause_of h.port.errors n ≡ None) where
@@ -169,16 +176,16 @@ module _ (n : ℕ) (below : n < 15) (plan : DiskPlan) (sectors : ℕ) (h : Host)
       o.taken slot w.transfer w.there (ap (λ (x : Work). is_queued x.kind) w.work ∙ queued) (kept.joined.sent slot issue here ∙ sent)
       (all_free n t.commands (shared_by h) (own n touches) (ledger t.given) kept.joined o.asked fed (subst OwesNothing (sym same) owes) slot))
 
-  -- nor does the port show BSY or DRQ, once the driver takes the disk to be ready
-  pub together_idle : DisksSendTheirs → GivenFits → device_at h.driver.plan n ≡ Ready → IsTogether n h disk [] [] floors touches → IsOccupied n h.port → ⊥
-  together_idle theirs fits ready t occupied =
+  -- nor does the port show BSY or DRQ
+  pub together_idle : DisksSendTheirs → GivenFits → IsTogether n h disk [] [] floors touches → IsOccupied n h.port → ⊥
+  together_idle theirs fits t occupied =
       let linked : IsLinkedOn t.base disk t.given [] [] [] = linked_at n below plan sectors h disk floors touches running t in
       let same : ledger t.given ≡ ledger disk = same_told n below plan sectors h disk floors touches running t in
       let heard : AreHeard t.base t.given = are_heard plan sectors running.size theirs t.base disk t.given [] [] [] linked running.run in
       let c : IsCalmOn n t.base below t.owes fits (shared_by h) t.given (own n touches) =
       calm_on n t.base below t.owes fits (shared_by h) t.given t.commands (own n touches) t.served.hosted heard in
       elim c.file [
-        | inl begun ↦ t.unready begun ready
+        | inl begun ↦ has_told n below plan sectors h disk floors touches running t owes begun
         | inr calm ↦ elim occupied [
           | inl busy ↦ calm.busy busy (ap (λ (k : Ledger). k.awaited) same ∙ owes.awaited)
           | inr wants ↦ (calm.wants wants).pages (ap (λ (k : Ledger). k.pages) same ∙ owes.pages)

@@ -14,8 +14,6 @@ use Rattle.disk_model.specs.Ledger.{IsSize, ledger}
 use Rattle.disk_simulation.specs.Files.{DisksSendTheirs}
 use Rattle.hba_laws.specs.Client.{Touches}
 use Rattle.hba_driver.specs.declared.mode.Mode.TheVariants.{Switching}
-use Rattle.hba_driver.specs.declared.plan.Device.TheVariants.{Ready}
-use Rattle.hba_driver.specs.Drivers.{device_at}
 use Rattle.disk_recovery.specs.Ends.{AreEnds, IsRunning, IsTogether}
 use Rattle.pm_world.specs.Attached.{Attached, Modelled, Own}
 use Rattle.pm_world.specs.DevicePaths.{ReachedAreOrderly}
@@ -40,7 +38,7 @@ use Rattle.world_rests.specs.Rests.{HasAnswered, IsAtRest, NothingMoves, PortRes
 use Rattle.world_rests.specs.Waits.{HostWaits}
 use Rattle.world_rests.proofs.Answered.{none_is_out, together_idle}
 use Rattle.world_rests.proofs.Calm.{GivenFits}
-use Rattle.world_rests.proofs.Freed.{is_free}
+use Rattle.world_rests.proofs.Freed.{is_free, is_unworked}
 use Rattle.world_rests.proofs.NothingOut.{nothing_is_out}
 use Rattle.world_rests.proofs.Ready.{none_is_left, none_is_shown}
 use Rattle.world_rests.proofs.Comings.{Of, all, known, known_reached}
@@ -162,12 +160,12 @@ rested_disks_have_done theirs fit have_done orderly meet config units n sectors 
     let r : HasRested n plan sectors now = has_rested have_done orderly meet config units n sectors plan past fits below disk now d there opens rests_now in
     let out : NoneIsOut n now.host.port =
     none_is_out n below plan sectors now.host r.history r.floors r.touches r.running r.owes (r.host.port.fed n (omega (arith, below))) (r.host.port.faultless n) r.ends in
-    let idle : device_at now.host.driver.plan n ≡ Ready → IsTogether n now.host r.history [] [] r.floors r.touches → IsOccupied n now.host.port → ⊥ =
-    λ ready. together_idle n below plan sectors now.host r.history r.floors r.touches r.running r.owes (r.host.port.fed n (omega (arith, below))) (r.host.port.faultless n) theirs fit ready in
+    let idle : IsTogether n now.host r.history [] [] r.floors r.touches → IsOccupied n now.host.port → ⊥ =
+    together_idle n below plan sectors now.host r.history r.floors r.touches r.running r.owes (r.host.port.fed n (omega (arith, below))) (r.host.port.faultless n) theirs fit in
     record {
       out = out;
-      idle = λ ready. none_is_shown n below plan sectors now.host r.history r.floors r.touches r.running r.host.port r.host.driver out ready (idle ready) r.ends;
-      left = λ ready. none_is_left n below plan sectors now.host r.history r.floors r.touches r.running r.host.port r.host.driver out ready (idle ready) r.ends;
+      idle = λ fine. none_is_shown n now.host r.history r.host.port fine r.floors r.touches idle r.ends;
+      left = λ ready. none_is_left n below plan sectors now.host r.history r.floors r.touches r.running r.host.port r.host.driver out ready idle r.ends;
     }
 
 pub rested_disks_are_left : RestedHaveDone → ReachedAreOrderly → EndsMeet → RestedDisksHaveDone → RestedDisksAreLeft
@@ -180,5 +178,7 @@ rested_disks_are_left have_done orderly meet disks_have_done config units n sect
     record {
       out = out;
       free = free;
-      ready = λ ready. free ((disks_have_done config units n sectors plan past fits below disk now d there opens rests_now).idle ready);
+      fine = λ fine.
+          let idle : IsOccupied n now.host.port → ⊥ = (disks_have_done config units n sectors plan past fits below disk now d there opens rests_now).idle fine in
+          (free idle, is_unworked n below plan sectors now.host r.history r.floors r.touches r.running r.owes r.host.port r.host.driver out idle r.ends fine);
     }

@@ -1,5 +1,5 @@
 -- For `rested_disks_are_left`. Where no command is with a disk, and its port shows neither BSY nor DRQ of it, nothing is issued for it.
-use Rattle.std.proofs.Common.{◌≡◌, ℕ, ◌<◌, Bool, true, false, List, [], ◌∷◌, length, refl, sym, ap, subst, ◌∙◌, inl, inr, Option, Some, None, arith}
+use Rattle.std.proofs.Common.{◌≡◌, ℕ, ◌<◌, Bool, true, false, List, [], length, refl, sym, ap, subst, ◌∙◌, inl, inr, Option, Some, None, arith}
 use Rattle.std.specs.Prelude.{◌||◌, is_some, not}
 use Rattle.std.proofs.lemmas.Bool.{and_parts, false≢true, true≢false}
 use Rattle.slots.specs.Commands.{has_outstanding}
@@ -13,11 +13,11 @@ use Rattle.hba_fbs.specs.Views.{state_at, view_of}
 use Rattle.disk_model.specs.declared.plan.DiskPlan.{DiskPlan}
 use Rattle.disk_model.specs.Histories.{Happening}
 use Rattle.disk_model.specs.Laws.{OwesNothing}
-use Rattle.disk_model.specs.Ledger.{ShowsPage, Signs, ledger}
+use Rattle.disk_model.specs.Ledger.{ledger}
 use Rattle.hba_laws.specs.Client.{Touches}
 use Rattle.hba_laws.proofs.Door.{is_own, own_here, own_in}
 use Rattle.hba_driver.specs.declared.path.Path.{Path}
-use Rattle.hba_driver.specs.declared.path.Stage.TheVariants.{AwaitReset}
+use Rattle.hba_driver.specs.declared.path.Stage.TheVariants.{AwaitReset, Identify}
 use Rattle.hba_driver.specs.declared.slot.Phase.{Phase}
 use Rattle.hba_driver.specs.declared.slot.Phase.TheVariants as phase
 use Rattle.hba_driver.specs.Drivers.{Entry, device_at, entry_at, has_ended_in, is_aside_in, is_issued, waits, waits_in}
@@ -26,16 +26,17 @@ use Rattle.hba_driver.specs.HostTurns.{Host, sight_in}
 use Rattle.hba_driver.specs.Orders.{control}
 use Rattle.hba_driver.specs.Served.{IsIssueOf}
 use Rattle.hba_driver.specs.Slot30.{Asks, Cleared, Clears, Faulty, IsSlot30, LogSent, Off, On, Sets, Stage30, is_faulty, is_resetting}
-use Rattle.hba_driver.specs.Tended.{IsLiveAt}
+use Rattle.hba_driver.specs.Steady.{IsFine}
+use Rattle.hba_driver.specs.Tended.{Awaits, Fine, Identifies, IsLiveAt, IsTendedBy, IsUnworked, Logs, Releases, Spoilt}
 use Rattle.hba_driver.proofs.Door.{is_alone, told_of}
 use Rattle.disk_recovery.specs.Ends.{Apart, AreEnds, IsRunning, IsSetAside, IsTogether, Together}
 use Rattle.world_rests.specs.Left.{IsOccupied}
 use Rattle.world_rests.specs.Out.{AwaitsAtMost, DiskIsFree, NoRequestIsLeft, NothingIsIssued, NothingIsOut}
 use Rattle.world_rests.specs.Sent.{HasOther, HasQueued, Holds, InReset, IsBusy, PortWaits, WantsData}
 use Rattle.world_rests.specs.Waits.{DriverWaits, ForCommand, ForEnd, ForNobody, Waits30}
-use Rattle.world_rests.proofs.Answered.{same_told}
+use Rattle.world_rests.proofs.Answered.{has_told}
 use Rattle.world_rests.proofs.NothingOut.{control_kind}
-use Rattle.world_rests.proofs.Ready.{own_dev, stands_at}
+use Rattle.world_rests.proofs.Ready.{apart_never, own_dev, stands_at}
 
 not_both : {X : Type 0} (b : Bool) → b ≡ true → b ≡ false → X
 not_both b is not = absurd (true≢false (sym is ∙ not))
@@ -80,14 +81,7 @@ module _ (n : ℕ) (below : n < 15) (plan : DiskPlan) (sectors : ℕ) (h : Host)
   -- ---- its software reset holds nothing back
 
   together_unreset : IsTogether n h disk [] [] floors touches → (view_of n h.port).state.resetting ≡ true → ⊥
-  together_unreset t resets =
-      let same : ledger t.given ≡ ledger disk = same_told n below plan sectors h disk floors touches running t in
-      let base : ledger t.base ≡ ledger disk = sym (ap ledger (t.served.resets resets).1) ∙ same in
-      let none : (ledger t.base).awaited ≡ [] = ap (λ k. k.awaited) base ∙ owes.awaited in
-      elim t.owes [
-        | inl signs ↦ let bad : [] ≡ Signs ∷ [] = sym none ∙ signs.awaited in cc bad
-        | inr (page, shows) ↦ let bad : [] ≡ ShowsPage ∷ [] = sym none ∙ shows.awaited in cc bad
-      ]
+  together_unreset t resets = has_told n below plan sectors h disk floors touches running t owes (t.served.resets resets).1
 
   -- what is issued while it is set aside and is no Control is READ LOG EXT, before a reset
   apart_unreset : (a : IsSetAside n h disk [] []) (i : Issue) (slot : ℕ) → own_issue (view_of n h.port).slots slot ≡ Some i → is_control i.work.kind ≡ false → (view_of n h.port).state.resetting ≡ true → ⊥
@@ -206,3 +200,19 @@ module _ (n : ℕ) (below : n < 15) (plan : DiskPlan) (sectors : ℕ) (h : Host)
 
     pub is_free : DiskIsFree n h
     is_free = record { issued = nothing_issued; requests = none_left; path = awaits_at_most }
+
+    -- a disk that does not recover is worked on only to be identified, which is a command
+    pub is_unworked : IsFine (device_at h.driver.plan n) → IsUnworked n h.driver.plan
+    is_unworked fine p goes dev = by_ends ends
+      where
+        by_way : IsTendedBy n h.driver.plan → ⊥
+        by_way (Fine device works) = let wrong : Identify ≡ AwaitReset = sym (works p goes dev).0 ∙ (awaits_at_most p goes dev).1 in absurd (cc wrong)
+        by_way (Releases device works) = subst IsFine device fine
+        by_way (Awaits device works) = subst IsFine device fine
+        by_way (Identifies device works) = subst IsFine device fine
+        by_way (Logs before file device works) = subst IsFine device fine
+        by_way (Spoilt device away) = away p goes dev
+
+        by_ends : AreEnds n h disk [] [] floors touches → ⊥
+        by_ends (Together t) = by_way t.served.tended.plan.way
+        by_ends (Apart a are) = apart_never n h disk port fine a

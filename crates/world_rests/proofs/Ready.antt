@@ -30,7 +30,8 @@ use Rattle.hba_laws.proofs.Door.{own_here, own_in}
 use Rattle.hba_driver.specs.declared.mode.Mode.TheVariants.{Switching}
 use Rattle.hba_driver.specs.declared.path.Path.{Path}
 use Rattle.hba_driver.specs.declared.plan.Device.{Device}
-use Rattle.hba_driver.specs.declared.plan.Device.TheVariants.{Ready, Starting}
+use Rattle.hba_driver.specs.declared.plan.Device.TheVariants.{Ready, Recovering, Starting}
+use Rattle.hba_driver.specs.declared.path.Recovery.{Recovery}
 use Rattle.hba_driver.specs.declared.request.Work.{Work}
 use Rattle.hba_driver.specs.declared.request.Work.TheVariants as work
 use Rattle.hba_driver.specs.Drivers.{Entry, device_at, entry_at, is_issued, waits}
@@ -41,6 +42,7 @@ use Rattle.hba_driver.specs.Seeing.{Sight}
 use Rattle.hba_driver.specs.Served.{IsIssueOf, IsRequest}
 use Rattle.hba_driver.specs.Sights.{px_ci, px_sact, shown, sight_of}
 use Rattle.hba_driver.specs.Slot30.{Asks, Cleared, Clears, Faulty, IsPlan30, LogSent, Off, On, Sets, Stage30, is_faulty}
+use Rattle.hba_driver.specs.Steady.{IsFine}
 use Rattle.hba_driver.specs.Tended.{Awaits, Fine, Identifies, IsLiveAt, IsTendedBy, Logs, Releases, Spoilt}
 use Rattle.hba_driver.proofs.Door.{issued_live, sight_is, told_of}
 use Rattle.disk_recovery.specs.Ends.{Apart, AreEnds, IsRunning, IsSetAside, IsTogether, Together}
@@ -114,6 +116,32 @@ own_dev n s slots j here lt = by_owner (issue_at slots s) (sym (own_at n slots s
     by_owner : (o : Option Issue) → owned_by n o ≡ Some j → j.dev ≡ n
     by_owner None same = absurd (cc same)
     by_owner (Some k) same = by_test k (k.dev == n) refl same
+
+module _ (n : ℕ) (h : Host) (disk : List Happening) (port : PortWaits h.port) (fine : IsFine (device_at h.driver.plan n)) where
+  -- a device that is set aside recovers
+  never : (way : Recovery) → device_at h.driver.plan n ≡ Recovering way → ⊥
+  never way is = subst IsFine is fine
+
+  recovers : (stage : Stage30) → is_faulty stage ≡ false → IsPlan30 n stage h.driver.plan → ⊥
+  recovers Faulty well at = true≢false well
+  recovers Cleared well at = never _ at.device
+  recovers Asks well at = never _ at.device
+  recovers LogSent well at = never _ at.device
+  recovers Sets well at = never _ at.device
+  recovers On well (inl at) = never _ at.device
+  recovers On well (inr at) = never _ at.device
+  recovers Clears well at = never _ at.device
+  recovers Off well (inl at) = never _ at.device
+  recovers Off well (inr at) = never _ at.device
+
+  pub apart_never : IsSetAside n h disk [] [] → ⊥
+  apart_never a =
+      let unfaulted : is_faulty a.stage ≡ false = sym a.at.fault ∙ ap is_some (port.faultless n) in
+      recovers a.stage unfaulted (a.at.apart unfaulted).plan
+
+  pub none_is_shown : (floors : ℕ → ℕ) (touches : Touches) → (IsTogether n h disk [] [] floors touches → IsOccupied n h.port → ⊥) → AreEnds n h disk [] [] floors touches → IsOccupied n h.port → ⊥
+  none_is_shown floors touches idle (Together t) = idle t
+  none_is_shown floors touches idle (Apart a are) = λ occupied. apart_never a
 
 module _ (n : ℕ) (below : n < 15) (plan : DiskPlan) (sectors : ℕ) (h : Host) (disk : List Happening) (floors : ℕ → ℕ) (touches : Touches)
     (running : IsRunning plan sectors disk touches h) (port : PortWaits h.port) (driver : DriverWaits (sight_in h) h.driver) (out : NoneIsOut n h.port)
@@ -249,29 +277,7 @@ module _ (n : ℕ) (below : n < 15) (plan : DiskPlan) (sectors : ℕ) (h : Host)
         by_phase false true waiting_now issued_now = absurd (its_issue issued_now)
         by_phase false false waiting_now issued_now = ap (λ (b : Bool). b || is_issued e.head) waiting_now ∙ issued_now
 
-  -- a device that recovers is not ready
-  recovers : (stage : Stage30) → is_faulty stage ≡ false → IsPlan30 n stage h.driver.plan → ⊥
-  recovers Faulty well at = true≢false well
-  recovers Cleared well at = let wrong = sym ready ∙ at.device in absurd (cc wrong)
-  recovers Asks well at = let wrong = sym ready ∙ at.device in absurd (cc wrong)
-  recovers LogSent well at = let wrong = sym ready ∙ at.device in absurd (cc wrong)
-  recovers Sets well at = let wrong = sym ready ∙ at.device in absurd (cc wrong)
-  recovers On well (inl at) = let wrong = sym ready ∙ at.device in absurd (cc wrong)
-  recovers On well (inr at) = let wrong = sym ready ∙ at.device in absurd (cc wrong)
-  recovers Clears well at = let wrong = sym ready ∙ at.device in absurd (cc wrong)
-  recovers Off well (inl at) = let wrong = sym ready ∙ at.device in absurd (cc wrong)
-  recovers Off well (inr at) = let wrong = sym ready ∙ at.device in absurd (cc wrong)
-
-  apart_never : IsSetAside n h disk [] [] → ⊥
-  apart_never a =
-      let unfaulted : is_faulty a.stage ≡ false = sym a.at.fault ∙ ap is_some (port.faultless n) in
-      recovers a.stage unfaulted (a.at.apart unfaulted).plan
-
   module _ (idle : IsTogether n h disk [] [] floors touches → IsOccupied n h.port → ⊥) where
-    pub none_is_shown : AreEnds n h disk [] [] floors touches → IsOccupied n h.port → ⊥
-    none_is_shown (Together t) = idle t
-    none_is_shown (Apart a are) = λ occupied. apart_never a
-
     pub none_is_left : AreEnds n h disk [] [] floors touches → NoneIsLeft n h
     none_is_left (Together t) = none_left t (idle t)
-    none_is_left (Apart a are) = absurd (apart_never a)
+    none_is_left (Apart a are) = absurd (apart_never n h disk port (subst IsFine (sym ready) tt) a)

@@ -13,6 +13,7 @@ use Rattle.disk_model.specs.Histories.{Happening}
 use Rattle.hba_driver.specs.declared.plan.Device.TheVariants.{Ready}
 use Rattle.hba_driver.specs.Drivers.{Entry, device_at, entry_at, is_issued, waits}
 use Rattle.hba_driver.specs.HostTurns.{Host}
+use Rattle.hba_driver.specs.Steady.{IsFine}
 use Rattle.hba_driver.specs.Orders.{is_queued as is_queued_work}
 use Rattle.pm_world.specs.Attached.{Attached}
 use Rattle.pm_world.specs.Disks.{DiskRun, HasDisk}
@@ -37,10 +38,11 @@ NoneIsLeft n h =
     (slot : ℕ) (e : Entry) → slot < 30 → entry_at h.driver.entries slot ≡ Some e → e.head.dev ≡ n → is_queued_work e.head.work ≡ true
     → (waits e.head || is_issued e.head) ≡ false
 
--- No read or write is with the disk. While the driver takes it to be ready, its port shows neither BSY nor DRQ of it, and none is left.
+-- No read or write is with the disk. While the driver does not take it to recover, its port shows neither BSY nor DRQ of it, and while it
+-- takes it to be ready, none is left.
 pub record DiskHasDone (n : ℕ) (h : Host) : Type 0 where
   pub out : NoneIsOut n h.port
-  pub idle : device_at h.driver.plan n ≡ Ready → IsOccupied n h.port → ⊥
+  pub idle : IsFine (device_at h.driver.plan n) → IsOccupied n h.port → ⊥
   pub left : device_at h.driver.plan n ≡ Ready → NoneIsLeft n h
 
 -- That holds in a world at rest for a disk that is plugged in, and was left alone since then, behind a port that forwards.

@@ -11,9 +11,10 @@ use Rattle.disk_model.specs.declared.plan.DiskPlan.{DiskPlan}
 use Rattle.disk_model.specs.Histories.{Happening}
 use Rattle.hba_driver.specs.declared.path.Path.{Path}
 use Rattle.hba_driver.specs.declared.path.Stage.TheVariants.{AwaitReset}
-use Rattle.hba_driver.specs.declared.plan.Device.TheVariants.{Ready}
 use Rattle.hba_driver.specs.Drivers.{Entry, device_at, entry_at, is_issued, waits}
 use Rattle.hba_driver.specs.HostTurns.{Host}
+use Rattle.hba_driver.specs.Steady.{IsFine}
+use Rattle.hba_driver.specs.Tended.{IsUnworked}
 use Rattle.pm_world.specs.Attached.{Attached}
 use Rattle.pm_world.specs.Disks.{DiskRun, HasDisk}
 use Rattle.pm_world.specs.PathEnds.{IsThere}
@@ -47,10 +48,11 @@ pub record DiskIsFree (n : ℕ) (h : Host) : Type 0 where
   pub requests : NoRequestIsLeft n h
   pub path : AwaitsAtMost n h
 
--- No command is with the disk. It is free while the driver takes it to be ready, or its port shows neither BSY nor DRQ of it.
+-- No command is with the disk. While the driver does not take it to recover, it is free, and slot 30 does not work on it. It is free, too,
+-- while its port shows neither BSY nor DRQ of it.
 pub record DiskIsLeft (n : ℕ) (h : Host) : Type 0 where
   pub out : NothingIsOut n h.port
-  pub ready : device_at h.driver.plan n ≡ Ready → DiskIsFree n h
+  pub fine : IsFine (device_at h.driver.plan n) → DiskIsFree n h × IsUnworked n h.driver.plan
   pub free : (IsOccupied n h.port → ⊥) → DiskIsFree n h
 
 -- That holds in a world at rest for a disk that is plugged in, and was left alone since then, behind a port that forwards.

@@ -39,8 +39,8 @@ pub fn rested_have_done()
 
 /// Holds of each world at rest that a run from a new one with FIS-based switching leads to, for a disk of `disk_model` that was
 /// left alone since its plugging (nothing was injected at its port), is plugged in, and whose port forwards. No read or write is with
-/// the disk: what is issued for it and is a read or a write did not go out. While the driver takes the disk to be ready, the host
-/// port shows neither BSY nor DRQ of it, and no read or write for it waits or is issued.
+/// the disk: what is issued for it and is a read or a write did not go out. While the driver does not take the disk to recover, the
+/// host port shows neither BSY nor DRQ of it. While it takes it to be ready, no read or write for it waits or is issued.
 pub fn rested_disks_have_done()
     ensures { RestedDisksHaveDone }
 {
@@ -64,8 +64,9 @@ pub fn rested_drivers_watch()
 /// Holds of each world at rest that a run from a new one with FIS-based switching leads to, for a disk of `disk_model` that was
 /// left alone since its plugging (nothing was injected at its port), is plugged in, and whose port forwards. No command is with the
 /// disk: what is issued for it did not go out, be it a read, a write, a FLUSH, an IDENTIFY DEVICE or the read of its error log.
-/// While the driver takes the disk to be ready, or the host port shows neither BSY nor DRQ of it, nothing is issued for it, no request
-/// of it waits or is issued, and slot 30 works on it at most to await the end of its software reset.
+/// While the driver does not take the disk to recover, nothing is issued for it, no request of it waits or is issued, and slot 30 does
+/// not work on it. Of a disk that recovers that holds while the host port shows neither BSY nor DRQ of it, but that slot 30 may
+/// await the end of its software reset.
 pub fn rested_disks_are_left()
     ensures { RestedDisksAreLeft }
 {
