@@ -1,1 +1,2 @@
 mod LedLemmas
+mod StandLemmas

@@ -1,1 +1,2 @@
 pub mod Led
+pub mod Standing

@@ -1,10 +1,15 @@
 //! A caller of a machine that knows where the bytes come from that it is told to write to the guest, and which commands its disks have.
 #![tactic(auto)]
 
-ghost use Rattle.std.specs.Prelude.{◌≤◌, IfOk};
+ghost use Rattle.std.specs.Prelude.{◌≡◌, ◌<◌, ◌≤◌, IfOk};
+ghost use Rattle.slots.specs.Slots.{has_bit};
+ghost use Rattle.ahci_registers.specs.declared.register.Register.TheVariants.{PxCi};
+ghost use Rattle.ahci_controller.specs.Reading.{shown};
 ghost use Rattle.uses_machine_theorem.specs.Led.{EndsCompleted, EndsEarned, IsLed, KnowsDisks, LendsBrought, LendsOfSlots, PutsNew, SpeaksOfSlots};
+ghost use Rattle.uses_machine_theorem.specs.Standing.{BeginsToStand, GoesOnStanding};
 
-use ahci_machine::{Act, Machine, PortFault, Unit};
+use ahci_controller::Width;
+use ahci_machine::{Act, Machine, PortFault, Told, Unit, Wanted};
 use disk_pages::Profile;
 use sata_disk::SataDisk;
 use std::alloc::{AllocError, Global};
@@ -54,6 +59,40 @@ pub fn moves(alloc: Global, machine: &mut Machine) -> Result<Act, AllocError>
     let moved = machine.step(alloc);
     machine.keeps_rules();
     moved
+}
+
+/// Reads the bit of a slot in PxCI.
+fn is_up(machine: &Machine, slot: u8) -> bool
+    requires { slot < 32 }
+    ensures { result ≡ has_bit (shown PxCi machine.now.controller) slot }
+{
+    machine.read(0x138, Width::Dword) >> slot & 1 == 1
+}
+
+/// Bytes of the guest's memory come for the command of a slot. The answer is whether it is issued by that, and its bit of PxCI is 1.
+pub fn supplies(
+    alloc: Global,
+    machine: &mut Machine,
+    slot: u8,
+    number: u64,
+    bytes: &[u8],
+) -> Result<bool, AllocError>
+    requires { slot < 32 }
+    ensures { BeginsToStand slot machine.old result machine.new }
+{
+    let told = machine.supply(alloc, Wanted::Command { slot, number }, bytes)?;
+    machine.keeps_rules();
+    Ok(matches!(told, Told::Issued { .. }) && is_up(machine, slot))
+}
+
+/// The machine moves. The answer is whether the bit of a slot in PxCI is 1 after that. As long as it is, the slot has the command that was issued there.
+pub fn watches(alloc: Global, machine: &mut Machine, slot: u8) -> Result<bool, AllocError>
+    requires { slot < 32 }
+    ensures { GoesOnStanding slot machine.old result machine.new }
+{
+    let _ = machine.step(alloc)?;
+    machine.keeps_rules();
+    Ok(is_up(machine, slot))
 }
 
 /// Plugs in what is at a port. The caller knows of each disk in the machine, whatever run led to it, that it heard nothing but its guest, that
