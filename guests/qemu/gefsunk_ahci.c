@@ -30,6 +30,9 @@
 #include "hw/qdev-properties.h"
 #include "migration/vmstate.h"
 #include "gefsunk_ahci.h"
+#ifdef __GLIBC__
+#include <malloc.h>
+#endif
 
 #define EVENTS 256           /* that are done before others have their turn */
 #define MSI 0x80   /* where capabilities stand */
@@ -57,7 +60,7 @@ void gefsunk_note(GefsunkAhci *s, const char *format, ...)
 /* In a log, when it was. */
 static void note_time(GefsunkAhci *s)
 {
-    if (!s->record) {
+    if (s->log && !s->record) {
         gefsunk_note(s, "%.6f ", (double)qemu_clock_get_ns(QEMU_CLOCK_VIRTUAL) / NANOSECONDS_PER_SECOND);
     }
 }
@@ -293,10 +296,23 @@ static void write_config(PCIDevice *dev, uint32_t at, uint32_t value, int len)
     qemu_bh_schedule(s->later);
 }
 
+/*
+ * Blocks as long as a transfer come and go with each command. By itself glibc gives their pages back to the system whenever the last
+ * ones are freed, and new ones then take half of the time of a transfer.
+ */
+static void keep_pages(void)
+{
+#ifdef __GLIBC__
+    mallopt(M_MMAP_THRESHOLD, DISK_LIMIT);
+    mallopt(M_TRIM_THRESHOLD, MOST_PORTS * DISK_LIMIT);
+#endif
+}
+
 static void realize(PCIDevice *dev, Error **errp)
 {
     GefsunkAhci *s = GEFSUNK_AHCI(dev);
     const char *file;
+    keep_pages();
     if (s->ports > MOST_PORTS) {
         error_setg(errp, "ports is 0 to %d: 0 for one disk and no multiplier", MOST_PORTS);
         return;
