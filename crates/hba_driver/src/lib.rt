@@ -9,6 +9,7 @@
 mod driver;
 mod effect;
 mod laws;
+mod mask;
 mod mode;
 mod order;
 mod path;
@@ -18,6 +19,7 @@ mod request;
 mod scan;
 mod sight;
 mod slot;
+mod slots;
 mod span;
 mod turn;
 
