@@ -1,7 +1,7 @@
 -- Masks of slots: a bit for each slot, 0 to 31.
 use Rattle.std.specs.Prelude.{ℕ, ◌≡◌, ◌<◌, ◌==◌, Bool, true, false, if◌then◌else◌, List, Option, Some, None}
 use Rattle.slots.specs.Slots.{has_bit}
-use Rattle.hba_driver.specs.declared.slots.Masks.{Masks}
+use Rattle.hba_driver.specs.declared.taken.Masks.{Masks}
 use Rattle.hba_driver.specs.Drivers.{Entry, entry_at, has_ended, holds, is_issued, waits}
 use Rattle.hba_driver.specs.Requests.{is_free}
 

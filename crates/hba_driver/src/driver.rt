@@ -22,8 +22,8 @@ use crate::scan::{
 };
 use crate::sight::Sight;
 use crate::slot::{Head, Phase, share_bytes};
-use crate::slots::Slots;
 use crate::span::have_overlap;
+use crate::taken::Slots;
 use crate::turn::Act;
 use hba_commands::write_command;
 use hba_fbs::HostPort;

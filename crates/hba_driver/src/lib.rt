@@ -19,8 +19,8 @@ mod request;
 mod scan;
 mod sight;
 mod slot;
-mod slots;
 mod span;
+mod taken;
 mod turn;
 
 pub use driver::Driver;

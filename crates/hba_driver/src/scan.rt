@@ -15,8 +15,8 @@ use crate::plan::Plan;
 use crate::request::{Outcome, Work};
 use crate::sight::{ErrorLog, Sight};
 use crate::slot::{Group, Phase};
-use crate::slots::Slots;
 use crate::span::Buffers;
+use crate::taken::Slots;
 use crate::turn::{Act, Logged};
 use host_memory::Prd;
 

@@ -11,7 +11,7 @@ use crate::path::{Path, Stage, TaskFile, reset_all};
 use crate::plan::{Device, Plan};
 use crate::scan::{has_issued_other, lowest_due};
 use crate::sight::{Sight, has_bit};
-use crate::slots::Slots;
+use crate::taken::Slots;
 
 /// The slot of commands to the multiplier.
 const CONTROL_SLOT: u8 = 31;

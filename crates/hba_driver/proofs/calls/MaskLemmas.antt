@@ -8,7 +8,7 @@ use Rattle.std.specs.Int.{bit_at}
 use Rattle.slots.proofs.Door.{lowest_found, lowest_none}
 use Rattle.slots.specs.Slots.{has_bit, lowest_below}
 use Rattle.hba_driver.specs.declared.slot.Head.{Head}
-use Rattle.hba_driver.specs.declared.slots.Masks.{Masks}
+use Rattle.hba_driver.specs.declared.taken.Masks.{Masks}
 use Rattle.hba_driver.specs.Drivers.{Entry, entry_at, holds, is_issued, waits}
 use Rattle.hba_driver.specs.Masks.{AreMasks, IsLowestBit, IsMask, NoneAt, Notes, SetsBit}
 use Rattle.hba_driver.specs.Requests.{is_free}

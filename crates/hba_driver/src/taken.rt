@@ -1,5 +1,5 @@
-//! The thirty slots of requests. Most questions about them are answered from masks, without a look at the
-//! slots themselves, which are large.
+//! The requests that were taken, in their thirty slots. Most questions about them are answered from masks,
+//! without a look at the slots, which are large.
 
 ghost use Rattle.std.specs.Prelude.{◌≡◌, ◌<◌, ◌≤◌, true, false, IfSome, Some, None, if◌then◌else◌, length, replicate, slice_set};
 ghost use Rattle.std.specs.Option.{option_map};
