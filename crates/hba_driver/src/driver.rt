@@ -74,7 +74,7 @@ impl Driver {
         Driver {
             plan: Plan::new(mode),
             given: ticket.saturating_sub(1),
-            slots: Slots::new(),
+            slots: Slots::empty(),
         }
     }
 

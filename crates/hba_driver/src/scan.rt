@@ -108,6 +108,7 @@ pub(crate) fn end_logged(slots: &mut Slots, sight: &Sight<'_>, logged: Option<Lo
     ensures ended { slots.new ≡ logged_ended sight.now.log logged slots.old }
     ensures long { length slots.new ≡ 30 }
 {
+    slots.keep_count();
     if let Some(logged) = logged {
         end_by_log(slots, sight.log(), logged);
     }
@@ -120,6 +121,7 @@ pub(crate) fn apply(slots: &mut Slots, act: Act)
     ensures applied { slots.new ≡ entries_after act slots.old }
     ensures long { length slots.new ≡ 30 }
 {
+    slots.keep_count();
     match act {
         Act::Stops => rephase(slots, Group::Open, Phase::Ended(Outcome::PortError)),
         Act::Clears(dev) => rephase(slots, Group::OpenOf(dev), Phase::Aside),

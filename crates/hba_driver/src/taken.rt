@@ -68,7 +68,7 @@ impl Masks {
 
 impl Slots {
     /// Slots without a request.
-    pub(crate) fn new() -> Self
+    pub(crate) fn empty() -> Self
         ensures { result ≡ replicate 30 None }
     {
         Slots {
@@ -160,7 +160,8 @@ impl Slots {
 
     /// Whether some request is issued and its bit is not among these.
     pub(crate) fn any_done(&self, issued: u32) -> bool
-        ensures { result ≡ any_done_of issued self.now }
+        ensures done { result ≡ any_done_of issued self.now }
+        ensures long { length self.now ≡ 30 }
     {
         lowest_bit(self.masks.issued & !issued).is_some()
     }

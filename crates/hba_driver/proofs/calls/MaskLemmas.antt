@@ -1,15 +1,16 @@
 -- For the functions of mask.rt and slots.rt. Masks of slots, and the entries that they stand for.
-use Rattle.std.proofs.Common.{◌≡◌, ◌≢◌, ◌<◌, ◌≤◌, ◌-◌, ◌*◌, ◌%◌, ◌^◌, ℕ, zero, suc, Bool, true, false, not, ◌&&◌, min, nat_eq, cond, List, length, set, refl, ap, sym, ◌∙◌, arith, inl, inr, w32, bit_and, bit_or, Option, Some, None}
+use Rattle.std.proofs.Common.{◌≡◌, ◌≢◌, ◌<◌, ◌≤◌, ◌-◌, ◌*◌, ◌%◌, ◌^◌, ℕ, rules, zero, suc, Bool, true, false, not, ◌&&◌, min, nat_eq, cond, List, length, replicate, set, refl, ap, sym, ◌∙◌, arith, inl, inr, w32, bit_and, bit_or, Option, Some, None}
 use Rattle.std.specs.Int.{bit_not, trailing_zeros}
 use Rattle.std.proofs.lemmas.Bool.{cases_eq, cases_lt, eq-eqb, ne_eqb, true≢false}
-use Rattle.std.proofs.lemmas.List.{get_or_past, get_or-set_same, get_or-set_other}
-use Rattle.std.proofs.lemmas.Nat.Bits.{bit_at-lt, bit_at-zero, bit_at_and, bit_at_not, bit_at_set_same, bit_at_set_other, bit_at_clear_same, bit_at_clear_other, bit_at-trailing_zeros}
+use Rattle.std.proofs.lemmas.List.{get_or_past, get_or-replicate, get_or-set_same, get_or-set_other, length-replicate}
+use Rattle.std.proofs.lemmas.Nat.Bits.{bit_at-lt, bit_at-zero, bit_at_and, bit_at_not, bit_at_ones, bit_at_set_same, bit_at_set_other, bit_at_clear_same, bit_at_clear_other, bit_at-trailing_zeros}
 use Rattle.std.specs.Int.{bit_at}
+use Rattle.std.specs.Prelude.{IfSome}
 use Rattle.slots.proofs.Door.{lowest_found, lowest_none}
 use Rattle.slots.specs.Slots.{has_bit, lowest_below}
 use Rattle.hba_driver.specs.declared.slot.Head.{Head}
 use Rattle.hba_driver.specs.declared.taken.Masks.{Masks}
-use Rattle.hba_driver.specs.Drivers.{Entry, entry_at, holds, is_issued, waits}
+use Rattle.hba_driver.specs.Drivers.{Entry, entry_at, has_ended, holds, is_issued, waits}
 use Rattle.hba_driver.specs.Masks.{AreMasks, IsLowestBit, IsMask, NoneAt, Notes, SetsBit}
 use Rattle.hba_driver.specs.Requests.{is_free}
 use Rattle.hba_driver.specs.Ticks.{is_done}
@@ -61,6 +62,13 @@ lowest_of test mask (Some s) same past low = elim (cases_lt s 30) [
   | inr beyond ↦ absurd (true≢false (sym low.1 ∙ same s low.0 ∙ past s beyond))
 ]
 
+pub lowest_inside : (test : ℕ → Bool) (mask : ℕ) (o : Option ℕ) → ((k : ℕ) → k < 32 → has_bit mask k ≡ test k) → ((k : ℕ) → 30 ≤ k → test k ≡ false) → IsLowestBit mask o → IfSome o (λ slot. slot < 30)
+lowest_inside test mask None same past low = search rules
+lowest_inside test mask (Some s) same past low = elim (cases_lt s 30) [
+  | inl below ↦ below
+  | inr beyond ↦ absurd (true≢false (sym low.1 ∙ same s low.0 ∙ past s beyond))
+]
+
 pub past_none : (entries : List (Option Entry)) (k : ℕ) → length entries ≡ 30 → 30 ≤ k → entry_at entries k ≡ None
 past_none entries k long past = get_or_past entries k None (omega arith)
 
@@ -83,8 +91,26 @@ pub masks_set : (old new : Masks) (slot : ℕ) (entries : List (Option Entry)) (
 masks_set old new slot entries e below m notes = record {
   waits = mask_set (holds waits) old.waits new.waits slot entries e below m.waits notes.waits;
   issued = mask_set (holds is_issued) old.issued new.issued slot entries e below m.issued notes.issued;
-  ended = mask_set _ old.ended new.ended slot entries e below m.ended notes.ended;
+  ended = mask_set (holds has_ended) old.ended new.ended slot entries e below m.ended notes.ended;
   free = mask_set is_free old.free new.free slot entries e below m.free notes.free;
+}
+
+abbrev no_entry : Option Entry
+no_entry = None
+
+empty_at : (n k : ℕ) (entries : List (Option Entry)) → entries ≡ replicate n no_entry → entry_at entries k ≡ None
+empty_at n k entries is = ap (λ (l : List (Option Entry)). entry_at l k) is ∙ elim (cases_lt k n) [
+  | inl below ↦ get_or-replicate n k None None below
+  | inr past ↦ get_or_past (replicate n no_entry) k None (rw (length-replicate n no_entry) past)
+]
+
+-- each slot is free
+pub no_masks : (n : ℕ) (entries : List (Option Entry)) → entries ≡ replicate n no_entry → AreMasks (record { waits = 0; issued = 0; ended = 0; free = 4294967295 }) entries
+no_masks n entries is = record {
+  waits = record { bits = λ k lt. ap (λ (b : ℕ). nat_eq b 1) (bit_at-zero k) ∙ sym (ap (holds waits) (empty_at n k entries is)) };
+  issued = record { bits = λ k lt. ap (λ (b : ℕ). nat_eq b 1) (bit_at-zero k) ∙ sym (ap (holds is_issued) (empty_at n k entries is)) };
+  ended = record { bits = λ k lt. ap (λ (b : ℕ). nat_eq b 1) (bit_at-zero k) ∙ sym (ap (holds has_ended) (empty_at n k entries is)) };
+  free = record { bits = λ k lt. eq-eqb _ _ (bit_at_ones 32 k lt) ∙ sym (ap is_free (empty_at n k entries is)) };
 }
 
 -- a mask of 0 has no slot
