@@ -140,34 +140,64 @@ pub(crate) fn apply(slots: &mut Slots, act: Act)
 pub(crate) fn has_other(slots: &Slots, dev: u8) -> bool
     ensures { result ≡ list_any (holds (is_open_of_other dev)) slots.now }
 {
-    slots.all().iter().any(|slot| slot.is_open_of_other(dev))
+    slots.keep_count();
+    for slot in 0..30_u8 {
+        if slots.is_open_of_other(dev, slot) {
+            return true;
+        }
+    }
+    false
 }
 
 /// Whether a request of another device is issued.
 pub(crate) fn has_issued_other(slots: &Slots, dev: u8) -> bool
     ensures { result ≡ list_any (holds (is_issued_of_other dev)) slots.now }
 {
-    slots.all().iter().any(|slot| slot.is_issued_of_other(dev))
+    slots.keep_count();
+    for slot in 0..30_u8 {
+        if slots.is_issued_of_other(dev, slot) {
+            return true;
+        }
+    }
+    false
 }
 
 /// Whether a request prevents this work from being taken for a device.
 pub(crate) fn are_blocked(slots: &Slots, dev: u8, work: Work) -> bool
     ensures { result ≡ list_any (holds (blocks dev work)) slots.now }
 {
-    slots.all().iter().any(|slot| slot.blocks(dev, work))
+    slots.keep_count();
+    for slot in 0..30_u8 {
+        if slots.blocks(dev, work, slot) {
+            return true;
+        }
+    }
+    false
 }
 
 /// Whether a request has one of the bytes of these entries, and one of the two reads.
 pub(crate) fn have_conflict(slots: &Slots, work: Work, prds: &[Prd]) -> bool
     ensures { result ≡ list_any (conflicts work prds.now) slots.now }
 {
+    slots.keep_count();
     let buffers = Buffers::of(prds);
-    slots.all().iter().any(|slot| slot.conflicts(work, &buffers))
+    for slot in 0..30_u8 {
+        if slots.conflicts(work, &buffers, slot) {
+            return true;
+        }
+    }
+    false
 }
 
 /// Whether a request has one of these bytes.
 pub(crate) fn are_used(slots: &Slots, at: u32, len: u32) -> bool
     ensures { result ≡ list_any (is_used_by at len) slots.now }
 {
-    slots.all().iter().any(|slot| slot.is_used(at, len))
+    slots.keep_count();
+    for slot in 0..30_u8 {
+        if slots.is_used(at, len, slot) {
+            return true;
+        }
+    }
+    false
 }

@@ -5,16 +5,17 @@ ghost use Rattle.std.specs.Prelude.{◌≡◌, ◌<◌, ◌≤◌, true, false, 
 ghost use Rattle.std.specs.Option.{option_map};
 ghost use Rattle.hba_driver.specs.Drivers.{entry_at, has_ended as has_ended_head, holds, rephased, waits as waits_head};
 ghost use Rattle.hba_driver.specs.Masks.{Notes, NoneAt};
-ghost use Rattle.hba_driver.specs.Requests.{is_free as is_free_entry};
-ghost use Rattle.hba_driver.specs.Submits.{completion_at, lowest_ended as lowest_ended_of};
+ghost use Rattle.hba_driver.specs.Requests.{blocks as blocks_of, conflicts as conflicts_of, is_free as is_free_entry, is_used_by};
+ghost use Rattle.hba_driver.specs.Submits.{completion_at, is_open_of_other as is_open_of_other_head, lowest_ended as lowest_ended_of};
 ghost use Rattle.hba_driver.specs.Ticks.{any_done as any_done_of, is_in as is_in_group};
-ghost use Rattle.hba_driver.specs.Turns.{issue_of, may_issue as may_issue_entry};
+ghost use Rattle.hba_driver.specs.Turns.{is_issued_of_other as is_issued_of_other_head, issue_of, may_issue as may_issue_entry};
 
 use crate::mask::{lowest_bit, with_bit};
 use crate::plan::Plan;
-use crate::request::Completion;
+use crate::request::{Completion, Work};
 use crate::sight::has_bit;
 use crate::slot::{Group, Head, Phase, Slot};
+use crate::span::Buffers;
 use crate::turn::Act;
 use host_memory::Prd;
 use std::marker::Model;
@@ -87,13 +88,6 @@ impl Slots {
         ensures { length self.now ≡ 30 }
     {
         let _ = &self.masks;
-    }
-
-    /// Each of them.
-    pub(crate) fn all(&self) -> &[Slot; 30]
-        ensures { result.now ≡ self.now }
-    {
-        &self.list
     }
 
     /// Puts a request into a slot.
@@ -211,5 +205,45 @@ impl Slots {
         ensures { result ≡ completion_at slot (entry_at self.now slot) }
     {
         self.list[slot as usize].completion(slot)
+    }
+
+    /// Whether the request of a slot is of another device and has not ended.
+    pub(crate) fn is_open_of_other(&self, dev: u8, slot: u8) -> bool
+        requires { slot < 30 }
+        ensures { result ≡ holds (is_open_of_other_head dev) (entry_at self.now slot) }
+    {
+        !self.is_free(slot) && self.list[slot as usize].is_open_of_other(dev)
+    }
+
+    /// Whether the request of a slot is of another device and issued.
+    pub(crate) fn is_issued_of_other(&self, dev: u8, slot: u8) -> bool
+        requires { slot < 30 }
+        ensures { result ≡ holds (is_issued_of_other_head dev) (entry_at self.now slot) }
+    {
+        has_bit(self.masks.issued, slot) && self.list[slot as usize].is_issued_of_other(dev)
+    }
+
+    /// Whether the request of a slot prevents this work from being taken for the device.
+    pub(crate) fn blocks(&self, dev: u8, work: Work, slot: u8) -> bool
+        requires { slot < 30 }
+        ensures { result ≡ holds (blocks_of dev work) (entry_at self.now slot) }
+    {
+        !self.is_free(slot) && self.list[slot as usize].blocks(dev, work)
+    }
+
+    /// Whether the request of a slot has one of these bytes, and one of the two reads.
+    pub(crate) fn conflicts(&self, work: Work, buffers: &Buffers<'_>, slot: u8) -> bool
+        requires { slot < 30 }
+        ensures { result ≡ conflicts_of work buffers.now (entry_at self.now slot) }
+    {
+        !self.is_free(slot) && self.list[slot as usize].conflicts(work, buffers)
+    }
+
+    /// Whether the request of a slot has one of these bytes.
+    pub(crate) fn is_used(&self, at: u32, len: u32, slot: u8) -> bool
+        requires { slot < 30 }
+        ensures { result ≡ is_used_by at len (entry_at self.now slot) }
+    {
+        !self.is_free(slot) && self.list[slot as usize].is_used(at, len)
     }
 }
