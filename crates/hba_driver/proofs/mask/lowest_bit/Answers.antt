@@ -1,4 +1,4 @@
-use Rattle.std.proofs.Common.{◌<◌, arith}
+use Rattle.std.proofs.Common.{arith}
 use Rattle.hba_driver.proofs.calls.MaskLemmas.{bit_lowest}
 use Rattle.hba_driver.proofs.mask.lowest_bit.Goals as goal
 
