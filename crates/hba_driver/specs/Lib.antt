@@ -31,4 +31,5 @@ pub mod Absent
 pub mod Resetting
 pub mod Queued
 pub mod Spans
+pub mod Masks
 pub mod Between

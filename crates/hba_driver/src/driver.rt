@@ -18,12 +18,12 @@ use crate::plan::Plan;
 use crate::refusal::shape_refusal;
 use crate::request::{Completion, Request, SubmitError, Ticket};
 use crate::scan::{
-    any_done, apply, are_blocked, are_used, end_done, end_logged, has_other, have_conflict,
-    lowest_ended, lowest_free,
+    apply, are_blocked, are_used, end_done, end_logged, has_other, have_conflict, lowest_free,
 };
 use crate::sight::Sight;
-use crate::slot::{Head, Phase, Slot, share_bytes};
+use crate::slot::{Head, Phase, share_bytes};
 use crate::span::have_overlap;
+use crate::taken::Slots;
 use crate::turn::Act;
 use hba_commands::write_command;
 use hba_fbs::HostPort;
@@ -39,7 +39,7 @@ pub struct Driver {
     plan: Plan,
     /// The last ticket that was given.
     given: u32,
-    slots: [Slot; 30],
+    slots: Slots,
 }
 
 impl Model for Driver {
@@ -74,7 +74,7 @@ impl Driver {
         Driver {
             plan: Plan::new(mode),
             given: ticket.saturating_sub(1),
-            slots: Default::default(),
+            slots: Slots::empty(),
         }
     }
 
@@ -121,7 +121,7 @@ impl Driver {
         ensures long { length self.old.entries ≡ 30 }
     {
         let issued = sight.issued();
-        let ended = any_done(&self.slots, issued);
+        let ended = self.slots.any_done(issued);
         end_done(&mut self.slots, issued);
         let turn = self.plan.turn(sight, &self.slots);
         self.plan = turn.plan;
@@ -232,7 +232,7 @@ impl Driver {
             &head.fields(slot),
             &request.prds,
         );
-        self.slots[slot as usize].fill(head, &request.prds);
+        self.slots.fill(slot, head, &request.prds);
         self.given = ticket;
         Ok(Ticket(ticket))
     }
@@ -243,11 +243,11 @@ impl Driver {
         ensures polled { result ≡ completion_of self.old }
         ensures after { self.new ≡ after_poll self.old }
     {
-        let Some(slot) = lowest_ended(&self.slots) else {
+        let Some(slot) = self.slots.lowest_ended() else {
             return None;
         };
-        let completion = self.slots[slot as usize].completion(slot);
-        self.slots[slot as usize].clear();
+        let completion = self.slots.completion(slot);
+        self.slots.clear(slot);
         completion
     }
 

@@ -9,6 +9,7 @@
 mod driver;
 mod effect;
 mod laws;
+mod mask;
 mod mode;
 mod order;
 mod path;
@@ -19,6 +20,7 @@ mod scan;
 mod sight;
 mod slot;
 mod span;
+mod taken;
 mod turn;
 
 pub use driver::Driver;

@@ -324,6 +324,26 @@ impl Slot {
         }
     }
 
+    /// Whether its request waits for its issue.
+    pub(crate) fn waits(&self) -> bool
+        ensures { result ≡ holds waits_head self.now }
+    {
+        match self.head {
+            Some(head) => head.waits(),
+            None => false,
+        }
+    }
+
+    /// Whether its request is issued.
+    pub(crate) fn is_issued(&self) -> bool
+        ensures { result ≡ holds is_issued_head self.now }
+    {
+        match self.head {
+            Some(head) => head.is_issued(),
+            None => false,
+        }
+    }
+
     pub(crate) fn has_ended(&self) -> bool
         ensures { result ≡ holds has_ended_head self.now }
     {

@@ -11,7 +11,7 @@ use crate::path::{Path, Stage, TaskFile, reset_all};
 use crate::plan::{Device, Plan};
 use crate::scan::{has_issued_other, lowest_due};
 use crate::sight::{Sight, has_bit};
-use crate::slot::Slot;
+use crate::taken::Slots;
 
 /// The slot of commands to the multiplier.
 const CONTROL_SLOT: u8 = 31;
@@ -84,12 +84,12 @@ impl Turn {
 }
 
 #[tactic(auto, unfolding(crate::specs::Turns::request_due))]
-fn request_due(plan: Plan, slots: &[Slot; 30]) -> Option<Act>
+fn request_due(plan: Plan, slots: &Slots) -> Option<Act>
     ensures value { result ≡ request_due_of plan slots.now }
     ensures act { IfSome result IsAct }
 {
     match lowest_due(&plan, slots) {
-        Some(slot) => slots[slot as usize].issue(slot),
+        Some(slot) => slots.issue(slot),
         None => None,
     }
 }
@@ -156,7 +156,7 @@ impl Plan {
     }
 
     // Whether nothing is issued for another device.
-    fn may_go(self, sight: &Sight<'_>, slots: &[Slot; 30], dev: u8) -> bool
+    fn may_go(self, sight: &Sight<'_>, slots: &Slots, dev: u8) -> bool
         ensures { result ≡ may_go_of sight.now self slots.now dev }
     {
         !(Plan::control_beside(sight, dev)
@@ -165,7 +165,7 @@ impl Plan {
     }
 
     // The same for what an act issues, if it issues something.
-    fn may_go_to(self, sight: &Sight<'_>, slots: &[Slot; 30], dev: Option<u8>) -> bool
+    fn may_go_to(self, sight: &Sight<'_>, slots: &Slots, dev: Option<u8>) -> bool
         ensures { result ≡ may_go_to_of sight.now self slots.now dev }
     {
         match dev {
@@ -175,7 +175,7 @@ impl Plan {
     }
 
     // What is due, if it may go: with command-based switching only if nothing is issued for another device.
-    fn allowed(self, sight: &Sight<'_>, slots: &[Slot; 30], due: Option<Act>) -> Option<Act>
+    fn allowed(self, sight: &Sight<'_>, slots: &Slots, due: Option<Act>) -> Option<Act>
         requires { IfSome due IsAct }
         ensures value { result ≡ allowed_of self.mode sight.now self slots.now due }
         ensures act { IfSome result IsAct }
@@ -215,7 +215,7 @@ impl Plan {
     }
 
     // The command of the order, if it may go.
-    fn order_allowed(self, sight: &Sight<'_>, slots: &[Slot; 30]) -> Option<Act>
+    fn order_allowed(self, sight: &Sight<'_>, slots: &Slots) -> Option<Act>
         requires { IsSoundPlan self }
         ensures value { result ≡ order_allowed_of sight.now self slots.now }
         ensures act { IfSome result IsAct }
@@ -276,7 +276,7 @@ impl Plan {
     }
 
     // What is due by slot 30, or else for the requests.
-    fn device_due(self, sight: &Sight<'_>, slots: &[Slot; 30]) -> Option<Act>
+    fn device_due(self, sight: &Sight<'_>, slots: &Slots) -> Option<Act>
         requires { IsSoundPlan self }
         ensures value { result ≡ device_or_request sight.now self slots.now }
         ensures act { IfSome result IsAct }
@@ -287,7 +287,7 @@ impl Plan {
         }
     }
 
-    fn device_turn(self, sight: &Sight<'_>, news: bool, slots: &[Slot; 30]) -> Turn
+    fn device_turn(self, sight: &Sight<'_>, news: bool, slots: &Slots) -> Turn
         requires { IsSoundPlan self }
         ensures value { result ≡ device_turn_of sight.now news self slots.now }
         ensures sound { IsSoundPlan result.plan }
@@ -302,7 +302,7 @@ impl Plan {
         }
     }
 
-    fn control_turn(self, sight: &Sight<'_>, news: bool, slots: &[Slot; 30]) -> Turn
+    fn control_turn(self, sight: &Sight<'_>, news: bool, slots: &Slots) -> Turn
         requires { IsSoundPlan self }
         ensures value { result ≡ control_turn_of sight.now news self slots.now }
         ensures sound { IsSoundPlan result.plan }
@@ -453,7 +453,7 @@ impl Plan {
 
     /// What is due with these requests, for a tick that sees this.
     #[tactic(auto, unfolding(crate::specs::Turns::turn_of))]
-    pub(crate) fn turn(self, sight: &Sight<'_>, slots: &[Slot; 30]) -> Turn
+    pub(crate) fn turn(self, sight: &Sight<'_>, slots: &Slots) -> Turn
         requires { IsSoundPlan self }
         ensures value { result ≡ turn_of sight.now self slots.now }
         ensures sound { IsSoundPlan result.plan }

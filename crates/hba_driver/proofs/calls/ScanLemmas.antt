@@ -1,8 +1,11 @@
 -- For the functions of scan.rt. Slots that are looked at one after another.
 use Rattle.std.proofs.Common.{◌≡◌, ℕ, ◌<◌, ◌+◌, Bool, true, false, List, get_or, set, length, replicate, refl, ap, sym, ◌∙◌, arith, Option, Some, None}
 use Rattle.std.specs.Prelude.{if◌then◌else◌}
+use Rattle.std.specs.List.{list_any}
 use Rattle.std.specs.Option.{is_some, option_map}
 use Rattle.std.proofs.lemmas.List.{get_or_default, get_or-replicate, length-replicate, same_lists}
+use Rattle.std.proofs.lemmas.List.Elements.{All-from_get_or}
+use Rattle.std.proofs.lemmas.List.Folds.{list_any_at, list_any_none}
 use Rattle.std.proofs.lemmas.List.FromFn.{fill_by_all}
 use Rattle.slots.proofs.Door.{none_below}
 use Rattle.slots.specs.Slots.{lowest_below}
@@ -50,6 +53,14 @@ none_rephased test phase n entries long none =
     let fails : (k : ℕ) → k < n → holds (test k) (entry_at entries k) ≡ false =
     none_below (λ slot. holds (test slot) (entry_at entries slot)) n (no_option (lowest_below (λ slot. holds (test slot) (entry_at entries slot)) n) none) in
     sym (fill_by_all (rephase_at test phase entries) entries (length entries) None refl (λ k below. stays_if _ phase (entry_at entries k) (fails k (omega (arith, long)))))
+
+-- ---- whether a test holds for one of them
+
+pub one_passes : (test : Option Entry → Bool) (entries : List (Option Entry)) (slot : ℕ) → length entries ≡ 30 → slot < 30 → test (entry_at entries slot) ≡ true → list_any test entries ≡ true
+one_passes test entries slot long below here = list_any_at test entries slot None (omega (arith, long, below)) here
+
+pub none_passes : (test : Option Entry → Bool) (entries : List (Option Entry)) → length entries ≡ 30 → ((k : ℕ) → k < 30 → test (entry_at entries k) ≡ false) → list_any test entries ≡ false
+none_passes test entries long none = list_any_none test entries (All-from_get_or (λ e. test e ≡ false) entries None (λ k below. none k (omega (arith, long, below))))
 
 -- ---- slots with no request
 

@@ -1,17 +1,15 @@
-use Rattle.std.proofs.Common.{arith, ap, sym, ◌∙◌, below_more}
+use Rattle.std.proofs.Common.{arith, sym, ◌∙◌, below_more}
 use Rattle.slots.proofs.Door.{lowest_found, lowest_none}
 use Rattle.hba_driver.specs.Drivers.{entry_at}
-use Rattle.hba_driver.specs.Requests.{is_free}
-use Rattle.hba_driver.specs.Requests.{lowest_free}
-use Rattle.hba_driver.proofs.calls.ScanLemmas.{entry_read}
+use Rattle.hba_driver.specs.Requests.{is_free, lowest_free}
 use Rattle.hba_driver.proofs.scan.lowest_free.Goals as goal
 
 pub returns-then-is_free-clause-value : goal.returns-then-is_free-clause-value
 unfolding lowest_free
-returns-then-is_free-clause-value c = sym (lowest_found (λ k. is_free (entry_at c.args.slots.now k)) 30 c.loop-slot.slot c.loop-slot-test.true (sym (ap (is_free) (entry_read c.args.slots.now c.loop-slot.slot _ (omega (arith, c.type_inv.slots)))) ∙ sym c.is_free.ensures ∙ c.if-is_free.true) c.loop-slot.invariant)
+returns-then-is_free-clause-value c = sym (lowest_found (λ k. is_free (entry_at c.args.slots.now k)) 30 c.loop-slot.slot c.loop-slot-test.true (sym c.is_free.ensures ∙ c.if-is_free.true) c.loop-slot.invariant)
 
 pub loop-slot-preserved : goal.loop-slot-preserved
-loop-slot-preserved c = below_more _ _ c.loop-slot.invariant (sym (ap (is_free) (entry_read c.args.slots.now c.loop-slot.slot _ (omega (arith, c.type_inv.slots)))) ∙ sym c.is_free.ensures ∙ c.if-is_free.false)
+loop-slot-preserved c = below_more _ _ c.loop-slot.invariant (sym c.is_free.ensures ∙ c.if-is_free.false)
 
 pub returns-clause-value : goal.returns-clause-value
 unfolding lowest_free

@@ -1,9 +1,9 @@
-use Rattle.std.proofs.Common.{◌≡◌, ◌≢◌, ◌≤◌, ◌<◌, ◌*◌, ◌+◌, List, length, All, ap, sym, ◌∙◌, arith, inr, refl, subst, None}
+use Rattle.std.proofs.Common.{◌≡◌, ◌≢◌, ◌≤◌, ◌<◌, ◌*◌, ◌+◌, List, length, All, ap, sym, ◌∙◌, arith, inr, refl, subst, Option, None}
 use Rattle.std.specs.Prelude.{is_none}
 use Rattle.std.proofs.lemmas.Bool.{true≢false}
 use Rattle.host_memory.specs.Writing.{CanBeWritten}
 use Rattle.host_memory.specs.declared.table.Prd.{Prd}
-use Rattle.hba_driver.specs.Drivers.{Driver, entry_at}
+use Rattle.hba_driver.specs.Drivers.{AreRequests, Driver, Entry, entry_at}
 use Rattle.hba_driver.specs.Requests.{lowest_free}
 use Rattle.hba_driver.proofs.calls.SubmitLemmas.{can_be_written, is_taken, no_conflict}
 use Rattle.hba_driver.proofs.calls.RequestLemmas.{requests_taken}
@@ -41,8 +41,8 @@ write_command-requires-clause-counts c =
     let taken = is_taken c.args.self.now c.args.memory.now c.args.dev c.args.request.now (sym c.refusal.ensures ∙ c.in_default.is) in
     subst (λ (prds : List Prd). All CanBeWritten prds) (sym c.deref.ensures.value) (can_be_written c.args.self.now c.args.memory.now c.args.request.now taken)
 
-pub fill-requires : goal.fill-requires
-fill-requires c =
+pub fill-requires-clause-few : goal.fill-requires-clause-few
+fill-requires-clause-few c =
     let taken = is_taken c.args.self.now c.args.memory.now c.args.dev c.args.request.now (sym c.refusal.ensures ∙ c.in_default.is) in
     rw c.deref-2.ensures.value taken.few
 
@@ -51,8 +51,9 @@ invariant_of-self c =
     let taken = is_taken c.args.self.now c.args.memory.now c.args.dev c.args.request.now (sym c.refusal.ensures ∙ c.in_default.is) in
     record {
       plan = c.self.invariant.plan;
-      requests = requests_taken c.self.inside.given c.self.inside.slots c.in-Some-lowest_free.slot c.fill.new.self _ c.self.invariant.requests c.fill.ensures refl
+      requests = subst (λ (x : List (Option Entry)). AreRequests (c.self.inside.given + 1) x) (sym c.fill.ensures)
+          (requests_taken c.self.inside.given c.self.inside.slots c.in-Some-lowest_free.slot _ _ c.self.invariant.requests refl refl
           (λ s e here reads.
           ap (λ (p : List Prd). share_with p e.prds) c.deref-2.ensures.value
-          ∙ no_conflict c.args.self.now c.args.memory.now c.args.request.now taken s e (ap (λ (d : Driver). entry_at d.entries s) (sym c.self.view_is) ∙ here) reads);
+          ∙ no_conflict c.args.self.now c.args.memory.now c.args.request.now taken s e (ap (λ (d : Driver). entry_at d.entries s) (sym c.self.view_is) ∙ here) reads));
     }
