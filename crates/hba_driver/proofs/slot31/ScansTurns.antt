@@ -31,7 +31,7 @@ use Rattle.hba_driver.specs.Going.{IsOfControl, IsReport}
 use Rattle.hba_driver.specs.HostTurns.{Does, DoesAll, Host, HostTurn, Polled, Pushed, Put, Submitted, Ticked, Took, sight_in}
 use Rattle.hba_driver.specs.Scans.{Clears, ClearsNamed, Finds, IsFound, Names, Scans, ScansClear, ScansOn, answers_scan, comes_to, found, is_answer, is_asking, is_left, is_named, is_scan, named_after, tells, told_in}
 use Rattle.hba_driver.specs.Sights.{answer_in, file_shown, last_d2h, sight_of}
-use Rattle.hba_driver.specs.Slot31.{Asks, Follows31, IsAt31, IsIn, IsNext31, IsNotice31, IsSent, Pushes31, Resets, Rests, Signs, Stage31, TakesOn, Turns31, control_of, orders_clear}
+use Rattle.hba_driver.specs.Slot31.{Asks, Control, Follows31, IsAt31, IsIn, IsNext31, IsNotice31, IsSent, Pushes31, Resets, Rests, Signs, Stage31, TakesOn, Turns31, control_of, orders_clear}
 use Rattle.hba_driver.specs.Steady.{IsRowTurn}
 use Rattle.hba_driver.specs.Ticks.{due}
 use Rattle.hba_driver.specs.Turns.{control_seen}
@@ -45,7 +45,6 @@ use Rattle.hba_driver.proofs.goes_on.PageLemmas.{poll_plan}
 use Rattle.hba_driver.proofs.steady.RowLemmas.{d2h_row, d2h_same, own_row, row_long, row_turn, set_long, set_window, sized, window_same}
 use Rattle.hba_driver.proofs.slot31.ScansLemmas.{Anew, Issues, Keeps, Moves, Orders31, Reads, Sees, cleared_none, moved_clears, moved_found, moved_left, moves, scan_is, seen_asked}
 use Rattle.hba_driver.proofs.ticks.ServeLemmas.{act_clears}
-use Rattle.hba_driver.proofs.slot31.Slot31Lemmas.{Control}
 use Rattle.hba_driver.proofs.modes.SwitchLemmas.{sight_is}
 use Rattle.hba_driver.proofs.slot31.Tick31Lemmas.{order_stands, other_stays}
 use Rattle.hba_driver.proofs.slot31.Took31Lemmas.{closed_same, going_runs, heard_part, none_done, notice_view, skipped_part, took_own, took_part}
