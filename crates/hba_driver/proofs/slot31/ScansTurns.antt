@@ -504,6 +504,22 @@ module _ (stage next : Stage31) (old : Host) (new : Host) (g : IsGoing old) (m :
       | inr going ↦ going_told going.least
     ]
 
+-- ---- what the driver sees of slot 31
+
+none_issue : (h : Host) (o : Option Issue) → own_issue (control_of h).view.slots 31 ≡ o → issue_at h.port.slots 31 ≡ None → o ≡ None
+none_issue h None is free = refl
+none_issue h (Some i) is free = let bad : None ≡ Some i = sym free ∙ (own_in 15 31 h.port.slots i is).1 in cc
+
+-- that it is free
+pub free_seen : (h : Host) → IsGoing h → has_bit (sight_in h).issued 31 ≡ false → IsFree31 (control_of h)
+free_seen h g off =
+    none_issue h (own_issue (control_of h).view.slots 31) refl (slot_free h.driver.plan.mode h.port h.memory 31 g.way.sound.ruled.table (omega arith) off)
+
+-- what the answer told
+pub told_seen : (h : Host) → IsGoing h → (stage : Stage31) → IsAt31 stage h → h.driver.plan.asked ≡ true → (sight_in h).answer ≡ told_in (control_of h)
+unfolding sight_of
+told_seen h g stage at asked = ap (λ (v : Sight). v.answer) (sight_is h g.way.sound) ∙ sym (told_is h g (asked_open stage h at asked))
+
 -- what the answer of slot 31 told stays until the driver has looked at it
 pub tells_on : (stage next : Stage31) (old : Host) (turn : HostTurn) (new : Host) → Does old turn new → IsGoing old → IsGoing new → IsAt31 stage old → IsAt31 next new → IsNext31 stage old turn new next
     → new.driver.plan.asked ≡ true → is_on new.driver.plan.order ≡ false → is_off new.driver.plan.order ≡ false → IsFree31 (control_of new) → Tells stage old turn new
