@@ -215,11 +215,11 @@ scanned m count found from is = by_port (lowest_below (λ port. nat_le from port
 
 -- the ports below k are open
 opens_on : (m : RegisterMap) (count k : ℕ) (b : Bool) → nat_lt k count ≡ b → IsOn m count → AreOpen k m → k ≤ count → Upto (if b then Open k else Scan) m count
-opens_on m count k true is on open most = (on, open, grind (arith, nat_tests))
-opens_on m count k false is on open most =
+opens_on m count k true is on opened most = (on, opened, grind (arith, nat_tests))
+opens_on m count k false is on opened most =
     let last : count ≤ k = grind (arith, nat_tests) in
     let whole : count ≡ m.ports = on.counted in
-    (on, λ n low. open n (omega (arith, low, last, whole)))
+    (on, λ n low. opened n (omega (arith, low, last, whole)))
 
 pub upto_noted : (v : Sight) (o : Order) (p : Plan) (m : RegisterMap) → m.ports ≤ 15 → Upto o m p.ports → Done o m → (o ≡ CountPorts → v.answer ≡ m.ports)
     → Upto (next_order (noted v o p).ports (noted v o p).found o) m (noted v o p).ports
