@@ -1,5 +1,5 @@
 -- For `rested_ports_are_open`. Each turn of the host keeps what the driver has set in the multiplier, or the driver goes on.
-use Rattle.std.proofs.Common.{◌≡◌, ◌≢◌, ◌⊎◌, ℕ, ◌==◌, ◌&&◌, ◌||◌, Bool, true, false, List, [], ◌∷◌, ◌++◌, refl, sym, ap, subst, ◌∙◌, inl, inr, Option, Some, None, Ok}
+use Rattle.std.proofs.Common.{◌≡◌, ◌≢◌, ◌⊎◌, ℕ, ◌≤◌, ◌==◌, ◌&&◌, ◌||◌, Bool, true, false, List, [], ◌∷◌, ◌++◌, refl, sym, ap, subst, ◌∙◌, inl, inr, Option, Some, None, Ok}
 use Rattle.std.specs.Prelude.{if◌then◌else◌, is_none, is_some, not, MatchBool, MatchOption}
 use Rattle.std.proofs.lemmas.Bool.{cases_Bool, cases_eq, eq-eqb, eqb-true, false≢true, ne_eqb, true≢false}
 use Rattle.std.proofs.lemmas.Option.{same_Some}
@@ -280,14 +280,14 @@ module _ (ports : ℕ) (l : Line) (g : IsGood l) (u : IsSetUp ports l) (t : Host
   abbrev turned : Line
   turned = record l { host = host }
 
-  then : Turns31 g.stage l.host t host
-  then = inside_turn l g t inside host does
+  then31 : Turns31 g.stage l.host t host
+  then31 = inside_turn l g t inside host does
 
   -- what slot 31 has stays
-  module _ (same : control_in host.driver.plan ≡ control_in l.host.driver.plan) (waits : g.stage ≡ Waits → then.next ≡ Waits) where
+  module _ (same : control_in host.driver.plan ≡ control_in l.host.driver.plan) (waits : g.stage ≡ Waits → then31.next ≡ Waits) where
     turn_coming : IsComing l → IsComing turned
     turn_coming (Falls x there own) = Falls x there own
-    turn_coming (Unsent w) = Unsent (subst (λ (s : Stage31). IsAt31 s host) (waits (waits_by g.stage l.host w g.at g.at.is)) then.at)
+    turn_coming (Unsent w) = Unsent (subst (λ (s : Stage31). IsAt31 s host) (waits (waits_by g.stage l.host w g.at g.at.is)) then31.at)
 
     not_taken : (frame : List ℕ) (r : TakeReport) (x : HostTurn) → IsInside x → x ≡ Took frame r → ⊥
     not_taken frame r x in_turn e = subst IsInside e in_turn
@@ -295,7 +295,7 @@ module _ (ports : ℕ) (l : Line) (g : IsGood l) (u : IsSetUp ports l) (t : Host
     turn_told : is_ordered host ≡ true → (IsFree31 (control_of l.host) → told_in (control_of l.host) ≡ ports) → IsFree31 (control_of host) → told_in (control_of host) ≡ ports
     turn_told asks was_told free =
         let k : IsCommand host.driver.plan.order host.driver.plan.asked = command_of host.driver.plan.order host.driver.plan.asked asks in
-        by_tells (tells_on g.stage then.next l.host t host does g.going h.going g.at then.at then.is k.asks k.on k.off free)
+        by_tells (tells_on g.stage then31.next l.host t host does g.going h.going g.at then31.at then31.is k.asks k.on k.off free)
       where
         by_tells : Tells g.stage l.host t host → told_in (control_of host) ≡ ports
         by_tells (TellsOn was told_same) = told_same ∙ was_told was
@@ -315,8 +315,8 @@ module _ (ports : ℕ) (l : Line) (g : IsGood l) (u : IsSetUp ports l) (t : Host
     }
 
   -- a turn of which the stage stays
-  next_set : control_in host.driver.plan ≡ control_in l.host.driver.plan → then.next ≡ g.stage → IsSetUp ports turned
-  next_set same next = stays_set same (λ w. next ∙ w) (well_was g.stage then.next l.host host g.at then.at (λ failed. ap has_failed next ∙ failed))
+  next_set : control_in host.driver.plan ≡ control_in l.host.driver.plan → then31.next ≡ g.stage → IsSetUp ports turned
+  next_set same next = stays_set same (λ w. next ∙ w) (well_was g.stage then31.next l.host host g.at then31.at (λ failed. ap has_failed next ∙ failed))
 
   -- ---- where nothing is asked any more
 
@@ -382,16 +382,16 @@ module _ (ports : ℕ) (l : Line) (g : IsGood l) (u : IsSetUp ports l) (t : Host
   ticks_waits a b (inl (inr idle)) w = absurd (false≢true (sym (ap is_idle w) ∙ idle.0))
   ticks_waits a b (inr fails) w = absurd (let wrong : Waits ≡ Fails = sym w ∙ fails.0 in cc)
 
-  module _ (ticks : TicksOn g.stage then.next) where
+  module _ (ticks : TicksOn g.stage then31.next) where
     view_well : (control_of host).view ≡ (control_of l.host).view → IsWell host → IsWell l.host
     view_well view well = ap (λ (x : DeviceView). is_some x.fault) (sym view) ∙ well
 
     goes_set : Goes31 l.host host → IsSetUp ports turned
-    goes_set (Kept same view) = stays_set same (ticks_waits g.stage then.next ticks) (view_well view)
+    goes_set (Kept same view) = stays_set same (ticks_waits g.stage then31.next ticks) (view_well view)
     goes_set (Looked same view) = elim (cases_Bool host.driver.plan.asked) [
       | inl asked ↦
           let stays = seen_asked (sight_in l.host) l.host.driver.plan (ap (λ (c : Control). c.asked) (sym same) ∙ asked) in
-          stays_set (same ∙ ap control_in stays) (ticks_waits g.stage then.next ticks) (view_well view)
+          stays_set (same ∙ ap control_in stays) (ticks_waits g.stage then31.next ticks) (view_well view)
       | inr none ↦ unasked_set none (λ well. subst (λ (c : Control). Upto c.order l.pm.registers c.ports) (sym same) (seen_upto (view_well view well)))
     ]
     goes_set (Ordered was unasked same unsent) =
@@ -403,7 +403,7 @@ module _ (ports : ℕ) (l : Line) (g : IsGood l) (u : IsSetUp ports l) (t : Host
           resets = λ x there own plain. inl (unsent_by h.stage host.driver.plan.order host.driver.plan.asked (control_of host) l.down l.pm.answer l.up unsent h.at.is h.line x there own);
           set = λ well.
               let coming : is_ordered host ≡ true → IsComing turned = λ asks.
-                  Unsent (subst (λ (x : Stage31). IsAt31 x host) (waits_of then.next host.driver.plan.order host.driver.plan.asked (control_of host) (command_of host.driver.plan.order host.driver.plan.asked asks) unsent (sym then.at.fault ∙ well) then.at.is) then.at) in
+                  Unsent (subst (λ (x : Stage31). IsAt31 x host) (waits_of then31.next host.driver.plan.order host.driver.plan.asked (control_of host) (command_of host.driver.plan.order host.driver.plan.asked asks) unsent (sym then31.at.fault ∙ well) then31.at.is) then31.at) in
               record {
                 upto = subst (λ (c : Control). Upto c.order l.pm.registers c.ports) (sym same) (seen_upto was);
                 done = λ asks. inl (coming asks);
@@ -417,17 +417,17 @@ module _ (ports : ℕ) (l : Line) (g : IsGood l) (u : IsSetUp ports l) (t : Host
 turns_set : (ports : ℕ) (l : Line) (g : IsGood l) (u : IsSetUp ports l) (t : HostTurn) (inside : IsInside t) (host : Host) (does : Does l.host t host) → IsGood (record l { host = host }) → IsSetUp ports (record l { host = host })
 turns_set ports l g u (Took frame report) inside host does h = absurd inside
 turns_set ports l g u (Pushed None) inside host does h =
-    next_set ports l g u (Pushed None) inside host does h (ap (λ (d : Driver). control_in d.plan) does.driver) (then ports l g u (Pushed None) inside host does h).is
+    next_set ports l g u (Pushed None) inside host does h (ap (λ (d : Driver). control_in d.plan) does.driver) (then31 ports l g u (Pushed None) inside host does h).is
 turns_set ports l g u (Pushed (Some f)) inside host does h = absurd inside
 turns_set ports l g u (Ticked acted) inside host does h =
-    let n = then ports l g u (Ticked acted) inside host does h in
+    let n = then31 ports l g u (Ticked acted) inside host does h in
     goes_set ports l g u (Ticked acted) inside host does h n.is.stays n.is.goes
 turns_set ports l g u (Submitted dev request ticket) inside host does h =
-    next_set ports l g u (Submitted dev request ticket) inside host does h (ap (λ (d : Driver). control_in d.plan) does.taken.driver) (then ports l g u (Submitted dev request ticket) inside host does h).is
+    next_set ports l g u (Submitted dev request ticket) inside host does h (ap (λ (d : Driver). control_in d.plan) does.taken.driver) (then31 ports l g u (Submitted dev request ticket) inside host does h).is
 turns_set ports l g u (Polled completion) inside host does h =
-    next_set ports l g u (Polled completion) inside host does h (ap control_in (ap (λ (d : Driver). d.plan) does.driver ∙ poll_plan l.host.driver)) (then ports l g u (Polled completion) inside host does h).is
+    next_set ports l g u (Polled completion) inside host does h (ap control_in (ap (λ (d : Driver). d.plan) does.driver ∙ poll_plan l.host.driver)) (then31 ports l g u (Polled completion) inside host does h).is
 turns_set ports l g u (Put at bytes) inside host does h =
-    next_set ports l g u (Put at bytes) inside host does h (ap (λ (d : Driver). control_in d.plan) does.driver) (then ports l g u (Put at bytes) inside host does h).is
+    next_set ports l g u (Put at bytes) inside host does h (ap (λ (d : Driver). control_in d.plan) does.driver) (then31 ports l g u (Put at bytes) inside host does h).is
 
 pub keeps_set : (ports : ℕ) (l m : Line) → IsGood l → IsCalm l → IsGood m → Way l m → IsSetUp ports l → IsSetUp ports m
 keeps_set ports l m g c h (Stays pm registers resetting answer e) u =

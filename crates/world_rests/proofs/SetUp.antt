@@ -117,7 +117,7 @@ pub asking_of : (order : Order) (asked : Bool) → IsCommand order asked → is_
 asking_of order asked c = ap (λ (a : Bool). a && not (is_on order || is_off order)) c.asks ∙ ap (λ (b : Bool). true && not (b || is_off order)) c.on ∙ ap (λ (b : Bool). true && not (false || b)) c.off
 
 pub count_asks : (order : Order) (asked : Bool) → asked ≡ true → order ≡ CountPorts → is_asking order asked ≡ true
-count_asks order asked is same = ap (λ (o : Order). is_asking o asked) same ∙ is
+count_asks order asked is same = ap (λ (o : Order). is_asking o asked) same ∙ ap (λ (a : Bool). is_asking CountPorts a) is
 
 -- an order that is no command sets nothing by itself
 pub done_free : (o : Order) (m : RegisterMap) → (is_on o ≡ false → is_off o ≡ false → Done o m) → Done o m

@@ -1,5 +1,5 @@
 -- For `rested_ports_are_open`. Each way keeps what the driver has set in the multiplier.
-use Rattle.std.proofs.Common.{◌≡◌, ◌≢◌, ◌⊎◌, ℕ, ◌==◌, ◌&&◌, ◌||◌, Bool, true, false, List, [], ◌∷◌, ◌++◌, refl, sym, ap, subst, ◌∙◌, inl, inr, Option, Some, None, Ok}
+use Rattle.std.proofs.Common.{◌≡◌, ◌≢◌, ◌⊎◌, ℕ, ◌≤◌, ◌==◌, ◌&&◌, ◌||◌, Bool, true, false, List, [], ◌∷◌, ◌++◌, refl, sym, ap, subst, ◌∙◌, inl, inr, Option, Some, None, Ok}
 use Rattle.std.specs.Prelude.{if◌then◌else◌, is_none, is_some, not, MatchBool, MatchOption}
 use Rattle.std.proofs.lemmas.Bool.{cases_Bool, cases_eq, eq-eqb, eqb-true, false≢true, ne_eqb, true≢false}
 use Rattle.std.proofs.lemmas.Option.{same_Some}
@@ -97,7 +97,7 @@ recorded_both ports pm n (change.Gone conn) s = by_test (is_none (gone_refusal (
 -- ---- a frame that the multiplier takes
 
 module _ (old new : PmState) (f : Stamped) where
-  data IsHeard : Type 0 where
+  pub data IsHeard : Type 0 where
     ByControl : pm_port f ≡ control_port → IsAnswer (answer_to_request old.resetting old.registers (request_in f.bytes)) (control_stamp old) new.answer → new.registers ≡ registers_after_request old.registers (request_in f.bytes) → IsHeard
     ByOther : pm_port f ≢ control_port → new.answer ≡ old.answer → new.registers ≡ old.registers → IsHeard
 
