@@ -8,18 +8,13 @@ use Rattle.pm_registers.specs.RegisterMap.{RegisterMap, port_at}
 use Rattle.pm_registers.specs.declared.port.PortRegisters.{PortRegisters}
 use Rattle.hba_driver.specs.declared.mode.Mode.TheVariants.{Switching}
 use Rattle.hba_driver.specs.declared.order.Order.{Order}
-use Rattle.hba_driver.specs.declared.order.Order.TheVariants.{Watch}
-use Rattle.hba_driver.specs.Orders.{changes}
 use Rattle.pm_world.specs.Attached.{Attached}
 use Rattle.pm_world.specs.Line.{OneOrderAtATime}
-use Rattle.pm_world.specs.Places.{Places, is_config, new_world}
+use Rattle.pm_world.specs.Places.{is_config, new_world}
 use Rattle.pm_world.specs.PortsGoOn.{PortsGoOn}
-use Rattle.pm_world.specs.Rules.{Run}
-use Rattle.pm_world.specs.declared.step.Answer.{Answer}
 use Rattle.pm_world.specs.declared.step.Config.{Config}
-use Rattle.pm_world.specs.declared.step.Step.{Step}
 use Rattle.world_rests.specs.Laws.{RestedHaveDone}
-use Rattle.world_rests.specs.Opens.{MultiplierIsSet, PortIsOpen, RestedPortsAreOpen}
+use Rattle.world_rests.specs.Opens.{PortIsOpen, RestedPortsAreOpen}
 use Rattle.world_rests.specs.Watches.{RestedDriversWatch}
 use Rattle.world_rests.proofs.ControlFile.{IsCalm, keeps_calm}
 use Rattle.world_rests.proofs.Ordering.{AreOpen, IsOn, Upto}

@@ -1,9 +1,10 @@
 -- For `rested_ports_are_open`. What each order of the driver asks the multiplier for, and what it has set once the multiplier took its
 -- command.
-use Rattle.std.proofs.Common.{◌≡◌, ◌≢◌, ◌⊎◌, ℕ, zero, suc, ◌+◌, ◌*◌, ◌<◌, ◌≤◌, ◌==◌, Bool, true, false, bit_and, List, refl, sym, ap, subst, ◌∙◌, inl, inr, Option, Some, None, arith}
+use Rattle.std.proofs.Common.{◌≡◌, ◌≢◌, ℕ, ◌+◌, ◌*◌, ◌<◌, ◌≤◌, ◌==◌, Bool, true, false, bit_and, List, refl, sym, ap, subst, ◌∙◌, inl, inr, Option, Some, None, arith}
 use Rattle.std.specs.Prelude.{◌/◌, ◌%◌, ◌^◌, if◌then◌else◌, nat_le, nat_lt, ◌&&◌}
 use Rattle.std.specs.Int.{from_bool}
-use Rattle.std.proofs.lemmas.Bool.{cases_Bool, cases_eq, cases_lt, false≢true, true≢false}
+use Rattle.std.proofs.lemmas.Bool.{cases_Bool, cases_eq, true≢false}
+use Rattle.std.proofs.lemmas.Bool.Decides.{nat_tests}
 use Rattle.std.proofs.lemmas.Option.{same_Some}
 use Rattle.fis_view.specs.Built.{IsBuilt, cut, d2h_given, h2d_given}
 use Rattle.fis_view.specs.Frames.{Stamped}
@@ -28,7 +29,7 @@ use Rattle.pm_control.specs.declared.request.Request.{Request}
 use Rattle.pm_control.specs.declared.request.Request.TheVariants.{EndReset, Read, Reset, Unknown, Write}
 use Rattle.pm_registers.specs.Port.{is_open}
 use Rattle.pm_registers.specs.RegisterMap.{RegisterMap, after_write, notifies, port_at}
-use Rattle.world_rests.proofs.Setting.{IsShape, Keeps, keeps_same, open_done, put_keeps, put_shape}
+use Rattle.world_rests.proofs.Setting.{IsShape, Keeps, open_done, put_keeps, put_shape}
 
 -- ---- what is asked
 

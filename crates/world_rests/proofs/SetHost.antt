@@ -1,55 +1,36 @@
 -- For `rested_ports_are_open`. Each turn of the host keeps what the driver has set in the multiplier, or the driver goes on.
-use Rattle.std.proofs.Common.{◌≡◌, ◌≢◌, ◌⊎◌, ℕ, ◌≤◌, ◌==◌, ◌&&◌, ◌||◌, Bool, true, false, List, [], ◌∷◌, ◌++◌, refl, sym, ap, subst, ◌∙◌, inl, inr, Option, Some, None, Ok}
-use Rattle.std.specs.Prelude.{if◌then◌else◌, is_none, is_some, not, MatchBool, MatchOption}
-use Rattle.std.proofs.lemmas.Bool.{cases_Bool, cases_eq, eq-eqb, eqb-true, false≢true, ne_eqb, true≢false}
-use Rattle.std.proofs.lemmas.Option.{same_Some}
-use Rattle.fis_view.specs.Built.{IsBuilt, d2h_given}
+use Rattle.std.proofs.Common.{◌≡◌, ◌≢◌, ◌⊎◌, ℕ, ◌≤◌, ◌&&◌, ◌||◌, Bool, true, false, List, [], ◌∷◌, ◌++◌, refl, sym, ap, subst, ◌∙◌, inl, inr, Some, None, Ok}
+use Rattle.std.specs.Prelude.{is_some, not}
+use Rattle.std.proofs.lemmas.Bool.{cases_Bool, cases_eq, eq-eqb, false≢true, true≢false}
 use Rattle.fis_view.specs.Frames.{Stamped}
 use Rattle.fis_view.specs.Seen.{seen}
-use Rattle.fis_view.specs.Table.{D2h}
-use Rattle.fis_view.specs.declared.build.D2hFields.{D2hFields}
-use Rattle.fis_view.specs.declared.frame.Stamp.{Stamp}
 use Rattle.fis_view.specs.declared.view.Fis.TheVariants as view
-use Rattle.slots.specs.Slots.{Issue, has_bit, new_issue, own_issue}
-use Rattle.pm_control.specs.Answers.{IsAnswer, answer_to_request, registers_after_request, value_answer}
+use Rattle.slots.specs.Slots.{has_bit, own_issue}
 use Rattle.pm_control.specs.Requests.{request_in}
-use Rattle.pm_control.specs.declared.request.Request.{Request}
-use Rattle.pm_control.specs.declared.request.Request.TheVariants.{EndReset, Reset}
-use Rattle.pm_ports.specs.Port.{came_refusal, gone_refusal}
-use Rattle.pm_registers.specs.RegisterMap.{RegisterMap}
 use Rattle.multiplier.specs.Arbiter.{control_port}
-use Rattle.multiplier.specs.Between.{Answer as Answers, FromPort, Gives, Notice}
-use Rattle.multiplier.specs.Rules.{FromHostRule, ToControl, ToDevice, ToNobody, ToPort, with_device as connected, without_device}
-use Rattle.multiplier.specs.State.{PmState, control_stamp, passes_to, pm_port, port_at}
-use Rattle.multiplier.specs.declared.multiplier.Passed.{Passed}
-use Rattle.multiplier.specs.declared.multiplier.Passed.TheVariants as passed
+use Rattle.multiplier.specs.State.{PmState, pm_port}
 use Rattle.hba_fbs.specs.declared.report.TakeReport.{TakeReport}
 use Rattle.hba_fbs.specs.Taking.{port_of}
 use Rattle.hba_fbs.specs.Views.{DeviceView}
-use Rattle.hba_laws.specs.Parts.{DevicePart}
 use Rattle.hba_driver.specs.declared.order.Order.{Order}
-use Rattle.hba_driver.specs.declared.order.Order.TheVariants.{AwaitSignature, Clear, CountPorts, Enable, Open, ResetOff, ResetOn, SetMask}
-use Rattle.hba_driver.specs.declared.plan.Plan.{Plan}
+use Rattle.hba_driver.specs.declared.order.Order.TheVariants.{CountPorts}
 use Rattle.hba_driver.specs.Drivers.{Driver}
 use Rattle.hba_driver.specs.HostTurns.{Does, Host, HostTurn, Polled, Pushed, Put, Submitted, Ticked, Took, sight_in}
 use Rattle.hba_driver.specs.Scans.{Comes, Keeps as TellsOn, Tells, told_in}
 use Rattle.hba_driver.specs.Seeing.{Sight}
 use Rattle.hba_driver.specs.Sights.{answer_in}
-use Rattle.hba_driver.specs.Slot31.{Anew, Asks, Control, Fails, Follows31, Goes31, IsAt31, IsFree31, IsIn, IsNext31, IsSent, IsUnsent, Kept, Looked, Ordered, Pushes31, Resets, Rests, Signs, Stage31, TakesOn, TicksOn, Told, Turns31, Waits, control_in, control_of, has_failed, is_idle, is_off, is_on, is_resetting, seen_in}
-use Rattle.hba_driver.specs.Turns.{control_seen}
+use Rattle.hba_driver.specs.Slot31.{Anew, Asks, Control, Fails, Follows31, Goes31, IsAt31, IsFree31, IsIn, IsNext31, Kept, Looked, Ordered, Pushes31, Resets, Signs, Stage31, TakesOn, TicksOn, Turns31, Waits, control_in, control_of, has_failed, is_idle, is_off, is_on, is_resetting, seen_in}
 use Rattle.hba_driver.proofs.Door.{free_seen, poll_plan, tells_on, told_seen, turn_addressed}
-use Rattle.pm_world.specs.Line.{AreResets, EndsIn, IsEnd, IsOwed, IsReset, NoneDown, NoneUp, OnLine, is_register, is_reply}
+use Rattle.pm_world.specs.Line.{IsEnd, IsReset, NoneDown, NoneUp, OnLine, is_register, is_reply}
 use Rattle.pm_world.specs.Rules.{recorded}
-use Rattle.pm_world.specs.declared.link.Change.{Change}
-use Rattle.pm_world.specs.declared.link.Change.TheVariants as change
-use Rattle.world_rests.proofs.ControlFile.{IsCalm, among_either, among_first, recorded_answer}
-use Rattle.world_rests.proofs.Ordering.{Done, Upto, counted, done_keeps, order_wishes, seen_asked, upto_keeps, upto_seen, wish, wish_done, wish_shape}
-use Rattle.world_rests.proofs.Orders.{Among, among_last, among_more, none_down, none_up, resets_down}
-use Rattle.world_rests.proofs.Setting.{IsShape, Keeps, insert_keeps, insert_shape, keeps_same, notice_keeps, notice_shape, remove_keeps, remove_shape}
+use Rattle.world_rests.proofs.ControlFile.{IsCalm, among_either, recorded_answer}
+use Rattle.world_rests.proofs.Ordering.{Done, Upto, order_wishes, seen_asked, upto_seen, wish}
+use Rattle.world_rests.proofs.Orders.{Among, among_last, among_more, none_down}
+use Rattle.world_rests.proofs.Setting.{keeps_same}
 use Rattle.world_rests.proofs.Slot31.{none_there}
 use Rattle.world_rests.proofs.Turning.{ends_last, inside_turn, none_last, none_reply, pushed_turn, resets_last, same_reset, took_turn}
 use Rattle.world_rests.proofs.Ways.{Hears, IsGood, IsInside, Line, Pushes, Records, Rises as GoesUp, Stays, Takes, Turns, Way}
-use Rattle.world_rests.proofs.SetUp.{Came, Falls, Held, IsClear, IsCommand, IsComing, IsOfReset, IsSaid, IsSet, IsSetUp, IsWell, Rises, Unsent, asking_of, command_of, count_asks, done_free, free_by, is_asking, is_ordered, reply_by, unasked_by, unsent_by, unsent_none, waits_by, waits_of}
+use Rattle.world_rests.proofs.SetUp.{Came, Falls, Held, IsCommand, IsComing, IsOfReset, IsSaid, IsSet, IsSetUp, IsWell, Rises, Unsent, asking_of, command_of, count_asks, done_free, free_by, is_asking, is_ordered, reply_by, unasked_by, unsent_by, unsent_none, waits_by, waits_of}
 use Rattle.world_rests.proofs.SetWays.{heard_by, heard_set, recorded_both, rises_set, setup_pm, shape_as}
 
 -- ---- what a turn leaves
@@ -403,7 +384,7 @@ module _ (ports : ℕ) (l : Line) (g : IsGood l) (u : IsSetUp ports l) (t : Host
           resets = λ x there own plain. inl (unsent_by h.stage host.driver.plan.order host.driver.plan.asked (control_of host) l.down l.pm.answer l.up unsent h.at.is h.line x there own);
           set = λ well.
               let coming : is_ordered host ≡ true → IsComing turned = λ asks.
-                  Unsent (subst (λ (x : Stage31). IsAt31 x host) (waits_of then31.next host.driver.plan.order host.driver.plan.asked (control_of host) (command_of host.driver.plan.order host.driver.plan.asked asks) unsent (sym then31.at.fault ∙ well) then31.at.is) then31.at) in
+              Unsent (subst (λ (x : Stage31). IsAt31 x host) (waits_of then31.next host.driver.plan.order host.driver.plan.asked (control_of host) (command_of host.driver.plan.order host.driver.plan.asked asks) unsent (sym then31.at.fault ∙ well) then31.at.is) then31.at) in
               record {
                 upto = subst (λ (c : Control). Upto c.order l.pm.registers c.ports) (sym same) (seen_upto was);
                 done = λ asks. inl (coming asks);

@@ -1,10 +1,8 @@
 -- For `rested_ports_are_open`. What the driver's orders set in the registers of the multiplier, and what else leaves it.
-use Rattle.std.proofs.Common.{◌≡◌, ◌≢◌, ◌⊎◌, ℕ, zero, suc, ◌+◌, ◌<◌, ◌≤◌, ◌==◌, Bool, true, false, List, [], ◌∷◌, length, slice_index_or, refl, sym, ap, subst, ◌∙◌, inl, inr, Option, Some, None, arith, get_or-set_other, get_or-set_same}
-use Rattle.std.specs.Prelude.{if◌then◌else◌, is_some, nat_lt, not, slice_set}
-use Rattle.std.proofs.lemmas.Bool.{cases_Bool, cases_eq, cases_lt, false≢true, lt-ltb, ne_eqb, true≢false}
+use Rattle.std.proofs.Common.{◌≡◌, ◌≢◌, ◌⊎◌, ℕ, zero, suc, ◌<◌, ◌≤◌, ◌==◌, Bool, true, false, List, [], ◌∷◌, length, slice_index_or, refl, sym, ap, subst, ◌∙◌, inl, inr, Option, None, arith, get_or-set_same}
+use Rattle.std.specs.Prelude.{if◌then◌else◌, is_some, nat_lt, slice_set}
+use Rattle.std.proofs.lemmas.Bool.{false≢true, lt-ltb, ne_eqb, true≢false}
 use Rattle.std.proofs.lemmas.List.{length-set}
-use Rattle.slots.specs.Slots.{lowest_below, match_some}
-use Rattle.pm_registers.specs.Bits.{without}
 use Rattle.pm_registers.specs.Port.{controlled, det, inserted, is_open, met, opened, opening_port, port_written, pscr, removed}
 use Rattle.pm_registers.specs.RegisterMap.{RegisterMap, after_insert, after_notice, after_remove, after_write, control_written, gscr, port_at, register_at, settled, summary, with_port, written}
 use Rattle.pm_registers.specs.declared.port.PortRegisters.{PortRegisters}
