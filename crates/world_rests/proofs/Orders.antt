@@ -239,7 +239,7 @@ resets_down (x ∷ frames) f are (inr rest) own = resets_down frames f are.1 res
 reply_is : (f : Stamped) → IsReply f → is_reply f ≡ true
 reply_is f r = ap (λ (b : Bool). b && is_register (seen f.bytes)) (eq-eqb f.stamp.port control_port r.port) ∙ ap is_register r.viewed
 
-pub none_up : (frames : List Stamped) (f : Stamped) → NoneUp frames → Among f frames → IsReply f → ⊥
+none_up : (frames : List Stamped) (f : Stamped) → NoneUp frames → Among f frames → IsReply f → ⊥
 none_up [] f none there r = there
 none_up (x ∷ frames) f none (inl same) r = true≢false (sym (reply_is f r) ∙ ap is_reply (sym same) ∙ none.0)
 none_up (x ∷ frames) f none (inr rest) r = none_up frames f none.1 rest r
