@@ -44,9 +44,10 @@ pub use Rattle.hba_driver.proofs.goes_on.PageLemmas.{poll_plan}
 pub use Rattle.hba_driver.proofs.goes_on.GoingLemmas.{goes_on, going_opens, going_turn}
 pub use Rattle.hba_driver.proofs.addresses.AddressLemmas.{none_issued, turn_addressed, turn_their}
 pub use Rattle.hba_driver.proofs.slot31.Push31Lemmas.{begins_srst, ends_srst}
+pub use Rattle.hba_driver.proofs.slot31.Slot31Lemmas.{seen_free, seen_out, seen_unasked}
 pub use Rattle.hba_driver.proofs.slot31.Tick31Lemmas.{faulty_shown}
 pub use Rattle.hba_driver.proofs.slot31.Turn31Lemmas.{control_in31, opens31, turn31}
-pub use Rattle.hba_driver.proofs.slot31.ScansTurns.{found_opens, scans_on}
+pub use Rattle.hba_driver.proofs.slot31.ScansTurns.{found_opens, free_seen, scans_on, tells_on, told_seen}
 pub use Rattle.hba_driver.proofs.anew.FlushLemmas.{flush_unreset}
 pub use Rattle.hba_driver.proofs.anew.TendedLemmas.{at_stage, recovering_ready, stage_is, unworked}
 pub use Rattle.hba_driver.proofs.anew.TendedTurns.{issued_live, slot_over, steady_tends, stepless_slot, turn_tended}

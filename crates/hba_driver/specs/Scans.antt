@@ -10,6 +10,7 @@ use Rattle.fis_view.specs.declared.view.Fis.TheVariants as view
 use Rattle.fis_view.specs.declared.view.FisFault.{FisFault}
 use Rattle.host_memory.specs.Memory.{IsHostMemory, Memory}
 use Rattle.slots.specs.Slots.{has_bit, own_issue}
+use Rattle.hba_fbs.specs.declared.report.TakeReport.{TakeReport}
 use Rattle.hba_fbs.specs.Status.{is_busy}
 use Rattle.hba_fbs.specs.Taking.{port_of}
 use Rattle.hba_laws.specs.Parts.{DevicePart}
@@ -20,7 +21,7 @@ use Rattle.hba_driver.specs.Events.{opening_host}
 use Rattle.hba_driver.specs.HostTurns.{DoesAll, Host, HostTurn, Ticked, Took}
 use Rattle.hba_driver.specs.Orders.{control_port}
 use Rattle.hba_driver.specs.Sights.{answer_in}
-use Rattle.hba_driver.specs.Slot31.{Asks, IsAnswer31, MayBe31, Rests, Stage31, Turns31, control_of}
+use Rattle.hba_driver.specs.Slot31.{Asks, IsAnswer31, IsFree31, MayBe31, Rests, Stage31, Turns31, control_of}
 use Rattle.hba_driver.specs.Slot31.{orders_clear}
 
 -- ---- which ports the scan found
@@ -84,6 +85,14 @@ abbrev pub Clears : ℕ → (old : Host) → HostTurn → (new : Host) → Type 
 Clears n old (Ticked acted) new =
     orders_clear n old ≡ true → (found n old ≡ true) × (found n new ≡ false)
 Clears n old turn new = Unit {0}
+
+-- Slot 31 is free after the turn, and was asked: what the answer told stays as it was, or the answer came now.
+pub data Tells (stage : Stage31) (old : Host) (turn : HostTurn) (new : Host) : Type 0 where
+  Keeps : IsFree31 (control_of old) → told_in (control_of new) ≡ told_in (control_of old)
+      → Tells stage old turn new
+  Comes : (frame : List ℕ) (report : TakeReport) → turn ≡ Took frame report
+      → port_of frame ≡ control_port → stage ≡ Asks → seen frame ≡ Ok (view.RegD2H frame)
+      → told_in (control_of new) ≡ answer_in (seen frame) → Tells stage old turn new
 
 -- what a turn of a host does to port n, with slot 31 at this stage before it
 pub record ScansOn (n : ℕ) (stage : Stage31) (old : Host) (turn : HostTurn) (new : Host)

@@ -27,6 +27,8 @@ use Rattle.hba_driver.specs.Laws.{flushes}
 use Rattle.hba_driver.specs.Ticks.{effects}
 use Rattle.hba_driver.specs.HostTurns.{DoesAll, Host, HostTurn, Pushed, Ticked, Took, sight_in}
 use Rattle.hba_driver.specs.Orders.{control_port, order_fields}
+use Rattle.hba_driver.specs.Turns.{control_seen}
+use Rattle.hba_driver.specs.declared.plan.Plan.{Plan}
 
 pub data Stage31 : Type 0 where
   -- no order is issued
@@ -196,12 +198,39 @@ TakesOn stage frame next =
 abbrev pub orders_clear : ℕ → Host → Bool
 orders_clear n h = list_any (flushes n) (effects (sight_in h) h.driver)
 
+-- what a plan knows of slot 31
+pub record Control : Type 0 where
+  pub order : Order
+  pub asked : Bool
+  pub ports : ℕ
+  pub found : ℕ
+
+abbrev pub control_in : Plan → Control
+control_in plan = record { order = plan.order; asked = plan.asked; ports = plan.ports; found = plan.found }
+
+-- the same once the driver has looked at what came
+abbrev pub seen_in : Host → Control
+seen_in h = control_in (control_seen (sight_in h) h.driver.plan)
+
+-- What a tick leaves of slot 31. All of it stays; or the driver has looked at what came; or it has looked, and
+-- the command of the order that is due waits; or a fault of the control port is cleared, and it begins anew.
+pub data Goes31 (old new : Host) : Type 0 where
+  Kept : control_in new.driver.plan ≡ control_in old.driver.plan
+      → (control_of new).view ≡ (control_of old).view → Goes31 old new
+  Looked : control_in new.driver.plan ≡ seen_in old → (control_of new).view ≡ (control_of old).view
+      → Goes31 old new
+  Ordered : is_some (control_of old).view.fault ≡ false → (seen_in old).asked ≡ false
+      → control_in new.driver.plan ≡ record (seen_in old) { asked = true }
+      → IsUnsent new.driver.plan.order (control_of new) → Goes31 old new
+  Anew : new.driver.plan.order ≡ ResetOn → new.driver.plan.asked ≡ false → Goes31 old new
+
 -- an order is issued only while nothing of the control port is on its way and no command is issued that has
 -- not gone out
 pub record Ticks31 (stage : Stage31) (old : Host) (new : Host) (next : Stage31) : Type 0 where
   pub stays : TicksOn stage next
   pub clears : (n : ℕ) → orders_clear n old ≡ true
       → (next ≡ Waits) × (new.driver.plan.order ≡ Clear n) × (n < 15) × (is_idle stage ≡ true)
+  pub goes : Goes31 old new
 
 -- what a turn makes of the stage
 abbrev pub IsNext31 : (stage : Stage31) (old : Host) (turn : HostTurn) (new : Host) (next : Stage31) → Type 0

@@ -203,8 +203,9 @@ pub fn port_goes_on()
 
 /// Slot 31 goes from stage to stage with each turn of the host from its opening, as long as the control port
 /// sends only notifications and what it is asked for. An order is issued only while nothing of the control
-/// port is on its way. Its command goes out once, and no other command goes out until its answer came. The
-/// call runs no code.
+/// port is on its way. Its command goes out once, and no other command goes out until its answer came. A tick
+/// leaves what the driver knows of slot 31, or makes of it what came, and then the command of the order that is
+/// due waits, if it is issued. After a fault of the control port slot 31 begins anew. The call runs no code.
 pub fn orders_take_turns()
     ensures { OrdersTakeTurns }
 {}

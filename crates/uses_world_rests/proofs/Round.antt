@@ -11,6 +11,7 @@ use Rattle.pm_world.specs.declared.step.Step.{Step}
 use Rattle.pm_world.specs.declared.step.Step.TheVariants as step
 use Rattle.world_rests.specs.Laws.{RestsAfter}
 use Rattle.world_rests.specs.Left.{RestedDisksHaveDone}
+use Rattle.world_rests.specs.Opens.{MultiplierIsSet, RestedPortsAreOpen}
 use Rattle.world_rests.specs.Out.{RestedDisksAreLeft}
 use Rattle.world_rests.specs.Rests.{HasRound, IsAtRest, NothingMoves}
 use Rattle.world_rests.specs.Waits.{HostWaits}
@@ -55,6 +56,14 @@ watches_alone seen items opened old new steps answers is right run rests law =
     let made : Run (new_world config (map seen items)) steps answers old = subst (λ (w : Places). Run w steps answers old) is run in
     let r = rests config (map seen items) fit steps answers made has_round in
     subst (λ (w : Places). WaitsForNotice (sight_in w.host) w.host.driver.plan) (sym r.0) (law config (map seen items) fit steps answers old made r.1)
+
+pub opens_all : {X : Type 0} (seen : X → Attached) (items : List X) (opened old new : Places) (steps : List Step) (answers : List Answer) → opened ≡ new_world config (map seen items)
+    → is_config config (length items) ≡ true → Run opened steps answers old → RestsAfter old round new → RestedPortsAreOpen → MultiplierIsSet new
+opens_all seen items opened old new steps answers is right run rests law =
+    let fit : is_config config (length (map seen items)) ≡ true = ap (λ (n : ℕ). is_config config n) (length-map items seen) ∙ right in
+    let made : Run (new_world config (map seen items)) steps answers old = subst (λ (w : Places). Run w steps answers old) is run in
+    let r = rests config (map seen items) fit steps answers made has_round in
+    subst MultiplierIsSet (sym r.0) (law config (map seen items) fit steps answers old made r.1)
 
 pub disk_has_done : {X : Type 0} (seen : X → Attached) (items : List X) (opened old new : Places) (steps : List Step) (answers : List Answer) → opened ≡ new_world config (map seen items)
     → is_config config (length items) ≡ true → Run opened steps answers old → RestsAfter old round new → RestedDisksHaveDone → DiskHasDoneIn (map seen items) new

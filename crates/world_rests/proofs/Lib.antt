@@ -34,3 +34,9 @@ mod Freed
 mod Disks
 mod Noticed
 mod Watched
+mod Setting
+mod Ordering
+mod SetUp
+mod SetWays
+mod SetHost
+mod Opened

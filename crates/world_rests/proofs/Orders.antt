@@ -226,12 +226,12 @@ rises_owed down pm link _ after new acts owed = absurd acts
 
 -- ---- what the host knows of it
 
-none_down : (frames : List Stamped) (f : Stamped) → NoneDown frames → Among f frames → pm_port f ≡ control_port → ⊥
+pub none_down : (frames : List Stamped) (f : Stamped) → NoneDown frames → Among f frames → pm_port f ≡ control_port → ⊥
 none_down [] f none there own = there
 none_down (x ∷ frames) f none (inl same) own = none.0 (ap pm_port same ∙ own)
 none_down (x ∷ frames) f none (inr rest) own = none_down frames f none.1 rest own
 
-resets_down : (frames : List Stamped) (f : Stamped) → AreResets frames → Among f frames → pm_port f ≡ control_port → IsReset f
+pub resets_down : (frames : List Stamped) (f : Stamped) → AreResets frames → Among f frames → pm_port f ≡ control_port → IsReset f
 resets_down [] f are there own = absurd there
 resets_down (x ∷ frames) f are (inl same) own = subst IsReset same (are.0 (ap pm_port same ∙ own))
 resets_down (x ∷ frames) f are (inr rest) own = resets_down frames f are.1 rest own

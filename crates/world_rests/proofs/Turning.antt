@@ -22,7 +22,7 @@ use Rattle.world_rests.proofs.Ways.{IsGood, IsInside, Line}
 
 -- ---- what may come
 
-none_reply : {P : Type 0} (f : Stamped) (rest : List Stamped) → is_reply f ≡ true → NoneUp (f ∷ rest) → P
+pub none_reply : {P : Type 0} (f : Stamped) (rest : List Stamped) → is_reply f ≡ true → NoneUp (f ∷ rest) → P
 none_reply f rest reply none = absurd (true≢false (sym reply ∙ none.0))
 
 owed_reply : (before last reply : Stamped → Type 0) (down : List Stamped) (waits : Option Stamped) (f : Stamped) (rest : List Stamped) → is_reply f ≡ true → IsOwed before last reply down waits (f ∷ rest) → reply f

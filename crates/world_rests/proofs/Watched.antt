@@ -28,7 +28,7 @@ record IsKept (l : Line) : Type 0 where
 keeps : (l m : Line) → IsGood l → IsGood m → Way l m → IsKept l → IsKept m
 keeps l m g h way k = record { calm = keeps_calm l m g h way k.calm; signed = keeps_signed l m g k.calm h way k.signed }
 
-opening_calm : (config : Config) (units : List Attached) → IsCalm (line_of (new_world config units))
+pub opening_calm : (config : Config) (units : List Attached) → IsCalm (line_of (new_world config units))
 opening_calm config units = record {
   marks = λ f there. absurd there;
   up = λ f there. absurd there;

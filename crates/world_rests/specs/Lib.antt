@@ -6,3 +6,4 @@ pub mod Laws
 pub mod Left
 pub mod Out
 pub mod Watches
+pub mod Opens

@@ -2,6 +2,7 @@
 
 ghost use Rattle.world_rests.specs.Laws.{IdleDriversWait, RestedHaveDone, StillRoundsRest};
 ghost use Rattle.world_rests.specs.Left.{RestedDisksHaveDone};
+ghost use Rattle.world_rests.specs.Opens.{RestedPortsAreOpen};
 ghost use Rattle.world_rests.specs.Out.{RestedDisksAreLeft};
 ghost use Rattle.world_rests.specs.Turns.{EachTakesTurns};
 ghost use Rattle.world_rests.specs.Watches.{RestedDriversWatch};
@@ -74,6 +75,18 @@ pub fn rested_disks_are_left()
     rested_disks_have_done();
     pm_world::paths_go_on();
     pm_world::ends_meet();
+}
+
+/// Holds of each world at rest that a run from a new one with FIS-based switching leads to, whatever its devices are. The driver has
+/// set up the multiplier: it knows the number of ports, bits N and X of SError count as errors and are notified, and each port is
+/// open. Where a device is present the port shows it, and forwards unless bit X of its SError is set.
+pub fn rested_ports_are_open()
+    ensures { RestedPortsAreOpen }
+{
+    rested_have_done();
+    rested_drivers_watch();
+    pm_world::one_order_at_a_time();
+    pm_world::ports_go_on();
 }
 
 /// Holds over every run of each world, in either mode, for each place of the multiplier that has a frame whenever one goes up. Between two

@@ -17,7 +17,8 @@ use Rattle.hba_driver.specs.Orders.{next_order, order_fields, scan_from}
 use Rattle.hba_driver.specs.Scans.{IsClearOf, IsFound, comes_to, is_left, is_scan}
 use Rattle.hba_driver.specs.Ticks.{acted, after_tick, done_ended, due, from_reset, plan_after, recovering, seen}
 use Rattle.hba_driver.specs.Turns.{control_seen, met_order, noted}
-use Rattle.hba_driver.proofs.slot31.Slot31Lemmas.{Control, Early, IsOther, IsSeen, Looked, Ordered, acted_order, control_in, seen_free, seen_out, seen_unasked, turn_seen}
+use Rattle.hba_driver.proofs.slot31.Slot31Lemmas.{Early, IsOther, IsSeen, Looked, Ordered, acted_order, seen_free, seen_out, seen_unasked, turn_seen}
+use Rattle.hba_driver.specs.Slot31.{Control, control_in}
 use Rattle.hba_driver.proofs.goes_on.StopLemmas.{either}
 
 -- ---- what slot 31 looks at tells which ports are left

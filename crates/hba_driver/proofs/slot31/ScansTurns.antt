@@ -22,16 +22,16 @@ use Rattle.hba_laws.specs.Isolation.{Came, OwnEvent, Went, own_events, part_afte
 use Rattle.hba_laws.specs.Parts.{DevicePart, part_of, with_view}
 use Rattle.hba_laws.proofs.Door.{own_in}
 use Rattle.hba_driver.specs.declared.order.Order.{Order}
-use Rattle.hba_driver.specs.declared.order.Order.TheVariants.{Scan}
+use Rattle.hba_driver.specs.declared.order.Order.TheVariants.{ResetOn, Scan}
 use Rattle.hba_driver.specs.declared.plan.Plan.{Plan}
 use Rattle.hba_driver.specs.Seeing.{Sight}
 use Rattle.hba_driver.specs.Drivers.{Driver}
 use Rattle.hba_driver.specs.Events.{opening_host, shared_by}
 use Rattle.hba_driver.specs.Going.{IsOfControl, IsReport}
 use Rattle.hba_driver.specs.HostTurns.{Does, DoesAll, Host, HostTurn, Polled, Pushed, Put, Submitted, Ticked, Took, sight_in}
-use Rattle.hba_driver.specs.Scans.{Clears, ClearsNamed, Finds, IsFound, Names, Scans, ScansClear, ScansOn, answers_scan, comes_to, found, is_answer, is_asking, is_left, is_named, is_scan, named_after, tells, told_in}
+use Rattle.hba_driver.specs.Scans.{Clears, ClearsNamed, Comes, Finds, Keeps, IsFound, Names, Scans, ScansClear, ScansOn, Tells, answers_scan, comes_to, found, is_answer, is_asking, is_left, is_named, is_scan, named_after, tells, told_in}
 use Rattle.hba_driver.specs.Sights.{answer_in, file_shown, last_d2h, sight_of}
-use Rattle.hba_driver.specs.Slot31.{Asks, Follows31, IsAt31, IsIn, IsNext31, IsNotice31, IsSent, Pushes31, Resets, Rests, Signs, Stage31, TakesOn, Turns31, control_of, orders_clear}
+use Rattle.hba_driver.specs.Slot31.{Asks, Control, Follows31, IsAt31, IsFree31, IsIn, IsNext31, IsNotice31, IsSent, Pushes31, Resets, Rests, Signs, Stage31, TakesOn, Turns31, control_of, is_off, is_on, orders_clear}
 use Rattle.hba_driver.specs.Steady.{IsRowTurn}
 use Rattle.hba_driver.specs.Ticks.{due}
 use Rattle.hba_driver.specs.Turns.{control_seen}
@@ -43,10 +43,10 @@ use Rattle.hba_driver.proofs.goes_on.GoingLemmas.{going_opens, going_turn, stops
 use Rattle.hba_driver.proofs.modes.ModeLemmas.{own_row_is}
 use Rattle.hba_driver.proofs.goes_on.PageLemmas.{poll_plan}
 use Rattle.hba_driver.proofs.steady.RowLemmas.{d2h_row, d2h_same, own_row, row_long, row_turn, set_long, set_window, sized, window_same}
-use Rattle.hba_driver.proofs.slot31.ScansLemmas.{Anew, Issues, Keeps, Moves, Orders31, Reads, Sees, cleared_none, moved_clears, moved_found, moved_left, moves, scan_is, seen_asked}
+use Rattle.hba_driver.proofs.slot31.ScansLemmas.{Anew, Issues, Keeps as MovesNot, Moves, Orders31, Reads, Sees, cleared_none, moved_clears, moved_found, moved_left, moves, scan_is, seen_asked}
 use Rattle.hba_driver.proofs.ticks.ServeLemmas.{act_clears}
-use Rattle.hba_driver.proofs.slot31.Slot31Lemmas.{Control}
 use Rattle.hba_driver.proofs.modes.SwitchLemmas.{sight_is}
+use Rattle.hba_driver.proofs.slot31.Slot31Lemmas.{IsOther}
 use Rattle.hba_driver.proofs.slot31.Tick31Lemmas.{order_stands, other_stays}
 use Rattle.hba_driver.proofs.slot31.Took31Lemmas.{closed_same, going_runs, heard_part, none_done, notice_view, skipped_part, took_own, took_part}
 use Rattle.hba_driver.proofs.slot31.Turn31Lemmas.{closed_gives, control_in31, opens31, turn31}
@@ -314,7 +314,7 @@ module _ (old : Host) (g : IsGoing old) (stage : Stage31) (at : IsAt31 stage old
   named_tick least n now = by_move move
     where
       by_move : Moves (sight_in old) old.driver.plan new.driver.plan (due (sight_in old) old.driver) → is_named n old ≡ true
-      by_move (Keeps other same) = elim (other_stays old g stage at least new acted does other) [
+      by_move (MovesNot other same) = elim (other_stays old g stage at least new acted does other) [
         | inl part ↦ back_named n part (ap (λ (c : Control). c.order) same) (ap (λ (c : Control). c.asked) same) now
         | inr anew ↦ absurd (true≢false (sym now.scan ∙ ap is_scan anew))
       ]
@@ -392,6 +392,152 @@ scans_on n below stage next old (Polled c) new does g m at after is f =
 scans_on n below stage next old (Put place bytes) new does g m at after is f =
     let plan : new.driver.plan ≡ old.driver.plan = ap (λ (d : Driver). d.plan) does.driver in
     (kept_scans n stage old (Put place bytes) new (beside_same n stage old (Put place bytes) new g m at does.port plan (row_same old (Put place bytes) new does g m tt)) tt, subst IsFound (sym plan) f)
+
+-- ---- what an answer told
+
+module _ (stage next : Stage31) (old : Host) (turn : HostTurn) (new : Host) (g : IsGoing old) (m : IsGoing new) (at : IsAt31 stage old) (after : IsAt31 next new)
+    (asked : new.driver.plan.asked ≡ true) (on : is_on new.driver.plan.order ≡ false) (off : is_off new.driver.plan.order ≡ false) (free : IsFree31 (control_of new)) where
+  -- the part stays
+  kept_told : control_of new ≡ control_of old → Tells stage old turn new
+  kept_told part = Keeps (ap (λ (x : DevicePart). own_issue x.view.slots 31) (sym part) ∙ free) (ap told_in part)
+
+  -- port and plan stay, and the row of the answer
+  beside_told : new.port ≡ old.port → new.driver.plan ≡ old.driver.plan → last_d2h new.memory.structure 15 ≡ last_d2h old.memory.structure 15 → Tells stage old turn new
+  beside_told port plan row =
+      let was : old.driver.plan.asked ≡ true = ap (λ (p : Plan). p.asked) (sym plan) ∙ asked in
+      let least : 7 ≤ old.driver.plan.opened = asked_open stage old at was in
+      let later : 7 ≤ new.driver.plan.opened = subst (λ (p : Plan). 7 ≤ p.opened) (sym plan) least in
+      Keeps (ap (λ (p : Port). own_issue (slots_of 15 p.slots) 31) (sym port) ∙ free) (told_is new m later ∙ ap (λ (f : List ℕ). answer_in (seen f)) row ∙ sym (told_is old g least))
+
+  -- slot 31 is free only where the order is asked and its answer came
+  never_sent : {P : Type 0} → (i : Issue) → own_issue (control_of new).view.slots 31 ≡ Some i → P
+  never_sent i there = let bad : None ≡ Some i = sym free ∙ there in absurd (cc)
+
+  after_push : (old_order : Order) → Follows31 stage old_order next → Tells stage old turn new
+  after_push o (inl h) = absurd (by_way (subst (λ (s : Stage31). IsIn s new.driver.plan.order new.driver.plan.asked (control_of new)) h.2 after.is))
+    where
+      by_way : IsIn Resets new.driver.plan.order new.driver.plan.asked (control_of new) → ⊥
+      by_way (inl is) = true≢false (sym (ap is_on is.0) ∙ on)
+      by_way (inr is) = true≢false (sym (ap is_off is.0) ∙ off)
+  after_push o (inr (inl h)) =
+      let is : IsIn Asks new.driver.plan.order new.driver.plan.asked (control_of new) = subst (λ (s : Stage31). IsIn s new.driver.plan.order new.driver.plan.asked (control_of new)) h.2 after.is in
+      never_sent is.2.issue is.2.issued
+  after_push o (inr (inr h)) = absurd (by_way (subst (λ (s : Stage31). IsIn s new.driver.plan.order new.driver.plan.asked (control_of new)) h.2 after.is))
+    where
+      by_way : IsIn Signs new.driver.plan.order new.driver.plan.asked (control_of new) → ⊥
+      by_way (none, inl is) = true≢false (sym (ap is_off is.0) ∙ off)
+      by_way (none, inr is) = true≢false (sym asked ∙ is.1)
+
+module _ (stage next : Stage31) (old : Host) (new : Host) (g : IsGoing old) (m : IsGoing new) (at : IsAt31 stage old) (after : IsAt31 next new)
+    (asked : new.driver.plan.asked ≡ true) (on : is_on new.driver.plan.order ≡ false) (off : is_off new.driver.plan.order ≡ false) (free : IsFree31 (control_of new)) where
+  module _ (frame : List ℕ) (report : TakeReport) (does : Does old (Took frame report) new) (of : IsOfControl frame) where
+    was_asked : old.driver.plan.asked ≡ true
+    was_asked = ap (λ (d : Driver). d.plan.asked) (sym does.driver) ∙ asked
+
+    least31 : 7 ≤ old.driver.plan.opened
+    least31 = asked_open stage old at was_asked
+
+    notice_told : port_of frame ≡ 15 → IsNotice31 frame → Tells stage old (Took frame report) new
+    notice_told own is = elim (cases_Bool (is_ignored true (control_of old).view (Ok (view.SetBits frame)))) [
+      | inl skips ↦
+          kept_told stage next old (Took frame report) new g m at after asked on off free (took_own old g new m frame report does of least31 own ∙ skipped_part (control_of old) frame (view.SetBits frame) is.viewed skips)
+      | inr hears ↦
+          let part = after_notice old g new m frame report does of stage at least31 own is hears in
+          let issue : own_issue (control_of new).view.slots 31 ≡ own_issue (control_of old).view.slots 31 = ap (λ (x : DevicePart). own_issue x.view.slots 31) part ∙ none_done (control_of old).view.slots in
+          Keeps (sym issue ∙ free) (ap told_in part ∙ ap (λ (f : List ℕ). answer_in (seen f)) (bits_row old g new m frame report does of stage at least31 is))
+    ]
+
+    answer_told : stage ≡ Asks → port_of frame ≡ 15 → seen frame ≡ Ok (view.RegD2H frame) → Tells stage old (Took frame report) new
+    answer_told asks own viewed =
+        let is : IsIn Asks old.driver.plan.order old.driver.plan.asked (control_of old) = subst (λ (s : Stage31). IsIn s old.driver.plan.order old.driver.plan.asked (control_of old)) asks at.is in
+        elim (cases_Bool (is_ignored true (control_of old).view (Ok (view.RegD2H frame)))) [
+          | inl skips ↦
+              let part : control_of new ≡ control_of old = took_own old g new m frame report does of least31 own ∙ skipped_part (control_of old) frame (view.RegD2H frame) viewed skips in
+              never_sent stage next old (Took frame report) new g m at after asked on off free is.2.issue (ap (λ (x : DevicePart). own_issue x.view.slots 31) part ∙ is.2.issued)
+          | inr hears ↦
+              let part = took_own old g new m frame report does of least31 own ∙ heard_part (control_of old) frame (view.RegD2H frame) viewed refl hears in
+              Comes frame report refl own asks viewed (ap told_in part ∙ ap (λ (f : List ℕ). answer_in (seen f)) (answer_row old g new m frame report does of stage at least31 viewed))
+        ]
+
+    signs_never : stage ≡ Signs → Tells stage old (Took frame report) new
+    signs_never signs = absurd (by_way (subst (λ (s : Stage31). IsIn s old.driver.plan.order old.driver.plan.asked (control_of old)) signs at.is))
+      where
+        by_way : IsIn Signs old.driver.plan.order old.driver.plan.asked (control_of old) → ⊥
+        by_way (none, inl is) = true≢false (sym (ap is_off is.0) ∙ ap (λ (d : Driver). is_off d.plan.order) (sym does.driver) ∙ off)
+        by_way (none, inr is) = true≢false (sym was_asked ∙ is.1)
+
+    took_told : IsNext31 stage old (Took frame report) new next → Tells stage old (Took frame report) new
+    took_told is = elim (cases_eq (port_of frame) 15) [
+      | inr other ↦ kept_told stage next old (Took frame report) new g m at after asked on off free (other_part old g new m frame report does of stage at other)
+      | inl own ↦ by_kind own (is.0 own)
+    ]
+      where
+        by_kind : port_of frame ≡ 15 → TakesOn stage frame next → Tells stage old (Took frame report) new
+        by_kind own (inl notice) = notice_told own notice.1
+        by_kind own (inr (quiet, inl answer)) = answer_told answer.0 own answer.1.viewed
+        by_kind own (inr (quiet, inr signature)) = signs_never signature.0
+
+  module _ (acted : Bool) (does : Does old (Ticked acted) new) where
+    same_told : control_of new ≡ control_of old → Tells stage old (Ticked acted) new
+    same_told = kept_told stage next old (Ticked acted) new g m at after asked on off free
+
+    reset_told : new.driver.plan.order ≡ ResetOn → Tells stage old (Ticked acted) new
+    reset_told is = absurd (true≢false (sym (ap is_on is) ∙ on))
+
+    other_told : 7 ≤ old.driver.plan.opened → IsOther (due (sight_in old) old.driver) → Tells stage old (Ticked acted) new
+    other_told least other = elim (other_stays old g stage at least new acted does other) [ inl part ↦ same_told part | inr anew ↦ reset_told anew ]
+
+    going_told : 7 ≤ old.driver.plan.opened → Tells stage old (Ticked acted) new
+    going_told least = by_move (move old g stage at acted new does)
+      where
+        by_move : Moves (sight_in old) old.driver.plan new.driver.plan (due (sight_in old) old.driver) → Tells stage old (Ticked acted) new
+        by_move (MovesNot other same) = other_told least other
+        by_move (Sees other same) = other_told least other
+        by_move (Issues o is unasked order fields same) = absurd (true≢false (sym (ap is_none free) ∙ order_stands old g stage at least new acted does o is order fields))
+        by_move (Anew other anew) = reset_told anew
+
+    tick_told : Tells stage old (Ticked acted) new
+    tick_told = elim (tick_is (sight_in old) (file_shown new.port) old.driver) [
+      | inl first ↦
+          let was : old.driver.plan.asked ≡ true = sym (ap (λ (d : Driver). d.plan.asked) does.driver ∙ ap (λ (p : Plan). p.asked) first.plan_is) ∙ asked in
+          absurd (omega (arith, asked_open stage old at was, first.less))
+      | inr going ↦ going_told going.least
+    ]
+
+-- ---- what the driver sees of slot 31
+
+none_issue : (h : Host) (o : Option Issue) → own_issue (control_of h).view.slots 31 ≡ o → issue_at h.port.slots 31 ≡ None → o ≡ None
+none_issue h None is free = refl
+none_issue h (Some i) is free = let bad : None ≡ Some i = sym free ∙ (own_in 15 31 h.port.slots i is).1 in cc
+
+-- that it is free
+pub free_seen : (h : Host) → IsGoing h → has_bit (sight_in h).issued 31 ≡ false → IsFree31 (control_of h)
+free_seen h g off =
+    none_issue h (own_issue (control_of h).view.slots 31) refl (slot_free h.driver.plan.mode h.port h.memory 31 g.way.sound.ruled.table (omega arith) off)
+
+-- what the answer told
+pub told_seen : (h : Host) → IsGoing h → (stage : Stage31) → IsAt31 stage h → h.driver.plan.asked ≡ true → (sight_in h).answer ≡ told_in (control_of h)
+unfolding sight_of
+told_seen h g stage at asked = ap (λ (v : Sight). v.answer) (sight_is h g.way.sound) ∙ sym (told_is h g (asked_open stage h at asked))
+
+-- what the answer of slot 31 told stays until the driver has looked at it
+pub tells_on : (stage next : Stage31) (old : Host) (turn : HostTurn) (new : Host) → Does old turn new → IsGoing old → IsGoing new → IsAt31 stage old → IsAt31 next new → IsNext31 stage old turn new next
+    → new.driver.plan.asked ≡ true → is_on new.driver.plan.order ≡ false → is_off new.driver.plan.order ≡ false → IsFree31 (control_of new) → Tells stage old turn new
+tells_on stage next old (Took frame report) new does g m at after is asked on off free =
+    took_told stage next old new g m at after asked on off free frame report does (λ own. reports stage frame next (is.0 own)) is
+tells_on stage next old (Pushed None) new does g m at after is asked on off free = kept_told stage next old (Pushed None) new g m at after asked on off free (push_part old g None new m does refl)
+tells_on stage next old (Pushed (Some f)) new does g m at after is asked on off free = elim (cases_eq f.stamp.port 15) [
+  | inr other ↦
+      kept_told stage next old (Pushed (Some f)) new g m at after asked on off free (push_part old g (Some f) new m does (ap (λ (b : Bool). if b then Went ∷ [] else []) (ne_eqb f.stamp.port 15 other)))
+  | inl own ↦ after_push stage next old (Pushed (Some f)) new g m at after asked on off free old.driver.plan.order (is.0 own).follows
+]
+tells_on stage next old (Ticked acted) new does g m at after is asked on off free = tick_told stage next old new g m at after asked on off free acted does
+tells_on stage next old (Submitted dev request ticket) new does g m at after is asked on off free =
+    beside_told stage next old (Submitted dev request ticket) new g m at after asked on off free does.port (ap (λ (d : Driver). d.plan) does.taken.driver) (row_same old (Submitted dev request ticket) new does g m tt)
+tells_on stage next old (Polled c) new does g m at after is asked on off free =
+    kept_told stage next old (Polled c) new g m at after asked on off free (same_part old new does.port does.memory)
+tells_on stage next old (Put place bytes) new does g m at after is asked on off free =
+    beside_told stage next old (Put place bytes) new g m at after asked on off free does.port (ap (λ (d : Driver). d.plan) does.driver) (row_same old (Put place bytes) new does g m tt)
 
 -- as the host opens nothing is found
 pub found_opens : (n given : ℕ) (start : Memory) → (found n (opening_host given start) ≡ false) × IsFound (opening_host given start).driver.plan

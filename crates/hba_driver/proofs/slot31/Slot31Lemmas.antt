@@ -15,7 +15,7 @@ use Rattle.hba_driver.specs.declared.turn.Act.{Act}
 use Rattle.hba_driver.specs.declared.turn.Act.TheVariants as act
 use Rattle.hba_driver.specs.Drivers.{Driver, Entry}
 use Rattle.hba_driver.specs.Orders.{next_order, order_fields, scan_from}
-use Rattle.hba_driver.specs.Slot31.{is_off, is_on}
+use Rattle.hba_driver.specs.Slot31.{Control, control_in, is_off, is_on}
 use Rattle.hba_driver.specs.Ticks.{acted, after_tick, done_ended, due, from_reset, plan_after, recovering, seen}
 use Rattle.hba_driver.specs.Turns.{advanced, answered, control_seen, device_seen, found_of, is_back, met, met_order, noted, turn_of, with_next}
 use Rattle.hba_driver.specs.Going.{leaves_port}
@@ -23,15 +23,6 @@ use Rattle.hba_driver.proofs.ticks.DueLemmas.{early_by, late_by, order_allowed_b
 use Rattle.hba_driver.proofs.goes_on.StopLemmas.{either}
 
 -- ---- the part of a plan that concerns slot 31
-
-pub record Control : Type 0 where
-  pub order : Order
-  pub asked : Bool
-  pub ports : ℕ
-  pub found : ℕ
-
-abbrev pub control_in : Plan → Control
-control_in plan = record { order = plan.order; asked = plan.asked; ports = plan.ports; found = plan.found }
 
 found_same : (v : Sight) (stage : Stage) (dev : ℕ) (plan : Plan) → control_in (found_of v stage dev plan) ≡ control_in plan
 unfolding found_of

@@ -24,7 +24,7 @@ use Rattle.hba_driver.specs.HostTurns.{Does, Host, Ticked, sight_in}
 use Rattle.hba_driver.specs.Orders.{next_order, order_fields, scan_from}
 use Rattle.hba_driver.specs.Paths.{reads_page, stage_fields}
 use Rattle.hba_driver.specs.Sights.{file_shown, sight_of}
-use Rattle.hba_driver.specs.Slot31.{IsAt31, IsIn, IsLow, IsUnsent, Fails, Resets, Rests, Signs, Stage31, StaysOn, TicksOn, Told, Waits, control_of, has_failed, is_idle, is_off, is_pending, is_resetting}
+use Rattle.hba_driver.specs.Slot31.{Anew, Control, Goes31, IsAt31, IsIn, IsLow, IsUnsent, Fails, Kept, Looked, Ordered, Resets, Rests, Signs, Stage31, StaysOn, TicksOn, Told, Waits, control_in, control_of, has_failed, is_idle, is_off, is_pending, is_resetting}
 use Rattle.hba_driver.specs.Ticks.{acted, after_tick, cleared_plan, done_ended, due, effects_due, from_reset, plan_after, recovering, seen, turn}
 use Rattle.hba_driver.specs.declared.turn.Turn.{Turn}
 use Rattle.std.specs.Option.{option_map, option_or}
@@ -42,7 +42,7 @@ use Rattle.hba_driver.proofs.ticks.LifeLemmas.{due_seen}
 use Rattle.hba_driver.proofs.events.OpenLemmas.{up_of}
 use Rattle.hba_driver.proofs.issued.ServedLemmas.{seen_served}
 use Rattle.hba_driver.proofs.issued.ServingLemmas.{not_busy}
-use Rattle.hba_driver.proofs.slot31.Slot31Lemmas.{Control, IsAllowed, IsOther, Looks, Orders, Stays, Ticks31, met_off, next_off, seen_free, seen_out, seen_unasked, ticks31}
+use Rattle.hba_driver.proofs.slot31.Slot31Lemmas.{IsAllowed, IsOther, Looks, Orders, Stays, Ticks31, met_off, next_off, seen_free, seen_out, seen_unasked, ticks31}
 use Rattle.hba_driver.proofs.goes_on.StopLemmas.{either}
 use Rattle.hba_driver.proofs.modes.SwitchLemmas.{sight_is, tick_acts}
 use Rattle.hba_driver.proofs.issued.TickingLemmas.{free_order, step_dev}
@@ -304,6 +304,7 @@ module _ (h : Host) (g : IsGoing h) (stage : Stage31) (at : IsAt31 stage h) wher
       pub clears : (n : ℕ) → due v h.driver ≡ Some (act.Orders (Clear n)) → (next ≡ Waits) × (new.driver.plan.order ≡ Clear n) × (is_idle stage ≡ true)
       pub stands : is_pending stage ≡ true → new.driver.plan.order ≡ p.order
       pub flushed : (n : ℕ) → next ≡ Waits → is_idle stage ≡ true → new.driver.plan.order ≡ Clear n → due v h.driver ≡ Some (act.Orders (Clear n))
+      pub goes : Goes31 h new
 
     opened_then : (new : Host) (a : Bool) → Does h (Ticked a) new → h.driver.plan.opened ≡ new.driver.plan.opened
     opened_then new a does = elim (tick_is v (file_shown new.port) h.driver) [
@@ -316,8 +317,8 @@ module _ (h : Host) (g : IsGoing h) (stage : Stage31) (at : IsAt31 stage h) wher
 
     -- no order is issued
     tick_other : has_failed stage ≡ false → (new : Host) (a : Bool) → Does h (Ticked a) new → IsOther (due v h.driver) → (next : Stage31) (o : Order) (b : Bool) → StaysOn stage next → flags31 next ≡ flags31 stage → IsIn next o b (control_of h)
-        → IsLow o → new.driver.plan.order ≡ o → new.driver.plan.asked ≡ b → (next ≡ Waits → stage ≡ Waits) → (is_pending stage ≡ true → o ≡ p.order) → Ticked31 new
-    tick_other well new a does other next o b stays resets is low order asked waits stands =
+        → IsLow o → new.driver.plan.order ≡ o → new.driver.plan.asked ≡ b → (next ≡ Waits → stage ≡ Waits) → (is_pending stage ≡ true → o ≡ p.order) → ((control_of new).view ≡ (control_of h).view → Goes31 h new) → Ticked31 new
+    tick_other well new a does other next o b stays resets is low order asked waits stands goes =
         let part : control_of new ≡ control_of h = (other_leaves well (due v h.driver) refl other (due_seen v h.driver) new (tick_acts h a new does g.way.sound)).same in
         record {
           next = next;
@@ -333,14 +334,15 @@ module _ (h : Host) (g : IsGoing h) (stage : Stage31) (at : IsAt31 stage h) wher
           clears = λ n due_is. absurd (not_ordered n (due v h.driver) other due_is);
           stands = λ held. order ∙ stands held;
           flushed = λ n w idle clear. absurd (false≢true (sym (ap is_idle (waits w)) ∙ idle));
+          goes = goes (ap (λ (x : DevicePart). x.view) part);
         }
 
     -- one is
     tick_ordered : (new : Host) (a : Bool) → Does h (Ticked a) new → (o : Order) → due v h.driver ≡ Some (act.Orders o) → (seen v h.driver).plan.asked ≡ false → (fields : H2dFields) → order_fields o ≡ Some fields → IsLow o
         → new.driver.plan.order ≡ o → new.driver.plan.asked ≡ true → (next : Stage31) → StaysOn stage next → flags31 next ≡ flags31 stage → ((part : DevicePart) → IsUnsent o part → IsIn next o true part)
-        → ((n : ℕ) → o ≡ Clear n → (next ≡ Waits) × (is_idle stage ≡ true)) → is_pending stage ≡ false → Ticked31 new
+        → ((n : ℕ) → o ≡ Clear n → (next ≡ Waits) × (is_idle stage ≡ true)) → is_pending stage ≡ false → (IsUnsent o (control_of new) → Goes31 h new) → Ticked31 new
     unfolding effects_of
-    tick_ordered new a does o due_is free fields are low order asked next stays resets is clears none =
+    tick_ordered new a does o due_is free fields are low order asked next stays resets is clears none goes =
         let acts : ActsAll (order_effects Switching o) h.port h.memory new.port new.memory = subst (λ (x : Option Act). ActsAll (effects_due Switching x) h.port h.memory new.port new.memory) due_is (tick_acts h a new does g.way.sound) in
         let i : Issues31 fields h.port h.memory new.port new.memory = order31 o fields h.port new.port h.memory new.memory are low up g.way.unarmed (free31 free) runs acts in
         let unsent : IsUnsent o (control_of new) = record { fields = fields; are = are; issued = i.issued; command = i.command; there = i.there; work = i.work; built = i.built } in
@@ -361,6 +363,7 @@ module _ (h : Host) (g : IsGoing h) (stage : Stage31) (at : IsAt31 stage h) wher
               (both.0, order ∙ same, both.1);
           stands = λ held. absurd (false≢true (sym none ∙ held));
           flushed = λ n w idle clear. due_is ∙ ap (λ (x : Order). Some (act.Orders x)) (sym order ∙ clear);
+          goes = goes unsent;
         }
 
     -- which stage follows where an order is issued that was seen to be due
@@ -431,14 +434,15 @@ module _ (h : Host) (g : IsGoing h) (stage : Stage31) (at : IsAt31 stage h) wher
 
     tick_by : has_failed stage ≡ false → (new : Host) (a : Bool) → Does h (Ticked a) new → Ticks31 v p new.driver.plan (due v h.driver) → Ticked31 new
     tick_by well new a does (Stays other same) =
-        tick_other well new a does other stage p.order p.asked (inl refl) refl at.is at.low (ap (λ (c : Control). c.order) same) (ap (λ (c : Control). c.asked) same) (λ w. w) (λ held. refl)
+        tick_other well new a does other stage p.order p.asked (inl refl) refl at.is at.low (ap (λ (c : Control). c.order) same) (ap (λ (c : Control). c.asked) same) (λ w. w) (λ held. refl) (Kept same)
     tick_by well new a does (Looks other same) =
         let s : Seen31 = seen31 well in
-        tick_other well new a does other s.next (control_seen v p).order (control_seen v p).asked s.stays s.resets s.is seen_low (ap (λ (c : Control). c.order) same) (ap (λ (c : Control). c.asked) same) s.waits s.stands
+        tick_other well new a does other s.next (control_seen v p).order (control_seen v p).asked s.stays s.resets s.is seen_low (ap (λ (c : Control). c.order) same) (ap (λ (c : Control). c.asked) same) s.waits s.stands (Looked same)
     tick_by well new a does (Orders o due_is free order fields same) =
         let t : Then31 o = then31 well (seen31 well) o free order fields in
         let f = the (order_fields o) fields in
         tick_ordered new a does o due_is (free_seen o due_is (due_seen v h.driver)) f.0 f.1 (subst IsLow order seen_low) (ap (λ (c : Control). c.order) same ∙ order) (ap (λ (c : Control). c.asked) same) t.next t.stays t.resets t.is t.clears t.free
+        (λ unsent. Ordered (at.fault ∙ well) free same (subst (λ (x : Order). IsUnsent x (control_of new)) (sym (ap (λ (c : Control). c.order) same ∙ order)) unsent))
       where
         free_seen : (x : Order) → due v h.driver ≡ Some (act.Orders x) → Due v (seen v h.driver).plan (seen v h.driver).entries (due v h.driver) → (seen v h.driver).plan.asked ≡ false
         free_seen x is known = subst (λ (y : Option Act). Due v (seen v h.driver).plan (seen v h.driver).entries y) is known
@@ -481,6 +485,9 @@ module _ (h : Host) (g : IsGoing h) (stage : Stage31) (at : IsAt31 stage h) wher
             clears = λ n order. let bad : Some (act.Clears dev) ≡ Some (act.Orders (Clear n)) = sym is ∙ order in cc;
             stands = λ held. absurd (false≢true (sym (ap is_pending fails) ∙ held));
             flushed = λ n w idle clear. absurd (false≢true (sym (ap is_idle fails) ∙ idle));
+            goes =
+                let reset : new.driver.plan ≡ from_reset p = after ∙ ap (λ (n : ℕ). cleared_plan n (file_shown new.port) p) own in
+                Anew (ap (λ (q : Plan). q.order) reset) (ap (λ (q : Plan). q.asked) reset);
           }
           | inr other ↦ record {
             next = Fails;
@@ -500,6 +507,10 @@ module _ (h : Host) (g : IsGoing h) (stage : Stage31) (at : IsAt31 stage h) wher
             clears = λ n order. let bad : Some (act.Clears dev) ≡ Some (act.Orders (Clear n)) = sym is ∙ order in cc;
             stands = λ held. absurd (false≢true (sym (ap is_pending fails) ∙ held));
             flushed = λ n w idle clear. absurd (false≢true (sym (ap is_idle fails) ∙ idle));
+            goes =
+                let low : nat_lt dev 15 ≡ true = low_of dev (may_low dev is (may_end h g.way.sound)) other in
+                let same : new.driver.plan ≡ recovering dev (file_shown new.port) p = after ∙ ap (λ (b : Bool). if b then recovering dev (file_shown new.port) p else from_reset p) low in
+                Kept (ap control_in same) (ap (λ (x : DevicePart). x.view) (clearing_leaves dev h.port new.port h.memory new.memory other cleared_is runs acts).same);
           }
         ]
       where

@@ -31,7 +31,7 @@ use Rattle.hba_driver.specs.Events.{opening_host, shared_by}
 use Rattle.hba_driver.specs.Going.{IsOfControl, IsReport}
 use Rattle.hba_driver.specs.HostTurns.{Does, DoesAll, Host, HostTurn, Polled, Pushed, Put, Submitted, Ticked, Took, sight_in}
 use Rattle.hba_driver.specs.Sights.{file_shown}
-use Rattle.hba_driver.specs.Slot31.{Asks, Comes31, IsAt31, IsIn, IsLow, MayBe31, MayCome31, OrdersTakeTurns, Rests, Signs, Stage31, Turns31, control_of, has_failed, is_off, is_pending, is_resetting, orders_clear}
+use Rattle.hba_driver.specs.Slot31.{Asks, Comes31, IsAt31, IsIn, IsLow, Kept, MayBe31, MayCome31, OrdersTakeTurns, Rests, Signs, Stage31, Turns31, control_in, control_of, has_failed, is_off, is_pending, is_resetting, orders_clear}
 use Rattle.hba_driver.specs.Laws.{flushes}
 use Rattle.hba_driver.specs.Ticks.{done_ended, due, effects_due}
 use Rattle.hba_driver.specs.Between.{IsGoing, IsOfControlIn, Opening, Runs}
@@ -190,7 +190,7 @@ module _ (old : Host) (g : IsGoing old) (stage : Stage31) (at : IsAt31 stage old
           low = subst (λ (q : Plan). IsLow q.order) (sym plan) at.low;
           closed = λ l. refl;
         };
-        is = record { stays = inl (inl (sym rests)); clears = λ n flushed. absurd (never_closed less n flushed) };
+        is = record { stays = inl (inl (sym rests)); clears = λ n flushed. absurd (never_closed less n flushed); goes = Kept (ap control_in plan) same };
         stands = (λ held. absurd (false≢true (sym (ap is_pending rests) ∙ held)), λ n waits idle clear. cc);
       }
 
@@ -207,6 +207,7 @@ module _ (old : Host) (g : IsGoing old) (stage : Stage31) (at : IsAt31 stage old
             clears = λ n flushed.
                 let c = t.clears n (clears_due n flushed) in
                 (c.0, c.1, subst IsLow c.1 t.now.low, c.2);
+            goes = t.goes;
           };
           stands = (t.stands, λ n waits idle clear. flushed_by n (t.flushed n waits idle clear));
         }
