@@ -1,7 +1,7 @@
 -- The port takes every write of the driver. In no tick of a run from an opening is a register missing or
 -- locked or a slot busy, and each command that is issued is in memory as its slot needs it (AHCI 1.3.1,
 -- section 3.3, port registers, 5.5, how commands are issued, and chapter 9).
-use Rattle.std.specs.Prelude.{ℕ, ◌≡◌, List, [], ◌∷◌, None}
+use Rattle.std.specs.Prelude.{ℕ, ◌≡◌, true, List, [], ◌∷◌, None}
 use Rattle.host_memory.specs.Memory.{IsHostMemory, Memory}
 use Rattle.hba_fbs.specs.Views.{Port}
 use Rattle.hba_fbs.specs.Writing.{write_refusal}

@@ -1,6 +1,6 @@
 -- Each frame that goes out of a host port has the PM Port of its device (Serial ATA 3.x, 10.5, FIS types, and
 -- 16.3, port multiplier: PM Port; AHCI 1.3.1, 9.3, FIS-based Switching).
-use Rattle.std.specs.Prelude.{ℕ, ◌≡◌, ◌%◌, List, [], ◌∷◌, Some, slice_index}
+use Rattle.std.specs.Prelude.{ℕ, ◌≡◌, ◌%◌, true, List, [], ◌∷◌, Some, slice_index}
 use Rattle.host_memory.specs.Memory.{IsHostMemory, Memory}
 use Rattle.hba_driver.specs.declared.mode.Mode.{Mode}
 use Rattle.hba_driver.specs.Events.{opening_host_in}

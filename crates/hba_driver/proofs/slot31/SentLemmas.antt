@@ -1,5 +1,5 @@
 -- For `orders_take_turns`. A command that moves no data of its own accord goes out: of its device only its slot changes.
-use Rattle.std.proofs.Common.{◌≡◌, ℕ, Bool, false, ap, refl, ◌∙◌, Option, Some}
+use Rattle.std.proofs.Common.{◌≡◌, ℕ, Bool, true, false, ap, refl, ◌∙◌, Option, Some, None}
 use Rattle.std.specs.Prelude.{if◌then◌else◌}
 use Rattle.std.proofs.lemmas.Bool.{true≢false}
 use Rattle.slots.specs.Commands.{with_sent}
