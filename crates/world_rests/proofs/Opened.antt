@@ -1,6 +1,6 @@
 -- For `rested_ports_are_open`. In a world at rest each port of the multiplier is open: the driver watches, so it has set up all before.
 use Rattle.std.proofs.Common.{◌≡◌, ℕ, zero, suc, ◌<◌, ◌≤◌, ◌==◌, ◌&&◌, Bool, true, false, List, [], length, replicate, slice_index_or, refl, sym, ap, subst, ◌∙◌}
-use Rattle.std.specs.Prelude.{bit_and, is_some}
+use Rattle.std.specs.Prelude.{bit_and, is_some, nat_lt}
 use Rattle.std.proofs.lemmas.Bool.{eq-eqb, false≢true, lt-ltb}
 use Rattle.std.proofs.lemmas.List.{length-replicate}
 use Rattle.pm_registers.specs.Port.{bit_x, det, is_open, opening_port}
@@ -57,6 +57,12 @@ module _ (config : Config) (units : List Attached) (fits : is_config config (len
     set = λ well. record { upto = tt; done = λ asks. absurd (false≢true asks); told = λ asks. absurd (false≢true asks) };
   }
 
+last_of : (a b c d : Bool) → a ≡ true → b ≡ true → c ≡ true → (a && (b && c && d)) ≡ d
+last_of true true true d x y z = refl
+last_of false b c d x y z = absurd (false≢true x)
+last_of true false c d x y z = absurd (false≢true y)
+last_of true true false d x y z = absurd (false≢true z)
+
 -- a port that is open
 module _ (ports : ℕ) (m : RegisterMap) (s : IsShape ports m) (count : ℕ) (u : IsOn m count × AreOpen m.ports m) (n : ℕ) (low : n < m.ports) where
   abbrev p : PortRegisters
@@ -72,10 +78,7 @@ module _ (ports : ℕ) (m : RegisterMap) (s : IsShape ports m) (count : ℕ) (u 
   port_open = record {
     opened = is_opened;
     shown = shows_det;
-    passes = λ there.
-        ap (λ (a : Bool). a && (is_open p && ((det p.status == 3) && (bit_and p.error bit_x == 0)))) (lt-ltb n m.ports low)
-        ∙ ap (λ (a : Bool). a && ((det p.status == 3) && (bit_and p.error bit_x == 0))) is_opened
-        ∙ ap (λ (a : Bool). a && (bit_and p.error bit_x == 0)) (eq-eqb (det p.status) 3 (shows_det there));
+    passes = λ there. last_of (nat_lt n m.ports) (is_open p) (det p.status == 3) (bit_and p.error bit_x == 0) (lt-ltb n m.ports low) is_opened (eq-eqb (det p.status) 3 (shows_det there));
   }
 
 pub rested_ports_are_open : RestedHaveDone → RestedDriversWatch → OneOrderAtATime → PortsGoOn → RestedPortsAreOpen
