@@ -12,6 +12,9 @@ use std::alloc::Global;
 use std::marker::Model;
 use std::sync::Wait;
 
+/// How many FISes at most go each way between a device and its links in one turn.
+const BUDGET: u32 = 16;
+
 /// A device at its port, and the gate of its FISes.
 #[derive(Drop)]
 pub struct DiskWorker<'a, 'g, D: Device + Drop, G: Gate> {
@@ -88,15 +91,36 @@ impl<'a, 'g, D: Device + Drop, G: Gate> DiskWorker<'a, 'g, D, G> {
         })
     }
 
-    /// Tries each step once, and says whether anything moved. Rings for the multiplier if something
-    /// went over a link.
+    /// Takes FISes for the device, and sends some of it, as long as anything moves.
+    fn drain<R: Wait>(&mut self, rt: &R) -> Result<Progress, Fault>
+        ensures run { OnOk result (GoesOnRunning D.plan_of D.stands_for D.may_send self.old self.new) }
+        ensures port { IsAtSamePort self.old self.new }
+        ensures gate { result ≡ Err fault.GateShut → G.may_refuse }
+    {
+        let mut progress = Progress {
+            is_any: false,
+            is_over_links: false,
+        };
+        for _ in 0..BUDGET {
+            let step = self.serve(rt)?;
+            if !step.is_any {
+                break;
+            }
+            progress.is_any = true;
+            progress.is_over_links = progress.is_over_links || step.is_over_links;
+        }
+        Ok(progress)
+    }
+
+    /// Changes the connection where that is due, then takes and sends FISes as long as anything moves,
+    /// and says whether anything moved. Rings once for the multiplier if something went over a link.
     fn turn<R: Wait>(&mut self, rt: &R, post: &Post<'_>) -> Result<bool, Fault>
         ensures run { OnOk result (GoesOnRunning D.plan_of D.stands_for D.may_send self.old self.new) }
         ensures port { IsAtSamePort self.old self.new }
         ensures gate { result ≡ Err fault.GateShut → G.may_refuse }
     {
         let changed = self.change(rt)?;
-        let served = self.serve(rt)?;
+        let served = self.drain(rt)?;
         if changed.is_over_links || served.is_over_links {
             post.ring(Who::One);
         }

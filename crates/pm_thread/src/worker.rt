@@ -15,6 +15,9 @@ use std::alloc::{AllocError, Global};
 use std::marker::Model;
 use std::sync::Wait;
 
+/// How many FISes at most go each way between the multiplier and the host in one turn.
+const BUDGET: u32 = 16;
+
 /// A multiplier with the seats of its links, and a place for a FIS of the host that it has not taken.
 #[derive(Drop)]
 pub struct PmWorker<'a> {
@@ -46,6 +49,14 @@ impl<'a> Model for PmWorker<'a> {
       commands = w.commands;
       hand = w.hand;
     }) };
+}
+
+/// What some steps of a turn moved.
+#[derive(Clone, Copy)]
+struct Progress {
+    is_any: bool,
+    /// Whether something went over a link of the host.
+    is_over_links: bool,
 }
 
 impl<'a> PmWorker<'a> {
@@ -234,19 +245,52 @@ impl<'a> PmWorker<'a> {
         moved
     }
 
-    /// Tries each step once, those of the ports first, and says whether anything moved. Rings for the
-    /// worker at the other end of each link that something went over.
+    /// Takes a FIS of the host, and sends one up to it.
+    fn serve_host<R: Wait>(&mut self, rt: &R) -> Result<Progress, AllocError>
+        ensures links { SameLinks self.old self.new }
+        ensures count { length self.new.ports ≡ length self.old.ports }
+    {
+        let fetched = self.fetch(rt);
+        let heard = self.hear()?;
+        let passed = self.pass_up(rt)?;
+        Ok(Progress {
+            is_any: fetched || heard || passed,
+            is_over_links: fetched || passed,
+        })
+    }
+
+    /// Takes FISes of the host, and sends some up to it, as long as anything moves.
+    fn drain_host<R: Wait>(&mut self, rt: &R) -> Result<Progress, AllocError>
+        ensures links { SameLinks self.old self.new }
+        ensures count { length self.new.ports ≡ length self.old.ports }
+    {
+        let mut progress = Progress {
+            is_any: false,
+            is_over_links: false,
+        };
+        for _ in 0..BUDGET {
+            let step = self.serve_host(rt)?;
+            if !step.is_any {
+                break;
+            }
+            progress.is_any = true;
+            progress.is_over_links = progress.is_over_links || step.is_over_links;
+        }
+        Ok(progress)
+    }
+
+    /// Tries each step of the ports once, then those at the host as long as anything moves, and says
+    /// whether anything moved. Rings once for the worker at the other end of each link that something
+    /// went over.
     fn turn<R: Wait>(&mut self, rt: &R, post: &Post<'_>) -> Result<bool, AllocError>
         ensures { SameLinks self.old self.new }
     {
         let moved = self.turn_ports(rt, post);
-        let fetched = self.fetch(rt);
-        let heard = self.hear()?;
-        let passed = self.pass_up(rt)?;
-        if fetched || passed {
+        let host = self.drain_host(rt)?;
+        if host.is_over_links {
             post.ring(Who::Other);
         }
-        Ok(moved || fetched || heard || passed)
+        Ok(moved || host.is_any)
     }
 }
 

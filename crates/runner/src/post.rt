@@ -6,9 +6,6 @@ use crate::signals::{Signals, Who};
 use std::marker::Model;
 use std::sync::Wait;
 
-/// A worker may move nothing in this many turns in a row before it sleeps.
-const WAKEFUL_TURNS: u64 = 256;
-
 /// A sleep that nothing ended counts as this many turns. A worker that is awake needs about as long
 /// for them.
 const TURNS_OF_A_NAP: u64 = 16_384;
@@ -26,10 +23,11 @@ pub struct Post<'a> {
     still: u64,
     /// For how many turns in a row this worker has moved nothing, since it was last woken.
     idle: u64,
-    /// How often something had moved in the run, when that was last looked at.
+    /// How often something had moved in the run, when that was last looked at, and how often this
+    /// worker moved something since.
     moves: u64,
-    /// How often this worker was rung for, before its turn began.
-    rings: u64,
+    /// How often this worker had been woken, when it said that it is about to sleep, if it did.
+    wakes: Option<u64>,
 }
 
 impl<'a> Model for Post<'a> {
@@ -75,16 +73,14 @@ impl<'a> Post<'a> {
             still: 0,
             idle: 0,
             moves: 0,
-            rings: 0,
+            wakes: None,
         }
     }
 
-    /// Whether the worker has one more turn: the run has not been ended. From now on, a ring keeps
-    /// the worker awake.
+    /// Whether the worker has one more turn: the run has not been ended.
     pub fn begins(&mut self) -> bool
         ensures { self.new ≡ self.old }
     {
-        self.rings = self.signals.rings(self.who);
         !self.signals.are_over()
     }
 
@@ -103,45 +99,67 @@ impl<'a> Post<'a> {
     }
 
     /// Ends a turn in which the worker moved something, or did not. After some turns of the second
-    /// kind it sleeps, until it is rung for or some milliseconds are over.
+    /// kind it sleeps, until it is rung for or some milliseconds are over. Whether something moved
+    /// elsewhere is looked at after a sleep, and before the turns are spent.
     pub fn turned<R: Wait>(&mut self, rt: &R, moved: bool)
         ensures turns { self.new.turns ≡ self.old.turns }
         ensures moved { moved ≡ true → self.new.still ≡ 0 }
         ensures grows { self.new.still ≤ self.old.still + 16384 }
     {
         if moved {
-            self.moves = self.signals.count_move();
+            self.signals.count_move(self.who);
+            self.moves = self.moves.wrapping_add(1);
             self.still = 0;
             self.idle = 0;
+            if self.wakes.take().is_some() {
+                self.signals.rise(self.who);
+            }
             return;
         }
         let passed = self.rest(rt);
+        self.still = self.still.saturating_add(passed);
+        if passed > 1 || self.still >= self.turns {
+            self.look();
+        }
+    }
+
+    /// Counts the turns anew if something has moved since this was last looked at.
+    fn look(&mut self)
+        ensures turns { self.new.turns ≡ self.old.turns }
+        ensures still { self.new.still ≤ self.old.still }
+    {
         let moves = self.signals.moves();
-        self.still = if moves == self.moves {
-            self.still.saturating_add(passed)
-        } else {
-            0
-        };
+        if moves != self.moves {
+            self.still = 0;
+        }
         self.moves = moves;
     }
 
-    /// Lets the worker look again at once, and after some turns sleep. Says as how many turns that counts.
+    /// Lets the worker look again at once. After some turns it says that it is about to sleep, and sleeps once it has
+    /// looked again. Says as how many turns that counts.
     /// It never yields: on a full machine, a thread that yields waits for all others each time.
     fn rest<R: Wait>(&mut self, rt: &R) -> u64
         ensures same { self.new ≡ self.old }
         ensures few { result ≤ 16384 }
     {
-        if self.idle < WAKEFUL_TURNS {
+        if self.idle < self.signals.wakeful_turns() {
             self.idle += 1;
             return 1;
         }
-        if self.signals.sleep(rt, self.who, self.rings) {
-            self.idle = 0;
+        let Some(wakes) = self.wakes else {
+            self.wakes = Some(self.signals.doze(self.who));
+            return 1;
+        };
+        if !self.signals.sleep(rt, self.who, wakes) {
+            return TURNS_OF_A_NAP;
         }
-        TURNS_OF_A_NAP
+        self.wakes = None;
+        self.idle = 0;
+        1
     }
 
-    /// Wakes another worker of the run, which may have something to do.
+    /// Wakes another worker of the run, which may have something to do. It is a look at one word, as
+    /// long as that worker is awake.
     pub fn ring(&self, who: Who) {
         self.signals.ring(who);
     }

@@ -11,7 +11,11 @@ use std::alloc::{AllocError, Global};
 use std::snapshot::Snapshot;
 use std::sync::Wait;
 use std::thread;
-use std::thread::{Promise, Threads};
+use std::thread::{Promise, Threads, available_parallelism};
+
+/// In how many turns in a row a worker may move nothing before it sleeps, where each worker can have
+/// a processor.
+const WAKEFUL_TURNS: u64 = 256;
 
 /// What a worker that has this many turns promises about its end.
 #[derive(Drop)]
@@ -19,6 +23,15 @@ struct EndOf<W: Worker>(Snapshot<W>, u64);
 
 impl<W: Worker> Promise<W::End> for EndOf<W> {
     ghost kept_by = { λ p end. W.ended p.0.value p.1 end };
+}
+
+/// In how many turns in a row each of so many workers may move nothing before it sleeps: in none if
+/// they are more than the processors.
+fn wakeful_turns<R: Threads>(rt: &R, workers: usize) -> u64 {
+    match available_parallelism(rt) {
+        Ok(processors) if workers <= processors.get() => WAKEFUL_TURNS,
+        _ => 0,
+    }
 }
 
 /// Runs many workers of one kind, each in a thread of its own. End i is an end of worker i. If memory
@@ -78,7 +91,8 @@ pub fn run_three<D: Worker, P: Worker, H: Worker, R: Threads + Wait + Sync>(
     ensures one { IfOk result (λ ends. P.ended one turns ends.1) }
     ensures other { IfOk result (λ ends. H.ended other turns ends.2) }
 {
-    let signals = Signals::new(alloc, many.len())?;
+    let wakeful = wakeful_turns(rt, many.len().saturating_add(2));
+    let signals = Signals::new(alloc, many.len(), wakeful)?;
     let signals = &signals;
     thread::scope(
         thread::scope_env(),
