@@ -19,6 +19,9 @@ use std::alloc::{AllocError, Global};
 use std::marker::Model;
 use std::sync::Wait;
 
+/// How often in a row a step is tried at most in one turn.
+const BUDGET: u32 = 16;
+
 /// The most requests that a driver has.
 const SLOTS: u32 = 30;
 
@@ -119,12 +122,42 @@ impl<'a> HostWorker<'a> {
         Ok(true)
     }
 
+    /// Takes what comes next off the link, as long as there is something.
+    fn take_all<R: Wait>(&mut self, rt: &R) -> Result<bool, AllocError>
+        ensures run { GoesOn self.old self.new }
+        ensures same { Same self.old self.new }
+    {
+        let mut took = false;
+        for _ in 0..BUDGET {
+            if !self.take(rt)? {
+                break;
+            }
+            took = true;
+        }
+        Ok(took)
+    }
+
     /// Lets the driver do the next thing that is due.
     fn tick(&mut self) -> bool
         ensures run { GoesOn self.old self.new }
         ensures same { Same self.old self.new }
     {
         self.host.tick()
+    }
+
+    /// Lets the driver do what is due.
+    fn tick_all(&mut self) -> bool
+        ensures run { GoesOn self.old self.new }
+        ensures same { Same self.old self.new }
+    {
+        let mut ticked = false;
+        for _ in 0..BUDGET {
+            if !self.tick() {
+                break;
+            }
+            ticked = true;
+        }
+        ticked
     }
 
     /// Asks the port for a FIS, if the hand is empty.
@@ -156,6 +189,22 @@ impl<'a> HostWorker<'a> {
                 false
             }
         }
+    }
+
+    /// Sends what the port has to send, as long as the link takes it.
+    fn send_all<R: Wait>(&mut self, rt: &R) -> Result<bool, AllocError>
+        ensures run { GoesOn self.old self.new }
+        ensures same { Same self.old self.new }
+    {
+        let mut sent = false;
+        for _ in 0..BUDGET {
+            self.ask()?;
+            if !self.send(rt) {
+                break;
+            }
+            sent = true;
+        }
+        Ok(sent)
     }
 
     /// Submits the next request of the plan, if it need not wait. A request that is refused for now
@@ -191,6 +240,21 @@ impl<'a> HostWorker<'a> {
         }
         self.next = i + 1;
         Ok(true)
+    }
+
+    /// Submits the next requests of the plan, up to one that has to wait.
+    fn submit_all(&mut self) -> Result<bool, AllocError>
+        ensures run { GoesOn self.old self.new }
+        ensures same { Same self.old self.new }
+    {
+        let mut submitted = false;
+        for _ in 0..SLOTS {
+            if !self.submit()? {
+                break;
+            }
+            submitted = true;
+        }
+        Ok(submitted)
     }
 
     /// Where the request of this ticket is.
@@ -232,17 +296,16 @@ impl<'a> HostWorker<'a> {
         polled
     }
 
-    /// Tries each step once, and says whether anything moved. Rings for the multiplier if something
-    /// went over a link.
+    /// Tries each step as long as it moves anything, and says whether anything moved. Rings once for
+    /// the multiplier if something went over a link.
     fn turn<R: Wait>(&mut self, rt: &R, post: &Post<'_>) -> Result<bool, AllocError>
         ensures run { GoesOn self.old self.new }
         ensures same { Same self.old self.new }
     {
-        let took = self.take(rt)?;
-        let ticked = self.tick();
-        self.ask()?;
-        let sent = self.send(rt);
-        let submitted = self.submit()?;
+        let took = self.take_all(rt)?;
+        let ticked = self.tick_all();
+        let sent = self.send_all(rt)?;
+        let submitted = self.submit_all()?;
         let polled = self.poll_all();
         if took || sent {
             post.ring(Who::One);
