@@ -1,11 +1,10 @@
 -- For `rested_drivers_watch`. What the control port says on its way to the host, over a run: each answer shows neither BSY nor DRQ, and
 -- the host shows neither of them but BSY while a command that went out is unanswered.
-use Rattle.std.proofs.Common.{◌≡◌, ◌≢◌, ◌⊎◌, ◌+◌, ◌*◌, ◌/◌, ◌%◌, ℕ, ◌<◌, ◌≤◌, ◌==◌, Bool, true, false, List, [], ◌∷◌, ◌++◌, length, refl, sym, ap, subst, ◌∙◌, inl, inr, Option, Some, None, Ok, Err, arith}
-use Rattle.std.specs.Prelude.{IsTrue, if◌then◌else◌, is_none, slice_index, slice_set, MatchBool, MatchOption, Result}
-use Rattle.std.proofs.lemmas.Bool.{cases_Bool, cases_eq, eqb-true, false≢true, true≢false}
+use Rattle.std.proofs.Common.{◌≡◌, ◌⊎◌, ◌+◌, ◌*◌, ◌/◌, ◌%◌, ℕ, ◌<◌, ◌≤◌, ◌==◌, Bool, true, false, List, [], ◌∷◌, ◌++◌, length, refl, sym, ap, subst, ◌∙◌, inl, inr, Option, Some, None, Ok, Err, arith}
+use Rattle.std.specs.Prelude.{if◌then◌else◌, is_none, slice_index, MatchBool, MatchOption, Result}
+use Rattle.std.proofs.lemmas.Bool.{cases_Bool, cases_eq, true≢false}
 use Rattle.std.proofs.lemmas.List.{length-set}
-use Rattle.std.proofs.lemmas.Option.{same_Some}
-use Rattle.fis_view.specs.Built.{IsBuilt, cut, d2h_given, set_bits_given}
+use Rattle.fis_view.specs.Built.{IsBuilt, cut, set_bits_given}
 use Rattle.fis_view.specs.Frames.{IsFrame, Stamped, marked}
 use Rattle.fis_view.specs.Seen.{seen}
 use Rattle.fis_view.specs.Table.{Bits, D2h, Error, N, PmPort, SActive, Status, field, places}
@@ -26,19 +25,17 @@ use Rattle.pm_ports.specs.Port.{came_refusal, gone_refusal}
 use Rattle.multiplier.specs.Arbiter.{control_port}
 use Rattle.multiplier.specs.Between.{Answer as Answers, FromPort, Gives, Notice}
 use Rattle.multiplier.specs.Rules.{FromHostRule, ToControl, ToDevice, ToNobody, ToPort, with_device as connected, without_device}
-use Rattle.multiplier.specs.State.{PmState, control_stamp, next_place, passes_to, pm_port, port_at, ready, rising, stamped}
+use Rattle.multiplier.specs.State.{PmState, control_stamp, passes_to, pm_port, port_at, ready, rising}
 use Rattle.multiplier.specs.declared.multiplier.Passed.{Passed}
 use Rattle.multiplier.specs.declared.multiplier.Passed.TheVariants as passed
 use Rattle.multiplier.proofs.Door.{served_below}
 use Rattle.hba_fbs.specs.declared.report.TakeReport.{TakeReport}
 use Rattle.hba_fbs.specs.Status.{is_busy, wants_data}
 use Rattle.hba_fbs.specs.Tables.{is_sound}
-use Rattle.hba_fbs.specs.Taking.{admitted, heard_view, ignores, port_of, view_after_hearing}
-use Rattle.hba_fbs.specs.Hearing.{heard_bits, heard_register, signing}
-use Rattle.hba_fbs.specs.Views.{DeviceView, view_of}
-use Rattle.hba_driver.specs.Between.{IsGoing}
+use Rattle.hba_fbs.specs.Taking.{admitted, heard_view, ignores, port_of}
+use Rattle.hba_fbs.specs.Views.{view_of}
 use Rattle.hba_driver.specs.HostTurns.{Does, Host, HostTurn, Polled, Pushed, Put, Submitted, Ticked, Took}
-use Rattle.hba_driver.specs.Slot31.{Asks, Follows31, IsAt31, IsIn, Pushes31, Resets, Signs, Stage31, Turns31, control_of, is_resetting}
+use Rattle.hba_driver.specs.Slot31.{Asks, Follows31, IsIn, Pushes31, Resets, Signs, Stage31, Turns31, control_of, is_resetting}
 use Rattle.hba_driver.proofs.Door.{going_turn, turn31}
 use Rattle.pm_world.specs.Rules.{recorded}
 use Rattle.pm_world.specs.declared.link.Change.{Change}

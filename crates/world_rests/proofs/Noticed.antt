@@ -1,23 +1,20 @@
 -- For `rested_drivers_watch`. In a world at rest slot 31 waits for a notification alone: an order that is issued goes out, and the
 -- signature comes.
-use Rattle.std.proofs.Common.{◌≡◌, ◌≢◌, ◌⊎◌, ℕ, ◌<◌, ◌≤◌, Bool, true, false, List, [], length, refl, sym, ap, subst, ◌∙◌, inl, inr, Option, Some, None, arith}
-use Rattle.std.specs.Prelude.{◌&&◌, if◌then◌else◌, is_some, not}
-use Rattle.std.proofs.lemmas.Bool.{and_parts, cases_Bool, cases_eq, false≢true, true≢false}
+use Rattle.std.proofs.Common.{◌≡◌, ℕ, ◌<◌, true, false, [], length, refl, sym, ap, subst, ◌∙◌, inl, inr, Option, Some, None, arith}
+use Rattle.std.specs.Prelude.{is_some, not}
+use Rattle.std.proofs.lemmas.Bool.{and_parts, cases_Bool, false≢true, true≢false}
 use Rattle.std.proofs.lemmas.Option.{same_Some}
 use Rattle.fis_view.specs.declared.build.H2dFields.{H2dFields}
-use Rattle.hba_commands.specs.Requests.{kind_of_command, request_of, work_of}
+use Rattle.hba_commands.specs.Requests.{request_of, work_of}
 use Rattle.slots.specs.Commands.{has_outstanding}
 use Rattle.slots.specs.Setup.{is_outstanding}
-use Rattle.slots.specs.Slots.{Issue, has_bit, holds, is_control, is_waiting, issue_at, lowest, new_issue, own_issue, slots_of, waiting}
-use Rattle.slots.specs.Work.{is_dma, is_queued}
-use Rattle.slots.specs.declared.work.Kind.{Kind}
-use Rattle.slots.specs.declared.work.Kind.TheVariants.{Control}
+use Rattle.slots.specs.Slots.{Issue, holds, is_control, is_waiting, issue_at, lowest, new_issue, own_issue, slots_of, waiting}
+use Rattle.slots.specs.Work.{is_queued}
 use Rattle.slots.proofs.Door.{lowest_is}
 use Rattle.hba_fbs.specs.Status.{is_busy, wants_data}
 use Rattle.hba_fbs.specs.Views.{state_at, view_of}
 use Rattle.hba_laws.proofs.Door.{own_here, own_in}
-use Rattle.hba_driver.specs.declared.order.Order.{Order}
-use Rattle.hba_driver.specs.declared.order.Order.TheVariants.{AwaitSignature, ResetOff, Watch}
+use Rattle.hba_driver.specs.declared.order.Order.TheVariants.{ResetOff}
 use Rattle.hba_driver.specs.Drivers.{IsPath}
 use Rattle.hba_driver.specs.Events.{shared_by}
 use Rattle.hba_driver.specs.HostTurns.{Host, sight_in}
@@ -28,13 +25,11 @@ use Rattle.hba_driver.specs.Sights.{sight_of}
 use Rattle.hba_driver.specs.Slot31.{IsIn, IsUnsent, Resets, Signs, Stage31, control_of, is_resetting}
 use Rattle.hba_driver.proofs.Door.{sight_is, told_of}
 use Rattle.hba_driver.specs.declared.mode.Mode.TheVariants.{Switching}
-use Rattle.world_rests.specs.Sent.{HasOther, HasQueued, Holds, InReset, IsBusy, IsHeldBack, PortWaits, WantsData}
+use Rattle.world_rests.specs.Sent.{HasOther, HasQueued, Holds, InReset, IsBusy, PortWaits, WantsData}
 use Rattle.world_rests.specs.Waits.{DriverWaits, ForAnswer, ForNotice, ForSignature, Waits31}
 use Rattle.world_rests.specs.Watches.{WaitsForNotice}
 use Rattle.world_rests.proofs.ControlFile.{IsCalm}
-use Rattle.world_rests.proofs.Orders.{IsOwed}
 use Rattle.world_rests.proofs.Ready.{not_dma, own_dev as owned_dev, stands_at}
-use Rattle.world_rests.proofs.Settled.{IsSettled}
 use Rattle.world_rests.proofs.Signed.{IsSigned, none_awaited}
 use Rattle.world_rests.proofs.Slot31.{IsAsking, IsOut}
 use Rattle.world_rests.proofs.Ways.{IsGood, Line}

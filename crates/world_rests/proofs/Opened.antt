@@ -1,5 +1,5 @@
 -- For `rested_ports_are_open`. In a world at rest each port of the multiplier is open: the driver watches, so it has set up all before.
-use Rattle.std.proofs.Common.{◌≡◌, ℕ, zero, suc, ◌<◌, ◌≤◌, ◌==◌, ◌&&◌, Bool, true, false, List, [], length, replicate, slice_index_or, refl, sym, ap, subst, ◌∙◌}
+use Rattle.std.proofs.Common.{◌≡◌, ℕ, zero, suc, ◌<◌, ◌≤◌, ◌==◌, ◌&&◌, Bool, true, false, List, [], length, replicate, slice_index_or, refl, sym, ap, subst}
 use Rattle.std.specs.Prelude.{bit_and, is_some, nat_lt}
 use Rattle.std.proofs.lemmas.Bool.{eq-eqb, false≢true, lt-ltb}
 use Rattle.std.proofs.lemmas.List.{length-replicate}

@@ -1,6 +1,6 @@
 -- For `rested_ports_are_open`. What each order of the driver asks the multiplier for, and what it has set once the multiplier took its
 -- command.
-use Rattle.std.proofs.Common.{◌≡◌, ◌≢◌, ℕ, ◌+◌, ◌*◌, ◌<◌, ◌≤◌, ◌==◌, Bool, true, false, bit_and, List, refl, sym, ap, subst, ◌∙◌, inl, inr, Option, Some, None, arith}
+use Rattle.std.proofs.Common.{◌≡◌, ℕ, ◌+◌, ◌*◌, ◌<◌, ◌≤◌, ◌==◌, Bool, true, false, bit_and, List, refl, sym, ap, subst, ◌∙◌, inl, inr, Option, Some, None, arith}
 use Rattle.std.specs.Prelude.{◌/◌, ◌%◌, ◌^◌, if◌then◌else◌, nat_le, nat_lt, ◌&&◌}
 use Rattle.std.specs.Int.{from_bool}
 use Rattle.std.proofs.lemmas.Bool.{cases_Bool, cases_eq, true≢false}

@@ -23,7 +23,6 @@ use Rattle.multiplier.specs.declared.multiplier.Passed.{Passed}
 use Rattle.multiplier.specs.declared.multiplier.Passed.TheVariants as passed
 use Rattle.hba_driver.specs.declared.order.Order.TheVariants.{CountPorts}
 use Rattle.hba_driver.specs.Sights.{answer_in}
-use Rattle.hba_driver.specs.Slot31.{Control}
 use Rattle.pm_world.specs.Line.{NoneDown, NoneUp, is_register, is_reply}
 use Rattle.pm_world.specs.Rules.{recorded}
 use Rattle.pm_world.specs.declared.link.Change.{Change}

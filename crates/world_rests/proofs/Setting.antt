@@ -1,5 +1,5 @@
 -- For `rested_ports_are_open`. What the driver's orders set in the registers of the multiplier, and what else leaves it.
-use Rattle.std.proofs.Common.{◌≡◌, ◌≢◌, ◌⊎◌, ℕ, zero, suc, ◌<◌, ◌≤◌, ◌==◌, Bool, true, false, List, [], ◌∷◌, length, slice_index_or, refl, sym, ap, subst, ◌∙◌, inl, inr, Option, None, arith, get_or-set_same}
+use Rattle.std.proofs.Common.{◌≡◌, ◌⊎◌, ℕ, zero, suc, ◌<◌, ◌≤◌, ◌==◌, Bool, true, false, List, [], ◌∷◌, length, slice_index_or, refl, sym, ap, subst, ◌∙◌, inl, inr, Option, None, arith, get_or-set_same}
 use Rattle.std.specs.Prelude.{if◌then◌else◌, is_some, nat_lt, slice_set}
 use Rattle.std.proofs.lemmas.Bool.{false≢true, lt-ltb, ne_eqb, true≢false}
 use Rattle.std.proofs.lemmas.List.{length-set}

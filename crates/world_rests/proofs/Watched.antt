@@ -1,16 +1,10 @@
 -- For `rested_drivers_watch`. What holds over a run between driver and control port, put together at rest.
-use Rattle.std.proofs.Common.{◌≡◌, ℕ, true, List, [], ◌∷◌, length, refl, None, Some}
-use Rattle.fis_view.specs.Frames.{Stamped}
-use Rattle.hba_driver.specs.HostTurns.{sight_in}
-use Rattle.hba_driver.specs.Slot31.{IsAt31, IsIn, Resets, Signs, Stage31, control_of}
+use Rattle.std.proofs.Common.{List, refl}
 use Rattle.pm_world.specs.Attached.{Attached}
 use Rattle.pm_world.specs.Line.{OneOrderAtATime}
-use Rattle.pm_world.specs.Places.{Places, is_config, new_world}
+use Rattle.pm_world.specs.Places.{new_world}
 use Rattle.pm_world.specs.PortsGoOn.{PortsGoOn}
-use Rattle.pm_world.specs.Rules.{Run}
-use Rattle.pm_world.specs.declared.step.Answer.{Answer}
 use Rattle.pm_world.specs.declared.step.Config.{Config}
-use Rattle.pm_world.specs.declared.step.Step.{Step}
 use Rattle.world_rests.specs.Laws.{RestedHaveDone}
 use Rattle.world_rests.specs.Watches.{RestedDriversWatch}
 use Rattle.world_rests.proofs.ControlFile.{IsCalm, keeps_calm}

@@ -1,5 +1,5 @@
 -- For `rested_drivers_watch`. What each step does on the way between the driver and the control port of the multiplier.
-use Rattle.std.proofs.Common.{◌≡◌, ◌≤◌, ℕ, Bool, true, false, List, [], ◌∷◌, ◌++◌, length, refl, sym, ap, subst, ◌∙◌, Some, None, Ok}
+use Rattle.std.proofs.Common.{◌≡◌, ◌≤◌, ℕ, true, false, List, [], ◌∷◌, ◌++◌, length, refl, sym, ap, subst, ◌∙◌, Some, None, Ok}
 use Rattle.fis_view.specs.Frames.{Stamped}
 use Rattle.multiplier.specs.Between.{Gives}
 use Rattle.multiplier.specs.Rules.{FromHostRule}
