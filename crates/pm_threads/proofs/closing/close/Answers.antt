@@ -16,3 +16,12 @@ returns-clause-arrives g c =
 
 pub returns-clause-made : goal.returns-clause-made
 returns-clause-made g c = rw (sym c.into_parts-disks.ensures.host) c.in_ok-counts.ensures.made
+
+pub returns-in_err-counts-clause-order : goal.returns-in_err-counts-clause-order
+returns-in_err-counts-clause-order g c = rw (sym c.into_parts-disks.ensures.host) c.met.ensures.order
+
+pub returns-in_err-results-clause-order : goal.returns-in_err-results-clause-order
+returns-in_err-results-clause-order g c = rw (sym c.into_parts-disks.ensures.host) c.met.ensures.order
+
+pub returns-clause-order : goal.returns-clause-order
+returns-clause-order g c = rw (sym c.into_parts-disks.ensures.host) c.met.ensures.order
