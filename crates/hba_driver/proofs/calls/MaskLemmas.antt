@@ -1,4 +1,4 @@
--- For the functions of mask.rt and slots.rt. Masks of slots, and the entries that they stand for.
+-- For the functions of mask.rt and taken.rt. Masks of slots, and the entries that they stand for.
 use Rattle.std.proofs.Common.{◌≡◌, ◌≢◌, ◌<◌, ◌≤◌, ◌-◌, ◌*◌, ◌%◌, ◌^◌, ℕ, rules, zero, suc, Bool, true, false, not, ◌&&◌, min, nat_eq, cond, List, length, replicate, set, refl, ap, sym, ◌∙◌, arith, inl, inr, w32, bit_and, bit_or, Option, Some, None}
 use Rattle.std.specs.Int.{bit_not, trailing_zeros}
 use Rattle.std.proofs.lemmas.Bool.{cases_eq, cases_lt, eq-eqb, ne_eqb, true≢false}
