@@ -4,3 +4,4 @@ mod Asked
 mod Ended
 mod Places
 mod NoEnds
+pub mod Door

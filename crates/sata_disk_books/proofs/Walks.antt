@@ -50,7 +50,7 @@ abbrev pub after_deeds : Line → List Deed → Line
 after_deeds l [] = l
 after_deeds l (d ∷ later) = after_deeds (after_deed l d) later
 
-deeds_both : (ds es : List Deed) (l : Line) → after_deeds l (ds ++ es) ≡ after_deeds (after_deeds l ds) es
+pub deeds_both : (ds es : List Deed) (l : Line) → after_deeds l (ds ++ es) ≡ after_deeds (after_deeds l ds) es
 deeds_both [] es l = refl
 deeds_both (d ∷ ds) es l = deeds_both ds es (after_deed l d)
 
@@ -77,7 +77,7 @@ sent_case : (s : Schedule) (place : ℕ) (b : Bool)
 sent_case s place true = refl
 sent_case s place false = refl
 
-moved : (s : Schedule) (m : Move) → (after_move s m).line ≡ after_deeds s.line (deeds_of s m)
+pub moved : (s : Schedule) (m : Move) → (after_move s m).line ≡ after_deeds s.line (deeds_of s m)
 moved s (Takes c) = refl
 moved s (Starts place) = refl
 moved s (Asks place) = refl
@@ -176,7 +176,7 @@ out_after d (out.Ends tags) = one_step d.engine engine.SendsEnds
 out_after d (out.Of p r) = two_steps d.engine (engine.Sends p) engine.Forgives
 out_after d (out.Data p n) = two_steps d.engine (engine.Sends p) engine.Forgives
 
-call_after : (d : DiskState) (c : Call) → (after_call d c).engine ≡ after_steps d.engine (steps_of d c)
+pub call_after : (d : DiskState) (c : Call) → (after_call d c).engine ≡ after_steps d.engine (steps_of d c)
 call_after d call.Plugs = one_step d.engine engine.Resets
 call_after d (call.Hears f) = fis_after d (view_seen f)
 call_after d (call.Starts x) = start_after d.engine x
@@ -201,7 +201,7 @@ all_steps_both (c ∷ calls) later d = ap (λ x. steps_of d c ++ x) (all_steps_b
 abbrev pub shown_from : DiskState → List Call → List Seen
 shown_from d calls = seen_of (commands d) (all_deeds d.engine.schedule (all_moves d.engine (all_steps d calls)))
 
-line_then : (d : DiskState) (calls : List Call) → commands (after_calls d calls) ≡ after_deeds (commands d) (all_deeds d.engine.schedule (all_moves d.engine (all_steps d calls)))
+pub line_then : (d : DiskState) (calls : List Call) → commands (after_calls d calls) ≡ after_deeds (commands d) (all_deeds d.engine.schedule (all_moves d.engine (all_steps d calls)))
 line_then d calls = ap (λ (e : EngineState). e.schedule.line) (engine_after calls d) ∙ ap (λ (s : Schedule). s.line) (schedule_after (all_steps d calls) d.engine)
     ∙ line_after (all_moves d.engine (all_steps d calls)) d.engine.schedule
 

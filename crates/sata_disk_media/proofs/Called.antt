@@ -33,7 +33,7 @@ use Rattle.sata_disk.specs.declared.out.Out.{Out}
 use Rattle.sata_disk.specs.declared.out.Out.TheVariants as out
 use Rattle.sata_disk_laws.specs.Calls as call
 use Rattle.sata_disk_laws.specs.Calls.{Call, IsCall, act_steps, ask_steps, asked_by, data_steps, fis_steps, out_steps, range_steps, start_steps, steps_of}
-use Rattle.sata_disk_media.proofs.Walks.{after_deeds, ends_after, moved}
+use Rattle.sata_disk_books.proofs.Door.{after_deeds, ends_after, moved}
 use Rattle.sata_disk_media.proofs.Stored.{is_calm}
 
 -- ## The steps of a call may be done

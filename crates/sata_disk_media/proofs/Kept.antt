@@ -42,7 +42,7 @@ use Rattle.sata_disk_laws.specs.Calls as call
 use Rattle.sata_disk_laws.specs.Calls.{AreCalls, Answers, Asks, Call, Hears, IsCall, Sends, act_steps, after_call, after_calls, fis_steps, steps_of}
 use Rattle.sata_disk_laws.specs.Laws.{reached, seen_in}
 use Rattle.sata_disk_books.specs.Books.{AreNext, AreOfPage, DataAreGiven, books_after, page_in}
-use Rattle.sata_disk_media.proofs.Walks.{books_both, shown_both, shown_from}
+use Rattle.sata_disk_books.proofs.Door.{books_both, shown_both, shown_from}
 use Rattle.sata_disk_media.specs.Cells.{Cell, Kept, Unknown, answered_cell, asked_cell, covers, in_ranges, kept_in, sector_of}
 use Rattle.sata_disk_media.specs.Laws.{AreSparing, EndsWell, HasSector, IsBrought, IsTakenAt, IsUnread, LoadsBringWhatIsKept, ReadsBringWrites, Spares, WritesAreKept, next_data, sector_in, touches}
 use Rattle.sata_disk_media.specs.Media.{IsHonest, cell_after, cell_of, kept, store_bytes}

@@ -3,7 +3,6 @@ mod Moments
 mod Apart
 mod Stored
 mod Requested
-mod Walks
 mod Called
 mod Walk
 mod Loaded

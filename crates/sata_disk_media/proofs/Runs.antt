@@ -25,7 +25,7 @@ use Rattle.sata_disk_laws.specs.Calls as call
 use Rattle.sata_disk_laws.specs.Calls.{AreCalls, Answers, Asks, Call, IsCall, after_call, after_calls, all_steps, ask_steps, asked_by, steps_of}
 use Rattle.sata_disk_laws.specs.Laws.{reached, seen_in}
 use Rattle.sata_disk_books.specs.Books.{books_after}
-use Rattle.sata_disk_media.proofs.Walks.{books_both, shown_both, shown_from}
+use Rattle.sata_disk_books.proofs.Door.{books_both, shown_both, shown_from}
 use Rattle.sata_disk_media.specs.Cells.{Cell, Unknown}
 use Rattle.sata_disk_media.specs.Laws.{IsBrought, IsUnread}
 use Rattle.sata_disk_media.specs.Media.{IsHonest, IsTrue, cell_after, cell_of, kept}

@@ -27,7 +27,7 @@ use Rattle.sata_disk.specs.State.{DiskState, commands}
 use Rattle.sata_disk_laws.specs.Calls as call
 use Rattle.sata_disk_laws.specs.Calls.{AreCalls, Call, IsCall, after_call, after_calls, all_steps, asked_by, steps_of}
 use Rattle.sata_disk_books.specs.Books.{books_after}
-use Rattle.sata_disk_media.proofs.Walks.{after_deeds, call_after, line_then, shown_from}
+use Rattle.sata_disk_books.proofs.Door.{after_deeds, call_after, line_then, shown_from}
 use Rattle.sata_disk_media.specs.Cells.{Cell, answered_cell, asked_cell, bytes_at}
 use Rattle.sata_disk_media.specs.Media.{cell_after, store_bytes}
 use Rattle.sata_disk_media.proofs.Called.{AllOf, call_are, calm_call, calm_deeds, deeds_are, deeds_by}
