@@ -21,7 +21,7 @@ use Rattle.ahci_machine.specs.States.{MachineState, bay_at, gathering_at}
 use Rattle.ahci_machine.specs.declared.act.Act.TheVariants.{Rests}
 use Rattle.ahci_machine.specs.declared.bay.Bay.{Bay}
 use Rattle.ahci_machine.specs.declared.bay.Unit.{Unit as Inside}
-use Rattle.ahci_machine.specs.declared.bay.Unit.TheVariants.{Empty, Disk, Own}
+use Rattle.ahci_machine.specs.declared.bay.Unit.TheVariants.{Disk, Own}
 
 -- ---- the interrupt
 
@@ -98,6 +98,17 @@ NoneStarts b = OfDisk b.unit (λ d. IsEngineStart d.engine None)
 -- it asks nothing of its medium
 abbrev pub NoneIsAsked : Bay → Type 0
 NoneIsAsked b = OfDisk b.unit (λ d. AsksNothing d.engine)
+
+-- its disk has nothing to send
+abbrev pub IsSilent : Bay → Type 0
+IsSilent b = OfDisk b.unit (λ d. IsOut d None)
+
+-- it does nothing by itself, whatever is behind the controller
+pub record IsResting (b : Bay) : Type 0 where
+  pub hears : NoneIsHeard b
+  pub says : IsSilent b
+  pub starts : NoneStarts b
+  pub asks : NoneIsAsked b
 
 pub record IsQuietBay (fan : FanOut) (port : ℕ) (b : Bay) : Type 0 where
   pub falls : NoneFalls fan port b

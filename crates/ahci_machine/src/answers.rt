@@ -166,7 +166,7 @@ impl Machine {
     fn disk(&self, id: MediumId) -> Option<&SataDisk>
         ensures { option_copied result ≡ disk_at self.now id }
     {
-        let bay = self.bays.get(usize::from(id.port))?;
+        let bay = &self.bays.get(usize::from(id.port))?.bay;
         match &bay.unit {
             Unit::Disk(disk) if bay.disk == id.disk => Some(disk),
             _ => None,
@@ -178,9 +178,11 @@ impl Machine {
         ensures { AnswersMachine id answer self.old result self.new }
     {
         self.hints.at(id.port);
-        let Some(bay) = self.bays.get_mut(usize::from(id.port)) else {
+        let Some(watched) = self.bays.get_mut(usize::from(id.port)) else {
             return Err(MediumError::OtherDisk);
         };
+        watched.rests = false;
+        let bay = &mut watched.bay;
         match &mut bay.unit {
             Unit::Disk(disk) if bay.disk == id.disk => match disk.answer(id.number, answer) {
                 Ok(()) => Ok(()),
@@ -215,7 +217,9 @@ impl Machine {
         ensures { TakesFrame port self.old result self.new }
     {
         self.hints.at(port);
-        let bay = self.bays.get_mut(usize::from(port))?;
+        let watched = self.bays.get_mut(usize::from(port))?;
+        watched.rests = false;
+        let bay = &mut watched.bay;
         match bay.unit {
             Unit::Own => {
                 bay.told = false;
@@ -230,11 +234,11 @@ impl Machine {
     pub fn offer(&mut self, port: u8, frame: Frame) -> Result<(), Frame>
         ensures { OffersFrame port frame self.old result self.new }
     {
-        self.hints.rises = true;
-        let Some(bay) = self.bays.get(usize::from(port)) else {
+        self.hints.says(port);
+        let Some(watched) = self.bays.get(usize::from(port)) else {
             return Err(frame);
         };
-        match bay.unit {
+        match watched.bay.unit {
             Unit::Own if self.fan.wants(port) => match self.fan.offer(port, frame) {
                 Ok(_) => Ok(()),
                 Err(frame) => Err(frame),

@@ -1,8 +1,8 @@
 //! What is at a port.
 
-ghost use Rattle.std.specs.Prelude.{◌≡◌, IfNone, IfOk, OnErr, replicate};
+ghost use Rattle.std.specs.Prelude.{◌≡◌, IfNone, IfOk, IsTrue, OnErr};
 ghost use Rattle.ahci_machine.specs.Bays.{BayMayDo, begun};
-ghost use Rattle.ahci_machine.specs.Resting.{NoneFalls, NoneIsAsked, NoneIsHeard, NoneIsSaid, NoneStarts};
+ghost use Rattle.ahci_machine.specs.Resting.{IsSilent, NoneFalls, NoneIsAsked, NoneIsHeard, NoneIsSaid, NoneStarts};
 ghost use Rattle.ahci_machine.specs.States.{empty_bay};
 
 mod saved;
@@ -39,7 +39,8 @@ pub struct Bay {
 }
 
 impl Bay {
-    fn empty() -> Bay
+    /// Nothing is there.
+    pub(crate) fn empty() -> Bay
         ensures { result ≡ empty_bay }
     {
         Bay {
@@ -48,18 +49,6 @@ impl Bay {
             down: None,
             told: false,
         }
-    }
-
-    /// So many, with nothing at them.
-    pub(crate) fn many(alloc: Global, count: u8) -> Result<Vec<Bay>, AllocError>
-        ensures { IfOk result (λ bays. bays.items ≡ replicate count empty_bay) }
-    {
-        let mut bays = Vec::with_capacity(alloc, usize::from(count))?;
-        for made in 0..count {
-            let _ = made;
-            bays.push(Bay::empty())?;
-        }
-        Ok(bays)
     }
 
     /// What it had to do is gone: it was pulled, or begins anew.
@@ -83,11 +72,8 @@ impl Bay {
         if self.down.is_some() {
             return None;
         }
-        self.down = fan.next_down(port);
-        match self.down {
-            Some(_) => Some(Act::Falls(port)),
-            None => None,
-        }
+        self.down = Some(fan.next_down(port)?);
+        Some(Act::Falls(port))
     }
 
     /// The FIS that is there is heard, or the caller is told of it.
@@ -177,5 +163,15 @@ impl Bay {
             },
             asked,
         })
+    }
+
+    /// Whether its disk has nothing to send.
+    pub(crate) fn is_silent(&self) -> bool
+        ensures { IsTrue result → IsSilent self.now }
+    {
+        match &self.unit {
+            Unit::Disk(disk) => disk.next_out().is_none(),
+            Unit::Empty | Unit::Own => true,
+        }
     }
 }

@@ -266,18 +266,14 @@ impl Machine {
         if self.incoming.is_some() {
             return Ok(None);
         }
-        self.incoming = self.fan.next_up(alloc)?;
-        match &self.incoming {
-            Some(frame) => {
-                self.hints.at(frame.pm_port());
-                self.hints.rises = self.bays.len() > 1;
-                Ok(Some(Act::Rises))
-            }
-            None => {
-                self.hints.rises = false;
-                Ok(None)
-            }
-        }
+        let Some(frame) = self.fan.next_up(alloc)? else {
+            self.hints.none_rises();
+            return Ok(None);
+        };
+        self.hints.at(frame.pm_port());
+        self.hints.rose(frame.pm_port());
+        self.incoming = Some(frame);
+        Ok(Some(Act::Rises))
     }
 
     /// The controller takes the frame on its way, if it may. One that comes while the link is down is lost.

@@ -15,8 +15,8 @@ pub(crate) struct Hints {
     pub(crate) turns: bool,
     // It did something since its registers were written.
     runs: bool,
-    // A frame for the controller may be behind it.
-    pub(crate) rises: bool,
+    // The ports that may have a frame for the controller, as a mask.
+    ups: u16,
     // A device may be to begin anew.
     pub(crate) begins: bool,
     // The devices whose Data FISes are being read, as a mask.
@@ -49,7 +49,7 @@ impl Hints {
         Hints {
             turns: true,
             runs: false,
-            rises: true,
+            ups: 0xFFFF,
             begins: true,
             feeds: 0,
             ports: 0xFFFF,
@@ -71,7 +71,7 @@ impl Hints {
     /// What is behind the controller changed.
     pub(crate) fn shaken(&mut self) {
         self.turns = true;
-        self.rises = true;
+        self.ups = 0xFFFF;
         self.begins = true;
         self.ports = 0xFFFF;
     }
@@ -128,11 +128,31 @@ impl Hints {
     /// A frame passes the place of a port.
     pub(crate) fn passes(&mut self, port: u8) {
         if port == CONTROL {
-            self.rises = true;
+            self.ups = 0xFFFF;
             self.begins = true;
             self.ports = 0xFFFF;
         }
         self.at(port);
+    }
+
+    /// Whether a frame for the controller may be behind it.
+    pub(crate) fn rises(&self) -> bool {
+        self.ups != 0
+    }
+
+    /// A port has a frame for the controller.
+    pub(crate) fn says(&mut self, port: u8) {
+        self.ups |= bit(port);
+    }
+
+    /// The frame of a port is on its way. It had no other.
+    pub(crate) fn rose(&mut self, port: u8) {
+        self.ups &= !bit(port);
+    }
+
+    /// No port has a frame for the controller.
+    pub(crate) fn none_rises(&mut self) {
+        self.ups = 0;
     }
 
     /// Something may be to do at a port.

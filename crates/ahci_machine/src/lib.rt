@@ -17,6 +17,7 @@ mod request;
 mod serving;
 mod state;
 mod stepping;
+mod watched;
 
 pub use act::Act;
 pub use answers::{MediumError, Told};

@@ -11,9 +11,9 @@ ghost use Rattle.ahci_machine.specs.States.{IsOpeningMachine, no_gathering as no
 
 mod saved;
 
-use crate::bay::Bay;
 use crate::gathering::Gathering;
 use crate::hints::Hints;
+use crate::watched::WatchedBay;
 use ahci_controller::{Controller, Next, WideWritten, Width};
 use ahci_registers::Effect;
 use fan_out::FanOut;
@@ -43,7 +43,7 @@ pub struct Machine {
     pub(crate) controller: Controller,
     pub(crate) fan: FanOut,
     /// By port.
-    pub(crate) bays: Vec<Bay>,
+    pub(crate) bays: Vec<WatchedBay>,
     /// The frame on its way to the controller, or of which something is still to be written to the guest.
     pub(crate) incoming: Option<Frame>,
     /// The controller took it.
@@ -113,7 +113,7 @@ impl Machine {
         } else {
             FanOut::multiplied(ports.min(15), legacy)
         };
-        let bays = Bay::many(alloc, fan.ports())?;
+        let bays = WatchedBay::many(alloc, fan.ports())?;
         Ok(Machine {
             controller: Controller::new(),
             fan,

@@ -36,9 +36,11 @@ impl Machine {
         ensures { Puts port unit self.old result self.new }
     {
         self.hints.at(port);
-        let Some(bay) = self.bays.get_mut(usize::from(port)) else {
+        let Some(watched) = self.bays.get_mut(usize::from(port)) else {
             return Err((unit, PortFault::NoPort));
         };
+        watched.rests = false;
+        let bay = &mut watched.bay;
         match bay.unit {
             Unit::Empty => {
                 bay.unit = unit;
@@ -54,10 +56,10 @@ impl Machine {
         ensures { PlugsMachine port self.old result self.new }
     {
         self.hints.shaken();
-        let Some(bay) = self.bays.get(usize::from(port)) else {
+        let Some(watched) = self.bays.get(usize::from(port)) else {
             return Err(PortFault::NoPort);
         };
-        if let Unit::Empty = bay.unit {
+        if let Unit::Empty = watched.bay.unit {
             return Err(PortFault::NotThere);
         }
         match self.fan.plug(port) {
@@ -102,10 +104,11 @@ impl Machine {
         ensures { Removes port self.old result self.new }
     {
         let _ = self.pull(alloc, port);
-        let Some(bay) = self.bays.get_mut(usize::from(port)) else {
+        let Some(watched) = self.bays.get_mut(usize::from(port)) else {
             return Err(PortFault::NoPort);
         };
-        match mem::replace(&mut bay.unit, Unit::Empty) {
+        watched.rests = false;
+        match mem::replace(&mut watched.bay.unit, Unit::Empty) {
             Unit::Empty => Err(PortFault::NotThere),
             unit => Ok(unit),
         }

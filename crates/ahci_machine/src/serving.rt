@@ -82,6 +82,17 @@ impl Machine {
         self.bays[usize::from(port)].ask(port)
     }
 
+    // None of these: it rests.
+    fn rest_at(&mut self, port: u8)
+        requires port { port < length self.old.bays }
+        requires hears { NoneIsHeard (bay_at self.old port) }
+        requires starts { NoneStarts (bay_at self.old port) }
+        requires asks { NoneIsAsked (bay_at self.old port) }
+        ensures { self.new ≡ self.old }
+    {
+        self.bays[usize::from(port)].rest();
+    }
+
     // What is next at a port.
     fn serve(&mut self, alloc: Global, port: u8) -> Result<Option<Act>, AllocError>
         ensures ok { IfOk result (λ act. MayDo self.old act self.new) }
@@ -94,17 +105,24 @@ impl Machine {
         if let Some(act) = self.fall_at(port) {
             return Ok(Some(act));
         }
+        if self.bays[usize::from(port)].rests() {
+            return Ok(None);
+        }
         if let Some(act) = self.hear_at(alloc, port)? {
             return Ok(Some(act));
         }
         if let Some(act) = self.speak_at(alloc, port)? {
-            self.hints.rises = true;
+            self.hints.says(port);
             return Ok(Some(act));
         }
         if let Some(act) = self.start_at(port)? {
             return Ok(Some(act));
         }
-        Ok(self.ask_at(port))
+        if let Some(act) = self.ask_at(port) {
+            return Ok(Some(act));
+        }
+        self.rest_at(port);
+        Ok(None)
     }
 
     // What is next at the first of these ports that has something to do.

@@ -103,7 +103,7 @@ impl Machine {
             if let Some(act) = self.take_next() {
                 return Ok(Some(act));
             }
-        } else if self.hints.rises {
+        } else if self.hints.rises() {
             if let Some(act) = self.rise_next(alloc)? {
                 return Ok(Some(act));
             }

@@ -4,9 +4,9 @@ ghost use Rattle.std.specs.Prelude.{◌≡◌, OnOk};
 ghost use Rattle.ahci_machine.specs.Saved.{between_of, lent_words, machine_words, marks_of, of_between, of_marks};
 
 use super::{Lent, Machine};
-use crate::bay::Bay;
 use crate::gathering::Gathering;
 use crate::hints::Hints;
+use crate::watched::WatchedBay;
 use ahci_controller::{Controller, Next};
 use fan_out::FanOut;
 use fis_view::Frame;
@@ -55,7 +55,7 @@ impl Saved for Lent {
 }
 
 // Controller, what is behind it, and its ports.
-type Ends = (Controller, FanOut, SavedList<Bay>);
+type Ends = (Controller, FanOut, SavedList<WatchedBay>);
 
 // The frame on its way up and that on its way down, what is next to do, and what is being read.
 type Between = (
