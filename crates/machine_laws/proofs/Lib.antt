@@ -16,6 +16,7 @@ pub mod RisRun
 pub mod RisOver
 pub mod RisCalls
 pub mod RisData
+pub mod Marked
 pub mod RisEnds
 pub mod RisLast
 pub mod FallFans

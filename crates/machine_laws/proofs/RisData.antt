@@ -69,9 +69,9 @@ not_bits f type e = by_length (may_have (kind_of_type 0x46) (length f)) (ap (λ 
     by_length true h = false≢true (ap is_bits h)
     by_length false h = false≢true (ap is_bits h)
 
-record OfPort (f : Stamped) : Type 0 where
-  port : f.stamp.port < 15
-  own : 1 < length f.bytes → pm_port f ≡ f.stamp.port
+pub record OfPort (f : Stamped) : Type 0 where
+  pub port : f.stamp.port < 15
+  pub own : 1 < length f.bytes → pm_port f ≡ f.stamp.port
 
 -- the multiplier's own: a notice, which names no slot, or an answer, which is a Register FIS
 data IsOwn (f : List ℕ) : Type 0 where
@@ -109,7 +109,7 @@ own_naming f is (IsAnswer other) = answer_bits f other is.viewed
 abbrev Placed : Stamped → Type 0
 Placed f = OfPort f ⊎ IsOwn f.bytes
 
-rising_own : (n : ℕ) (was : Stamped) → n < 15 → OfPort (rising n was)
+pub rising_own : (n : ℕ) (was : Stamped) → n < 15 → OfPort (rising n was)
 rising_own n was less = record {
   port = less;
   own = λ room.
@@ -175,7 +175,7 @@ from_conn n c xs f has =
     All-contains (Contains xs) (of_conn n c xs) f (All-filter (λ (y : Stamped). y.stamp.port == n && y.stamp.conn == c) (Contains xs) xs (All-contains_itself xs)) has
 
 -- what came is in what was sent
-in_sent : (e g : FanOut) (gave sent came rest : List Stamped) (f : Stamped) → Passage f.stamp.port f.stamp.conn e gave sent g → held_at f.stamp.port f.stamp.conn e ≡ [] → gave ≡ came ++ rest → Contains came f → Contains sent f
+pub in_sent : (e g : FanOut) (gave sent came rest : List Stamped) (f : Stamped) → Passage f.stamp.port f.stamp.conn e gave sent g → held_at f.stamp.port f.stamp.conn e ≡ [] → gave ≡ came ++ rest → Contains came f → Contains sent f
 in_sent e g gave sent came rest f passage none is has =
     from_conn f.stamp.port f.stamp.conn sent f
     (subst (λ (l : List Stamped). Contains l f) (passage.order ∙ ap (λ (l : List Stamped). l ++ of_conn f.stamp.port f.stamp.conn sent) none)

@@ -120,7 +120,7 @@ renewed_clear law old base new sound same is =
     (clear (renewed base) (end_sound law base.fan (subst IsSoundEnd (sym same) sound)) (end_none base.fan) refl refl)
 
 -- power leaves the frame that was taken
-powered_gives : (taken : Bool) (incoming : Option Stamped) → (if taken then [] else option_to_list (if taken then incoming else None)) ≡ []
+pub powered_gives : (taken : Bool) (incoming : Option Stamped) → (if taken then [] else option_to_list (if taken then incoming else None)) ≡ []
 powered_gives true incoming = refl
 powered_gives false incoming = refl
 
@@ -187,7 +187,7 @@ Laws = FansPass × FansRenew
 pub sound_now : Laws → (m : MachineState) (frames : Frames) → HaveRisen m frames → IsSoundEnd m.fan
 sound_now laws m frames h = (passes laws.0 h.first m.fan h.calls frames.sent h.sound h.sends).sound
 
-one_deed : Laws → (deed : Deed) (old new : MachineState) (does : Does old deed new) (was : Frames) → HaveRisen old was → HaveRisen new (frames_after was old deed new does)
+pub one_deed : Laws → (deed : Deed) (old new : MachineState) (does : Does old deed new) (was : Frames) → HaveRisen old was → HaveRisen new (frames_after was old deed new does)
 one_deed laws deed old new does was h = by_reset (is_reset deed) refl
   where
     by_reset : (b : Bool) → is_reset deed ≡ b → HaveRisen new (more_frames b was (sent_by old deed new does) (came_by old deed new does))

@@ -9,3 +9,4 @@ pub mod Falling
 pub mod Feeding
 pub mod Rest
 pub mod Heard
+pub mod Marks

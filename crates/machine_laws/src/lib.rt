@@ -17,4 +17,6 @@ pub use laws::{
     ports_are_apart, taken_frames_are_lent,
 };
 pub use rest::rest_is_owed;
-pub use rising::{connections_end, data_rise_unchanged, frames_rise_in_order};
+pub use rising::{
+    connections_end, data_rise_unchanged, frames_name_their_port, frames_rise_in_order,
+};

@@ -1,5 +1,6 @@
 //! What the devices send goes to the controller in order.
 
+ghost use Rattle.machine_laws.specs.Marks.{GoesOnMarked, OpensMarked, PortFramesAreSent};
 ghost use Rattle.machine_laws.specs.Rising.{ConnectionsLast, DataAreSent, DataCarryParts, FramesAreOver, FramesAreTaken, FramesRise, GoesOnRising, NamingAreSent, OpensRising, PullsEnd, ResetsEnd};
 
 /// A law for callers; it runs no code. Over every run of a machine, for each port and each connection of its device: the FISes that came
@@ -26,6 +27,17 @@ pub fn data_rise_unchanged()
     ensures parts { DataCarryParts }
 {
     fan_out::fans_pass_in_order();
+}
+
+/// A law for callers; it runs no code. Behind a multiplier each FIS that comes to the controller has the PM Port of its stamp, those of the
+/// control port too. Each that has the stamp of a device port is one that a device sent, whatever its type.
+pub fn frames_name_their_port()
+    ensures opens { OpensMarked }
+    ensures goes { GoesOnMarked }
+    ensures sent { PortFramesAreSent }
+{
+    fan_out::fans_pass_in_order();
+    fan_out::a_renewed_fan_is_empty();
 }
 
 /// A law for callers; it runs no code. A connection of a device ends as the device is pulled or taken away, as its port leaves a reset by

@@ -39,7 +39,7 @@ use Rattle.ahci_machine.specs.States.{HasRules, IsOpeningMachine, MachineState}
 use Rattle.ahci_machine.specs.declared.act.Act.TheVariants as act
 use Rattle.machine_laws.specs.ControllerLaws.{RunsRuled}
 use Rattle.machine_laws.specs.Deeds.{Deed, Does, Moved}
-use Rattle.machine_theorem.specs.Completed.{CompletionsAreOfDevices, IsCompleted, IsEndedInHistory}
+use Rattle.machine_theorem.specs.Completed.{IsCompleted, IsEndedInHistory}
 use Rattle.machine_theorem.proofs.Armed.{queued_bit, sact_is}
 use Rattle.machine_theorem.proofs.Falls.{Laws, Told, core_events, kept_of, told_now}
 use Rattle.machine_theorem.proofs.Own.{last_ruled}
@@ -147,7 +147,7 @@ freed_by s past old new frame took true k told below run h =
     let t = transfer_of (issued s (past i.dev)) i.work ((told i.dev issue.dev_below).issued s ∙ ap (option_map work_of_issue) mine) in
     completed_by s past old frame i t.0 (port_of frame == i.dev) (event_by old.core (room_for old (port_of frame)) frame) h.was t.1.0 t.1.1 refl refl h.freed
 
--- ---- the law
+-- ---- as a FIS is taken
 
 not_queued : (c : ControllerState) (s : ℕ) → s < 32 → has_bit (shown PxSact c) s ≡ false → holds is_queued_issue (issue_at c.core.slots s) ≡ true → ⊥
 not_queued c s below hides queued =
@@ -167,8 +167,11 @@ module _ (laws : Laws) (fall : IssuesFall) where
       by (inr (inl queued)) = absurd (not_queued new s below none queued)
       by (inr (inr stops)) = absurd stops
 
-  pub completions : CompletionsAreOfDevices
-  completions ports legacy old opening deeds now run took new does rules slot low shows hides none =
+  -- the slot's device ends its command, by its history
+  pub ended_now : (ports : ℕ) (legacy : Bool) (old : MachineState) → IsOpeningMachine ports legacy old → (deeds : List Deed) (now : MachineState) (run : RunsRuled old deeds now) (took : Took) (new : MachineState)
+      → (does : Does now (Moved (act.Takes took)) new) → HasRules new → (slot : ℕ) → slot < 32 → has_bit (shown PxCi now.controller) slot ≡ true → has_bit (shown PxCi new.controller) slot ≡ false
+      → has_bit (shown PxSact new.controller) slot ≡ false → IsEndedInHistory now.controller does.does.frame.bytes slot
+  ended_now ports legacy old opening deeds now run took new does rules slot low shows hides none =
       let h = does.does in
       let c : ControllerState = does.middle.controller in
       let same : new.controller ≡ c = ap (λ (m : MachineState). m.controller) does.turns in

@@ -18,3 +18,4 @@ mod Armed
 mod Few
 mod Stood
 mod Completed
+mod CompletedSent

@@ -24,13 +24,16 @@ pub fn ends_come_from_devices()
 /// A law for callers; it runs no code. Over every run of a machine from its opening: a bit of PxCI falls as a FIS is taken, and PxSACT does not show the
 /// slot, only by a FIS of the device that owns the slot's command and that ends it: what the FIS is to the device completes the command, after all
 /// that happened to it. A command that is not queued is completed by a Register FIS that answers it, as it was sent last and waits, and all bytes
-/// of a transfer were moved; or by the last Data of a PIO read.
+/// of a transfer were moved; or by the last Data of a PIO read. A device sent the FIS in this run, unless it is the multiplier's, with PM Port Fh;
+/// behind a multiplier it is the device at the port that the PM Port names. If it is a disk, and says that a command which moves sectors ended
+/// well, then this command had earned that.
 pub fn completions_are_of_devices()
     ensures { CompletionsAreOfDevices }
 {
     sata_disk_books::ends_are_of_pages();
     machine_laws::frames_rise_in_order();
     machine_laws::data_rise_unchanged();
+    machine_laws::frames_name_their_port();
     machine_laws::controller_has_its_laws();
     controller_laws::events_are_core_events();
     controller_laws::issues_fall();

@@ -17,17 +17,20 @@ use Rattle.block_queue.specs.Deeds as deed
 use Rattle.block_queue.specs.Deeds.{Deed, seen_of}
 use Rattle.block_queue.specs.Line.{Line, command_at, line_gone, may_send}
 use Rattle.block_scheduler.specs.Sets.{IsTagsOf, ends_at, is_end, turn_at}
-use Rattle.block_scheduler.specs.Schedule.{IsNextFis, ends_sent}
+use Rattle.block_scheduler.specs.Schedule.{IsNextFis, ends_all, ends_sent}
 use Rattle.block_scheduler.specs.declared.scheduler.NextFis.TheVariants as next_fis
 use Rattle.block_scheduler.specs.Laws.{all_deeds, end_deeds, ends_deeds}
 use Rattle.block_engine.specs.Laws.{all_moves}
+use Rattle.ata_reply.specs.declared.reply.Reply.TheVariants as replies
 use Rattle.sata_disk.specs.State.{DiskState, commands, new_disk}
 use Rattle.sata_disk.specs.declared.out.Out.TheVariants as out
 use Rattle.sata_disk_laws.specs.Calls.{Call, Sends, all_steps}
 use Rattle.sata_disk_laws.specs.Laws.{EndsAreEarned, reached, seen_in}
 use Rattle.sata_disk_laws.proofs.Door.{calls_both}
 use Rattle.sata_disk_books.specs.Books.{books_after}
-use Rattle.sata_disk_books.specs.Ended.{EndsAreOfPages, HasEarned}
+use Rattle.sata_disk_laws.specs.Told.{FisesAreTold}
+use Rattle.sata_disk_books.specs.Ended.{EndsAreOfPages, HasEarned, SinglesAreOfPages}
+use Rattle.sata_disk_books.proofs.Given.{first_seen}
 use Rattle.sata_disk_books.proofs.Walks.{after_deeds, books_both, ends_after, rightly_first, rightly_then, seen_both, shown_both, shown_from}
 
 -- ## The ends go one after another
@@ -181,3 +184,21 @@ ends_are_of_pages earned p limit calls tags are is tag low bit =
     let last = rightly_then (seen_in p limit calls) (shown_from d more) no_books parted in
     let e : Ending (commands d) tags = ending (commands d) tags (commands d).queue.table.wire refl is.1.1 in
     of_page (at_page b.pages tag) (all_allowed (commands d) 32 b e.free (ends_seen d tags b last) tag low (sym (e.are tag low) ∙ bit))
+
+-- ## A command that is not queued
+
+single_seen : (d : DiskState) (place : ℕ) (b : Books) → AreSeenRightly b (shown_from d (Sends (out.Of place replies.Done) ∷ [])) → IsAllowedBy b.pages (shown_at place (command_at (commands d) place) Goes)
+unfolding all_deeds all_moves all_steps
+single_seen d place b are = first_seen (commands d) place (ends_all (commands d) place) _ b are
+
+pub singles_are_of_pages : EndsAreEarned → FisesAreTold → SinglesAreOfPages
+singles_are_of_pages earned told p limit calls place fis are is its =
+    let d : DiskState = reached p limit calls in
+    let b : Books = books_after no_books (seen_in p limit calls) in
+    let more : List Call = Sends (out.Of place replies.Done) ∷ [] in
+    let all : AreSeenRightly no_books (shown_from (new_disk p limit) (calls ++ more)) =
+    earned p limit (calls ++ more) (calls_both calls more (new_disk p limit) are (is, tt)) in
+    let parted = subst (λ (x : List Seen). AreSeenRightly no_books x) (shown_both (new_disk p limit) calls more) all in
+    let last = rightly_then (seen_in p limit calls) (shown_from d more) no_books parted in
+    of_page (at_page b.pages place)
+    (subst (λ (x : Shown). IsAllowedBy b.pages x) (told d (out.Of place replies.Done) fis is its).1 (single_seen d place b last))

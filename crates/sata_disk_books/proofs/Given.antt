@@ -27,7 +27,7 @@ use Rattle.sata_disk_books.proofs.Walks.{rightly_then, shown_both, shown_from}
 
 -- ## What is shown where Data go
 
-first_seen : (l : Line) (place : ℕ) (b : Bool) (more : List Deed) (books : Books)
+pub first_seen : (l : Line) (place : ℕ) (b : Bool) (more : List Deed) (books : Books)
     → AreSeenRightly books (seen_of l ((if b then deed.Sends place ∷ deed.Resets ∷ [] else deed.Sends place ∷ []) ++ more))
     → IsAllowedBy books.pages (shown_at place (command_at l place) Goes)
 unfolding seen_of

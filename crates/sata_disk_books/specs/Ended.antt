@@ -1,5 +1,5 @@
--- What the books have of a queued command as the FIS goes that says that it ended well, and which place a command has (Serial ATA 3.x, 10.5,
--- Set Device Bits, and 13.6, native command queuing).
+-- What the books have of a command as the FIS goes that says that it ended well, and which place a command has (Serial ATA 3.x, 10.5, Set Device
+-- Bits and Register Device to Host, and 13.6, native command queuing).
 use Rattle.std.specs.Prelude.{ℕ, ◌≡◌, ◌<◌, ◌/◌, ◌%◌, true, List, Option, Some, None}
 use Rattle.fis_view.specs.Table.{H2d, Count, field}
 use Rattle.block_command.specs.Laws.{IsEarned}
@@ -11,7 +11,7 @@ use Rattle.ata_command.specs.declared.asked.Asked.TheVariants as ask
 use Rattle.ata_command.specs.declared.asked.Move.{Move}
 use Rattle.disk_pages.specs.declared.profile.Profile.{Profile}
 use Rattle.sata_disk.specs.Hearing.{asked_of}
-use Rattle.sata_disk.specs.Sending.{IsOut}
+use Rattle.sata_disk.specs.Sending.{IsFis, IsOut}
 use Rattle.sata_disk.specs.State.{DiskState, new_disk}
 use Rattle.sata_disk.specs.declared.out.Out.{Out}
 use Rattle.sata_disk.specs.declared.out.Out.TheVariants as out
@@ -30,6 +30,12 @@ abbrev pub EndsAreOfPages : Type 0
 EndsAreOfPages = (p : Profile) (limit : ℕ) (calls : List Call) (tags : ℕ) → AreCalls (new_disk p limit) calls
     → IsOut (reached p limit calls) (Some (out.Ends tags)) → (tag : ℕ) → tag < 32 → has_bit tags tag ≡ true
     → HasEarned (page_in p limit calls tag)
+
+-- So has the command of a place as the Register FIS goes that says that it ended well.
+abbrev pub SinglesAreOfPages : Type 0
+SinglesAreOfPages = (p : Profile) (limit : ℕ) (calls : List Call) (place : ℕ) (fis : List ℕ) → AreCalls (new_disk p limit) calls
+    → IsOut (reached p limit calls) (Some (out.Of place replies.Done)) → IsFis (reached p limit calls) (out.Of place replies.Done) fis
+    → HasEarned (page_in p limit calls place)
 
 -- the page of a place is that of a command of this place
 abbrev pub PagesAreOfPlaces : Type 0

@@ -28,7 +28,7 @@ use Rattle.machine_laws.specs.ControllerLaws.{RunsRuled}
 use Rattle.machine_laws.specs.Deeds.{Deed, Put}
 use Rattle.machine_laws.specs.Heard.{AllHeard, HasLived, life_in, no_life}
 use Rattle.machine_theorem.specs.Commands.{IsOfSlot}
-use Rattle.machine_theorem.specs.Completed.{IsEndedInHistory}
+use Rattle.machine_theorem.specs.Completed.{IsCompletedBy}
 use Rattle.machine_theorem.specs.Guest.{IsOfGuest}
 use Rattle.machine_theorem.specs.Moments.{GivesNext, IsBroughtFor, IsEndedFor, OfNewDisk}
 use Rattle.machine_theorem.specs.Parts.{IsBrought}
@@ -68,11 +68,12 @@ EndsEarned now told new = (took : Took) → told ≡ Ok (act.Takes took) → (le
     → has_bit (shown PxSact now.controller) slot ≡ true → has_bit (shown PxSact new.controller) slot ≡ false
     → (fis : Stamped) × IsEndedFor led.first led.deeds now led.run new.fan fis slot
 
--- A bit of PxCI falls by such a move, and PxSACT does not show the slot: the device that owns the slot completed its command by the FIS.
+-- A bit of PxCI falls by such a move, and PxSACT does not show the slot: the device that owns the slot completed its command by the FIS, and
+-- sent it, unless it is the control port.
 abbrev pub EndsCompleted : MachineState → Result Act AllocError → MachineState → Type 0
 EndsCompleted now told new = (took : Took) → told ≡ Ok (act.Takes took) → (led : IsLed now) → (slot : ℕ) → slot < 32
     → has_bit (shown PxCi now.controller) slot ≡ true → has_bit (shown PxCi new.controller) slot ≡ false
-    → has_bit (shown PxSact new.controller) slot ≡ false → (fis : Stamped) × IsEndedInHistory now.controller fis.bytes slot
+    → has_bit (shown PxSact new.controller) slot ≡ false → (fis : Stamped) × IsCompletedBy led.first led.deeds now led.run new.fan fis slot
 
 -- Each FIS that the disk at a port heard since it was put there is of a command in a slot, or has Data that were supplied; and if it was new then,
 -- each command that its books have came from a slot. While the slot's bit has stood since an issue there, what was sent from it since is as supplied.

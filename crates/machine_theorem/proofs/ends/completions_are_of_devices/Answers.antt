@@ -1,4 +1,4 @@
-use Rattle.machine_theorem.proofs.Completed.{completions}
+use Rattle.machine_theorem.proofs.CompletedSent.{Marks, completions}
 use Rattle.machine_theorem.proofs.Falls.{Laws}
 use Rattle.machine_theorem.proofs.ends.completions_are_of_devices.Goals as goal
 
@@ -16,4 +16,10 @@ returns c =
       histories = c.issues_fall.ensures.told;
       active = c.active_falls.ensures;
     } in
-    completions laws c.issues_fall.ensures.falls
+    let marks : Marks = record {
+      opens = c.frames_name_their_port.ensures.opens;
+      goes = c.frames_name_their_port.ensures.goes;
+      sent = c.frames_name_their_port.ensures.sent;
+      singles = c.ends_are_of_pages.ensures.singles;
+    } in
+    completions laws c.issues_fall.ensures.falls marks
