@@ -27,8 +27,8 @@ const ROUND: [Step; 10] = [
 ];
 
 /// Makes a world of one unit, does these steps, and then a round. Gives the world if the round did nothing: then nothing moves,
-/// and the host waits, whatever the steps were; slot 31 waits for a notification alone, and the port is open. If the unit is a disk
-/// that was left alone, no command is with it.
+/// and the host waits, whatever the steps were; slot 31 waits for a notification alone, and the port is open, and forwards if a device
+/// is present. If the unit is a disk that was left alone, no command is with it.
 pub fn rested<D: PortDevice + Drop>(
     alloc: Global,
     units: Vec<D>,

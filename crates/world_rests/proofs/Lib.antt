@@ -35,8 +35,15 @@ mod Disks
 mod Noticed
 mod Watched
 mod Setting
+mod Summary
 mod Ordering
 mod SetUp
+mod Saying
 mod SetWays
 mod SetHost
+mod Notified
+mod Scanned
+mod Heeded
+mod HeededWays
+mod HeededHost
 mod Opened

@@ -1,13 +1,20 @@
--- For `rested_ports_are_open`. In a world at rest each port of the multiplier is open: the driver watches, so it has set up all before.
-use Rattle.std.proofs.Common.{◌≡◌, ℕ, zero, suc, ◌<◌, ◌≤◌, ◌==◌, ◌&&◌, Bool, true, false, List, [], length, replicate, slice_index_or, refl, sym, ap, subst}
+-- For `rested_ports_are_open`. In a world at rest each port of the multiplier is open: the driver watches, so it has set up all before. And
+-- none asks for attention: nothing would heed it.
+use Rattle.std.proofs.Common.{◌≡◌, ℕ, zero, suc, ◌<◌, ◌≤◌, ◌==◌, ◌&&◌, Bool, true, false, List, [], length, replicate, slice_index_or, refl, sym, ap, subst, ◌∙◌, Some}
 use Rattle.std.specs.Prelude.{bit_and, is_some, nat_lt}
-use Rattle.std.proofs.lemmas.Bool.{eq-eqb, false≢true, lt-ltb}
+use Rattle.std.proofs.lemmas.Bool.{eq-eqb, false_from_ne_true, false≢true, lt-ltb, true≢false}
 use Rattle.std.proofs.lemmas.List.{length-replicate}
-use Rattle.pm_registers.specs.Port.{bit_x, det, is_open, opening_port}
-use Rattle.pm_registers.specs.RegisterMap.{RegisterMap, port_at}
+use Rattle.host_memory.specs.Memory.{IsHostMemory, Memory, zeroed}
+use Rattle.pm_registers.specs.Port.{bit_n, bit_x, det, is_open, opening_port}
+use Rattle.pm_registers.specs.RegisterMap.{RegisterMap, asks, port_at}
 use Rattle.pm_registers.specs.declared.port.PortRegisters.{PortRegisters}
+use Rattle.hba_fbs.specs.Views.{view_of}
 use Rattle.hba_driver.specs.declared.mode.Mode.TheVariants.{Switching}
 use Rattle.hba_driver.specs.declared.order.Order.{Order}
+use Rattle.hba_driver.specs.declared.order.Order.TheVariants.{Watch}
+use Rattle.hba_driver.specs.HostTurns.{Pushed, Took}
+use Rattle.hba_driver.specs.Slot31.{control_in}
+use Rattle.hba_driver.proofs.Door.{zeroed_right}
 use Rattle.pm_world.specs.Attached.{Attached}
 use Rattle.pm_world.specs.Line.{OneOrderAtATime}
 use Rattle.pm_world.specs.Places.{is_config, new_world}
@@ -17,21 +24,44 @@ use Rattle.world_rests.specs.Laws.{RestedHaveDone}
 use Rattle.world_rests.specs.Opens.{PortIsOpen, RestedPortsAreOpen}
 use Rattle.world_rests.specs.Watches.{RestedDriversWatch}
 use Rattle.world_rests.proofs.ControlFile.{IsCalm, keeps_calm}
+use Rattle.world_rests.proofs.Heeded.{AreHeeded, Early, IsCleared, IsDue, IsHeeded, IsListed, IsNamed, IsNoticed, IsScanned, Notifies, not_at, not_clear, not_scan, scan_early}
+use Rattle.world_rests.proofs.HeededHost.{keeps_heeded}
+use Rattle.world_rests.proofs.Notified.{is_noticed, notified_seen}
 use Rattle.world_rests.proofs.Ordering.{AreOpen, IsOn, Upto}
+use Rattle.world_rests.proofs.Orders.{Among}
+use Rattle.world_rests.proofs.Scanned.{IsDriven, driven_more}
 use Rattle.world_rests.proofs.SetHost.{keeps_set}
 use Rattle.world_rests.proofs.SetUp.{IsSetUp}
 use Rattle.world_rests.proofs.Setting.{IsShape, ShowsIt}
+use Rattle.world_rests.proofs.Summary.{errors_none}
 use Rattle.world_rests.proofs.Watched.{opening_calm}
-use Rattle.world_rests.proofs.Ways.{IsGood, Line, Way, kept_by, line_of}
-use Rattle.world_rests.proofs.Well.{well_in}
+use Rattle.world_rests.proofs.Ways.{Hears, IsGood, Line, Pushes, Records, Rises, Stays, Takes, Turns, Way, kept_by, line_of}
+use Rattle.world_rests.proofs.Well.{sized, well_in}
+
+-- the turns of the host go on
+keeps_driven : (start : Memory) (l m : Line) → Way l m → IsDriven start l.host → IsDriven start m.host
+keeps_driven start l m (Stays pm registers resetting answer e) d = subst (λ (x : Line). IsDriven start x.host) (sym e) d
+keeps_driven start l m (Records n what e) d = subst (λ (x : Line). IsDriven start x.host) (sym e) d
+keeps_driven start l m (Hears f rest p pm is rule e) d = subst (λ (x : Line). IsDriven start x.host) (sym e) d
+keeps_driven start l m (Rises f pm gave e) d = subst (λ (x : Line). IsDriven start x.host) (sym e) d
+keeps_driven start l m (Takes f rest report host is does of e) d = subst (λ (x : Line). IsDriven start x.host) (sym e) (driven_more start l.host (Took f.bytes report) host does d)
+keeps_driven start l m (Pushes f host does e) d = subst (λ (x : Line). IsDriven start x.host) (sym e) (driven_more start l.host (Pushed (Some f)) host does d)
+keeps_driven start l m (Turns t inside host does e) d = subst (λ (x : Line). IsDriven start x.host) (sym e) (driven_more start l.host t host does d)
 
 -- what each way keeps
-record IsKept (ports : ℕ) (l : Line) : Type 0 where
+record IsKept (start : Memory) (ports : ℕ) (l : Line) : Type 0 where
   calm : IsCalm l
   set : IsSetUp ports l
+  driven : IsDriven start l.host
+  heeded : AreHeeded l
 
-keeps : (ports : ℕ) (l m : Line) → IsGood l → IsGood m → Way l m → IsKept ports l → IsKept ports m
-keeps ports l m g h way k = record { calm = keeps_calm l m g h way k.calm; set = keeps_set ports l m g k.calm h way k.set }
+keeps : (start : Memory) → IsHostMemory start → (ports : ℕ) (l m : Line) → IsGood l → IsGood m → Way l m → IsKept start ports l → IsKept start ports m
+keeps start right ports l m g h way k = record {
+  calm = keeps_calm l m g h way k.calm;
+  set = keeps_set ports l m g k.calm h way k.set;
+  driven = keeps_driven start l m way k.driven;
+  heeded = keeps_heeded start right l g k.driven k.heeded (subst (λ (n : ℕ). n ≤ 15) (sym k.set.shape.ports_are) k.set.shape.most) ports m k.calm k.set h way;
+}
 
 each_replicate : (P : PortRegisters → Type 0) (k : ℕ) (d : PortRegisters) → P d → (n : ℕ) → P (slice_index_or (replicate k d) n d)
 each_replicate P zero d is n = is
@@ -57,14 +87,33 @@ module _ (config : Config) (units : List Attached) (fits : is_config config (len
     set = λ well. record { upto = tt; done = λ asks. absurd (false≢true asks); told = λ asks. absurd (false≢true asks) };
   }
 
+  opening_kept : IsKept (zeroed config.memory) config.ports (line_of (new_world config units))
+  opening_kept = record {
+    calm = opening_calm config units;
+    set = opening_set;
+    driven = record { turns = []; run = refl };
+    heeded = record { closed = λ less. refl; each = λ well n low asking. Early refl };
+  }
+
+-- where nothing is due or on its way, and the driver watches, no port is heeded
+none_heeded : (l : Line) (n : ℕ) → l.pm.registers.due ≡ false → l.up ≡ [] → is_noticed l.host ≡ false → l.host.driver.plan.order ≡ Watch → IsHeeded n (control_in l.host.driver.plan) l → ⊥
+none_heeded l n quiet up off watch (Early is) = scan_early l.host.driver.plan.order Watch watch refl is
+none_heeded l n quiet up off watch (IsDue due) = true≢false (sym due ∙ quiet)
+none_heeded l n quiet up off watch (Notifies f there own none) = subst (Among f) up there
+none_heeded l n quiet up off watch (IsNoticed on) = true≢false (sym on ∙ off)
+none_heeded l n quiet up off watch (IsScanned scan comes) = not_scan l.host.driver.plan.order Watch watch refl scan
+none_heeded l n quiet up off watch (IsNamed scan asked said) = not_scan l.host.driver.plan.order Watch watch refl scan
+none_heeded l n quiet up off watch (IsCleared clear comes) = not_clear l.host.driver.plan.order Watch n watch refl clear
+none_heeded l n quiet up off watch (IsListed k at less bit) = not_at l.host.driver.plan.order Watch k watch refl refl at
+
 last_of : (a b c d : Bool) → a ≡ true → b ≡ true → c ≡ true → (a && (b && c && d)) ≡ d
 last_of true true true d x y z = refl
 last_of false b c d x y z = absurd (false≢true x)
 last_of true false c d x y z = absurd (false≢true y)
 last_of true true false d x y z = absurd (false≢true z)
 
--- a port that is open
-module _ (ports : ℕ) (m : RegisterMap) (s : IsShape ports m) (count : ℕ) (u : IsOn m count × AreOpen m.ports m) (n : ℕ) (low : n < m.ports) where
+-- a port that is open, and does not ask
+module _ (ports : ℕ) (m : RegisterMap) (s : IsShape ports m) (count : ℕ) (u : IsOn m count × AreOpen m.ports m) (n : ℕ) (low : n < m.ports) (none : asks m n ≡ false) where
   abbrev p : PortRegisters
   p = port_at m n
 
@@ -74,20 +123,30 @@ module _ (ports : ℕ) (m : RegisterMap) (s : IsShape ports m) (count : ℕ) (u 
   shows_det : p.present ≡ true → det p.status ≡ 3
   shows_det there = s.shows n is_opened there
 
+  clear : (bit_and p.error bit_n ≡ 0) × (bit_and p.error bit_x ≡ 0)
+  clear = errors_none m n u.0.masked none
+
   port_open : PortIsOpen n m
   port_open = record {
     opened = is_opened;
+    changed = clear.0;
+    exchanged = clear.1;
+    heeded = none;
     shown = shows_det;
-    passes = λ there. last_of (nat_lt n m.ports) (is_open p) (det p.status == 3) (bit_and p.error bit_x == 0) (lt-ltb n m.ports low) is_opened (eq-eqb (det p.status) 3 (shows_det there));
+    passes = λ there.
+        last_of (nat_lt n m.ports) (is_open p) (det p.status == 3) (bit_and p.error bit_x == 0) (lt-ltb n m.ports low) is_opened (eq-eqb (det p.status) 3 (shows_det there))
+        ∙ eq-eqb (bit_and p.error bit_x) 0 clear.1;
   }
 
 pub rested_ports_are_open : RestedHaveDone → RestedDriversWatch → OneOrderAtATime → PortsGoOn → RestedPortsAreOpen
 rested_ports_are_open have_done watches lines goes config units fits before told now run rests =
     let done = have_done config units fits before told now run rests in
     let watch = watches config units fits before told now run rests in
-    let k : IsKept config.ports (line_of now) =
-    kept_by lines goes config units fits (IsKept config.ports) (keeps config.ports) (record { calm = opening_calm config units; set = opening_set config units fits }) before told now run in
-    let s = k.set.set (ap is_some (done.1.port.faultless 15)) in
+    let start : Memory = zeroed config.memory in
+    let k : IsKept start config.ports (line_of now) =
+    kept_by lines goes config units fits (IsKept start config.ports) (keeps start (zeroed_right config.memory (sized config (length units) fits)) config.ports) (opening_kept config units fits) before told now run in
+    let well : is_some (view_of 15 now.host.port).fault ≡ false = ap is_some (done.1.port.faultless 15) in
+    let s = k.set.set well in
     let u : IsOn now.multiplier.registers now.host.driver.plan.ports × AreOpen now.multiplier.registers.ports now.multiplier.registers =
     subst (λ (o : Order). Upto o now.multiplier.registers now.host.driver.plan.ports) watch.watches s.upto in
     let w = well_in Switching config units fits before told now run in
@@ -95,5 +154,9 @@ rested_ports_are_open have_done watches lines goes config units fits before told
       counted = u.0.counted;
       masked = u.0.masked;
       notifies_on = u.0.notifies_on;
-      ports = λ n low. port_open config.ports now.multiplier.registers k.set.shape now.host.driver.plan.ports u n (subst (λ (c : ℕ). n < c) (sym w.ports) low);
+      ports = λ n low.
+          let within : n < now.multiplier.registers.ports = subst (λ (c : ℕ). n < c) (sym w.ports) low in
+          port_open config.ports now.multiplier.registers k.set.shape now.host.driver.plan.ports u n within
+          (false_from_ne_true (asks now.multiplier.registers n) (λ asking.
+          none_heeded (line_of now) n done.0.notice done.0.upward (sym (notified_seen now.host) ∙ watch.unnotified) watch.watches (k.heeded.each well n within asking)));
     }

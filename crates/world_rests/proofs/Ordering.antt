@@ -184,6 +184,9 @@ module _ (m r : RegisterMap) (count : ℕ) (k : Keeps m r) where
 abbrev pub after_wish : RegisterMap → Order → RegisterMap
 after_wish m o = registers_after_request m (wish o)
 
+pub clears_as : (m : RegisterMap) (k : ℕ) → k < 15 → after_wish m (Clear k) ≡ after_write m k 1 changes
+clears_as m k below = ap (λ (j : ℕ). after_write m j 1 changes) (low_is k below)
+
 pub wish_shape : (ports : ℕ) (m : RegisterMap) (o : Order) → IsShape ports m → IsShape ports (after_wish m o)
 wish_shape ports m SetMask s = record { ports_are = s.ports_are; most = s.most; bank = s.bank; shows = s.shows }
 wish_shape ports m Enable s = record { ports_are = s.ports_are; most = s.most; bank = s.bank; shows = s.shows }

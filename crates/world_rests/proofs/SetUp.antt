@@ -121,7 +121,7 @@ unasked_by Signs o asked part down waits up none is (inr line) f there own = abs
 unasked_by Asks o asked part down waits up none is line f there own = absurd (true≢false (sym is.0 ∙ none))
 unasked_by s o asked part down waits up none is line f there own = absurd (none_down down f line.0 there own)
 
-sent_not : {P : Type 0} (i j : Issue) (o : Option Issue) → o ≡ Some i → o ≡ Some j → i.sent ≡ false → j.sent ≡ true → P
+pub sent_not : {P : Type 0} (i j : Issue) (o : Option Issue) → o ≡ Some i → o ≡ Some j → i.sent ≡ false → j.sent ≡ true → P
 sent_not i j o one two unsent sent = absurd (false≢true (sym unsent ∙ ap (λ (x : Issue). x.sent) (same_Some i j (sym one ∙ two)) ∙ sent))
 
 -- while a command waits in slot 31, at most the first FIS of a software reset goes down

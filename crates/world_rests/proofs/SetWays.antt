@@ -1,15 +1,13 @@
 -- For `rested_ports_are_open`. Each way keeps what the driver has set in the multiplier.
-use Rattle.std.proofs.Common.{◌≡◌, ◌≢◌, ℕ, ◌≤◌, ◌==◌, ◌&&◌, Bool, true, false, List, [], ◌∷◌, ◌++◌, refl, sym, ap, subst, ◌∙◌, inl, inr, Option, Some, None, Ok}
+use Rattle.std.proofs.Common.{◌≡◌, ◌≢◌, ℕ, ◌≤◌, ◌&&◌, Bool, true, false, List, [], ◌∷◌, ◌++◌, refl, sym, ap, subst, ◌∙◌, inl, inr, Option, Some, None, Ok}
 use Rattle.std.specs.Prelude.{if◌then◌else◌, is_none, MatchBool, MatchOption}
 use Rattle.std.proofs.lemmas.Bool.{cases_Bool, cases_eq, eq-eqb, ne_eqb, true≢false}
-use Rattle.std.proofs.lemmas.Option.{same_Some}
 use Rattle.fis_view.specs.Built.{IsBuilt, d2h_given}
 use Rattle.fis_view.specs.Frames.{Stamped}
 use Rattle.fis_view.specs.Seen.{seen}
 use Rattle.fis_view.specs.Table.{D2h}
 use Rattle.fis_view.specs.declared.build.D2hFields.{D2hFields}
 use Rattle.fis_view.specs.declared.frame.Stamp.{Stamp}
-use Rattle.fis_view.specs.declared.view.Fis.TheVariants as view
 use Rattle.pm_control.specs.Answers.{IsAnswer, answer_to_request, registers_after_request, value_answer}
 use Rattle.pm_control.specs.Requests.{request_in}
 use Rattle.pm_control.specs.declared.request.Request.{Request}
@@ -22,17 +20,17 @@ use Rattle.multiplier.specs.State.{PmState, control_stamp, passes_to, pm_port, p
 use Rattle.multiplier.specs.declared.multiplier.Passed.{Passed}
 use Rattle.multiplier.specs.declared.multiplier.Passed.TheVariants as passed
 use Rattle.hba_driver.specs.declared.order.Order.TheVariants.{CountPorts}
-use Rattle.hba_driver.specs.Sights.{answer_in}
-use Rattle.pm_world.specs.Line.{NoneDown, NoneUp, is_register, is_reply}
+use Rattle.pm_world.specs.Line.{is_register, is_reply}
 use Rattle.pm_world.specs.Rules.{recorded}
 use Rattle.pm_world.specs.declared.link.Change.{Change}
 use Rattle.pm_world.specs.declared.link.Change.TheVariants as change
 use Rattle.world_rests.proofs.ControlFile.{among_first}
 use Rattle.world_rests.proofs.Ordering.{Done, Upto, counted, done_keeps, upto_keeps, wish, wish_done, wish_shape}
-use Rattle.world_rests.proofs.Orders.{Among, among_last, among_more}
+use Rattle.world_rests.proofs.Orders.{Among}
+use Rattle.world_rests.proofs.Saying.{coming_other, coming_pm, coming_risen, not_control, notice_none, said_answer, said_beside, said_other, said_pm}
 use Rattle.world_rests.proofs.Setting.{IsShape, Keeps, insert_keeps, insert_shape, keeps_same, notice_keeps, notice_shape, remove_keeps, remove_shape}
 use Rattle.world_rests.proofs.Ways.{Line}
-use Rattle.world_rests.proofs.SetUp.{Came, Falls, Held, IsComing, IsOfReset, IsSaid, IsSet, IsSetUp, IsWell, Rises, Unsent, is_ordered}
+use Rattle.world_rests.proofs.SetUp.{Held, IsOfReset, IsSaid, IsSet, IsSetUp, IsWell, is_ordered}
 
 -- ---- the multiplier
 
@@ -43,20 +41,11 @@ module _ (ports : ℕ) (l : Line) (pm : PmState) (k : Keeps l.pm.registers pm.re
   abbrev after : Line
   after = record l { pm = pm }
 
-  coming_pm : IsComing l → IsComing after
-  coming_pm (Unsent w) = Unsent w
-  coming_pm (Falls f there own) = Falls f there own
-
-  said_pm : IsSaid (λ v. v ≡ ports) l → IsSaid (λ v. v ≡ ports) after
-  said_pm (Held f there reply is) = Held f (answer ∙ there) reply is
-  said_pm (Rises f there reply is) = Rises f there reply is
-  said_pm (Came clear told) = Came (record { down = clear.down; waits = answer ∙ clear.waits; up = clear.up }) told
-
   set_pm : IsSet ports l → IsSet ports after
   set_pm s = record {
     upto = upto_keeps l.pm.registers pm.registers l.host.driver.plan.ports k l.host.driver.plan.order s.upto;
-    done = λ asks. elim (s.done asks) [ inl c ↦ inl (coming_pm c) | inr d ↦ inr (done_keeps l.pm.registers pm.registers l.host.driver.plan.ports k l.host.driver.plan.order d) ];
-    told = λ asks counts. elim (s.told asks counts) [ inl c ↦ inl (coming_pm c) | inr d ↦ inr (said_pm d) ];
+    done = λ asks. elim (s.done asks) [ inl c ↦ inl (coming_pm l pm c) | inr d ↦ inr (done_keeps l.pm.registers pm.registers l.host.driver.plan.ports k l.host.driver.plan.order d) ];
+    told = λ asks counts. elim (s.told asks counts) [ inl c ↦ inl (coming_pm l pm c) | inr d ↦ inr (said_pm l pm (λ v. v ≡ ports) answer d) ];
   }
 
   pub setup_pm : IsShape ports pm.registers → IsSetUp ports l → IsSetUp ports after
@@ -102,8 +91,8 @@ module _ (old new : PmState) (f : Stamped) where
         ByOther other c.0 c.1
   ]
 
--- an answer to a read of the number of ports
-replies : (g : Stamped) (fields : D2hFields) (pm : PmState) → IsBuilt D2h (d2h_given fields) g.bytes → g.stamp ≡ control_stamp pm → is_reply g ≡ true
+-- an answer of the control port
+pub replies : (g : Stamped) (fields : D2hFields) (pm : PmState) → IsBuilt D2h (d2h_given fields) g.bytes → g.stamp ≡ control_stamp pm → is_reply g ≡ true
 replies g fields pm built stamp =
     ap (λ (b : Bool). b && is_register (seen g.bytes)) (eq-eqb g.stamp.port control_port (ap (λ (s : Stamp). s.port) stamp)) ∙ ap is_register built.viewed
 
@@ -118,26 +107,13 @@ module _ (ports : ℕ) (l : Line) (f : Stamped) (rest : List Stamped) (pm : PmSt
   first = subst (Among f) (sym is) (inl refl)
 
   module _ (other : pm_port f ≢ control_port) (answer : pm.answer ≡ l.pm.answer) (same : pm.registers ≡ l.pm.registers) where
-    coming_other : IsComing l → IsComing heard
-    coming_other (Unsent w) = Unsent w
-    coming_other (Falls x there own) = by_place (subst (Among x) is there)
-      where
-        by_place : Among x (f ∷ rest) → IsComing heard
-        by_place (inl e) = absurd (other (ap pm_port e ∙ own))
-        by_place (inr more) = Falls x more own
-
-    said_other : IsSaid (λ v. v ≡ ports) l → IsSaid (λ v. v ≡ ports) heard
-    said_other (Held x there reply v) = Held x (answer ∙ there) reply v
-    said_other (Rises x there reply v) = Rises x there reply v
-    said_other (Came clear told) = Came (record { down = (subst NoneDown is clear.down).1; waits = answer ∙ clear.waits; up = clear.up }) told
-
     set_other : IsSet ports l → IsSet ports heard
     set_other s =
         let k : Keeps l.pm.registers pm.registers = keeps_same l.pm.registers pm.registers same in
         record {
           upto = upto_keeps l.pm.registers pm.registers l.host.driver.plan.ports k l.host.driver.plan.order s.upto;
-          done = λ asks. elim (s.done asks) [ inl c ↦ inl (coming_other c) | inr d ↦ inr (done_keeps l.pm.registers pm.registers l.host.driver.plan.ports k l.host.driver.plan.order d) ];
-          told = λ asks counts. elim (s.told asks counts) [ inl c ↦ inl (coming_other c) | inr d ↦ inr (said_other d) ];
+          done = λ asks. elim (s.done asks) [ inl c ↦ inl (coming_other l f rest pm is other c) | inr d ↦ inr (done_keeps l.pm.registers pm.registers l.host.driver.plan.ports k l.host.driver.plan.order d) ];
+          told = λ asks counts. elim (s.told asks counts) [ inl c ↦ inl (coming_other l f rest pm is other c) | inr d ↦ inr (said_other l f rest pm is other (λ v. v ≡ ports) answer d) ];
         }
 
     heard_other : IsSetUp ports heard
@@ -198,59 +174,27 @@ module _ (ports : ℕ) (l : Line) (f : Stamped) (rest : List Stamped) (pm : PmSt
 
 -- ---- a frame that rises
 
-none_up_more : (xs : List Stamped) (f : Stamped) → NoneUp xs → is_reply f ≡ false → NoneUp (xs ++ f ∷ [])
-none_up_more [] f none is = (is, tt)
-none_up_more (x ∷ xs) f none is = (none.0, none_up_more xs f none.1 is)
-
 module _ (ports : ℕ) (l : Line) (f : Stamped) (pm : PmState) (u : IsSetUp ports l) where
   abbrev risen : Line
   risen = record l { pm = pm; up = l.up ++ f ∷ [] }
 
-  coming_risen : IsComing l → IsComing risen
-  coming_risen (Unsent w) = Unsent w
-  coming_risen (Falls x there own) = Falls x there own
-
   set_risen : Keeps l.pm.registers pm.registers → (IsSaid (λ v. v ≡ ports) l → IsSaid (λ v. v ≡ ports) risen) → IsSet ports l → IsSet ports risen
   set_risen k said s = record {
     upto = upto_keeps l.pm.registers pm.registers l.host.driver.plan.ports k l.host.driver.plan.order s.upto;
-    done = λ asks. elim (s.done asks) [ inl c ↦ inl (coming_risen c) | inr d ↦ inr (done_keeps l.pm.registers pm.registers l.host.driver.plan.ports k l.host.driver.plan.order d) ];
-    told = λ asks counts. elim (s.told asks counts) [ inl c ↦ inl (coming_risen c) | inr d ↦ inr (said d) ];
+    done = λ asks. elim (s.done asks) [ inl c ↦ inl (coming_risen l f pm c) | inr d ↦ inr (done_keeps l.pm.registers pm.registers l.host.driver.plan.ports k l.host.driver.plan.order d) ];
+    told = λ asks counts. elim (s.told asks counts) [ inl c ↦ inl (coming_risen l f pm c) | inr d ↦ inr (said d) ];
   }
 
   setup_risen : IsShape ports pm.registers → Keeps l.pm.registers pm.registers → (IsSaid (λ v. v ≡ ports) l → IsSaid (λ v. v ≡ ports) risen) → IsSetUp ports risen
   setup_risen shape k said = record { shape = shape; falls = u.falls; resets = u.resets; set = λ well. set_risen k said (u.set well) }
 
-  -- the answer waits on, and the frame is none
-  said_beside : pm.answer ≡ l.pm.answer → is_reply f ≡ false → IsSaid (λ v. v ≡ ports) l → IsSaid (λ v. v ≡ ports) risen
-  said_beside answer none (Held x there reply v) = Held x (answer ∙ there) reply v
-  said_beside answer none (Rises x there reply v) = Rises x (among_more x f l.up there) reply v
-  said_beside answer none (Came clear told) = Came (record { down = clear.down; waits = answer ∙ clear.waits; up = none_up_more l.up f clear.up none }) told
-
-  -- the answer is the frame
-  said_answer : l.pm.answer ≡ Some f → IsSaid (λ v. v ≡ ports) l → IsSaid (λ v. v ≡ ports) risen
-  said_answer is (Held x there reply v) =
-      let same : x ≡ f = same_Some x f (sym there ∙ is) in
-      Rises f (among_last f l.up) (subst (λ (y : Stamped). is_reply y ≡ true) same reply) (subst (λ (y : Stamped). answer_in (seen y.bytes) ≡ ports) same v)
-  said_answer is (Rises x there reply v) = Rises x (among_more x f l.up there) reply v
-  said_answer is (Came clear told) = absurd (let wrong : None ≡ Some f = sym clear.waits ∙ is in cc)
-
-  not_control : (n : ℕ) → n ≢ control_port → f.stamp.port ≡ n → is_reply f ≡ false
-  not_control n other is = ap (λ (b : Bool). b && is_register (seen f.bytes)) (ne_eqb f.stamp.port control_port (λ e. other (sym is ∙ e)))
-
-  and_none : (b : Bool) → (b && false) ≡ false
-  and_none true = refl
-  and_none false = refl
-
-  notice_none : seen f.bytes ≡ Ok (view.SetBits f.bytes) → is_reply f ≡ false
-  notice_none viewed = ap (λ r. (f.stamp.port == control_port) && is_register r) viewed ∙ and_none (f.stamp.port == control_port)
-
   pub rises_set : Gives l.pm f pm → IsSetUp ports risen
   rises_set (FromPort n was next other is port shown e) =
       let same : pm.registers ≡ l.pm.registers = ap (λ (x : PmState). x.registers) e in
-      setup_risen (shape_as ports l.pm.registers pm.registers same u.shape) (keeps_same l.pm.registers pm.registers same) (said_beside (ap (λ (x : PmState). x.answer) e) (not_control n other (ap (λ (x : Stamped). x.stamp.port) shown)))
+      setup_risen (shape_as ports l.pm.registers pm.registers same u.shape) (keeps_same l.pm.registers pm.registers same) (said_beside l f pm (λ v. v ≡ ports) (ap (λ (x : PmState). x.answer) e) (not_control f n other (ap (λ (x : Stamped). x.stamp.port) shown)))
   rises_set (Notice next due is e) =
       let same = ap (λ (x : PmState). x.registers) e in
-      setup_risen (subst (IsShape ports) (sym same) (notice_shape ports l.pm.registers u.shape)) (subst (Keeps l.pm.registers) (sym same) (notice_keeps l.pm.registers)) (said_beside (ap (λ (x : PmState). x.answer) e) (notice_none is.0.viewed))
+      setup_risen (subst (IsShape ports) (sym same) (notice_shape ports l.pm.registers u.shape)) (subst (Keeps l.pm.registers) (sym same) (notice_keeps l.pm.registers)) (said_beside l f pm (λ v. v ≡ ports) (ap (λ (x : PmState). x.answer) e) (notice_none f is.0.viewed))
   rises_set (Answers next is e) =
       let same : pm.registers ≡ l.pm.registers = ap (λ (x : PmState). x.registers) e in
-      setup_risen (shape_as ports l.pm.registers pm.registers same u.shape) (keeps_same l.pm.registers pm.registers same) (said_answer is)
+      setup_risen (shape_as ports l.pm.registers pm.registers same u.shape) (keeps_same l.pm.registers pm.registers same) (said_answer l f pm (λ v. v ≡ ports) is)

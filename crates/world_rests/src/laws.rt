@@ -79,7 +79,7 @@ pub fn rested_disks_are_left()
 
 /// Holds of each world at rest that a run from a new one with FIS-based switching leads to, whatever its devices are. The driver has
 /// set up the multiplier: it knows the number of ports, bits N and X of SError count as errors and are notified, and each port is
-/// open. Where a device is present the port shows it, and forwards unless bit X of its SError is set.
+/// open. Both bits are clear in SError of each port. Where a device is present the port shows it, and forwards.
 pub fn rested_ports_are_open()
     ensures { RestedPortsAreOpen }
 {
