@@ -67,14 +67,14 @@ opens_all seen items opened old new steps answers is right run rests law =
 
 pub disk_has_done : {X : Type 0} (seen : X → Attached) (items : List X) (opened old new : Places) (steps : List Step) (answers : List Answer) → opened ≡ new_world config (map seen items)
     → is_config config (length items) ≡ true → Run opened steps answers old → RestsAfter old round new → RestedDisksHaveDone → DiskHasDoneIn (map seen items) new
-disk_has_done seen items opened old new steps answers is right run rests law sectors plan past has d there opens =
+disk_has_done seen items opened old new steps answers is right run rests law sectors plan past has d there =
     let fit : is_config config (length (map seen items)) ≡ true = ap (λ (n : ℕ). is_config config n) (length-map items seen) ∙ right in
     let r = rests config (map seen items) fit steps answers (subst (λ (w : Places). Run w steps answers old) is run) has_round in
-    law config (map seen items) 0 sectors plan past fit (omega (arith)) has new d there opens (subst IsAtRest (sym r.0) r.1)
+    law config (map seen items) 0 sectors plan past fit (omega (arith)) has new d there (subst IsAtRest (sym r.0) r.1)
 
 pub disk_is_left : {X : Type 0} (seen : X → Attached) (items : List X) (opened old new : Places) (steps : List Step) (answers : List Answer) → opened ≡ new_world config (map seen items)
     → is_config config (length items) ≡ true → Run opened steps answers old → RestsAfter old round new → RestedDisksAreLeft → DiskIsLeftIn (map seen items) new
-disk_is_left seen items opened old new steps answers is right run rests law sectors plan past has d there opens =
+disk_is_left seen items opened old new steps answers is right run rests law sectors plan past has d there =
     let fit : is_config config (length (map seen items)) ≡ true = ap (λ (n : ℕ). is_config config n) (length-map items seen) ∙ right in
     let r = rests config (map seen items) fit steps answers (subst (λ (w : Places). Run w steps answers old) is run) has_round in
-    law config (map seen items) 0 sectors plan past fit (omega (arith)) has new d there opens (subst IsAtRest (sym r.0) r.1)
+    law config (map seen items) 0 sectors plan past fit (omega (arith)) has new d there (subst IsAtRest (sym r.0) r.1)

@@ -1,6 +1,5 @@
 -- What the host of a world of one disk has left with it, once a round does nothing: no command (`world_rests`, specs/Left.antt and Out.antt).
-use Rattle.std.specs.Prelude.{ℕ, ◌≡◌, true, List}
-use Rattle.pm_registers.specs.RegisterMap.{forwards}
+use Rattle.std.specs.Prelude.{ℕ, List}
 use Rattle.disk_model.specs.declared.plan.DiskPlan.{DiskPlan}
 use Rattle.disk_model.specs.Histories.{Happening}
 use Rattle.pm_world.specs.Attached.{Attached}
@@ -14,15 +13,13 @@ use Rattle.world_rests.specs.Out.{DiskIsLeft}
 abbrev pub config : Config
 config = record { ports = 1; capacity = 2; memory = 0x200000 }
 
--- if the unit is a disk that was left alone since its plugging, is plugged in, and its port forwards
+-- if the unit is a disk that was left alone since its plugging, and is plugged in
 abbrev pub DiskHasDoneIn : List Attached → Places → Type 0
 DiskHasDoneIn units now =
     (sectors : ℕ) (plan : DiskPlan) (past : List Happening) → HasDisk units 0 plan sectors past
-    → (d : DiskRun config units 0 now) → IsThere 0 d.conn now → forwards now.multiplier.registers 0 ≡ true
-    → DiskHasDone 0 now.host
+    → (d : DiskRun config units 0 now) → IsThere 0 d.conn now → DiskHasDone 0 now.host
 
 abbrev pub DiskIsLeftIn : List Attached → Places → Type 0
 DiskIsLeftIn units now =
     (sectors : ℕ) (plan : DiskPlan) (past : List Happening) → HasDisk units 0 plan sectors past
-    → (d : DiskRun config units 0 now) → IsThere 0 d.conn now → forwards now.multiplier.registers 0 ≡ true
-    → DiskIsLeft 0 now.host
+    → (d : DiskRun config units 0 now) → IsThere 0 d.conn now → DiskIsLeft 0 now.host

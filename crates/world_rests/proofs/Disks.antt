@@ -33,6 +33,7 @@ use Rattle.pm_world.specs.declared.step.Step.{Step}
 use Rattle.pm_world.specs.declared.step.Step.TheVariants as step
 use Rattle.world_rests.specs.Laws.{RestedHaveDone}
 use Rattle.world_rests.specs.Left.{IsOccupied, NoneIsOut, RestedDisksHaveDone}
+use Rattle.world_rests.specs.Opens.{RestedPortsAreOpen}
 use Rattle.world_rests.specs.Out.{DiskIsFree, NothingIsOut, RestedDisksAreLeft}
 use Rattle.world_rests.specs.Rests.{HasAnswered, IsAtRest, NothingMoves, PortRests}
 use Rattle.world_rests.specs.Waits.{HostWaits}
@@ -155,8 +156,18 @@ has_rested have_done orderly meet config units n sectors plan past fits below di
 
 -- ---- the laws
 
-pub rested_disks_have_done : DisksSendTheirs → GivenFits → RestedHaveDone → ReachedAreOrderly → EndsMeet → RestedDisksHaveDone
-rested_disks_have_done theirs fit have_done orderly meet config units n sectors plan past fits below disk now d there opens rests_now =
+-- the disk's port forwards
+port_opens : RestedPortsAreOpen → (config : Config) (units : List Attached) (n : ℕ) → is_config config (length units) ≡ true → (now : Places) (d : DiskRun config units n now) → IsThere n d.conn now → IsAtRest now
+    → forwards now.multiplier.registers n ≡ true
+port_opens are_open config units n fits now d there rests_now =
+    let run : Run (new_world config units) (d.first ++ step.Came n ∷ d.steps) (d.told ++ answer.Came n d.conn ∷ d.answers) now =
+    run_both (new_world config units) d.out now d.first d.told (step.Came n ∷ d.steps) (answer.Came n d.conn ∷ d.answers) d.made d.run in
+    let here : IsHere n d.conn now = is_here n d.conn now there in
+    (are_open config units fits (d.first ++ step.Came n ∷ d.steps) (d.told ++ answer.Came n d.conn ∷ d.answers) now run rests_now).devices n here.place here.at here.plugged
+
+pub rested_disks_have_done : DisksSendTheirs → GivenFits → RestedHaveDone → RestedPortsAreOpen → ReachedAreOrderly → EndsMeet → RestedDisksHaveDone
+rested_disks_have_done theirs fit have_done are_open orderly meet config units n sectors plan past fits below disk now d there rests_now =
+    let opens : forwards now.multiplier.registers n ≡ true = port_opens are_open config units n fits now d there rests_now in
     let r : HasRested n plan sectors now = has_rested have_done orderly meet config units n sectors plan past fits below disk now d there opens rests_now in
     let out : NoneIsOut n now.host.port =
     none_is_out n below plan sectors now.host r.history r.floors r.touches r.running r.owes (r.host.port.fed n (omega (arith, below))) (r.host.port.faultless n) r.ends in
@@ -168,8 +179,9 @@ rested_disks_have_done theirs fit have_done orderly meet config units n sectors 
       left = λ ready. none_is_left n below plan sectors now.host r.history r.floors r.touches r.running r.host.port r.host.driver out ready idle r.ends;
     }
 
-pub rested_disks_are_left : RestedHaveDone → ReachedAreOrderly → EndsMeet → RestedDisksHaveDone → RestedDisksAreLeft
-rested_disks_are_left have_done orderly meet disks_have_done config units n sectors plan past fits below disk now d there opens rests_now =
+pub rested_disks_are_left : RestedHaveDone → RestedPortsAreOpen → ReachedAreOrderly → EndsMeet → RestedDisksHaveDone → RestedDisksAreLeft
+rested_disks_are_left have_done are_open orderly meet disks_have_done config units n sectors plan past fits below disk now d there rests_now =
+    let opens : forwards now.multiplier.registers n ≡ true = port_opens are_open config units n fits now d there rests_now in
     let r : HasRested n plan sectors now = has_rested have_done orderly meet config units n sectors plan past fits below disk now d there opens rests_now in
     let out : NothingIsOut n now.host.port =
     nothing_is_out n below plan sectors now.host r.history r.floors r.touches r.running r.owes (r.host.port.fed n (omega (arith, below))) (r.host.port.faultless n) r.ends in
@@ -179,6 +191,6 @@ rested_disks_are_left have_done orderly meet disks_have_done config units n sect
       out = out;
       free = free;
       fine = λ fine.
-          let idle : IsOccupied n now.host.port → ⊥ = (disks_have_done config units n sectors plan past fits below disk now d there opens rests_now).idle fine in
+          let idle : IsOccupied n now.host.port → ⊥ = (disks_have_done config units n sectors plan past fits below disk now d there rests_now).idle fine in
           (free idle, is_unworked n below plan sectors now.host r.history r.floors r.touches r.running r.owes r.host.port r.host.driver out idle r.ends fine);
     }

@@ -130,7 +130,8 @@ module _ (ports : ℕ) (l : Line) (f : Stamped) (rest : List Stamped) (pm : PmSt
   left_heeded n due scanned named cleared (IsCleared clear comes) = cleared clear comes
   left_heeded n due scanned named cleared (IsListed k at less bit) = IsListed k at less bit
 
-  module _ (own : pm_port f ≡ control_port) (answers : IsAnswer (answer_to_request l.pm.resetting l.pm.registers (request_in f.bytes)) (control_stamp l.pm) pm.answer) (after_is : pm.registers ≡ registers_after_request l.pm.registers (request_in f.bytes)) where
+  module _ (own : pm_port f ≡ control_port) (answers : IsAnswer (answer_to_request l.pm.resetting l.pm.registers (request_in f.bytes)) (control_stamp l.pm) pm.answer)
+      (after_is : pm.registers ≡ registers_after_request l.pm.registers (request_in f.bytes)) where
     -- registers that stay
     module _ (same : pm.registers ≡ l.pm.registers) (well : IsWell l.host) (n : ℕ) (low : n < pm.registers.ports) (asking : asks pm.registers n ≡ true) where
       within : n < l.pm.registers.ports

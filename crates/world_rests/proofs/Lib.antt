@@ -46,4 +46,5 @@ mod Scanned
 mod Heeded
 mod HeededWays
 mod HeededHost
+mod Present
 mod Opened

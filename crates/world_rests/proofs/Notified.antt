@@ -210,7 +210,8 @@ module _ (old new : Port) (before after : Memory) where
       port_same acts.4.0 new acts.4.4.0 ∙ tried_same (register_at px_ci) px_ci (2 ^ slot) acts.0 acts.1 acts.4.0 refl refl acts.4.2.0
       ∙ tried_same (register_at px_fbs) px_fbs (256 * dev + 1) old before acts.0 refl refl acts.2.0
 
-sending_same : (slot dev : ℕ) (fields : H2dFields) (buffer : Bool) (old new : Port) (before after : Memory) → ActsAll (sending Switching slot dev fields buffer) old before new after → new.registers.notified ≡ old.registers.notified
+sending_same : (slot dev : ℕ) (fields : H2dFields) (buffer : Bool) (old new : Port) (before after : Memory) → ActsAll (sending Switching slot dev fields buffer) old before new after
+    → new.registers.notified ≡ old.registers.notified
 unfolding ActsAll
 sending_same slot dev fields buffer old new before after acts = issuing_same acts.0 new acts.1 after slot dev false acts.4 ∙ port_same old acts.0 acts.2.0
 
@@ -224,19 +225,23 @@ module _ (old new : Port) (before after : Memory) where
   unfolding ActsAll
   none_leaves acts = port_same old new acts.0
 
-  either_leaves : (b : Bool) (x y : Option _) → (ActsAll (effects_due Switching x) old before new after → Stays) → (ActsAll (effects_due Switching y) old before new after → Stays) → ActsAll (effects_due Switching (if b then x else y)) old before new after → Stays
+  either_leaves : (b : Bool) (x y : Option _) → (ActsAll (effects_due Switching x) old before new after → Stays) → (ActsAll (effects_due Switching y) old before new after → Stays)
+      → ActsAll (effects_due Switching (if b then x else y)) old before new after → Stays
   either_leaves true x y h k = h
   either_leaves false x y h k = k
 
-  or_leaves : (x y : Option _) → (ActsAll (effects_due Switching x) old before new after → Stays) → (ActsAll (effects_due Switching y) old before new after → Stays) → ActsAll (effects_due Switching (option_or x y)) old before new after → Stays
+  or_leaves : (x y : Option _) → (ActsAll (effects_due Switching x) old before new after → Stays) → (ActsAll (effects_due Switching y) old before new after → Stays)
+      → ActsAll (effects_due Switching (option_or x y)) old before new after → Stays
   or_leaves None y h k = k
   or_leaves (Some a) y h k = h
 
-  match_leaves : {A : Type 0} (o : Option A) (x : Option _) (f : A → Option _) → (ActsAll (effects_due Switching x) old before new after → Stays) → ((a : A) → ActsAll (effects_due Switching (f a)) old before new after → Stays) → ActsAll (effects_due Switching (match_some o x f)) old before new after → Stays
+  match_leaves : {A : Type 0} (o : Option A) (x : Option _) (f : A → Option _) → (ActsAll (effects_due Switching x) old before new after → Stays) → ((a : A) → ActsAll (effects_due Switching (f a)) old before new after → Stays)
+      → ActsAll (effects_due Switching (match_some o x f)) old before new after → Stays
   match_leaves None x f h k = h
   match_leaves (Some a) x f h k = k a
 
-  allowed_leaves : (mode : Mode) (v : Sight) (plan : Plan) (entries : List (Option Entry)) (x : Option _) → (ActsAll (effects_due Switching x) old before new after → Stays) → ActsAll (effects_due Switching (allowed mode v plan entries x)) old before new after → Stays
+  allowed_leaves : (mode : Mode) (v : Sight) (plan : Plan) (entries : List (Option Entry)) (x : Option _) → (ActsAll (effects_due Switching x) old before new after → Stays)
+      → ActsAll (effects_due Switching (allowed mode v plan entries x)) old before new after → Stays
   allowed_leaves Switching v plan entries x h = h
   allowed_leaves CommandBased v plan entries None h = none_leaves
   allowed_leaves CommandBased v plan entries (Some a) h = either_leaves (may_go_to v plan entries (device_of a)) (Some a) None h none_leaves
@@ -297,7 +302,8 @@ module _ (old new : Port) (before after : Memory) where
       (allowed_leaves plan.mode v plan entries (device_due v plan) (device_leaves v plan)) (allowed_leaves plan.mode v plan entries (request_due plan entries) (request_leaves plan entries))
 
   -- nothing comes before the order
-  turn_leaves : (v : Sight) (p : Plan) (entries : List (Option Entry)) → (is_some (early_due v p) ≡ false → (control_seen v p).asked ≡ false → is_scan (control_seen v p).order ≡ false) → ActsAll (effects_due Switching (turn_of v p entries).act) old before new after → Stays
+  turn_leaves : (v : Sight) (p : Plan) (entries : List (Option Entry)) → (is_some (early_due v p) ≡ false → (control_seen v p).asked ≡ false → is_scan (control_seen v p).order ≡ false)
+      → ActsAll (effects_due Switching (turn_of v p entries).act) old before new after → Stays
   unfolding turn_of
   turn_leaves v p entries other = by_early (is_some (early_due v p)) refl
     where
@@ -307,7 +313,8 @@ module _ (old new : Port) (before after : Memory) where
           allowed_leaves (control_seen v p).mode v (control_seen v p) entries (order_due (control_seen v p)) (order_leaves (control_seen v p) (control_seen v p).order (control_seen v p).asked (other none))
       by_order false none = rest_leaves v (device_seen v (control_seen v p)) entries
 
-      by_early : (b : Bool) → is_some (early_due v p) ≡ b → ActsAll (effects_due Switching (if b then plain_turn p (early_due v p) false else control_turn v (control_news v p) (control_seen v p) entries).act) old before new after → Stays
+      by_early : (b : Bool) → is_some (early_due v p) ≡ b
+          → ActsAll (effects_due Switching (if b then plain_turn p (early_due v p) false else control_turn v (control_news v p) (control_seen v p) entries).act) old before new after → Stays
       by_early true some = early_leaves v p
       by_early false none = by_order (is_some (order_allowed v (control_seen v p) entries)) none
 

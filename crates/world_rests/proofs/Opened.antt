@@ -1,13 +1,14 @@
 -- For `rested_ports_are_open`. In a world at rest each port of the multiplier is open: the driver watches, so it has set up all before. And
 -- none asks for attention: nothing would heed it.
-use Rattle.std.proofs.Common.{◌≡◌, ℕ, zero, suc, ◌<◌, ◌≤◌, ◌==◌, ◌&&◌, Bool, true, false, List, [], length, replicate, slice_index_or, refl, sym, ap, subst, ◌∙◌, Some}
-use Rattle.std.specs.Prelude.{bit_and, is_some, nat_lt}
+use Rattle.std.proofs.Common.{◌≡◌, ℕ, zero, suc, ◌<◌, ◌≤◌, ◌==◌, ◌&&◌, Bool, true, false, List, [], length, replicate, slice_index_or, refl, sym, ap, subst, ◌∙◌, Some, None, arith}
+use Rattle.std.specs.Prelude.{IsTrue, bit_and, if◌then◌else◌, is_some, nat_lt}
 use Rattle.std.proofs.lemmas.Bool.{eq-eqb, false_from_ne_true, false≢true, lt-ltb, true≢false}
 use Rattle.std.proofs.lemmas.List.{length-replicate}
 use Rattle.host_memory.specs.Memory.{IsHostMemory, Memory, zeroed}
 use Rattle.pm_registers.specs.Port.{bit_n, bit_x, det, is_open, opening_port}
 use Rattle.pm_registers.specs.RegisterMap.{RegisterMap, asks, port_at}
 use Rattle.pm_registers.specs.declared.port.PortRegisters.{PortRegisters}
+use Rattle.multiplier.specs.State.{port_at as connections_at}
 use Rattle.hba_fbs.specs.Views.{view_of}
 use Rattle.hba_driver.specs.declared.mode.Mode.TheVariants.{Switching}
 use Rattle.hba_driver.specs.declared.order.Order.{Order}
@@ -17,18 +18,28 @@ use Rattle.hba_driver.specs.Slot31.{control_in}
 use Rattle.hba_driver.proofs.Door.{zeroed_right}
 use Rattle.pm_world.specs.Attached.{Attached}
 use Rattle.pm_world.specs.Line.{OneOrderAtATime}
-use Rattle.pm_world.specs.Places.{is_config, new_world}
+use Rattle.pm_world.specs.DevicePaths.{ReachedAreOrderly}
+use Rattle.pm_world.specs.Places.{Place, Places, is_config, new_world}
 use Rattle.pm_world.specs.PortsGoOn.{PortsGoOn}
+use Rattle.pm_world.specs.Rules.{Run}
+use Rattle.pm_world.specs.Runs.{IsReached}
+use Rattle.pm_world.specs.declared.link.Change.{Change}
+use Rattle.pm_world.specs.declared.step.Answer.{Answer}
 use Rattle.pm_world.specs.declared.step.Config.{Config}
+use Rattle.pm_world.specs.declared.step.Step.{Step}
 use Rattle.world_rests.specs.Laws.{RestedHaveDone}
 use Rattle.world_rests.specs.Opens.{PortIsOpen, RestedPortsAreOpen}
+use Rattle.world_rests.specs.Rests.{PortRests}
 use Rattle.world_rests.specs.Watches.{RestedDriversWatch}
+use Rattle.world_rests.proofs.Comings.{Of, all, known, known_reached}
 use Rattle.world_rests.proofs.ControlFile.{IsCalm, keeps_calm}
 use Rattle.world_rests.proofs.Heeded.{AreHeeded, Early, IsCleared, IsDue, IsHeeded, IsListed, IsNamed, IsNoticed, IsScanned, Notifies, not_at, not_clear, not_scan, scan_early}
 use Rattle.world_rests.proofs.HeededHost.{keeps_heeded}
 use Rattle.world_rests.proofs.Notified.{is_noticed, notified_seen}
 use Rattle.world_rests.proofs.Ordering.{AreOpen, IsOn, Upto}
 use Rattle.world_rests.proofs.Orders.{Among}
+use Rattle.world_rests.proofs.Parts.{get_below}
+use Rattle.world_rests.proofs.Present.{shows_all}
 use Rattle.world_rests.proofs.Scanned.{IsDriven, driven_more}
 use Rattle.world_rests.proofs.SetHost.{keeps_set}
 use Rattle.world_rests.proofs.SetUp.{IsSetUp}
@@ -129,17 +140,24 @@ module _ (ports : ℕ) (m : RegisterMap) (s : IsShape ports m) (count : ℕ) (u 
   port_open : PortIsOpen n m
   port_open = record {
     opened = is_opened;
-    changed = clear.0;
-    exchanged = clear.1;
-    heeded = none;
+    n_clear = clear.0;
+    x_clear = clear.1;
+    asks_nothing = none;
     shown = shows_det;
     passes = λ there.
         last_of (nat_lt n m.ports) (is_open p) (det p.status == 3) (bit_and p.error bit_x == 0) (lt-ltb n m.ports low) is_opened (eq-eqb (det p.status) 3 (shows_det there))
         ∙ eq-eqb (bit_and p.error bit_x) 0 clear.1;
   }
 
-pub rested_ports_are_open : RestedHaveDone → RestedDriversWatch → OneOrderAtATime → PortsGoOn → RestedPortsAreOpen
-rested_ports_are_open have_done watches lines goes config units fits before told now run rests =
+-- where no change is left to record, the registers show the device of a place
+shown_there : (config : Config) (units : List Attached) (steps : List Step) (answers : List Answer) (now : Places) → Run (new_world config units) steps answers now → (n : ℕ) (place : Place) → n < 15
+    → Of place (connections_at now.multiplier n) → PortRests n place now.multiplier → IsTrue place.plugged → (port_at now.multiplier.registers n).present ≡ true
+shown_there config units steps answers now run n place low of rests on =
+    (shows_all config units steps answers now run).agrees n low
+    ∙ ap is_some (ap (λ (cs : List Change). (all cs (known (connections_at now.multiplier n))).0) (sym rests.presence) ∙ of.present ∙ ap (λ (b : Bool). if b then Some place.conn else None) on)
+
+pub rested_ports_are_open : RestedHaveDone → RestedDriversWatch → OneOrderAtATime → PortsGoOn → ReachedAreOrderly → RestedPortsAreOpen
+rested_ports_are_open have_done watches lines goes orderly config units fits before told now run rests =
     let done = have_done config units fits before told now run rests in
     let watch = watches config units fits before told now run rests in
     let start : Memory = zeroed config.memory in
@@ -150,13 +168,18 @@ rested_ports_are_open have_done watches lines goes config units fits before told
     let u : IsOn now.multiplier.registers now.host.driver.plan.ports × AreOpen now.multiplier.registers.ports now.multiplier.registers =
     subst (λ (o : Order). Upto o now.multiplier.registers now.host.driver.plan.ports) watch.watches s.upto in
     let w = well_in Switching config units fits before told now run in
+    let ports : (n : ℕ) → n < length now.devices → PortIsOpen n now.multiplier.registers = λ n low.
+    let within : n < now.multiplier.registers.ports = subst (λ (c : ℕ). n < c) (sym w.ports) low in
+    port_open config.ports now.multiplier.registers k.set.shape now.host.driver.plan.ports u n within
+    (false_from_ne_true (asks now.multiplier.registers n) (λ asking.
+    none_heeded (line_of now) n done.0.notice done.0.upward (sym (notified_seen now.host) ∙ watch.unnotified) watch.watches (k.heeded.each well n within asking))) in
     record {
       counted = u.0.counted;
       masked = u.0.masked;
       notifies_on = u.0.notifies_on;
-      ports = λ n low.
-          let within : n < now.multiplier.registers.ports = subst (λ (c : ℕ). n < c) (sym w.ports) low in
-          port_open config.ports now.multiplier.registers k.set.shape now.host.driver.plan.ports u n within
-          (false_from_ne_true (asks now.multiplier.registers n) (λ asking.
-          none_heeded (line_of now) n done.0.notice done.0.upward (sym (notified_seen now.host) ∙ watch.unnotified) watch.watches (k.heeded.each well n within asking)));
+      ports = ports;
+      devices = λ n place at on.
+          let low : n < length now.devices = get_below now.devices n place at in
+          let r : IsReached now = record { mode = Switching; config = config; units = units; fits = fits; steps = before; answers = told; run = run } in
+          (ports n low).passes (shown_there config units before told now run n place (omega (arith, low, w.most)) (known_reached orderly now r n place at) (done.0.ports n place at) on);
     }

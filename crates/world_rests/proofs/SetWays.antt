@@ -191,10 +191,12 @@ module _ (ports : ℕ) (l : Line) (f : Stamped) (pm : PmState) (u : IsSetUp port
   pub rises_set : Gives l.pm f pm → IsSetUp ports risen
   rises_set (FromPort n was next other is port shown e) =
       let same : pm.registers ≡ l.pm.registers = ap (λ (x : PmState). x.registers) e in
-      setup_risen (shape_as ports l.pm.registers pm.registers same u.shape) (keeps_same l.pm.registers pm.registers same) (said_beside l f pm (λ v. v ≡ ports) (ap (λ (x : PmState). x.answer) e) (not_control f n other (ap (λ (x : Stamped). x.stamp.port) shown)))
+      setup_risen (shape_as ports l.pm.registers pm.registers same u.shape) (keeps_same l.pm.registers pm.registers same)
+      (said_beside l f pm (λ v. v ≡ ports) (ap (λ (x : PmState). x.answer) e) (not_control f n other (ap (λ (x : Stamped). x.stamp.port) shown)))
   rises_set (Notice next due is e) =
       let same = ap (λ (x : PmState). x.registers) e in
-      setup_risen (subst (IsShape ports) (sym same) (notice_shape ports l.pm.registers u.shape)) (subst (Keeps l.pm.registers) (sym same) (notice_keeps l.pm.registers)) (said_beside l f pm (λ v. v ≡ ports) (ap (λ (x : PmState). x.answer) e) (notice_none f is.0.viewed))
+      setup_risen (subst (IsShape ports) (sym same) (notice_shape ports l.pm.registers u.shape)) (subst (Keeps l.pm.registers) (sym same) (notice_keeps l.pm.registers))
+      (said_beside l f pm (λ v. v ≡ ports) (ap (λ (x : PmState). x.answer) e) (notice_none f is.0.viewed))
   rises_set (Answers next is e) =
       let same : pm.registers ≡ l.pm.registers = ap (λ (x : PmState). x.registers) e in
       setup_risen (shape_as ports l.pm.registers pm.registers same u.shape) (keeps_same l.pm.registers pm.registers same) (said_answer l f pm (λ v. v ≡ ports) is)

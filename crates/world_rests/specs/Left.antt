@@ -3,7 +3,6 @@
 --
 -- Cited: a disk that was left alone since its plugging, and its run (`pm_world`, specs/Disks.antt).
 use Rattle.std.specs.Prelude.{ℕ, ◌≡◌, ◌<◌, ◌⊎◌, ◌||◌, true, false, List, length, Some}
-use Rattle.pm_registers.specs.RegisterMap.{forwards}
 use Rattle.slots.specs.Slots.{Issue, issue_at}
 use Rattle.slots.specs.Work.{is_queued}
 use Rattle.hba_fbs.specs.Status.{is_busy, wants_data}
@@ -45,10 +44,9 @@ pub record DiskHasDone (n : ℕ) (h : Host) : Type 0 where
   pub idle : IsFine (device_at h.driver.plan n) → IsOccupied n h.port → ⊥
   pub left : device_at h.driver.plan n ≡ Ready → NoneIsLeft n h
 
--- That holds in a world at rest for a disk that is plugged in, and was left alone since then, behind a port that forwards.
+-- That holds in a world at rest for a disk that is plugged in, and was left alone since then.
 abbrev pub RestedDisksHaveDone : Type 0
 RestedDisksHaveDone =
     (config : Config) (units : List Attached) (n sectors : ℕ) (plan : DiskPlan) (past : List Happening)
     → is_config config (length units) ≡ true → n < 15 → HasDisk units n plan sectors past
-    → (now : Places) (d : DiskRun config units n now) → IsThere n d.conn now → forwards now.multiplier.registers n ≡ true
-    → IsAtRest now → DiskHasDone n now.host
+    → (now : Places) (d : DiskRun config units n now) → IsThere n d.conn now → IsAtRest now → DiskHasDone n now.host

@@ -4,7 +4,6 @@
 -- Cited: a disk that was left alone since its plugging (`pm_world`, specs/Disks.antt), and when its port shows BSY or DRQ
 -- (specs/Left.antt).
 use Rattle.std.specs.Prelude.{ℕ, ◌≡◌, ◌≢◌, ◌<◌, ◌||◌, true, false, List, length, Some}
-use Rattle.pm_registers.specs.RegisterMap.{forwards}
 use Rattle.slots.specs.Slots.{Issue, issue_at}
 use Rattle.hba_fbs.specs.Views.{Port}
 use Rattle.disk_model.specs.declared.plan.DiskPlan.{DiskPlan}
@@ -55,10 +54,9 @@ pub record DiskIsLeft (n : ℕ) (h : Host) : Type 0 where
   pub fine : IsFine (device_at h.driver.plan n) → DiskIsFree n h × IsUnworked n h.driver.plan
   pub free : (IsOccupied n h.port → ⊥) → DiskIsFree n h
 
--- That holds in a world at rest for a disk that is plugged in, and was left alone since then, behind a port that forwards.
+-- That holds in a world at rest for a disk that is plugged in, and was left alone since then.
 abbrev pub RestedDisksAreLeft : Type 0
 RestedDisksAreLeft =
     (config : Config) (units : List Attached) (n sectors : ℕ) (plan : DiskPlan) (past : List Happening)
     → is_config config (length units) ≡ true → n < 15 → HasDisk units n plan sectors past
-    → (now : Places) (d : DiskRun config units n now) → IsThere n d.conn now → forwards now.multiplier.registers n ≡ true
-    → IsAtRest now → DiskIsLeft n now.host
+    → (now : Places) (d : DiskRun config units n now) → IsThere n d.conn now → IsAtRest now → DiskIsLeft n now.host

@@ -39,15 +39,16 @@ pub fn rested_have_done()
 }
 
 /// Holds of each world at rest that a run from a new one with FIS-based switching leads to, for a disk of `disk_model` that was
-/// left alone since its plugging (nothing was injected at its port), is plugged in, and whose port forwards. No read or write is with
-/// the disk: what is issued for it and is a read or a write did not go out. While the driver does not take the disk to recover, the
-/// host port shows neither BSY nor DRQ of it. While it takes it to be ready, no read or write for it waits or is issued.
+/// left alone since its plugging (nothing was injected at its port), and is plugged in. No read or write is with the disk: what is
+/// issued for it and is a read or a write did not go out. While the driver does not take the disk to recover, the host port shows
+/// neither BSY nor DRQ of it. While it takes it to be ready, no read or write for it waits or is issued.
 pub fn rested_disks_have_done()
     ensures { RestedDisksHaveDone }
 {
     disk_simulation::port_and_ledger_stay_joined();
     disk_simulation::task_files_stay_fine();
     rested_have_done();
+    rested_ports_are_open();
     pm_world::paths_go_on();
     pm_world::ends_meet();
 }
@@ -63,8 +64,8 @@ pub fn rested_drivers_watch()
 }
 
 /// Holds of each world at rest that a run from a new one with FIS-based switching leads to, for a disk of `disk_model` that was
-/// left alone since its plugging (nothing was injected at its port), is plugged in, and whose port forwards. No command is with the
-/// disk: what is issued for it did not go out, be it a read, a write, a FLUSH, an IDENTIFY DEVICE or the read of its error log.
+/// left alone since its plugging (nothing was injected at its port), and is plugged in. No command is with the disk: what is issued
+/// for it did not go out, be it a read, a write, a FLUSH, an IDENTIFY DEVICE or the read of its error log.
 /// While the driver does not take the disk to recover, nothing is issued for it, no request of it waits or is issued, and slot 30 does
 /// not work on it. Of a disk that recovers that holds while the host port shows neither BSY nor DRQ of it, but that slot 30 may
 /// await the end of its software reset.
@@ -72,6 +73,7 @@ pub fn rested_disks_are_left()
     ensures { RestedDisksAreLeft }
 {
     rested_have_done();
+    rested_ports_are_open();
     rested_disks_have_done();
     pm_world::paths_go_on();
     pm_world::ends_meet();
@@ -79,7 +81,8 @@ pub fn rested_disks_are_left()
 
 /// Holds of each world at rest that a run from a new one with FIS-based switching leads to, whatever its devices are. The driver has
 /// set up the multiplier: it knows the number of ports, bits N and X of SError count as errors and are notified, and each port is
-/// open. Both bits are clear in SError of each port. Where a device is present the port shows it, and forwards.
+/// open. Both bits are clear in SError of each port. Where a device is present the port shows it, and forwards; and the device of each
+/// place that is plugged in is present.
 pub fn rested_ports_are_open()
     ensures { RestedPortsAreOpen }
 {
@@ -87,6 +90,7 @@ pub fn rested_ports_are_open()
     rested_drivers_watch();
     pm_world::one_order_at_a_time();
     pm_world::ports_go_on();
+    pm_world::paths_go_on();
 }
 
 /// Holds over every run of each world, in either mode, for each place of the multiplier that has a frame whenever one goes up. Between two

@@ -5,4 +5,4 @@ pub returns : goal.returns
 returns c =
     proof.rested_disks_have_done c.task_files_stay_fine.ensures.sends
     (record { commands = c.port_and_ledger_stay_joined.ensures.commands; others = c.port_and_ledger_stay_joined.ensures.others })
-    c.rested_have_done.ensures c.paths_go_on.ensures.orderly c.ends_meet.ensures
+    c.rested_have_done.ensures c.rested_ports_are_open.ensures c.paths_go_on.ensures.orderly c.ends_meet.ensures
