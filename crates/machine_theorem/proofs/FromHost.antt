@@ -92,7 +92,7 @@ register_long f g h =
     let r = register f g h in
     eqb-true (length f) 20 (subst (λ (k : Kind). may_have k (length f) ≡ true) r.kind_is r.long)
 
-no_data : (f g : List ℕ) → seen f ≡ Ok (view.RegH2D g) → slice_index f 0 ≡ 0x46 → ⊥
+pub no_data : (f g : List ℕ) → seen f ≡ Ok (view.RegH2D g) → slice_index f 0 ≡ 0x46 → ⊥
 no_data f g h type = let same : view.RegH2D g ≡ view.Payload f = seen_data f (view.RegH2D g) type h in cc
 
 count_is : (f : List ℕ) → 2 ≤ length f → field H2d Count (marked f 0) ≡ field H2d Count f
@@ -114,6 +114,12 @@ first_ruled : (deeds : List Deed) (old new : MachineState) → RunsRuled old dee
 first_ruled [] old new run = run.0
 first_ruled (deed ∷ later) old new run = run.0
 
+-- it came from a slot, and this is the FIS that asked for it
+pub record OfAsked (old : MachineState) (deeds : List Deed) (now : MachineState) (run : RunsRuled old deeds now) (n : ℕ) (p : Profile) (limit : ℕ) (all : List Call) (c : Command)
+    (asked : IsAskedFor p limit all c) : Type 0 where
+  pub of : IsOfSlot old deeds now run n p limit all c
+  pub same : of.asked ≡ asked
+
 module _ (laws : Laws) (ports : ℕ) (legacy : Bool) (old : MachineState) (opening : IsOpeningMachine ports legacy old) (deeds : List Deed) (now : MachineState)
     (run : RunsRuled old deeds now) (n : ℕ) where
   abbrev calls : List Event
@@ -134,32 +140,35 @@ module _ (laws : Laws) (ports : ℕ) (legacy : Bool) (old : MachineState) (openi
       (λ dev low. record { came = []; is = laws.unread ports legacy old opening dev }) sent
 
   of_slot : (p : Profile) (limit : ℕ) (all : List Call) (c : Command) (asked : IsAskedFor p limit all c) → (fell : Fell asked.bytes) → IsOrder old.controller calls fell.frame
-      → IsOfSlot old deeds now run n p limit all c
+      → OfAsked old deeds now run n p limit all c asked
   of_slot p limit all c asked fell order =
       let heard : asked.bytes ≡ marked order.fis 0 = fell.is ∙ ap (λ (f : Stamped). marked f.bytes 0) order.is in
       let long : length asked.bytes ≡ 20 = register_long asked.bytes asked.fis asked.viewed in
       let whole : length order.fis ≡ 20 = sym (ap (λ (l : List ℕ). length l) heard ∙ length-set order.fis 1 (slice_index order.fis 1 / 16 * 16 + 0)) ∙ long in
       record {
-        asked = asked;
-        dev = order.dev;
-        slot = order.slot;
-        fis = order.fis;
-        sent = order.sent;
-        heard = heard;
-        port = λ many. ap pm_port (sym order.is) ∙ fell.port many;
-        tag = λ low.
-            ap (λ (x : Command). x.place) asked.is
-            ∙ laws.tags (reached p limit asked.before) asked.fis asked.move asked.asks (subst (λ (x : Command). x.place < 32) asked.is low)
-            ∙ ap (λ (f : List ℕ). field H2d Count f % 256 / 8) ((register asked.bytes asked.fis asked.viewed).same ∙ heard)
-            ∙ ap (λ (k : ℕ). k % 256 / 8) (count_is order.fis (omega (arith, whole)));
-        still = λ none runs source is.
-            let low : order.slot < 32 =
-            low_slot order.sent.at.core.slots order.slot order.dev (last_kept order.sent.before old.controller order.sent.at order.sent.first).slots order.sent.ordered.issued.owner in
-            still.still laws.kept order.dev order.slot order.fis low order.sent.later none order.sent.before calls order.sent.is old.controller now.controller runs.calls no_sources
-            (opened.sources order.slot low) source is;
+        of = record {
+          asked = asked;
+          dev = order.dev;
+          slot = order.slot;
+          fis = order.fis;
+          sent = order.sent;
+          heard = heard;
+          port = λ many. ap pm_port (sym order.is) ∙ fell.port many;
+          tag = λ low.
+              ap (λ (x : Command). x.place) asked.is
+              ∙ laws.tags (reached p limit asked.before) asked.fis asked.move asked.asks (subst (λ (x : Command). x.place < 32) asked.is low)
+              ∙ ap (λ (f : List ℕ). field H2d Count f % 256 / 8) ((register asked.bytes asked.fis asked.viewed).same ∙ heard)
+              ∙ ap (λ (k : ℕ). k % 256 / 8) (count_is order.fis (omega (arith, whole)));
+          still = λ none runs source is.
+              let low : order.slot < 32 =
+              low_slot order.sent.at.core.slots order.slot order.dev (last_kept order.sent.before old.controller order.sent.at order.sent.first).slots order.sent.ordered.issued.owner in
+              still.still laws.kept order.dev order.slot order.fis low order.sent.later none order.sent.before calls order.sent.is old.controller now.controller runs.calls no_sources
+              (opened.sources order.slot low) source is;
+        };
+        same = refl;
       }
 
-  since : (p : Profile) (limit : ℕ) (all : List Call) (c : Command) (asked : IsAskedFor p limit all c) → Fell asked.bytes → IsOfSlot old deeds now run n p limit all c
+  since : (p : Profile) (limit : ℕ) (all : List Call) (c : Command) (asked : IsAskedFor p limit all c) → Fell asked.bytes → OfAsked old deeds now run n p limit all c asked
   since p limit all c asked fell =
       of_slot p limit all c asked fell
       (order_of fell.frame
@@ -180,7 +189,7 @@ module _ (laws : Laws) (ports : ℕ) (legacy : Bool) (old : MachineState) (openi
   })
   from_host p limit before later c all asked (Second front is) =
       Since (since p limit (before ++ later) c asked
-      (heard_at Fell front asked.later asked.bytes (subst (λ (l : List Call). AllHeard Fell l) is all)))
+      (heard_at Fell front asked.later asked.bytes (subst (λ (l : List Call). AllHeard Fell l) is all))).of
 
 pub of_slots : Laws → CommandsAreOfSlots
 of_slots laws ports legacy old opening deeds now run n d there lived p limit before is place page at =
@@ -189,10 +198,14 @@ of_slots laws ports legacy old opening deeds now run n d there lived p limit bef
     from_host laws ports legacy old opening deeds now run n p limit before later page.command (laws.heard ports legacy old opening deeds now run n) asked
     (find before later asked.before asked.later (Hears asked.bytes) asked.heard)
 
-pub of_new : Laws → CommandsOfNewDisks
-of_new laws ports legacy old opening deeds now run n d there lived p limit is place page at =
-    let later : List Call = (life_in n no_life old deeds now run).calls in
-    let asked : IsAskedFor p limit later page.command = laws.asked p limit later place page at in
-    since laws ports legacy old opening deeds now run n p limit later page.command asked
+pub of_asked : (laws : Laws) (ports : ℕ) (legacy : Bool) (old : MachineState) (opening : IsOpeningMachine ports legacy old) (deeds : List Deed) (now : MachineState)
+    (run : RunsRuled old deeds now) (n : ℕ) (p : Profile) (limit : ℕ) (c : Command) (asked : IsAskedFor p limit (life_in n no_life old deeds now run).calls c)
+    → OfAsked old deeds now run n p limit (life_in n no_life old deeds now run).calls c asked
+of_asked laws ports legacy old opening deeds now run n p limit c asked =
+    since laws ports legacy old opening deeds now run n p limit (life_in n no_life old deeds now run).calls c asked
     (heard_at (Fell laws ports legacy old opening deeds now run n) asked.before asked.later asked.bytes
     (subst (λ (l : List Call). AllHeard (Fell laws ports legacy old opening deeds now run n) l) asked.heard (laws.heard ports legacy old opening deeds now run n)))
+
+pub of_new : Laws → CommandsOfNewDisks
+of_new laws ports legacy old opening deeds now run n d there lived p limit is place page at =
+    (of_asked laws ports legacy old opening deeds now run n p limit page.command (laws.asked p limit (life_in n no_life old deeds now run).calls place page at)).of

@@ -127,7 +127,7 @@ type_of t is = by (t == 0x27) (t == 0x34) (t == 0x39) (t == 0x41) (t == 0x46) (t
     by false false false false false false true so is = absurd (cc)
     by false false false false false false false so is = absurd (cc)
 
-payload_type : (f g : List ℕ) → seen f ≡ Ok (view.Payload g) → slice_index f 0 ≡ 0x46
+pub payload_type : (f g : List ℕ) → seen f ≡ Ok (view.Payload g) → slice_index f 0 ≡ 0x46
 unfolding seen
 payload_type f g is = type_of (slice_index f 0) (view_of_kind (kind_of f) (may_have (kind_of f) (length f)) f g is)
 

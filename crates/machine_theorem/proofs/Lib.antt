@@ -19,3 +19,8 @@ mod Few
 mod Stood
 mod Completed
 mod CompletedSent
+mod Came
+mod Whole
+mod Registered
+mod Supplied
+mod Stored

@@ -123,7 +123,7 @@ module _ (laws : ordered.Laws) (unread : OpensUnread) (f : Stamped) (ports : ℕ
 
 -- ---- what is heard
 
-weaker : (P Q : List ℕ → Type 0) → ((bytes : List ℕ) → P bytes → Q bytes) → (calls : List Call) → AllHeard P calls → AllHeard Q calls
+pub weaker : (P Q : List ℕ → Type 0) → ((bytes : List ℕ) → P bytes → Q bytes) → (calls : List Call) → AllHeard P calls → AllHeard Q calls
 weaker P Q step [] h = tt
 weaker P Q step (Hears bytes ∷ later) h = (step bytes h.0, weaker P Q step later h.1)
 weaker P Q step (disk_call.Plugs ∷ later) h = weaker P Q step later h

@@ -6,3 +6,4 @@ pub mod Moments
 pub mod Guest
 pub mod Standing
 pub mod Completed
+pub mod Writes

@@ -9,9 +9,11 @@ mod ends;
 mod moments;
 mod parts;
 mod standing;
+mod writes;
 
 pub use commands::{commands_come_from_slots, disks_hear_their_guest};
 pub use ends::{completions_are_of_devices, ends_come_from_devices};
 pub use moments::data_are_of_slots;
 pub use parts::payload_comes_from_devices;
 pub use standing::slots_have_one_command;
+pub use writes::writes_come_from_guests;

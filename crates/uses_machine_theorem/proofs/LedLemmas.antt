@@ -1,15 +1,20 @@
 -- What a move lends was brought.
-use Rattle.std.proofs.Common.{◌≡◌, ℕ, Bool, List, [], ◌∷◌, ◌++◌, Result, Ok, Err, refl, subst}
-use Rattle.std.specs.Prelude.{IfOk}
+use Rattle.std.proofs.Common.{◌≡◌, ℕ, Bool, List, [], ◌∷◌, ◌++◌, Option, Some, None, Result, Ok, Err, refl, sym, ap, ◌∙◌, subst}
+use Rattle.std.specs.Prelude.{IfOk, IfSome, MatchOption}
 use Rattle.std.specs.declared.alloc.AllocError.{AllocError}
 use Rattle.hba_fbs.specs.Views.{IsCorePort}
 use Rattle.slots.specs.Table.{IsTable}
+use Rattle.block_command.specs.Moments.{Moment}
+use Rattle.block_engine.specs.declared.request.Request.{Request}
+use Rattle.block_engine.specs.declared.request.What.TheVariants as what
+use Rattle.block_queue.specs.Line.{command_at}
 use Rattle.ahci_controller.specs.Rules.{IsRuled}
 use Rattle.ahci_controller.specs.declared.next.Next.TheVariants as next
 use Rattle.disk_pages.specs.declared.profile.Profile.{Profile}
-use Rattle.sata_disk.specs.State.{DiskState, new_disk}
+use Rattle.sata_disk.specs.State.{DiskState, commands, new_disk}
 use Rattle.sata_disk.specs.declared.out.Out.TheVariants as out
 use Rattle.ahci_machine.specs.Acts.{Steps}
+use Rattle.ahci_machine.specs.Answers.{Holds, disk_at}
 use Rattle.ahci_machine.specs.Ports.{Puts}
 use Rattle.ahci_machine.specs.States.{HasRules, IsOpeningMachine, MachineState}
 use Rattle.ahci_machine.specs.declared.act.Act.{Act}
@@ -17,6 +22,7 @@ use Rattle.ahci_machine.specs.declared.act.Act.TheVariants as act
 use Rattle.ahci_machine.specs.declared.bay.Unit.{Unit as Inside}
 use Rattle.ahci_machine.specs.declared.bay.Unit.TheVariants.{Disk}
 use Rattle.ahci_machine.specs.declared.ports.PortFault.{PortFault}
+use Rattle.ahci_machine.specs.declared.request.MediumId.{MediumId}
 use Rattle.machine_laws.specs.ControllerLaws.{RunsRuled}
 use Rattle.machine_laws.specs.Deeds.{Deed, Does, Moved, Put}
 use Rattle.machine_theorem.specs.Commands.{CommandsOfNewDisks}
@@ -25,7 +31,8 @@ use Rattle.machine_theorem.specs.Guest.{HeardIsOfGuest}
 use Rattle.machine_theorem.specs.Moments.{CompletionsAreEarned, DataAreOfSlots, PayloadIsOfSlots}
 use Rattle.machine_theorem.specs.Parts.{PayloadIsBrought}
 use Rattle.machine_theorem.specs.Standing.{CommandsStand}
-use Rattle.uses_machine_theorem.specs.Led.{EndsCompleted, EndsEarned, IsLed, KnowsDisks, LendsBrought, LendsOfSlots, PutsNew, SpeaksOfSlots}
+use Rattle.machine_theorem.specs.Writes.{CompletionsAreSupplied, DataAreSupplied, IsStore, StoresAreOfGuests, StoresNext, SuppliedToNewDisk, WritesAreSupplied}
+use Rattle.uses_machine_theorem.specs.Led.{AsksSupplied, EndsCompleted, EndsEarned, EndsSupplied, HoldsSupplied, IsLed, KnowsDisks, LendsBrought, LendsOfSlots, PutsNew, SpeaksOfSlots, SpeaksSupplied}
 
 pub ruled : (m : MachineState) → IsCorePort m.controller.core → IsTable m.controller.core.slots → IsRuled m.controller → HasRules m
 ruled m port slots rules = record { port = port; slots = slots; rules = rules }
@@ -77,6 +84,49 @@ completed law old new told step rules took is was slot low shows hides none =
     let does : Steps old (act.Takes took) new = told_is old new told (act.Takes took) step is in
     (does.does.frame, law was.ports was.legacy was.first was.opens was.deeds old was.run took new does rules slot low shows hides none)
 
+-- ---- writes of the guest
+
+pub asks : StoresAreOfGuests → (old new : MachineState) (told : Result Act AllocError) → IfOk told (λ a. Steps old a new) → AsksSupplied old told new
+asks law old new told step id asked is was lba count stores =
+    law was.ports was.legacy was.first was.opens was.deeds old was.run id asked new (told_is old new told (act.Asks id asked) step is) lba count stores
+
+pub speaks_supplied : WritesAreSupplied → (old new : MachineState) (told : Result Act AllocError) → IfOk told (λ a. Steps old a new) → SpeaksSupplied old told
+speaks_supplied law old new told step n tags is was tag low bit =
+    law was.ports was.legacy was.first was.opens was.deeds old was.run n tags new (told_is old new told (act.Speaks n (out.Ends tags)) step is) tag low bit
+
+pub ended_supplied : CompletionsAreSupplied → (old new : MachineState) (told : Result Act AllocError) → IfOk told (λ a. Steps old a new) → HasRules new → EndsSupplied old told new
+ended_supplied law old new told step rules took is was slot low shows hides =
+    let does : Steps old (act.Takes took) new = told_is old new told (act.Takes took) step is in
+    (does.does.frame, law was.ports was.legacy was.first was.opens was.deeds old was.run took new does rules slot low shows hides)
+
+-- a machine holds one list of bytes for a place
+one_moment : (x : Option Moment) (a b : List ℕ) → MatchOption x ⊥ (λ c. a ≡ c.bytes) → MatchOption x ⊥ (λ c. b ≡ c.bytes) → a ≡ b
+one_moment None a b h k = absurd h
+one_moment (Some m) a b h k = h ∙ sym k
+
+one_disk : (x : Option DiskState) (place : ℕ) (a b : List ℕ) → MatchOption x ⊥ (λ d. MatchOption (command_at (commands d) place) ⊥ (λ c. a ≡ c.bytes))
+    → MatchOption x ⊥ (λ d. MatchOption (command_at (commands d) place) ⊥ (λ c. b ≡ c.bytes)) → a ≡ b
+one_disk None place a b h k = absurd h
+one_disk (Some d) place a b h k = one_moment (command_at (commands d) place) a b h k
+
+place_or : ℕ → Option ℕ → ℕ
+place_or k None = k
+place_or k (Some p) = p
+
+pub holds : StoresAreOfGuests → (new : MachineState) (id : MediumId) (place : ℕ) (bytes : List ℕ) → Holds new id place bytes → HoldsSupplied new id place bytes
+unfolding place_or
+holds law new id place bytes held now asked does was lba count at stores =
+    let store : IsStore was.first was.deeds now was.run id asked lba count new = law was.ports was.legacy was.first was.opens was.deeds now was.run id asked new does lba count stores in
+    let same : store.place ≡ place = ap (place_or 0) (sym store.is ∙ at) in
+    let there : Holds new id place store.bytes = subst (λ (k : ℕ). Holds new id k store.bytes) same store.held in
+    subst (λ (b : List ℕ). SuppliedToNewDisk was.first was.deeds now was.run id.port place (StoresNext lba count b))
+    (one_disk (disk_at new id) place store.bytes bytes there held)
+    (subst (λ (k : ℕ). SuppliedToNewDisk was.first was.deeds now was.run id.port k (StoresNext lba count store.bytes)) same store.supplied)
+
+pub some_holds : {X : Type 0} {P Q : X → Type 0} → ((x : X) → P x → Q x) → (o : Option X) → IfSome o P → IfSome o Q
+some_holds step None h = tt
+some_holds step (Some x) h = step x h
+
 -- ---- a disk is put at a port
 
 pub puts : (port : ℕ) (profile : Profile) (limit : ℕ) (disk : DiskState) → disk ≡ new_disk profile limit → (old new : MachineState)
@@ -98,9 +148,10 @@ puts port profile limit disk is old new told does rules was =
 
 -- ---- what it knows of its disks
 
-pub knows : HeardIsOfGuest → CommandsOfNewDisks → CommandsStand → (now : MachineState) → KnowsDisks now
-knows heard fresh stand now led n = record {
+pub knows : HeardIsOfGuest → DataAreSupplied → CommandsOfNewDisks → CommandsStand → (now : MachineState) → KnowsDisks now
+knows heard data_are fresh stand now led n = record {
   heard = heard led.ports led.legacy led.first led.opens led.deeds now led.run n;
+  supplied = data_are led.ports led.legacy led.first led.opens led.deeds now led.run n;
   commands = λ d there lived p limit new place page is. fresh led.ports led.legacy led.first led.opens led.deeds now led.run n d there lived p limit new place page is;
   stands = λ p limit calls c of r since stood short. stand led.ports led.legacy led.first led.opens led.deeds now led.run n p limit calls c of r since stood short;
 }

@@ -1,5 +1,5 @@
 -- What a caller knows of its machine, of what it is told to write, and of its disks.
-use Rattle.std.specs.Prelude.{◌≡◌, ◌<◌, ℕ, Bool, true, false, List, [], ◌∷◌, ◌++◌, length, Some, Result, Ok}
+use Rattle.std.specs.Prelude.{◌≡◌, ◌<◌, ℕ, Bool, true, false, List, [], ◌∷◌, ◌++◌, length, slice_index, Some, Result, Ok}
 use Rattle.std.specs.declared.alloc.AllocError.{AllocError}
 use Rattle.fis_view.specs.Frames.{Stamped}
 use Rattle.slots.specs.Slots.{has_bit}
@@ -11,6 +11,9 @@ use Rattle.ahci_controller.specs.declared.next.Next.TheVariants as next
 use Rattle.ahci_controller.specs.declared.taking.Took.{Took}
 use Rattle.block_command.specs.declared.command.Command.{Command}
 use Rattle.block_disk.specs.Laws.{Page}
+use Rattle.block_engine.specs.declared.request.Request.{Request}
+use Rattle.block_engine.specs.declared.request.What.TheVariants as what
+use Rattle.block_queue.specs.Line.{has_bit as has_tag}
 use Rattle.controller_laws.specs.Events.{Event}
 use Rattle.disk_pages.specs.declared.profile.Profile.{Profile}
 use Rattle.sata_disk.specs.State.{DiskState, new_disk}
@@ -24,15 +27,17 @@ use Rattle.ahci_machine.specs.declared.act.Act.TheVariants as act
 use Rattle.ahci_machine.specs.declared.bay.Unit.{Unit as Inside}
 use Rattle.ahci_machine.specs.declared.bay.Unit.TheVariants.{Disk}
 use Rattle.ahci_machine.specs.declared.ports.PortFault.{PortFault}
+use Rattle.ahci_machine.specs.declared.request.MediumId.{MediumId}
 use Rattle.machine_laws.specs.ControllerLaws.{RunsRuled}
-use Rattle.machine_laws.specs.Deeds.{Deed, Put}
+use Rattle.machine_laws.specs.Deeds.{Deed, Does, Moved, Put}
 use Rattle.machine_laws.specs.Heard.{AllHeard, HasLived, life_in, no_life}
 use Rattle.machine_theorem.specs.Commands.{IsOfSlot}
 use Rattle.machine_theorem.specs.Completed.{IsCompletedBy}
 use Rattle.machine_theorem.specs.Guest.{IsOfGuest}
-use Rattle.machine_theorem.specs.Moments.{GivesNext, IsBroughtFor, IsEndedFor, OfNewDisk}
+use Rattle.machine_theorem.specs.Moments.{Earns, GivesNext, IsBroughtFor, IsEndedFor, OfNewDisk}
 use Rattle.machine_theorem.specs.Parts.{IsBrought}
 use Rattle.machine_theorem.specs.Standing.{HasStood, IsAsSupplied}
+use Rattle.machine_theorem.specs.Writes.{IsEndedSupplied, IsStore, IsSuppliedData, StoresNext, SuppliedToNewDisk}
 
 -- some run led here from a machine that opened
 pub record IsLed (now : MachineState) : Type 0 where
@@ -75,10 +80,33 @@ EndsCompleted now told new = (took : Took) → told ≡ Ok (act.Takes took) → 
     → has_bit (shown PxCi now.controller) slot ≡ true → has_bit (shown PxCi new.controller) slot ≡ false
     → has_bit (shown PxSact new.controller) slot ≡ false → (fis : Stamped) × IsCompletedBy led.first led.deeds now led.run new.fan fis slot
 
+-- A move asks for a store: the bytes are behind those that were stored before, of all that came for the command. If the disk was new as it was put at
+-- its port, the command came from a slot, and all that came for it was supplied.
+abbrev pub AsksSupplied : MachineState → Result Act AllocError → MachineState → Type 0
+AsksSupplied now told new = (id : MediumId) (asked : Request) → told ≡ Ok (act.Asks id asked) → (led : IsLed now) → (lba count : ℕ) → asked.what ≡ what.Store lba count
+    → IsStore led.first led.deeds now led.run id asked lba count new
+
+-- What the machine holds for it behind such a move are these bytes.
+abbrev pub HoldsSupplied : MachineState → MediumId → (place : ℕ) → List ℕ → Type 0
+HoldsSupplied new id place bytes = (now : MachineState) (asked : Request) → Does now (Moved (act.Asks id asked)) new → (led : IsLed now) → (lba count : ℕ)
+    → asked.place ≡ Some place → asked.what ≡ what.Store lba count → SuppliedToNewDisk led.first led.deeds now led.run id.port place (StoresNext lba count bytes)
+
+-- A move says that a disk ends commands well: if it was new as it was put at its port, each of them has earned that, and what came for it was supplied.
+abbrev pub SpeaksSupplied : MachineState → Result Act AllocError → Type 0
+SpeaksSupplied now told = (n tags : ℕ) → told ≡ Ok (act.Speaks n (out.Ends tags)) → (led : IsLed now) → (tag : ℕ) → tag < 32 → has_tag tags tag ≡ true
+    → SuppliedToNewDisk led.first led.deeds now led.run n tag Earns
+
+-- A bit of PxSACT falls by a move that takes a FIS: what the write stored whose bit it is was supplied, if such a disk said that it ended.
+abbrev pub EndsSupplied : MachineState → Result Act AllocError → MachineState → Type 0
+EndsSupplied now told new = (took : Took) → told ≡ Ok (act.Takes took) → (led : IsLed now) → (slot : ℕ) → slot < 32
+    → has_bit (shown PxSact now.controller) slot ≡ true → has_bit (shown PxSact new.controller) slot ≡ false
+    → (fis : Stamped) × IsEndedSupplied led.first led.deeds now led.run new.fan fis slot
+
 -- Each FIS that the disk at a port heard since it was put there is of a command in a slot, or has Data that were supplied; and if it was new then,
 -- each command that its books have came from a slot. While the slot's bit has stood since an issue there, what was sent from it since is as supplied.
 pub record KnowsDisk (now : MachineState) (led : IsLed now) (n : ℕ) : Type 0 where
   pub heard : AllHeard (IsOfGuest led.first led.deeds now led.run n) (life_in n no_life led.first led.deeds now led.run).calls
+  pub supplied : AllHeard (λ fis. slice_index fis 0 ≡ 0x46 → IsSuppliedData led.first led.deeds now led.run n fis) (life_in n no_life led.first led.deeds now led.run).calls
   pub commands : (d : DiskState) → (bay_at now n).unit ≡ Disk d → (lived : HasLived (life_in n no_life led.first led.deeds now led.run) d) → (p : Profile) (limit : ℕ)
       → lived.disk ≡ new_disk p limit → (place : ℕ) (page : Page) → page_in p limit (life_in n no_life led.first led.deeds now led.run).calls place ≡ Some page
       → IsOfSlot led.first led.deeds now led.run n p limit (life_in n no_life led.first led.deeds now led.run).calls page.command

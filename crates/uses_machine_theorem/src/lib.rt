@@ -1,15 +1,15 @@
 //! A caller of a machine that knows where the bytes come from that it is told to write to the guest, and which commands its disks have.
 #![tactic(auto)]
 
-ghost use Rattle.std.specs.Prelude.{◌≡◌, ◌<◌, ◌≤◌, IfOk};
+ghost use Rattle.std.specs.Prelude.{◌≡◌, ◌<◌, ◌≤◌, IfOk, IfSome};
 ghost use Rattle.slots.specs.Slots.{has_bit};
 ghost use Rattle.ahci_registers.specs.declared.register.Register.TheVariants.{PxCi};
 ghost use Rattle.ahci_controller.specs.Reading.{shown};
-ghost use Rattle.uses_machine_theorem.specs.Led.{EndsCompleted, EndsEarned, IsLed, KnowsDisks, LendsBrought, LendsOfSlots, PutsNew, SpeaksOfSlots};
+ghost use Rattle.uses_machine_theorem.specs.Led.{AsksSupplied, EndsCompleted, EndsEarned, EndsSupplied, HoldsSupplied, IsLed, KnowsDisks, LendsBrought, LendsOfSlots, PutsNew, SpeaksOfSlots, SpeaksSupplied};
 ghost use Rattle.uses_machine_theorem.specs.Standing.{BeginsToStand, GoesOnStanding};
 
 use ahci_controller::Width;
-use ahci_machine::{Act, Machine, PortFault, Told, Unit, Wanted};
+use ahci_machine::{Act, Machine, MediumId, PortFault, Told, Unit, Wanted};
 use disk_pages::Profile;
 use sata_disk::SataDisk;
 use std::alloc::{AllocError, Global};
@@ -43,7 +43,8 @@ pub fn puts(
 /// The machine moves. Where it says that payload is to be written, the bytes that it lends are those of a Data FIS that a device sent: of a
 /// disk the next bytes that the caller gave for the sectors of the command, and this command came from a slot. Where it says that a disk sends
 /// Data, they are such bytes. Where a bit of PxSACT falls as it takes a FIS, the device that owns the slot said so, and a disk has earned that.
-/// Where one of PxCI does, this device completed the slot's command.
+/// Where one of PxCI does, this device completed the slot's command. Where a disk asks for a store, the bytes are the guest's, as they were supplied for
+/// a command from a slot; and so is what a write stored that ends.
 pub fn moves(alloc: Global, machine: &mut Machine) -> Result<Act, AllocError>
     ensures led { IsLed machine.old → IfOk result (λ moved. IsLed machine.new) }
     ensures brought { LendsBrought machine.old result machine.new }
@@ -51,14 +52,27 @@ pub fn moves(alloc: Global, machine: &mut Machine) -> Result<Act, AllocError>
     ensures speaks { SpeaksOfSlots machine.old result }
     ensures ended { EndsEarned machine.old result machine.new }
     ensures completed { EndsCompleted machine.old result machine.new }
+    ensures stores { AsksSupplied machine.old result machine.new }
+    ensures ends { SpeaksSupplied machine.old result }
+    ensures supplied { EndsSupplied machine.old result machine.new }
 {
     machine_theorem::payload_comes_from_devices();
     machine_theorem::data_are_of_slots();
     machine_theorem::completions_are_of_devices();
+    machine_theorem::writes_come_from_guests();
     machine.keeps_rules();
     let moved = machine.step(alloc);
     machine.keeps_rules();
     moved
+}
+
+/// The bytes of a store. Behind the move that asked for it they are those that came for the command behind what was stored before, each as it was
+/// supplied.
+pub fn stored(machine: &Machine, id: MediumId, place: u8) -> Option<&[u8]>
+    ensures { IfSome result (λ bytes. HoldsSupplied machine.now id place bytes.now) }
+{
+    machine_theorem::writes_come_from_guests();
+    machine.stored(id, place)
 }
 
 /// Reads the bit of a slot in PxCI.
@@ -96,12 +110,13 @@ pub fn watches(alloc: Global, machine: &mut Machine, slot: u8) -> Result<bool, A
 }
 
 /// Plugs in what is at a port. The caller knows of each disk in the machine, whatever run led to it, that it heard nothing but its guest, that
-/// its commands came from slots, and that they are as they were supplied while their slots' bits stand.
+/// the Data among that were supplied, that its commands came from slots, and that they are as they were supplied while their slots' bits stand.
 pub fn plugs(machine: &mut Machine, port: u8) -> Result<(), PortFault>
     ensures { KnowsDisks machine.new }
 {
     machine_theorem::commands_come_from_slots();
     machine_theorem::disks_hear_their_guest();
     machine_theorem::slots_have_one_command();
+    machine_theorem::writes_come_from_guests();
     machine.plug(port)
 }

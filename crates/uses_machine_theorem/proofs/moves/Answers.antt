@@ -1,4 +1,4 @@
-use Rattle.uses_machine_theorem.proofs.LedLemmas.{brought, completed, ended, led, of_slots, ruled, speaks}
+use Rattle.uses_machine_theorem.proofs.LedLemmas.{asks, brought, completed, ended, ended_supplied, led, of_slots, ruled, speaks, speaks_supplied}
 use Rattle.uses_machine_theorem.proofs.moves.Goals as goal
 
 pub returns-clause-led : goal.returns-clause-led
@@ -23,4 +23,15 @@ returns-clause-ended c =
 pub returns-clause-completed : goal.returns-clause-completed
 returns-clause-completed c =
     completed c.completions_are_of_devices.ensures c.args.machine.now c.step-moved.new.self c.step-moved.result c.step-moved.ensures.ok
+    (ruled c.step-moved.new.self c.keeps_rules-2.ensures.port c.keeps_rules-2.ensures.slots c.keeps_rules-2.ensures.rules)
+
+pub returns-clause-stores : goal.returns-clause-stores
+returns-clause-stores c = asks c.writes_come_from_guests.ensures.stores c.args.machine.now c.step-moved.new.self c.step-moved.result c.step-moved.ensures.ok
+
+pub returns-clause-ends : goal.returns-clause-ends
+returns-clause-ends c = speaks_supplied c.writes_come_from_guests.ensures.ends c.args.machine.now c.step-moved.new.self c.step-moved.result c.step-moved.ensures.ok
+
+pub returns-clause-supplied : goal.returns-clause-supplied
+returns-clause-supplied c =
+    ended_supplied c.writes_come_from_guests.ensures.completed c.args.machine.now c.step-moved.new.self c.step-moved.result c.step-moved.ensures.ok
     (ruled c.step-moved.new.self c.keeps_rules-2.ensures.port c.keeps_rules-2.ensures.slots c.keeps_rules-2.ensures.rules)
