@@ -57,15 +57,20 @@ pub fn command(rig: &mut Rig, slot: u8, port: u8, writes: bool, fis: &[u8; 20], 
     rig.fills(table + 128, &entry);
 }
 
-/// What a driver does first.
+/// What a driver writes first: registers, and values.
+static FIRST: [(u32, u32); 9] = [
+    (0x04, 0x8000_0002),
+    (0x100, CLB as u32),
+    (0x108, FB),
+    (0x118, 0x10),
+    (0x12C, 1),
+    (0x12C, 0),
+    (0x114, 0x7FFF_FFFF),
+    (0x110, 0xFFFF_FFFF),
+    (0x118, 0x11),
+];
+
+/// What a driver does first. Whether the machine came to rest each time.
 pub fn starts(rig: &mut Rig) -> Result<bool, Fail> {
-    rig.writes(0x04, 0x8000_0002)?;
-    rig.writes(0x100, CLB as u32)?;
-    rig.writes(0x108, FB)?;
-    rig.writes(0x118, 0x10)?;
-    rig.writes(0x12C, 1)?;
-    rig.writes(0x12C, 0)?;
-    rig.writes(0x114, 0x7FFF_FFFF)?;
-    rig.writes(0x110, 0xFFFF_FFFF)?;
-    rig.writes(0x118, 0x11)
+    rig.write_all(&FIRST)
 }

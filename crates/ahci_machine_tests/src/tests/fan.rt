@@ -2,6 +2,7 @@
 
 use super::driver::{BUFFER, command, h2d, starts};
 use super::rig::Rig;
+use std::process::Abort;
 use std::test::Fail;
 
 /// Writes a register of a port of the multiplier: a value of which one byte is not 0, the lowest or the highest.
@@ -42,21 +43,39 @@ fn reads_all(rig: &mut Rig, ports: u8) -> Result<bool, Fail> {
     Ok(rig.reads(0x138) == 0 && rig.reads(0x134) == 0)
 }
 
-#[test]
-fn each_port_is_served(rt: HostRuntime) -> Result<(), Fail> {
-    let mut rig = Rig::new(rt.alloc(), 3)?;
-    assert!(rt; starts(&mut rig)?);
-    rig.writes(0x118, 0x10)?;
-    rig.writes(0x140, 0xF01)?;
-    rig.writes(0x118, 0x2_0018)?;
-    rig.writes(0x118, 0x2_0011)?;
+/// What a driver writes to find the multiplier.
+static FINDS: [(u32, u32); 4] = [
+    (0x118, 0x10),
+    (0x140, 0xF01),
+    (0x118, 0x2_0018),
+    (0x118, 0x2_0011),
+];
+
+/// The first of three ports that cannot be opened.
+fn first_closed(rig: &mut Rig) -> Result<Option<u8>, Fail> {
     for port in 0..3 {
-        assert!(rt; opens(&mut rig, port)?, "{port}");
+        if !opens(rig, port)? {
+            return Ok(Some(port));
+        }
     }
-    assert!(rt; reads_all(&mut rig, 3)?);
+    Ok(None)
+}
+
+/// A driver finds the multiplier, opens its ports, and reads a sector of each.
+fn are_served(rt: &impl Abort, rig: &mut Rig) -> Result<(), Fail> {
+    assert!(rt; starts(rig)?);
+    assert!(rt; rig.write_all(&FINDS)?);
+    assert_eq!(rt; first_closed(rig)?, None);
+    assert!(rt; reads_all(rig, 3)?);
     assert_eq!(rt;
         rig.holds(BUFFER, 1).first().copied(),
         rig.stores(2, 5 * 512)
     );
     Ok(())
+}
+
+#[test]
+fn each_port_is_served(rt: HostRuntime) -> Result<(), Fail> {
+    let mut rig = Rig::new(rt.alloc(), 3)?;
+    are_served(&rt, &mut rig)
 }

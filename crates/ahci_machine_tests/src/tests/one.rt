@@ -4,6 +4,8 @@ use super::driver::{BUFFER, TABLE, command, h2d, starts};
 use super::rig::Rig;
 use ahci_controller::Fed;
 use ahci_machine::Told;
+use std::alloc::Global;
+use std::process::Abort;
 use std::test::Fail;
 
 /// IDENTIFY DEVICE, in slot 0.
@@ -13,15 +15,55 @@ fn identifies(rig: &mut Rig) -> Result<bool, Fail> {
     Ok(rig.reads(0x138) == 0 && rig.holds(BUFFER + 54, 4) == [0x45, 0x47, 0x53, 0x46].as_slice())
 }
 
+fn says_what_it_is(rt: &impl Abort, rig: &mut Rig) -> Result<(), Fail> {
+    assert!(rt; starts(rig)?);
+    assert_eq!(rt; rig.reads(0x120), 0x150);
+    assert_eq!(rt; rig.reads(0x124), 0x101);
+    assert!(rt; identifies(rig)?);
+    assert!(rt; rig.line());
+    Ok(())
+}
+
 #[test]
 fn a_disk_says_what_it_is(rt: HostRuntime) -> Result<(), Fail> {
     let mut rig = Rig::new(rt.alloc(), 0)?;
-    assert!(rt; starts(&mut rig)?);
-    assert_eq!(rt; rig.reads(0x120), 0x150);
-    assert_eq!(rt; rig.reads(0x124), 0x101);
-    assert!(rt; identifies(&mut rig)?);
-    assert!(rt; rig.line());
+    says_what_it_is(&rt, &mut rig)
+}
+
+/// A driver starts, and then this holds.
+fn holds(rt: &impl Abort, rig: &mut Rig, check: Check) -> Result<(), Fail> {
+    assert!(rt; starts(rig)?);
+    assert!(rt; is_so(rig, check)?);
     Ok(())
+}
+
+/// The same of a new machine.
+fn assert_holds(rt: &impl Abort, alloc: Global, check: Check) -> Result<(), Fail> {
+    let mut rig = Rig::new(alloc, 0)?;
+    holds(rt, &mut rig, check)
+}
+
+/// What a driver does once it has started.
+#[derive(Clone, Copy)]
+enum Check {
+    /// Sectors are read.
+    Reads,
+    /// Sectors are written.
+    Writes,
+    /// A command is not taken.
+    NotTaken,
+    /// A command cannot be served.
+    Missed,
+}
+
+/// Whether what is done comes to its end.
+fn is_so(rig: &mut Rig, check: Check) -> Result<bool, Fail> {
+    match check {
+        Check::Reads => reads_dma(rig),
+        Check::Writes => writes_queued(rig),
+        Check::NotTaken => is_not_taken(rig),
+        Check::Missed => is_missed(rig),
+    }
 }
 
 fn reads_dma(rig: &mut Rig) -> Result<bool, Fail> {
@@ -38,10 +80,7 @@ fn reads_dma(rig: &mut Rig) -> Result<bool, Fail> {
 
 #[test]
 fn sectors_are_read(rt: HostRuntime) -> Result<(), Fail> {
-    let mut rig = Rig::new(rt.alloc(), 0)?;
-    assert!(rt; starts(&mut rig)?);
-    assert!(rt; reads_dma(&mut rig)?);
-    Ok(())
+    assert_holds(&rt, rt.alloc(), Check::Reads)
 }
 
 fn writes_queued(rig: &mut Rig) -> Result<bool, Fail> {
@@ -56,10 +95,7 @@ fn writes_queued(rig: &mut Rig) -> Result<bool, Fail> {
 
 #[test]
 fn sectors_are_written(rt: HostRuntime) -> Result<(), Fail> {
-    let mut rig = Rig::new(rt.alloc(), 0)?;
-    assert!(rt; starts(&mut rig)?);
-    assert!(rt; writes_queued(&mut rig)?);
-    Ok(())
+    assert_holds(&rt, rt.alloc(), Check::Writes)
 }
 
 /// A command whose FIS is none of a host, in slot 5.
@@ -87,11 +123,6 @@ fn is_missed(rig: &mut Rig) -> Result<bool, Fail> {
 
 #[test]
 fn callers_are_told_why_commands_are_not_served(rt: HostRuntime) -> Result<(), Fail> {
-    let mut rig = Rig::new(rt.alloc(), 0)?;
-    assert!(rt; starts(&mut rig)?);
-    assert!(rt; is_not_taken(&mut rig)?);
-    let mut rig = Rig::new(rt.alloc(), 0)?;
-    assert!(rt; starts(&mut rig)?);
-    assert!(rt; is_missed(&mut rig)?);
-    Ok(())
+    assert_holds(&rt, rt.alloc(), Check::NotTaken)?;
+    assert_holds(&rt, rt.alloc(), Check::Missed)
 }

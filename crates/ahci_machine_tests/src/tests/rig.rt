@@ -66,31 +66,60 @@ fn pattern(at: usize) -> u8 {
     ((at / 512 * 7 + at % 512) & 0xFF) as u8
 }
 
+/// The media of so many ports.
+fn media(alloc: Global, count: u8) -> Result<Vec<u8>, AllocError> {
+    let mut media = Vec::new(alloc);
+    for at in 0..usize::from(count) * 32_768 {
+        media.push(pattern(at))?;
+    }
+    Ok(media)
+}
+
+/// The memory of a guest.
+fn memory(alloc: Global) -> Result<Vec<u8>, AllocError> {
+    let mut memory = Vec::new(alloc);
+    memory.resize(0x10_0000, 0)?;
+    Ok(memory)
+}
+
+/// A disk.
+fn disk(alloc: Global) -> Result<SataDisk, Fail> {
+    let profile = profile()?;
+    Ok(SataDisk::new(alloc, profile, 1_048_576)?)
+}
+
+/// A disk comes to a port.
+fn comes(alloc: Global, machine: &mut Machine, port: u8) -> Result<(), Fail> {
+    let disk = disk(alloc)?;
+    let _ = machine.put(port, Unit::Disk(disk));
+    let _ = machine.plug(port);
+    Ok(())
+}
+
+/// A disk comes to each of so many ports.
+fn come(alloc: Global, machine: &mut Machine, count: u8) -> Result<(), Fail> {
+    for port in 0..count {
+        comes(alloc, machine, port)?;
+    }
+    Ok(())
+}
+
 impl Rig {
     /// With this many ports, a disk at each, and port 0 open.
     pub fn new(alloc: Global, ports: u8) -> Result<Rig, Fail> {
-        let mut machine = Machine::new(alloc, ports, true)?;
         let count = if ports == 0 { 1 } else { ports };
-        for port in 0..count {
-            let profile = profile()?;
-            let disk = SataDisk::new(alloc, profile, 1_048_576)?;
-            let _ = machine.put(port, Unit::Disk(disk));
-            let _ = machine.plug(port);
-        }
-        let mut media = Vec::new(alloc);
-        for at in 0..usize::from(count) * 32_768 {
-            media.push(pattern(at))?;
-        }
-        let mut memory = Vec::new(alloc);
-        memory.resize(0x10_0000, 0)?;
-        Ok(Rig {
+        let media = media(alloc, count)?;
+        let memory = memory(alloc)?;
+        let mut rig = Rig {
             alloc,
-            machine,
+            machine: Machine::new(alloc, ports, true)?,
             memory,
             media,
             line: false,
             refused: None,
-        })
+        };
+        come(alloc, &mut rig.machine, count)?;
+        Ok(rig)
     }
 
     fn supply(&mut self, read: GuestRead) -> Result<(), AllocError> {
@@ -191,6 +220,16 @@ impl Rig {
     pub fn writes(&mut self, offset: u32, value: u32) -> Result<bool, Fail> {
         self.machine.write(offset, Width::Dword, u64::from(value));
         self.settle()
+    }
+
+    /// The guest writes these registers. Whether the machine came to rest each time.
+    pub fn write_all(&mut self, rows: &[(u32, u32)]) -> Result<bool, Fail> {
+        for (offset, value) in rows {
+            if !self.writes(*offset, *value)? {
+                return Ok(false);
+            }
+        }
+        Ok(true)
     }
 
     /// What a register reads.
