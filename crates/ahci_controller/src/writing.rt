@@ -1,8 +1,6 @@
 //! What a write of a register does.
 
 ghost use Rattle.std.specs.Prelude.{◌≡◌, Option, Some, None, false};
-ghost use Rattle.slots.specs.Slots.{mask_of};
-ghost use Rattle.hba_fbs.specs.Issuing.{is_busy};
 ghost use Rattle.ahci_registers.specs.Link.{action_of, causes_of, effect_of, written as written_of};
 ghost use Rattle.ahci_controller.specs.Writing.{Leaves, ResetsLink, StartsPort, Tells, WritesRegister, at_stake as at_stake_of, may_end as may_end_of, plain, under_way as under_way_of, clears_busy as clears_busy_of, fresh_slots, line_of, quietly as quietly_of, switched_by, ClearsBusy, Restarts, idle_for, stopped_if};
 
@@ -13,7 +11,7 @@ use crate::offer::nothing;
 use crate::own::OwnRegisters;
 use crate::parts::{CONTROL, Parts};
 use ahci_registers::{Effect, LinkAction, LinkControl, Register};
-use hba_fbs::{Line, PortCore, WriteError};
+use hba_fbs::{Line, WriteError};
 
 /// What a write asks for beside the registers.
 #[derive(Clone, Copy, Debug, PartialEq, Eq)]
@@ -45,19 +43,6 @@ impl Written {
             line: Edge::Steady,
         }
     }
-}
-
-// The slots in which something is issued, as a mask.
-pub(crate) fn issued(core: &PortCore) -> u32
-    ensures { result ≡ mask_of (is_busy core.now.slots) }
-{
-    let mut mask: u32 = 0;
-    for slot in 0..32_u8 {
-        if core.is_issued(slot) {
-            mask |= 1 << slot;
-        }
-    }
-    mask
 }
 
 // Whether a write of the register may end commands.
@@ -235,7 +220,7 @@ impl Parts {
     fn write_pxsact(&mut self, value: u32) -> Written
         ensures { Leaves Register.PxSact self.old value result self.new }
     {
-        let armed = without(value, issued(&self.core));
+        let armed = without(value, self.core.issued());
         let ignored = self.tell(hba_fbs::Register::Sact, armed);
         Written::quietly(false, ignored)
     }
@@ -257,7 +242,7 @@ impl Parts {
     fn fresh(&self, value: u32) -> u32
         ensures { result ≡ fresh_slots self.now value }
     {
-        let free = without(without(value, issued(&self.core)), self.wants.pending);
+        let free = without(without(value, self.core.issued()), self.wants.pending);
         without(free, self.own.bad)
     }
 
@@ -316,7 +301,7 @@ impl Parts {
     fn under_way(&self) -> u32
         ensures { result ≡ under_way_of self.now }
     {
-        issued(&self.core) | self.wants.pending
+        self.core.issued() | self.wants.pending
     }
 
     // Those whose commands a write of the register may end.

@@ -661,12 +661,6 @@ pub draws_line : (l : Line) (result : Option ℕ) (q : Queue) → IsLine l → I
 draws_line l None q line some none = rw none.1 line
 draws_line l (Some number) q line some none = rw some (drawn_line l line)
 
--- ## An answer that is taken, or refused
-
-pub answer_line : (l : Line) (p number : ℕ) (i : Input) (q : Queue) → IsLine l → p < 33 → is_given i ≡ true
-    → q ≡ with_answer l.queue p number i → IsLine (with_queue l q)
-answer_line l p number i q line low e is = rw is (answers_line l p number i line low e)
-
 -- ## The first place
 
 first_here : (test : ℕ → Bool) (n : ℕ) (x : Option ℕ) (b : Bool) → x ≡ None → b ≡ true → or_this x (if b then Some n else None) ≡ Some n

@@ -2,7 +2,7 @@
 
 ghost use Rattle.std.specs.Prelude.{◌≡◌, ◌<◌, IfSome, IfNone};
 ghost use Rattle.block_queue.specs.Line.{PassesNowhere, has_bit};
-ghost use Rattle.block_queue.specs.Places.{IsFirstIn, IsWithout};
+ghost use Rattle.block_queue.specs.Places.{IsFirstIn, IsNoted, IsWithout};
 
 /// The first place in a set.
 pub fn first_in(set: u64) -> Option<u8>
@@ -19,4 +19,16 @@ pub fn without(set: u64, place: u8) -> u64
     ensures { IsWithout set result place }
 {
     set & !(1 << place)
+}
+
+/// A set with or without a place.
+pub(crate) fn with_or_without(set: u64, place: u8, is: bool) -> u64
+    requires { place < 33 }
+    ensures { IsNoted set result place is }
+{
+    if is {
+        set | 1 << place
+    } else {
+        without(set, place)
+    }
 }

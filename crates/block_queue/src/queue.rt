@@ -6,13 +6,13 @@ ghost use Rattle.block_command.specs.Moments.{IsCommand, Moment};
 ghost use Rattle.block_command.specs.Laws.{Comes, Fails, Flushes, Goes, Loads, Stores};
 ghost use Rattle.block_disk.specs.Table.{at, has_wire, is_under_way, keeps_data_at, starts_write_at, with_input};
 ghost use Rattle.block_disk.specs.Requests.{asks, number_at, with_asked, with_drawn, with_table};
-ghost use Rattle.block_queue.specs.Line.{IsOldest, Line, PassesNowhere, any_below, awaits, bars, command_at, first_below, first_ranks, has_bit, is_in_way, is_of, line_refusal, orphan_refusal, refused_by, left_of, line_answered, line_forgets, line_gone, line_reset, line_taken, may_send, may_start, moved_back, none_in_line, orphan, share, starts, waits_for, with_queue};
-ghost use Rattle.block_queue.specs.Places.{older};
+ghost use Rattle.block_queue.specs.Line.{IsOldest, Line, PassesNowhere, any_below, awaits, bars, command_at, first_below, first_ranks, has_bit, is_in_way, is_of, line_refusal, orphan_refusal, orphans_answered, refused_by, left_of, line_answered, line_forgets, line_gone, line_reset, line_taken, may_send, may_start, moved_back, none_in_line, orphan, share, starts, waits_for, with_queue};
+ghost use Rattle.block_queue.specs.Places.{IsNoted, IsWatched, IsWatchedIn, is_watched_in, older};
 ghost use Rattle.block_queue.specs.Saved.{line_of};
 
 mod saved;
 
-use crate::places::{first_in, without};
+use crate::places::{first_in, with_or_without, without};
 use block_command::{AnswerError, BlockCommand, Command, Turn};
 use block_disk::Requests;
 use std::alloc::{AllocError, Global};
@@ -30,22 +30,25 @@ pub struct Orphan {
 }
 
 /// The commands under way. A command starts once no command that was taken before it, and no dropped store, shares a
-/// sector with it where one of the two writes. So of requests that are out no two do.
+/// sector with it where one of the two writes. So of requests that are out no two do. Places at which nothing stands
+/// are not in `busy`, so that nobody asks them.
 #[derive(Drop)]
 pub struct CommandQueue {
     requests: Requests,
     ranks: [u8; 33],
     orphans: [Option<Orphan>; 33],
+    busy: u64,
 }
 
 impl Model for CommandQueue {
-    ghost use Rattle.block_queue.specs.Line.{IsLine, Line};
+    ghost use Rattle.block_queue.specs.Line.{Line};
+    ghost use Rattle.block_queue.specs.Places.{IsKept};
 
     ghost Value = { Line };
 
     ghost view = { λ c. record { queue = c.requests; ranks = c.ranks; orphans = c.orphans } };
 
-    ghost invariant = { λ c. IsLine (record { queue = c.requests; ranks = c.ranks; orphans = c.orphans }) };
+    ghost invariant = { λ c. IsKept (record { queue = c.requests; ranks = c.ranks; orphans = c.orphans }) c.busy };
 }
 
 /// Whether so many sectors from one on, and so many from another on, have one in common.
@@ -197,6 +200,48 @@ fn older(ranks: &[u8; 33], found: Option<u8>, place: u8) -> u8
     }
 }
 
+/// Whether something stands at a place: its command is under way, or the caller is to answer a request or a dropped
+/// store of it.
+fn is_watched(requests: &Requests, orphans: &[Option<Orphan>; 33], place: u8) -> bool
+    requires { place < 33 }
+    ensures { result ≡ is_watched_in requests.now orphans.now place }
+{
+    requests.is_taken(place)
+        || orphans[place as usize].is_some()
+        || requests.number(place).is_some()
+}
+
+/// The set of the places at which something stands, once a place changed.
+fn noted(requests: &Requests, orphans: &[Option<Orphan>; 33], busy: u64, place: u8) -> u64
+    requires { place < 33 }
+    ensures { IsNoted busy result place (is_watched_in requests.now orphans.now place) }
+{
+    with_or_without(busy, place, is_watched(requests, orphans, place))
+}
+
+/// The places at which something stands.
+fn watched(requests: &Requests, orphans: &[Option<Orphan>; 33]) -> u64
+    ensures { IsWatchedIn requests.now orphans.now result }
+{
+    let mut busy = 0;
+    for place in 0..33_u8 {
+        busy = noted(requests, orphans, busy, place);
+    }
+    busy
+}
+
+/// The caller answers the request of this number: a store that waits for that is no orphan any more.
+fn forget(orphans: &mut [Option<Orphan>; 33], place: u8, number: u64)
+    requires { place < 33 }
+    ensures { orphans.new ≡ orphans_answered orphans.old place number }
+{
+    if let Some(orphan) = orphans[place as usize]
+        && orphan.number == number
+    {
+        orphans[place as usize] = None;
+    }
+}
+
 impl CommandQueue {
     /// No command is under way.
     pub fn new(alloc: Global) -> Result<CommandQueue, AllocError>
@@ -206,6 +251,7 @@ impl CommandQueue {
             requests: Requests::new(alloc)?,
             ranks: first_ranks(),
             orphans: [None; 33],
+            busy: 0,
         })
     }
 
@@ -220,6 +266,15 @@ impl CommandQueue {
         }
         self.requests.take(alloc, command);
         self.ranks = moved_back(self.ranks, command.place);
+        self.busy = with_or_without(self.busy, command.place, true);
+    }
+
+    /// The places at which something stands: those whose command is under way, and those of which the caller is to
+    /// answer a request or a dropped store. Bit n of the set is place n.
+    pub fn busy(&self) -> u64
+        ensures { IsWatched self.now result }
+    {
+        self.busy
     }
 
     /// Whether the place is under way.
@@ -271,13 +326,40 @@ impl CommandQueue {
         self.requests.wire()
     }
 
+    /// Whether this command waits for what stands at another place.
+    fn waits_for(&self, command: Command, place: u8, other: u8) -> bool
+        requires place { place < 33 }
+        requires other { other < 33 }
+        requires some { 0 < command.count }
+        ensures { result ≡ waits_for self.now command place other }
+    {
+        waits_for(
+            &self.requests,
+            &self.ranks,
+            &self.orphans,
+            command,
+            place,
+            other,
+        )
+    }
+
     /// Whether this command waits for what stands at any place.
     fn must_wait(&self, command: Command, place: u8) -> bool
         requires place { place < 33 }
         requires some { 0 < command.count }
         ensures { result ≡ any_below (waits_for self.now command place) 33 }
     {
-        must_wait(&self.requests, &self.ranks, &self.orphans, command, place)
+        let mut rest = self.busy;
+        for _walked in 0..33_u8 {
+            let Some(other) = first_in(rest) else {
+                return false;
+            };
+            if self.waits_for(command, place, other) {
+                return true;
+            }
+            rest = without(rest, other);
+        }
+        false
     }
 
     /// Whether the command of a place may start: it waits for its start, and for nothing else.
@@ -336,6 +418,7 @@ impl CommandQueue {
         ensures { self.new ≡ line_gone self.old place }
     {
         self.requests.send(place);
+        self.busy = noted(&self.requests, &self.orphans, self.busy, place);
     }
 
     /// Whether what is next for a command is a request to the caller. It may be asked at once.
@@ -367,18 +450,6 @@ impl CommandQueue {
         ensures room { OnErr result (keeps_data_at (command_at self.old place) part.now ≡ true) }
     {
         self.requests.came(place, part)
-    }
-
-    /// The caller answers the request of this number: a store that waits for that is no orphan any more.
-    fn forget(&mut self, place: u8, number: u64)
-        requires { place < 33 }
-        ensures { self.new ≡ line_forgets self.old place number }
-    {
-        if let Some(orphan) = self.orphans[place as usize]
-            && orphan.number == number
-        {
-            self.orphans[place as usize] = None;
-        }
     }
 
     /// Whether a dropped store of this number waits at this place for its answer.
@@ -414,7 +485,8 @@ impl CommandQueue {
         if !self.is_dropped(place, number) {
             return Err(AnswerError::NotOut);
         }
-        self.forget(place, number);
+        forget(&mut self.orphans, place, number);
+        self.busy = noted(&self.requests, &self.orphans, self.busy, place);
         Ok(())
     }
 
@@ -429,7 +501,8 @@ impl CommandQueue {
             return Err(self.refused(place, number));
         }
         self.requests.loaded(place, number, bytes)?;
-        self.forget(place, number);
+        forget(&mut self.orphans, place, number);
+        self.busy = noted(&self.requests, &self.orphans, self.busy, place);
         Ok(())
     }
 
@@ -444,7 +517,8 @@ impl CommandQueue {
             return self.settle(place, number);
         }
         self.requests.stored(place, number)?;
-        self.forget(place, number);
+        forget(&mut self.orphans, place, number);
+        self.busy = noted(&self.requests, &self.orphans, self.busy, place);
         Ok(())
     }
 
@@ -459,7 +533,8 @@ impl CommandQueue {
             return Err(self.refused(place, number));
         }
         self.requests.flushed(place, number)?;
-        self.forget(place, number);
+        forget(&mut self.orphans, place, number);
+        self.busy = noted(&self.requests, &self.orphans, self.busy, place);
         Ok(())
     }
 
@@ -474,7 +549,8 @@ impl CommandQueue {
             return self.settle(place, number);
         }
         self.requests.failed(place, number)?;
-        self.forget(place, number);
+        forget(&mut self.orphans, place, number);
+        self.busy = noted(&self.requests, &self.orphans, self.busy, place);
         Ok(())
     }
 
@@ -491,10 +567,15 @@ impl CommandQueue {
         ensures value { result ≡ first_below (awaits self.now number) 33 }
         ensures below { IfSome result (λ place. place < 33) }
     {
-        for place in 0..33_u8 {
+        let mut rest = self.busy;
+        for _walked in 0..33_u8 {
+            let Some(place) = first_in(rest) else {
+                return None;
+            };
             if self.awaits(place, number) {
                 return Some(place);
             }
+            rest = without(rest, place);
         }
         None
     }
@@ -521,5 +602,6 @@ impl CommandQueue {
             );
         }
         self.requests.reset();
+        self.busy = watched(&self.requests, &self.orphans);
     }
 }

@@ -1,4 +1,6 @@
 mod SavedLemmas
 pub mod Places
+mod Walks
 pub mod Held
+mod Ends
 pub mod Runs

@@ -12,7 +12,7 @@ ghost use Rattle.block_scheduler.specs.Schedule.{IsNextFis, IsNextStart, MayGo, 
 
 mod saved;
 
-use crate::sets::{Sets, is_fail, with_place};
+use crate::sets::{Sets, is_fail, places_of, with_place};
 use block_command::{AnswerError, BlockCommand, Command, Turn};
 use block_queue::{CommandQueue, Orphan, first_in, without};
 use std::alloc::{AllocError, Global};
@@ -105,8 +105,13 @@ fn held_in(queue: &CommandQueue) -> u64
     ensures most { result ≤ 69206016 }
 {
     let mut held = 0;
-    for place in 0..33_u8 {
+    let mut rest = queue.busy();
+    for _walked in 0..33_u8 {
+        let Some(place) = first_in(rest) else {
+            return held;
+        };
         held += held_at(queue, place);
+        rest = without(rest, place);
     }
     held
 }
@@ -176,10 +181,15 @@ impl Scheduler {
     pub fn is_quiet(&self) -> bool
         ensures { result ≡ is_quiet self.now.line }
     {
-        for place in 0..33_u8 {
+        let mut rest = self.queue.busy();
+        for _walked in 0..33_u8 {
+            let Some(place) = first_in(rest) else {
+                return true;
+            };
             if self.is_busy(place) {
                 return false;
             }
+            rest = without(rest, place);
         }
         true
     }
@@ -377,8 +387,13 @@ impl Scheduler {
     pub fn send_ends(&mut self)
         ensures { self.new ≡ with_line self.old (ends_sent self.old.line 32) }
     {
-        for tag in 0..32_u8 {
+        let mut rest = places_of(self.sets.ending);
+        for _walked in 0..33_u8 {
+            let Some(tag) = first_in(rest) else {
+                return;
+            };
             self.send_end(tag);
+            rest = without(rest, tag);
         }
     }
 

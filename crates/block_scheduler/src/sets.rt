@@ -1,7 +1,7 @@
 //! Sets of places, by what is next for their commands.
 
-ghost use Rattle.std.specs.Prelude.{◌≡◌, ◌<◌};
-ghost use Rattle.block_queue.specs.Line.{starts};
+ghost use Rattle.std.specs.Prelude.{◌≡◌, ◌<◌, false};
+ghost use Rattle.block_queue.specs.Line.{has_bit, starts};
 ghost use Rattle.block_disk.specs.Requests.{is_fis, is_request};
 ghost use Rattle.block_scheduler.specs.Sets.{IsNoted, IsWith, IsWithTag, is_end, is_fail, no_sets};
 
@@ -45,6 +45,14 @@ fn with_tag(tags: u32, place: u8, is: bool) -> u32
     } else {
         tags & !(1 << place)
     }
+}
+
+/// Tags as places: the place that is no tag is not among them.
+pub(crate) fn places_of(tags: u32) -> u64
+    ensures same { result ≡ tags }
+    ensures last { has_bit result 32 ≡ false }
+{
+    tags as u64
 }
 
 /// Whether this says that a command ended well.

@@ -14,3 +14,4 @@ mod SendLemmas
 pub mod Door
 mod ReasonLemmas
 mod SavedLemmas
+mod ChooseLemmas

@@ -3,7 +3,8 @@
 ghost use Rattle.std.specs.Prelude.{◌≡◌, ◌<◌, true, IfSome};
 ghost use Rattle.std.specs.Option.{option_map};
 ghost use Rattle.slots.specs.Data.{receiving_slot};
-ghost use Rattle.slots.specs.Slots.{context_of, issue_at, own_issue, slots_of};
+ghost use Rattle.slots.specs.Slots.{context_of, issue_at, mask_of, own_issue, slots_of};
+ghost use Rattle.hba_fbs.specs.Issuing.{is_busy};
 ghost use Rattle.hba_fbs.specs.Views.{last_command};
 
 use crate::port::PortCore;
@@ -21,6 +22,13 @@ impl PortCore {
     {
         self.slots.keeps_rules();
         self.slots.receiving(dev)
+    }
+
+    /// The slots in which a command is issued, as a mask.
+    pub fn issued(&self) -> u32
+        ensures { result ≡ mask_of (is_busy self.now.slots) }
+    {
+        self.slots.issued()
     }
 
     /// What is issued in a slot.

@@ -1,23 +1,48 @@
 //! Who goes next, where the caller chooses.
 
 ghost use Rattle.std.specs.Prelude.{◌≡◌, ◌<◌, ◌&&◌, ℕ, not, true};
-ghost use Rattle.hba_fbs.specs.Choosing.{Chooses, MayChoose, due_devices as due_devices_of, due_slots as due_slots_of, is_free as is_free_issue, may_feed as may_feed_device, may_order as may_order_slot, waits_beside as waits_beside_of};
+ghost use Rattle.hba_fbs.specs.Choosing.{Chooses, MayChoose, asking_devices as asking_devices_of, due_devices as due_devices_of, due_slots as due_slots_of, is_free as is_free_issue, may_feed as may_feed_device, may_order as may_order_slot, unsent_slots as unsent_slots_of, waits_beside as waits_beside_of};
 ghost use Rattle.hba_fbs.specs.Sending.{faulty_devices as faulty_devices_of, ready_devices as ready_devices_of};
 ghost use Rattle.hba_fbs.specs.Turning.{feeds, orders as orders_of};
 ghost use Rattle.slots.specs.Data.{payload as payload_of};
 ghost use Rattle.slots.specs.Slots.{context_of, has_bit as has_bit_of, holds, issue_at, match_some};
 
+use crate::bits::has_bit;
 use crate::port::PortCore;
-use crate::sending::{faulty_devices, is_due, low_half, ready_devices};
+use crate::sending::{faulty_devices, low_half, ready_devices};
 use crate::turn::Turn;
 
 impl PortCore {
-    // Whether data may go to a device.
-    fn may_feed(&self, dev: u8) -> bool
-        requires { dev < 16 }
+    // The devices that asked for data, as a mask, while the port runs.
+    fn asking_devices(&self) -> u16
+        ensures { result ≡ asking_devices_of self.now }
+    {
+        if self.is_running() {
+            self.slots.receivers()
+        } else {
+            0
+        }
+    }
+
+    // Whether data may go to a device, given the mask of those that asked for it.
+    #[tactic(auto, using(crate::proofs::ChooseLemmas::feeds_by))]
+    fn may_feed(&self, dev: u8, asking: u16) -> bool
+        requires dev { dev < 16 }
+        requires asking { asking ≡ asking_devices_of self.now }
         ensures { result ≡ may_feed_device self.now dev }
     {
-        self.is_running() && is_due(&self.slots, &self.errors, dev)
+        has_bit(u32::from(asking), u32::from(dev)) && !self.errors.faulty(dev)
+    }
+
+    // The slots whose commands were not sent, as a mask, while the port runs.
+    fn unsent_slots(&self) -> u32
+        ensures { result ≡ unsent_slots_of self.now }
+    {
+        if self.is_running() {
+            self.slots.unsent()
+        } else {
+            0
+        }
     }
 
     // Whether commands of a device wait for one of another device.
@@ -40,14 +65,16 @@ impl PortCore {
         }
     }
 
-    // Whether the command of a slot may go.
-    fn may_order(&self, slot: u8, ready: u16, faulty: u16) -> bool
+    // Whether the command of a slot may go, given the mask of those that were not sent.
+    #[tactic(auto, using(crate::proofs::ChooseLemmas::orders_by))]
+    fn may_order(&self, slot: u8, unsent: u32, ready: u16, faulty: u16) -> bool
         requires slot { slot < 32 }
+        requires unsent { unsent ≡ unsent_slots_of self.now }
         requires ready { ready ≡ ready_devices_of self.now }
         requires faulty { faulty ≡ faulty_devices_of self.now }
         ensures { result ≡ may_order_slot self.now slot }
     {
-        self.is_running() && self.is_free(slot, ready, faulty)
+        has_bit(unsent, u32::from(slot)) && self.is_free(slot, ready, faulty)
     }
 
     /// The devices to which data may go, as a mask: those that asked for it and are not faulty, while the port runs.
@@ -55,9 +82,13 @@ impl PortCore {
         ensures value { result ≡ due_devices_of self.now }
         ensures exact { (dev : ℕ) → dev < 16 → has_bit_of result dev ≡ may_feed_device self.now dev }
     {
+        let asking = self.asking_devices();
+        if asking == 0 {
+            return 0;
+        }
         let mut mask: u32 = 0;
         for dev in 0..16_u8 {
-            if self.may_feed(dev) {
+            if self.may_feed(dev, asking) {
                 mask |= 1 << dev;
             }
         }
@@ -71,11 +102,15 @@ impl PortCore {
         ensures value { result ≡ due_slots_of self.now }
         ensures exact { (slot : ℕ) → slot < 32 → has_bit_of result slot ≡ may_order_slot self.now slot }
     {
+        let unsent = self.unsent_slots();
+        if unsent == 0 {
+            return 0;
+        }
         let ready = ready_devices(&self.states);
         let faulty = faulty_devices(&self.errors);
         let mut mask: u32 = 0;
         for slot in 0..32_u8 {
-            if self.may_order(slot, ready, faulty) {
+            if self.may_order(slot, unsent, ready, faulty) {
                 mask |= 1 << slot;
             }
         }

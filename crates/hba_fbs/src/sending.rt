@@ -4,7 +4,7 @@ ghost use Rattle.std.specs.Prelude.{◌≡◌, ◌<◌, ◌&&◌, ◌||◌, not,
 ghost use Rattle.host_memory.specs.Memory.{Memory};
 ghost use Rattle.port_errors.specs.Errors.{cause_of};
 ghost use Rattle.slots.specs.Commands.{MayBeSent, after_sent};
-ghost use Rattle.slots.specs.Data.{payload as payload_of};
+ghost use Rattle.slots.specs.Data.{payload as payload_of, receivers as receivers_of};
 ghost use Rattle.slots.specs.Slots.{KeepsFree, LeavesOthers, context_of, issue_at, lowest_below, mask_below, slots_of};
 ghost use Rattle.hba_fbs.specs.Registers.{AreOwn};
 ghost use Rattle.hba_fbs.specs.Sending.{Gives, counted, has_no_setup, host_stamp, is_due as is_due_of, is_ready as is_ready_state, is_sent, next_receiver as next_receiver_of, next_to_send as next_to_send_of, order_due, state_sent, stopped_by_bus, view_fed, view_sent};
@@ -71,12 +71,14 @@ pub(crate) fn faulty_devices(errors: &PortErrors) -> u16
     low_half(mask)
 }
 
-/// Whether data is due to a device.
-pub(crate) fn is_due(slots: &SlotTable, errors: &PortErrors, dev: u8) -> bool
-    requires { dev < 16 }
+// Whether data is due to a device, given the mask of those that asked for it.
+#[tactic(auto, using(crate::proofs::ChooseLemmas::due_by))]
+fn is_due(slots: &SlotTable, errors: &PortErrors, dev: u8, asking: u16) -> bool
+    requires dev { dev < 16 }
+    requires asking { asking ≡ receivers_of slots.now }
     ensures { result ≡ is_due_of slots.now errors.now dev }
 {
-    slots.next_payload(dev).is_some() && !errors.faulty(dev)
+    has_bit(u32::from(asking), u32::from(dev)) && !errors.faulty(dev)
 }
 
 // The lowest device to which data is due.
@@ -85,8 +87,12 @@ fn lowest_due(slots: &SlotTable, errors: &PortErrors) -> Option<u8>
     ensures below { IfSome result (λ dev. dev < 16) }
     ensures due { IfSome result (λ dev. IsSome (payload_of (context_of slots.now dev))) }
 {
+    let asking = slots.receivers();
+    if asking == 0 {
+        return None;
+    }
     for dev in 0..16_u8 {
-        if is_due(slots, errors, dev) {
+        if is_due(slots, errors, dev, asking) {
             return Some(dev);
         }
     }
@@ -192,6 +198,9 @@ impl PortCore {
         ensures value { result ≡ next_to_send_of self.now }
         ensures may { IfSome result (λ slot. (slot < 32) × MayBeSent self.now.slots slot) }
     {
+        if self.slots.unsent() == 0 {
+            return None;
+        }
         let ready = ready_devices(&self.states);
         let faulty = faulty_devices(&self.errors);
         self.slots.next_command(ready, faulty)

@@ -354,14 +354,16 @@ impl Multiplier {
     }
 
     /// Whether a place has a frame for the host.
-    #[tactic(auto, using(crate::proofs::Holds::blocked))]
+    #[tactic(auto, using(crate::proofs::Holds::blocked, crate::proofs::Holds::held_if))]
     fn is_ready(&self, place: u8) -> bool
         ensures { result ≡ ready self.now place }
     {
         if place == CONTROL_PORT {
             return self.registers.notice_due() || self.answer.is_some();
         }
-        self.forwards(place) && self.ports[usize::from(place)].is_ready(true)
+        place < self.registers.ports()
+            && self.ports[usize::from(place)].is_ready(true)
+            && self.forwards(place)
     }
 
     /// The place that is served next.

@@ -1,16 +1,16 @@
 -- What holds for every table still holds after a call.
-use Rattle.std.proofs.Common.{◌≡◌, ℕ, ◌/◌, ◌<◌, Bool, true, false, not, ◌&&◌, ◌||◌, List, [], get_or, length, refl, sym, ◌∙◌, ap, subst, arith, inl, inr, Option, Some, None, get_or-set_same}
+use Rattle.std.proofs.Common.{◌≡◌, ℕ, ◌/◌, ◌<◌, Bool, true, false, not, ◌&&◌, ◌||◌, List, [], get_or, length, cond, refl, sym, ◌∙◌, ap, subst, arith, inl, inr, Option, Some, None, get_or-set_same}
 use Rattle.std.specs.Prelude.{MatchOption, IfSome, is_none}
 use Rattle.std.specs.Option.{is_some, option_map}
 use Rattle.std.proofs.lemmas.Bool.{cases_lt, and_parts, or_left, or_right, or_cases, cond-true, cond-false, not-true, false≢true}
 use Rattle.std.proofs.lemmas.List.{get_or_default, get_or_past, length-map, length-replicate}
 use Rattle.slots.specs.declared.table.Context.{Context}
-use Rattle.slots.specs.Commands.{MayBeSent, after_sent, answer_for, answer_of, answered_issue, is_slot, may_begin, may_go, sent_issue, with_sent}
+use Rattle.slots.specs.Commands.{MayBeSent, after_sent, answer_for, answer_of, answered_issue, is_slot, may_begin, may_go, sent_issue, whole_pio, with_sent}
 use Rattle.slots.specs.declared.slot.Issued.{Issued}
 use Rattle.slots.specs.declared.work.Work.{Work}
 use Rattle.slots.specs.Work.{IsWork, needs_all}
 use Rattle.slots.specs.Issued.{issued_of, with_flags}
-use Rattle.slots.specs.Slots.{Issue, Slots, DeviceSlots, issue_at, owned_by, own_issue, slots_of, freed, has_bit, holds, is_control, is_queued_issue, is_sent_pio, is_under_way, is_waiting, match_some, new_issue, sent_pio, waiting}
+use Rattle.slots.specs.Slots.{Issue, Slots, DeviceSlots, issue_at, owned_by, own_issue, slots_of, freed, has_bit, holds, is_control, is_queued_issue, is_sent_pio, is_under_way, is_waiting, is_whole_issue, match_some, new_issue, sent_pio, waiting}
 use Rattle.slots.specs.Setup.{after_setup_pio, begun, came, is_outstanding, new_context, pio_fault, pio_issue, with_own_context}
 use Rattle.slots.specs.declared.answer.Answered.{Answered}
 use Rattle.slots.specs.declared.answer.SetupError.{SetupError}
@@ -234,37 +234,45 @@ free_slot issues slot d within free = get_or_default issues slot None d within �
 -- ---- the slot that was found
 
 -- what a test found is the issue of the slot
-own_found : (test : Issue → Bool) (dev s : ℕ) (t : Slots) (d : Option Issue) → s < length t.issues → holds test (own_issue (slots_of dev t) s) ≡ true → own_issue (slots_of dev t) s ≡ get_or t.issues s d
-own_found test dev s t d lt h =
+own_found : (test : Issue → Bool) (dev s : ℕ) (t : Slots) (o : Option Issue) → o ≡ issue_at t s → s < length t.issues → holds test (own_issue (slots_of dev t) s) ≡ true → own_issue (slots_of dev t) s ≡ o
+own_found test dev s t o is lt h =
     let owns : Owns dev (issue_at t s) = owns_where test dev (issue_at t s) (ap (holds test) (sym (own_at dev t s lt)) ∙ h) in
-    own_at dev t s lt ∙ owned_same dev (issue_at t s) owns ∙ get_or_default t.issues s None d lt
+    own_at dev t s lt ∙ owned_same dev (issue_at t s) owns ∙ sym is
 
-pub answer_is : (dev s : ℕ) (t : Slots) (d : Option Issue) → s < length t.issues → waiting (slots_of dev t) ≡ Some s → holds is_waiting (own_issue (slots_of dev t) s) ≡ true
-    → answer_of (slots_of dev t) ≡ match_some (get_or t.issues s d) Answered.Nobody (answer_for s)
-answer_is dev s t d lt first waits =
+pub answer_is : (dev s : ℕ) (t : Slots) (o : Option Issue) → o ≡ issue_at t s → s < length t.issues → waiting (slots_of dev t) ≡ Some s → holds is_waiting (own_issue (slots_of dev t) s) ≡ true
+    → answer_of (slots_of dev t) ≡ match_some o Answered.Nobody (answer_for s)
+answer_is dev s t o is lt first waits =
     let own : DeviceSlots = slots_of dev t in
     ap (λ (m : Option ℕ). match_some m Answered.Nobody (λ slot. match_some (own_issue own slot) Answered.Nobody (answer_for slot))) first
-    ∙ ap (λ (o : Option Issue). match_some o Answered.Nobody (answer_for s)) (own_found is_waiting dev s t d lt waits)
+    ∙ ap (λ (o : Option Issue). match_some o Answered.Nobody (answer_for s)) (own_found is_waiting dev s t o is lt waits)
 
-pub pio_issue_is : (dev s : ℕ) (t : Slots) (d : Option Issue) → s < length t.issues → sent_pio (slots_of dev t) ≡ Some s → holds is_sent_pio (own_issue (slots_of dev t) s) ≡ true → pio_issue (slots_of dev t) ≡ get_or t.issues s d
-pio_issue_is dev s t d lt first h =
+pub pio_issue_is : (dev s : ℕ) (t : Slots) (o : Option Issue) → o ≡ issue_at t s → s < length t.issues → sent_pio (slots_of dev t) ≡ Some s → holds is_sent_pio (own_issue (slots_of dev t) s) ≡ true → pio_issue (slots_of dev t) ≡ o
+pio_issue_is dev s t o is lt first h =
     let own : DeviceSlots = slots_of dev t in
     let none : Option Issue = None in
-    ap (λ (m : Option ℕ). match_some m none (own_issue own)) first ∙ own_found is_sent_pio dev s t d lt h
+    ap (λ (m : Option ℕ). match_some m none (own_issue own)) first ∙ own_found is_sent_pio dev s t o is lt h
 
-pub pio_set_up : (dev s count : ℕ) (to_host : Bool) (t : Slots) (d : Option Issue) → s < length t.issues → sent_pio (slots_of dev t) ≡ Some s → holds is_sent_pio (own_issue (slots_of dev t) s) ≡ true
-    → pio_fault (pio_issue (slots_of dev t)) count to_host ≡ None → after_setup_pio (slots_of dev t) count to_host ≡ with_own_context (slots_of dev t) (new_context s (match_some (get_or t.issues s d) 0 came) count to_host)
-pio_set_up dev s count to_host t d lt first h fault =
+pub pio_set_up : (dev s count : ℕ) (to_host : Bool) (t : Slots) (o : Option Issue) → o ≡ issue_at t s → s < length t.issues → sent_pio (slots_of dev t) ≡ Some s → holds is_sent_pio (own_issue (slots_of dev t) s) ≡ true
+    → pio_fault (pio_issue (slots_of dev t)) count to_host ≡ None → after_setup_pio (slots_of dev t) count to_host ≡ with_own_context (slots_of dev t) (new_context s (match_some o 0 came) count to_host)
+pio_set_up dev s count to_host t o is lt first h fault =
     let own : DeviceSlots = slots_of dev t in
     let f = found is_sent_pio dev s t lt h in
     let own_is_it : own_issue own s ≡ Some f.issue = own_at dev t s lt ∙ ap (owned_by dev) f.at ∙ owned_own dev f.issue f.own in
-    let at : Some f.issue ≡ get_or t.issues s d = sym f.at ∙ get_or_default t.issues s None d lt in
+    let at : Some f.issue ≡ o = sym f.at ∙ sym is in
     let set : ℕ → Issue → DeviceSlots = λ slot issue. with_own_context own (new_context slot (came issue) count to_host) in
     let ok : DeviceSlots = match_some (sent_pio own) own (λ slot. match_some (own_issue own slot) own (set slot)) in
     cond-false (is_some (pio_fault (pio_issue own) count to_host)) own ok (ap is_some fault)
     ∙ ap (λ (m : Option ℕ). match_some m own (λ slot. match_some (own_issue own slot) own (set slot))) first
     ∙ ap (λ (o : Option Issue). match_some o own (set s)) own_is_it
     ∙ ap (λ (o : Option Issue). with_own_context own (new_context s (match_some o 0 came) count to_host)) at
+
+pub pio_whole : (dev s : ℕ) (t : Slots) (o : Option Issue) → o ≡ issue_at t s → s < length t.issues → sent_pio (slots_of dev t) ≡ Some s → holds is_sent_pio (own_issue (slots_of dev t) s) ≡ true → holds is_whole_issue o ≡ true
+    → whole_pio (slots_of dev t) ≡ Some s
+pio_whole dev s t o is lt first h whole =
+    let own : DeviceSlots = slots_of dev t in
+    let none : Option ℕ = None in
+    ap (λ (m : Option ℕ). match_some m none (λ slot. cond (holds is_whole_issue (own_issue own slot)) (Some slot) none)) first
+    ∙ ap (λ (b : Bool). cond b (Some s) none) (ap (holds is_whole_issue) (own_found is_sent_pio dev s t o is lt h) ∙ whole)
 
 pub pio_refused : (dev count : ℕ) (to_host : Bool) (t : Slots) (fault : SetupError) → pio_fault (pio_issue (slots_of dev t)) count to_host ≡ Some fault → slots_of dev t ≡ after_setup_pio (slots_of dev t) count to_host
 pio_refused dev count to_host t fault h = sym (cond-true (is_some (pio_fault (pio_issue (slots_of dev t)) count to_host)) (slots_of dev t) _ (ap is_some h))

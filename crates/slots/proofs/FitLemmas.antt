@@ -1,10 +1,9 @@
 -- A context of new bytes lies within its issue.
-use Rattle.std.proofs.Common.{◌≡◌, ℕ, ◌+◌, ◌%◌, ◌<◌, ◌≤◌, Bool, true, false, not, ◌&&◌, ◌||◌, nat_eq, nat_lt, nat_le, List, get_or, length, refl, sym, ◌∙◌, ap, subst, arith, inl, inr, Option, Some, None}
+use Rattle.std.proofs.Common.{◌≡◌, ℕ, ◌+◌, ◌%◌, ◌<◌, ◌≤◌, Bool, true, false, not, ◌&&◌, ◌||◌, nat_eq, nat_lt, nat_le, List, length, refl, sym, ◌∙◌, ap, subst, arith, inl, inr, Option, Some, None}
 use Rattle.std.specs.Prelude.{MatchOption, if◌then◌else◌, Result, Ok, Err}
 use Rattle.std.specs.Bool.{beq}
 use Rattle.std.specs.Option.{option_or}
 use Rattle.std.proofs.lemmas.Bool.{and_parts, or_left, or_right, cases_lt, eqb-true, eqb-false, ltb-false, false≢true}
-use Rattle.std.proofs.lemmas.List.{get_or_default}
 use Rattle.slots.specs.declared.table.Context.{Context}
 use Rattle.slots.specs.declared.work.Kind.{Kind}
 use Rattle.slots.specs.declared.work.Kind.TheVariants.{QueuedRead, QueuedWrite, DmaIn, DmaOut, PioIn, PioOut, NoData, Control}
@@ -160,11 +159,10 @@ set_up_at : (dev s offset count : ℕ) (to_host : Bool) (o : Option Issue) → s
 set_up_at dev s offset count to_host None h = cc
 set_up_at dev s offset count to_host (Some i) h = set_up_own dev s offset count to_host i (nat_eq i.dev dev) refl (is_outstanding i) refl h
 
-pub set_up_inside : (dev s offset count : ℕ) (to_host : Bool) (t : Slots) (d : Option Issue) → IsTable t → s < 32 → setup_fault (owned_by dev (get_or t.issues s d)) offset count to_host ≡ None
+pub set_up_inside : (dev s offset count : ℕ) (to_host : Bool) (t : Slots) (o : Option Issue) → o ≡ issue_at t s → IsTable t → s < 32 → setup_fault (owned_by dev o) offset count to_host ≡ None
     → IsContext dev t (new_context s offset count to_host)
-set_up_inside dev s offset count to_host t d is below h =
-    let at : issue_at t s ≡ get_or t.issues s d = get_or_default t.issues s None d (omega (arith, below, is.slots)) in
-    (below, set_up_at dev s offset count to_host (issue_at t s) (ap (λ (o : Option Issue). setup_fault (owned_by dev o) offset count to_host) at ∙ h))
+set_up_inside dev s offset count to_host t o at is below h =
+    (below, set_up_at dev s offset count to_host (issue_at t s) (ap (λ (x : Option Issue). setup_fault (owned_by dev x) offset count to_host) (sym at) ∙ h))
 
 -- ---- a PIO Setup for a PIO data-out
 
@@ -226,24 +224,24 @@ none_or : (o p : Option SetupError) → option_or o p ≡ None → o ≡ None
 none_or None p h = refl
 none_or (Some e) p h = cc
 
-out_fits : (dev s count : ℕ) (to_host : Bool) (t : Slots) (d : Option Issue) → IsTable t → (o : Out dev s t) → match_some (get_or t.issues s d) (Some NotOutstanding) (out_fault count to_host) ≡ None
+out_fits : (dev s count : ℕ) (to_host : Bool) (t : Slots) (d : Option Issue) → d ≡ issue_at t s → (o : Out dev s t) → match_some d (Some NotOutstanding) (out_fault count to_host) ≡ None
     → (out_fault count to_host o.issue ≡ None) × Fits o.issue (came o.issue) count to_host
 out_fits dev s count to_host t d is o h =
-    let at : get_or t.issues s d ≡ Some o.issue = sym (get_or_default t.issues s None d (omega (arith, o.below, is.slots))) ∙ o.here in
+    let at : d ≡ Some o.issue = is ∙ o.here in
     let fault : out_fault count to_host o.issue ≡ None = sym (ap (λ (x : Option Issue). match_some x (Some NotOutstanding) (out_fault count to_host)) at) ∙ h in
     (fault, fits o.issue (came o.issue) count to_host (none_or (transfer_fault o.issue (came o.issue) count to_host) (long_fault count) fault))
 
-came_at : (dev s n : ℕ) (t : Slots) (d : Option Issue) → IsTable t → (o : Out dev s t) → n ≡ match_some (get_or t.issues s d) 0 came → n ≡ came o.issue
+came_at : (dev s n : ℕ) (t : Slots) (d : Option Issue) → d ≡ issue_at t s → (o : Out dev s t) → n ≡ match_some d 0 came → n ≡ came o.issue
 came_at dev s n t d is o h =
-    let at : get_or t.issues s d ≡ Some o.issue = sym (get_or_default t.issues s None d (omega (arith, o.below, is.slots))) ∙ o.here in
+    let at : d ≡ Some o.issue = is ∙ o.here in
     h ∙ ap (λ (x : Option Issue). match_some x 0 came) at
 
-pub out_inside : (dev s count : ℕ) (to_host : Bool) (t : Slots) (d e : Option Issue) (n : ℕ) → IsTable t → sent_out (slots_of dev t) ≡ Some s
-    → match_some (get_or t.issues s d) (Some NotOutstanding) (out_fault count to_host) ≡ None → n ≡ match_some (get_or t.issues s e) 0 came
+pub out_inside : (dev s count : ℕ) (to_host : Bool) (t : Slots) (d : Option Issue) → d ≡ issue_at t s → (e : Option Issue) → e ≡ issue_at t s → (n : ℕ) → IsTable t → sent_out (slots_of dev t) ≡ Some s
+    → match_some d (Some NotOutstanding) (out_fault count to_host) ≡ None → n ≡ match_some e 0 came
     → IsContext dev t (activated (new_context s n count false))
-out_inside dev s count to_host t d e n is first none came_is =
+out_inside dev s count to_host t d di e ei n is first none came_is =
     let o = out_of dev s t is first in
-    let f = (out_fits dev s count to_host t d is o none).1 in
+    let f = (out_fits dev s count to_host t d di o none).1 in
     let kind = out_needs o.issue.work.kind o.out in
     let way : to_host ≡ false = sym f.way ∙ kind.1 in
     let it : IsContextOf dev (activated (new_context s (came o.issue) count false)) o.issue = record {
@@ -258,18 +256,33 @@ out_inside dev s count to_host t d e n is first none came_is =
       activates = λ h. (refl, f.some);
     } in
     let there : IsContextOf dev (activated (new_context s n count false)) o.issue =
-    subst (λ (k : ℕ). IsContextOf dev (activated (new_context s k count false)) o.issue) (sym (came_at dev s n t e is o came_is)) it in
+    subst (λ (k : ℕ). IsContextOf dev (activated (new_context s k count false)) o.issue) (sym (came_at dev s n t e ei o came_is)) it in
     (o.below, subst (λ (x : Option Issue). MatchOption x ⊥ (IsContextOf dev (activated (new_context s n count false)))) (sym o.here) there)
 
-pub out_answers : (dev s count : ℕ) (to_host : Bool) (t : Slots) (d e : Option Issue) (n : ℕ) → IsTable t → sent_out (slots_of dev t) ≡ Some s
-    → match_some (get_or t.issues s d) (Some NotOutstanding) (out_fault count to_host) ≡ None → n ≡ match_some (get_or t.issues s e) 0 came
+pub out_answers : (dev s count : ℕ) (to_host : Bool) (t : Slots) (d : Option Issue) → d ≡ issue_at t s → (e : Option Issue) → e ≡ issue_at t s → (n : ℕ) → IsTable t → sent_out (slots_of dev t) ≡ Some s
+    → match_some d (Some NotOutstanding) (out_fault count to_host) ≡ None → n ≡ match_some e 0 came
     → out_setup (slots_of dev t) count to_host ≡ Ok (activated (new_context s n count false))
-out_answers dev s count to_host t d e n is first none came_is =
+out_answers dev s count to_host t d di e ei n is first none came_is =
     let own : DeviceSlots = slots_of dev t in
     let o = out_of dev s t is first in
-    let fault = (out_fits dev s count to_host t d is o none).0 in
+    let fault = (out_fits dev s count to_host t d di o none).0 in
     let bad : Result Context SetupError = Err NotOutstanding in
     ap (λ (x : Option ℕ). match_some x bad (λ slot. match_some (own_issue own slot) bad (out_context slot count to_host))) first
     ∙ ap (λ (x : Option Issue). match_some x bad (out_context s count to_host)) o.own
     ∙ ap (λ (x : Option SetupError). context_or x (dma_context s (came o.issue) count false true)) fault
-    ∙ ap (λ (k : ℕ). Ok (activated (new_context s k count false))) (sym (came_at dev s n t e is o came_is))
+    ∙ ap (λ (k : ℕ). Ok (activated (new_context s k count false))) (sym (came_at dev s n t e ei o came_is))
+
+context_refused : (p : Option SetupError) (fault : SetupError) (c : Context) → p ≡ Some fault → context_or p c ≡ Err fault
+context_refused p fault c is = ap (λ (x : Option SetupError). context_or x c) is
+
+pub out_refuses : (dev s count : ℕ) (to_host : Bool) (t : Slots) (d : Option Issue) → d ≡ issue_at t s → (fault : SetupError) → IsTable t → sent_out (slots_of dev t) ≡ Some s
+    → match_some d (Some NotOutstanding) (out_fault count to_host) ≡ Some fault → out_setup (slots_of dev t) count to_host ≡ Err fault
+out_refuses dev s count to_host t d di fault is first refused =
+    let own : DeviceSlots = slots_of dev t in
+    let o = out_of dev s t is first in
+    let at : d ≡ Some o.issue = di ∙ o.here in
+    let why : out_fault count to_host o.issue ≡ Some fault = sym (ap (λ (x : Option Issue). match_some x (Some NotOutstanding) (out_fault count to_host)) at) ∙ refused in
+    let bad : Result Context SetupError = Err NotOutstanding in
+    ap (λ (x : Option ℕ). match_some x bad (λ slot. match_some (own_issue own slot) bad (out_context slot count to_host))) first
+    ∙ ap (λ (x : Option Issue). match_some x bad (out_context s count to_host)) o.own
+    ∙ context_refused (out_fault count to_host o.issue) fault (dma_context s (came o.issue) count false true) why

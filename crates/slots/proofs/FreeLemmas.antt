@@ -158,14 +158,6 @@ unless_one issues s below =
       | inr ne ↦ cond-false (nat_eq k s) None (get_or issues k None) (ne_eqb k s ne) ∙ get_or_default issues k None d kt ∙ sym (get_or-set_other issues s k None d ne)
     ])
 
--- the table after a slot and the device's context were written
-pub freed_one : (dev s : ℕ) (t : Slots) (o : Option Issue) (m : Option Context) → s < length t.issues → o ≡ None → m ≡ context_unless (is_slot s) (context_of t dev)
-    → record { issues = set t.issues s o; contexts = set t.contexts dev m } ≡ freed_table dev (is_slot s) t
-freed_one dev s t o m below free ends =
-    ap (λ (x : Option Issue). record { issues = set t.issues s x; contexts = set t.contexts dev m }) free
-    ∙ ap (λ (x : List (Option Issue)). record { issues = x; contexts = set t.contexts dev m }) (sym (unless_one t.issues s below))
-    ∙ ap (λ (x : Option Context). record { issues = issues_unless (is_slot s) t.issues; contexts = set t.contexts dev x }) ends
-
 pub one_own : (dev s : ℕ) (t : Slots) → Owns dev (issue_at t s) → AreOwn dev (is_slot s) t
 one_own dev s t owns k lt passes = subst (λ (i : ℕ). Owns dev (issue_at t i)) (sym (eqb-true k s passes)) owns
 

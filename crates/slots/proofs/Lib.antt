@@ -7,6 +7,7 @@ mod TestedLemmas
 mod StretchLemmas
 mod MergeLemmas
 mod MaskLemmas
+mod ListLemmas
 mod TableLemmas
 mod FreeLemmas
 mod CallLemmas

@@ -1,13 +1,13 @@
 -- Data of a transfer (Serial ATA 3.x, 10.5, Data and DMA Activate FISes): what may come or go, and what it
 -- leaves.
 use Rattle.std.specs.Prelude.{◌≡◌, ◌≤◌, ℕ, ◌+◌, ◌-◌, min, Bool, true, false, not, ◌&&◌, nat_lt, if◌then◌else◌}
-use Rattle.std.specs.Prelude.{slice_set, Option, Some, None, Result, Ok, Err, is_ok}
+use Rattle.std.specs.Prelude.{slice_set, Option, Some, None, Result, Ok, Err, is_ok, is_some}
 use Rattle.std.specs.Option.{option_map}
 use Rattle.slots.specs.declared.answer.ArriveError.{ArriveError}
 use Rattle.slots.specs.declared.answer.ArriveError.TheVariants.{Stray, Overflow}
 use Rattle.slots.specs.declared.table.Context.{Context}
 use Rattle.slots.specs.Bytes.{with_bytes}
-use Rattle.slots.specs.Slots.{Issue, DeviceSlots, own_issue, match_some}
+use Rattle.slots.specs.Slots.{Issue, DeviceSlots, Slots, context_of, mask_below, own_issue, match_some}
 use Rattle.slots.specs.Work.{is_read}
 
 -- the issue with count more bytes transferred, from byte offset on
@@ -61,6 +61,10 @@ payload_len c = min c.left max_payload
 abbrev pub payload : Option Context → Option (ℕ × ℕ × ℕ)
 payload None = None
 payload (Some c) = if c.activated then Some (c.slot, c.next, payload_len c) else None
+
+-- the devices to which data goes next, as a mask
+abbrev pub receivers : Slots → ℕ
+receivers t = mask_below (λ dev. is_some (payload (context_of t dev))) 16
 
 -- a command of the device that moves data to it and has these bytes
 pub record IsWriteOf (dev offset len : ℕ) (issue : Issue) : Type 0 where

@@ -6,6 +6,7 @@ pub mod Runs
 pub mod RunLaws
 pub mod Saved
 pub mod Laws
+pub mod Masks
 pub mod Setup
 pub mod Slots
 pub mod Stretches

@@ -135,6 +135,10 @@ is_queued_issue issue = is_queued issue.work.kind
 abbrev pub is_waiting : Issue → Bool
 is_waiting issue = issue.sent && not issue.answered
 
+-- its command was not sent
+abbrev pub is_unsent : Issue → Bool
+is_unsent issue = not issue.sent
+
 -- the command of a PIO data-in was sent
 abbrev pub is_sent_pio : Issue → Bool
 is_sent_pio issue = issue.sent && is_pio issue.work.kind

@@ -9,8 +9,9 @@
 
 mod answer;
 mod laws;
+mod list;
+mod mask;
 mod moved;
-mod scan;
 mod slot;
 mod table;
 mod work;

@@ -5,11 +5,11 @@ ghost use Rattle.std.specs.Option.{ForSome, option_map};
 ghost use Rattle.slots.specs.Bytes.{stretches_of, with_bytes};
 ghost use Rattle.slots.specs.Tested.{has_context as has_context_of, is_moving as is_moving_of, is_open as is_open_of, is_proper as is_proper_issue};
 ghost use Rattle.slots.specs.Work.{IsWork};
-ghost use Rattle.slots.specs.Commands.{IsSlotAnswer, answer_for as answer_for_issue, answered_issue, is_sent_beside as is_sent_beside_issue, is_unanswered as is_unanswered_issue, sent_issue};
+ghost use Rattle.slots.specs.Commands.{IsSlotAnswer, answer_for as answer_for_issue, answered_issue, is_any, is_sent_beside as is_sent_beside_issue, is_unanswered as is_unanswered_issue, sent_issue};
 ghost use Rattle.slots.specs.Data.{moved_over};
 ghost use Rattle.slots.specs.Issued.{issued_of, with_flags};
 ghost use Rattle.slots.specs.Setup.{came as came_in, is_outstanding as is_outstanding_issue, long_fault as long_fault_of, out_fault as out_fault_of, pio_fault as pio_fault_of, setup_fault as setup_fault_of, transfer_fault as transfer_fault_of};
-ghost use Rattle.slots.specs.Slots.{holds, is_done_issue, is_out_issue, is_queued_issue, is_short_issue, is_sent_pio as is_sent_pio_issue, is_waiting as is_waiting_issue, is_whole_issue, match_some, new_issue, owned_by};
+ghost use Rattle.slots.specs.Slots.{holds, is_done_issue, is_out_issue, is_queued_issue, is_short_issue, is_sent_pio as is_sent_pio_issue, is_unsent as is_unsent_issue, is_waiting as is_waiting_issue, is_whole_issue, match_some, new_issue, owned_by};
 
 mod saved;
 
@@ -234,6 +234,23 @@ impl Slot {
     {
         match self.issued {
             Some(issued) => issued.work.kind.is_queued(),
+            None => false,
+        }
+    }
+
+    /// Whether a command is issued.
+    pub(crate) fn is_issued(&self) -> bool
+        ensures { result ≡ holds is_any self.now }
+    {
+        self.issued.is_some()
+    }
+
+    /// Whether a command is issued and was not sent.
+    pub(crate) fn is_unsent(&self) -> bool
+        ensures { result ≡ holds is_unsent_issue self.now }
+    {
+        match self.issued {
+            Some(issued) => !issued.sent,
             None => false,
         }
     }

@@ -1,24 +1,22 @@
 //! The table of all slots.
 
-ghost use Rattle.std.specs.Prelude.{◌≡◌, ℕ, [], ◌&&◌, ◌+◌, ◌%◌, ◌<◌, ◌≤◌, ◌↔◌, Some, None, IsSome, IsErr, IfNone, IfSome, OnOk, OnErr, MatchOption, false, true, is_ok, is_none};
+ghost use Rattle.std.specs.Prelude.{◌≡◌, ℕ, [], ◌&&◌, ◌+◌, ◌%◌, ◌<◌, ◌≤◌, ◌↔◌, Some, None, IsSome, IsErr, IfNone, IfSome, OnOk, OnErr, MatchOption, false, true, is_ok, is_none, is_some};
 ghost use Rattle.std.specs.Option.{option_map};
 ghost use Rattle.std.specs.Result.{result_err};
 ghost use Rattle.slots.specs.Commands.{IsSlotAnswer, MayBeSent, StaysWithout, after_answer, after_complete, after_issue, after_pio_done, after_sent, answer_of, any_sent_beside as any_sent_beside_of, completed, is_any, is_slot, is_unanswered, may_begin as may_begin_of, may_go as may_go_of, next_slot, own_slots, slots_where, table_after_issue, whole_pio, with_answered, with_sent};
-ghost use Rattle.slots.specs.Data.{IsWriteOf, activated as activated_context, after_activate, after_arrive, after_payload, arrive_answer, gone_over, may_activate, payload, payload_len as payload_len_of, receiving_slot};
+ghost use Rattle.slots.specs.Data.{IsWriteOf, activated as activated_context, after_activate, after_arrive, after_payload, arrive_answer, gone_over, may_activate, payload, payload_len as payload_len_of, receivers as receivers_of, receiving_slot};
 ghost use Rattle.slots.specs.Issued.{with_flags};
 ghost use Rattle.slots.specs.Setup.{after_setup, after_setup_out, after_setup_pio, begun, dma_context, new_context, out_setup, pio_fault, pio_issue, setup_fault, with_own_context};
-ghost use Rattle.slots.specs.Slots.{KeepsFree, LeavesOthers, context_of, context_unless, freed, has_bit as has_bit_of, holds, is_control, is_queued_issue, is_waiting, issue_at, no_own_slots, no_slots, own_issue, owned_by, sent_out as sent_out_of, sent_pio as sent_pio_of, slots_of, waiting};
+ghost use Rattle.slots.specs.Slots.{KeepsFree, LeavesOthers, context_of, context_unless, freed, has_bit as has_bit_of, holds, is_control, is_queued_issue, is_unsent, is_waiting, issue_at, no_own_slots, no_slots, own_issue, owned_by, sent_out as sent_out_of, sent_pio as sent_pio_of, slots_of, waiting};
 ghost use Rattle.slots.specs.Table.{IsContext, IsFresh, IsTable};
 ghost use Rattle.slots.specs.Work.{IsWork};
 
 mod saved;
 
 use crate::answer::{Answered, ArriveError, Busy, Completed, SetupError, Stray};
-use crate::scan::{
-    any_sent_beside, device_slots, done_slots, free_slots, has_bit, has_outstanding, issued_slots,
-    pio_slot, queued_slots, short_slots, unanswered_slots, waiting_slot,
-};
-use crate::slot::{Issued, Slot};
+use crate::list::SlotList;
+use crate::mask::{has_bit, lowest_bit, without};
+use crate::slot::Issued;
 use crate::work::Work;
 use std::marker::Model;
 
@@ -80,7 +78,7 @@ impl Context {
 /// What is issued in each slot, which of its bytes were transferred, and each device's last setup.
 #[derive(Drop)]
 pub struct SlotTable {
-    slots: [Slot; 32],
+    slots: SlotList,
     contexts: [Option<Context>; 16],
 }
 
@@ -101,7 +99,7 @@ impl SlotTable {
         ensures { result ≡ no_slots }
     {
         SlotTable {
-            slots: Default::default(),
+            slots: SlotList::free(),
             contexts: [None; 16],
         }
     }
@@ -110,7 +108,7 @@ impl SlotTable {
     pub fn keeps_rules(&self)
         ensures { IsTable self.now }
     {
-        let _ = &self.slots;
+        let _ = &self.contexts;
     }
 
     /// Issues some work for a device in a free slot.
@@ -125,10 +123,10 @@ impl SlotTable {
         ensures err { OnErr result (self.new ≡ self.old) }
         ensures others { LeavesOthers dev self.old self.new }
     {
-        if self.slots[slot as usize].issued().is_some() {
+        if self.slots.at(slot).issued().is_some() {
             return Err(Busy);
         }
-        self.slots[slot as usize].start(dev, work);
+        self.slots.start(slot, dev, work);
         Ok(())
     }
 
@@ -144,7 +142,7 @@ impl SlotTable {
             (λ issue. LeavesOthers issue.dev self.old self.new) }
         ensures frees { KeepsFree self.old self.new }
     {
-        let Some(issued) = self.slots[slot as usize].issued() else {
+        let Some(issued) = self.slots.at(slot).issued() else {
             return;
         };
         if issued.work.kind.is_control() {
@@ -165,7 +163,7 @@ impl SlotTable {
         ensures others { LeavesOthers dev self.old self.new }
         ensures frees { KeepsFree self.old self.new }
     {
-        self.slots[slot as usize].mark_sent();
+        self.slots.mark_sent(slot);
     }
 
     /// Frees a slot of a device.
@@ -177,7 +175,7 @@ impl SlotTable {
         ensures others { LeavesOthers dev self.old self.new }
         ensures frees { KeepsFree self.old self.new }
     {
-        self.slots[slot as usize].clear();
+        self.slots.clear(slot);
         self.contexts[dev as usize] = context_without(self.contexts[dev as usize], slot);
     }
 
@@ -191,7 +189,7 @@ impl SlotTable {
         ensures others { LeavesOthers dev self.old self.new }
         ensures frees { KeepsFree self.old self.new }
     {
-        self.slots[slot as usize].mark_answered();
+        self.slots.mark_answered(slot);
     }
 
     /// A device answers the command that waits, with a Register Device to Host FIS that has neither BSY nor
@@ -205,10 +203,10 @@ impl SlotTable {
         ensures frees { KeepsFree self.old self.new }
         ensures stays { StaysWithout result self.old self.new }
     {
-        let Some(slot) = waiting_slot(&self.slots, dev) else {
+        let Some(slot) = self.slots.waiting(dev) else {
             return Answered::Nobody;
         };
-        let answer = self.slots[slot as usize].answer_for(slot);
+        let answer = self.slots.at(slot).answer_for(slot);
         match answer {
             Answered::Nobody | Answered::Short(_) => {}
             Answered::Queued(slot) => self.answer(dev, slot),
@@ -265,7 +263,7 @@ impl SlotTable {
         ensures frees { KeepsFree self.old self.new }
         ensures err { OnErr result (self.new ≡ self.old) }
     {
-        if let Some(fault) = self.slots[tag as usize].setup_fault(dev, offset, count, to_host) {
+        if let Some(fault) = self.slots.at(tag).setup_fault(dev, offset, count, to_host) {
             return Err(fault);
         }
         let context = Context::new(tag, offset, count, to_host);
@@ -288,13 +286,13 @@ impl SlotTable {
         ensures frees { KeepsFree self.old self.new }
         ensures err { OnErr result (self.new ≡ self.old) }
     {
-        let Some(slot) = pio_slot(&self.slots, dev) else {
+        let Some(slot) = self.slots.sent_pio(dev) else {
             return Err(SetupError::NotOutstanding);
         };
-        if let Some(fault) = self.slots[slot as usize].pio_fault(count, to_host) {
+        if let Some(fault) = self.slots.at(slot).pio_fault(count, to_host) {
             return Err(fault);
         }
-        let offset = self.slots[slot as usize].came();
+        let offset = self.slots.at(slot).came();
         self.set_context(dev, Context::new(slot, offset, count, to_host));
         Ok(())
     }
@@ -304,7 +302,7 @@ impl SlotTable {
         requires { dev < 16 }
         ensures { result ≡ sent_pio_of (slots_of dev self.now) }
     {
-        pio_slot(&self.slots, dev)
+        self.slots.sent_pio(dev)
     }
 
     // The slot of a device's PIO data-out that was sent.
@@ -313,8 +311,8 @@ impl SlotTable {
         ensures value { result ≡ sent_out_of (slots_of dev self.now) }
         ensures below { IfSome result (λ slot. slot < 32) }
     {
-        let slot = waiting_slot(&self.slots, dev)?;
-        self.slots[slot as usize].is_out().then_some(slot)
+        let slot = self.slots.waiting(dev)?;
+        self.slots.at(slot).is_out().then_some(slot)
     }
 
     /// A PIO Setup FIS of a device for its PIO data-out that was sent: the device asks for the next `count`
@@ -331,10 +329,10 @@ impl SlotTable {
         let Some(slot) = self.sent_out(dev) else {
             return Err(SetupError::NotOutstanding);
         };
-        if let Some(fault) = self.slots[slot as usize].out_fault(count, to_host) {
+        if let Some(fault) = self.slots.at(slot).out_fault(count, to_host) {
             return Err(fault);
         }
-        let offset = self.slots[slot as usize].came();
+        let offset = self.slots.at(slot).came();
         let context = Context::new(slot, offset, count, false).activated();
         self.set_context(dev, context);
         Ok(context)
@@ -350,8 +348,7 @@ impl SlotTable {
         ensures others { LeavesOthers dev self.old self.new }
         ensures frees { KeepsFree self.old self.new }
     {
-        let at = context.slot as usize;
-        self.slots[at].add(context.next, count);
+        self.slots.add(context.slot, context.next, count);
         self.contexts[dev as usize] = Some(Context {
             next: context.next + count,
             left: context.left - count,
@@ -444,9 +441,9 @@ impl SlotTable {
         ensures others { LeavesOthers dev self.old self.new }
         ensures frees { KeepsFree self.old self.new }
     {
-        let done = done_slots(&self.slots, dev, mask);
-        let short = short_slots(&self.slots, dev, mask);
-        free_slots(&mut self.slots, done);
+        let done = self.slots.done(dev, mask);
+        let short = self.slots.short(dev, mask);
+        self.slots.clear_all(done);
         self.contexts[dev as usize] = context_left(self.contexts[dev as usize], done);
         Completed { done, short }
     }
@@ -462,8 +459,8 @@ impl SlotTable {
         ensures frees { KeepsFree self.old self.new }
         ensures stays { IfNone result (self.new ≡ self.old) }
     {
-        let slot = pio_slot(&self.slots, dev)?;
-        if !self.slots[slot as usize].is_whole() {
+        let slot = self.slots.sent_pio(dev)?;
+        if !self.slots.at(slot).is_whole() {
             return None;
         }
         self.free(dev, slot);
@@ -478,8 +475,8 @@ impl SlotTable {
         ensures others { LeavesOthers dev self.old self.new }
         ensures frees { KeepsFree self.old self.new }
     {
-        let flushed = device_slots(&self.slots, dev);
-        free_slots(&mut self.slots, flushed);
+        let flushed = self.slots.of_device(dev);
+        self.slots.clear_all(flushed);
         self.contexts[dev as usize] = None;
         flushed
     }
@@ -490,7 +487,7 @@ impl SlotTable {
         ensures after { self.new ≡ no_slots }
         ensures frees { KeepsFree self.old self.new }
     {
-        let flushed = issued_slots(&self.slots);
+        let flushed = self.slots.issued();
         *self = SlotTable::new();
         flushed
     }
@@ -500,14 +497,41 @@ impl SlotTable {
     pub fn ci(&self) -> u32
         ensures { result ≡ slots_where is_unanswered self.now }
     {
-        unanswered_slots(&self.slots)
+        self.slots.unanswered()
     }
 
     /// The mask of the slots with an issued queued command, as PxSACT shows it (AHCI 1.3.1, 3.3.13).
     pub fn queued(&self) -> u32
         ensures { result ≡ slots_where is_queued_issue self.now }
     {
-        queued_slots(&self.slots)
+        self.slots.queued()
+    }
+
+    /// The mask of the slots in which a command is issued.
+    pub fn issued(&self) -> u32
+        ensures { result ≡ slots_where is_any self.now }
+    {
+        self.slots.issued()
+    }
+
+    /// The mask of the slots with an issued command that was not sent.
+    pub fn unsent(&self) -> u32
+        ensures { result ≡ slots_where is_unsent self.now }
+    {
+        self.slots.unsent()
+    }
+
+    /// The devices to which data goes next, as a mask: those for which [`next_payload`](Self::next_payload) has some.
+    pub fn receivers(&self) -> u16
+        ensures { result ≡ receivers_of self.now }
+    {
+        let mut found: u32 = 0;
+        for dev in 0..16_u8 {
+            if is_due(self.contexts[dev as usize]) {
+                found |= 1 << dev;
+            }
+        }
+        found as u16
     }
 
     /// The device of the command in a slot.
@@ -515,7 +539,7 @@ impl SlotTable {
         requires { slot < 32 }
         ensures { result ≡ option_map (λ issue. issue.dev) (issue_at self.now slot) }
     {
-        let issued = self.slots[slot as usize].issued()?;
+        let issued = self.slots.at(slot).issued()?;
         Some(issued.dev)
     }
 
@@ -524,7 +548,7 @@ impl SlotTable {
         requires { slot < 32 }
         ensures { result ≡ option_map (λ issue. issue.work) (issue_at self.now slot) }
     {
-        let issued = self.slots[slot as usize].issued()?;
+        let issued = self.slots.at(slot).issued()?;
         Some(issued.work)
     }
 
@@ -551,7 +575,7 @@ impl SlotTable {
         requires { issued.dev < 16 }
         ensures { result ≡ may_begin_of (slots_of issued.dev self.now) (with_flags issued []) }
     {
-        !(issued.work.kind.is_dma() && has_outstanding(&self.slots, issued.dev))
+        !(issued.work.kind.is_dma() && self.slots.has_outstanding(issued.dev))
     }
 
     /// Whether a device is ready and none of its slots waits.
@@ -559,7 +583,7 @@ impl SlotTable {
         requires { dev < 16 }
         ensures { result ≡ (has_bit_of ready dev && is_none (waiting (slots_of dev self.now))) }
     {
-        has_bit(u32::from(ready), dev) && waiting_slot(&self.slots, dev).is_none()
+        has_bit(u32::from(ready), dev) && self.slots.waiting(dev).is_none()
     }
 
     /// Whether what is issued in a slot may go out next.
@@ -578,7 +602,7 @@ impl SlotTable {
         requires { slot < 32 }
         ensures { result ≡ holds (may_go_of ready faulty self.now) (issue_at self.now slot) }
     {
-        match self.slots[slot as usize].issued() {
+        match self.slots.at(slot).issued() {
             Some(issued) => self.may_go(issued, ready, faulty),
             None => false,
         }
@@ -591,10 +615,12 @@ impl SlotTable {
         ensures value { result ≡ next_slot ready faulty self.now }
         ensures may_be_sent { IfSome result (λ slot. (slot < 32) × MayBeSent self.now slot) }
     {
-        for slot in 0..32_u8 {
+        let mut rest = self.slots.unsent();
+        'walk: while let Some(slot) = lowest_bit(rest) {
             if self.is_next(slot, ready, faulty) {
                 return Some(slot);
             }
+            rest = without(rest, slot);
         }
         None
     }
@@ -611,7 +637,7 @@ impl SlotTable {
     pub fn is_sent_beside(&self, dev: u8) -> bool
         ensures { result ≡ any_sent_beside_of self.now dev }
     {
-        any_sent_beside(&self.slots, dev)
+        self.slots.any_sent_beside(dev)
     }
 
     /// The slot of a device whose command was sent and is not answered.
@@ -620,7 +646,17 @@ impl SlotTable {
         ensures value { result ≡ waiting (slots_of dev self.now) }
         ensures below { IfSome result (λ slot. slot < 32) }
     {
-        waiting_slot(&self.slots, dev)
+        self.slots.waiting(dev)
+    }
+}
+
+// Whether data of the context goes to the device next.
+fn is_due(context: Option<Context>) -> bool
+    ensures { result ≡ is_some (payload context) }
+{
+    match context {
+        Some(context) => context.activated,
+        None => false,
     }
 }
 

@@ -3,7 +3,7 @@
 ghost use Rattle.std.specs.Prelude.{◌≡◌, ◌<◌};
 ghost use Rattle.block_queue.specs.Saved.{KeepsLine, KeepsOrphan, are_in_order, fits, has_moved, has_rank_of, is_broken, is_early, is_misranked, is_wired, line_apart, line_of, orphan_apart, put_line, put_orphan};
 
-use super::{CommandQueue, Orphan, is_start, must_wait};
+use super::{CommandQueue, Orphan, is_start, must_wait, watched};
 use block_command::BlockCommand;
 use block_disk::Requests;
 use saved_state::{RestoreError, Saved, Words};
@@ -155,10 +155,12 @@ impl Saved for CommandQueue {
         if !fits(&requests, &ranks, &orphans) {
             return Err(RestoreError::Broken);
         }
+        let busy = watched(&requests, &orphans);
         Ok(CommandQueue {
             requests,
             ranks,
             orphans,
+            busy,
         })
     }
 }

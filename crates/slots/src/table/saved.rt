@@ -7,7 +7,7 @@ ghost use Rattle.slots.specs.Table.{IsTable};
 ghost use Rattle.slots.specs.Tested.{are_contexts_proper as are_contexts_proper_of, are_slots_proper as are_slots_proper_of, is_context_proper as is_context_proper_of, is_first_waiting as is_first_waiting_of, is_slot_proper as is_slot_proper_of, is_table as is_table_of};
 
 use super::{Context, SlotTable};
-use crate::scan::waiting_slot;
+use crate::list::SlotList;
 use crate::slot::{Issued, Slot};
 use saved_state::{RestoreError, Saved, Words, save_all};
 use std::alloc::{AllocError, Global};
@@ -42,32 +42,30 @@ impl Saved for Context {
 }
 
 // If this is issued in a slot and waits, whether it is the first of its device that does.
-fn is_first_waiting(slots: &[Slot; 32], slot: u8, issued: Issued) -> bool
+fn is_first_waiting(slots: &SlotList, slot: u8, issued: Issued) -> bool
     ensures { result ≡ is_first_waiting_of slots.now slot (with_flags issued []) }
 {
     if !issued.sent || issued.answered {
         return true;
     }
-    match waiting_slot(slots, issued.dev) {
+    match slots.waiting(issued.dev) {
         Some(first) => first == slot,
         None => true,
     }
 }
 
 // Whether a slot keeps the rules, beside the others.
-fn is_slot_proper(slots: &[Slot; 32], slot: u8) -> bool
+fn is_slot_proper(slots: &SlotList, slot: u8) -> bool
     requires { slot < 32 }
     ensures { result ≡ is_slot_proper_of slots.now slot }
 {
-    match slots[slot as usize].issued() {
-        Some(issued) => {
-            slots[slot as usize].is_proper() && is_first_waiting(slots, slot, issued)
-        }
+    match slots.at(slot).issued() {
+        Some(issued) => { slots.at(slot).is_proper() && is_first_waiting(slots, slot, issued) }
         None => true,
     }
 }
 
-fn are_slots_proper(slots: &[Slot; 32]) -> bool
+fn are_slots_proper(slots: &SlotList) -> bool
     ensures { result ≡ are_slots_proper_of slots.now }
 {
     for slot in 0..32_u8 {
@@ -79,20 +77,20 @@ fn are_slots_proper(slots: &[Slot; 32]) -> bool
 }
 
 // Whether a device's context is one of the command in its slot.
-fn is_context_proper(slots: &[Slot; 32], contexts: &[Option<Context>; 16], dev: u8) -> bool
+fn is_context_proper(slots: &SlotList, contexts: &[Option<Context>; 16], dev: u8) -> bool
     requires { dev < 16 }
     ensures { result ≡ is_context_proper_of slots.now contexts.now dev }
 {
     match contexts[dev as usize] {
         Some(context) => {
             let slot = context.slot;
-            slot < 32 && slots[slot as usize].has_context(dev, context)
+            slot < 32 && slots.at(slot).has_context(dev, context)
         }
         None => true,
     }
 }
 
-fn are_contexts_proper(slots: &[Slot; 32], contexts: &[Option<Context>; 16]) -> bool
+fn are_contexts_proper(slots: &SlotList, contexts: &[Option<Context>; 16]) -> bool
     ensures { result ≡ are_contexts_proper_of slots.now contexts.now }
 {
     for dev in 0..16_u8 {
@@ -104,7 +102,7 @@ fn are_contexts_proper(slots: &[Slot; 32], contexts: &[Option<Context>; 16]) -> 
 }
 
 // Whether they make up a table.
-fn is_table(slots: &[Slot; 32], contexts: &[Option<Context>; 16]) -> bool
+fn is_table(slots: &SlotList, contexts: &[Option<Context>; 16]) -> bool
     ensures { result ≡ is_table_of slots.now contexts.now }
 {
     are_slots_proper(slots) && are_contexts_proper(slots, contexts)
@@ -119,14 +117,15 @@ impl Saved for SlotTable {
 
     fn save(&self, words: &mut Words) -> Result<(), AllocError> {
         save_all(&self.contexts, words)?;
-        save_all(&self.slots, words)
+        save_all(self.slots.all(), words)
     }
 
     fn restore(alloc: Global, words: &mut Words) -> Result<SlotTable, RestoreError> {
-        let (slots, contexts) = match <([Slot; 32], [Option<Context>; 16])>::restore(alloc, words) {
+        let (list, contexts) = match <([Slot; 32], [Option<Context>; 16])>::restore(alloc, words) {
             Ok(parts) => parts,
             Err(error) => return Err(error),
         };
+        let slots = SlotList::of(list);
         if !is_table(&slots, &contexts) {
             return Err(RestoreError::Broken);
         }

@@ -1,7 +1,11 @@
 use Rattle.std.proofs.Common.{arith, sym, ◌∙◌}
 use Rattle.slots.proofs.Door.{lowest_found, lowest_none}
 use Rattle.hba_fbs.specs.Sending.{is_due}
+use Rattle.hba_fbs.proofs.ChooseLemmas.{none_due}
 use Rattle.hba_fbs.proofs.sending.lowest_due.Goals as goal
+
+pub returns-then-asking-eq0-clause-value : goal.returns-then-asking-eq0-clause-value
+returns-then-asking-eq0-clause-value c = sym (none_due c.args.slots.now c.args.errors.now (sym c.receivers-asking.ensures ∙ c.if-asking-eq0.true))
 
 pub returns-then-is_due-clause-value : goal.returns-then-is_due-clause-value
 returns-then-is_due-clause-value c =

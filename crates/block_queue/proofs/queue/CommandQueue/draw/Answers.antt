@@ -1,5 +1,5 @@
-use Rattle.block_queue.proofs.Kept.{draws_line}
+use Rattle.block_queue.proofs.Watched.{draw_kept}
 use Rattle.block_queue.proofs.queue.CommandQueue.draw.Goals as goal
 
 pub invariant_of-self : goal.invariant_of-self
-invariant_of-self c = draws_line (record { queue = c.self.inside.requests; ranks = c.self.inside.ranks; orphans = c.self.inside.orphans }) c.draw.result _ c.self.invariant c.draw.ensures.drawn c.draw.ensures.none
+invariant_of-self c = draw_kept (record { queue = c.self.inside.requests; ranks = c.self.inside.ranks; orphans = c.self.inside.orphans }) c.self.inside.busy c.draw.result _ c.self.invariant c.draw.ensures.drawn c.draw.ensures.none

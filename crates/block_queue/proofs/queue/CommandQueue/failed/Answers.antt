@@ -1,7 +1,8 @@
 use Rattle.std.proofs.Common.{refl}
 use Rattle.block_command.specs.Laws.{Fails}
-use Rattle.block_queue.proofs.Kept.{answer_line}
+use Rattle.block_queue.proofs.Watched.{answer_kept}
 use Rattle.block_queue.proofs.queue.CommandQueue.failed.Goals as goal
 
 pub invariant_of-self-2 : goal.invariant_of-self-2
-invariant_of-self-2 c = answer_line (record { queue = c.self.inside.requests; ranks = c.self.inside.ranks; orphans = c.self.inside.orphans }) c.args.place c.args.number Fails _ c.self.invariant c.requires refl c.in_ok-failed.ensures.ok
+invariant_of-self-2 c = answer_kept (record { queue = c.self.inside.requests; ranks = c.self.inside.ranks; orphans = c.self.inside.orphans }) c.self.inside.busy c.noted-self-inside.result c.args.place c.args.number Fails _ _ c.self.invariant c.requires refl c.in_ok-failed.ensures.ok
+    c.forget.ensures c.noted-self-inside.ensures

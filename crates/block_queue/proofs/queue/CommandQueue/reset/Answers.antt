@@ -22,7 +22,10 @@ loop-place-preserved c =
 pub invariant_of-self : goal.invariant_of-self
 invariant_of-self c =
     let i = c.loop-place.invariant in
-    reset_kept c.args.self.now _ _ _ (subst IsLine c.self.view_is c.self.invariant) (c.reset.ensures ∙ ap queue_reset i.queue) i.ranks i.long
+    record {
+      line = reset_kept c.args.self.now _ _ _ (subst IsLine c.self.view_is c.self.invariant.line) (c.reset.ensures ∙ ap queue_reset i.queue) i.ranks i.long;
+      watched = c.watched-self-inside.ensures;
+    }
 
 pub returns : goal.returns
 returns c =

@@ -5,8 +5,8 @@ use Rattle.block_queue.proofs.queue.CommandQueue.wire.Goals as goal
 
 pub returns-clause-below : goal.returns-clause-below
 returns-clause-below c =
-    wire_below (record { queue = c.self.inside.requests; ranks = c.self.inside.ranks; orphans = c.self.inside.orphans }) c.wire.result c.self.invariant c.wire.ensures
+    wire_below (record { queue = c.self.inside.requests; ranks = c.self.inside.ranks; orphans = c.self.inside.orphans }) c.wire.result c.self.invariant.line c.wire.ensures
 
 pub returns-clause-holds : goal.returns-clause-holds
 returns-clause-holds c =
-    wire_holds c.args.self.now c.wire.result (subst IsLine c.self.view_is c.self.invariant) (c.wire.ensures ∙ ap (λ l. l.queue.table.wire) c.self.view_is)
+    wire_holds c.args.self.now c.wire.result (subst IsLine c.self.view_is c.self.invariant.line) (c.wire.ensures ∙ ap (λ l. l.queue.table.wire) c.self.view_is)

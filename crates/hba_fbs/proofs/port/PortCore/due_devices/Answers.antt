@@ -2,8 +2,15 @@ use Rattle.std.proofs.Common.{◌≡◌, ◌<◌, arith, sym, ap, ◌∙◌}
 use Rattle.slots.specs.Slots.{has_bit, mask_below}
 use Rattle.slots.proofs.Door.{has_bit_below, mask_fits, mask_none, mask_same, mask_set}
 use Rattle.hba_fbs.specs.Choosing.{may_feed}
+use Rattle.hba_fbs.proofs.ChooseLemmas.{none_feed, none_feed_at}
 use Rattle.hba_fbs.proofs.port.PortCore.due_devices.Goals.{then-may_feed, else-may_feed}
 use Rattle.hba_fbs.proofs.port.PortCore.due_devices.Goals as goal
+
+pub returns-then-asking-eq0-clause-value : goal.returns-then-asking-eq0-clause-value
+returns-then-asking-eq0-clause-value c = none_feed c.args.self.now (sym c.asking_devices-asking.ensures ∙ c.if-asking-eq0.true)
+
+pub returns-then-asking-eq0-clause-exact : goal.returns-then-asking-eq0-clause-exact
+returns-then-asking-eq0-clause-exact c = none_feed_at c.args.self.now (sym c.asking_devices-asking.ensures ∙ c.if-asking-eq0.true)
 
 pub loop-dev-init : goal.loop-dev-init
 loop-dev-init c = sym (mask_none _)

@@ -1,9 +1,14 @@
-use Rattle.std.proofs.Common.{ℕ, ap, ◌∙◌}
+use Rattle.std.proofs.Common.{ℕ, ap, sym, ◌∙◌}
 use Rattle.slots.specs.Slots.{mask_below}
 use Rattle.slots.specs.Commands.{next_slot}
 use Rattle.hba_fbs.specs.Sending.{is_ready, next_to_send}
 use Rattle.hba_fbs.specs.Views.{state_at}
+use Rattle.hba_fbs.proofs.ChooseLemmas.{none_next}
 use Rattle.hba_fbs.proofs.port.PortCore.next_to_send.Goals as goal
+
+pub returns-then-unsent-eq0-clause-value : goal.returns-then-unsent-eq0-clause-value
+unfolding next_to_send
+returns-then-unsent-eq0-clause-value c = rw (← c.self.view_is) (sym (none_next _ _ c.self.inside.slots (sym c.unsent.ensures ∙ c.if-unsent-eq0.true)))
 
 pub returns-clause-value : goal.returns-clause-value
 unfolding next_to_send

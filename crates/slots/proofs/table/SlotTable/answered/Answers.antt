@@ -10,8 +10,8 @@ returns-in-Queued-clause-answer c =
     let t : Slots = record { issues = c.self.inside.slots; contexts = c.self.inside.contexts } in
     let dev = c.args.dev in
     let s = c.in-Some.slot in
-    let there = rw c.in-Some.is at c.waiting_slot.ensures.there in
-    let is = answer_is dev s t c.index-self-slot.result (omega (arith, c.self.invariant.slots, there.0)) (sym c.waiting_slot.ensures.value ∙ c.in-Some.is) there.1 in
+    let there = rw c.in-Some.is at c.waiting.ensures.there in
+    let is = answer_is dev s t c.at.result.now c.at.ensures (omega (arith, c.self.invariant.slots, there.0)) (sym c.waiting.ensures.value ∙ c.in-Some.is) there.1 in
     rw (← c.self.view_is) (sym (is ∙ sym c.answer_for-answer.ensures.value ∙ c.in-Queued.is))
 
 pub returns-in-Queued-clause-own : goal.returns-in-Queued-clause-own
@@ -19,8 +19,8 @@ returns-in-Queued-clause-own c =
     let t : Slots = record { issues = c.self.inside.slots; contexts = c.self.inside.contexts } in
     let dev = c.args.dev in
     let s = c.in-Some.slot in
-    let there = rw c.in-Some.is at c.waiting_slot.ensures.there in
-    let is = answer_is dev s t c.index-self-slot.result (omega (arith, c.self.invariant.slots, there.0)) (sym c.waiting_slot.ensures.value ∙ c.in-Some.is) there.1 ∙ sym c.answer_for-answer.ensures.value ∙ c.in-Queued.is in
+    let there = rw c.in-Some.is at c.waiting.ensures.there in
+    let is = answer_is dev s t c.at.result.now c.at.ensures (omega (arith, c.self.invariant.slots, there.0)) (sym c.waiting.ensures.value ∙ c.in-Some.is) there.1 ∙ sym c.answer_for-answer.ensures.value ∙ c.in-Queued.is in
     let now : answer_of (slots_of dev c.args.self.now) ≡ Answered.Queued c.in-Queued.slot = subst (λ (u : Slots). answer_of (slots_of dev u) ≡ Answered.Queued c.in-Queued.slot) c.self.view_is is in
     c.answer.ensures.own ∙ sym (ap (λ (a : Answered). answered_as a (slots_of dev c.args.self.now)) now)
 
@@ -29,8 +29,8 @@ returns-in-Done-clause-answer c =
     let t : Slots = record { issues = c.self.inside.slots; contexts = c.self.inside.contexts } in
     let dev = c.args.dev in
     let s = c.in-Some.slot in
-    let there = rw c.in-Some.is at c.waiting_slot.ensures.there in
-    let is = answer_is dev s t c.index-self-slot.result (omega (arith, c.self.invariant.slots, there.0)) (sym c.waiting_slot.ensures.value ∙ c.in-Some.is) there.1 in
+    let there = rw c.in-Some.is at c.waiting.ensures.there in
+    let is = answer_is dev s t c.at.result.now c.at.ensures (omega (arith, c.self.invariant.slots, there.0)) (sym c.waiting.ensures.value ∙ c.in-Some.is) there.1 in
     rw (← c.self.view_is) (sym (is ∙ sym c.answer_for-answer.ensures.value ∙ c.in-Done.is))
 
 pub returns-in-Done-clause-own : goal.returns-in-Done-clause-own
@@ -38,8 +38,8 @@ returns-in-Done-clause-own c =
     let t : Slots = record { issues = c.self.inside.slots; contexts = c.self.inside.contexts } in
     let dev = c.args.dev in
     let s = c.in-Some.slot in
-    let there = rw c.in-Some.is at c.waiting_slot.ensures.there in
-    let is = answer_is dev s t c.index-self-slot.result (omega (arith, c.self.invariant.slots, there.0)) (sym c.waiting_slot.ensures.value ∙ c.in-Some.is) there.1 ∙ sym c.answer_for-answer.ensures.value ∙ c.in-Done.is in
+    let there = rw c.in-Some.is at c.waiting.ensures.there in
+    let is = answer_is dev s t c.at.result.now c.at.ensures (omega (arith, c.self.invariant.slots, there.0)) (sym c.waiting.ensures.value ∙ c.in-Some.is) there.1 ∙ sym c.answer_for-answer.ensures.value ∙ c.in-Done.is in
     let now : answer_of (slots_of dev c.args.self.now) ≡ Answered.Done c.in-Done.slot = subst (λ (u : Slots). answer_of (slots_of dev u) ≡ Answered.Done c.in-Done.slot) c.self.view_is is in
     c.free.ensures.own ∙ sym (ap (λ (a : Answered). answered_as a (slots_of dev c.args.self.now)) now)
 
@@ -48,6 +48,6 @@ returns-in-Nobody-clause-answer c =
     let t : Slots = record { issues = c.self.inside.slots; contexts = c.self.inside.contexts } in
     let dev = c.args.dev in
     let s = c.in-Some.slot in
-    let there = rw c.in-Some.is at c.waiting_slot.ensures.there in
-    let is = answer_is dev s t c.index-self-slot.result (omega (arith, c.self.invariant.slots, there.0)) (sym c.waiting_slot.ensures.value ∙ c.in-Some.is) there.1 in
+    let there = rw c.in-Some.is at c.waiting.ensures.there in
+    let is = answer_is dev s t c.at.result.now c.at.ensures (omega (arith, c.self.invariant.slots, there.0)) (sym c.waiting.ensures.value ∙ c.in-Some.is) there.1 in
     rw (← c.self.view_is) (sym (is ∙ sym c.answer_for-answer.ensures.value))

@@ -1,8 +1,10 @@
-use Rattle.std.proofs.Common.{◌≡◌, ℕ, ◌<◌, false}
 use Rattle.slots.specs.Commands.{may_go}
 use Rattle.slots.specs.Slots.{holds, issue_at}
+use Rattle.slots.proofs.ListLemmas.{NoneBut}
 use Rattle.slots.proofs.table.SlotTable.next_command.Given as goal
 
--- none so far
-abbrev pub invariant-loop-slot : goal.invariant-loop-slot
-invariant-loop-slot l = (k : ℕ) → k < l.slot → holds (may_go l.ready l.faulty l.self) (issue_at l.self k) ≡ false
+abbrev pub invariant-walk : goal.invariant-walk
+invariant-walk l = NoneBut (λ k. holds (may_go l.ready l.faulty l.self) (issue_at l.self k)) l.rest
+
+abbrev pub decreases-walk : goal.decreases-walk
+decreases-walk l = l.rest

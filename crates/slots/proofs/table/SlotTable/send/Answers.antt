@@ -1,7 +1,8 @@
-use Rattle.std.proofs.Common.{◌≡◌, None, false, arith, refl}
+use Rattle.std.proofs.Common.{◌≡◌, List, Option, None, false, arith, refl, sym, subst}
 use Rattle.std.specs.Prelude.{MatchOption}
-use Rattle.slots.specs.Commands.{sent_issue}
-use Rattle.slots.specs.Slots.{Slots, issue_at, is_control, slots_of, waiting}
+use Rattle.slots.specs.Commands.{sent_issue, with_sent}
+use Rattle.slots.specs.Slots.{Issue, LeavesOthers, Slots, issue_at, is_control, slots_of, waiting}
+use Rattle.slots.specs.Table.{IsTable}
 use Rattle.slots.specs.Between.{Owns}
 use Rattle.slots.proofs.TableLemmas.{own_changed, others_changed}
 use Rattle.slots.proofs.CallLemmas.{table_sent_at, owns_sent}
@@ -14,18 +15,23 @@ invariant_of-self c =
     let s = c.args.slot in
     let issue : MatchOption (issue_at t s) ⊥ (λ issue. (issue.dev ≡ dev) × (is_control issue.work.kind ≡ false)) = rw (← c.self.view_is) at c.requires.issue in
     let alone : waiting (slots_of dev t) ≡ None = rw (← c.self.view_is) at c.requires.alone in
-    table_sent_at dev s t (issue_at t s) _ _ c.self.invariant c.requires.slot refl issue alone c.mark_sent.ensures
+    subst (λ (x : List (Option Issue)). IsTable (record { issues = x; contexts = t.contexts })) (sym c.mark_sent.ensures)
+    (table_sent_at dev s t (issue_at t s) _ None c.self.invariant c.requires.slot refl issue alone refl)
 
 pub returns-clause-own : goal.returns-clause-own
 returns-clause-own c =
     let t : Slots = record { issues = c.self.inside.slots; contexts = c.self.inside.contexts } in
-    rw (← c.self.view_is) (own_changed c.args.dev c.args.slot t sent_issue (λ i. refl) _ _ (omega (arith, c.self.invariant.slots, c.requires.slot)) c.mark_sent.ensures)
+    let dev = c.args.dev in
+    let s = c.args.slot in
+    rw (← c.self.view_is) (subst (λ (x : List (Option Issue)). slots_of dev (record { issues = x; contexts = t.contexts }) ≡ with_sent (slots_of dev t) s) (sym c.mark_sent.ensures)
+    (own_changed dev s t sent_issue (λ i. refl) _ None (omega (arith, c.self.invariant.slots, c.requires.slot)) refl))
 
 pub returns-clause-others : goal.returns-clause-others
-returns-clause-others c other ne =
+returns-clause-others c =
     let t : Slots = record { issues = c.self.inside.slots; contexts = c.self.inside.contexts } in
     let dev = c.args.dev in
     let s = c.args.slot in
     let issue : MatchOption (issue_at t s) ⊥ (λ issue. (issue.dev ≡ dev) × (is_control issue.work.kind ≡ false)) = rw (← c.self.view_is) at c.requires.issue in
     let owns : Owns dev (issue_at t s) = owns_sent dev (issue_at t s) issue in
-    rw (← c.self.view_is) (others_changed dev s t sent_issue (λ i. refl) _ _ (omega (arith, c.self.invariant.slots, c.requires.slot)) c.mark_sent.ensures owns other ne)
+    rw (← c.self.view_is) (subst (λ (x : List (Option Issue)). LeavesOthers dev t (record { issues = x; contexts = t.contexts })) (sym c.mark_sent.ensures)
+    (others_changed dev s t sent_issue (λ i. refl) _ None (omega (arith, c.self.invariant.slots, c.requires.slot)) refl owns))

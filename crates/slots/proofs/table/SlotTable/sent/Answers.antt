@@ -1,6 +1,5 @@
-use Rattle.std.proofs.Common.{◌≡◌, ◌<◌, None, Some, length, arith, refl, sym, ap, subst, ◌∙◌}
+use Rattle.std.proofs.Common.{◌≡◌, ◌<◌, Some, length, arith, refl, sym, ap, subst, ◌∙◌}
 use Rattle.std.specs.Option.{option_map}
-use Rattle.std.proofs.lemmas.List.{get_or_default}
 use Rattle.slots.specs.Issued.{issued_of}
 use Rattle.slots.specs.Slots.{Slots, issue_at}
 use Rattle.slots.specs.Table.{IsTable}
@@ -15,7 +14,7 @@ returns-then-is_control-clause-own c =
     let s = c.args.slot in
     let same : inside ≡ t = c.self.view_is in
     let below : s < length inside.issues = omega (arith, c.self.invariant.slots, c.requires.slot) in
-    let is : option_map issued_of (issue_at inside s) ≡ Some c.in-Some.issued = ap (option_map issued_of) (get_or_default inside.issues s None c.index-self-slot.result below) ∙ sym c.issued.ensures ∙ c.in-Some.is in
+    let is : option_map issued_of (issue_at inside s) ≡ Some c.in-Some.issued = ap (option_map issued_of) (sym c.at.ensures) ∙ sym c.issued.ensures ∙ c.in-Some.is in
     sent_control s t _ (issue_at t s) c.in-Some.issued (subst (λ (u : Slots). s < length u.issues) same below) refl (subst (λ (u : Slots). option_map issued_of (issue_at u s) ≡ Some c.in-Some.issued) same is) (sym c.is_control.ensures ∙ c.if-is_control.true) c.free.ensures.own
 
 pub returns-else-is_control-clause-own : goal.returns-else-is_control-clause-own
@@ -25,7 +24,7 @@ returns-else-is_control-clause-own c =
     let s = c.args.slot in
     let same : inside ≡ t = c.self.view_is in
     let below : s < length inside.issues = omega (arith, c.self.invariant.slots, c.requires.slot) in
-    let is : option_map issued_of (issue_at inside s) ≡ Some c.in-Some.issued = ap (option_map issued_of) (get_or_default inside.issues s None c.index-self-slot.result below) ∙ sym c.issued.ensures ∙ c.in-Some.is in
+    let is : option_map issued_of (issue_at inside s) ≡ Some c.in-Some.issued = ap (option_map issued_of) (sym c.at.ensures) ∙ sym c.issued.ensures ∙ c.in-Some.is in
     sent_other s t _ (issue_at t s) c.in-Some.issued (subst (λ (u : Slots). s < length u.issues) same below) refl (subst (λ (u : Slots). option_map issued_of (issue_at u s) ≡ Some c.in-Some.issued) same is) (sym c.is_control.ensures ∙ c.if-is_control.false) (c.begin.ensures.own ∙ ap (begun s c.in-Some.issued.work) c.send.ensures.own)
 
 pub begin-requires-clause-issue : goal.begin-requires-clause-issue
@@ -35,5 +34,5 @@ begin-requires-clause-issue c =
     let s = c.args.slot in
     let same : inside ≡ t = c.self.view_is in
     let below : s < length inside.issues = omega (arith, c.self.invariant.slots, c.requires.slot) in
-    let is : option_map issued_of (issue_at inside s) ≡ Some c.in-Some.issued = ap (option_map issued_of) (get_or_default inside.issues s None c.index-self-slot.result below) ∙ sym c.issued.ensures ∙ c.in-Some.is in
+    let is : option_map issued_of (issue_at inside s) ≡ Some c.in-Some.issued = ap (option_map issued_of) (sym c.at.ensures) ∙ sym c.issued.ensures ∙ c.in-Some.is in
     fresh_sent s t _ (issue_at t s) c.in-Some.issued (subst IsTable same c.self.invariant) c.requires.slot refl (subst (λ (u : Slots). option_map issued_of (issue_at u s) ≡ Some c.in-Some.issued) same is) c.requires.alone c.send.ensures.own

@@ -4,7 +4,7 @@ use Rattle.slots.specs.Data.{activated}
 use Rattle.slots.specs.Setup.{new_context, out_setup}
 use Rattle.slots.specs.Slots.{Slots, sent_out, slots_of}
 use Rattle.slots.specs.Table.{IsContext}
-use Rattle.slots.proofs.FitLemmas.{out_answers, out_inside}
+use Rattle.slots.proofs.FitLemmas.{out_answers, out_inside, out_refuses}
 use Rattle.slots.proofs.table.SlotTable.setup_out.Goals as goal
 
 pub set_context-requires-clause-inside : goal.set_context-requires-clause-inside
@@ -15,7 +15,7 @@ set_context-requires-clause-inside c =
     let first : sent_out (slots_of dev t) ≡ Some s = subst (λ (u : Slots). sent_out (slots_of dev u) ≡ Some s) (sym c.self.view_is) (sym c.sent_out.ensures.value ∙ c.in-Some.is) in
     let new : c.activated-context.result ≡ activated (new_context s c.came-offset.result c.args.count false) = c.activated-context.ensures ∙ ap activated c.new.ensures in
     rw (← c.self.view_is) (subst (λ (x : Context). IsContext dev t x) (sym new)
-    (out_inside dev s c.args.count c.args.to_host t c.index-self-slot.result c.index-self-slot-2.result c.came-offset.result c.self.invariant first (sym c.out_fault.ensures ∙ c.in_default-out_fault.is) c.came-offset.ensures))
+    (out_inside dev s c.args.count c.args.to_host t c.at.result.now c.at.ensures c.at-2.result.now c.at-2.ensures c.came-offset.result c.self.invariant first (sym c.out_fault.ensures ∙ c.in_default-out_fault.is) c.came-offset.ensures))
 
 pub returns-clause-answer : goal.returns-clause-answer
 returns-clause-answer c =
@@ -25,5 +25,13 @@ returns-clause-answer c =
     let first : sent_out (slots_of dev t) ≡ Some s = subst (λ (u : Slots). sent_out (slots_of dev u) ≡ Some s) (sym c.self.view_is) (sym c.sent_out.ensures.value ∙ c.in-Some.is) in
     let new : c.activated-context.result ≡ activated (new_context s c.came-offset.result c.args.count false) = c.activated-context.ensures ∙ ap activated c.new.ensures in
     let told : out_setup (slots_of dev t) c.args.count c.args.to_host ≡ Ok (activated (new_context s c.came-offset.result c.args.count false)) =
-    out_answers dev s c.args.count c.args.to_host t c.index-self-slot.result c.index-self-slot-2.result c.came-offset.result c.self.invariant first (sym c.out_fault.ensures ∙ c.in_default-out_fault.is) c.came-offset.ensures in
+    out_answers dev s c.args.count c.args.to_host t c.at.result.now c.at.ensures c.at-2.result.now c.at-2.ensures c.came-offset.result c.self.invariant first (sym c.out_fault.ensures ∙ c.in_default-out_fault.is) c.came-offset.ensures in
     rw (← c.self.view_is) (ap (λ (x : Context). Ok x) new ∙ sym told)
+
+pub returns-in-Some-out_fault-clause-answer : goal.returns-in-Some-out_fault-clause-answer
+returns-in-Some-out_fault-clause-answer c =
+    let t : Slots = record { issues = c.self.inside.slots; contexts = c.self.inside.contexts } in
+    let dev = c.args.dev in
+    let s = c.in-Some.slot in
+    let first : sent_out (slots_of dev t) ≡ Some s = subst (λ (u : Slots). sent_out (slots_of dev u) ≡ Some s) (sym c.self.view_is) (sym c.sent_out.ensures.value ∙ c.in-Some.is) in
+    rw (← c.self.view_is) (sym (out_refuses dev s c.args.count c.args.to_host t c.at.result.now c.at.ensures c.in-Some-out_fault.fault c.self.invariant first (sym c.out_fault.ensures ∙ c.in-Some-out_fault.is)))

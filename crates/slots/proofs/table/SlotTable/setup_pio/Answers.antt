@@ -10,8 +10,8 @@ returns-in-Some-pio_fault-clause-refusal c =
     let t : Slots = record { issues = c.self.inside.slots; contexts = c.self.inside.contexts } in
     let dev = c.args.dev in
     let s = c.in-Some.slot in
-    let there = rw c.in-Some.is at c.pio_slot.ensures.there in
-    let is = pio_issue_is dev s t c.index-self-slot.result (omega (arith, c.self.invariant.slots, there.0)) (sym c.pio_slot.ensures.value ∙ c.in-Some.is) there.1 in
+    let there = rw c.in-Some.is at c.sent_pio.ensures.there in
+    let is = pio_issue_is dev s t c.at.result.now c.at.ensures (omega (arith, c.self.invariant.slots, there.0)) (sym c.sent_pio.ensures.value ∙ c.in-Some.is) there.1 in
     rw (← c.self.view_is) (sym (ap (λ (o : Option Issue). pio_fault o c.args.count c.args.to_host) is ∙ sym c.pio_fault.ensures ∙ c.in-Some-pio_fault.is))
 
 pub returns-in-Some-pio_fault-clause-own : goal.returns-in-Some-pio_fault-clause-own
@@ -19,8 +19,8 @@ returns-in-Some-pio_fault-clause-own c =
     let t : Slots = record { issues = c.self.inside.slots; contexts = c.self.inside.contexts } in
     let dev = c.args.dev in
     let s = c.in-Some.slot in
-    let there = rw c.in-Some.is at c.pio_slot.ensures.there in
-    let is = pio_issue_is dev s t c.index-self-slot.result (omega (arith, c.self.invariant.slots, there.0)) (sym c.pio_slot.ensures.value ∙ c.in-Some.is) there.1 in
+    let there = rw c.in-Some.is at c.sent_pio.ensures.there in
+    let is = pio_issue_is dev s t c.at.result.now c.at.ensures (omega (arith, c.self.invariant.slots, there.0)) (sym c.sent_pio.ensures.value ∙ c.in-Some.is) there.1 in
     rw (← c.self.view_is) (pio_refused dev c.args.count c.args.to_host t c.in-Some-pio_fault.fault (ap (λ (o : Option Issue). pio_fault o c.args.count c.args.to_host) is ∙ sym c.pio_fault.ensures ∙ c.in-Some-pio_fault.is))
 
 pub returns-clause-refusal : goal.returns-clause-refusal
@@ -28,8 +28,8 @@ returns-clause-refusal c =
     let t : Slots = record { issues = c.self.inside.slots; contexts = c.self.inside.contexts } in
     let dev = c.args.dev in
     let s = c.in-Some.slot in
-    let there = rw c.in-Some.is at c.pio_slot.ensures.there in
-    let is = pio_issue_is dev s t c.index-self-slot.result (omega (arith, c.self.invariant.slots, there.0)) (sym c.pio_slot.ensures.value ∙ c.in-Some.is) there.1 in
+    let there = rw c.in-Some.is at c.sent_pio.ensures.there in
+    let is = pio_issue_is dev s t c.at.result.now c.at.ensures (omega (arith, c.self.invariant.slots, there.0)) (sym c.sent_pio.ensures.value ∙ c.in-Some.is) there.1 in
     rw (← c.self.view_is) (sym (ap (λ (o : Option Issue). pio_fault o c.args.count c.args.to_host) is ∙ sym c.pio_fault.ensures ∙ c.in_default-pio_fault.is))
 
 pub returns-clause-own : goal.returns-clause-own
@@ -37,12 +37,12 @@ returns-clause-own c =
     let t : Slots = record { issues = c.self.inside.slots; contexts = c.self.inside.contexts } in
     let dev = c.args.dev in
     let s = c.in-Some.slot in
-    let there = rw c.in-Some.is at c.pio_slot.ensures.there in
+    let there = rw c.in-Some.is at c.sent_pio.ensures.there in
     let below : s < length t.issues = omega (arith, c.self.invariant.slots, there.0) in
-    let first = sym c.pio_slot.ensures.value ∙ c.in-Some.is in
-    let is = pio_issue_is dev s t c.index-self-slot.result below first there.1 in
+    let first = sym c.sent_pio.ensures.value ∙ c.in-Some.is in
+    let is = pio_issue_is dev s t c.at.result.now c.at.ensures below first there.1 in
     let fault = ap (λ (o : Option Issue). pio_fault o c.args.count c.args.to_host) is ∙ sym c.pio_fault.ensures ∙ c.in_default-pio_fault.is in
-    let up = pio_set_up dev s c.args.count c.args.to_host t c.index-self-slot-2.result below first there.1 fault in
+    let up = pio_set_up dev s c.args.count c.args.to_host t c.at-2.result.now c.at-2.ensures below first there.1 fault in
     let after : after_setup_pio (slots_of dev t) c.args.count c.args.to_host ≡ with_own_context (slots_of dev t) c.new.result =
     up ∙ ap (λ (n : ℕ). with_own_context (slots_of dev t) (new_context s n c.args.count c.args.to_host)) (sym c.came-offset.ensures) ∙ ap (λ (x : Context). with_own_context (slots_of dev t) x) (sym c.new.ensures) in
     let now : after_setup_pio (slots_of dev c.args.self.now) c.args.count c.args.to_host ≡ with_own_context (slots_of dev c.args.self.now) c.new.result =

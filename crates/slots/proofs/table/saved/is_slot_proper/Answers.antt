@@ -1,9 +1,8 @@
-use Rattle.std.proofs.Common.{◌<◌, None, Option, get_or, length, arith, refl, sym, ap, true, ◌∙◌}
+use Rattle.std.proofs.Common.{None, Option, get_or, refl, sym, ap, true, ◌∙◌}
 use Rattle.std.specs.Option.{option_map}
 use Rattle.slots.specs.Issued.{issued_of}
 use Rattle.slots.specs.Slots.{Issue, match_some}
 use Rattle.slots.specs.Tested.{is_proper}
-use Rattle.slots.proofs.MaskLemmas.{slot_read}
 use Rattle.slots.proofs.TestedLemmas.{first_after}
 use Rattle.slots.proofs.table.saved.is_slot_proper.Goals as goal
 
@@ -11,8 +10,5 @@ pub returns-then-is_proper : goal.returns-then-is_proper
 returns-then-is_proper c =
     let slots = c.args.slots.now in
     let s = c.args.slot in
-    let below : s < length slots = omega (arith, c.type_inv.slots, c.requires) in
-    let one = slot_read slots s c.index-slots-slot.result below in
-    let two = slot_read slots s c.index-slots-slot-in-Some.result below in
     c.is_first_waiting.ensures ∙ first_after slots s (get_or slots s None) c.in-Some.issued refl
-    (ap (option_map issued_of) (sym one) ∙ sym c.issued.ensures ∙ c.in-Some.is) (c.if-is_proper.ensures ∙ ap (λ (o : Option Issue). match_some o true is_proper) two)
+    (ap (option_map issued_of) (sym c.at.ensures) ∙ sym c.issued.ensures ∙ c.in-Some.is) (c.if-is_proper.ensures ∙ ap (λ (o : Option Issue). match_some o true is_proper) c.at-in-Some.ensures)

@@ -15,7 +15,7 @@ pub invariant_of-result : goal.invariant_of-result
 invariant_of-result c =
     let parts = c.in-Ok.parts in
     let k = c.in-Ok.ensures.1 in
-    fit_keeps (line_of parts.0 parts.1 parts.2) k.0.0.1 k.1.0 k.2.0 (sym c.if-not-fits.ensures)
+    record { line = fit_keeps (line_of parts.0 parts.1 parts.2) k.0.0.1 k.1.0 k.2.0 (sym c.if-not-fits.ensures); watched = c.watched-busy.ensures }
 
 pub returns : goal.returns
 returns c =

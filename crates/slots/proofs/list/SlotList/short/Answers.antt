@@ -1,0 +1,18 @@
+use Rattle.std.proofs.Common.{arith}
+use Rattle.slots.specs.Commands.{is_short}
+use Rattle.slots.specs.Slots.{is_short_issue, own_of}
+use Rattle.slots.proofs.ListLemmas.{gather_ends, gather_on, gather_starts, named_only, none_short}
+use Rattle.slots.proofs.list.SlotList.short.Goals as goal
+
+pub walk-init : goal.walk-init
+walk-init c = (
+  rw (← c.self.view_is) (gather_starts (is_short c.args.mask (own_of c.args.dev c.self.inside.slots)) _
+      (named_only c.args.dev c.args.mask is_short_issue _ c.self.inside.slots c.self.invariant.0 c.self.invariant.1.queued.bits (none_short c.args.dev))),
+  omega arith,
+)
+
+pub walk-preserved : goal.walk-preserved
+walk-preserved c = (gather_on (is_short c.args.mask (own_of c.args.dev c.args.self.now)) c.walk.rest _ c.in-Some.slot c.walk.found _ c.is_short.result c.walk.invariant.0 c.with_bit-found.ensures c.is_short.ensures c.without-rest.ensures.bits, omega arith)
+
+pub returns : goal.returns
+returns c = gather_ends (is_short c.args.mask (own_of c.args.dev c.args.self.now)) c.walk.rest c.walk.found c.walk.invariant.1 c.walk.invariant.0 c.in_default.ensures

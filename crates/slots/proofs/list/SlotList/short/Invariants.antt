@@ -1,0 +1,11 @@
+use Rattle.std.proofs.Common.{◌<◌, ◌^◌}
+use Rattle.slots.specs.Commands.{is_short}
+use Rattle.slots.specs.Slots.{own_of}
+use Rattle.slots.proofs.ListLemmas.{Gathered}
+use Rattle.slots.proofs.list.SlotList.short.Given as goal
+
+abbrev pub invariant-walk : goal.invariant-walk
+invariant-walk l = Gathered (is_short l.mask (own_of l.dev l.self)) l.rest l.found × (l.found < 2 ^ 32)
+
+abbrev pub decreases-walk : goal.decreases-walk
+decreases-walk l = l.rest

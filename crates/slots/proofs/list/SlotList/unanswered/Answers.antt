@@ -1,0 +1,8 @@
+use Rattle.std.proofs.Common.{None, arith, slice_index_or}
+use Rattle.slots.specs.Commands.{is_unanswered}
+use Rattle.slots.specs.Slots.{holds}
+use Rattle.slots.proofs.ListLemmas.{mask_all}
+use Rattle.slots.proofs.list.SlotList.unanswered.Goals as goal
+
+pub returns : goal.returns
+returns c = rw (← c.self.view_is) (mask_all (λ k. holds is_unanswered (slice_index_or c.self.inside.slots k None)) c.self.inside.masks.unanswered (omega arith) c.self.invariant.1.unanswered.bits)
