@@ -1,6 +1,6 @@
 -- Answers as words.
 use Rattle.std.specs.Prelude.{◌≡◌, ℕ, ◌<◌, ◌^◌, List, ◌∷◌, Bool, refl}
-use Rattle.std.proofs.Common.{ap}
+use Rattle.std.proofs.Common.{ap, arith}
 use Rattle.saved_state.specs.State.{IsToldApart, bool_apart, number_apart, pair_apart, parts_apart, put_bool, put_number, put_pair, put_three, three_apart}
 use Rattle.ata_reply.specs.declared.reply.AtaError.{AtaError}
 use Rattle.ata_reply.specs.declared.reply.AtaError.TheVariants.{Aborted, NotFound, Uncorrectable, Interface}
@@ -81,18 +81,29 @@ KeepsAnnouncement a = KeepsAnnouncementParts (announcement_parts a)
 
 -- ## An answer: which one, and what it tells
 
+abbrev pub kind_of : Reply → ℕ
+kind_of Signature = 1
+kind_of Accepted = 2
+kind_of Done = 3
+kind_of Active = 4
+kind_of Healthy = 5
+kind_of (Failed f) = 6
+kind_of (Ends tags) = 7
+kind_of (Aborts error) = 8
+kind_of (SetUp s) = 9
+kind_of Activate = 10
+kind_of (Announce a) = 11
+
+abbrev pub put_told : Reply → List ℕ → List ℕ
+put_told (Failed f) rest = put_failure f rest
+put_told (Ends tags) rest = put_number tags rest
+put_told (Aborts error) rest = put_error error rest
+put_told (SetUp s) rest = put_set_up s rest
+put_told (Announce a) rest = put_announcement a rest
+put_told _ rest = rest
+
 abbrev pub put_reply : Reply → List ℕ → List ℕ
-put_reply Signature rest = 1 ∷ rest
-put_reply Accepted rest = 2 ∷ rest
-put_reply Done rest = 3 ∷ rest
-put_reply Active rest = 4 ∷ rest
-put_reply Healthy rest = 5 ∷ rest
-put_reply (Failed f) rest = 6 ∷ put_failure f rest
-put_reply (Ends tags) rest = 7 ∷ put_number tags rest
-put_reply (Aborts error) rest = 8 ∷ put_error error rest
-put_reply (SetUp s) rest = 9 ∷ put_set_up s rest
-put_reply Activate rest = 10 ∷ rest
-put_reply (Announce a) rest = 11 ∷ put_announcement a rest
+put_reply reply rest = kind_of reply ∷ put_told reply rest
 
 abbrev pub KeepsReply : Reply → Type 0
 KeepsReply (Failed f) = KeepsFailure f
@@ -144,24 +155,23 @@ pub announcement_apart : IsToldApart put_announcement KeepsAnnouncement
 announcement_apart = parts_apart put_announcement_parts KeepsAnnouncementParts KeepsAnnouncement announcement_parts announcement_parts_apart (λ v k. k)
     (λ v w e. ap (λ p. record { to_host = p.0.0; first = p.0.1; last = p.1.0; bytes = p.1.1 }) e)
 
+told_apart : (a b : Reply) (x y : List ℕ) → KeepsReply a → KeepsReply b → put_told a x ≡ put_told b y → kind_of a ≡ kind_of b
+    → (a ≡ b) × (x ≡ y)
+told_apart Signature Signature x y k l told kind = (refl, told)
+told_apart Accepted Accepted x y k l told kind = (refl, told)
+told_apart Done Done x y k l told kind = (refl, told)
+told_apart Active Active x y k l told kind = (refl, told)
+told_apart Healthy Healthy x y k l told kind = (refl, told)
+told_apart (Failed a) (Failed b) x y k l told kind = let both = failure_apart a b x y k l told in (ap Failed both.0, both.1)
+told_apart (Ends a) (Ends b) x y k l told kind = let both = number_apart a b x y told in (ap Ends both.0, both.1)
+told_apart (Aborts a) (Aborts b) x y k l told kind = let both = error_apart a b x y tt tt told in (ap Aborts both.0, both.1)
+told_apart (SetUp a) (SetUp b) x y k l told kind = let both = set_up_apart a b x y k l told in (ap SetUp both.0, both.1)
+told_apart Activate Activate x y k l told kind = (refl, told)
+told_apart (Announce a) (Announce b) x y k l told kind = let both = announcement_apart a b x y k l told in (ap Announce both.0, both.1)
+told_apart a b x y k l told kind = absurd (omega arith)
+
 pub reply_apart : IsToldApart put_reply KeepsReply
-reply_apart Signature Signature x y k l e = (refl, cc)
-reply_apart Accepted Accepted x y k l e = (refl, cc)
-reply_apart Done Done x y k l e = (refl, cc)
-reply_apart Active Active x y k l e = (refl, cc)
-reply_apart Healthy Healthy x y k l e = (refl, cc)
-reply_apart (Failed a) (Failed b) x y k l e =
-    let inner : put_failure a x ≡ put_failure b y = cc in
-    let both = failure_apart a b x y k l inner in (ap Failed both.0, both.1)
-reply_apart (Ends a) (Ends b) x y k l e = (cc, cc)
-reply_apart (Aborts a) (Aborts b) x y k l e =
-    let inner : put_error a x ≡ put_error b y = cc in
-    let both = error_apart a b x y tt tt inner in (ap Aborts both.0, both.1)
-reply_apart (SetUp a) (SetUp b) x y k l e =
-    let inner : put_set_up a x ≡ put_set_up b y = cc in
-    let both = set_up_apart a b x y k l inner in (ap SetUp both.0, both.1)
-reply_apart Activate Activate x y k l e = (refl, cc)
-reply_apart (Announce a) (Announce b) x y k l e =
-    let inner : put_announcement a x ≡ put_announcement b y = cc in
-    let both = announcement_apart a b x y k l inner in (ap Announce both.0, both.1)
-reply_apart a b x y k l e = absurd (cc)
+reply_apart a b x y k l e =
+    let kind : kind_of a ≡ kind_of b = cc in
+    let told : put_told a x ≡ put_told b y = cc in
+    told_apart a b x y k l told kind
