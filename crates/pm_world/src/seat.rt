@@ -22,6 +22,8 @@ pub struct Seat<D: PortDevice + Drop> {
     up: Link,
     down: Link,
     presence: PresenceLink,
+    // Room for the bytes of a frame that goes, for where there is no memory for them.
+    spare: Vec<u8>,
 }
 
 impl<D: PortDevice + Drop> Model for Seat<D> {
@@ -53,6 +55,7 @@ impl<D: PortDevice + Drop> Seat<D> {
             up: Link::new(alloc, capacity)?,
             down: Link::new(alloc, capacity)?,
             presence: PresenceLink::new(alloc, capacity)?,
+            spare: Vec::new(alloc),
         })
     }
 
@@ -168,19 +171,19 @@ impl<D: PortDevice + Drop> Seat<D> {
         if self.up.is_full() {
             return Ok(Answer::Blocked);
         }
-        let mut bytes = Vec::with_capacity(alloc, 8196)?;
+        make_room(alloc, &mut self.spare)?;
         let stamp = self.stamp(port);
         match self.unit.send(alloc, stamp)? {
             None => Ok(Answer::Idle),
             Some(frame) => {
-                copy_into(&mut bytes, frame.bytes());
+                let bytes = copied(alloc, &mut self.spare, frame.bytes());
                 self.number += 1;
                 self.up.push(frame);
                 Ok(Answer::Sent {
                     port,
                     conn: stamp.conn,
                     number: stamp.number,
-                    bytes: Bytes::from_vec(bytes),
+                    bytes,
                 })
             }
         }
@@ -275,15 +278,29 @@ impl<D: PortDevice + Drop> Seat<D> {
     }
 }
 
-/// Copies a frame's bytes into the room that was made for them, and gives back the room that they do
-/// not need.
-fn copy_into(room: &mut Vec<u8>, bytes: &[u8])
-    requires empty { room.old.items ≡ [] }
-    requires room { length bytes.now ≤ vec_capacity room.old }
-    ensures { room.new.items ≡ bytes.now }
+/// Sees to it that there is room for the bytes of any frame.
+fn make_room(alloc: Global, room: &mut Vec<u8>) -> Result<(), AllocError>
+    ensures { IfOk result (λ _. 8196 ≤ vec_capacity room.new) }
 {
-    let _ = room.extend_from_slice(bytes);
-    room.shrink_to_fit();
+    if room.capacity() < 8196 {
+        *room = Vec::with_capacity(alloc, 8196)?;
+    }
+    Ok(())
+}
+
+/// A copy of a frame's bytes. Where there is no memory for it, it takes the room that was made.
+fn copied(alloc: Global, room: &mut Vec<u8>, bytes: &[u8]) -> Bytes
+    requires { length bytes.now ≤ vec_capacity room.old }
+    ensures { result ≡ bytes.now }
+{
+    if let Ok(copy) = Bytes::from_slice(alloc, bytes) {
+        return copy;
+    }
+    let mut copy = std::mem::replace(room, Vec::new(alloc));
+    copy.clear();
+    let _ = copy.extend_from_slice(bytes);
+    copy.shrink_to_fit();
+    Bytes::from_vec(copy)
 }
 
 /// The frame of these bytes.
