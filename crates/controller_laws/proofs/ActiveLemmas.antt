@@ -43,7 +43,7 @@ use Rattle.hba_fbs.specs.declared.registers.Registers.{Registers}
 use Rattle.hba_fbs.specs.declared.report.TakeReport.{TakeReport}
 use Rattle.hba_fbs.specs.declared.room.Room.{Room}
 use Rattle.hba_fbs.specs.declared.turn.Turn.{Turn}
-use Rattle.hba_fbs.specs.declared.turn.Turn.TheVariants.{Feeds, Orders, Rests}
+use Rattle.hba_fbs.specs.declared.turn.Turn.TheVariants.{Feeds, Rests}
 use Rattle.hba_laws.specs.Agreement.{IsTold, work_of_issue, work_of_transfer}
 use Rattle.hba_laws.specs.Alike.{told_issued}
 use Rattle.hba_laws.specs.CoreHistories.{CoreViewsAreTold, event_by, frees, history_through, is_freed_in, turned_for}
@@ -151,13 +151,7 @@ on_core s old new same here = ap (λ (p : Port). has_bit p.registers.armed s) sa
 posted_armed : (r : Registers) (dev : ℕ) (resetting : Bool) (fis : Fis) → (posted r dev resetting fis).armed ≡ r.armed
 unfolding posted
 posted_armed r dev resetting (view.RegH2D f) = refl
-posted_armed r dev resetting (view.RegD2H f) = refl
-posted_armed r dev resetting (view.SetBits f) = refl
-posted_armed r dev resetting (view.DmaActivate f) = refl
-posted_armed r dev resetting (view.DmaSetup f) = refl
-posted_armed r dev resetting (view.Payload f) = refl
-posted_armed r dev resetting (view.PioSetup f) = refl
-posted_armed r dev resetting (view.Unknown f) = refl
+posted_armed r dev resetting other = refl
 
 posted_if : (r : Registers) (dev : ℕ) (resetting : Bool) (o : Option Fis) → (posted_of r dev resetting o).armed ≡ r.armed
 posted_if r dev resetting None = refl
@@ -184,8 +178,7 @@ hears_armed false ignored s old frame report new is h here = greets_armed s (por
 -- what goes to devices
 chooses_armed : (s : ℕ) (turn : Turn) (old new : Port) → Chooses turn old new → has_bit old.registers.armed s ≡ true → Stays s new
 chooses_armed s Rests old new h here = same_core s old new h here
-chooses_armed s (Feeds dev slot offset len) old new h here = same_armed s old new h.registers here
-chooses_armed s (Orders dev slot command) old new h here = same_armed s old new h.registers here
+chooses_armed s other old new h here = same_armed s old new h.registers here
 
 -- commands that are issued
 bit_left : (x y k : ℕ) → y < 2 ^ 32 → k < 32 → has_bit y k ≡ false → has_bit x k ≡ true → has_bit (without x y) k ≡ true
@@ -270,9 +263,8 @@ global_armed true value s old new h here = Stopped (ap (λ (r : Registers). r.st
 global_armed false value s old new h here = On (on_core s old.core new.core (ap (λ (c : ControllerState). c.core) h) here)
 
 linked_armed : (e : Effect) (s : ℕ) (old new : ControllerState) → ResetsBy e old new → has_bit old.core.registers.armed s ≡ true → Goes s new.core
-linked_armed effect.Nothing s old new h here = On (on_core s old.core new.core (ap (λ (c : ControllerState). c.core) h) here)
 linked_armed effect.LinkReset s old new h here = Stopped (ap (λ (r : Registers). r.started) h.core.registers)
-linked_armed effect.LinkUp s old new h here = On (on_core s old.core new.core (ap (λ (c : ControllerState). c.core) h) here)
+linked_armed other s old new h here = On (on_core s old.core new.core (ap (λ (c : ControllerState). c.core) h) here)
 
 asked_core : (running : Bool) (c d : ControllerState) → d.core ≡ c.core → (if running then d else c).core ≡ c.core
 asked_core true c d same = same
@@ -282,28 +274,16 @@ unmoved : (s : ℕ) (old new : ControllerState) → new.core ≡ old.core → ha
 unmoved s old new same here = On (on_core s old.core new.core same here)
 
 register_armed : (r : Register) (value s : ℕ) (old new : ControllerState) (result : Written) → Leaves r old value result new → has_bit old.core.registers.armed s ≡ true → Goes s new.core
-register_armed ahci.Cap value s old new result h here = unmoved s old new (ap (λ (c : ControllerState). c.core) h.0) here
 register_armed ahci.Ghc value s old new result h here = global_armed (line_bits.has_bit value 0) value s old new h.0 here
-register_armed ahci.Is value s old new result h here = unmoved s old new (ap (λ (c : ControllerState). c.core) h.0) here
-register_armed ahci.Pi value s old new result h here = unmoved s old new (ap (λ (c : ControllerState). c.core) h.0) here
-register_armed ahci.Vs value s old new result h here = unmoved s old new (ap (λ (c : ControllerState). c.core) h.0) here
-register_armed ahci.Cap2 value s old new result h here = unmoved s old new (ap (λ (c : ControllerState). c.core) h.0) here
-register_armed ahci.PxClb value s old new result h here = unmoved s old new (ap (λ (c : ControllerState). c.core) h.0) here
-register_armed ahci.PxClbu value s old new result h here = unmoved s old new (ap (λ (c : ControllerState). c.core) h.0) here
-register_armed ahci.PxFb value s old new result h here = unmoved s old new (ap (λ (c : ControllerState). c.core) h.0) here
-register_armed ahci.PxFbu value s old new result h here = unmoved s old new (ap (λ (c : ControllerState). c.core) h.0) here
 register_armed ahci.PxIs value s old new result h here = On (told_armed (told_refusal old on_port.Is value) on_port.Is value s old.core new.core (keeps_same s _ _ (is_armed value old.core.registers)) h.0.core here)
-register_armed ahci.PxIe value s old new result h here = unmoved s old new (ap (λ (c : ControllerState). c.core) h.0) here
 register_armed ahci.PxCmd value s old new result h here = commands_armed value s old new result.ignored h.0 here
-register_armed ahci.PxTfd value s old new result h here = unmoved s old new (ap (λ (c : ControllerState). c.core) h.0) here
-register_armed ahci.PxSig value s old new result h here = unmoved s old new (ap (λ (c : ControllerState). c.core) h.0) here
-register_armed ahci.PxSsts value s old new result h here = unmoved s old new (ap (λ (c : ControllerState). c.core) h.0) here
 register_armed ahci.PxSctl value s old new result h here = linked_armed (link_effect old value) s (link_moved old value) new h.0 here
 register_armed ahci.PxSerr value s old new result h here = On (told_armed (told_refusal old on_port.Serr value) on_port.Serr value s old.core new.core (keeps_same s _ _ (serr_armed value old.core.registers)) h.0.core here)
 register_armed ahci.PxSact value s old new result h here = On (told_armed (told_refusal old on_port.Sact _) on_port.Sact _ s old.core new.core (λ was. keeps_same s _ _ (sact_armed _ old.core.registers) (or_left old.core.registers.armed _ s was)) h.0.core here)
 register_armed ahci.PxCi value s old new result h here = unmoved s old new (ap (λ (c : ControllerState). c.core) h.0 ∙ asked_core old.own.starts old _ refl) here
 register_armed ahci.PxSntf value s old new result h here = On (told_armed (told_refusal old on_port.Sntf value) on_port.Sntf value s old.core new.core (keeps_same s _ _ (sntf_armed value old.core.registers)) h.0.core here)
 register_armed ahci.PxFbs value s old new result h here = On (told_armed (told_refusal (record old { wants = record old.wants { feeding = 0 } }) on_port.Fbs _) on_port.Fbs _ s old.core new.core (keeps_same s _ _ (fbs_armed _ old.core.registers)) h.0.core here)
+register_armed other value s old new result h here = unmoved s old new (ap (λ (c : ControllerState). c.core) h.0) here
 
 at_armed : (o : Option Register) (value : Register → ℕ) (s : ℕ) (old new : ControllerState) (result : Written) (nothing : Type 0) → (nothing → new ≡ old) → MatchOption o nothing (λ r. WritesRegister r old (value r) result new) → has_bit old.core.registers.armed s ≡ true → Goes s new.core
 at_armed None value s old new result nothing same h here = unmoved s old new (ap (λ (c : ControllerState). c.core) (same h)) here
@@ -334,10 +314,9 @@ issues_armed slot s f None base new supply below h here = places_armed s (device
 issues_armed slot s f (Some reason) base new supply below h here = same_core s base.core new.core (ap (λ (c : ControllerState). c.core) h.rest) here
 
 goes_on_armed : (slot s : ℕ) (came : Supplied) (base new : ControllerState) (supply : Supply) → s < 32 → GoesOn base slot came supply new → has_bit base.core.registers.armed s ≡ true → Stays s new.core
-goes_on_armed slot s (came_as.More f) base new supply below h here = same_core s base.core new.core (ap (λ (c : ControllerState). c.core) h.0) here
-goes_on_armed slot s (came_as.OutOfMemory f) base new supply below h here = same_core s base.core new.core (ap (λ (c : ControllerState). c.core) h.0) here
 goes_on_armed slot s (came_as.Refused r) base new supply below h here = same_core s base.core new.core (ap (λ (c : ControllerState). c.core) h.rest) here
 goes_on_armed slot s (came_as.Whole f) base new supply below h here = issues_armed slot s f (not_issued base.core slot f) base new supply below h here
+goes_on_armed slot s other base new supply below h here = same_core s base.core new.core (ap (λ (c : ControllerState). c.core) h.0) here
 
 supplies_armed : (fit : Bool) (slot s : ℕ) (bytes : List ℕ) (old new : ControllerState) (supply : Supply) → s < 32 → SuppliesIf fit old slot bytes supply new → has_bit old.core.registers.armed s ≡ true → Stays s new.core
 supplies_armed false slot s bytes old new supply below h here = same_core s old.core new.core (ap (λ (c : ControllerState). c.core) h.0) here
@@ -395,9 +374,8 @@ gathers_armed false dev s old new fed h here = same_core s old.core new.core (ap
 gathers_armed true dev s old new fed h here = sends_armed (may_feed old.core dev) dev s (without_feeding old dev) new fed h here
 
 loses_core : (turn : Turn) (base new : ControllerState) (fed : Fed) → Loses turn base fed new → new.core ≡ base.core
-loses_core Rests base new fed h = ap (λ (c : ControllerState). c.core) h.0
 loses_core (Feeds dev slot offset len) base new fed h = ap (λ (c : ControllerState). c.core) h.rest
-loses_core (Orders dev slot command) base new fed h = ap (λ (c : ControllerState). c.core) h.0
+loses_core other base new fed h = ap (λ (c : ControllerState). c.core) h.0
 
 loses_if : (due : Bool) (dev : ℕ) (base new : ControllerState) (fed : Fed) → LosesIf due base dev fed new → new.core ≡ base.core
 loses_if false dev base new fed h = ap (λ (c : ControllerState). c.core) h.0
@@ -482,9 +460,8 @@ reset_plain true = (tt, (tt, tt))
 reset_plain false = tt
 
 relinked_plain : (e : Effect) (c : ControllerState) (value : ℕ) → ArePlain (relinked_by e c value)
-relinked_plain effect.Nothing c value = tt
 relinked_plain effect.LinkReset c value = (tt, (tt, tt))
-relinked_plain effect.LinkUp c value = tt
+relinked_plain other c value = tt
 
 overridden_plain : (clears : Bool) (p : Port) → ArePlain (overridden_by clears p)
 overridden_plain true p = (tt, tt)
@@ -535,12 +512,7 @@ IsCalm p other = ⊥
 
 next_calm : (next : Next) (c : ControllerState) → IsCalm c.core (of_next next c)
 next_calm next_step.Nothing c = tt
-next_calm (next_step.Payload m) c = tt
-next_calm (next_step.Posted m) c = tt
-next_calm (next_step.Counted count) c = tt
-next_calm (next_step.Read ask) c = tt
-next_calm (next_step.Order dev slot fis) c = tt
-next_calm (next_step.Feed dev number slot offset len) c = tt
+next_calm other c = tt
 
 starts_calm : (o : Option WriteError) (value : ℕ) (p : Port) → p.registers.started ≡ false → IsCalm p (match_some o (core.Commanded value ∷ []) (λ e. []))
 starts_calm None value p stopped = stopped
@@ -560,9 +532,7 @@ turned_calm next c = by (next_write c)
 
 fed_calm : (fed : Fed) (c : ControllerState) (dev : ℕ) (frame : List ℕ) → IsCalm c.core (of_fed fed c dev frame)
 fed_calm fed_answer.Stale c dev frame = tt
-fed_calm fed_answer.Ended c dev frame = tt
-fed_calm (fed_answer.Goes message line) c dev frame = tt
-fed_calm (fed_answer.Missed message line) c dev frame = tt
+fed_calm other c dev frame = tt
 
 record IsLeft (s n : ℕ) (past : History) (old new : Port) (events : List CoreEvent) (run : RunsBy old events new) : Type 0 where
   plain : NoIssue s (history_through n [] old new events run)
@@ -610,10 +580,7 @@ placed_left s n slot past old new (Some f) ne run = by (device_of f == n)
 
 supply_left : (supply : Supply) (s n slot : ℕ) (past : History) (old : Port) (new : ControllerState) → ((dev : ℕ) → supply ≡ supply_answer.Issued dev → s ≢ slot) → (run : RunsBy old (of_supply supply slot new) new.core) → IsLeft s n past old new.core (of_supply supply slot new) run
 supply_left (supply_answer.Issued dev) s n slot past old new other run = placed_left s n slot past old new.core (kept new slot) (other dev refl) run
-supply_left supply_answer.More s n slot past old new other run = record { plain = tt; freed = refl }
-supply_left supply_answer.OutOfMemory s n slot past old new other run = record { plain = tt; freed = refl }
-supply_left supply_answer.Stale s n slot past old new other run = record { plain = tt; freed = refl }
-supply_left (supply_answer.NotTaken reason message line) s n slot past old new other run = record { plain = tt; freed = refl }
+supply_left rest s n slot past old new other run = record { plain = tt; freed = refl }
 
 -- a slot that is read has nothing issued in it
 read_free : (s slot number : ℕ) (fit : Bool) (bytes : List ℕ) (old new : ControllerState) (dev : ℕ) (i : Issue) → fits old slot number bytes ≡ fit → IsController old → issue_at old.core.slots s ≡ Some i → SuppliesIf fit old slot bytes (supply_answer.Issued dev) new → s ≢ slot
@@ -727,11 +694,10 @@ armed_falls s past old new (event.Supplied slot number bytes supply) does are be
 armed_falls s past old new (event.Missed slot number supply) does are below hidden here = absurd (not_gone new.core s hidden (same_core s old.core new.core (misses_core (is_asked old.wants slot number) slot old new supply does) here))
 armed_falls s past old new (event.Took frame took) does are below hidden here =
     absurd (not_gone new.core s hidden (hears_armed old.core.registers.started (ignores (port_of frame) old.core frame) s old frame took.report new.core refl does.hears.core here))
-armed_falls s past old new (event.Left frame why) does are below hidden here = absurd (not_gone new.core s hidden (same_core s old.core new.core (ap (λ (c : ControllerState). c.core) does.1) here))
 armed_falls s past old new (event.Turned next) does are below hidden here = absurd (not_gone new.core s hidden (next_armed (next_write old) s old new next does here))
-armed_falls s past old new (event.Said write) does are below hidden here = absurd (not_gone new.core s hidden (same_core s old.core new.core (ap (λ (c : ControllerState). c.core) does.1) here))
 armed_falls s past old new (event.Gathered dev number frame fed) does are below hidden here = absurd (not_gone new.core s hidden (gathers_armed (is_fed old.wants dev number) dev s old new fed does.1 here))
 armed_falls s past old new (event.NotThere dev number fed) does are below hidden here = absurd (not_gone new.core s hidden (same_core s old.core new.core (misses_data (is_fed old.wants dev number) dev old new fed does) here))
+armed_falls s past old new other does are below hidden here = absurd (not_gone new.core s hidden (same_core s old.core new.core (ap (λ (c : ControllerState). c.core) does.1) here))
 
 pub active_bits_fall : CoreViewsAreTold → ActiveBitsFall
 active_bits_fall agrees old new e k k_new does are past told s below shows hides = elim (is_there old s below shows) [

@@ -162,8 +162,7 @@ write_calm old (Some w) write h = run_calm old w (run_of old w) write h
 -- what goes is the command of the slot
 fed_next : (old : ControllerState) (dev number : ℕ) (turn : Turn) → of_next (feed_next dev number turn) old ≡ []
 fed_next old dev number Rests = refl
-fed_next old dev number (Feeds to slot offset len) = refl
-fed_next old dev number (Orders to slot command) = refl
+fed_next old dev number other = refl
 
 no_feeds : (slot dev s offset len : ℕ) (o : Option Issue) (q : Option Command) → match_some o Rests (λ issue. match_some q Rests (Orders issue.dev slot)) ≡ Feeds dev s offset len → ⊥
 no_feeds slot dev s offset len None q h = cc
@@ -243,9 +242,8 @@ gathers_if false dev frame old new fed ok ok_new whole h = as_fed dev frame old 
 gathers_if true dev frame old new fed ok ok_new whole h = sends_if (may_feed old.core dev) dev frame old new fed ok ok_new whole h
 
 loses : (turn : Turn) (old new : ControllerState) (fed : Fed) → Loses turn old fed new → new.core ≡ old.core
-loses Rests old new fed h = ap (λ (c : ControllerState). c.core) h.0
 loses (Feeds dev slot offset len) old new fed h = ap (λ (c : ControllerState). c.core) h.rest
-loses (Orders dev slot command) old new fed h = ap (λ (c : ControllerState). c.core) h.0
+loses other old new fed h = ap (λ (c : ControllerState). c.core) h.0
 
 loses_if : (due : Bool) (dev : ℕ) (old new : ControllerState) (fed : Fed) → LosesIf due old dev fed new → new.core ≡ old.core
 loses_if false dev old new fed h = ap (λ (c : ControllerState). c.core) h.0
@@ -265,13 +263,12 @@ event_are (event.Supplied slot number bytes supply) old new k k_new does =
 event_are (event.Missed slot number supply) old new k k_new does =
     no_core_event old.core new.core (core_kept old k) (misses (is_asked old.wants slot number) slot old new supply (core_kept old k) does)
 event_are (event.Took frame took) old new k k_new does = takes frame took old new (core_kept old k) (core_kept new k_new) does
-event_are (event.Left frame why) old new k k_new does = no_core_event old.core new.core (core_kept old k) (ap (λ (c : ControllerState). c.core) does.1)
 event_are (event.Turned next) old new k k_new does = turns_by (next_write old) old new next refl (core_kept old k) (core_kept new k_new) does
-event_are (event.Said write) old new k k_new does = no_core_event old.core new.core (core_kept old k) (ap (λ (c : ControllerState). c.core) does.1)
 event_are (event.Gathered dev number frame fed) old new k k_new does =
     gathers_if (is_fed old.wants dev number) dev frame old new fed (core_kept old k) (core_kept new k_new) does.0 does.1
 event_are (event.NotThere dev number fed) old new k k_new does =
     no_core_event old.core new.core (core_kept old k) (misses_data (is_fed old.wants dev number) dev old new fed does)
+event_are other old new k k_new does = no_core_event old.core new.core (core_kept old k) (ap (λ (c : ControllerState). c.core) does.1)
 
 pub first_kept : (events : List Event) (old new : ControllerState) → Runs old events new → IsController old
 first_kept [] old new run = run.0

@@ -15,7 +15,7 @@ use Rattle.guest_fetch.specs.declared.moves.Move.{Move}
 use Rattle.hba_fbs.specs.Choosing.{may_feed}
 use Rattle.hba_fbs.specs.declared.report.Wrote.{Wrote}
 use Rattle.hba_fbs.specs.declared.turn.Turn.{Turn}
-use Rattle.hba_fbs.specs.declared.turn.Turn.TheVariants.{Feeds, Orders, Rests}
+use Rattle.hba_fbs.specs.declared.turn.Turn.TheVariants.{Feeds}
 use Rattle.ahci_controller.specs.Access.{fits as fits_width}
 use Rattle.ahci_controller.specs.Feeding.{GathersIf, Loses, LosesIf, MissesIf as MissesDataIf, SendsIf, sent_to, without_feeding}
 use Rattle.ahci_controller.specs.Fetching.{GoesOn, MissesIf, SuppliesIf, answered, fits, is_asked, want_at, without_fetch}
@@ -362,10 +362,9 @@ issued slot f None old new supply was other h =
 issued slot f (Some reason) old new supply was other h = refused slot reason old new supply was h
 
 goes_on : (slot : ℕ) (came : Supplied) (old new : ControllerState) (supply : Supply) (was : Option Carrying) → ((w : Carried) → old.writes.payload ≡ Some w → w.slot ≢ slot) → GoesOn (without_fetch (answered old slot) slot) slot came supply new → AreSaid old was → AreSaid new was
-goes_on slot (came_as.More f) old new supply was other h = stays_all old new was (ap (λ (c : ControllerState). c.writes) h.0) (ap (λ (c : ControllerState). c.commands) h.0)
-goes_on slot (came_as.OutOfMemory f) old new supply was other h = stays_all old new was (ap (λ (c : ControllerState). c.writes) h.0) (ap (λ (c : ControllerState). c.commands) h.0)
 goes_on slot (came_as.Refused r) old new supply was other h = refused slot _ old new supply was h
 goes_on slot (came_as.Whole f) old new supply was other h = issued slot f (not_issued old.core slot f) old new supply was other h
+goes_on slot rest old new supply was other h = stays_all old new was (ap (λ (c : ControllerState). c.writes) h.0) (ap (λ (c : ControllerState). c.commands) h.0)
 
 supplies : (fit : Bool) (slot number : ℕ) (bytes : List ℕ) (old new : ControllerState) (supply : Supply) (was : Option Carrying) → IsController old → fits old slot number bytes ≡ fit → SuppliesIf fit old slot bytes supply new → AreSaid old was → AreSaid new was
 supplies false slot number bytes old new supply was k is h = same_said old new was h.0
@@ -417,9 +416,8 @@ gathers false dev old new result was h long = same_said old new was h.0
 gathers true dev old new result was h long = sends (may_feed old.core dev) dev old new result was h long
 
 loses : (turn : Turn) (base old new : ControllerState) (result : Fed) (was : Option Carrying) → base.writes ≡ old.writes → base.commands ≡ old.commands → Loses turn base result new → AreSaid old was → AreSaid new was
-loses Rests base old new result was writes commands h = stays_all old new was (ap (λ (c : ControllerState). c.writes) h.0 ∙ writes) (ap (λ (c : ControllerState). c.commands) h.0 ∙ commands)
 loses (Feeds dev slot offset len) base old new result was writes commands h = stays_all old new was (ap (λ (c : ControllerState). c.writes) h.rest ∙ writes) (ap (λ (c : ControllerState). c.commands) h.rest ∙ commands)
-loses (Orders dev slot command) base old new result was writes commands h = stays_all old new was (ap (λ (c : ControllerState). c.writes) h.0 ∙ writes) (ap (λ (c : ControllerState). c.commands) h.0 ∙ commands)
+loses other base old new result was writes commands h = stays_all old new was (ap (λ (c : ControllerState). c.writes) h.0 ∙ writes) (ap (λ (c : ControllerState). c.commands) h.0 ∙ commands)
 
 loses_if : (due : Bool) (dev : ℕ) (old new : ControllerState) (result : Fed) (was : Option Carrying) → LosesIf due (without_feeding old dev) dev result new → AreSaid old was → AreSaid new was
 loses_if false dev old new result was h = stays_all old new was (ap (λ (c : ControllerState). c.writes) h.0) (ap (λ (c : ControllerState). c.commands) h.0)

@@ -27,7 +27,7 @@ use Rattle.hba_fbs.specs.declared.error.WriteError.{WriteError}
 use Rattle.hba_fbs.specs.declared.register.Register as port_register
 use Rattle.hba_fbs.specs.declared.registers.Registers.{Registers}
 use Rattle.hba_fbs.specs.declared.turn.Turn.{Turn}
-use Rattle.hba_fbs.specs.declared.turn.Turn.TheVariants.{Feeds, Orders, Rests}
+use Rattle.hba_fbs.specs.declared.turn.Turn.TheVariants.{Feeds}
 use Rattle.ahci_controller.specs.Access.{merged}
 use Rattle.ahci_controller.specs.Feeding.{GathersIf, Loses, LosesIf, LosesSlot, MissesIf as MissesDataIf, SendsIf, without_feeding}
 use Rattle.ahci_controller.specs.Fetching.{GoesOn, MissesIf, SuppliesIf, answered, fits, is_asked, without_fetch}
@@ -83,9 +83,8 @@ global true value s old new h was = Stopped (ap (λ (r : Registers). r.started) 
 global false value s old new h was = still s old new (ap (λ (c : ControllerState). c.wants.pending) h) (ap (λ (c : ControllerState). c.own.bad) h) was
 
 linked : (e : Effect) (s : ℕ) (old new : ControllerState) → ResetsBy e old new → Stands s old → Keeps s new
-linked effect.Nothing s old new h was = unmoved s old new h was
 linked effect.LinkReset s old new h was = Stopped (ap (λ (r : Registers). r.started) h.core.registers)
-linked effect.LinkUp s old new h was = unmoved s old new h was
+linked other s old new h was = unmoved s old new h was
 
 told : (register : port_register.Register) (value s : ℕ) (old new : ControllerState) (latch : Latch) (own : OwnRegisters) (ignored : Option WriteError) → own.bad ≡ old.own.bad → Tells old register value latch own ignored new → Stands s old → Keeps s new
 told register value s old new latch own ignored bad h was = still s old new (ap (λ (c : ControllerState). c.wants.pending) h.rest) (ap (λ (c : ControllerState). c.own.bad) h.rest ∙ bad) was
@@ -113,12 +112,8 @@ asked true value s old (Fails h) = Fails h
 asked false value s old was = was
 
 register : (r : Register) (value s : ℕ) (old new : ControllerState) (result : Written) → Leaves r old value result new → Stands s old → Keeps s new
-register ahci.Cap value s old new result h was = unmoved s old new h.0 was
 register ahci.Ghc value s old new result h was = global (line_bits.has_bit value 0) value s old new h.0 was
 register ahci.Is value s old new result h was = still s old new (ap (λ (c : ControllerState). c.wants.pending) h.0) (ap (λ (c : ControllerState). c.own.bad) h.0) was
-register ahci.Pi value s old new result h was = unmoved s old new h.0 was
-register ahci.Vs value s old new result h was = unmoved s old new h.0 was
-register ahci.Cap2 value s old new result h was = unmoved s old new h.0 was
 register ahci.PxClb value s old new result h was = still s old new (ap (λ (c : ControllerState). c.wants.pending) h.0) (ap (λ (c : ControllerState). c.own.bad) h.0) was
 register ahci.PxClbu value s old new result h was = still s old new (ap (λ (c : ControllerState). c.wants.pending) h.0) (ap (λ (c : ControllerState). c.own.bad) h.0) was
 register ahci.PxFb value s old new result h was = still s old new (ap (λ (c : ControllerState). c.wants.pending) h.0) (ap (λ (c : ControllerState). c.own.bad) h.0) was
@@ -126,15 +121,13 @@ register ahci.PxFbu value s old new result h was = still s old new (ap (λ (c : 
 register ahci.PxIs value s old new result h was = told _ _ s old new _ _ result.ignored refl h.0 was
 register ahci.PxIe value s old new result h was = still s old new (ap (λ (c : ControllerState). c.wants.pending) h.0) (ap (λ (c : ControllerState). c.own.bad) h.0) was
 register ahci.PxCmd value s old new result h was = commands value s old new result.ignored h.0 was
-register ahci.PxTfd value s old new result h was = unmoved s old new h.0 was
-register ahci.PxSig value s old new result h was = unmoved s old new h.0 was
-register ahci.PxSsts value s old new result h was = unmoved s old new h.0 was
 register ahci.PxSctl value s old new result h was = linked (link_effect old value) s (link_moved old value) new h.0 (stands_same s old (link_moved old value) refl refl was)
 register ahci.PxSerr value s old new result h was = told _ _ s old new _ _ result.ignored refl h.0 was
 register ahci.PxSact value s old new result h was = told _ _ s old new _ _ result.ignored refl h.0 was
 register ahci.PxCi value s old new result h was = unmoved s (asked_state old value) new h.0 (asked old.own.starts value s old was)
 register ahci.PxSntf value s old new result h was = told _ _ s old new _ _ result.ignored refl h.0 was
 register ahci.PxFbs value s old new result h was = told _ _ s (record old { wants = record old.wants { feeding = 0 } }) new _ _ result.ignored refl h.0 (stands_same s old (record old { wants = record old.wants { feeding = 0 } }) refl refl was)
+register other value s old new result h was = unmoved s old new h.0 was
 
 at_register : (o : Option Register) (value : Register → ℕ) (s : ℕ) (old new : ControllerState) (result : Written) (nothing : Type 0) → (nothing → new ≡ old) → MatchOption o nothing (λ r. WritesRegister r old (value r) result new) → Stands s old → Keeps s new
 at_register None value s old new result nothing same h was = unmoved s old new (same h) was
@@ -220,10 +213,9 @@ issues slot s f None base new supply below lt was_ok ok h was = placed slot s f 
 issues slot s f (Some reason) base new supply below lt was_ok ok h was = refused slot s reason base new supply below lt h was
 
 goes_on : (slot s : ℕ) (came : Supplied) (base new : ControllerState) (supply : Supply) → slot < 32 → s < 32 → IsTable base.core.slots → IsTable new.core.slots → GoesOn base slot came supply new → Stands s base → Goes s new
-goes_on slot s (supplied.More f) base new supply below lt was_ok ok h was = waits s base new (ap (λ (c : ControllerState). c.wants.pending) h.0) (ap (λ (c : ControllerState). c.own.bad) h.0) was
-goes_on slot s (supplied.OutOfMemory f) base new supply below lt was_ok ok h was = waits s base new (ap (λ (c : ControllerState). c.wants.pending) h.0) (ap (λ (c : ControllerState). c.own.bad) h.0) was
 goes_on slot s (supplied.Refused r) base new supply below lt was_ok ok h was = refused slot s _ base new supply below lt h was
 goes_on slot s (supplied.Whole f) base new supply below lt was_ok ok h was = issues slot s f (not_issued base.core slot f) base new supply below lt was_ok ok h was
+goes_on slot s other base new supply below lt was_ok ok h was = waits s base new (ap (λ (c : ControllerState). c.wants.pending) h.0) (ap (λ (c : ControllerState). c.own.bad) h.0) was
 
 pub supply_goes : (fit : Bool) (slot number s : ℕ) (bytes : List ℕ) (old new : ControllerState) (supply : Supply) → fits old slot number bytes ≡ fit → s < 32 → IsTable old.core.slots → IsTable new.core.slots → SuppliesIf fit old slot bytes supply new → Stands s old → Goes s new
 supply_goes false slot number s bytes old new supply is lt was_ok ok h was = waits s old new (ap (λ (c : ControllerState). c.wants.pending) h.0) (ap (λ (c : ControllerState). c.own.bad) h.0) was
@@ -309,9 +301,8 @@ lost s slot old new result h (Reads here) = Reads (ap (λ (c : ControllerState).
 lost s slot old new result h (Fails here) = Fails (ap (λ (c : ControllerState). has_bit c.own.bad s) h.rest ∙ or_left old.own.bad (2 ^ slot) s here)
 
 loses : (turn : Turn) (s : ℕ) (old new : ControllerState) (result : Fed) → Loses turn old result new → Stands s old → Stands s new
-loses Rests s old new result h was = same_stands s old new h.0 was
 loses (Feeds dev slot offset len) s old new result h was = lost s slot old new result h was
-loses (Orders dev slot command) s old new result h was = same_stands s old new h.0 was
+loses other s old new result h was = same_stands s old new h.0 was
 
 loses_if : (due : Bool) (dev s : ℕ) (old new : ControllerState) (result : Fed) → LosesIf due old dev result new → Stands s old → Stands s new
 loses_if false dev s old new result h was = same_stands s old new h.0 was

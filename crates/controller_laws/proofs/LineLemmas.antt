@@ -18,7 +18,7 @@ use Rattle.guest_fetch.specs.declared.fetch.Supplied.TheVariants as came_as
 use Rattle.hba_fbs.specs.Choosing.{may_feed}
 use Rattle.hba_fbs.specs.declared.error.WriteError.{WriteError}
 use Rattle.hba_fbs.specs.declared.turn.Turn.{Turn}
-use Rattle.hba_fbs.specs.declared.turn.Turn.TheVariants.{Feeds, Orders, Rests}
+use Rattle.hba_fbs.specs.declared.turn.Turn.TheVariants.{Feeds}
 use Rattle.ahci_controller.specs.Access.{fits as fits_width, merged}
 use Rattle.ahci_controller.specs.Feeding.{GathersIf, Loses, LosesIf, MissesIf as MissesDataIf, SendsIf, without_feeding}
 use Rattle.ahci_controller.specs.Fetching.{GoesOn, MissesIf, SuppliesIf, answered, fits, is_asked, without_fetch}
@@ -172,9 +172,8 @@ global true value old new h = ap (λ (c : ControllerState). c.latch) h.rest
 global false value old new h = ap (λ (c : ControllerState). c.latch) h
 
 linked : (e : Effect) (old new : ControllerState) → ResetsBy e old new → new.latch ≡ old.latch
-linked effect.Nothing old new h = ap (λ (c : ControllerState). c.latch) h
 linked effect.LinkReset old new h = ap (λ (c : ControllerState). c.latch) h.rest
-linked effect.LinkUp old new h = ap (λ (c : ControllerState). c.latch) h
+linked other old new h = ap (λ (c : ControllerState). c.latch) h
 
 fallen : (fall : Bool) (c : ControllerState) → (if fall then dropped c else c).latch ≡ c.latch
 fallen true c = refl
@@ -188,28 +187,18 @@ asked true c d same = same
 asked false c d same = refl
 
 register : (r : Register) (value : ℕ) (old new : ControllerState) (result : Written) → Leaves r old value result new → Moves (clears r value) old.latch new.latch
-register ahci.Cap value old new result h = Stays (ap (λ (c : ControllerState). c.latch) h.0)
 register ahci.Ghc value old new result h = Latched (WroteGlobal value) (global (line_bits.has_bit value 0) value old new h.0) (λ r. r)
 register ahci.Is value old new result h = Latched (WroteStatus value) (ap (λ (c : ControllerState). c.latch) h.0) (λ r. r)
-register ahci.Pi value old new result h = Stays (ap (λ (c : ControllerState). c.latch) h.0)
-register ahci.Vs value old new result h = Stays (ap (λ (c : ControllerState). c.latch) h.0)
-register ahci.Cap2 value old new result h = Stays (ap (λ (c : ControllerState). c.latch) h.0)
-register ahci.PxClb value old new result h = Stays (ap (λ (c : ControllerState). c.latch) h.0)
-register ahci.PxClbu value old new result h = Stays (ap (λ (c : ControllerState). c.latch) h.0)
-register ahci.PxFb value old new result h = Stays (ap (λ (c : ControllerState). c.latch) h.0)
-register ahci.PxFbu value old new result h = Stays (ap (λ (c : ControllerState). c.latch) h.0)
 register ahci.PxIs value old new result h = Latched (WrotePortStatus value) (ap (λ (c : ControllerState). c.latch) h.0.rest) (λ r. r)
 register ahci.PxIe value old new result h = Latched (WrotePortMask value) (ap (λ (c : ControllerState). c.latch) h.0) (λ r. r)
 register ahci.PxCmd value old new result h = Stays (starts _ _ h.0.middle new result.ignored h.0.starts ∙ ap (λ (c : ControllerState). c.latch) h.0.clears.rest)
-register ahci.PxTfd value old new result h = Stays (ap (λ (c : ControllerState). c.latch) h.0)
-register ahci.PxSig value old new result h = Stays (ap (λ (c : ControllerState). c.latch) h.0)
-register ahci.PxSsts value old new result h = Stays (ap (λ (c : ControllerState). c.latch) h.0)
 register ahci.PxSctl value old new result h = Latched (Caused _) (linked (link_effect old value) (link_moved old value) new h.0) (λ r. r)
 register ahci.PxSerr value old new result h = Latched (WroteError value) (ap (λ (c : ControllerState). c.latch) h.0.rest) (λ r. r)
 register ahci.PxSact value old new result h = Stays (ap (λ (c : ControllerState). c.latch) h.0.rest)
 register ahci.PxCi value old new result h = Stays (ap (λ (c : ControllerState). c.latch) h.0 ∙ asked old.own.starts old _ refl)
 register ahci.PxSntf value old new result h = Stays (ap (λ (c : ControllerState). c.latch) h.0.rest)
 register ahci.PxFbs value old new result h = Latched (Caused _) (ap (λ (c : ControllerState). c.latch) h.0.rest) (λ r. r)
+register other value old new result h = Stays (ap (λ (c : ControllerState). c.latch) h.0)
 
 -- where no register begins, nothing happens
 nothing_told : (cleared : Bool) (old new : ControllerState) (result : Written) → new ≡ old → result.line ≡ Steady → Tells cleared old.latch new.latch (result.line ∷ [])
@@ -243,10 +232,9 @@ placed slot command None base new supply h = no_tell base new supply _ (ap (λ (
 placed slot command (Some reason) base new supply h = refused slot reason base new supply h
 
 goes_on : (slot : ℕ) (came : Supplied) (base new : ControllerState) (supply : Supply) → GoesOn base slot came supply new → Tells false base.latch new.latch (edges_of_supply supply)
-goes_on slot (came_as.More f) base new supply h = no_tell base new supply _ (ap (λ (c : ControllerState). c.latch) h.0) h.1 refl
-goes_on slot (came_as.OutOfMemory f) base new supply h = no_tell base new supply _ (ap (λ (c : ControllerState). c.latch) h.0) h.1 refl
 goes_on slot (came_as.Refused r) base new supply h = refused slot _ base new supply h
 goes_on slot (came_as.Whole command) base new supply h = placed slot command (not_issued base.core slot command) base new supply h
+goes_on slot other base new supply h = no_tell base new supply _ (ap (λ (c : ControllerState). c.latch) h.0) h.1 refl
 
 supplies : (fit : Bool) (slot : ℕ) (bytes : List ℕ) (old new : ControllerState) (supply : Supply) → SuppliesIf fit old slot bytes supply new → Tells false old.latch new.latch (edges_of_supply supply)
 supplies false slot bytes old new supply h = no_tell old new supply _ (ap (λ (c : ControllerState). c.latch) h.0) h.1 refl
@@ -300,10 +288,9 @@ gathers false dev old new fed h = not_fed old new fed _ (ap (λ (c : ControllerS
 gathers true dev old new fed h = sends (may_feed old.core dev) dev (without_feeding old dev) new fed h
 
 loses : (turn : Turn) (base new : ControllerState) (fed : Fed) → Loses turn base fed new → Tells false base.latch new.latch (edges_of_fed fed)
-loses Rests base new fed h = not_fed base new fed _ (ap (λ (c : ControllerState). c.latch) h.0) h.1 refl
 loses (Feeds dev slot offset len) base new fed h =
     subst (λ (f : Fed). Tells false base.latch new.latch (edges_of_fed f)) (sym h.missed) (caused base.latch new.latch _ _ (ap (λ (c : ControllerState). c.latch) h.rest) refl)
-loses (Orders dev slot command) base new fed h = not_fed base new fed _ (ap (λ (c : ControllerState). c.latch) h.0) h.1 refl
+loses other base new fed h = not_fed base new fed _ (ap (λ (c : ControllerState). c.latch) h.0) h.1 refl
 
 loses_if : (due : Bool) (dev : ℕ) (old new : ControllerState) (fed : Fed) → LosesIf due (without_feeding old dev) dev fed new → Tells false old.latch new.latch (edges_of_fed fed)
 loses_if false dev old new fed h = not_fed old new fed _ (ap (λ (c : ControllerState). c.latch) h.0) h.1 refl
@@ -333,11 +320,10 @@ event_line (event.WroteWide offset width value written) old new does = wide_line
 event_line (event.Supplied slot number bytes supply) old new does = (supplies (fits old slot number bytes) slot bytes old new supply does).line
 event_line (event.Missed slot number supply) old new does = (misses (is_asked old.wants slot number) slot old new supply does).line
 event_line (event.Took frame took) old new does = (takes frame old new took does.hears).line
-event_line (event.Left frame why) old new does = ap (λ (c : ControllerState). raised c.latch) (sym does.1)
 event_line (event.Turned next) old new does = ap raised (sym (turns (next_write old) old new next does))
-event_line (event.Said write) old new does = ap (λ (c : ControllerState). raised c.latch) (sym does.1)
 event_line (event.Gathered dev number frame fed) old new does = (gathers (is_fed old.wants dev number) dev old new fed does.1).line
 event_line (event.NotThere dev number fed) old new does = (misses_data (is_fed old.wants dev number) dev old new fed does).line
+event_line other old new does = ap (λ (c : ControllerState). raised c.latch) (sym does.1)
 
 run_line : (events : List Event) (old new : ControllerState) → Runs old events new → GoesBy (raised old.latch) (edges_in events) (raised new.latch)
 run_line [] old new run = ap (λ (c : ControllerState). raised c.latch) (sym run.1)
@@ -365,11 +351,10 @@ event_holds (event.WroteWide offset width value written) old new does was = wide
 event_holds (event.Supplied slot number bytes supply) old new does was = keeps_by _ old.latch new.latch (supplies (fits old slot number bytes) slot bytes old new supply does).moves was
 event_holds (event.Missed slot number supply) old new does was = keeps_by _ old.latch new.latch (misses (is_asked old.wants slot number) slot old new supply does).moves was
 event_holds (event.Took frame took) old new does was = keeps_by _ old.latch new.latch (takes frame old new took does.hears).moves was
-event_holds (event.Left frame why) old new does was = subst (λ (c : ControllerState). Holds c.latch) (sym does.1) was
 event_holds (event.Turned next) old new does was = subst Holds (sym (turns (next_write old) old new next does)) was
-event_holds (event.Said write) old new does was = subst (λ (c : ControllerState). Holds c.latch) (sym does.1) was
 event_holds (event.Gathered dev number frame fed) old new does was = keeps_by _ old.latch new.latch (gathers (is_fed old.wants dev number) dev old new fed does.1).moves was
 event_holds (event.NotThere dev number fed) old new does was = keeps_by _ old.latch new.latch (misses_data (is_fed old.wants dev number) dev old new fed does).moves was
+event_holds other old new does was = subst (λ (c : ControllerState). Holds c.latch) (sym does.1) was
 
 run_holds : (events : List Event) (old new : ControllerState) → Runs old events new → Holds old.latch → Holds new.latch
 run_holds [] old new run was = subst (λ (c : ControllerState). Holds c.latch) (sym run.1) was
@@ -406,11 +391,10 @@ pending_falls old new (event.WroteWide offset width value written) does was now 
 pending_falls old new (event.Supplied slot number bytes supply) does was now = not_fallen old new (supplies (fits old slot number bytes) slot bytes old new supply does).moves was now
 pending_falls old new (event.Missed slot number supply) does was now = not_fallen old new (misses (is_asked old.wants slot number) slot old new supply does).moves was now
 pending_falls old new (event.Took frame took) does was now = not_fallen old new (takes frame old new took does.hears).moves was now
-pending_falls old new (event.Left frame why) does was now = same_pending old new (ap (λ (c : ControllerState). c.latch) does.1) was now
 pending_falls old new (event.Turned next) does was now = same_pending old new (turns (next_write old) old new next does) was now
-pending_falls old new (event.Said write) does was now = same_pending old new (ap (λ (c : ControllerState). c.latch) does.1) was now
 pending_falls old new (event.Gathered dev number frame fed) does was now = not_fallen old new (gathers (is_fed old.wants dev number) dev old new fed does.1).moves was now
 pending_falls old new (event.NotThere dev number fed) does was now = not_fallen old new (misses_data (is_fed old.wants dev number) dev old new fed does).moves was now
+pending_falls old new other does was now = same_pending old new (ap (λ (c : ControllerState). c.latch) does.1) was now
 
 risen : (cleared : Bool) (old new : ControllerState) → Moves cleared old.latch new.latch → pending_shown old ≡ false → pending_shown new ≡ true → is_calm new ≡ false
 risen cleared old new moves was now = pends_calm new (rises_by cleared old.latch new.latch moves (sym (pending_is old) ∙ was) (sym (pending_is new) ∙ now))
@@ -432,8 +416,7 @@ pending_rises old new (event.WroteWide offset width value written) does was now 
 pending_rises old new (event.Supplied slot number bytes supply) does was now = risen _ old new (supplies (fits old slot number bytes) slot bytes old new supply does).moves was now
 pending_rises old new (event.Missed slot number supply) does was now = risen _ old new (misses (is_asked old.wants slot number) slot old new supply does).moves was now
 pending_rises old new (event.Took frame took) does was now = risen _ old new (takes frame old new took does.hears).moves was now
-pending_rises old new (event.Left frame why) does was now = same_risen old new (ap (λ (c : ControllerState). c.latch) does.1) was now
 pending_rises old new (event.Turned next) does was now = same_risen old new (turns (next_write old) old new next does) was now
-pending_rises old new (event.Said write) does was now = same_risen old new (ap (λ (c : ControllerState). c.latch) does.1) was now
 pending_rises old new (event.Gathered dev number frame fed) does was now = risen _ old new (gathers (is_fed old.wants dev number) dev old new fed does.1).moves was now
 pending_rises old new (event.NotThere dev number fed) does was now = risen _ old new (misses_data (is_fed old.wants dev number) dev old new fed does).moves was now
+pending_rises old new other does was now = same_risen old new (ap (λ (c : ControllerState). c.latch) does.1) was now

@@ -169,13 +169,8 @@ admitted_length dev frame (Ok fis) is = by (is_admitted dev fis)
 -- ---- the slot
 
 brought : (own : DeviceSlots) (len : ℕ) (h : Happening) → Brings own len h → IfSome (wrote_by h) (BringsNext own len)
-brought own len happening.Nothing x = tt
-brought own len (happening.Answered a) x = tt
-brought own len (happening.Named mask) x = tt
-brought own len (happening.SetUp c) x = tt
-brought own len (happening.PioSetUp count to_host) x = tt
-brought own len happening.Activated x = tt
 brought own len (happening.Carried wrote finishes) x = x
+brought own len other x = tt
 
 command_there : (issue : Option Issue) (command : Option Command) (f : Option Fetched) → is_some issue ≡ true → (command ≡ None → issue ≡ None) → IsOffered command f → is_some f ≡ true
 command_there issue None f some have offered = absurd (false≢true (sym (ap is_some (have refl)) ∙ some))
@@ -282,9 +277,8 @@ part_own c frame len (Some context) k now few = by_way context.to_host
     by_way false = tt
 
 payload_few : (frame : List ℕ) (r : Result Fis FisFault) → seen frame ≡ r → 4 ≤ length frame → 4 + payload_of r ≤ length frame
-payload_few frame (Err e) is long = long
 payload_few frame (Ok (view.Payload f)) is long = let same = fis_length frame (view.Payload f) is in omega (arith, same, long)
-payload_few frame (Ok other) is long = long
+payload_few frame other is long = long
 
 own_of : (c : ControllerState) (frame : List ℕ) (o : Option Wrote) → IfSome o (IsWholeData c frame) → IfSome o (IsOwnData c frame)
 own_of c frame None h = tt

@@ -17,7 +17,7 @@ use Rattle.ahci_controller.specs.declared.next.Next.TheVariants as next_step
 use Rattle.ahci_controller.specs.declared.wants.Carried.{Carried}
 use Rattle.hba_fbs.specs.Turning.{orders}
 use Rattle.hba_fbs.specs.declared.turn.Turn.{Turn}
-use Rattle.hba_fbs.specs.declared.turn.Turn.TheVariants.{Feeds, Orders, Rests}
+use Rattle.hba_fbs.specs.declared.turn.Turn.TheVariants.{Rests}
 use Rattle.controller_laws.specs.Places.{IsPlaced, IsWritten, WritesArePlaced}
 
 -- ---- the first move
@@ -111,13 +111,11 @@ write_is c (Some w) next is h = run_is c w (run_of c w) next is refl h
 -- what is no write
 order_unwritten : (c : ControllerState) (slot : ℕ) (turn : Turn) (next : Next) → next ≡ order_next slot turn → IsWritten c next
 order_unwritten c slot Rests next is = subst (IsWritten c) (sym is) tt
-order_unwritten c slot (Feeds dev s offset len) next is = subst (IsWritten c) (sym is) tt
-order_unwritten c slot (Orders dev s command) next is = subst (IsWritten c) (sym is) tt
+order_unwritten c slot other next is = subst (IsWritten c) (sym is) tt
 
 feed_unwritten : (c : ControllerState) (dev number : ℕ) (turn : Turn) (next : Next) → next ≡ feed_next dev number turn → IsWritten c next
 feed_unwritten c dev number Rests next is = subst (IsWritten c) (sym is) tt
-feed_unwritten c dev number (Feeds to slot offset len) next is = subst (IsWritten c) (sym is) tt
-feed_unwritten c dev number (Orders to slot command) next is = subst (IsWritten c) (sym is) tt
+feed_unwritten c dev number other next is = subst (IsWritten c) (sym is) tt
 
 frames_unwritten : (c : ControllerState) (dev slot : Option ℕ) (fed : Bool) (base new : ControllerState) (next : Next) → FramesFor dev slot fed base next new → IsWritten c next
 frames_unwritten c None None fed base new next h = subst (IsWritten c) (sym h.1) tt

@@ -9,7 +9,7 @@ use Rattle.hba_commands.specs.declared.command.Command.{Command}
 use Rattle.slots.specs.Slots.{Issue, Slots, has_bit, holds, is_control, is_pio, issue_at, match_some, own_issue}
 use Rattle.slots.specs.Work.{is_dma, is_queued, is_read}
 use Rattle.slots.specs.declared.work.Kind.{Kind}
-use Rattle.slots.specs.declared.work.Kind.TheVariants.{QueuedRead, QueuedWrite, DmaIn, DmaOut, PioIn, PioOut, NoData, Control}
+use Rattle.slots.specs.declared.work.Kind.TheVariants.{PioIn, Control}
 use Rattle.slots.specs.declared.work.Work.{Work}
 use Rattle.slots.specs.declared.answer.Answered as answered_type
 use Rattle.slots.specs.declared.answer.Answered.TheVariants as answer
@@ -83,24 +83,12 @@ not_queued true false h q = false≢true q
 not_queued false b h q = false≢true h
 
 queued_no_pio : (k : Kind) → is_queued k ≡ true → is_pio k ≡ false
-queued_no_pio QueuedRead h = refl
-queued_no_pio QueuedWrite h = refl
-queued_no_pio DmaIn h = refl
-queued_no_pio DmaOut h = refl
 queued_no_pio PioIn h = absurd (false≢true h)
-queued_no_pio PioOut h = refl
-queued_no_pio NoData h = refl
-queued_no_pio Control h = refl
+queued_no_pio other h = refl
 
 pub queued_no_control : (k : Kind) → is_queued k ≡ true → is_control k ≡ false
-queued_no_control QueuedRead h = refl
-queued_no_control QueuedWrite h = refl
-queued_no_control DmaIn h = refl
-queued_no_control DmaOut h = refl
-queued_no_control PioIn h = refl
-queued_no_control PioOut h = refl
-queued_no_control NoData h = refl
 queued_no_control Control h = absurd (false≢true h)
+queued_no_control other h = refl
 
 at_issue : (f : Transfer → Bool) (o : Option Transfer) (t : Transfer) → o ≡ Some t → match_some o false f ≡ f t
 at_issue f o t is = ap (λ (x : Option Transfer). match_some x false f) is
@@ -129,9 +117,6 @@ IsOfFis history.Emptied = ⊥
 IsOfFis e = Unit {0}
 
 pub frees_named : (s : ℕ) (e : Event) (past : History) (t : Transfer) → IsOfFis e → issued s past ≡ Some t → is_queued t.work.kind ≡ true → frees s e past ≡ true → Names s e past t.work.len
-frees_named s (history.Issued slot x) past t fis is queued h = absurd fis
-frees_named s (history.SentControl slot) past t fis is queued h = absurd fis
-frees_named s history.Emptied past t fis is queued h = absurd fis
 frees_named s (history.Sent slot) past t fis is queued h = absurd (false≢true (sym (at_issue (λ x. false) (issued s past) t is) ∙ h))
 frees_named s (history.SetUp tag offset count to_host) past t fis is queued h = absurd (false≢true (sym (at_issue (λ x. false) (issued s past) t is) ∙ h))
 frees_named s (history.PioSetUp count to_host ends) past t fis is queued h = absurd (false≢true (sym (at_issue (λ x. false) (issued s past) t is) ∙ h))
@@ -141,14 +126,13 @@ frees_named s history.Answered past t fis is queued h =
 frees_named s (history.Named mask) past t fis is queued h =
     let both = and_parts (has_bit mask s) (is_queued t.work.kind && is_all_filled (filled s past) t.work.len) (sym (at_issue (λ x. completes s (history.Named mask) past x.work) (issued s past) t is) ∙ h) in
     record { mask = mask; is = refl; names = both.0; moved = (and_parts (is_queued t.work.kind) (is_all_filled (filled s past) t.work.len) both.1).1 }
+frees_named s other past t fis is queued h = absurd fis
 
 -- ---- the events of a core
 
 answer_event : (s : ℕ) (a : answered_type.Answered) → IfSome (event_of_answer a) (λ e. IsOfFis e × NotIssue s e)
-answer_event s answer.Nobody = (tt, tt)
-answer_event s (answer.Queued slot) = (tt, tt)
-answer_event s (answer.Done slot) = (tt, tt)
 answer_event s (answer.Short slot) = tt
+answer_event s other = (tt, tt)
 
 block_event : (s count : ℕ) (to_host : Bool) (b : Option Block) → IfSome (event_of_block count to_host b) (λ e. IsOfFis e × NotIssue s e)
 block_event s count to_host None = tt
@@ -157,11 +141,9 @@ block_event s count to_host (Some b) = (tt, tt)
 heard_event : (s : ℕ) (h : Happening) (block : Option Block) (payload : List ℕ) → IfSome (event_of h block payload) (λ e. IsOfFis e × NotIssue s e)
 heard_event s happening.Nothing block payload = tt
 heard_event s (happening.Answered a) block payload = answer_event s a
-heard_event s (happening.Named mask) block payload = (tt, tt)
-heard_event s (happening.SetUp c) block payload = (tt, tt)
 heard_event s (happening.PioSetUp count to_host) block payload = block_event s count to_host block
 heard_event s happening.Activated block payload = tt
-heard_event s (happening.Carried wrote finishes) block payload = (tt, tt)
+heard_event s other block payload = (tt, tt)
 
 pub frame_event : (s : ℕ) (port : Port) (room : Room) (frame : List ℕ) → IfSome (event_by port room frame) (λ e. IsOfFis e × NotIssue s e)
 frame_event s port room frame = by (ignores (port_of frame) port frame)
@@ -226,15 +208,13 @@ plain_happened s n port (core.Took frame room report) plain = took_plain s (port
 plain_happened s n port (core.Wrote register value offer tables) plain = written_plain s n port register value offer tables plain
 plain_happened s n port (core.Flushed dev) plain = if_empties s (dev == n)
 plain_happened s n port (core.Gave bytes) plain = absurd plain
-plain_happened s n port core.Failed plain = tt
 plain_happened s n port (core.Placed dev slots offer tables) plain = absurd plain
 plain_happened s n port (core.Chose turn bytes) plain = turned_plain s n port turn bytes
-plain_happened s n port (core.Greeted frame report) plain = tt
 plain_happened s n port (core.Commanded value) plain = if_empties s (falls port.registers value)
-plain_happened s n port (core.Overrode dev) plain = tt
 plain_happened s n port (core.Hung dev line) plain = if_empties s (dev == n)
 plain_happened s n port core.Relinked plain = (tt, tt)
 plain_happened s n port core.Restarted plain = (tt, tt)
+plain_happened s n port other plain = tt
 
 pub plain_through : (s n : ℕ) (past : History) (old new : Port) (events : List CoreEvent) (run : RunsBy old events new) → ArePlain events → NoIssue s past → NoIssue s (history_through n past old new events run)
 plain_through s n past old new [] run plain h = h
@@ -292,9 +272,6 @@ sent_keeps s slot past true other = by (slot == s) (λ h. other h)
     by : (b : Bool) → (b ≡ true → true ≡ false) → (b || false) ≡ false
     by false h = refl
     by true h = h refl
-
-queued_at : (o : Option Issue) → holds is_control_issue o ≡ true → (i : Issue) → o ≡ Some i → is_control i.work.kind ≡ true
-queued_at o h i is = sym (ap (holds is_control_issue) is) ∙ h
 
 carried_keeps : (s : ℕ) (bytes : List ℕ) (past : History) (t : Transfer) → issued s past ≡ Some t → is_queued t.work.kind ≡ true → is_freed_in s (history.Carried bytes ∷ []) past ≡ false
 carried_keeps s bytes past t is queued = by (frees s (history.Carried bytes) past) refl

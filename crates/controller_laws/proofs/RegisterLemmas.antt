@@ -63,12 +63,11 @@ global_are true value old new ok ok_new h = record {
 global_are false value old new ok ok_new h = no_core_event old.core new.core ok (ap (λ (c : ControllerState). c.core) h)
 
 linked_are : (e : Effect) (value : ℕ) (old new : ControllerState) → IsCore old.core → IsCore new.core → ResetsBy e (link_moved old value) new → AreCoreEvents old.core (relinked_by e old value) new.core
-linked_are effect.Nothing value old new ok ok_new h = no_core_event old.core new.core ok (ap (λ (c : ControllerState). c.core) h)
 linked_are effect.LinkReset value old new ok ok_new h = record {
   run = (link_reset old.core, refl, (new.core, h.core, refl));
   sound = record { cores = (ok, (link_kept old.core ok, ok_new)); frames = (tt, (tt, tt)) };
 }
-linked_are effect.LinkUp value old new ok ok_new h = no_core_event old.core new.core ok (ap (λ (c : ControllerState). c.core) h)
+linked_are other value old new ok ok_new h = no_core_event old.core new.core ok (ap (λ (c : ControllerState). c.core) h)
 
 -- ---- PxCMD
 
@@ -127,12 +126,8 @@ asked_core true c d same = same
 asked_core false c d same = refl
 
 pub register_are : (register : Register) (value : ℕ) (old new : ControllerState) (result : Written) → IsCore old.core → IsCore new.core → Leaves register old value result new → AreCoreEvents old.core (of_register register old value) new.core
-register_are ahci.Cap value old new result ok ok_new h = no_core_event old.core new.core ok (core_is old new h.0)
 register_are ahci.Ghc value old new result ok ok_new h = global_are (line_bits.has_bit value 0) value old new ok ok_new h.0
 register_are ahci.Is value old new result ok ok_new h = no_core_event old.core new.core ok (ap (λ (c : ControllerState). c.core) h.0)
-register_are ahci.Pi value old new result ok ok_new h = no_core_event old.core new.core ok (core_is old new h.0)
-register_are ahci.Vs value old new result ok ok_new h = no_core_event old.core new.core ok (core_is old new h.0)
-register_are ahci.Cap2 value old new result ok ok_new h = no_core_event old.core new.core ok (core_is old new h.0)
 register_are ahci.PxClb value old new result ok ok_new h = no_core_event old.core new.core ok (ap (λ (c : ControllerState). c.core) h.0)
 register_are ahci.PxClbu value old new result ok ok_new h = no_core_event old.core new.core ok (ap (λ (c : ControllerState). c.core) h.0)
 register_are ahci.PxFb value old new result ok ok_new h = no_core_event old.core new.core ok (ap (λ (c : ControllerState). c.core) h.0)
@@ -140,9 +135,6 @@ register_are ahci.PxFbu value old new result ok ok_new h = no_core_event old.cor
 register_are ahci.PxIs value old new result ok ok_new h = told_are on_port.Is value old new _ _ result.ignored ok ok_new h.0
 register_are ahci.PxIe value old new result ok ok_new h = no_core_event old.core new.core ok (ap (λ (c : ControllerState). c.core) h.0)
 register_are ahci.PxCmd value old new result ok ok_new h = commands_are value old new result.ignored ok ok_new h.0
-register_are ahci.PxTfd value old new result ok ok_new h = no_core_event old.core new.core ok (core_is old new h.0)
-register_are ahci.PxSig value old new result ok ok_new h = no_core_event old.core new.core ok (core_is old new h.0)
-register_are ahci.PxSsts value old new result ok ok_new h = no_core_event old.core new.core ok (core_is old new h.0)
 register_are ahci.PxSctl value old new result ok ok_new h = linked_are (link_effect old value) value old new ok ok_new h.0
 register_are ahci.PxSerr value old new result ok ok_new h = told_are on_port.Serr value old new _ _ result.ignored ok ok_new h.0
 register_are ahci.PxSact value old new result ok ok_new h = told_are on_port.Sact _ old new _ _ result.ignored ok ok_new h.0
@@ -150,6 +142,7 @@ register_are ahci.PxCi value old new result ok ok_new h = no_core_event old.core
 register_are ahci.PxSntf value old new result ok ok_new h = told_are on_port.Sntf value old new _ _ result.ignored ok ok_new h.0
 register_are ahci.PxFbs value old new result ok ok_new h =
     told_are on_port.Fbs _ (record old { wants = record old.wants { feeding = 0 } }) new _ _ result.ignored ok ok_new h.0
+register_are other value old new result ok ok_new h = no_core_event old.core new.core ok (core_is old new h.0)
 
 -- ---- accesses
 

@@ -81,13 +81,8 @@ IsNoOrder (next_step.Order dev slot fis) = ⊥
 IsNoOrder next = Unit {0}
 
 no_order : (old new : ControllerState) (next : Next) → IsNoOrder next → new.circle.slot ≡ old.circle.slot → IsRound old next new
-no_order old new next_step.Nothing is same = same
-no_order old new (next_step.Payload m) is same = same
-no_order old new (next_step.Posted m) is same = same
-no_order old new (next_step.Counted count) is same = same
-no_order old new (next_step.Read ask) is same = same
 no_order old new (next_step.Order dev slot fis) is same = absurd is
-no_order old new (next_step.Feed dev number slot offset len) is same = same
+no_order old new other is same = same
 
 as_order : (old new : ControllerState) (next other : Next) → next ≡ other → IsRound old other new → IsRound old next new
 as_order old new next other is round = subst (λ (n : Next). IsRound old n new) (sym is) round
@@ -105,9 +100,8 @@ orders_round : (slot : ℕ) (base new : ControllerState) (next : Next) → HaveC
 orders_round slot base new next have at h = ordered (orders base.core slot) slot base new next refl have at h.is (ap (λ (c : ControllerState). c.circle.slot) h.rest)
 
 fed_round : (turn : Turn) (dev number : ℕ) (base new : ControllerState) (next : Next) → next ≡ feed_next dev number turn → new.circle.slot ≡ base.circle.slot → IsRound base next new
-fed_round Rests dev number base new next is same = as_order base new next next_step.Nothing is same
 fed_round (Feeds to slot offset len) dev number base new next is same = as_order base new next (next_step.Feed dev number slot offset len) is same
-fed_round (Orders to slot command) dev number base new next is same = as_order base new next next_step.Nothing is same
+fed_round other dev number base new next is same = as_order base new next next_step.Nothing is same
 
 frames : (dev slot : Option ℕ) (alternates : Bool) (base new : ControllerState) (next : Next) → HaveCommands base.core.slots base.core.commands → next_slot base ≡ slot → FramesFor dev slot alternates base next new → IsRound base next new
 frames None None alternates base new next have at h = as_order base new next next_step.Nothing h.1 (ap (λ (c : ControllerState). c.circle.slot) h.0)
@@ -160,12 +154,7 @@ turns_by None old new next is have h = at_written next (turns_if (is_halted (wri
   where
     at_written : (n : Next) → IsRound (written old) n new → IsRound old n new
     at_written next_step.Nothing round = round
-    at_written (next_step.Payload m) round = round
-    at_written (next_step.Posted m) round = round
-    at_written (next_step.Counted count) round = round
-    at_written (next_step.Read ask) round = round
-    at_written (next_step.Order dev slot fis) round = round
-    at_written (next_step.Feed dev number slot offset len) round = round
+    at_written other round = round
 turns_by (Some write) old new next is have h = as_order old new next write h.0 (no_order old new write (any_write old old.writes.payload write is) (ap (λ (c : ControllerState). c.circle.slot) h.1))
 
 -- ---- other calls leave the circle
@@ -183,10 +172,9 @@ issued slot f None base new supply h = ap (λ (c : ControllerState). c.circle) h
 issued slot f (Some reason) base new supply h = ap (λ (c : ControllerState). c.circle) h.rest
 
 goes_on : (slot : ℕ) (came : Supplied) (base new : ControllerState) (supply : Supply) → GoesOn base slot came supply new → new.circle ≡ base.circle
-goes_on slot (came_as.More f) base new supply h = ap (λ (c : ControllerState). c.circle) h.0
-goes_on slot (came_as.OutOfMemory f) base new supply h = ap (λ (c : ControllerState). c.circle) h.0
 goes_on slot (came_as.Refused r) base new supply h = ap (λ (c : ControllerState). c.circle) h.rest
 goes_on slot (came_as.Whole f) base new supply h = issued slot f (not_issued base.core slot f) base new supply h
+goes_on slot other base new supply h = ap (λ (c : ControllerState). c.circle) h.0
 
 supplies : (fit : Bool) (slot : ℕ) (bytes : List ℕ) (old new : ControllerState) (supply : Supply) → SuppliesIf fit old slot bytes supply new → new.circle ≡ old.circle
 supplies false slot bytes old new supply h = ap (λ (c : ControllerState). c.circle) h.0
@@ -205,9 +193,8 @@ gathers false dev old new fed h = ap (λ (c : ControllerState). c.circle) h.0
 gathers true dev old new fed h = sends (may_feed old.core dev) dev (without_feeding old dev) new fed h
 
 loses : (turn : Turn) (base new : ControllerState) (fed : Fed) → Loses turn base fed new → new.circle ≡ base.circle
-loses Rests base new fed h = ap (λ (c : ControllerState). c.circle) h.0
 loses (Feeds dev slot offset len) base new fed h = ap (λ (c : ControllerState). c.circle) h.rest
-loses (Orders dev slot command) base new fed h = ap (λ (c : ControllerState). c.circle) h.0
+loses other base new fed h = ap (λ (c : ControllerState). c.circle) h.0
 
 loses_if : (due : Bool) (dev : ℕ) (base new : ControllerState) (fed : Fed) → LosesIf due base dev fed new → new.circle ≡ base.circle
 loses_if false dev base new fed h = ap (λ (c : ControllerState). c.circle) h.0
@@ -247,13 +234,8 @@ still : (s count : ℕ) (old new : ControllerState) → new.circle.slot ≡ old.
 still s count old new same h = subst (λ (n : ℕ). AreRounds s old.circle.slot n) (omega arith) (same_last s old.circle.slot new.circle.slot count same h)
 
 turned : (s count : ℕ) (old new : ControllerState) (next : Next) → IsRound old next new → IsPassed s old next → AreRounds s new.circle.slot count → AreRounds s old.circle.slot (goes next + count)
-turned s count old new next_step.Nothing round passed h = still s count old new round h
-turned s count old new (next_step.Payload m) round passed h = still s count old new round h
-turned s count old new (next_step.Posted m) round passed h = still s count old new round h
-turned s count old new (next_step.Counted count_is) round passed h = still s count old new round h
-turned s count old new (next_step.Read ask) round passed h = still s count old new round h
 turned s count old new (next_step.Order dev slot fis) round passed h = one_more s old.circle.slot slot (due_slots old.core) count round.0 passed.0 passed.1 (same_last s slot new.circle.slot count round.1 h)
-turned s count old new (next_step.Feed dev number slot offset len) round passed h = still s count old new round h
+turned s count old new other round passed h = still s count old new round h
 
 stayed : (s count : ℕ) (old new : ControllerState) → new.circle ≡ old.circle → AreRounds s new.circle.slot count → AreRounds s old.circle.slot count
 stayed s count old new same h = same_last s old.circle.slot new.circle.slot count (ap (λ (c : Circle). c.slot) same) h

@@ -1,5 +1,5 @@
 -- What the command of a slot is, over a run.
-use Rattle.std.proofs.Common.{◌≡◌, ◌≢◌, ℕ, ◌<◌, ◌&&◌, Bool, true, false, List, [], ◌∷◌, ◌++◌, length, get_or, set, refl, sym, ap, subst, ◌∙◌, inl, inr, Option, Some, None, get_or-set_same, get_or-set_other, length-set}
+use Rattle.std.proofs.Common.{◌≡◌, ◌≢◌, ℕ, ◌<◌, Bool, true, false, List, [], ◌∷◌, ◌++◌, length, get_or, set, refl, sym, ap, subst, ◌∙◌, inl, inr, Option, Some, None, get_or-set_same, get_or-set_other, length-set}
 use Rattle.std.specs.Prelude.{◌==◌, MatchOption, nat_lt, if◌then◌else◌}
 use Rattle.std.proofs.lemmas.Bool.{and_parts, cases_eq, eq-eqb, eqb-true, false≢true, ltb-true, true≢false}
 use Rattle.std.proofs.lemmas.List.{get_or-replicate, length-replicate}
@@ -13,7 +13,7 @@ use Rattle.guest_fetch.specs.Heads.{head_of}
 use Rattle.guest_fetch.specs.Places.{Places}
 use Rattle.guest_fetch.specs.Runs.{Comes, CommandIsWhatWasSupplied, IsSupplied, Then, entries_of}
 use Rattle.guest_fetch.specs.declared.fetch.Step.{Step}
-use Rattle.guest_fetch.specs.declared.fetch.Step.TheVariants.{AtEntries, AtFis, AtHeader}
+use Rattle.guest_fetch.specs.declared.fetch.Step.TheVariants.{AtEntries, AtHeader}
 use Rattle.guest_fetch.specs.declared.fetch.Supplied.{Supplied}
 use Rattle.guest_fetch.specs.declared.fetch.Supplied.TheVariants as came_as
 use Rattle.guest_fetch.specs.declared.head.Head.{Head}
@@ -24,7 +24,7 @@ use Rattle.hba_fbs.specs.Choosing.{may_feed}
 use Rattle.hba_fbs.specs.Views.{last_command}
 use Rattle.hba_fbs.specs.declared.report.Wrote.{Wrote}
 use Rattle.hba_fbs.specs.declared.turn.Turn.{Turn}
-use Rattle.hba_fbs.specs.declared.turn.Turn.TheVariants.{Feeds, Orders, Rests}
+use Rattle.hba_fbs.specs.declared.turn.Turn.TheVariants.{Feeds}
 use Rattle.ahci_controller.specs.Access.{fits as fits_width}
 use Rattle.ahci_controller.specs.Feeding.{GathersIf, Loses, LosesIf, MissesIf as MissesDataIf, SendsIf, sent_to, without_feeding}
 use Rattle.ahci_controller.specs.Fetching.{GoesOn, MissesIf, SuppliesIf, SuppliesSlot, answered, fetch_of, fits, is_asked, want_at, without_fetch}
@@ -53,20 +53,13 @@ use Rattle.controller_laws.proofs.TouchLemmas.Touches.{Drops, Keeps}
 abbrev start : ℕ → Fetching
 start at = record { at = at; step = AtHeader }
 
-same_or : (g f : Fetching) (bytes : List ℕ) → g ≡ f → length bytes ≡ (want_of f).len → length bytes ≡ (want_of g).len
-same_or g f bytes is len = subst (λ (x : Fetching). length bytes ≡ (want_of x).len) (sym is) len
-
 one_later : (goes : Fetching → Type 0) (f : Fetching) (parts : List (List ℕ)) (bytes : List ℕ) (last : Fetching) (came : Supplied) → ComesOn (ComesTo f parts) came → ((x : Fetching) → ComesTo f parts x → ComesTo last (parts ++ bytes ∷ []) x) → ComesOn (ComesTo last (parts ++ bytes ∷ [])) came
 one_later goes f parts bytes last (came_as.More x) h on = on x h
-one_later goes f parts bytes last (came_as.Whole x) h on = absurd h
-one_later goes f parts bytes last (came_as.Refused x) h on = absurd h
-one_later goes f parts bytes last (came_as.OutOfMemory x) h on = absurd h
+one_later goes f parts bytes last other h on = absurd h
 
 whole_later : (command : Fetched) (f : Fetching) (parts : List (List ℕ)) (bytes : List ℕ) (came : Supplied) → ComesOn (ComesTo f parts) came → ((x : Fetching) → ComesTo f parts x → Comes command (parts ++ bytes ∷ []) x) → Then (Comes command (parts ++ bytes ∷ [])) command (parts ++ bytes ∷ []) came
 whole_later command f parts bytes (came_as.More x) h on = on x h
-whole_later command f parts bytes (came_as.Whole x) h on = absurd h
-whole_later command f parts bytes (came_as.Refused x) h on = absurd h
-whole_later command f parts bytes (came_as.OutOfMemory x) h on = absurd h
+whole_later command f parts bytes other h on = absurd h
 
 -- one part more, behind those that came
 one_more : (goes : Fetching → Type 0) (f g : Fetching) (parts : List (List ℕ)) (bytes : List ℕ) → ComesTo f parts g → length bytes ≡ (want_of f).len → ComesOn goes (supplied f bytes)
@@ -76,9 +69,7 @@ one_more goes f g [] bytes is len on last same =
   where
     by : (s : Supplied) → ComesOn goes s → ComesOn (ComesTo last []) s
     by (came_as.More x) h = same x h
-    by (came_as.Whole x) h = absurd h
-    by (came_as.Refused x) h = absurd h
-    by (came_as.OutOfMemory x) h = absurd h
+    by other h = absurd h
 one_more goes f g (part ∷ parts) bytes comes len on last same = (comes.0, one_later goes f parts bytes last (supplied g part) comes.1 (λ x h. one_more goes f x parts bytes h len on last same))
 
 more_came : (f next g : Fetching) (parts : List (List ℕ)) (bytes : List ℕ) → ComesTo f parts g → length bytes ≡ (want_of f).len → supplied f bytes ≡ came_as.More next → ComesTo next (parts ++ bytes ∷ []) g
@@ -157,9 +148,8 @@ known c s (Some source) (Some x) g is h ne at =
     subst (IsComing (Some source)) (sym (at ∙ ap Some (ap (λ (o : Option Fetching). match_some o (start (header_place (list_of c.own) s)) (λ y. y)) is))) h
 
 header_first : (step : Step) (raw : List ℕ) → KeepsPart step raw → step ≢ AtHeader
-header_first AtHeader raw keeps same = absurd keeps
-header_first (AtFis header) raw keeps same = absurd keeps
 header_first (AtEntries head table) raw keeps same = cc
+header_first other raw keeps same = absurd keeps
 
 -- ---- what stays
 
@@ -295,9 +285,6 @@ module _ (s slot : ℕ) (sources : Sources) (ne : s ≢ slot) (old : ControllerS
 
 -- ---- all supplies
 
-asked_below : (slot : ℕ) (out same : Bool) → (nat_lt slot 32 && out && same) ≡ true → slot < 32
-asked_below slot out same h = ltb-true slot 32 (and_parts (nat_lt slot 32) out (and_parts (nat_lt slot 32 && out) same h).0).0
-
 not_same : (slot s : ℕ) → (slot == s) ≡ false → s ≢ slot
 not_same slot s h same = true≢false (sym (eq-eqb slot s (sym same)) ∙ h)
 
@@ -366,9 +353,8 @@ gathers false dev s sources old new result h long are = same_sources s sources o
 gathers true dev s sources old new result h long are = sends (may_feed old.core dev) dev s sources old new result h long are
 
 loses : (turn : Turn) (s : ℕ) (sources : Sources) (fed old new : ControllerState) (result : Fed) → fed.fetches ≡ old.fetches → fed.commands ≡ old.commands → Loses turn fed result new → AreSources old s sources → AreSources new s sources
-loses Rests s sources fed old new result fetches commands h are = same_sources s sources old new (ap (λ (c : ControllerState). c.fetches) h.0 ∙ fetches) (ap (λ (c : ControllerState). c.commands) h.0 ∙ commands) are
 loses (Feeds dev slot offset len) s sources fed old new result fetches commands h are = same_sources s sources old new (ap (λ (c : ControllerState). c.fetches) h.rest ∙ fetches) (ap (λ (c : ControllerState). c.commands) h.rest ∙ commands) are
-loses (Orders dev slot command) s sources fed old new result fetches commands h are = same_sources s sources old new (ap (λ (c : ControllerState). c.fetches) h.0 ∙ fetches) (ap (λ (c : ControllerState). c.commands) h.0 ∙ commands) are
+loses other s sources fed old new result fetches commands h are = same_sources s sources old new (ap (λ (c : ControllerState). c.fetches) h.0 ∙ fetches) (ap (λ (c : ControllerState). c.commands) h.0 ∙ commands) are
 
 loses_if : (due : Bool) (dev s : ℕ) (sources : Sources) (old new : ControllerState) (result : Fed) → LosesIf due (without_feeding old dev) dev result new → AreSources old s sources → AreSources new s sources
 loses_if false dev s sources old new result h are = same_sources s sources old new (ap (λ (c : ControllerState). c.fetches) h.0) (ap (λ (c : ControllerState). c.commands) h.0) are

@@ -84,9 +84,8 @@ global true value old new h = dropped_by old _ new h.rest refl refl refl refl re
 global false value old new h = kept_by old _ new h refl refl refl refl refl
 
 linked : (e : Effect) (value : ℕ) (old new : ControllerState) → ResetsBy e (link_moved old value) new → Touches old new
-linked effect.Nothing value old new h = kept_by old _ new h refl refl refl refl refl
 linked effect.LinkReset value old new h = dropped_by old _ new h.rest refl refl refl refl refl (ap (λ (r : Registers). r.started) h.core.registers)
-linked effect.LinkUp value old new h = kept_by old _ new h refl refl refl refl refl
+linked other value old new h = kept_by old _ new h refl refl refl refl refl
 
 fall_stops : (was before own now : Bool) → (not now && (was || before && not own)) ≡ true → now ≡ false
 fall_stops was before own true h = absurd (false≢true h)
@@ -153,12 +152,8 @@ asked true value old new h = Keeps (record {
 })
 
 register : (r : Register) (value : ℕ) (old new : ControllerState) (result : Written) → Leaves r old value result new → Touches old new
-register ahci.Cap value old new result h = unmoved old new h.0
 register ahci.Ghc value old new result h = global (line_bits.has_bit value 0) value old new h.0
 register ahci.Is value old new result h = kept_by old _ new h.0 refl refl refl refl refl
-register ahci.Pi value old new result h = unmoved old new h.0
-register ahci.Vs value old new result h = unmoved old new h.0
-register ahci.Cap2 value old new result h = unmoved old new h.0
 register ahci.PxClb value old new result h = kept_by old _ new h.0 refl refl refl refl refl
 register ahci.PxClbu value old new result h = kept_by old _ new h.0 refl refl refl refl refl
 register ahci.PxFb value old new result h = kept_by old _ new h.0 refl refl refl refl refl
@@ -166,15 +161,13 @@ register ahci.PxFbu value old new result h = kept_by old _ new h.0 refl refl ref
 register ahci.PxIs value old new result h = kept_by old _ new h.0.rest refl refl refl refl refl
 register ahci.PxIe value old new result h = kept_by old _ new h.0 refl refl refl refl refl
 register ahci.PxCmd value old new result h = commands value old new result.ignored h.0
-register ahci.PxTfd value old new result h = unmoved old new h.0
-register ahci.PxSig value old new result h = unmoved old new h.0
-register ahci.PxSsts value old new result h = unmoved old new h.0
 register ahci.PxSctl value old new result h = linked (link_effect old value) value old new h.0
 register ahci.PxSerr value old new result h = kept_by old _ new h.0.rest refl refl refl refl refl
 register ahci.PxSact value old new result h = kept_by old _ new h.0.rest refl refl refl refl refl
 register ahci.PxCi value old new result h = asked old.own.starts value old new h.0
 register ahci.PxSntf value old new result h = kept_by old _ new h.0.rest refl refl refl refl refl
 register ahci.PxFbs value old new result h = kept_by old _ new h.0.rest refl refl refl refl refl
+register other value old new result h = unmoved old new h.0
 
 at_register : (o : Option Register) (value : Register → ℕ) (old new : ControllerState) (result : Written) (nothing : Type 0) → (nothing → new ≡ old) → MatchOption o nothing (λ r. WritesRegister r old (value r) result new) → Touches old new
 at_register None value old new result nothing same h = unmoved old new (same h)

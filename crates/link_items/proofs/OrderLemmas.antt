@@ -5,8 +5,8 @@ use Rattle.std.specs.List.{range_with_len}
 use Rattle.std.proofs.lemmas.List.Elements.{filter-append, All-append, All-nil, All-cons}
 use Rattle.std.proofs.lemmas.Bool.{eq-eqb, eqb-true, ne_eqb, and_parts}
 use Rattle.fis_view.specs.Frames.{Stamped}
-use Rattle.multiplier.specs.Orders.{of_connection, of_port, control_port, IsNextOfDevice, InDeviceOrder, IsNextAtHost, InStampedOrder}
-use Rattle.link_items.specs.Beginnings.{some_element, device_starts, device_prefixes, stamped_starts, stamped_prefixes}
+use Rattle.multiplier.specs.Orders.{of_connection, of_port, control_port, IsNextOfDevice, IsNextAtHost}
+use Rattle.link_items.specs.Beginnings.{some_element, device_prefixes, stamped_prefixes}
 use Rattle.link_items.specs.OrderLaws.{DeviceGoesOn, DeviceCounts, DeviceNumbers, HostGoesOn, HostBounds, HostNumbers}
 
 -- where an element of a list that is one longer stands: at the end, or before it
@@ -160,19 +160,3 @@ host_numbers fises n c h low = count_up (λ f. f.stamp.port == n && f.stamp.conn
     let conn : f.stamp.conn ≡ c = eqb-true f.stamp.conn c parts.1 in
     let next = h before rest f e (omega (arith, port, low)) in
     next.number ∙ ap (λ p. length (of_port p f.stamp.conn before)) port ∙ ap (λ d. length (of_port n d before)) conn ∙ omega arith)
-
--- ---- a first FIS
-
-pub device_first : (f : Stamped) → f.stamp.number ≡ 0 → InDeviceOrder (f ∷ [])
-device_first f is =
-    let next : IsNextOfDevice [] f = record { connection = All-nil (λ g. g.stamp.conn ≤ f.stamp.conn); number = is } in
-    (device_goes_on [] f).1 (device_starts, next)
-
-pub host_first : (f : Stamped) → f.stamp.number ≡ 0 → InStampedOrder (f ∷ [])
-host_first f is =
-    let next : IsNextAtHost [] f = record {
-      connection = All-nil (λ g. g.stamp.port ≡ f.stamp.port → g.stamp.conn ≤ f.stamp.conn);
-      present = All-nil (λ g. g.stamp.port ≡ control_port → slice_index g.stamp.shown f.stamp.port < f.stamp.conn);
-      number = is;
-    } in
-    (host_goes_on [] f).1 (stamped_starts, λ low. next)

@@ -34,7 +34,7 @@ use Rattle.ahci_machine.specs.declared.request.MediumId.{MediumId}
 use Rattle.ahci_machine.specs.declared.request.Wanted.{Wanted}
 use Rattle.ahci_machine.specs.declared.request.Wanted.TheVariants.{Command, Data}
 use Rattle.machine_laws.proofs.Cases.{by_bool, by_option, other_bay}
-use Rattle.machine_laws.specs.Deeds.{Moved, Unlent, Wrote, Powered, Supplied, Missed, Answered, Put, Plugged, Pulled, Removed, FrameTaken, FrameOffered}
+use Rattle.machine_laws.specs.Deeds.{Moved, Wrote, Supplied, Missed, Answered, Put, Plugged, Pulled, Removed, FrameTaken, FrameOffered}
 use Rattle.machine_laws.specs.Ports.{PortsAreApart, is_move_at}
 
 abbrev Same : MachineState → MachineState → ℕ → Type 0
@@ -53,18 +53,11 @@ bays_of m n is = ap (λ (x : MachineState). x.bays) is
 
 does_by : (said : Next) (old new : MachineState) → DoesBy said old new → new.bays ≡ old.bays
 does_by (next.Order dev slot fis) old new h = ap (λ (x : MachineState). x.bays) h.1
-does_by (next.Feed dev number slot offset len) old new h = ap (λ (x : MachineState). x.bays) h
-does_by (next.Payload m) old new h = ap (λ (x : MachineState). x.bays) h
-does_by (next.Posted m) old new h = ap (λ (x : MachineState). x.bays) h
-does_by (next.Counted c) old new h = ap (λ (x : MachineState). x.bays) h
-does_by next.Nothing old new h = ap (λ (x : MachineState). x.bays) h
-does_by (next.Read ask) old new h = ap (λ (x : MachineState). x.bays) h
+does_by other old new h = ap (λ (x : MachineState). x.bays) h
 
 goes_by : (f : Fed) (g : GatheringState) (old new : MachineState) → GoesBy f g old new → new.bays ≡ old.bays
 goes_by (fed.Goes message line) g old new h = ap (λ (x : MachineState). x.bays) h
-goes_by fed.Stale g old new h = ap (λ (x : MachineState). x.bays) h
-goes_by fed.Ended g old new h = ap (λ (x : MachineState). x.bays) h
-goes_by (fed.Missed message line) g old new h = ap (λ (x : MachineState). x.bays) h
+goes_by other g old new h = ap (λ (x : MachineState). x.bays) h
 
 rests_by : (old new : MachineState) → acts.RestsNow old new → new.bays ≡ old.bays
 rests_by old new (inl h) = ap (λ (x : MachineState). x.bays) h
@@ -80,20 +73,12 @@ serves_by old new n port a off h = other_by old new n port (bay_at new n) off (a
 
 pub moved : (a : Act) (old new : MachineState) (port : ℕ) → acts.Does old a new → is_move_at a port ≡ false → Same old new port
 moved act.Rests old new port h off = same_by old new port (rests_by old new h)
-moved (act.Writes w) old new port h off = same_by old new port (ap (λ (x : MachineState). x.bays) h.rest)
-moved act.LetsGo old new port h off = same_by old new port (ap (λ (x : MachineState). x.bays) h.rest)
 moved (act.Line b) old new port h off = same_by old new port (ap (λ (x : MachineState). x.bays) h.2)
 moved act.Message old new port h off = same_by old new port (ap (λ (x : MachineState). x.bays) h.1)
-moved (act.Turns said) old new port h off = same_by old new port (ap (λ (x : MachineState). x.bays) h.rest)
 moved (act.Does said) old new port h off = same_by old new port (does_by said old new h.does)
-moved (act.Sends passed) old new port h off = same_by old new port (ap (λ (x : MachineState). x.bays) h.rest)
-moved (act.Wants read) old new port h off = same_by old new port (ap (λ (x : MachineState). x.bays) h.rest)
 moved (act.Gathers dev answer) old new port h off =
     same_by old new port (goes_by answer h.gathering (with_controller (acts.with_gathering old h.place None) new.controller) new h.gathers.goes)
 moved (act.Misses dev answer) old new port h off = same_by old new port (ap (λ (x : MachineState). x.bays) h.misses.rest)
-moved act.Rises old new port h off = same_by old new port (ap (λ (x : MachineState). x.bays) h.rest)
-moved (act.Takes took) old new port h off = same_by old new port (ap (λ (x : MachineState). x.bays) h.rest)
-moved (act.Loses why) old new port h off = same_by old new port (ap (λ (x : MachineState). x.bays) h.rest)
 moved (act.Begins n) old new port h off =
     begins_by old new n port (begun (bay_at old n)) (nat_lt n (length old.bays)) off (ap (λ (x : MachineState). x.bays) h.rest)
 moved (act.Falls n) old new port h off = serves_by old new n port (act.Falls n) off h
@@ -103,6 +88,7 @@ moved (act.Drops n) old new port h off = serves_by old new n port (act.Drops n) 
 moved (act.Speaks n out) old new port h off = serves_by old new n port (act.Speaks n out) off h
 moved (act.Starts n place) old new port h off = serves_by old new n port (act.Starts n place) off h
 moved (act.Asks id request) old new port h off = serves_by old new id.port port (act.Asks id request) off h
+moved other old new port h off = same_by old new port (ap (λ (x : MachineState). x.bays) h.rest)
 
 pub stepped : (a : Act) (old new : MachineState) (port : ℕ) → acts.Steps old a new → is_move_at a port ≡ false → Same old new port
 stepped a old new port h off = same_by h.middle new port (ap (λ (x : MachineState). x.bays) h.turns) ∙ moved a old h.middle port h.does off
@@ -209,11 +195,9 @@ frame_by false old new n port b off is = same_by old new port (bays_of new old i
 
 pub apart : PortsAreApart
 apart old (Moved a) new h port off = stepped a old new port h off
-apart old Unlent new h port off = same_by old new port (ap (λ (x : MachineState). x.bays) h)
 apart old (Wrote offset width value written) new h port off =
     same_by old new port (wrote_by (link_stays written) old
     (record old { controller = new.controller; message = old.message || message_of written }) new refl h.rest)
-apart old Powered new h port off = same_by old new port (ap (λ (x : MachineState). x.bays) h)
 apart old (Supplied w bytes) new h port off = same_by old new port (supplied_by w bytes old new h.answer h.supplies)
 apart old (Missed w) new h port off = same_by old new port (missed_by w old new h.answer h.misses)
 apart old (Answered id a told) new h port off = answered id a old new told port h off
@@ -224,6 +208,7 @@ apart old (Removed n told) new h port off = taken n h.pulled new told port h.tak
 apart old (FrameTaken n told) new h port off =
     frame_by (is_own (bay_at old n).unit) old new n port (taken_bay (bay_at old n)) off h.rest
 apart old (FrameOffered n frame told) new h port off = same_by old new port (ap (λ (x : MachineState). x.bays) h.rest)
+apart old other new h port off = same_by old new port (ap (λ (x : MachineState). x.bays) h)
 
 pub plugged_same : (n : ℕ) (old new : MachineState) (told : Result (Unit {0}) PortFault) (port : ℕ) → PlugsMachine n old told new → Same old new port
 plugged_same n old new told port h = same_by old new port (plugged n old new told h)

@@ -5,7 +5,7 @@ use Rattle.std.specs.Bool.{MatchBool}
 use Rattle.std.specs.declared.alloc.AllocError.{AllocError}
 use Rattle.fis_view.specs.Frames.{Stamped}
 use Rattle.hba_fbs.specs.declared.turn.Turn.{Turn}
-use Rattle.hba_fbs.specs.declared.turn.Turn.TheVariants.{Feeds, Orders, Rests}
+use Rattle.hba_fbs.specs.declared.turn.Turn.TheVariants.{Feeds, Rests}
 use Rattle.hba_laws.specs.Cores.{HasBytes}
 use Rattle.ahci_controller.specs.Feeding.{GathersIf}
 use Rattle.ahci_controller.specs.Next.{is_fed, turn_to}
@@ -53,15 +53,12 @@ rests old new (inr turns) k l = one old.controller new.controller (call.Turned n
 
 -- the FIS that goes has as many bytes as the controller waits for
 whole_turn : (turn : Turn) (bytes : List ℕ) (count : ℕ) → length bytes ≡ 4 + count → IsLength turn count → HasBytes turn bytes
-whole_turn Rests bytes count long is = tt
 whole_turn (Feeds dev slot offset len) bytes count long is = long ∙ ap (λ (n : ℕ). 4 + n) is
-whole_turn (Orders dev slot command) bytes count long is = tt
+whole_turn other bytes count long is = tt
 
 whole_fed : (answer : Fed) (c : ControllerState) (dev : ℕ) (bytes : List ℕ) → HasBytes (turn_to c dev) bytes → IsWhole c dev bytes answer
 whole_fed (fed.Goes message line) c dev bytes h = h
-whole_fed fed.Stale c dev bytes h = tt
-whole_fed fed.Ended c dev bytes h = tt
-whole_fed (fed.Missed message line) c dev bytes h = tt
+whole_fed other c dev bytes h = tt
 
 whole_if : (out : Bool) (answer : Fed) (c d : ControllerState) (dev number count : ℕ) (bytes : List ℕ) → is_fed c.wants dev number ≡ out → GathersIf out c dev answer d → length bytes ≡ 4 + count
     → (is_fed c.wants dev number ≡ true → IsLength (turn_to c dev) count) → IsWhole c dev bytes answer
@@ -98,27 +95,14 @@ moves (act.Does said) old new h k l due = none old.controller new.controller k (
   where
     does : (n : Next) → acts.DoesBy n old new → new.controller ≡ old.controller
     does (next.Order dev slot fis) d = ap (λ (m : MachineState). m.controller) d.1
-    does (next.Feed dev number slot offset len) d = ap (λ (m : MachineState). m.controller) d
-    does (next.Payload x) d = ap (λ (m : MachineState). m.controller) d
-    does (next.Posted x) d = ap (λ (m : MachineState). m.controller) d
-    does (next.Counted x) d = ap (λ (m : MachineState). m.controller) d
-    does next.Nothing d = ap (λ (m : MachineState). m.controller) d
-    does (next.Read ask) d = ap (λ (m : MachineState). m.controller) d
-moves (act.Sends passed) old new h k l due = quiet old new (ap inner h.rest) k
+    does other d = ap (λ (m : MachineState). m.controller) d
 moves (act.Wants read) old new h k l due = none old.controller new.controller k (ap (λ (m : MachineState). m.controller) h.rest)
 moves (act.Gathers dev answer) old new h k l due = gathers old new dev answer h k l due
 moves (act.Misses slot answer) old new h k l due = one old.controller new.controller (call.NotThere h.gathering.feed.dev h.gathering.feed.number answer) k l h.misses.misses
 moves act.Rises old new h k l due = none old.controller new.controller k (ap (λ (m : MachineState). m.controller) h.rest)
 moves (act.Takes took) old new h k l due = one old.controller new.controller (call.Took h.frame.bytes took) k l (record { framed = h.framed; free = h.free; hears = h.hears })
 moves (act.Loses why) old new h k l due = loses old.incoming why old.controller new.controller k l h.is (ap (λ (m : MachineState). m.controller) h.rest)
-moves (act.Begins n) old new h k l due = quiet old new (ap inner h.rest) k
-moves (act.Falls n) old new h k l due = quiet old new (ap inner h.rest) k
-moves (act.Hears n unheard) old new h k l due = quiet old new (ap inner h.rest) k
-moves (act.Points n) old new h k l due = quiet old new (ap inner h.rest) k
-moves (act.Drops n) old new h k l due = quiet old new (ap inner h.rest) k
-moves (act.Speaks n out) old new h k l due = quiet old new (ap inner h.rest) k
-moves (act.Starts n place) old new h k l due = quiet old new (ap inner h.rest) k
-moves (act.Asks id request) old new h k l due = quiet old new (ap inner h.rest) k
+moves other old new h k l due = quiet old new (ap inner h.rest) k
 
 -- ---- calls
 

@@ -1,10 +1,10 @@
 -- Answers by cases, each with what it stands for.
-use Rattle.std.proofs.Common.{◌≡◌, ℕ, Bool, true, false, List, length, get_or, set, Option, Some, None, refl, sym, ap}
+use Rattle.std.proofs.Common.{◌≡◌, ℕ, Bool, true, false, List, length, get_or, set, Option, Some, None, refl, sym}
 use Rattle.std.specs.Prelude.{◌==◌, MatchOption, nat_lt}
 use Rattle.std.specs.Bool.{MatchBool}
 use Rattle.std.proofs.lemmas.Bool.{eqb-false, ltb-true}
 use Rattle.std.proofs.lemmas.List.{get_or-set_same, get_or-set_other}
-use Rattle.ahci_machine.specs.States.{MachineState, bay_at, empty_bay}
+use Rattle.ahci_machine.specs.States.{empty_bay}
 use Rattle.ahci_machine.specs.declared.bay.Bay.{Bay}
 
 pub by_bool : (C X Y : Type 0) (b : Bool) → MatchBool b X Y → (b ≡ true → X → C) → (b ≡ false → Y → C) → C
@@ -21,7 +21,3 @@ other_bay bays n port b off = get_or-set_other bays n port b empty_bay (λ same.
 
 pub this_bay : (bays : List Bay) (port : ℕ) (b : Bay) → nat_lt port (length bays) ≡ true → get_or (set bays port b) port empty_bay ≡ b
 this_bay bays port b inside = get_or-set_same bays port b empty_bay (ltb-true port (length bays) inside)
-
--- of the list that is left
-pub in_bays : (m : MachineState) (bays : List Bay) (port : ℕ) → m.bays ≡ bays → bay_at m port ≡ get_or bays port empty_bay
-in_bays m bays port is = ap (λ (l : List Bay). get_or l port empty_bay) is

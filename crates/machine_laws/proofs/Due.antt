@@ -43,13 +43,8 @@ each None P Q f h = tt
 each (Some x) P Q f h = f x refl h
 
 says_stay : (said : Next) (c d : ControllerState) → AllStay c d → SaysDue c said → SaysDue d said
-says_stay next.Nothing c d stays h = tt
-says_stay (next.Read ask) c d stays h = tt
-says_stay (next.Order dev slot fis) c d stays h = tt
-says_stay (next.Payload m) c d stays h = tt
-says_stay (next.Posted m) c d stays h = tt
-says_stay (next.Counted count) c d stays h = tt
 says_stay (next.Feed dev number slot offset len) c d stays h = due_stays dev number len c d (stays dev number) h
+says_stay other c d stays h = tt
 
 gathered_stays : (dev : ℕ) (kept : Option Next) (g : GatheringState) (c d : ControllerState) → AllStay c d → IsGathered c kept dev g → IsGathered d kept dev g
 gathered_stays dev kept g c d stays h = record {
@@ -136,21 +131,11 @@ set_due old new place x stays kept gathering here h = record {
 
 kept_due : (said : Next) (c : ControllerState) → SaysDue c said → IfSome (kept_of said) (SaysDue c)
 kept_due next.Nothing c h = tt
-kept_due (next.Read ask) c h = h
-kept_due (next.Order dev slot fis) c h = h
-kept_due (next.Payload m) c h = h
-kept_due (next.Posted m) c h = h
-kept_due (next.Counted count) c h = h
-kept_due (next.Feed dev number slot offset len) c h = h
+kept_due other c h = h
 
 kept_off : (said : Next) (dev : ℕ) → is_kept_for dev (kept_of said) ≡ false → is_feed_to dev said ≡ false
 kept_off next.Nothing dev h = refl
-kept_off (next.Read ask) dev h = h
-kept_off (next.Order to slot fis) dev h = h
-kept_off (next.Payload m) dev h = h
-kept_off (next.Posted m) dev h = h
-kept_off (next.Counted count) dev h = h
-kept_off (next.Feed to number slot offset len) dev h = h
+kept_off other dev h = h
 
 turns_due : (old new : MachineState) (said : Next) → TurnsNext said old new → GathersDue old → GathersDue new
 turns_due old new said h due =
@@ -254,9 +239,7 @@ same_feed c kept place g after feed long h = record {
 
 goes_by : (answer : Fed) (g : GatheringState) (base new : MachineState) → GoesBy answer g base new → Beside base new
 goes_by (fed.Goes message line) g base new h = ap inner h
-goes_by fed.Stale g base new h = ap inner h
-goes_by fed.Ended g base new h = ap inner h
-goes_by (fed.Missed message line) g base new h = ap inner h
+goes_by other g base new h = ap inner h
 
 -- it went, or some of its bytes have no place: it is gathered no more
 gone_due : (old new : MachineState) (place : ℕ) → AllStay old.controller new.controller → new.kept ≡ old.kept → new.gathering ≡ set old.gathering place None → GathersDue old → GathersDue new
@@ -285,7 +268,6 @@ moved_due (act.Line b) old new h due = same_due old new (ap inner h.2) due
 moved_due act.Message old new h due = same_due old new (ap inner h.1) due
 moved_due (act.Turns said) old new h due = turns_due old new said h due
 moved_due (act.Does said) old new h due = does_due said old new h.kept h.does due
-moved_due (act.Sends passed) old new h due = same_due old new (ap inner h.rest) due
 moved_due (act.Wants read) old new h due =
     set_due old new h.dev (Some (asked_for h.gathering read.len)) (λ p n. unmoved p n old.controller new.controller (ap (λ (m : MachineState). m.controller) h.rest))
     (ap (λ (m : MachineState). m.kept) h.rest) (ap (λ (m : MachineState). m.gathering) h.rest)
@@ -301,14 +283,7 @@ moved_due act.Rises old new h due = frame_due old new (ap (λ (m : MachineState)
 moved_due (act.Takes took) old new h due =
     stay old new (λ p n. take_stays h.frame.bytes took p n old.controller new.controller h.hears) (record { kept = ap (λ (m : MachineState). m.kept) h.rest; gathering = ap (λ (m : MachineState). m.gathering) h.rest }) due
 moved_due (act.Loses why) old new h due = frame_due old new (ap (λ (m : MachineState). m.controller) h.rest) (ap (λ (m : MachineState). m.kept) h.rest) (ap (λ (m : MachineState). m.gathering) h.rest) due
-moved_due (act.Begins n) old new h due = same_due old new (ap inner h.rest) due
-moved_due (act.Falls n) old new h due = same_due old new (ap inner h.rest) due
-moved_due (act.Hears n unheard) old new h due = same_due old new (ap inner h.rest) due
-moved_due (act.Points n) old new h due = same_due old new (ap inner h.rest) due
-moved_due (act.Drops n) old new h due = same_due old new (ap inner h.rest) due
-moved_due (act.Speaks n out) old new h due = same_due old new (ap inner h.rest) due
-moved_due (act.Starts n place) old new h due = same_due old new (ap inner h.rest) due
-moved_due (act.Asks id request) old new h due = same_due old new (ap inner h.rest) due
+moved_due other old new h due = same_due old new (ap inner h.rest) due
 
 -- ---- calls
 

@@ -119,9 +119,7 @@ begins_by false false d dev f old new came small off low own set_is h = same old
 
 goes_by : (answer : Fed) (g : GatheringState) (base new : MachineState) → acts.GoesBy answer g base new → new.gathering ≡ base.gathering
 goes_by (fed.Goes message line) g base new h = ap (λ (m : MachineState). m.gathering) h
-goes_by fed.Stale g base new h = ap (λ (m : MachineState). m.gathering) h
-goes_by fed.Ended g base new h = ap (λ (m : MachineState). m.gathering) h
-goes_by (fed.Missed message line) g base new h = ap (λ (m : MachineState). m.gathering) h
+goes_by other g base new h = ap (λ (m : MachineState). m.gathering) h
 
 rests_by : (old new : MachineState) → acts.RestsNow old new → new.gathering ≡ old.gathering
 rests_by old new (inl h) = ap (λ (m : MachineState). m.gathering) h
@@ -149,39 +147,21 @@ does dev (next.Feed d number slot offset len) old middle came small h was =
     begins_by (d == dev) (nat_lt d 16) d dev (record { dev = d; number = number; slot = slot; offset = offset; len = len }) old middle came small refl refl refl
     (ap (λ (m : MachineState). m.gathering) h) was
 does dev (next.Order d slot fis) old middle came small h was = same old middle dev came (ap (λ (m : MachineState). m.gathering) h.1) was
-does dev (next.Payload x) old middle came small h was = same old middle dev came (ap (λ (m : MachineState). m.gathering) h) was
-does dev (next.Posted x) old middle came small h was = same old middle dev came (ap (λ (m : MachineState). m.gathering) h) was
-does dev (next.Counted x) old middle came small h was = same old middle dev came (ap (λ (m : MachineState). m.gathering) h) was
-does dev next.Nothing old middle came small h was = same old middle dev came (ap (λ (m : MachineState). m.gathering) h) was
-does dev (next.Read ask) old middle came small h was = same old middle dev came (ap (λ (m : MachineState). m.gathering) h) was
+does dev other old middle came small h was = same old middle dev came (ap (λ (m : MachineState). m.gathering) h) was
 
 quiet : (old middle : MachineState) (dev : ℕ) (came : List ℕ) → Beside old middle → IsReading old dev came → IsReading middle dev came
 quiet old middle dev came is was = same old middle dev came (ap (λ i. i.2) is) was
 
 moves : (dev : ℕ) → dev < 16 → (a : Act) (old middle : MachineState) (came : List ℕ) → acts.Does old a middle → IsReading old dev came → IsReading middle dev (came_moved dev a came)
 moves dev small act.Rests old middle came h was = same old middle dev came (rests_by old middle h) was
-moves dev small (act.Writes w) old middle came h was = same old middle dev came (ap (λ (m : MachineState). m.gathering) h.rest) was
-moves dev small act.LetsGo old middle came h was = same old middle dev came (ap (λ (m : MachineState). m.gathering) h.rest) was
 moves dev small (act.Line b) old middle came h was = same old middle dev came (ap (λ (m : MachineState). m.gathering) h.2) was
 moves dev small act.Message old middle came h was = same old middle dev came (ap (λ (m : MachineState). m.gathering) h.1) was
-moves dev small (act.Turns said) old middle came h was = same old middle dev came (ap (λ (m : MachineState). m.gathering) h.rest) was
 moves dev small (act.Does said) old middle came h was = does dev said old middle came small h.does was
-moves dev small (act.Sends went) old middle came h was = same old middle dev came (ap (λ (m : MachineState). m.gathering) h.rest) was
 moves dev small (act.Wants read) old middle came h was = wants old middle read dev came h was
 moves dev small (act.Gathers d answer) old middle came h was =
     gone old middle h.place dev came (goes_by answer h.gathering (with_controller (with_gathering old h.place None) middle.controller) middle h.gathers.goes) was
 moves dev small (act.Misses slot answer) old middle came h was = gone old middle h.place dev came (ap (λ (m : MachineState). m.gathering) h.misses.rest) was
-moves dev small act.Rises old middle came h was = same old middle dev came (ap (λ (m : MachineState). m.gathering) h.rest) was
-moves dev small (act.Takes took) old middle came h was = same old middle dev came (ap (λ (m : MachineState). m.gathering) h.rest) was
-moves dev small (act.Loses why) old middle came h was = same old middle dev came (ap (λ (m : MachineState). m.gathering) h.rest) was
-moves dev small (act.Begins k) old middle came h was = same old middle dev came (ap (λ (m : MachineState). m.gathering) h.rest) was
-moves dev small (act.Falls k) old middle came h was = same old middle dev came (ap (λ (m : MachineState). m.gathering) h.rest) was
-moves dev small (act.Hears k unheard) old middle came h was = same old middle dev came (ap (λ (m : MachineState). m.gathering) h.rest) was
-moves dev small (act.Points k) old middle came h was = same old middle dev came (ap (λ (m : MachineState). m.gathering) h.rest) was
-moves dev small (act.Drops k) old middle came h was = same old middle dev came (ap (λ (m : MachineState). m.gathering) h.rest) was
-moves dev small (act.Speaks k out) old middle came h was = same old middle dev came (ap (λ (m : MachineState). m.gathering) h.rest) was
-moves dev small (act.Starts k place) old middle came h was = same old middle dev came (ap (λ (m : MachineState). m.gathering) h.rest) was
-moves dev small (act.Asks id request) old middle came h was = same old middle dev came (ap (λ (m : MachineState). m.gathering) h.rest) was
+moves dev small other old middle came h was = same old middle dev came (ap (λ (m : MachineState). m.gathering) h.rest) was
 
 -- ---- bytes that come
 
@@ -237,9 +217,6 @@ wrote_by : (b : Bool) (old m new : MachineState) (dev : ℕ) (came : List ℕ) �
 wrote_by true old m new dev came kept is was = same old new dev came (ap (λ (x : MachineState). x.gathering) is ∙ kept) was
 wrote_by false old m new dev came kept is was = none_read new dev came (ap (λ (x : MachineState). x.gathering) is)
 
-turned : (old middle new : MachineState) (dev : ℕ) (came : List ℕ) → new.gathering ≡ middle.gathering → IsReading middle dev came → IsReading new dev came
-turned old middle new dev came is was = same middle new dev came is was
-
 moved : (dev : ℕ) → dev < 16 → (a : Act) (old new : MachineState) (came : List ℕ) → Does old (Moved a) new → IsReading old dev came → IsReading new dev (came_moved dev a came)
 moved dev small a old new came h was =
     same h.middle new dev (came_moved dev a came) (ap (λ (m : MachineState). m.gathering) h.turns) (moves dev small a old h.middle came h.does was)
@@ -247,33 +224,8 @@ moved dev small a old new came h was =
 -- what came is the same by either word
 came_is : (dev : ℕ) (a : Act) (old new : MachineState) (h : Does old (Moved a) new) (came : List ℕ) → came_by dev old (Moved a) new h came ≡ came_moved dev a came
 came_is dev act.Rests old new h came = refl
-came_is dev (act.Writes w) old new h came = refl
-came_is dev act.LetsGo old new h came = refl
-came_is dev (act.Line b) old new h came = refl
-came_is dev act.Message old new h came = refl
-came_is dev (act.Turns said) old new h came = refl
 came_is dev (act.Does (next.Feed d number slot offset len)) old new h came = refl
-came_is dev (act.Does (next.Order d slot fis)) old new h came = refl
-came_is dev (act.Does (next.Payload x)) old new h came = refl
-came_is dev (act.Does (next.Posted x)) old new h came = refl
-came_is dev (act.Does (next.Counted x)) old new h came = refl
-came_is dev (act.Does next.Nothing) old new h came = refl
-came_is dev (act.Does (next.Read ask)) old new h came = refl
-came_is dev (act.Sends went) old new h came = refl
-came_is dev (act.Wants read) old new h came = refl
-came_is dev (act.Gathers d answer) old new h came = refl
-came_is dev (act.Misses slot answer) old new h came = refl
-came_is dev act.Rises old new h came = refl
-came_is dev (act.Takes took) old new h came = refl
-came_is dev (act.Loses why) old new h came = refl
-came_is dev (act.Begins k) old new h came = refl
-came_is dev (act.Falls k) old new h came = refl
-came_is dev (act.Hears k unheard) old new h came = refl
-came_is dev (act.Points k) old new h came = refl
-came_is dev (act.Drops k) old new h came = refl
-came_is dev (act.Speaks k out) old new h came = refl
-came_is dev (act.Starts k place) old new h came = refl
-came_is dev (act.Asks id request) old new h came = refl
+came_is dev other old new h came = refl
 
 supplied : (w : Wanted) (bytes : List ℕ) (dev : ℕ) (old new : MachineState) (h : Does old (Came w bytes) new) (came : List ℕ) → IsReading old dev came
     → IsReading new dev (came_by dev old (Came w bytes) new h came)

@@ -22,7 +22,7 @@ use Rattle.ahci_machine.specs.States.{MachineState, bay_at, empty_bay}
 use Rattle.ahci_machine.specs.declared.bay.Bay.{Bay}
 use Rattle.machine_laws.proofs.Cases.{this_bay}
 use Rattle.machine_laws.proofs.FallFans as fans
-use Rattle.machine_laws.specs.Deeds.{Moved, Unlent, Wrote, Powered, Supplied, Missed, Answered, Put, Plugged, Pulled, Removed, FrameTaken, FrameOffered}
+use Rattle.machine_laws.specs.Deeds.{Wrote, Powered}
 use Rattle.machine_laws.specs.Falling.{BegunForgets, ResetsEmptyPorts, waits_down, way_to}
 
 -- ---- a device begins anew
@@ -110,14 +110,4 @@ not_true false h = refl
 pub ports_emptied : ResetsEmptyPorts
 ports_emptied old (Wrote offset width value written) new h is n = wrote_by (link_stays written) _ new n (not_true (link_stays written) is) h.rest
 ports_emptied old Powered new h is n = ap (λ (m : MachineState). way_to m n) h ∙ powered_emptied old n
-ports_emptied old (Moved a) new h is n = absurd (false≢true is)
-ports_emptied old Unlent new h is n = absurd (false≢true is)
-ports_emptied old (Supplied w bytes) new h is n = absurd (false≢true is)
-ports_emptied old (Missed w) new h is n = absurd (false≢true is)
-ports_emptied old (Answered id a told) new h is n = absurd (false≢true is)
-ports_emptied old (Put k unit told) new h is n = absurd (false≢true is)
-ports_emptied old (Plugged k told) new h is n = absurd (false≢true is)
-ports_emptied old (Pulled k told) new h is n = absurd (false≢true is)
-ports_emptied old (Removed k told) new h is n = absurd (false≢true is)
-ports_emptied old (FrameTaken k told) new h is n = absurd (false≢true is)
-ports_emptied old (FrameOffered k frame told) new h is n = absurd (false≢true is)
+ports_emptied old other new h is n = absurd (false≢true is)

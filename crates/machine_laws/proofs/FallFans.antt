@@ -114,15 +114,13 @@ control_fell : (old : PmState) (frame : Stamped) (went : Passed) (new : PmState)
 control_fell old frame passed.Control new h n =
     with_none (option_to_list (down_of new n)) (option_to_list (down_of old n)) false (falling (reached old n) frame) refl
     (ap (λ (m : PmState). option_to_list (down_of m n)) h.2)
-control_fell old frame (passed.Down m) new h n = absurd h
-control_fell old frame passed.Dropped new h n = absurd h
+control_fell old frame other new h n = absurd h
 
 nobody_fell : (old : PmState) (frame : Stamped) (went : Passed) (new : PmState) → ToNobody old (Ok went) new → (n : ℕ) → Fell old new went frame n
 nobody_fell old frame passed.Dropped new h n =
     with_none (option_to_list (down_of new n)) (option_to_list (down_of old n)) false (falling (reached old n) frame) refl
     (ap (λ (m : PmState). option_to_list (down_of m n)) h)
-nobody_fell old frame (passed.Down m) new h n = absurd h
-nobody_fell old frame passed.Control new h n = absurd h
+nobody_fell old frame other new h n = absurd h
 
 -- at the port itself
 fell_here : (old : PmState) (k conn : ℕ) (frame : Stamped) (new : PmState) → (port_at old k).present ≡ Some conn → down_of old k ≡ None
@@ -150,8 +148,7 @@ device_fell : (old : PmState) (k conn : ℕ) (frame : Stamped) (went : Passed) (
     → (n : ℕ) → Fell old new went frame n
 device_fell old k conn frame (passed.Down m) new is h n =
     subst (λ (j : ℕ). Fell old new (passed.Down j) frame n) (sym h.0) (fell_by (k == n) old k conn frame new n refl (present old k conn is) h.1 h.2)
-device_fell old k conn frame passed.Control new is h n = absurd h
-device_fell old k conn frame passed.Dropped new is h n = absurd h
+device_fell old k conn frame other new is h n = absurd h
 
 pub host_fell : (old : PmState) (frame : Stamped) (went : Passed) (new : PmState) → FromHostRule old frame (Ok went) new → (n : ℕ) → Fell old new went frame n
 host_fell old frame went new h n =
@@ -169,12 +166,6 @@ host_fell old frame went new h n =
 abbrev SeatOf : FanState → ℕ → Option ℕ
 SeatOf f n = connection (seat_at f n)
 
-some_off : {C : Type 0} (n : ℕ) → Some (next_connection (record { last = n; is_there = true; sent = 0; begun = true })) ≡ Some n → C
-some_off n is = absurd (not_more n (same_Some (n + 1) n is))
-  where
-    not_more : (x : ℕ) → x + 1 ≡ x → ⊥
-    not_more x e = omega arith
-
 seat_inside_by : (b : Bool) (f : FanState) (n : ℕ) → nat_lt n (length f.seats) ≡ b → (seat_at f n).is_there ≡ true → n < length f.seats
 seat_inside_by true f n is there = ltb-true n (length f.seats) is
 seat_inside_by false f n is there =
@@ -182,10 +173,6 @@ seat_inside_by false f n is there =
 
 connection_there : (s : Seat) → s.is_there ≡ true → connection s ≡ Some s.last
 connection_there s there = ap (λ (b : Bool). if b then Some s.last else None) there
-
--- what a port has, and its seat, after its device went and came again
-abbrev Rejoins : FanState → FanState → ℕ → Type 0
-Rejoins old new n = SeatOf new n ≡ SeatOf old n → down_of new.multiplier n ≡ down_of old.multiplier n
 
 seat_now : (f : FanState) (k : ℕ) (s : Seat) → (seat_at f k).is_there ≡ true → get_or (set f.seats k s) k empty_seat ≡ s
 seat_now f k s there = get_or-set_same f.seats k s empty_seat (seat_inside_by (nat_lt k (length f.seats)) f k refl there)
@@ -326,10 +313,6 @@ next_up : (old : PmState) (frame : Stamped) (new : PmState) → NextUpRule old (
 next_up old frame new h n =
     by_option ℕ (down_of new n ≡ down_of old n) ⊥ (λ place. PlaceGives old place frame new) (pm.next_place old) h (λ none off. absurd off)
     (λ place there by. place_gives old place frame new by n)
-
-up_if : (some : Bool) (old new : StraightState) → new ≡ straight.on_port old (if some then port.with_up old.port None else old.port) → new.port.down ≡ old.port.down
-up_if true old new is = ap (λ (s : StraightState). s.port.down) is
-up_if false old new is = ap (λ (s : StraightState). s.port.down) is
 
 pub gives_up : (old : FanOut) (frame : Stamped) (new : FanOut) → GivesUpThere old (Ok (Some frame)) new → (n : ℕ) → Waits old new n
 gives_up (Device old) frame (Device new) h n = straight_waits old new (ap (λ (s : StraightState). s.port.down) h.1) n
@@ -529,18 +512,15 @@ straight_goes old frame went new h = by old.seat.is_there h
 
 control_goes : (old : PmState) (frame : Stamped) (went : Passed) (new : PmState) → ToControl old frame (Ok went) new → went ≡ passed.Control
 control_goes old frame passed.Control new h = refl
-control_goes old frame (passed.Down m) new h = absurd h
-control_goes old frame passed.Dropped new h = absurd h
+control_goes old frame other new h = absurd h
 
 nobody_goes : (old : PmState) (went : Passed) (new : PmState) → ToNobody old (Ok went) new → went ≡ passed.Dropped
 nobody_goes old passed.Dropped new h = refl
-nobody_goes old (passed.Down m) new h = absurd h
-nobody_goes old passed.Control new h = absurd h
+nobody_goes old other new h = absurd h
 
 device_goes : (old : PmState) (k conn : ℕ) (frame : Stamped) (went : Passed) (new : PmState) → ToDevice old k conn frame (Ok went) new → went ≡ passed.Down k
 device_goes old k conn frame (passed.Down m) new h = ap (λ (j : ℕ). passed.Down j) h.0
-device_goes old k conn frame passed.Control new h = absurd h
-device_goes old k conn frame passed.Dropped new h = absurd h
+device_goes old k conn frame other new h = absurd h
 
 host_goes : (control : Bool) (to : Option ℕ) (old : PmState) (frame : Stamped) (went : Passed) (new : PmState)
     → MatchBool control (ToControl old frame (Ok went) new) (MatchOption to (ToNobody old (Ok went) new) (λ conn. ToDevice old (pm_port frame) conn frame (Ok went) new))

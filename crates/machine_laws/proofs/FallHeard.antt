@@ -11,9 +11,9 @@ use Rattle.ahci_machine.specs.Answers.{given_in}
 use Rattle.ahci_machine.specs.States.{MachineState, bay_at}
 use Rattle.ahci_machine.specs.declared.act.Act.TheVariants as act
 use Rattle.ahci_machine.specs.declared.bay.Unit.{Unit as Inside}
-use Rattle.ahci_machine.specs.declared.bay.Unit.TheVariants.{Empty, Own, Disk}
+use Rattle.ahci_machine.specs.declared.bay.Unit.TheVariants.{Empty, Disk}
 use Rattle.machine_laws.proofs.FallFans.{goes_right}
-use Rattle.machine_laws.specs.Deeds.{Moved, Unlent, Wrote, Powered, Supplied, Missed, Answered, Put, Plugged, Pulled, Removed, FrameTaken, FrameOffered}
+use Rattle.machine_laws.specs.Deeds.{Moved, Answered, Pulled, FrameTaken}
 use Rattle.machine_laws.specs.Disks.{heard, unless_refused}
 use Rattle.machine_laws.specs.Falling.{DisksHearThem, FramesGoWhereTheyShould, ArrivesAt, heard_by}
 
@@ -41,8 +41,7 @@ no_disk d is = subst is_nobody is tt
   where
     is_nobody : Inside → Type 0
     is_nobody Empty = Unit {0}
-    is_nobody (Disk e) = ⊥
-    is_nobody Own = ⊥
+    is_nobody other = ⊥
 
 -- nothing is dropped at a port where a disk is
 drops_by : (b : Bool) (k n : ℕ) (old : MachineState) (d : DiskState) → (k == n) ≡ b → (bay_at old n).unit ≡ Disk d → (bay_at old k).unit ≡ Empty
@@ -71,34 +70,10 @@ hear_them old (Moved (act.Drops k)) new h n d there = drops_by (k == n) k n old 
 hear_them old (Moved (act.Speaks k out)) new h n d there = none_heard (k == n) (disk_call.Sends out) refl
 hear_them old (Moved (act.Starts k place)) new h n d there = none_heard (k == n) (disk_call.Starts (Some place)) refl
 hear_them old (Moved (act.Asks id request)) new h n d there = none_heard (id.port == n) (disk_call.Asks request) refl
-hear_them old (Moved act.Rests) new h n d there = refl
-hear_them old (Moved (act.Writes w)) new h n d there = refl
-hear_them old (Moved act.LetsGo) new h n d there = refl
-hear_them old (Moved (act.Line b)) new h n d there = refl
-hear_them old (Moved act.Message) new h n d there = refl
-hear_them old (Moved (act.Turns said)) new h n d there = refl
-hear_them old (Moved (act.Does said)) new h n d there = refl
-hear_them old (Moved (act.Sends went)) new h n d there = refl
-hear_them old (Moved (act.Wants read)) new h n d there = refl
-hear_them old (Moved (act.Gathers dev answer)) new h n d there = refl
-hear_them old (Moved (act.Misses slot answer)) new h n d there = refl
-hear_them old (Moved act.Rises) new h n d there = refl
-hear_them old (Moved (act.Takes took)) new h n d there = refl
-hear_them old (Moved (act.Loses why)) new h n d there = refl
-hear_them old (Moved (act.Falls k)) new h n d there = refl
-hear_them old (Moved (act.Points k)) new h n d there = refl
-hear_them old Unlent new h n d there = refl
-hear_them old (Wrote offset width value written) new h n d there = refl
-hear_them old Powered new h n d there = refl
-hear_them old (Supplied w bytes) new h n d there = refl
-hear_them old (Missed w) new h n d there = refl
 hear_them old (Answered id a told) new h n d there = refused_heard told (id.port == n) (disk_call.Answers id.number a) refl
-hear_them old (Put k unit told) new h n d there = refl
-hear_them old (Plugged k told) new h n d there = refl
 hear_them old (Pulled k told) new h n d there = refused_heard told (k == n) disk_call.Plugs refl
-hear_them old (Removed k told) new h n d there = refl
 hear_them old (FrameTaken k told) new h n d there = taken_by (k == n) k n told old d refl there h.is
-hear_them old (FrameOffered k frame told) new h n d there = refl
+hear_them old other new h n d there = refl
 
 pub go_where : FramesGoWhereTheyShould
 go_where old went new h =

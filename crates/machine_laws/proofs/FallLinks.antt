@@ -152,9 +152,7 @@ gathers_to (fed.Goes message line) old new dev h due goes =
     alone old new (record { bytes = g.bytes; stamp = host_stamp dev }) h.free h.done
     (ap (λ (m : MachineState). m.outgoing) goes ∙ frame_when g whole ∙ ap (λ (k : ℕ). Some (record { bytes = g.bytes; stamp = host_stamp k })) (sym h.gathers.is))
     (ap (λ (m : MachineState). m.kept) goes)
-gathers_to fed.Stale old new dev h due goes = still old new (ap outer goes)
-gathers_to fed.Ended old new dev h due goes = still old new (ap outer goes)
-gathers_to (fed.Missed message line) old new dev h due goes = still old new (ap outer goes)
+gathers_to other old new dev h due goes = still old new (ap outer goes)
 
 -- what it says to do next
 turned : (said : Next) (old new : MachineState) → old.kept ≡ None → outer new ≡ (old.outgoing, kept_of said) → Passes old new [] (sent_by (call.Turned said))
@@ -166,12 +164,7 @@ turned said old new none is =
   where
     by : (n : Next) → option_to_list old.outgoing ++ ordered (kept_of n) ≡ option_to_list old.outgoing ++ sent_by (call.Turned n)
     by (next.Order dev slot fis) = refl
-    by (next.Feed dev number slot offset len) = refl
-    by (next.Payload x) = refl
-    by (next.Posted x) = refl
-    by (next.Counted c) = refl
-    by next.Nothing = refl
-    by (next.Read ask) = refl
+    by other = refl
 
 -- the same machine, but for what is kept and what is on the link
 does : (said : Next) (old new : MachineState) → old.kept ≡ Some said → acts.DoesBy said old new → Passes old new [] []
@@ -201,29 +194,17 @@ lost_none (Some f) why = refl
 moves : (a : Act) (old new : MachineState) (h : acts.Does old a new) → GathersDue old
     → Passes old new (arrives old (Moved a)) (sent_in (move_calls old a new h))
 moves act.Rests old new h due = rests old new h
-moves (act.Writes w) old new h due = still old new (ap outer h.rest)
-moves act.LetsGo old new h due = still old new (ap outer h.rest)
 moves (act.Line b) old new h due = still old new (ap outer h.2)
 moves act.Message old new h due = still old new (ap outer h.1)
 moves (act.Turns said) old new h due =
     subst (Passes old new []) (sym (append-nil (sent_by (call.Turned said)))) (turned said old new h.none (ap outer h.rest))
 moves (act.Does said) old new h due = does said old new h.kept h.does
 moves (act.Sends went) old new h due = sends old new h.frame h.on (ap outer h.rest)
-moves (act.Wants read) old new h due = still old new (ap outer h.rest)
 moves (act.Gathers dev answer) old new h due =
     subst (Passes old new []) (sym (append-nil (sent_by (call.Gathered dev h.gathering.feed.number h.gathering.bytes answer)))) (gathers_to answer old new dev h due h.gathers.goes)
 moves (act.Misses slot answer) old new h due = still old new (ap outer h.misses.rest)
-moves act.Rises old new h due = still old new (ap outer h.rest)
-moves (act.Takes took) old new h due = still old new (ap outer h.rest)
 moves (act.Loses why) old new h due = none_more old new (sent_in (lost_calls old.incoming why)) (lost_none old.incoming why) (ap outer h.rest)
-moves (act.Begins k) old new h due = still old new (ap outer h.rest)
-moves (act.Falls k) old new h due = still old new (ap outer h.rest)
-moves (act.Hears k unheard) old new h due = still old new (ap outer h.rest)
-moves (act.Points k) old new h due = still old new (ap outer h.rest)
-moves (act.Drops k) old new h due = still old new (ap outer h.rest)
-moves (act.Speaks k out) old new h due = still old new (ap outer h.rest)
-moves (act.Starts k place) old new h due = still old new (ap outer h.rest)
-moves (act.Asks id request) old new h due = still old new (ap outer h.rest)
+moves other old new h due = still old new (ap outer h.rest)
 
 -- ---- calls
 
@@ -374,14 +355,4 @@ none_ordered (Some n) = for_host_ordered (for_host n) n refl
 pub emptied : ResetsEmptyLinks
 emptied old (Wrote offset width value written) new h is = renewed_by (link_stays written) _ new (not_true (link_stays written) is) h.rest
 emptied old Powered new h is = ap leaving h ∙ none_ordered old.kept
-emptied old (Moved a) new h is = absurd (false≢true is)
-emptied old Unlent new h is = absurd (false≢true is)
-emptied old (Supplied w bytes) new h is = absurd (false≢true is)
-emptied old (Missed w) new h is = absurd (false≢true is)
-emptied old (Answered id a told) new h is = absurd (false≢true is)
-emptied old (Put k unit told) new h is = absurd (false≢true is)
-emptied old (Plugged k told) new h is = absurd (false≢true is)
-emptied old (Pulled k told) new h is = absurd (false≢true is)
-emptied old (Removed k told) new h is = absurd (false≢true is)
-emptied old (FrameTaken k told) new h is = absurd (false≢true is)
-emptied old (FrameOffered k frame told) new h is = absurd (false≢true is)
+emptied old other new h is = absurd (false≢true is)

@@ -9,7 +9,7 @@ use Rattle.hba_commands.specs.declared.command.Command as core_command
 use Rattle.hba_fbs.specs.Turning.{orders}
 use Rattle.hba_fbs.specs.Views.{last_command}
 use Rattle.hba_fbs.specs.declared.turn.Turn.{Turn}
-use Rattle.hba_fbs.specs.declared.turn.Turn.TheVariants.{Feeds, Orders, Rests}
+use Rattle.hba_fbs.specs.declared.turn.Turn.TheVariants.{Orders, Rests}
 use Rattle.ahci_controller.specs.Next.{Frames, FramesFor, GoesIf, Reads, RestsNow, Turns, TurnsIf, count_next, counted_slot, feed_next, is_halted, next_device, next_read, next_slot, next_write, order_next, payload_step, rest, written}
 use Rattle.ahci_controller.specs.Moving.{count_of}
 use Rattle.ahci_controller.specs.States.{ControllerState, kept}
@@ -45,8 +45,7 @@ payload_sound c f (Some s) sound = sound s
 -- Data is none
 feed_sound : (c : ControllerState) (dev number : ℕ) (turn : Turn) → IsSound c (feed_next dev number turn)
 feed_sound c dev number Rests = tt
-feed_sound c dev number (Feeds to slot offset len) = tt
-feed_sound c dev number (Orders to slot command) = tt
+feed_sound c dev number other = tt
 
 -- a command is
 order_sound : (c : ControllerState) (slot : ℕ) (i : Option Issue) (l : Option core_command.Command) → issue_at c.core.slots slot ≡ i → last_command c.core.commands slot ≡ l
@@ -91,12 +90,7 @@ turns_if false c result d h = goes c.core.registers.started c result d h
 -- the commands and the issues are those of the controller before what it wrote is let go
 same_core : (c : ControllerState) (result : Next) → IsSound (written c) result → IsSound c result
 same_core c (next.Order dev slot fis) h = record { command = h.command; is = h.is; bytes = h.bytes; owner = h.owner }
-same_core c (next.Feed dev number slot offset len) h = tt
-same_core c (next.Payload x) h = tt
-same_core c (next.Posted x) h = tt
-same_core c (next.Counted x) h = tt
-same_core c next.Nothing h = tt
-same_core c (next.Read ask) h = tt
+same_core c other h = tt
 
 pub turns : (c : ControllerState) (result : Next) (d : ControllerState) → Turns c result d → IsSound c result
 turns c result d h = by (next_write c) (payload_sound c (λ s. next.Payload s.write) (payload_step c) (λ s. tt)) h

@@ -144,18 +144,11 @@ quiet a old new n h off fan = still old new n (off_bay old new n (moved a old ne
 
 does_fan : (said : Next) (old new : MachineState) → acts.DoesBy said old new → new.fan ≡ old.fan
 does_fan (next.Order dev slot fis) old new h = ap (λ (m : MachineState). m.fan) h.1
-does_fan (next.Feed dev number slot offset len) old new h = ap (λ (m : MachineState). m.fan) h
-does_fan (next.Payload x) old new h = ap (λ (m : MachineState). m.fan) h
-does_fan (next.Posted x) old new h = ap (λ (m : MachineState). m.fan) h
-does_fan (next.Counted c) old new h = ap (λ (m : MachineState). m.fan) h
-does_fan next.Nothing old new h = ap (λ (m : MachineState). m.fan) h
-does_fan (next.Read ask) old new h = ap (λ (m : MachineState). m.fan) h
+does_fan other old new h = ap (λ (m : MachineState). m.fan) h
 
 goes_fan : (answer : Fed) (g : GatheringState) (base new : MachineState) → acts.GoesBy answer g base new → new.fan ≡ base.fan
 goes_fan (fed.Goes message line) g base new h = ap (λ (m : MachineState). m.fan) h
-goes_fan fed.Stale g base new h = ap (λ (m : MachineState). m.fan) h
-goes_fan fed.Ended g base new h = ap (λ (m : MachineState). m.fan) h
-goes_fan (fed.Missed message line) g base new h = ap (λ (m : MachineState). m.fan) h
+goes_fan other g base new h = ap (λ (m : MachineState). m.fan) h
 
 rests_fan : (old new : MachineState) → acts.RestsNow old new → new.fan ≡ old.fan
 rests_fan old new (inl h) = ap (λ (m : MachineState). m.fan) h
@@ -356,8 +349,7 @@ own_inside_by false m k is there =
       where
         is_nobody : Inside → Type 0
         is_nobody Empty = Unit {0}
-        is_nobody (Disk d) = ⊥
-        is_nobody Own = ⊥
+        is_nobody other = ⊥
 
 nothing_taken : (k n : ℕ) (told : Option Stamped) (old new : MachineState) → told ≡ None → new ≡ old → Passes old new n (if k == n then option_to_list told else []) []
 nothing_taken k n told old new is rest =

@@ -18,7 +18,7 @@ use Rattle.guest_fetch.specs.declared.fetch.Supplied.TheVariants as supplied
 use Rattle.guest_fetch.specs.declared.moves.Move.{Move}
 use Rattle.hba_fbs.specs.Choosing.{may_feed}
 use Rattle.hba_fbs.specs.declared.turn.Turn.{Turn}
-use Rattle.hba_fbs.specs.declared.turn.Turn.TheVariants.{Feeds, Orders, Rests}
+use Rattle.hba_fbs.specs.declared.turn.Turn.TheVariants.{Feeds}
 use Rattle.ahci_controller.specs.Access.{merged}
 use Rattle.ahci_controller.specs.Feeding.{GathersIf, Loses, LosesIf, MissesIf as MissesDataIf, SendsIf, without_feeding}
 use Rattle.ahci_controller.specs.Fetching.{GoesOn, MissesIf, SuppliesIf, answered, without_fetch}
@@ -109,10 +109,8 @@ linked Disable Disable value old new from to h = record {
   silent = λ silent down. ap is_framed_by (ap (λ (c : ControllerState). c.writes) h) ∙ silent (ap is_up from);
   none = λ off. absurd (true≢false off);
 }
-linked NoAction Comreset value old new from to h = gone effect.LinkReset old new (ap (λ (c : ControllerState). c.writes) h.rest)
 linked NoAction Disable value old new from to h = gone effect.LinkReset old new (ap (λ (c : ControllerState). c.writes) h.rest)
 linked Comreset Disable value old new from to h = gone effect.LinkReset old new (ap (λ (c : ControllerState). c.writes) h.rest)
-linked Disable Comreset value old new from to h = gone effect.LinkReset old new (ap (λ (c : ControllerState). c.writes) h.rest)
 linked Comreset NoAction value old new from to h = record {
   silent = λ silent down. ap is_framed_by (ap (λ (c : ControllerState). c.writes) h) ∙ silent (ap is_up from);
   none = λ off silent. ap is_framed_by (ap (λ (c : ControllerState). c.writes) h) ∙ silent (ap is_up from);
@@ -121,6 +119,7 @@ linked Disable NoAction value old new from to h = record {
   silent = λ silent down. ap is_framed_by (ap (λ (c : ControllerState). c.writes) h) ∙ silent (ap is_up from);
   none = λ off silent. ap is_framed_by (ap (λ (c : ControllerState). c.writes) h) ∙ silent (ap is_up from);
 }
+linked other Comreset value old new from to h = gone effect.LinkReset old new (ap (λ (c : ControllerState). c.writes) h.rest)
 
 asked_same : (running : Bool) (c d : ControllerState) → d.writes ≡ c.writes → d.link ≡ c.link → ((if running then d else c).writes ≡ c.writes) × ((if running then d else c).link ≡ c.link)
 asked_same true c d writes link = (writes, link)
@@ -147,12 +146,8 @@ effect_is : (result other : Written) → result ≡ other → result.effect ≡ 
 effect_is result other is = ap (λ (w : Written). w.effect) is
 
 register : (r : Register) (value : ℕ) (old new : ControllerState) (result : Written) → Leaves r old value result new → IsPart result.effect old new
-register ahci.Cap value old new result h = kept old old new result.effect (effect_is result _ h.1) h.0 refl refl
 register ahci.Ghc value old new result h = subst (λ (e : Effect). IsPart e old new) (sym (effect_is result _ h.1)) (global (line_bits.has_bit value 0) value old new h.0)
 register ahci.Is value old new result h = kept old _ new result.effect (effect_is result _ h.1) h.0 refl refl
-register ahci.Pi value old new result h = kept old old new result.effect (effect_is result _ h.1) h.0 refl refl
-register ahci.Vs value old new result h = kept old old new result.effect (effect_is result _ h.1) h.0 refl refl
-register ahci.Cap2 value old new result h = kept old old new result.effect (effect_is result _ h.1) h.0 refl refl
 register ahci.PxClb value old new result h = kept old _ new result.effect (effect_is result _ h.1) h.0 refl refl
 register ahci.PxClbu value old new result h = kept old _ new result.effect (effect_is result _ h.1) h.0 refl refl
 register ahci.PxFb value old new result h = kept old _ new result.effect (effect_is result _ h.1) h.0 refl refl
@@ -160,9 +155,6 @@ register ahci.PxFbu value old new result h = kept old _ new result.effect (effec
 register ahci.PxIs value old new result h = kept old _ new result.effect (effect_is result _ h.1) h.0.rest refl refl
 register ahci.PxIe value old new result h = kept old _ new result.effect (effect_is result _ h.1) h.0 refl refl
 register ahci.PxCmd value old new result h = commands value old new result.effect result.ignored (effect_is result _ h.1) h.0
-register ahci.PxTfd value old new result h = kept old old new result.effect (effect_is result _ h.1) h.0 refl refl
-register ahci.PxSig value old new result h = kept old old new result.effect (effect_is result _ h.1) h.0 refl refl
-register ahci.PxSsts value old new result h = kept old old new result.effect (effect_is result _ h.1) h.0 refl refl
 register ahci.PxSctl value old new result h =
     subst (λ (e : Effect). IsPart e old new) (sym (effect_is result _ h.1)) (linked (action_of old.link.control) (action_of (control_after old value)) value old new refl refl h.0)
 register ahci.PxSerr value old new result h = kept old _ new result.effect (effect_is result _ h.1) h.0.rest refl refl
@@ -172,6 +164,7 @@ register ahci.PxCi value old new result h =
     kept old (asked_state old value) new result.effect (effect_is result _ h.1) h.0 same.0 same.1
 register ahci.PxSntf value old new result h = kept old _ new result.effect (effect_is result _ h.1) h.0.rest refl refl
 register ahci.PxFbs value old new result h = kept old _ new result.effect (effect_is result _ h.1) h.0.rest refl refl
+register other value old new result h = kept old old new result.effect (effect_is result _ h.1) h.0 refl refl
 
 at_register : (o : Option Register) (value : Register → ℕ) (old new : ControllerState) (result : Written) (nothing : Type 0) → (nothing → (new ≡ old) × (result.effect ≡ effect.Nothing)) → MatchOption o nothing (λ r. WritesRegister r old (value r) result new)
     → IsPart result.effect old new
@@ -303,10 +296,9 @@ issues None slot command base new result h = calm_by base _ new h.rest refl refl
 issues (Some reason) slot command base new result h = calm_by base _ new h.rest refl refl
 
 goes_on : (slot : ℕ) (came : Supplied) (base new : ControllerState) (result : Supply) → GoesOn base slot came result new → IsCalm base new
-goes_on slot (supplied.More f) base new result h = calm_by base _ new h.0 refl refl
-goes_on slot (supplied.OutOfMemory f) base new result h = calm_by base _ new h.0 refl refl
 goes_on slot (supplied.Refused r) base new result h = calm_by base _ new h.rest refl refl
 goes_on slot (supplied.Whole command) base new result h = issues (not_issued base.core slot command) slot command base new result h
+goes_on slot other base new result h = calm_by base _ new h.0 refl refl
 
 pub supply_is_calm : (fit : Bool) (slot : ℕ) (bytes : List ℕ) (old new : ControllerState) (result : Supply) → SuppliesIf fit old slot bytes result new → IsCalm old new
 supply_is_calm false slot bytes old new result h = calm_by old old new h.0 refl refl
@@ -330,9 +322,8 @@ gather_is_calm false dev old new result h = calm_by old old new h.0 refl refl
 gather_is_calm true dev old new result h = sends (may_feed old.core dev) dev old new result h
 
 loses : (turn : Turn) (dev : ℕ) (old new : ControllerState) (result : Fed) → Loses turn (without_feeding old dev) result new → IsCalm old new
-loses Rests dev old new result h = calm_by old _ new h.0 refl refl
 loses (Feeds to slot offset len) dev old new result h = calm_by old _ new h.rest refl refl
-loses (Orders to slot command) dev old new result h = calm_by old _ new h.0 refl refl
+loses other dev old new result h = calm_by old _ new h.0 refl refl
 
 loses_if : (due : Bool) (dev : ℕ) (old new : ControllerState) (result : Fed) → LosesIf due (without_feeding old dev) dev result new → IsCalm old new
 loses_if false dev old new result h = calm_by old _ new h.0 refl refl

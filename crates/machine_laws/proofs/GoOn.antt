@@ -31,7 +31,7 @@ use Rattle.ahci_machine.specs.declared.answers.MediumError.{MediumError}
 use Rattle.ahci_machine.specs.declared.answers.MediumError.TheVariants.{Answer as Wrong, OtherDisk}
 use Rattle.ahci_machine.specs.declared.bay.Bay.{Bay}
 use Rattle.ahci_machine.specs.declared.bay.Unit.{Unit as Inside}
-use Rattle.ahci_machine.specs.declared.bay.Unit.TheVariants.{Disk, Empty, Own}
+use Rattle.ahci_machine.specs.declared.bay.Unit.TheVariants.{Disk, Empty}
 use Rattle.ahci_machine.specs.declared.ports.PortFault.{PortFault}
 use Rattle.ahci_machine.specs.declared.ports.PortFault.TheVariants.{NoPort, Taken, NotThere as Absent}
 use Rattle.ahci_machine.specs.declared.request.MediumId.{MediumId}
@@ -52,8 +52,7 @@ stays d now e = record { are = tt; is = e }
 -- a disk that is the same one
 abbrev the_disk : DiskState → Inside → DiskState
 the_disk d (Disk e) = e
-the_disk d Empty = d
-the_disk d Own = d
+the_disk d other = d
 
 pub one_disk : (d e : DiskState) → Disk d ≡ Disk e → d ≡ e
 one_disk d e is = ap (the_disk d) is
@@ -76,9 +75,6 @@ left : (old new : MachineState) (port : ℕ) (d : DiskState) → (bay_at old por
 left old new port d there same = ap (λ (b : Bay). b.unit) same ∙ there
 
 -- ---- moves at the port
-
-falls : (old new : Bay) (d : DiskState) → old.unit ≡ Disk d → new.unit ≡ old.unit → GoesOn d [] new.unit
-falls old new d there same = stays d new.unit (same ∙ there)
 
 hears : (old new : Bay) (u : Option Unheard) (d : DiskState) → old.unit ≡ Disk d → bays.Hears u old new → GoesOn d (heard old.down) new.unit
 hears old new u d there h =
@@ -124,8 +120,7 @@ no_disk d is = subst (λ (i : Inside). is_a_disk i) is tt
   where
     is_a_disk : Inside → Type 0
     is_a_disk Empty = Unit {0}
-    is_a_disk (Disk e) = ⊥
-    is_a_disk Own = ⊥
+    is_a_disk other = ⊥
 
 inside_by : (b : Bool) (m : MachineState) (port : ℕ) (d : DiskState) → nat_lt port (length m.bays) ≡ b → (bay_at m port).unit ≡ Disk d
     → nat_lt port (length m.bays) ≡ true

@@ -33,7 +33,7 @@ use Rattle.machine_laws.proofs.RisRun.{crosses}
 use Rattle.machine_laws.proofs.Ways.{OnWay, first, last, way_goes}
 use Rattle.machine_laws.specs.ControllerLaws.{RunsRuled, calls_in}
 use Rattle.machine_laws.specs.Controllers.{GathersDue, OpensDue, deed_calls}
-use Rattle.machine_laws.specs.Deeds.{Deed, Does, Moved, Unlent, Wrote, Powered, Supplied, Missed, Answered, Put, Plugged, Pulled, Removed, FrameTaken, FrameOffered}
+use Rattle.machine_laws.specs.Deeds.{Deed, Does, Moved, Wrote, Powered, Answered, Put, Pulled}
 use Rattle.machine_laws.specs.Disks.{calls_at, heard, unless_refused}
 use Rattle.machine_laws.specs.Falling.{ArrivesAt, arrived, falls, goes_to, is_down_to, leaving, reached_at, resets, sent_in, waits_down, way_to}
 use Rattle.machine_laws.specs.Heard.{AllHeard, FellFrom, HeardWereSent, IsSentOut, Life, life_by, life_in, no_life, put_in}
@@ -56,17 +56,7 @@ not_true false h = refl
 reset_kind : (deed : Deed) (old new : MachineState) → Does old deed new → is_reset deed ≡ true → is_multiplier new.fan ≡ is_multiplier old.fan
 reset_kind (Wrote offset width value written) old new h is = wrote_kind (link_stays written) _ new (not_true (link_stays written) is) h.rest
 reset_kind Powered old new h is = ap (λ (x : MachineState). is_multiplier x.fan) h ∙ renewed_kind old.fan
-reset_kind (Moved a) old new h is = absurd (false≢true is)
-reset_kind Unlent old new h is = absurd (false≢true is)
-reset_kind (Supplied w bytes) old new h is = absurd (false≢true is)
-reset_kind (Missed w) old new h is = absurd (false≢true is)
-reset_kind (Answered id a told) old new h is = absurd (false≢true is)
-reset_kind (Put k unit told) old new h is = absurd (false≢true is)
-reset_kind (Plugged k told) old new h is = absurd (false≢true is)
-reset_kind (Pulled k told) old new h is = absurd (false≢true is)
-reset_kind (Removed k told) old new h is = absurd (false≢true is)
-reset_kind (FrameTaken k told) old new h is = absurd (false≢true is)
-reset_kind (FrameOffered k frame told) old new h is = absurd (false≢true is)
+reset_kind other old new h is = absurd (false≢true is)
 
 kind_by : (b : Bool) (deed : Deed) (old new : MachineState) → is_reset deed ≡ b → Does old deed new → (was : Frames) → HaveRisen old was
     → is_multiplier new.fan ≡ is_multiplier old.fan
@@ -197,8 +187,7 @@ module _ (P : Stamped → Type 0) (many : Bool) where
   put_heard : (n : ℕ) (unit : Inside) (told : Result (Unit {0}) (Inside × PortFault)) (was : Life) → Heard n was.calls → Heard n (put_in unit told was).calls
   put_heard n (inside.Disk d) (Ok x) was h = tt
   put_heard n (inside.Disk d) (Err e) was h = h
-  put_heard n inside.Empty told was h = h
-  put_heard n inside.Own told was h = h
+  put_heard n other told was h = h
 
   put_case : (n : ℕ) (b : Bool) (unit : Inside) (told : Result (Unit {0}) (Inside × PortFault)) (was : Life) → Heard n was.calls
       → Heard n (if b then put_in unit told was else was).calls

@@ -73,18 +73,11 @@ rests_hold old new (inr turns) last h =
 
 goes_by : (answer : Fed) (g : GatheringState) (base new : MachineState) → acts.GoesBy answer g base new → Beside base new
 goes_by (fed.Goes message line) g base new h = ap inner h
-goes_by fed.Stale g base new h = ap inner h
-goes_by fed.Ended g base new h = ap inner h
-goes_by (fed.Missed message line) g base new h = ap inner h
+goes_by other g base new h = ap inner h
 
 does_by : (n : Next) (old new : MachineState) → acts.DoesBy n old new → (new.controller ≡ old.controller) × (new.incoming ≡ old.incoming) × (new.taken ≡ old.taken)
 does_by (next.Order dev slot fis) old new d = (ap (λ (m : MachineState). m.controller) d.1, ap (λ (m : MachineState). m.incoming) d.1, ap (λ (m : MachineState). m.taken) d.1)
-does_by (next.Feed dev number slot offset len) old new d = (ap (λ (m : MachineState). m.controller) d, ap (λ (m : MachineState). m.incoming) d, ap (λ (m : MachineState). m.taken) d)
-does_by (next.Payload x) old new d = (ap (λ (m : MachineState). m.controller) d, ap (λ (m : MachineState). m.incoming) d, ap (λ (m : MachineState). m.taken) d)
-does_by (next.Posted x) old new d = (ap (λ (m : MachineState). m.controller) d, ap (λ (m : MachineState). m.incoming) d, ap (λ (m : MachineState). m.taken) d)
-does_by (next.Counted x) old new d = (ap (λ (m : MachineState). m.controller) d, ap (λ (m : MachineState). m.incoming) d, ap (λ (m : MachineState). m.taken) d)
-does_by next.Nothing old new d = (ap (λ (m : MachineState). m.controller) d, ap (λ (m : MachineState). m.incoming) d, ap (λ (m : MachineState). m.taken) d)
-does_by (next.Read ask) old new d = (ap (λ (m : MachineState). m.controller) d, ap (λ (m : MachineState). m.incoming) d, ap (λ (m : MachineState). m.taken) d)
+does_by other old new d = (ap (λ (m : MachineState). m.controller) d, ap (λ (m : MachineState). m.incoming) d, ap (λ (m : MachineState). m.taken) d)
 
 -- where no frame is there, or none was taken, nothing of one is to be written
 nobody : (o : Option Stamped) (last : Option (List ℕ)) → o ≡ None → MatchOption o ⊥ (λ f. last ≡ Some f.bytes) → ⊥
@@ -114,7 +107,6 @@ moves_hold act.Message old new h last was = beside_holds old new last (ap inner 
 moves_hold (act.Turns said) old new h last was =
     hold old new last (turn_is_calm old.controller new.controller said h.turns) (ap (λ (m : MachineState). m.incoming) h.rest) (ap (λ (m : MachineState). m.taken) h.rest) was
 moves_hold (act.Does said) old new h last was = let d = does_by said old new h.does in hold old new last (same_calm old.controller new.controller d.0) d.1 d.2 was
-moves_hold (act.Sends passed) old new h last was = beside_holds old new last (ap inner h.rest) was
 moves_hold (act.Wants read) old new h last was =
     hold old new last (same_calm old.controller new.controller (ap (λ (m : MachineState). m.controller) h.rest)) (ap (λ (m : MachineState). m.incoming) h.rest) (ap (λ (m : MachineState). m.taken) h.rest) was
 moves_hold (act.Gathers dev answer) old new h last was =
@@ -133,14 +125,7 @@ moves_hold (act.Takes took) old new h last was = record {
 moves_hold (act.Loses why) old new h last was =
     subst (HoldsFrame new) (sym (lost_last old.incoming why last))
     (empty_same old new last (ap (λ (m : MachineState). m.controller) h.rest) (not_here (is_framed old.controller) (λ here. false≢true (sym h.once ∙ was.taken here))) was)
-moves_hold (act.Begins n) old new h last was = beside_holds old new last (ap inner h.rest) was
-moves_hold (act.Falls n) old new h last was = beside_holds old new last (ap inner h.rest) was
-moves_hold (act.Hears n unheard) old new h last was = beside_holds old new last (ap inner h.rest) was
-moves_hold (act.Points n) old new h last was = beside_holds old new last (ap inner h.rest) was
-moves_hold (act.Drops n) old new h last was = beside_holds old new last (ap inner h.rest) was
-moves_hold (act.Speaks n out) old new h last was = beside_holds old new last (ap inner h.rest) was
-moves_hold (act.Starts n place) old new h last was = beside_holds old new last (ap inner h.rest) was
-moves_hold (act.Asks id request) old new h last was = beside_holds old new last (ap inner h.rest) was
+moves_hold other old new h last was = beside_holds old new last (ap inner h.rest) was
 
 -- ---- calls
 
@@ -264,11 +249,7 @@ lends old (next.Payload m) new h placed last was =
 lends old (next.Posted m) new h placed last was =
     bytes_of old.incoming last m.from m.len (lent_bytes new) (ap lent_bytes h.turns ∙ ap lent_bytes h.does.rest)
     (was.frame (or_second (is_some old.controller.writes.payload) (is_some old.controller.writes.posted) (some_there old.controller.writes.posted m placed)))
-lends old (next.Counted c) new h placed last was = tt
-lends old next.Nothing new h placed last was = tt
-lends old (next.Read ask) new h placed last was = tt
-lends old (next.Order dev slot fis) new h placed last was = tt
-lends old (next.Feed dev number slot offset len) new h placed last was = tt
+lends old other new h placed last was = tt
 
 pub lent : places.WritesArePlaced → FramesAreLent
 lent law old write new h last was = lends old write new h (writes law old write new h).placed last was

@@ -16,7 +16,7 @@ use Rattle.pm_registers.specs.declared.words.RegisterError.TheVariants.{NoPort, 
 use Rattle.pm_control.specs.Answers.{IsAnswer, answer_to, answer_to_request, notice_fields, read_answer, signature, write_answer}
 use Rattle.pm_control.specs.Requests.{request_in}
 use Rattle.pm_control.specs.declared.request.Request.{Request}
-use Rattle.pm_control.specs.declared.request.Request.TheVariants.{EndReset, Read, Reset, Unknown, Write}
+use Rattle.pm_control.specs.declared.request.Request.TheVariants.{EndReset, Read, Unknown, Write}
 use Rattle.pm_ports.specs.Port as port
 use Rattle.pm_ports.specs.declared.port.Offered.{Offered}
 use Rattle.pm_ports.specs.declared.port.Offered.TheVariants.{Held, Dropped}
@@ -44,7 +44,7 @@ use Rattle.machine_laws.proofs.RisDeeds.{Rising, deed_rises, outer}
 use Rattle.machine_laws.proofs.RisFan.{FansPass, after_one, fan_through, no_device}
 use Rattle.machine_laws.proofs.RisRun.{FansRenew, Laws, crosses, one_deed, powered_gives, sound_now}
 use Rattle.machine_laws.proofs.RisStraight.{straight_all}
-use Rattle.machine_laws.specs.Deeds.{Deed, Does, Moved, Unlent, Wrote, Powered, Supplied, Missed, Answered, Put, Plugged, Pulled, Removed, FrameTaken, FrameOffered}
+use Rattle.machine_laws.specs.Deeds.{Deed, Does, Wrote, Powered}
 use Rattle.machine_laws.specs.Marks.{AnswersMarked, AreMarked, GoesOnMarked, IsMarked, OpensMarked, PortFramesAreSent}
 use Rattle.machine_laws.specs.Rising.{Frames, HaveRisen, IsSoundEnd, Sends, came_by, frames_after, is_multiplier, held_at, is_reset, more_frames, no_frames, sent_by, untaken}
 
@@ -71,12 +71,11 @@ end_own true fields is = as_given signature fields refl is
 end_own false fields is = absurd (cc)
 
 answer_own : (mark : Bool) (m : RegisterMap) (r : Option Request) (fields : D2hFields) → answer_to_request mark m r ≡ Some fields → fields.pm_port ≡ 15
-answer_own mark m None fields is = absurd (cc)
 answer_own mark m (Some (Read at)) fields is = as_given (read_answer (read_at m at.port at.register)) fields (read_own (read_at m at.port at.register)) is
 answer_own mark m (Some (Write at value)) fields is = as_given (write_answer (read_at m at.port at.register)) fields (write_own (read_at m at.port at.register)) is
 answer_own mark m (Some Unknown) fields is = as_given _ fields refl is
-answer_own mark m (Some Reset) fields is = absurd (cc)
 answer_own mark m (Some EndReset) fields is = end_own mark fields is
+answer_own mark m other fields is = absurd (cc)
 
 -- what is built with PM Port Fh has it
 port_of_built : (kind : Kind) (given : Name → ℕ) (f : List ℕ) → given PmPort ≡ 15 → cut (places kind PmPort) 15 ≡ 15 → IsBuilt kind given f → slice_index f 1 % 16 ≡ 15
@@ -309,17 +308,7 @@ wrote_renews false old new message off is = record { fan = ap (λ (m : MachineSt
 renews : (deed : Deed) (old new : MachineState) → Does old deed new → is_reset deed ≡ true → IsRenewed old new
 renews (Wrote offset width value written) old new h on = wrote_renews (link_stays written) old new (old.message || message_of written) on h.rest
 renews Powered old new h on = record { fan = ap (λ (m : MachineState). m.fan) h; none = ap untaken h ∙ powered_gives old.taken old.incoming }
-renews (Moved a) old new h on = absurd (false≢true on)
-renews Unlent old new h on = absurd (false≢true on)
-renews (Supplied w bytes) old new h on = absurd (false≢true on)
-renews (Missed w) old new h on = absurd (false≢true on)
-renews (Answered id a told) old new h on = absurd (false≢true on)
-renews (Put n unit told) old new h on = absurd (false≢true on)
-renews (Plugged n told) old new h on = absurd (false≢true on)
-renews (Pulled n told) old new h on = absurd (false≢true on)
-renews (Removed n told) old new h on = absurd (false≢true on)
-renews (FrameTaken n told) old new h on = absurd (false≢true on)
-renews (FrameOffered n frame told) old new h on = absurd (false≢true on)
+renews other old new h on = absurd (false≢true on)
 
 renewed_answers : FansRenew → (e : FanOut) → IsSoundEnd e → AnswersMarked (renewed_end e)
 renewed_answers law (Device s) sound = tt

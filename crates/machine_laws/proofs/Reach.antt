@@ -48,13 +48,11 @@ none_is u d none is = some_none d (sym (ap disk_in is) ∙ none)
 
 pub by_unit : (C : Type 0) (u : Inside) → ((e : DiskState) → u ≡ Disk e → C) → (disk_in u ≡ None → C) → C
 by_unit C (Disk e) there none = there e refl
-by_unit C Empty there none = none refl
-by_unit C Own there none = none refl
+by_unit C other there none = none refl
 
 work_none : (u : Inside) → disk_in u ≡ None → disk_in (without_work u) ≡ None
-work_none Empty h = refl
-work_none Own h = refl
 work_none (Disk d) h = absurd (some_none d h)
+work_none other h = refl
 
 pub same_none : (old new : MachineState) (port : ℕ) → bay_at new port ≡ bay_at old port → NoneAt old port → NoneAt new port
 same_none old new port same none = ap (λ (b : Bay). disk_in b.unit) same ∙ none
@@ -291,18 +289,7 @@ removed_at (Removed n told) old new port e h there is =
     let same : n ≡ port = eqb-true n port is in
     subst (λ (k : ℕ). (bay_at old k).unit ≡ Disk e → Removes k old told new → NoneAt new k) same
     (λ at by. removed_none n old new told e at by) there (subst (λ (k : ℕ). Removes k old told new) same h)
-removed_at (Moved a) old new port e h there is = absurd (false≢true is)
-removed_at Unlent old new port e h there is = absurd (false≢true is)
-removed_at (Wrote offset width value written) old new port e h there is = absurd (false≢true is)
-removed_at Powered old new port e h there is = absurd (false≢true is)
-removed_at (Supplied w bytes) old new port e h there is = absurd (false≢true is)
-removed_at (Missed w) old new port e h there is = absurd (false≢true is)
-removed_at (Answered id a told) old new port e h there is = absurd (false≢true is)
-removed_at (Put n unit told) old new port e h there is = absurd (false≢true is)
-removed_at (Plugged n told) old new port e h there is = absurd (false≢true is)
-removed_at (Pulled n told) old new port e h there is = absurd (false≢true is)
-removed_at (FrameTaken n told) old new port e h there is = absurd (false≢true is)
-removed_at (FrameOffered n frame told) old new port e h there is = absurd (false≢true is)
+removed_at other old new port e h there is = absurd (false≢true is)
 
 one_deed : (deed : Deed) (old new : MachineState) → Does old deed new → PutsReached deed → AreReached old → AreReached new
 one_deed deed old new h r are port d is =

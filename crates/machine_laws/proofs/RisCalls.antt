@@ -20,7 +20,7 @@ use Rattle.ahci_machine.specs.declared.request.Wanted.{Wanted}
 use Rattle.ahci_machine.specs.declared.request.Wanted.TheVariants.{Command, Data}
 use Rattle.machine_laws.specs.ControllerLaws.{calls_in}
 use Rattle.machine_laws.specs.Controllers.{data_calls, deed_calls, lost_calls, miss_calls, move_calls, rest_calls, supply_calls}
-use Rattle.machine_laws.specs.Deeds.{Deed, Does, Moved, Unlent, Wrote, Powered, Supplied, Missed, Answered, Put, Plugged, Pulled, Removed, FrameTaken, FrameOffered}
+use Rattle.machine_laws.specs.Deeds.{Deed, Does, Moved, Wrote, Supplied, Missed}
 use Rattle.machine_laws.specs.Rising.{Frames, FramesAreTaken, bytes_of, came_by, frames_in, frames_of, more_frames, move_came, sent_by}
 
 both_of : (es fs : List Event) → frames_of (es ++ fs) ≡ frames_of es ++ frames_of fs
@@ -46,27 +46,8 @@ rest_of old new (inr turns) = refl
 
 move_of : (a : Act) (old new : MachineState) (does : acts.Does old a new) → frames_of (move_calls old a new does) ≡ bytes_of (move_came old a new does)
 move_of act.Rests old new h = rest_of old new h
-move_of (act.Writes w) old new h = refl
-move_of act.LetsGo old new h = refl
-move_of (act.Line b) old new h = refl
-move_of act.Message old new h = refl
-move_of (act.Turns said) old new h = refl
-move_of (act.Does said) old new h = refl
-move_of (act.Sends passed) old new h = refl
-move_of (act.Wants read) old new h = refl
-move_of (act.Gathers dev answer) old new h = refl
-move_of (act.Misses slot answer) old new h = refl
-move_of act.Rises old new h = refl
-move_of (act.Takes took) old new h = refl
 move_of (act.Loses why) old new h = lost_of old.incoming why
-move_of (act.Begins n) old new h = refl
-move_of (act.Falls n) old new h = refl
-move_of (act.Hears n unheard) old new h = refl
-move_of (act.Points n) old new h = refl
-move_of (act.Drops n) old new h = refl
-move_of (act.Speaks n out) old new h = refl
-move_of (act.Starts n place) old new h = refl
-move_of (act.Asks id request) old new h = refl
+move_of other old new h = refl
 
 supply_of : (w : Wanted) (bytes : List ℕ) (old new : MachineState) (answer : Result Told AllocError) (h : SuppliesMachine w bytes old answer new) → frames_of (supply_calls w bytes old answer new h) ≡ []
 supply_of (Command slot number) bytes old new answer h = refl
@@ -85,18 +66,9 @@ miss_of (Data dev number done) old new (Err e) h = refl
 
 deed_of : (deed : Deed) (old new : MachineState) (does : Does old deed new) → frames_of (deed_calls old deed new does) ≡ bytes_of (came_by old deed new does)
 deed_of (Moved a) old new h = move_of a old h.middle h.does
-deed_of Unlent old new h = refl
-deed_of (Wrote offset width value written) old new h = refl
-deed_of Powered old new h = refl
 deed_of (Supplied w bytes) old new h = supply_of w bytes old new h.answer h.supplies
 deed_of (Missed w) old new h = miss_of w old new h.answer h.misses
-deed_of (Answered id a told) old new h = refl
-deed_of (Put n unit told) old new h = refl
-deed_of (Plugged n told) old new h = refl
-deed_of (Pulled n told) old new h = refl
-deed_of (Removed n told) old new h = refl
-deed_of (FrameTaken n told) old new h = refl
-deed_of (FrameOffered n frame told) old new h = refl
+deed_of other old new h = refl
 
 pub taken : FramesAreTaken
 taken old [] new run was linked = sym (append-nil (bytes_of was.came))

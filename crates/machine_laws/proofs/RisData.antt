@@ -1,5 +1,5 @@
 -- Data FISes that come are of the devices, and have the bytes that were sent.
-use Rattle.std.proofs.Common.{◌≡◌, ◌⊎◌, ℕ, ◌+◌, ◌*◌, ◌/◌, ◌%◌, ◌<◌, ◌==◌, Bool, true, false, List, [], ◌∷◌, ◌++◌, length, drop, Some, None, Result, Ok, Err, refl, sym, ap, ◌∙◌, subst, arith, inl, inr, All, Contains, filter}
+use Rattle.std.proofs.Common.{◌≡◌, ◌⊎◌, ℕ, ◌+◌, ◌*◌, ◌/◌, ◌%◌, ◌<◌, ◌==◌, Bool, true, false, List, [], ◌∷◌, ◌++◌, length, drop, Some, Result, Ok, Err, refl, sym, ap, ◌∙◌, subst, arith, inl, inr, All, Contains, filter}
 use Rattle.std.specs.Prelude.{if◌then◌else◌, ◌&&◌, slice_index}
 use Rattle.std.proofs.lemmas.Bool.{and_from, and_parts, eq-eqb, eqb-true, true≢false, false≢true}
 use Rattle.std.proofs.lemmas.List.{get_or-set_same, length-set}
@@ -22,7 +22,7 @@ use Rattle.multiplier.proofs.Door.{gives, served_below}
 use Rattle.block_queue.specs.Line.{command_at}
 use Rattle.sata_disk.specs.Sending.{part_at}
 use Rattle.sata_disk.specs.State.{commands}
-use Rattle.fan_out.specs.Calls.{FanCall, Plug, Pull, Send, GiveUp, GiveDown, Offer, Tell, Does as FanDoes, given, given_by}
+use Rattle.fan_out.specs.Calls.{FanCall, GiveUp, Does as FanDoes, given, given_by}
 use Rattle.fan_out.specs.Fans.{FanState, IsFan}
 use Rattle.fan_out.specs.declared.fan_out.FanOut.{FanOut}
 use Rattle.fan_out.specs.declared.fan_out.FanOut.TheVariants.{Device, Multiplier}
@@ -131,15 +131,8 @@ placed f g frame is h = by_way (gives f.multiplier frame g.multiplier h)
         inr (IsAnswer (eqb-true (slice_index frame.bytes 0) 0x34 so.1))
 
 one_placed : (f g : FanState) (call : FanCall) → IsFan f → FanDoes (Multiplier f) call (Multiplier g) → All Placed (given_by call)
-one_placed f g (Plug n result) is h = All-nil Placed
-one_placed f g (Pull n result) is h = All-nil Placed
-one_placed f g (Send frame result) is h = All-nil Placed
 one_placed f g (GiveUp (Ok (Some frame))) is h = All-cons Placed frame [] (placed f g frame is h.0) (All-nil Placed)
-one_placed f g (GiveUp (Ok None)) is h = All-nil Placed
-one_placed f g (GiveUp (Err why)) is h = All-nil Placed
-one_placed f g (GiveDown n result) is h = All-nil Placed
-one_placed f g (Offer n frame result waits) is h = All-nil Placed
-one_placed f g (Tell result) is h = All-nil Placed
+one_placed f g other is h = All-nil Placed
 
 all_placed : FansPass → (f g : FanState) (calls : List FanCall) (sent : List Stamped) → IsFan f → Sends (Multiplier f) calls sent (Multiplier g) → All Placed (given calls)
 all_placed law f g [] sent is h = All-nil Placed

@@ -133,18 +133,11 @@ rests old new (inr turns) = ap outer turns.rest
 
 pub does_next : (said : Next) (old new : MachineState) → acts.DoesBy said old new → Still old new
 does_next (next.Order dev slot fis) old new h = ap outer h.1
-does_next (next.Feed dev number slot offset len) old new h = ap outer h
-does_next (next.Payload m) old new h = ap outer h
-does_next (next.Posted m) old new h = ap outer h
-does_next (next.Counted c) old new h = ap outer h
-does_next next.Nothing old new h = ap outer h
-does_next (next.Read ask) old new h = ap outer h
+does_next other old new h = ap outer h
 
 pub goes_by : (answer : Fed) (g : GatheringState) (base new : MachineState) → acts.GoesBy answer g base new → Still base new
 goes_by (fed.Goes message line) g base new h = ap outer h
-goes_by fed.Stale g base new h = ap outer h
-goes_by fed.Ended g base new h = ap outer h
-goes_by (fed.Missed message line) g base new h = ap outer h
+goes_by other g base new h = ap outer h
 
 -- all of it is written: it is let go
 lets_go : (b : Bool) (o : Option Stamped) → option_to_list (if b then None else o) ≡ (if b then [] else option_to_list o)
@@ -173,7 +166,6 @@ serves a n old new same h = ap outer h.rest ∙ (λ i. (same i, old.incoming, ol
 
 move_rises : (a : Act) (old new : MachineState) (does : acts.Does old a new) → IsThere (outer old) → Rising (outer old) (move_came old a new does) (move_sent old a new does) (outer new)
 move_rises act.Rests old new h there = still old new there (rests old new h)
-move_rises (act.Writes w) old new h there = still old new there (ap outer h.rest)
 move_rises act.LetsGo old new h there = subst (Rising (outer old) [] []) (sym (ap outer h.rest)) (record {
   calls = [];
   sends = (refl, refl);
@@ -182,11 +174,9 @@ move_rises act.LetsGo old new h there = subst (Rising (outer old) [] []) (sym (a
 })
 move_rises (act.Line b) old new h there = still old new there (ap outer h.2)
 move_rises act.Message old new h there = still old new there (ap outer h.1)
-move_rises (act.Turns said) old new h there = still old new there (ap outer h.rest)
 move_rises (act.Does said) old new h there = still old new there (does_next said old new h.does)
 move_rises (act.Sends passed) old new h there =
     called old new (Send h.frame (Ok passed)) [] there h.sends refl refl (ap (λ (m : MachineState). m.incoming) h.rest) (ap (λ (m : MachineState). m.taken) h.rest)
-move_rises (act.Wants read) old new h there = still old new there (ap outer h.rest)
 move_rises (act.Gathers dev answer) old new h there =
     still old new there (goes_by answer h.gathering (with_controller (with_gathering old h.place None) new.controller) new h.gathers.goes)
 move_rises (act.Misses slot answer) old new h there = still old new there (ap outer h.misses.rest)
@@ -214,6 +204,7 @@ move_rises (act.Speaks n out) old new h there =
     called old new (Offer n h.does.1.frame (Ok Held) (waits_at new.fan n)) _ there (h.does.1.offers, refl) refl refl (ap (λ (m : MachineState). m.incoming) h.rest) (ap (λ (m : MachineState). m.taken) h.rest)
 move_rises (act.Starts n place) old new h there = still old new there (serves (act.Starts n place) n old new h.does.1 h)
 move_rises (act.Asks id request) old new h there = still old new there (serves (act.Asks id request) id.port old new h.does.1 h)
+move_rises other old new h there = still old new there (ap outer h.rest)
 
 -- ---- calls
 

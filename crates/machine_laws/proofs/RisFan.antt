@@ -122,18 +122,11 @@ of_its_port m n c w true is = ap (λ (k : ℕ). of_conn n c (rising k w ∷ []))
 of_its_port m n c w false is = sym (ap (λ (b : Bool). if b && (w.stamp.conn == c) then rising m w ∷ [] else []) is)
 
 one_offered : (f h : FanState) (call : FanCall) → IsFan f → Does (Multiplier f) call (Multiplier h) → (n c : ℕ) → offered_by n c call ≡ of_conn n c (sent_call (Multiplier f) call)
-one_offered f h (Plug m result) is does n c = refl
-one_offered f h (Pull m result) is does n c = refl
-one_offered f h (Send frame result) is does n c = refl
-one_offered f h (GiveUp result) is does n c = refl
-one_offered f h (GiveDown m result) is does n c = refl
 one_offered f h (Offer m frame (Ok Held) waits) is does n c =
     subst (λ (o : Option Stamped). offered_by n c (Offer m frame (Ok Held) o) ≡ of_conn n c (rising m (waiting f m frame) ∷ []))
     (sym (does.1 ∙ waits_up f h m frame is (nat_lt m f.multiplier.registers.ports) refl does.0))
     (of_its_port m n c (waiting f m frame) (m == n) refl)
-one_offered f h (Offer m frame (Ok Dropped) waits) is does n c = refl
-one_offered f h (Offer m frame (Err given_back) waits) is does n c = refl
-one_offered f h (Tell result) is does n c = refl
+one_offered f h other is does n c = refl
 
 pub after_one : FansPass → (f h : FanState) (call : FanCall) → IsFan f → Does (Multiplier f) call (Multiplier h) → IsFan h
 after_one law f h call is does = (law f h (call ∷ []) is (Multiplier h, does, refl)).fan

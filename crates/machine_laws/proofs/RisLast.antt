@@ -39,14 +39,11 @@ module _ (n c : ℕ) where
 
   move_lasts : (a : Act) (old new : MachineState) → n < port_count old.fan → may_end old.fan (Moved a) n ≡ false → acts.Does old a new → Lasts old new
   move_lasts act.Rests old new less off h = stays old new (rests old new h)
-  move_lasts (act.Writes w) old new less off h = stays old new (ap outer h.rest)
   move_lasts act.LetsGo old new less off h = ap (λ (m : MachineState). is_over m.fan n c) h.rest
   move_lasts (act.Line b) old new less off h = stays old new (ap outer h.2)
   move_lasts act.Message old new less off h = stays old new (ap outer h.1)
-  move_lasts (act.Turns said) old new less off h = stays old new (ap outer h.rest)
   move_lasts (act.Does said) old new less off h = stays old new (does_next said old new h.does)
   move_lasts (act.Sends passed) old new less off h = over_keeps old.fan new.fan (Send h.frame (Ok passed)) n c less h.sends off
-  move_lasts (act.Wants read) old new less off h = stays old new (ap outer h.rest)
   move_lasts (act.Gathers dev answer) old new less off h =
       stays old new (goes_by answer h.gathering (with_controller (with_gathering old h.place None) new.controller) new h.gathers.goes)
   move_lasts (act.Misses slot answer) old new less off h = stays old new (ap outer h.misses.rest)
@@ -61,6 +58,7 @@ module _ (n c : ℕ) where
   move_lasts (act.Speaks m out) old new less off h = over_keeps old.fan new.fan (Offer m h.does.1.frame (Ok Held) (waits_at new.fan m)) n c less (h.does.1.offers, refl) refl
   move_lasts (act.Starts m place) old new less off h = stays old new (serves (act.Starts m place) m old new h.does.1 h)
   move_lasts (act.Asks id request) old new less off h = stays old new (serves (act.Asks id request) id.port old new h.does.1 h)
+  move_lasts other old new less off h = stays old new (ap outer h.rest)
 
   plugged : (m : ℕ) (old new : MachineState) (told : Result (Unit {0}) PortFault) → n < port_count old.fan → PlugsMachine m old told new → Lasts old new
   plugged m old new told less h =

@@ -23,7 +23,7 @@ use Rattle.ahci_machine.specs.States.{MachineState, opening_end}
 use Rattle.machine_laws.proofs.RisDeeds.{Rising, deed_rises, outer}
 use Rattle.machine_laws.proofs.RisFan.{FansPass, Passage, Through, fan_through, no_device, then_sends, two}
 use Rattle.machine_laws.proofs.RisStraight.{no_multiplier, opening_sound, renewed_none, renewed_sound, straight_through}
-use Rattle.machine_laws.specs.Deeds.{Deed, Does, Moved, Unlent, Wrote, Powered, Supplied, Missed, Answered, Put, Plugged, Pulled, Removed, FrameTaken, FrameOffered}
+use Rattle.machine_laws.specs.Deeds.{Deed, Does, Wrote, Powered}
 use Rattle.machine_laws.specs.Rising.{Frames, FramesRise, GoesOnRising, HaveRisen, IsSoundEnd, OpensRising, Sends, came_by, frames_after, held_at, is_multiplier, is_reset, more_frames, no_frames, sent_by, untaken}
 
 -- ---- either kind
@@ -150,17 +150,7 @@ reset_clear : FansRenew → (deed : Deed) (old new : MachineState) → Does old 
     → (old.taken ≡ true → is_some old.incoming ≡ true) → HaveRisen new no_frames
 reset_clear law (Wrote offset width value written) old new h on sound there = wrote_clear law (link_stays written) old new (old.message || message_of written) sound on h.rest
 reset_clear law Powered old new h on sound there = powered_clear law old new sound there h
-reset_clear law (Moved a) old new h on sound there = absurd (false≢true on)
-reset_clear law Unlent old new h on sound there = absurd (false≢true on)
-reset_clear law (Supplied w bytes) old new h on sound there = absurd (false≢true on)
-reset_clear law (Missed w) old new h on sound there = absurd (false≢true on)
-reset_clear law (Answered id a told) old new h on sound there = absurd (false≢true on)
-reset_clear law (Put n unit told) old new h on sound there = absurd (false≢true on)
-reset_clear law (Plugged n told) old new h on sound there = absurd (false≢true on)
-reset_clear law (Pulled n told) old new h on sound there = absurd (false≢true on)
-reset_clear law (Removed n told) old new h on sound there = absurd (false≢true on)
-reset_clear law (FrameTaken n told) old new h on sound there = absurd (false≢true on)
-reset_clear law (FrameOffered n frame told) old new h on sound there = absurd (false≢true on)
+reset_clear law other old new h on sound there = absurd (false≢true on)
 
 -- ---- each deed
 

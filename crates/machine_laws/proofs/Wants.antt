@@ -211,9 +211,8 @@ global true value p n old new h = none p n old new (ap (λ (c : ControllerState)
 global false value p n old new h = calm_by p n old _ new h refl refl refl
 
 linked : (e : Effect) (value p n : ℕ) (old new : ControllerState) → ResetsBy e (link_moved old value) new → Stays p n old new
-linked effect.Nothing value p n old new h = calm_by p n old _ new h refl refl refl
 linked effect.LinkReset value p n old new h = none p n old new (ap (λ (c : ControllerState). c.wants.feeding) h.rest)
-linked effect.LinkUp value p n old new h = calm_by p n old _ new h refl refl refl
+linked other value p n old new h = calm_by p n old _ new h refl refl refl
 
 told_as : (o : Option WriteError) (offer : Offer) (register : port_register.Register) (value p : ℕ) (old new : Port) → view_by register old offer value p ≡ view_of p old → p < 16
     → MatchOption o (AcceptsBy old offer register value new) (λ e. new ≡ old) → Follows (context_of old.slots p) (context_of new.slots p)
@@ -278,12 +277,8 @@ told register value p n old base new is wants core view offer o h =
     (λ below bit. told_as o offer register value p old.core new.core (view offer value p old.core) below h)
 
 register : (r : Register) (value p n : ℕ) (old new : ControllerState) (result : Written) → Leaves r old value result new → Stays p n old new
-register ahci.Cap value p n old new result h = unmoved p n old new h.0
 register ahci.Ghc value p n old new result h = global (line_bits.has_bit value 0) value p n old new h.0
 register ahci.Is value p n old new result h = calm_by p n old _ new h.0 refl refl refl
-register ahci.Pi value p n old new result h = unmoved p n old new h.0
-register ahci.Vs value p n old new result h = unmoved p n old new h.0
-register ahci.Cap2 value p n old new result h = unmoved p n old new h.0
 register ahci.PxClb value p n old new result h = calm_by p n old _ new h.0 refl refl refl
 register ahci.PxClbu value p n old new result h = calm_by p n old _ new h.0 refl refl refl
 register ahci.PxFb value p n old new result h = calm_by p n old _ new h.0 refl refl refl
@@ -291,15 +286,13 @@ register ahci.PxFbu value p n old new result h = calm_by p n old _ new h.0 refl 
 register ahci.PxIs value p n old new result h = told on_port.Is _ p n old _ new h.0.rest refl refl view_is _ _ h.0.core
 register ahci.PxIe value p n old new result h = calm_by p n old _ new h.0 refl refl refl
 register ahci.PxCmd value p n old new result h = commands value p n old new result.ignored h.0
-register ahci.PxTfd value p n old new result h = unmoved p n old new h.0
-register ahci.PxSig value p n old new result h = unmoved p n old new h.0
-register ahci.PxSsts value p n old new result h = unmoved p n old new h.0
 register ahci.PxSctl value p n old new result h = linked (link_effect old value) value p n old new h.0
 register ahci.PxSerr value p n old new result h = told on_port.Serr _ p n old _ new h.0.rest refl refl view_serr _ _ h.0.core
 register ahci.PxSact value p n old new result h = told on_port.Sact _ p n old _ new h.0.rest refl refl view_sact _ _ h.0.core
 register ahci.PxCi value p n old new result h = asked old.own.starts value p n old new h.0
 register ahci.PxSntf value p n old new result h = told on_port.Sntf _ p n old _ new h.0.rest refl refl view_sntf _ _ h.0.core
 register ahci.PxFbs value p n old new result h = none p n old new (ap (λ (c : ControllerState). c.wants.feeding) h.0.rest)
+register other value p n old new result h = unmoved p n old new h.0
 
 at_register : (o : Option Register) (value : Register → ℕ) (p n : ℕ) (old new : ControllerState) (result : Written) (nothing : Type 0) → (nothing → new ≡ old) → MatchOption o nothing (λ r. WritesRegister r old (value r) result new) → Stays p n old new
 at_register None value p n old new result nothing same h = unmoved p n old new (same h)
@@ -329,10 +322,9 @@ issues None slot command p n base new result h =
 issues (Some reason) slot command p n base new result h = calm_by p n base _ new h.rest refl refl refl
 
 goes_on : (slot : ℕ) (came : Supplied) (p n : ℕ) (base new : ControllerState) (result : Supply) → GoesOn base slot came result new → Stays p n base new
-goes_on slot (supplied.More f) p n base new result h = calm_by p n base _ new h.0 refl refl refl
-goes_on slot (supplied.OutOfMemory f) p n base new result h = calm_by p n base _ new h.0 refl refl refl
 goes_on slot (supplied.Refused r) p n base new result h = calm_by p n base _ new h.rest refl refl refl
 goes_on slot (supplied.Whole command) p n base new result h = issues (not_issued base.core slot command) slot command p n base new result h
+goes_on slot other p n base new result h = calm_by p n base _ new h.0 refl refl refl
 
 -- with other wants of commands
 behind : (p n : ℕ) (old base new : ControllerState) → base.wants.feeding ≡ old.wants.feeding → base.wants.devices ≡ old.wants.devices → base.core ≡ old.core → Stays p n base new → Stays p n old new
@@ -398,9 +390,8 @@ lost_by dev p n old base new is wants core =
     (λ below ne. inl (ap (λ (c : Port). context_of c.slots p) (ap (λ (c : ControllerState). c.core) is ∙ core)))
 
 loses : (turn : Turn) (dev p n : ℕ) (old new : ControllerState) (result : Fed) → Loses turn (without_feeding old dev) result new → Stays p n old new
-loses Rests dev p n old new result h = lost_by dev p n old _ new h.0 refl refl
 loses (Feeds to slot offset len) dev p n old new result h = lost_by dev p n old _ new h.rest refl refl
-loses (Orders to slot command) dev p n old new result h = lost_by dev p n old _ new h.0 refl refl
+loses other dev p n old new result h = lost_by dev p n old _ new h.0 refl refl
 
 loses_if : (due : Bool) (dev p n : ℕ) (old new : ControllerState) (result : Fed) → LosesIf due (without_feeding old dev) dev result new → Stays p n old new
 loses_if false dev p n old new result h = lost_by dev p n old _ new h.0 refl refl
@@ -470,8 +461,7 @@ turned_from old base new said wants core h = record {
 
 ordered_due : (slot : ℕ) (turn : Turn) (c : ControllerState) → SaysDue c (order_next slot turn)
 ordered_due slot Rests c = tt
-ordered_due slot (Feeds to of offset len) c = tt
-ordered_due slot (Orders to of command) c = tt
+ordered_due slot other c = tt
 
 orders_turned : (slot : ℕ) (base new : ControllerState) (said : Next) → OrdersSlot base slot said new → IsTurned base said new
 orders_turned slot base new said h =
@@ -479,14 +469,12 @@ orders_turned slot base new said h =
 
 -- bytes are wanted for a device
 fed_due : (dev number : ℕ) (turn : Turn) (c : ControllerState) → turn_to c dev ≡ turn → SaysDue c (feed_next dev number turn)
-fed_due dev number Rests c is = tt
 fed_due dev number (Feeds to slot offset len) c is = λ fed. subst (λ (t : Turn). IsLength t len) (sym is) refl
-fed_due dev number (Orders to slot command) c is = tt
+fed_due dev number other c is = tt
 
 fed_here : (dev number count : ℕ) (turn : Turn) → is_feed_to dev (feed_next dev number turn) ≡ false → IsLength turn count
-fed_here dev number count Rests off = tt
 fed_here dev number count (Feeds to slot offset len) off = absurd (false≢true (sym off ∙ eq-eqb dev dev refl))
-fed_here dev number count (Orders to slot command) off = tt
+fed_here dev number count other off = tt
 
 feeds_turned : (dev : ℕ) (base new : ControllerState) (said : Next) → FeedsTo base dev said new → IsTurned base said new
 feeds_turned dev base new said h = record {

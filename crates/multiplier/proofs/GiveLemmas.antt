@@ -90,11 +90,6 @@ module _ (old : PmState) (frame : Stamped) (new : PmState) where
   given_keeps (Notice at due is e) = keeps_all old new (ap (λ (pm : PmState). pm.registers.ports) e) (ap (λ (pm : PmState). pm.ports) e)
   given_keeps (Answer at is e) = keeps_all old new (ap (λ (pm : PmState). pm.registers.ports) e) (ap (λ (pm : PmState). pm.ports) e)
 
-pub up_rule_sound : (old new : PmState) (result : Result (Option Stamped) AllocError) → IsSound old → NextUpRule old result new → IsSound new
-up_rule_sound old new (Ok (Some frame)) sound h = given_sound old frame new sound (gives old frame new h)
-up_rule_sound old new (Ok None) sound h = subst IsSound (sym h.1) sound
-up_rule_sound old new (Err e) sound h = subst IsSound (sym h.2) sound
-
 pub up_rule_keeps : (old new : PmState) (result : Result (Option Stamped) AllocError) → NextUpRule old result new → KeepsPorts old new
 up_rule_keeps old new (Ok (Some frame)) h = given_keeps old frame new (gives old frame new h)
 up_rule_keeps old new (Ok None) h = KeepsPorts-same old new h.1

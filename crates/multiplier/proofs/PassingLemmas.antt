@@ -153,8 +153,7 @@ control_step past old frame (Ok passed.Control) new sound rule =
           (numbered_answer first past.made (answer_to old.resetting old.registers frame.bytes) (control_stamp old) new.answer rule.1 h);
     }
 control_step past old frame (Err given) new sound rule = same past old (FromHost frame (Err given) None) new (quiet_host past old frame (Err given) (λ n. refl)) sound rule.2
-control_step past old frame (Ok (passed.Down m)) new sound rule = absurd rule
-control_step past old frame (Ok passed.Dropped) new sound rule = absurd rule
+control_step past old frame other new sound rule = absurd rule
 
 module _ (past : Past) (old : PmState) (m conn : ℕ) (frame : Stamped) (new : PmState) (sound : IsSound old) (lt : m < 15) (there : (port_at old m).present ≡ Some conn) where
   abbrev into : port.PortState
@@ -197,8 +196,7 @@ device_step : (past : Past) (old : PmState) (n conn : ℕ) (frame : Stamped) (re
 device_step past old n conn frame (Ok (passed.Down m)) new sound lt there rule =
     subst (λ (k : ℕ). IsPlain past old (FromHost frame (Ok (passed.Down k)) None) new) (sym rule.0) (down_step past old n conn frame new sound lt there rule.1 rule.2)
 device_step past old n conn frame (Err given) new sound lt there rule = same past old (FromHost frame (Err given) None) new (quiet_host past old frame (Err given) (λ k. refl)) sound rule.2
-device_step past old n conn frame (Ok passed.Control) new sound lt there rule = absurd rule
-device_step past old n conn frame (Ok passed.Dropped) new sound lt there rule = absurd rule
+device_step past old n conn frame other new sound lt there rule = absurd rule
 
 nobody_step : (past : Past) (old : PmState) (frame : Stamped) (result : Result Passed (Stamped × PmRefusal)) (new : PmState) → IsSound old → ToNobody old result new
     → IsPlain past old (FromHost frame result (made_by result new)) new
@@ -206,9 +204,7 @@ nobody_step past old frame (Ok passed.Dropped) new sound rule =
     quiet past old (FromHost frame (Ok passed.Dropped) None) new (quiet_host past old frame (Ok passed.Dropped) (λ n. refl))
     (subst IsSound (sym rule) (rest_sound old old.answer old.served old.number (counted old.dropped) old.resetting None sound sound.answer sound.shows sound.served tt))
     (ap (λ (pm : PmState). pm.ports) rule) (ap (λ (pm : PmState). pm.answer) rule) (ap (λ (pm : PmState). pm.number) rule)
-nobody_step past old frame (Ok passed.Control) new sound rule = absurd rule
-nobody_step past old frame (Ok (passed.Down m)) new sound rule = absurd rule
-nobody_step past old frame (Err given) new sound rule = absurd rule
+nobody_step past old frame other new sound rule = absurd rule
 
 -- the connection that a frame passes to is present
 passes_present : (forwards : Bool) (present : Option ℕ) (conn : ℕ) → (if forwards then present else None) ≡ Some conn → present ≡ Some conn

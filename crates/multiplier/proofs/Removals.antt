@@ -6,7 +6,6 @@ use Rattle.std.proofs.lemmas.Bool.{cases_eq, cases_Bool, eq-eqb, ne_eqb}
 use Rattle.std.proofs.lemmas.List.{append-nil, map-append}
 use Rattle.std.proofs.lemmas.List.Elements.{filter-append}
 use Rattle.fis_view.specs.Frames.{Stamped}
-use Rattle.pm_registers.specs.RegisterMap as map
 use Rattle.pm_ports.specs.Port as port
 use Rattle.pm_ports.specs.declared.port.GoneError.{GoneError}
 use Rattle.pm_ports.specs.declared.port.Offered.{Offered}
@@ -90,8 +89,7 @@ host_lets old frame (Ok (passed.Down m)) made sound n c lt so = (refl, by_port (
     by_port true = falls_apart old n c (port_at old n).present frame sound refl so
     by_port false = refl
 host_lets old frame (Ok passed.Control) made sound n c lt so = (refl, refl)
-host_lets old frame (Ok passed.Dropped) made sound n c lt so = (refl, refl)
-host_lets old frame (Err given) made sound n c lt so = (refl, refl)
+host_lets old frame other made sound n c lt so = (refl, refl)
 
 offer_lets : (old : PmState) (m : ℕ) (frame : Stamped) (result : Result Offered Stamped) (new : PmState) → FromDeviceRule old m frame result new → LetsNone old (FromDevice m frame result)
 offer_lets old m frame (Ok offered.Held) new rule n c lt so = (
@@ -101,8 +99,7 @@ offer_lets old m frame (Ok offered.Held) new rule n c lt so = (
   ],
   refl,
 )
-offer_lets old m frame (Ok offered.Dropped) new rule n c lt so = (refl, refl)
-offer_lets old m frame (Err back) new rule n c lt so = (refl, refl)
+offer_lets old m frame other new rule n c lt so = (refl, refl)
 
 -- ---- a device went
 

@@ -7,7 +7,7 @@ use Rattle.std.proofs.Math.ListN.{get_or-eq_default}
 use Rattle.std.proofs.lemmas.Bool.{and_from, and_parts, cases_Bool, cases_eq, cases_lt, eq-eqb, eqb-true, le-leb, leb-true}
 use Rattle.saved_state.specs.State.{KeepsOption, NotSaved, Restores}
 use Rattle.saved_state.specs.declared.words.RestoreError.{RestoreError}
-use Rattle.saved_state.specs.declared.words.RestoreError.TheVariants.{OutOfMemory, Short, NoSuch, Broken}
+use Rattle.saved_state.specs.declared.words.RestoreError.TheVariants.{OutOfMemory}
 use Rattle.fis_view.specs.Frames.{Stamped}
 use Rattle.fis_view.specs.Saved.{KeepsFrame}
 use Rattle.pm_registers.specs.RegisterMap as map
@@ -193,14 +193,12 @@ sound_answer ports (Some frame) is shows =
     (sound_removals ports frame.stamp.shown (shows frame refl))
 
 given_sound : (given : Option Given) → given_fits given ≡ true → IsPlace given
-given_sound None fit = tt
 given_sound (Some (Up before source stamp)) fit = leb-true before control_port fit
-given_sound (Some (Down n stamp)) fit = tt
+given_sound other fit = tt
 
 sound_given : (given : Option Given) → IsPlace given → given_fits given ≡ true
-sound_given None is = refl
 sound_given (Some (Up before source stamp)) is = le-leb before control_port is
-sound_given (Some (Down n stamp)) is = refl
+sound_given other is = refl
 
 -- ---- words of no frame that was given
 
@@ -216,16 +214,12 @@ no_down old mid is gone (Down n stamp) rest k e = let inner : mid ≡ put_down (
 pub up_refused : (old mid new : List ℕ) (error : RestoreError) → old ≡ 1 ∷ mid → Restores put_up KeepsUp mid (Err error) new
     → Restores put_given KeepsGiven old (Err error) new
 up_refused old mid new OutOfMemory is gone = tt
-up_refused old mid new Short is gone = no_up old mid is gone
-up_refused old mid new NoSuch is gone = no_up old mid is gone
-up_refused old mid new Broken is gone = no_up old mid is gone
+up_refused old mid new other is gone = no_up old mid is gone
 
 pub down_refused : (old mid new : List ℕ) (error : RestoreError) → old ≡ 2 ∷ mid → Restores put_down KeepsDown mid (Err error) new
     → Restores put_given KeepsGiven old (Err error) new
 down_refused old mid new OutOfMemory is gone = tt
-down_refused old mid new Short is gone = no_down old mid is gone
-down_refused old mid new NoSuch is gone = no_down old mid is gone
-down_refused old mid new Broken is gone = no_down old mid is gone
+down_refused old mid new other is gone = no_down old mid is gone
 
 -- ---- the whole
 

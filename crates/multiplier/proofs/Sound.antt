@@ -20,7 +20,7 @@ use Rattle.pm_registers.specs.Calls.{Inserts, Removes}
 use Rattle.pm_control.specs.Answers.{IsAnswer, IsNotice, registers_left, registers_after_request}
 use Rattle.pm_control.specs.Requests.{request_in}
 use Rattle.pm_control.specs.declared.request.Request.{Request}
-use Rattle.pm_control.specs.declared.request.Request.TheVariants.{Read, Write, Unknown, Reset, EndReset}
+use Rattle.pm_control.specs.declared.request.Request.TheVariants.{Write}
 use Rattle.pm_ports.specs.Port as port
 use Rattle.multiplier.specs.Arbiter.{control_port}
 use Rattle.multiplier.specs.State.{PmState, IsSound, IsSoundPort, IsPlace, ShowsRecorded, control_stamp, is_answer, is_notice, port_at, with_port, settled, stamped, opening, opening_with_port_0, first_port}
@@ -77,24 +77,12 @@ bits_type t e =
     ]
 
 viewed_d2h : (k : Kind) (f : List ℕ) → view_as k f ≡ view.RegD2H f → k ≡ D2h
-viewed_d2h H2d f e = absurd cc
 viewed_d2h D2h f e = refl
-viewed_d2h Activate f e = absurd cc
-viewed_d2h Setup f e = absurd cc
-viewed_d2h Data f e = absurd cc
-viewed_d2h Pio f e = absurd cc
-viewed_d2h Bits f e = absurd cc
-viewed_d2h Other f e = absurd cc
+viewed_d2h kind f e = absurd cc
 
 viewed_bits : (k : Kind) (f : List ℕ) → view_as k f ≡ view.SetBits f → k ≡ Bits
-viewed_bits H2d f e = absurd cc
-viewed_bits D2h f e = absurd cc
-viewed_bits Activate f e = absurd cc
-viewed_bits Setup f e = absurd cc
-viewed_bits Data f e = absurd cc
-viewed_bits Pio f e = absurd cc
 viewed_bits Bits f e = refl
-viewed_bits Other f e = absurd cc
+viewed_bits kind f e = absurd cc
 
 seen_by : (b : Bool) (x y : Fis) (fault : FisFault) → (let r : Result Fis FisFault = (if b then Ok x else Err fault) in r) ≡ Ok y → x ≡ y
 seen_by true x y fault e = cc
@@ -152,20 +140,12 @@ notice_is_no_answer stamp frame is = not_of_type frame 0xA1 0x34 (seen_bits fram
 -- ---- the registers after a request
 
 request_sound : (m : map.RegisterMap) (request : Option Request) → map.IsSound m → map.IsSound (registers_after_request m request)
-request_sound m None sound = sound
-request_sound m (Some (Read at)) sound = sound
 request_sound m (Some (Write at value)) sound = write_sound m at.port at.register value sound
-request_sound m (Some Unknown) sound = sound
-request_sound m (Some Reset) sound = sound
-request_sound m (Some EndReset) sound = sound
+request_sound m other sound = sound
 
 request_devices : (m : map.RegisterMap) (request : Option Request) (n : ℕ) → (map.port_at (registers_after_request m request) n).present ≡ (map.port_at m n).present
-request_devices m None n = refl
-request_devices m (Some (Read at)) n = refl
 request_devices m (Some (Write at value)) n = write_devices m at.port at.register value n
-request_devices m (Some Unknown) n = refl
-request_devices m (Some Reset) n = refl
-request_devices m (Some EndReset) n = refl
+request_devices m other n = refl
 
 -- ---- sound multipliers
 

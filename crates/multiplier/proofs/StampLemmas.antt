@@ -20,7 +20,7 @@ use Rattle.multiplier.specs.Rules.{FromHostRule, ToControl, ToDevice, ToNobody}
 use Rattle.multiplier.specs.declared.multiplier.Passed.{Passed}
 use Rattle.multiplier.specs.declared.multiplier.Passed.TheVariants as passed
 use Rattle.multiplier.specs.declared.multiplier.PmRefusal.{PmRefusal}
-use Rattle.multiplier.specs.Passing.{Call, FromHost, FromDevice, Came, Gone, NextUp, PutBackUp, NextDown, PutBackDown, Does, DoesAll, Past, Suits, past_after, but_last, made_by, made_in, of_conn, held_of, came_by, highest, ShowsRemovals}
+use Rattle.multiplier.specs.Passing.{Call, FromHost, FromDevice, NextUp, PutBackUp, NextDown, Does, DoesAll, Past, Suits, past_after, but_last, made_by, made_in, of_conn, held_of, came_by, ShowsRemovals}
 use Rattle.multiplier.specs.Stamping.{taken_by, taken_of, IsStamped, GoesUpStamped, BeginsStamped}
 use Rattle.multiplier.specs.Between.{Answer, FromPort, Gives, IsStep, Notice}
 use Rattle.multiplier.proofs.Gone.{never_up_to, not_up_to, removal_at}
@@ -67,13 +67,7 @@ came_taken old (FromDevice m frame (Ok offered.Dropped)) new n c does not_so =
     by_port true none = ap (map (rising n)) none
     by_port false none = refl
 came_taken old (FromDevice m frame (Err back)) new n c does not_so = refl
-came_taken old (FromHost frame result made) new n c does not_so = refl
-came_taken old (Came m conn result) new n c does not_so = refl
-came_taken old (Gone m conn result up down) new n c does not_so = refl
-came_taken old (NextUp result) new n c does not_so = refl
-came_taken old (PutBackUp frame) new n c does not_so = refl
-came_taken old (NextDown m result) new n c does not_so = refl
-came_taken old (PutBackDown m frame) new n c does not_so = refl
+came_taken old other new n c does not_so = refl
 
 -- ---- a frame that goes up
 
@@ -127,15 +121,8 @@ up_in_order taken past old (PutBackUp frame) new sound suits does is order =
       bounds = λ n lt. subst (λ (fs : List Stamped). IsWithin fs n (port_at old n).last (port_at old n).gone) (sym less)
           (within_less ends.0 (frame ∷ []) n (port_at old n).last (port_at old n).gone (subst (λ (fs : List Stamped). IsWithin fs n (port_at old n).last (port_at old n).gone) ends.1 (is.bounds n lt)));
     }
-up_in_order taken past old (NextUp (Ok None)) new sound suits does is order = record { order = is.order; bounds = is.bounds }
-up_in_order taken past old (NextUp (Err e)) new sound suits does is order = record { order = is.order; bounds = is.bounds }
-up_in_order taken past old (FromHost frame result made) new sound suits does is order = record { order = is.order; bounds = is.bounds }
-up_in_order taken past old (FromDevice m frame result) new sound suits does is order = record { order = is.order; bounds = is.bounds }
-up_in_order taken past old (Came m conn result) new sound suits does is order = record { order = is.order; bounds = is.bounds }
-up_in_order taken past old (Gone m conn result up down) new sound suits does is order = record { order = is.order; bounds = is.bounds }
 up_in_order taken past old (NextDown m (Some frame)) new sound suits does is order = record { order = is.order; bounds = is.bounds }
-up_in_order taken past old (NextDown m None) new sound suits does is order = record { order = is.order; bounds = is.bounds }
-up_in_order taken past old (PutBackDown m frame) new sound suits does is order = record { order = is.order; bounds = is.bounds }
+up_in_order taken past old other new sound suits does is order = record { order = is.order; bounds = is.bounds }
 
 stamped_step : (taken : ℕ → List Stamped) (past : Past) (old : PmState) (call : Call) (new : PmState) → IsSound old → Suits past call → Does old call new → IsStamped taken past old
     → ((n : ℕ) → n < 15 → InDeviceOrder (taken n)) → IsStamped (λ n. taken n ++ taken_by n call) (past_after past call) new
@@ -202,9 +189,7 @@ module _ (old new : PmState) (given : Stamped) (frame : Stamped) where
 
   answered_stamp : (result : Result Passed (Stamped × PmRefusal)) → FromHostRule old given result new → made_by result new ≡ Some frame → frame.stamp ≡ control_stamp old
   answered_stamp (Ok passed.Control) rule e = by_answer (pm_port given == control_port) rule e
-  answered_stamp (Ok (passed.Down m)) rule e = absurd cc
-  answered_stamp (Ok passed.Dropped) rule e = absurd cc
-  answered_stamp (Err refused) rule e = absurd cc
+  answered_stamp other rule e = absurd cc
 
 none_made : (b : Bool) (given frame : Stamped) → b ≡ false → (let o : Option Stamped = (if b then Some given else None) in o) ≡ Some frame → ⊥
 none_made true given frame not_so e = absurd cc
@@ -224,14 +209,7 @@ notice_stamp old given new frame sound (Answer at is e) made = absurd (none_made
 made_stamp : (old : PmState) (call : Call) (new : PmState) (frame : Stamped) → IsSound old → Does old call new → made_in call ≡ Some frame → frame.stamp ≡ control_stamp old
 made_stamp old (FromHost given result made) new frame sound does e = answered_stamp old new given frame result does.0 (sym does.1 ∙ e)
 made_stamp old (NextUp (Ok (Some given))) new frame sound does e = notice_stamp old given new frame sound (gives old given new does) e
-made_stamp old (NextUp (Ok None)) new frame sound does e = absurd cc
-made_stamp old (NextUp (Err refused)) new frame sound does e = absurd cc
-made_stamp old (FromDevice m given result) new frame sound does e = absurd cc
-made_stamp old (Came m conn result) new frame sound does e = absurd cc
-made_stamp old (Gone m conn result up down) new frame sound does e = absurd cc
-made_stamp old (PutBackUp given) new frame sound does e = absurd cc
-made_stamp old (NextDown m result) new frame sound does e = absurd cc
-made_stamp old (PutBackDown m given) new frame sound does e = absurd cc
+made_stamp old other new frame sound does e = absurd cc
 
 pub shows_removals : (past : Past) (old mid new : PmState) (calls : List Call) (call : Call) → IsSound old → DoesAll past old calls mid → Does mid call new → ShowsRemovals old calls call
 shows_removals past old mid new calls call sound all does frame made n lt =

@@ -45,21 +45,17 @@ no_turn_settled old new served none = record { served = served; given = λ b k s
 
 no_turn_control : (old new : PmState) (frame : Stamped) (result : Result Passed (Stamped × PmRefusal)) → ToControl old frame result new → IsNoTurn old new
 no_turn_control old new frame (Ok passed.Control) rule = no_turn_settled old new (ap (λ (pm : PmState). pm.served) rule.2) (ap (λ (pm : PmState). pm.given) rule.2)
-no_turn_control old new frame (Ok (passed.Down m)) rule = absurd rule
-no_turn_control old new frame (Ok passed.Dropped) rule = absurd rule
 no_turn_control old new frame (Err given) rule = no_turn_same old new rule.2
+no_turn_control old new frame other rule = absurd rule
 
 no_turn_device : (old new : PmState) (n conn : ℕ) (frame : Stamped) (result : Result Passed (Stamped × PmRefusal)) → ToDevice old n conn frame result new → IsNoTurn old new
 no_turn_device old new n conn frame (Ok (passed.Down m)) rule = no_turn_settled old new (ap (λ (pm : PmState). pm.served) rule.2) (ap (λ (pm : PmState). pm.given) rule.2)
-no_turn_device old new n conn frame (Ok passed.Control) rule = absurd rule
-no_turn_device old new n conn frame (Ok passed.Dropped) rule = absurd rule
 no_turn_device old new n conn frame (Err given) rule = no_turn_same old new rule.2
+no_turn_device old new n conn frame other rule = absurd rule
 
 no_turn_nobody : (old new : PmState) (result : Result Passed (Stamped × PmRefusal)) → ToNobody old result new → IsNoTurn old new
 no_turn_nobody old new (Ok passed.Dropped) rule = no_turn_settled old new (ap (λ (pm : PmState). pm.served) rule) (ap (λ (pm : PmState). pm.given) rule)
-no_turn_nobody old new (Ok passed.Control) rule = absurd rule
-no_turn_nobody old new (Ok (passed.Down m)) rule = absurd rule
-no_turn_nobody old new (Err given) rule = absurd rule
+no_turn_nobody old new other rule = absurd rule
 
 module _ (old new : PmState) (frame : Stamped) (result : Result Passed (Stamped × PmRefusal)) where
   by_device : (to : Option ℕ) → MatchOption to (ToNobody old result new) (λ conn. ToDevice old (pm_port frame) conn frame result new) → IsNoTurn old new
@@ -176,16 +172,8 @@ module _ (place limit : ℕ) (small : place ≤ control_port) where
 
   -- what such a call does
   as_does : (old : PmState) (call : Call) (new : PmState) → PassesOver place old call new → Does old call new
-  as_does old (FromHost frame result made) new does = does
-  as_does old (FromDevice n frame result) new does = does
-  as_does old (Came n conn result) new does = does
-  as_does old (Gone n conn result up down) new does = does
   as_does old (NextUp (Ok (Some frame))) new does = does.0
-  as_does old (NextUp (Ok None)) new does = does
-  as_does old (NextUp (Err e)) new does = does
-  as_does old (PutBackUp frame) new does = does
-  as_does old (NextDown n result) new does = does
-  as_does old (PutBackDown n frame) new does = does
+  as_does old other new does = does
 
   all_calls : (past : Past) (old new : PmState) (calls : List Call) → IsSound old → Runs (PassesOver place) past old calls new → IsWithin place limit (length past.up) old
       → IsWithin place limit (length (all_past past calls).up) new

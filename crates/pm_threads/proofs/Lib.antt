@@ -1,8 +1,6 @@
 mod Fewer
 pub mod Ends
 pub mod Fits
-pub mod Frees
-pub mod Results
 pub mod Pulls
 pub mod Puts
 pub mod Replicas

@@ -11,7 +11,7 @@ use Rattle.block_command.specs.Moments.{Moment}
 use Rattle.block_command.specs.Laws.{Goes, Comes, Happening, Input, blank}
 use Rattle.block_disk.specs.Table as table
 use Rattle.block_disk.specs.Table.{is_under_way}
-use Rattle.block_disk.specs.Laws.{At, AtNone, Page, Refused, Reset, Shown, Took, at_page, entered_in, page_entered, shown_at}
+use Rattle.block_disk.specs.Laws.{At, Page, Refused, Reset, Shown, Took, at_page, entered_in, page_entered, shown_at}
 use Rattle.block_disk.specs.Requests.{Asked, Answered, Books, Drawn, OnLink, Seen, entered_by, is_out, no_books, seen}
 use Rattle.block_disk.proofs.Door.{each_is}
 use Rattle.block_queue.specs.Deeds as deed
@@ -34,7 +34,7 @@ use Rattle.ata_command.specs.declared.asked.PowerTask.{PowerTask}
 use Rattle.ata_command.specs.declared.asked.PowerTask.TheVariants as power
 use Rattle.ata_command.specs.declared.asked.Refusal.{Refusal}
 use Rattle.ata_command.specs.declared.control.Course.{Course}
-use Rattle.ata_command.specs.declared.control.Course.TheVariants.{Drop, Refuse, AbortAll, Take}
+use Rattle.ata_command.specs.declared.control.Course.TheVariants.{Take}
 use Rattle.ata_command.specs.declared.settings.Setting.{Setting}
 use Rattle.ata_command.specs.declared.settings.Setting.TheVariants as setting
 use Rattle.ata_command.specs.Courses.{course, resets}
@@ -114,11 +114,10 @@ module _ (holds : Command → Type 0) where
 
   shown_entered : (pages : List (Option Page)) (s : Shown) → OfPages pages → OfShown s → OfPages (entered_in pages s)
   shown_entered pages (Took c) before is = with_page pages c.place (Some (record { command = c; ledger = blank })) before is
-  shown_entered pages (Refused c) before is = before
   shown_entered pages (At place h) before is =
       with_page pages place (option_map (λ p. page_entered p h) (at_page pages place)) before (same_command h (at_page pages place) (before place))
-  shown_entered pages (AtNone place) before is = before
   shown_entered pages Reset before is = no_pages
+  shown_entered pages other before is = before
 
   answer_entered : (b : Books) (place number : ℕ) (h : Happening) (d : Bool) → OfPages b.pages
       → OfPages (if d then record { pages = entered_in b.pages (At place h); out = set b.out place 0 } else b).pages
@@ -152,9 +151,7 @@ module _ (holds : Command → Type 0) where
   deed_seen l (deed.Sends place) is = shown_none place (table.at l.queue.table place) Goes
   deed_seen l (deed.Asks place) is = shown_none place (table.at l.queue.table place) Goes
   deed_seen l (deed.Hears place part) is = shown_none place (table.at l.queue.table place) (Comes part)
-  deed_seen l (deed.Answers place number i) is = tt
-  deed_seen l deed.Resets is = tt
-  deed_seen l deed.Draws is = tt
+  deed_seen l other is = tt
 
   deeds_seen : (ds : List Deed) (l : Line) → Each OfDeed ds → Each OfSeen (seen_of l ds)
   unfolding seen_of
@@ -181,12 +178,7 @@ module _ (holds : Command → Type 0) where
   move_deeds s (move.Sends place) is = sent_deeds place (ends_all s.line place)
   move_deeds s move.SendsEnds is = end_deeds_hold s.line 32
   move_deeds s move.Forgives is = tt
-  move_deeds s (move.Starts place) is = (tt, tt)
-  move_deeds s (move.Asks place) is = (tt, tt)
-  move_deeds s (move.Hears place part) is = (tt, tt)
-  move_deeds s (move.Answers place number i) is = (tt, tt)
-  move_deeds s move.Draws is = (tt, tt)
-  move_deeds s move.Resets is = (tt, tt)
+  move_deeds s other is = (tt, tt)
 
   moves_deeds : (ms : List Move) (s : Schedule) → Each OfMove ms → Each OfDeed (all_deeds s ms)
   unfolding all_deeds
@@ -206,14 +198,7 @@ module _ (holds : Command → Type 0) where
   step_moves e (engine.TakesAside k ranges) is = tt
   step_moves e (engine.Answers number a) is = answer_none e (place_of e number) number a
   step_moves e engine.SendsAside is = tt
-  step_moves e (engine.Starts p) is = (tt, tt)
-  step_moves e (engine.Asks p) is = (tt, tt)
-  step_moves e engine.AsksAside is = (tt, tt)
-  step_moves e (engine.Hears p part) is = (tt, tt)
-  step_moves e (engine.Sends p) is = (tt, tt)
-  step_moves e engine.SendsEnds is = (tt, tt)
-  step_moves e engine.Forgives is = (tt, tt)
-  step_moves e engine.Resets is = (tt, tt)
+  step_moves e other is = (tt, tt)
 
   steps_moves : (ss : List Step) (e : EngineState) → Each OfStep ss → Each OfMove (all_moves e ss)
   unfolding all_moves
@@ -239,12 +224,11 @@ module _ (holds : Command → Type 0) where
   ask_none (Some p) = (tt, tt)
 
   out_none : (o : Out) → Each OfStep (out_steps o)
-  out_none (out.Own r) = tt
-  out_none (out.Page p) = tt
   out_none (out.Beside r) = (tt, tt)
   out_none (out.Ends tags) = (tt, tt)
   out_none (out.Of p r) = (tt, (tt, tt))
   out_none (out.Data p n) = (tt, (tt, tt))
+  out_none other = tt
 
 -- ## A command's FIS
 
@@ -259,11 +243,7 @@ OfAct d f other = Unit {0}
 
 set_none : (d : DiskState) (f : List ℕ) (s : Setting) → OfAct d f (set_by d.front s).act
 set_none d f (setting.WriteCache false) = tt
-set_none d f (setting.WriteCache true) = tt
-set_none d f (setting.LookAhead on) = tt
-set_none d f (setting.AutoActivate on) = tt
-set_none d f (setting.Mode mode) = tt
-set_none d f (setting.Reverts on) = tt
+set_none d f other = tt
 
 refused_none : (d : DiskState) (f : List ℕ) (r : Refusal) (tag : Option ℕ) → OfAct d f (refused_by d.front r tag).act
 refused_none d f r None = tt
@@ -274,27 +254,19 @@ standby_none d f true h is = tt
 standby_none d f false h is = subst (OfAct d f) (sym is) tt
 
 power_none : (d : DiskState) (f : List ℕ) (t : PowerTask) → OfAct d f (taken_power d.front t).act
-power_none d f power.Check = tt
-power_none d f power.Idle = tt
 power_none d f power.Standby = standby_none d f d.front.settings.write_cache _ refl
+power_none d f other = tt
 
 taken_asked : (d : DiskState) (f : List ℕ) (a : Ask) → asked_of d f ≡ a → OfAct d f (taken d.front a).act
 taken_asked d f (ask.Moves m) is = record { move = m; asks = is; is = refl }
-taken_asked d f ask.Flushes is = tt
 taken_asked d f (ask.Sets s) is = set_none d f s
-taken_asked d f (ask.SetsMultiple m) is = tt
-taken_asked d f (ask.Trims blocks) is = tt
-taken_asked d f ask.Identifies is = tt
-taken_asked d f (ask.ReadsLog p) is = tt
-taken_asked d f (ask.Smart t) is = tt
 taken_asked d f (ask.Power t) is = power_none d f t
 taken_asked d f (ask.Refused r) is = refused_none d f r r.tag
+taken_asked d f other is = tt
 
 command_asked : (d : DiskState) (f : List ℕ) (c : Course) → OfAct d f (commanded_by d.front (asked_of d f) c).act
-command_asked d f Drop = tt
-command_asked d f Refuse = tt
-command_asked d f AbortAll = tt
 command_asked d f Take = taken_asked d f (asked_of d f) refl
+command_asked d f other = tt
 
 control_none : (d : DiskState) (f : List ℕ) (srst : Bool) → OfAct d f (controlled d.front srst).act
 control_none d f true = tt
@@ -307,8 +279,7 @@ register_asked d f false = control_none d f (resets f)
 act_holds : (holds : Command → Type 0) (e : EngineState) (d : DiskState) (f : List ℕ) (a : Act) → ((c : Command) → IsAskedNow d f c → holds c) → OfAct d f a → Each (OfStep holds) (act_steps e a)
 act_holds holds e d f act.Nothing step is = tt
 act_holds holds e d f (act.Takes c) step is = (step c is, tt)
-act_holds holds e d f act.Flushes step is = (tt, tt)
-act_holds holds e d f act.Resets step is = (tt, tt)
+act_holds holds e d f other step is = (tt, tt)
 
 fis_holds : (holds : Command → Type 0) (d : DiskState) (r : Result Fis FisFault) → ((f : List ℕ) (c : Command) → r ≡ Ok (view.RegH2D f) → IsAskedNow d f c → holds c) → Each (OfStep holds) (fis_steps d r)
 fis_holds holds d (Ok (view.RegH2D f)) step = act_holds holds d.engine d f (register_told d f).act (λ c is. step f c refl is) (register_asked d f (is_command f))
@@ -331,11 +302,10 @@ call_holds p limit whole before later d (call.Hears bytes) is at =
       asks = ap (λ (x : DiskState). asked_of x f) (sym at) ∙ asked.asks;
       is = asked.is;
     })
-call_holds p limit whole before later d call.Plugs is at = (tt, tt)
 call_holds p limit whole before later d (call.Starts x) is at = start_none (IsAskedFor p limit whole) x
 call_holds p limit whole before later d (call.Asks r) is at = ask_none (IsAskedFor p limit whole) r.place
-call_holds p limit whole before later d (call.Answers number a) is at = (tt, tt)
 call_holds p limit whole before later d (call.Sends o) is at = out_none (IsAskedFor p limit whole) o
+call_holds p limit whole before later d other is at = (tt, tt)
 
 one_call : (d : DiskState) (c : Call) → after_call d c ≡ after_calls d (c ∷ [])
 unfolding after_calls

@@ -26,7 +26,7 @@ use Rattle.ata_command.specs.declared.asked.Refusal.{Refusal}
 use Rattle.ata_command.specs.declared.asked.SmartTask.{SmartTask}
 use Rattle.ata_command.specs.declared.asked.SmartTask.TheVariants as smart
 use Rattle.ata_command.specs.declared.control.Course.{Course}
-use Rattle.ata_command.specs.declared.control.Course.TheVariants.{Drop, Refuse, AbortAll, Take}
+use Rattle.ata_command.specs.declared.control.Course.TheVariants.{Drop, Take}
 use Rattle.ata_command.specs.declared.settings.Setting.{Setting}
 use Rattle.ata_command.specs.declared.settings.Setting.TheVariants as setting
 use Rattle.ata_command.specs.Courses.{course, resets}
@@ -62,11 +62,7 @@ IsPlain f = Plain f.task
 
 set_plain : (f : Front) (s : Setting) → IsPlain (set_by f s).front
 set_plain f (setting.WriteCache false) = tt
-set_plain f (setting.WriteCache true) = tt
-set_plain f (setting.LookAhead on) = tt
-set_plain f (setting.AutoActivate on) = tt
-set_plain f (setting.Mode mode) = tt
-set_plain f (setting.Reverts on) = tt
+set_plain f other = tt
 
 moves_plain : (m : Move) (b : Bool) (t : Task) → Plain t → Plain (if b then tasks.Owes replies.Accepted else t)
 moves_plain m true t is = tt
@@ -78,18 +74,15 @@ log_plain p false a c one two = two
 
 smart_plain : (t : SmartTask) → Plain (task_of_smart t)
 smart_plain smart.ReadData = tt
-smart_plain smart.ReadThresholds = tt
-smart_plain smart.Nothing = tt
-smart_plain smart.ReturnStatus = tt
+smart_plain other = tt
 
 standby_plain : (b : Bool) (one two : Heard) → IsPlain one.front → IsPlain two.front → IsPlain (if b then one else two).front
 standby_plain true one two first second = first
 standby_plain false one two first second = second
 
 power_plain : (f : Front) (t : PowerTask) → IsPlain (taken_power f t).front
-power_plain f power.Check = tt
-power_plain f power.Idle = tt
 power_plain f power.Standby = standby_plain f.settings.write_cache (taken_flush f purpose.Flush) (leaves f (tasks.Owes replies.Done)) tt tt
+power_plain f other = tt
 
 refused_plain : (f : Front) (r : Refusal) (tag : Option ℕ) → IsPlain (refused_by f r tag).front
 refused_plain f r None = tt
@@ -97,21 +90,17 @@ refused_plain f r (Some tag) = tt
 
 taken_plain : (f : Front) (a : Asked) → IsPlain (taken f a).front
 taken_plain f (ask.Moves m) = moves_plain m (nat_lt m.command.place 32) _ tt
-taken_plain f ask.Flushes = tt
 taken_plain f (ask.Sets s) = set_plain f s
-taken_plain f (ask.SetsMultiple m) = tt
-taken_plain f (ask.Trims blocks) = tt
-taken_plain f ask.Identifies = tt
 taken_plain f (ask.ReadsLog p) = log_plain p p.dma _ _ tt tt
 taken_plain f (ask.Smart t) = smart_plain t
 taken_plain f (ask.Power t) = power_plain f t
 taken_plain f (ask.Refused r) = refused_plain f r r.tag
+taken_plain f other = tt
 
 commanded_plain : (f : Front) (a : Asked) (c : Course) → IsPlain f → IsPlain (commanded_by f a c).front
 commanded_plain f a Drop is = is
-commanded_plain f a Refuse is = tt
-commanded_plain f a AbortAll is = tt
 commanded_plain f a Take is = taken_plain f a
+commanded_plain f a other is = tt
 
 front_if : (b : Bool) (one two : Front) → IsPlain one → IsPlain two → IsPlain (if b then one else two)
 front_if true one two first second = first
@@ -166,22 +155,19 @@ part_plain d p n is =
     (single_plain d.front d.front.task _ _ is)
 
 out_plain : (d : DiskState) (o : Out) → IsPlain d.front → IsPlain (after_sent d o).front
-out_plain d (out.Own r) is = said_plain d.front d.front.task is
-out_plain d (out.Page p) is = said_plain d.front d.front.task is
 out_plain d (out.Beside r) is = tt
 out_plain d (out.Ends tags) is = is
 out_plain d (out.Of p r) is =
     front_if (nat_lt p 32) _ _ (front_if (ends_all (commands d) p) _ d.front is is)
     (single_plain d.front d.front.task _ _ is)
 out_plain d (out.Data p n) is = part_plain d p n is
+out_plain d other is = said_plain d.front d.front.task is
 
 call_plain : (d : DiskState) (c : Call) → IsPlain d.front → IsPlain (after_call d c).front
 call_plain d call.Plugs is = tt
 call_plain d (call.Hears f) is = fis_plain d (seen f) is
-call_plain d (call.Starts x) is = is
-call_plain d (call.Asks r) is = is
-call_plain d (call.Answers number a) is = is
 call_plain d (call.Sends o) is = out_plain d o is
+call_plain d other is = is
 
 all_plain : (calls : List Call) (d : DiskState) → IsPlain d.front → IsPlain (after_calls d calls).front
 unfolding after_calls
@@ -249,6 +235,4 @@ only_ends_end p limit calls (out.Beside r) is =
     subst IsNoEnd (sym is.2) (over_plain (is_done (reached p limit calls).engine.stage) (trouble_at (reached p limit calls).engine 32))
 only_ends_end p limit calls (out.Of place r) is =
     subst NamesNoneIf (sym is.3) (at_plain (reached p limit calls) place (command_at (commands (reached p limit calls)) place))
-only_ends_end p limit calls (out.Page page) is = tt
-only_ends_end p limit calls (out.Ends tags) is = tt
-only_ends_end p limit calls (out.Data place n) is = tt
+only_ends_end p limit calls other is = tt

@@ -7,7 +7,7 @@ use Rattle.std.proofs.lemmas.List.{get_or-set_other}
 use Rattle.fis_view.specs.Table.{H2d, Command, Count, Features, Lba, field}
 use Rattle.block_command.specs.declared.command.Command as block
 use Rattle.block_command.specs.Laws.{Happening, blank}
-use Rattle.block_disk.specs.Laws.{At, AtNone, Page, Refused, Reset, Shown, Took, at_page, entered_in, page_entered}
+use Rattle.block_disk.specs.Laws.{At, Page, Reset, Shown, Took, at_page, entered_in, page_entered}
 use Rattle.block_disk.specs.Requests.{Asked, Answered, Books, Drawn, OnLink, Seen, entered_by, is_out, no_books}
 use Rattle.block_disk.proofs.Door.{each_is}
 use Rattle.ata_command.specs.Asks.{DiskFacts, aborted, asked, asked_by, block_in, does_smart, moved, queued, sets, sets_multiple, setting_of, smart_task, transferred_by}
@@ -59,11 +59,10 @@ no_pages q = subst (IsAt q) (sym (each_is (Option Page) 33 q None)) tt
 
 shown_at_places : (pages : List (Option Page)) (s : Shown) → AreAt pages → AreAt (entered_in pages s)
 shown_at_places pages (Took c) before = set_at pages c.place (Some (record { command = c; ledger = blank })) before refl
-shown_at_places pages (Refused c) before = before
 shown_at_places pages (At place h) before =
     set_at pages place (option_map (λ p. page_entered p h) (at_page pages place)) before (same_place place h (at_page pages place) (before place))
-shown_at_places pages (AtNone place) before = before
 shown_at_places pages Reset before = no_pages
+shown_at_places pages other before = before
 
 answer_at_places : (b : Books) (place : ℕ) (h : Happening) (d : Bool) → AreAt b.pages
     → AreAt (if d then record { pages = entered_in b.pages (At place h); out = set b.out place 0 } else b).pages

@@ -10,7 +10,7 @@ use Rattle.block_queue.specs.Deeds as deed
 use Rattle.block_queue.specs.Deeds.{Deed, act_of, after_deed, seen_of}
 use Rattle.block_queue.specs.Line.{Line, line_gone, line_reset}
 use Rattle.block_scheduler.specs.Schedule.{Schedule, ends_sent, with_line}
-use Rattle.block_scheduler.specs.Laws.{Move, Takes, Starts, Asks, Sends, SendsEnds, Hears, Answers, Draws, Forgives, Resets, after_move, after_moves, all_deeds, deeds_of, ends_deeds}
+use Rattle.block_scheduler.specs.Laws.{Move, Starts, Asks, Sends, SendsEnds, Hears, Answers, Forgives, Resets, after_move, after_moves, all_deeds, deeds_of, ends_deeds}
 use Rattle.block_engine.specs.declared.request.Range.{Range}
 use Rattle.block_engine.specs.Engine.{EngineState, started}
 use Rattle.block_engine.specs.Laws as engine
@@ -78,16 +78,9 @@ sent_case s place true = refl
 sent_case s place false = refl
 
 pub moved : (s : Schedule) (m : Move) → (after_move s m).line ≡ after_deeds s.line (deeds_of s m)
-moved s (Takes c) = refl
-moved s (Starts place) = refl
-moved s (Asks place) = refl
 moved s (Sends place) = sent_case s place _
 moved s SendsEnds = sym (ends_after s.line 32)
-moved s (Hears place part) = refl
-moved s (Answers place number i) = refl
-moved s Draws = refl
-moved s Forgives = refl
-moved s Resets = refl
+moved s other = refl
 
 line_after : (ms : List Move) (s : Schedule) → (after_moves s ms).line ≡ after_deeds s.line (all_deeds s ms)
 unfolding after_moves all_deeds
@@ -143,9 +136,8 @@ two_steps e s t = refl
 
 act_after : (e : EngineState) (a : Act) → engine_acted e a ≡ after_steps e (act_steps e a)
 act_after e act.Nothing = none_steps e
-act_after e (act.Takes c) = one_step e _
-act_after e act.Flushes = one_step e _
 act_after e act.Resets = one_step e engine.Resets
+act_after e other = one_step e _
 
 range_after : (d : DiskState) (x : Option (List Range)) → (discarding d x).engine ≡ after_steps d.engine (range_steps x)
 range_after d None = none_steps d.engine
@@ -169,12 +161,11 @@ ask_after e None = one_step e engine.AsksAside
 ask_after e (Some p) = one_step e _
 
 out_after : (d : DiskState) (o : Out) → (after_sent d o).engine ≡ after_steps d.engine (out_steps o)
-out_after d (out.Own r) = none_steps d.engine
-out_after d (out.Page p) = none_steps d.engine
 out_after d (out.Beside r) = one_step d.engine engine.SendsAside
 out_after d (out.Ends tags) = one_step d.engine engine.SendsEnds
 out_after d (out.Of p r) = two_steps d.engine (engine.Sends p) engine.Forgives
 out_after d (out.Data p n) = two_steps d.engine (engine.Sends p) engine.Forgives
+out_after d other = none_steps d.engine
 
 pub call_after : (d : DiskState) (c : Call) → (after_call d c).engine ≡ after_steps d.engine (steps_of d c)
 call_after d call.Plugs = one_step d.engine engine.Resets

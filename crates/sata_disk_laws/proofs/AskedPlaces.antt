@@ -106,10 +106,9 @@ multiple_block Eight = one_block 8 (omega arith) (omega arith)
 multiple_block Sixteen = one_block 16 (omega arith) (omega arith)
 
 way_block : (w : Way) (m : Multiple) → IsBlocks (block_in w m)
-way_block way.Dma m = one_block 16 (omega arith) (omega arith)
 way_block way.Single m = one_block 1 (omega arith) (omega arith)
 way_block way.Multiple m = multiple_block m
-way_block way.Verify m = one_block 16 (omega arith) (omega arith)
+way_block other m = one_block 16 (omega arith) (omega arith)
 
 transferred_at : (f : List ℕ) (t : moves.Transfer) (d : DiskFacts) (s : Settings) (x : Option ℕ) → IsBlocks x → AskedAt 32 (transferred_by f t d s x)
 transferred_at f t d s None is = refl

@@ -42,9 +42,6 @@ loaded_stage : (e : EngineState) (x : Option ℕ) (number : ℕ) (bytes : List �
 loaded_stage e None number bytes = refl
 loaded_stage e (Some p) number bytes = refl
 
-loaded_asides : (e : EngineState) (x : Option ℕ) (number : ℕ) (a : Answer) → answer_aside x number a ≡ [] → e.stage ≡ after_asides e.stage (answer_aside x number a)
-loaded_asides e x number a none = none_asides e.stage ∙ ap (λ ss. after_asides e.stage ss) (sym none)
-
 answer_stage : (e : EngineState) (x : Option ℕ) (number : ℕ) (a : Answer) → place_of e number ≡ x
     → (answered e number a).stage ≡ after_asides e.stage (answer_aside x number a)
 answer_stage e None number (answers.Loaded bytes) is = loaded_stage e (place_of e number) number bytes.items ∙ none_asides e.stage

@@ -37,7 +37,7 @@ use Rattle.sata_disk.specs.Sending.{IsCommandOut, IsOut, after_sent, is_done, ou
 use Rattle.sata_disk.specs.declared.out.Out.{Out}
 use Rattle.sata_disk.specs.declared.out.Out.TheVariants as out
 use Rattle.sata_disk_laws.specs.Calls.{Answers, AreCalls, Asks, Call, Hears, IsCall, Plugs, Sends, Starts, after_call, after_calls, asked_by, steps_of}
-use Rattle.sata_disk_laws.specs.Once.{AreDue, ForNothing, Host, IsCallDue, IsDataAt, IsFilling, IsOfPlace, IsOpenAt, IsOutDue, IsQueued, IsSingle, command_given, control_given, fis_given, host_after, host_of, new_host, out_got, place_in, unheard_of, waits_for_nothing}
+use Rattle.sata_disk_laws.specs.Once.{AreDue, ForNothing, Host, IsCallDue, IsDataAt, IsFilling, IsOpenAt, IsOutDue, IsQueued, IsSingle, command_given, control_given, fis_given, host_after, host_of, new_host, out_got, place_in, unheard_of, waits_for_nothing}
 use Rattle.sata_disk_laws.specs.Once as wanted
 use Rattle.sata_disk_laws.specs.Once.{IsHostOf}
 use Rattle.sata_disk_laws.specs.Laws.{reached}
@@ -59,9 +59,6 @@ use Rattle.sata_disk_laws.proofs.Tracks.{FitsPlace, IsPlace, LoneTags, OwedTags,
 sends_alive : (p : ℕ) (m : Moment) (stage : Stage) → m.stage ≡ stage → sends_alone p (turn_of stage) ≡ true → is_under_way (Some (record m { stage = stage })) ≡ true
 sends_alive p m Ended e is = absurd (cc)
 sends_alive p m stage e is = refl
-
-IsOfAt : Host → DiskState → (p : ℕ) → Reply → (queued : Bool) → Type 0
-IsOfAt h d p r queued = wanted.IsDue h r × IsOpenAt h p queued × IsOfPlace p r
 
 -- what goes is of a command
 pub record IsSent (d : DiskState) (p : ℕ) (o : Out) (m : Moment) : Type 0 where

@@ -333,10 +333,9 @@ either_task h f s l false t u x y = y
 
 smart_tracks : (h : Host) (f : Front) (e : EngineState) (t : SmartTask) → Ready h f e.stage (line e) → NoTags (line e)
     → TracksOf (host_with h 32) (taken f (ask.Smart t)) e
-smart_tracks h f e smart.ReadData r none = own_tracks h f e.stage (line e) (tasks.Announces _) r none (λ x. x) (λ x y. (x, y)) (λ x. x)
-smart_tracks h f e smart.ReadThresholds r none = own_tracks h f e.stage (line e) (tasks.Announces _) r none (λ x. x) (λ x y. (x, y)) (λ x. x)
 smart_tracks h f e smart.Nothing r none = own_tracks h f e.stage (line e) (tasks.Owes replies.Done) r none (λ x. x) (λ x y. (x, y)) (λ x. x)
 smart_tracks h f e smart.ReturnStatus r none = own_tracks h f e.stage (line e) (tasks.Owes replies.Healthy) r none (λ x. x) (λ x y. (x, y)) (λ x. x)
+smart_tracks h f e other r none = own_tracks h f e.stage (line e) (tasks.Announces _) r none (λ x. x) (λ x y. (x, y)) (λ x. x)
 
 either_heard : (h : Host) (e : EngineState) (b : Bool) (x y : Heard) → TracksOf h x e → TracksOf h y e → TracksOf h (if b then x else y) e
 either_heard h e true x y is is' = is

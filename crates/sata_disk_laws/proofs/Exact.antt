@@ -37,7 +37,7 @@ use Rattle.sata_disk.specs.State.{DiskState, commands, data_place, has_link, new
 use Rattle.sata_disk.specs.Hearing.{register_told}
 use Rattle.sata_disk.specs.declared.out.Out.{Out}
 use Rattle.sata_disk.specs.declared.out.Out.TheVariants as out
-use Rattle.sata_disk_laws.specs.Calls.{Call, Plugs, Hears, Starts, Asks, Answers, Sends, AreCalls, after_call}
+use Rattle.sata_disk_laws.specs.Calls.{Call, Hears, Starts, Asks, Answers, Sends, AreCalls, after_call}
 use Rattle.sata_disk_laws.specs.Calls.{act_steps, all_steps, ask_steps, data_steps, fis_steps, out_steps, range_steps, start_steps, steps_of}
 use Rattle.sata_disk_laws.specs.Laws as wanted
 use Rattle.sata_disk_laws.proofs.Runs.{call_after, call_are, all_are}
@@ -191,20 +191,18 @@ ask_heard e None = (tt, tt)
 ask_heard e (Some p) = (tt, tt)
 
 out_heard : (e : EngineState) (o : Out) → AreHeard e (out_steps o)
-out_heard e (out.Own r) = tt
-out_heard e (out.Page p) = tt
 out_heard e (out.Beside r) = (tt, tt)
 out_heard e (out.Ends tags) = (tt, tt)
 out_heard e (out.Of p r) = (tt, (tt, tt))
 out_heard e (out.Data p n) = (tt, (tt, tt))
+out_heard e other = tt
 
 call_heard : (d : DiskState) (c : Call) → Exact (commands d).queue.table → AreHeard d.engine (steps_of d c)
-call_heard d Plugs x = (tt, tt)
 call_heard d (Hears f) x = fis_heard d (seen f) x
 call_heard d (Starts s) x = start_heard d.engine s
 call_heard d (Asks r) x = ask_heard d.engine r.place
-call_heard d (Answers number a) x = (tt, tt)
 call_heard d (Sends o) x = out_heard d.engine o
+call_heard d other x = (tt, tt)
 
 -- ## Every run
 

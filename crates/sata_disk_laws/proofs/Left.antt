@@ -42,9 +42,6 @@ CountsAt left m = Counts left m.command m.done m.sent m.stage
 not_both : (p : Protocol) (x : Bool) → is_pio p ≡ false → (is_pio p && x) ≡ false
 not_both p x e = ap (λ b. b && x) e
 
-both : (p : Protocol) (x : Bool) → is_pio p ≡ true → (is_pio p && x) ≡ x
-both p x e = ap (λ b. b && x) e
-
 data_alive : (p : Protocol) → is_ended (data_stage p) ≡ false
 data_alive Pio = refl
 data_alive other = refl

@@ -24,10 +24,6 @@ pub record AreEnded (l k : Line) (n : ℕ) : Type 0 where
   pub others : (q : ℕ) → q < 33 → (n ≤ q) ⊎ (ends_at l q ≡ false) → command_at k q ≡ command_at l q
   pub free : k.queue.table.wire ≡ None
 
-free_case : (b : Bool) (n : ℕ) (wire : Option ℕ) → b ≡ false → wire ≡ None → wire_with wire n None ≡ None
-free_case b n None e f = refl
-free_case b n (Some h) e f = absurd (cc)
-
 wire_case : (c : Command) (done : ℕ) (bytes : List ℕ) (sent n : ℕ) (stage : Stage) → is_end (turn_of stage) ≡ true
     → wire_with None n (Some (after (at c done bytes sent stage) Goes)) ≡ None
 wire_case c done bytes sent n End e = ap (λ b. if b then Some n else None) (and_none (is_queued c.protocol))

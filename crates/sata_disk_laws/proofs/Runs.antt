@@ -73,9 +73,8 @@ two_steps e s t = refl
 
 act_after : (e : EngineState) (a : Act) → engine_acted e a ≡ after_steps e (act_steps e a)
 act_after e act.Nothing = none_steps e
-act_after e (act.Takes c) = one_step e _
-act_after e act.Flushes = one_step e _
 act_after e act.Resets = one_step e engine.Resets
+act_after e other = one_step e _
 
 range_after : (d : DiskState) (x : Option (List Range)) → (discarding d x).engine ≡ after_steps d.engine (range_steps x)
 range_after d None = none_steps d.engine
@@ -99,12 +98,11 @@ ask_after e None = one_step e engine.AsksAside
 ask_after e (Some p) = one_step e _
 
 out_after : (d : DiskState) (o : Out) → (after_sent d o).engine ≡ after_steps d.engine (out_steps o)
-out_after d (out.Own r) = none_steps d.engine
-out_after d (out.Page p) = none_steps d.engine
 out_after d (out.Beside r) = one_step d.engine engine.SendsAside
 out_after d (out.Ends tags) = one_step d.engine engine.SendsEnds
 out_after d (out.Of p r) = two_steps d.engine (engine.Sends p) engine.Forgives
 out_after d (out.Data p n) = two_steps d.engine (engine.Sends p) engine.Forgives
+out_after d other = none_steps d.engine
 
 pub call_after : (d : DiskState) (c : Call) → (after_call d c).engine ≡ after_steps d.engine (steps_of d c)
 call_after d Plugs = one_step d.engine engine.Resets
@@ -152,12 +150,11 @@ ask_are e r None is = (is.1, tt)
 ask_are e r (Some p) is = ((is.0.below, is.0.passes), tt)
 
 out_are : (d : DiskState) (o : Out) → IsOut d (Some o) → AreSteps d.engine (out_steps o)
-out_are d (out.Own r) is = tt
-out_are d (out.Page p) is = tt
 out_are d (out.Beside r) is = (is.1, tt)
 out_are d (out.Ends tags) is = (tt, tt)
 out_are d (out.Of p r) is = (is.2, (tt, tt))
 out_are d (out.Data p n) is = (is.2, (tt, tt))
+out_are d other is = tt
 
 pub call_are : (d : DiskState) (c : Call) → IsCall d c → AreSteps d.engine (steps_of d c)
 call_are d Plugs is = (tt, tt)

@@ -86,5 +86,4 @@ fises_are_told d (out.Data p n) b is f =
 fises_are_told d (out.Of p r) b is f = (f, of_told d p r (command_at (commands d) p) is.3)
 fises_are_told d (out.Ends tags) b is f = (f, ends_told d tags _ is.1.1)
 fises_are_told d (out.Beside r) b is f = (f, is.2)
-fises_are_told d (out.Own r) b is f = tt
-fises_are_told d (out.Page p) b is f = tt
+fises_are_told d other b is f = tt

@@ -256,9 +256,8 @@ module _ (h : Host) (w : Watch) (bytes : List ℕ) (place : ℕ) (f : Front) (no
   set_watches (set'.Reverts on) = goes_calm _ refl
 
   power_watches : (t : PowerTask) → WatchesAs (given h place) (told h w place bytes) (taken f (ask.Power t))
-  power_watches power.Check = goes_calm _ refl
-  power_watches power.Idle = goes_calm _ refl
   power_watches power.Standby = either_heard (given h place) (told h w place bytes) f.settings.write_cache _ _ (goes_calm _ refl) (goes_calm _ refl)
+  power_watches other = goes_calm _ refl
 
   answered : (x : Option Fault) (a : Failure) → x ≡ refused_for (wait_for place) a
       → Watches (given h place) (told h w place bytes) x (tasks.Owes (replies.Failed a))

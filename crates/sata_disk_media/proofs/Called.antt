@@ -74,12 +74,11 @@ ask_are e r None is = (is.1, tt)
 ask_are e r (Some p) is = ((is.0.below, is.0.passes), tt)
 
 out_are : (d : DiskState) (o : Out) → IsOut d (Some o) → AreSteps d.engine (out_steps o)
-out_are d (out.Own r) is = tt
-out_are d (out.Page p) is = tt
 out_are d (out.Beside r) is = (is.1, tt)
 out_are d (out.Ends tags) is = (tt, tt)
 out_are d (out.Of p r) is = (is.2, (tt, tt))
 out_are d (out.Data p n) is = (is.2, (tt, tt))
+out_are d other is = tt
 
 pub call_are : (d : DiskState) (c : Call) → IsCall d c → AreSteps d.engine (steps_of d c)
 call_are d call.Plugs is = (tt, tt)
@@ -123,16 +122,12 @@ sends_are l place true low may = ((low, may), (tt, tt))
 sends_are l place false low may = ((low, may), tt)
 
 move_are : (s : Schedule) (m : Move) → IsMove s m → AreDeeds s.line (deeds_of s m)
-move_are s (move.Takes c) is = (is, tt)
-move_are s (move.Starts place) is = (is, tt)
-move_are s (move.Asks place) is = (is, tt)
 move_are s (move.Sends place) is = sends_are s.line place _ is.0 is.1
 move_are s move.SendsEnds is = ends_are s.line 32 (omega arith)
-move_are s (move.Hears place part) is = (is, tt)
-move_are s (move.Answers place number i) is = (is, tt)
 move_are s move.Draws is = (tt, tt)
 move_are s move.Forgives is = tt
 move_are s move.Resets is = (tt, tt)
+move_are s other is = (is, tt)
 
 moves_are : (ms : List Move) (s : Schedule) → AreMoves s ms → AreDeeds s.line (all_deeds s ms)
 unfolding all_deeds
@@ -189,16 +184,12 @@ sent_calm place true = (refl, (refl, tt))
 sent_calm place false = (refl, tt)
 
 move_calm : (s : Schedule) (m : Move) → calm_move m ≡ true → AllOf is_calm (deeds_of s m)
-move_calm s (move.Takes c) e = (refl, tt)
-move_calm s (move.Starts place) e = (refl, tt)
 move_calm s (move.Asks place) e = absurd (cc)
 move_calm s (move.Sends place) e = sent_calm place (ends_all s.line place)
 move_calm s move.SendsEnds e = ends_calm s.line 32
-move_calm s (move.Hears place part) e = (refl, tt)
 move_calm s (move.Answers place number i) e = absurd (cc)
-move_calm s move.Draws e = (refl, tt)
 move_calm s move.Forgives e = tt
-move_calm s move.Resets e = (refl, tt)
+move_calm s other e = (refl, tt)
 
 moves_calm : (ms : List Move) (s : Schedule) → AllOf calm_move ms → AllOf is_calm (all_deeds s ms)
 unfolding all_deeds
@@ -206,18 +197,12 @@ moves_calm [] s all = tt
 moves_calm (m ∷ later) s all = all_both is_calm (deeds_of s m) (all_deeds (after_move s m) later) (move_calm s m all.0) (moves_calm later (after_move s m) all.1)
 
 step_calm : (e : EngineState) (s : Step) → calm_step s ≡ true → AllOf calm_move (moves_of e s)
-step_calm e (engine.Takes c) f = (refl, tt)
 step_calm e (engine.TakesAside k ranges) f = tt
-step_calm e (engine.Starts p) f = (refl, tt)
 step_calm e (engine.Asks p) f = absurd (cc)
 step_calm e engine.AsksAside f = absurd (cc)
 step_calm e (engine.Answers number a) f = absurd (cc)
-step_calm e (engine.Hears p part) f = (refl, tt)
-step_calm e (engine.Sends p) f = (refl, tt)
-step_calm e engine.SendsEnds f = (refl, tt)
 step_calm e engine.SendsAside f = tt
-step_calm e engine.Forgives f = (refl, tt)
-step_calm e engine.Resets f = (refl, tt)
+step_calm e other f = (refl, tt)
 
 steps_calm : (ss : List Step) (e : EngineState) → AllOf calm_step ss → AllOf calm_move (all_moves e ss)
 unfolding all_moves
@@ -226,9 +211,7 @@ steps_calm (s ∷ later) e all = all_both calm_move (moves_of e s) (all_moves (a
 
 act_calm : (e : EngineState) (a : Act) → AllOf calm_step (act_steps e a)
 act_calm e act.Nothing = tt
-act_calm e (act.Takes c) = (refl, tt)
-act_calm e act.Flushes = (refl, tt)
-act_calm e act.Resets = (refl, tt)
+act_calm e other = (refl, tt)
 
 range_calm : (x : Option (List Range)) → AllOf calm_step (range_steps x)
 range_calm None = tt
@@ -248,20 +231,18 @@ start_calm None = tt
 start_calm (Some p) = (refl, tt)
 
 out_calm : (o : Out) → AllOf calm_step (out_steps o)
-out_calm (out.Own r) = tt
-out_calm (out.Page p) = tt
 out_calm (out.Beside r) = (refl, tt)
 out_calm (out.Ends tags) = (refl, tt)
 out_calm (out.Of p r) = (refl, (refl, tt))
 out_calm (out.Data p n) = (refl, (refl, tt))
+out_calm other = tt
 
 call_calm : (d : DiskState) (c : Call) → calm_call c ≡ true → AllOf calm_step (steps_of d c)
 call_calm d call.Plugs e = (refl, tt)
 call_calm d (call.Hears f) e = fis_calm d (view_seen f)
 call_calm d (call.Starts x) e = start_calm x
-call_calm d (call.Asks r) e = absurd (cc)
-call_calm d (call.Answers number a) e = absurd (cc)
 call_calm d (call.Sends o) e = out_calm o
+call_calm d other e = absurd (cc)
 
 pub calm_deeds : (d : DiskState) (c : Call) → calm_call c ≡ true → AllOf is_calm (deeds_by d.engine (steps_of d c))
 calm_deeds d c e = moves_calm (all_moves d.engine (steps_of d c)) d.engine.schedule (steps_calm (steps_of d c) d.engine (call_calm d c e))

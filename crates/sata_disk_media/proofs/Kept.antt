@@ -38,7 +38,6 @@ use Rattle.sata_disk.specs.Sending.{IsOut, out_at}
 use Rattle.sata_disk.specs.State.{DiskState, commands, new_disk}
 use Rattle.sata_disk.specs.declared.out.Out.{Out}
 use Rattle.sata_disk.specs.declared.out.Out.TheVariants as out
-use Rattle.sata_disk_laws.specs.Calls as call
 use Rattle.sata_disk_laws.specs.Calls.{AreCalls, Answers, Asks, Call, Hears, IsCall, Sends, act_steps, after_call, after_calls, fis_steps, steps_of}
 use Rattle.sata_disk_laws.specs.Laws.{reached, seen_in}
 use Rattle.sata_disk_books.specs.Books.{AreNext, AreOfPage, DataAreGiven, books_after, page_in}
@@ -114,9 +113,7 @@ at_end (Some m) e = record { moment = m; is = refl; end = e }
 
 no_activate : (m : Moment) (q : ℕ) (t : Protocol) → Some (out.Of q replies.Done) ≡ Some (out.Of q (asks_by m t)) → ⊥
 no_activate m q protocol.Pio e = cc
-no_activate m q protocol.Queued e = cc
-no_activate m q protocol.Dma e = cc
-no_activate m q protocol.Verify e = cc
+no_activate m q other e = cc
 
 no_failure : (b : Bool) (q : ℕ) (x : AtaError) (f : Failure) → Some (out.Of q replies.Done) ≡ Some (out.Of q (if b then replies.Aborts x else replies.Failed f)) → ⊥
 no_failure true q x f e = cc
@@ -181,23 +178,18 @@ if_false false x y e = refl
 
 spared_ask : (s : ℕ) (x : List ℕ) (w : What) (number : ℕ) (bytes : List ℕ) (ranges : List Range) → touches s w ranges ≡ false
     → asked_cell s (Kept x) w number bytes ranges ≡ Kept x
-spared_ask s x (what.Load lba count) number bytes ranges e = refl
 spared_ask s x (what.Store lba count) number bytes ranges e = if_false (covers lba count s) _ _ e
-spared_ask s x what.Flush number bytes ranges e = refl
 spared_ask s x what.Discard number bytes ranges e = if_false (in_ranges ranges s) _ _ e
+spared_ask s x other number bytes ranges e = refl
 
 answer_stays : (x : List ℕ) (number : ℕ) (a : Answer) → answered_cell (Kept x) number a ≡ Kept x
 answer_stays x number (answers.Loaded bytes) = refl
-answer_stays x number answers.Done = refl
-answer_stays x number (answers.Failed f) = refl
+answer_stays x number other = refl
 
 spared_call : (d : DiskState) (s : ℕ) (x : List ℕ) (c : Call) → Spares d s c → cell_after d s (Kept x) c ≡ Kept x
 spared_call d s x (Asks r) is = spared_ask s x r.what r.number (store_bytes d r.place) d.engine.ranges is
 spared_call d s x (Answers number a) is = answer_stays x number a
-spared_call d s x call.Plugs is = refl
-spared_call d s x (Hears f) is = refl
-spared_call d s x (call.Starts k) is = refl
-spared_call d s x (Sends o) is = refl
+spared_call d s x other is = refl
 
 spared : (calls : List Call) (d : DiskState) (s : ℕ) (x : List ℕ) → AreSparing d s calls → cell_of d s (Kept x) calls ≡ Kept x
 unfolding cell_of

@@ -188,8 +188,7 @@ module _ (asked : ℕ → ℕ → ℕ → Type 0) (brought : ℕ → List ℕ �
       touch_case b q p (command_at l p) (Comes part) held.agree.kept.pages low (λ m f. refl) was
   calm_given l b q s cell deed.Resets is e low held was = none_given b q
   calm_given l b q s cell deed.Draws is e low held was = was
-  calm_given l b q s cell (deed.Asks p) is e low held was = absurd (cc)
-  calm_given l b q s cell (deed.Answers p number i) is e low held was = absurd (cc)
+  calm_given l b q s cell other is e low held was = absurd (cc)
 
   -- ## A request
 
@@ -313,8 +312,6 @@ module _ (asked : ℕ → ℕ → ℕ → Type 0) (brought : ℕ → List ℕ �
   answer_page : (g : Page) (number : ℕ) (i : Input) → 0 < number → ((bytes : List ℕ) → i ≡ Loads bytes → Brings number bytes) → Given asked brought g number
       → Given asked brought (page_entered g (told i)) 0
   answer_page g number (Loads bytes) some brings is = loaded_case g number bytes g.ledger.wanting refl some (brings bytes refl) is
-  answer_page g number Goes some brings is = record { sectors = is.sectors; wanting = λ k none w. absurd (omega (arith, none)) }
-  answer_page g number (Comes part) some brings is = record { sectors = is.sectors; wanting = λ k none w. absurd (omega (arith, none)) }
   answer_page g number command.Stores some brings is =
       let loads = stored_case g.ledger g.ledger.storing in
       let same = same_given g (page_entered g Stored) number refl loads is in
@@ -323,7 +320,7 @@ module _ (asked : ℕ → ℕ → ℕ → Type 0) (brought : ℕ → List ℕ �
       let loads = flushed_case g.ledger g.ledger.flushing in
       let same = same_given g (page_entered g Flushed) number refl loads is in
       record { sectors = same.sectors; wanting = λ k none w. absurd (omega (arith, none)) }
-  answer_page g number command.Fails some brings is = record { sectors = is.sectors; wanting = λ k none w. absurd (omega (arith, none)) }
+  answer_page g number other some brings is = record { sectors = is.sectors; wanting = λ k none w. absurd (omega (arith, none)) }
 
   positive : (out : List ℕ) (p number : ℕ) → is_out out p number ≡ true → (0 < number) × (get_or out p 0 ≡ number)
   positive out p number e = let h = of_and _ _ e in (ltb-true 0 number h.0, eqb-true _ _ h.1)

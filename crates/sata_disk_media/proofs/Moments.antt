@@ -4,7 +4,7 @@ use Rattle.std.specs.Prelude.{Option, Bool, nat_lt, ◌&&◌, ◌==◌, if◌the
 use Rattle.std.proofs.lemmas.Bool.{ltb-false}
 use Rattle.block_command.specs.declared.command.Command.{Command}
 use Rattle.block_command.specs.declared.command.Protocol.{Protocol}
-use Rattle.block_command.specs.declared.command.Protocol.TheVariants.{Queued, Dma, Pio, Verify}
+use Rattle.block_command.specs.declared.command.Protocol.TheVariants.{Pio}
 use Rattle.block_command.specs.declared.command.Stage.{Stage}
 use Rattle.block_command.specs.declared.command.Stage.TheVariants.{Waiting, Load, Loading, SetUpRead, Announce, Sending}
 use Rattle.block_command.specs.declared.command.Stage.TheVariants.{SetUpWrite, Activate, Receiving}
@@ -84,15 +84,11 @@ not_storing false x y e f = f
 
 data_not : (p : Protocol) → is_storing (data_stage p) ≡ false
 data_not Pio = refl
-data_not Queued = refl
-data_not Dma = refl
-data_not Verify = refl
+data_not other = refl
 
 end_not : (p : Protocol) → is_storing (read_end p) ≡ false
 end_not Pio = refl
-end_not Queued = refl
-end_not Dma = refl
-end_not Verify = refl
+end_not other = refl
 
 read_on_not : (m : Moment) (done : ℕ) → is_storing (read_on m done).stage ≡ false
 read_on_not m done = not_storing (nat_lt done m.command.count) Load (read_end m.command.protocol) refl (end_not m.command.protocol)

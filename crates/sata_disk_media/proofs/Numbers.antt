@@ -6,7 +6,7 @@ use Rattle.block_engine.specs.declared.request.Answer.{Answer}
 use Rattle.block_engine.specs.declared.request.Answer.TheVariants as answers
 use Rattle.block_engine.specs.Aside.{settled}
 use Rattle.block_engine.specs.Engine.{EngineState, answered, done_at, done_of, failed_by, line, loaded_at, none_engaged, place_of}
-use Rattle.block_engine.specs.Laws.{Step, Takes, TakesAside, Starts, Asks, AsksAside, Answers, Hears, Sends, SendsEnds, SendsAside, Forgives, Resets}
+use Rattle.block_engine.specs.Laws.{Step, Takes, TakesAside, Asks, AsksAside, Answers, Sends, SendsEnds, SendsAside, Forgives, Resets}
 use Rattle.block_engine.specs.Laws.{after_step}
 use Rattle.block_engine.specs.Numbers.{AreNumbered}
 use Rattle.block_engine.proofs.Holders.{answered_line, asked_aside, asked_line, drops, ends_line, none_dropped, none_numbered, reset_line, rests, same_line, sent_line, settled_less, taken_line, waits}
@@ -32,16 +32,15 @@ answer_case e (Some p) number (answers.Failed f) is are = subst (λ x. Numbered 
 pub step_numbered : (e : EngineState) (s : Step) → Numbered e → Numbered (after_step e s)
 step_numbered e (Takes c) are = taken_line (line e) c e.stage e.dropped are
 step_numbered e (TakesAside k ranges) are = waits (line e) e.stage e.dropped are
-step_numbered e (Starts p) are = same_line (line e) _ e.stage e.dropped refl refl (omega arith) are
 step_numbered e (Asks p) are = asked_line (line e) _ p e.stage e.dropped refl refl refl are
 step_numbered e AsksAside are = asked_aside (line e) _ e.stage e.dropped refl refl refl are
 step_numbered e (Answers number a) are = answer_case e _ number a refl are
-step_numbered e (Hears p part) are = same_line (line e) _ e.stage e.dropped refl refl (omega arith) are
 step_numbered e (Sends p) are = sent_line e.schedule p e.stage e.dropped are
 step_numbered e SendsEnds are = ends_line (line e) 32 e.stage e.dropped are
 step_numbered e SendsAside are = rests (line e) e.stage e.dropped are
 step_numbered e Forgives are = are
 step_numbered e Resets are = drops _ e.kind e.stage e.dropped (reset_line (line e) e.stage e.dropped are)
+step_numbered e other are = same_line (line e) _ e.stage e.dropped refl refl (omega arith) are
 
 pub new_numbered : (limit : ℕ) → Numbered (none_engaged limit)
 new_numbered limit = none_numbered

@@ -231,8 +231,7 @@ Fits _ _ = ⊥
 
 kept_stays : (x : List ℕ) (number : ℕ) (a : Answer) → answered_cell (Kept x) number a ≡ Kept x
 kept_stays x number (answers.Loaded bytes) = refl
-kept_stays x number answers.Done = refl
-kept_stays x number (answers.Failed f) = refl
+kept_stays x number other = refl
 
 if_false : {X : Type 0} (b : Bool) (x y : X) → b ≡ false → (if b then x else y) ≡ y
 if_false true x y e = absurd (cc)
@@ -244,8 +243,7 @@ if_true false x y e = absurd (cc)
 
 storing_stays : (n : ℕ) (x : List ℕ) (number : ℕ) (a : Answer) → (n ≡ number → ⊥) → answered_cell (Storing n x) number a ≡ Storing n x
 storing_stays n x number (answers.Loaded bytes) apart = refl
-storing_stays n x number answers.Done apart = if_false (n == number) _ _ (ne_eqb n number apart)
-storing_stays n x number (answers.Failed f) apart = if_false (n == number) _ _ (ne_eqb n number apart)
+storing_stays n x number other apart = if_false (n == number) _ _ (ne_eqb n number apart)
 
 -- what another answer leaves of a claim
 pub left_claims : (m : Moment) (g : Page) (n s : ℕ) (cell : Cell) (number : ℕ) (a : Answer) → Claims m g n s cell → (0 < n → n ≡ number → ⊥)

@@ -37,10 +37,6 @@ use Rattle.sata_disk_media.proofs.Walk.{call_held, call_numbered, shown_by, show
 
 -- ## Lists of calls
 
-nothing_called : (d : DiskState) → after_calls d [] ≡ d
-unfolding after_calls
-nothing_called d = refl
-
 pub are_first : (xs ys : List Call) (d : DiskState) → AreCalls d (xs ++ ys) → AreCalls d xs
 are_first [] ys d are = tt
 are_first (c ∷ xs) ys d are = (are.0, are_first xs ys (after_call d c) are.1)
@@ -259,8 +255,7 @@ module _ (p : Profile) (limit : ℕ) (first : List Call) where
         answered = refl;
         same = λ b k. now s b cov (ap (λ z. kept p limit z s) same ∙ k);
       }
-  honest_brings x rest number answers.Done honest = tt
-  honest_brings x rest number (answers.Failed f) honest = tt
+  honest_brings x rest number other honest = tt
 
   -- ### Any call
 

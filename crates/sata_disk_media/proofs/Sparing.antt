@@ -16,7 +16,6 @@ use Rattle.block_engine.specs.Aside.{is_waiting}
 use Rattle.block_engine.specs.Engine.{EngineState, IsAskedOf, aside_what, is_discard, line, what_at, what_of}
 use Rattle.disk_pages.specs.declared.profile.Profile.{Profile}
 use Rattle.sata_disk.specs.State.{DiskState, new_disk}
-use Rattle.sata_disk_laws.specs.Calls as call
 use Rattle.sata_disk_laws.specs.Calls.{AreCalls, Asks, Call, IsCall, after_call, after_calls, asked_by}
 use Rattle.sata_disk_laws.specs.Laws.{reached}
 use Rattle.sata_disk_laws.proofs.Door.{calls_after}
@@ -62,23 +61,18 @@ not_true false f = refl
 
 what_case : StoresAreOfWrites → (p : Profile) (limit : ℕ) (calls : List Call) (r : Request) (s : ℕ) (ranges : List Range) (w : What) → AreCalls (new_disk p limit) calls
     → IsCall (reached p limit calls) (Asks r) → IsUndisturbed p limit calls s → r.what ≡ w → touches s w ranges ≡ false
-what_case law p limit calls r s ranges (what.Load lba count) are is calm e = refl
 what_case law p limit calls r s ranges (what.Store lba count) are is calm e =
     not_true (covers lba count s) (λ cov. (let w = law p limit calls r lba count s are is e cov in
     by_both _ w.taken (calm.writes w.place w.page w.has w.writes w.covered)))
-what_case law p limit calls r s ranges what.Flush are is calm e = refl
 what_case law p limit calls r s ranges what.Discard are is calm e =
     let w = discard_waits (reached p limit calls).engine r r.place is.1 e in
     absurd (by_both _ w.waits (calm.discards w.kind))
+what_case law p limit calls r s ranges other are is calm e = refl
 
 call_spares : StoresAreOfWrites → (p : Profile) (limit : ℕ) (calls : List Call) (c : Call) (s : ℕ) → AreCalls (new_disk p limit) calls
     → IsCall (reached p limit calls) c → IsUndisturbed p limit calls s → Spares (reached p limit calls) s c
 call_spares law p limit calls (Asks r) s are is calm = what_case law p limit calls r s (reached p limit calls).engine.ranges r.what are is calm refl
-call_spares law p limit calls call.Plugs s are is calm = tt
-call_spares law p limit calls (call.Hears f) s are is calm = tt
-call_spares law p limit calls (call.Starts x) s are is calm = tt
-call_spares law p limit calls (call.Answers number a) s are is calm = tt
-call_spares law p limit calls (call.Sends o) s are is calm = tt
+call_spares law p limit calls other s are is calm = tt
 
 -- ## All of them
 

@@ -49,9 +49,6 @@ pub record Held (l : Line) (b : Books) (s : ℕ) (cell : Cell) : Type 0 where
   pub next : 0 < l.queue.next
   pub each : Each l.queue.table.places b.pages b.out s cell
 
-no_kept : (s lba n : ℕ) → (s - lba) * 512 + 512 ≤ 0 → n ≡ 0 → ⊥
-no_kept s lba n e f = omega (arith, e)
-
 -- a command that has kept as much as before, and stores what it stored
 pub calm : (m n : Moment) (g h : Page) (number s : ℕ) (cell : Cell) → Claims m g number s cell → h.command ≡ g.command → h.ledger.kept ≡ g.ledger.kept
     → (is_storing n.stage ≡ true → n ≡ m) → Claims n h number s cell
@@ -199,23 +196,15 @@ taken_queue l t ranks false = refl
 
 same_queue : (l : Line) (d : Deed) → (after_deed l d).queue ≡ after_act l.queue (act_of d)
 same_queue l (deed.Takes c) = taken_queue l (with_command l.queue.table c.place (Some (opening c))) (moved_back l.ranks c.place) (is_under_way (command_at l c.place))
-same_queue l (deed.Starts place) = refl
-same_queue l (deed.Sends place) = refl
-same_queue l (deed.Asks place) = refl
-same_queue l (deed.Hears place part) = refl
-same_queue l (deed.Answers place number i) = refl
-same_queue l deed.Resets = refl
-same_queue l deed.Draws = refl
+same_queue l other = refl
 
 is_act : (l : Line) (d : Deed) → IsDeed l d → IsAct (act_of d)
-is_act l (deed.Takes c) is = is
 is_act l (deed.Starts place) is = is.0
 is_act l (deed.Sends place) is = is.0
 is_act l (deed.Asks place) is = is.0
-is_act l (deed.Hears place part) is = is
-is_act l (deed.Answers place number i) is = is
 is_act l deed.Resets is = tt
 is_act l deed.Draws is = tt
+is_act l other is = is
 
 agree_after : (l : Line) (d : Deed) (b : Books) → Agree l.queue b → IsDeed l d → Agree (after_deed l d).queue (entered_by b (seen l.queue (act_of d)))
 agree_after l d b agree is = rw (same_queue l d) (one l.queue (act_of d) b agree (is_act l d is)).1
@@ -245,13 +234,10 @@ line_case false x y e f = f
 
 next_after : (l : Line) (d : Deed) → 0 < l.queue.next → 0 < (after_deed l d).queue.next
 next_after l (deed.Takes c) e = line_case _ l _ e e
-next_after l (deed.Starts place) e = e
-next_after l (deed.Sends place) e = e
 next_after l (deed.Asks place) e = omega (arith, e)
-next_after l (deed.Hears place part) e = e
 next_after l (deed.Answers place number i) e = next_case _ _ _ e e
-next_after l deed.Resets e = e
 next_after l deed.Draws e = omega (arith, e)
+next_after l other e = e
 
 -- the rest of what is held goes on by itself
 pub held_by : (l : Line) (b : Books) (s : ℕ) (cell new : Cell) (d : Deed) → IsDeed l d → Held l b s cell
@@ -284,8 +270,7 @@ calm_each l b s cell (deed.Sends q) is e held = touched l b s cell q Goes held i
 calm_each l b s cell (deed.Hears q part) is e held = touched l b s cell q (Comes part) held is (λ m f. comes_calm m part)
 calm_each l b s cell deed.Resets is e held = none_each (replicate 33 0) s cell
 calm_each l b s cell deed.Draws is e held = held.each
-calm_each l b s cell (deed.Asks q) is e held = absurd (cc)
-calm_each l b s cell (deed.Answers q number i) is e held = absurd (cc)
+calm_each l b s cell other is e held = absurd (cc)
 
 pub calm_held : (l : Line) (b : Books) (s : ℕ) (cell : Cell) (d : Deed) → IsDeed l d → is_calm d ≡ true → Held l b s cell
     → Held (after_deed l d) (entered_by b (seen l.queue (act_of d))) s cell

@@ -37,10 +37,6 @@ use Rattle.sata_disk_media.proofs.Stored.{Held, calm_held, drawn_held, is_calm}
 
 -- ## One call by itself
 
-no_calls : (d : DiskState) → after_calls d [] ≡ d
-unfolding after_calls
-no_calls d = refl
-
 one_call : (d : DiskState) (c : Call) → after_calls d (c ∷ []) ≡ after_call d c
 unfolding after_calls
 one_call d c = refl
@@ -163,10 +159,6 @@ second_true false b e = absurd (cc)
 
 positive : (out : List ℕ) (p number : ℕ) → is_out out p number ≡ true → get_or out p 0 ≡ number
 positive out p number e = eqb-true _ _ (second_true (nat_lt 0 number) (get_or out p 0 == number) e)
-
-or_true : (a b : Bool) → a ≡ true → (a || b) ≡ true
-or_true true b e = refl
-or_true false b e = absurd (cc)
 
 of_orphan : (o : Option Orphan) (number : ℕ) → is_of number o ≡ true → store_number o ≡ Some number
 of_orphan None number e = absurd (cc)

@@ -30,10 +30,6 @@ picked a b now x y (inr h) = rw (h.0, h.1) (or_none (if a then Some x else None)
 none_of_none : (m n c : ℕ) → false ≡ (m == n && (nat_le 1 c && nat_le c 0))
 none_of_none m n c = grind (arith, nat_tests)
 
-none_below : (m : ℕ) (came : Bool) → false ≡ (nat_lt m 0 && came)
-none_below m true = grind (arith, nat_tests)
-none_below m false = grind (arith, nat_tests)
-
 not_yet : (m n c k : ℕ) → c ≡ suc k → (m == n && (nat_le 1 c && nat_le c k)) ≡ false
 not_yet m n c k is = grind (arith, nat_tests, is)
 
@@ -77,16 +73,6 @@ at_port m n false in_range x y same is row = inr (
 )
 
 -- ---- the rows of one device
-
--- one more row
-pub rows_more : (row : ℕ → ConnCount) (k : ℕ) (old rows : List ConnCount) (r : ConnCount) → r ≡ row (k + 1) → rows ≡ old ++ rows_on row k
-    → rows ++ r ∷ [] ≡ old ++ rows_on row (k + 1)
-rows_more row k old rows r is so =
-    let next : suc k ≡ k + 1 = omega arith in
-    let step : rows_on row (suc k) ≡ rows_on row k ++ row (suc k) ∷ [] = refl in
-    let long : rows_on row k ++ r ∷ [] ≡ rows_on row (k + 1) =
-    ap (λ x. rows_on row k ++ x ∷ []) (is ∙ ap row (sym next)) ∙ sym step ∙ ap (rows_on row) next in
-    ap (λ l. l ++ r ∷ []) so ∙ append_assoc old (rows_on row k) (r ∷ []) ∙ ap (λ l. old ++ l) long
 
 -- of this port and none above, and of this connection and none above
 abbrev pub Under : ℕ → ℕ → ConnCount → Type 0
@@ -142,14 +128,6 @@ pub record UpTo {D : Type 0} (disks : List (StationState D)) (taken : List Stamp
   pub sorted : AreSorted rows
   pub under : All (Under n 0) rows
   pub each : (m c : ℕ) → row_of m c rows ≡ (if nat_lt m n && has_come c (told_at disks m) then Some (row_for (given_at disks m) taken m c) else None)
-
-pub up_to_none : {D : Type 0} (disks : List (StationState D)) (taken : List Stamped) (rows : List ConnCount) → rows ≡ [] → UpTo disks taken 0 rows
-up_to_none disks taken [] e = record {
-  sorted = λ i j d less within. absurd (omega (arith, within));
-  under = λ k d less. absurd (omega (arith, less));
-  each = λ m c. ap (λ b. if b then Some (row_for (given_at disks m) taken m c) else None) (none_below m (has_come c (told_at disks m)));
-}
-up_to_none disks taken (r ∷ rows) e = absurd cc
 
 at_is : {D A : Type 0} (part : StationState D → List A) (disks : List (StationState D)) (n : ℕ) (other : StationState D) → n < length disks
     → at_place part disks n ≡ part (get_or disks n other)

@@ -96,6 +96,26 @@ writing m owed w = under m owed None (Some w)
 abbrev pub along : Beside → Option Moving → Beside
 along k v = record k { moving = v }
 
+-- where only data moves, all else agrees as before
+pub only_moves : (plan : DiskPlan) (sectors : ℕ) (m : Moment) (k : Beside) (owed : List Answer) (s s2 : Option Started) (w w2 : Option Writing) (v v2 : Option Moving)
+    → Stands plan sectors (under m owed s w) (along k v) → Moves plan sectors m.medium m.queued owed s2 w2 v2 → Stands plan sectors (under m owed s2 w2) (along k v2)
+only_moves plan sectors m k owed s s2 w w2 v v2 a moving = record {
+  outstanding = refl;
+  failed = refl;
+  unanswered = refl;
+  medium = a.medium;
+  length_is = a.length_is;
+  queue = a.queue;
+  tags = a.tags;
+  reads = a.reads;
+  moving = moving;
+  failure = a.failure;
+  resetting = refl;
+  in_reset = refl;
+  awaited = refl;
+  pages = a.pages;
+}
+
 -- ## Everything is given up
 
 pub gives_up : (plan : DiskPlan) (sectors : ℕ) (m : Moment) (l : Ledger) → Agrees plan sectors m l
@@ -348,16 +368,13 @@ step_request plan sectors m k queued (Some (Failed tag error lba)) resetting Rea
     step_log plan sectors (record m { resetting = resetting }) k queued (Some (Failed tag error lba)) refl a
 step_request plan sectors m k queued None resetting (Queue c) good a =
     step_queue plan sectors (record m { resetting = resetting }) k queued c _ refl good.0 good.1 a
-step_request plan sectors m k queued (Some f) resetting (Queue c) good a = a
 step_request plan sectors m k [] None resetting Flush good a =
     answers_so plan sectors _ _ (answering None k.failure resetting (Finished ∷ []) Finishes k.pages) a refl refl a.failure refl refl refl refl
 step_request plan sectors m k (q ∷ qs) None resetting Flush good a = mixed plan sectors _ _ a
-step_request plan sectors m k queued (Some f) resetting Flush good a = a
 step_request plan sectors m k [] None resetting Identify good a =
     shows_page plan sectors _ _ None k.failure Identity IdentifyData a refl a.failure tt
 step_request plan sectors m k (q ∷ qs) None resetting Identify good a = mixed plan sectors _ _ a
-step_request plan sectors m k queued (Some f) resetting Identify good a = a
 step_request plan sectors m k [] None resetting Other good a =
     answers_so plan sectors _ _ (answering None k.failure resetting (Refused ∷ []) Refuses k.pages) a refl refl a.failure refl refl refl refl
 step_request plan sectors m k (q ∷ qs) None resetting Other good a = mixed plan sectors _ _ a
-step_request plan sectors m k queued (Some f) resetting Other good a = a
+step_request plan sectors m k queued (Some f) resetting request good a = a

@@ -63,8 +63,7 @@ error_small plan sectors c error lba (inr h) = omega (arith, h.error_is)
 
 pub fault_small : (plan : DiskPlan) (sectors : ℕ) (c : Command) (f : Fault) → FaultIs plan sectors c f → error_of f < 256
 fault_small plan sectors c (Failed tag error lba) is = error_small plan sectors c error lba is.1
-fault_small plan sectors c Mixed is = absurd is
-fault_small plan sectors c Held is = absurd is
+fault_small plan sectors c other is = absurd is
 
 -- ## What is noted about it
 
@@ -72,8 +71,7 @@ pub noted : (plan : DiskPlan) (sectors : ℕ) (c : Command) (f : Fault) (among :
     → picked plan.order among ≡ Some c → FaultIs plan sectors c f → error ≡ error_of f → IsNoted plan sectors (Some f)
     (Some (record { error = error; among = among }))
 noted plan sectors c (Failed tag e lba) among error turn is same = (c, turn, is.0, is.1, same)
-noted plan sectors c Mixed among error turn is same = absurd is
-noted plan sectors c Held among error turn is same = absurd is
+noted plan sectors c other among error turn is same = absurd is
 
 -- ## Pages
 

@@ -1,5 +1,5 @@
 -- For `answers_each_command_once`. The laws of a disk's runs.
-use Rattle.std.proofs.Common.{◌≡◌, ◌==◌, ◌&&◌, eqb, ℕ, ◌+◌, ◌*◌, ◌%◌, ◌^◌, ◌<◌, ◌≤◌, Bool, true, false, List, [], ◌∷◌, ◌++◌, Option, Some, None, Ok, Err, Result, drop, length, refl, ap, sym, subst, ◌∙◌, arith}
+use Rattle.std.proofs.Common.{◌≡◌, ◌==◌, ◌&&◌, eqb, ℕ, ◌+◌, ◌*◌, ◌%◌, ◌^◌, ◌<◌, ◌≤◌, Bool, true, false, List, [], ◌∷◌, ◌++◌, Option, Some, None, Ok, Result, drop, length, refl, ap, sym, subst, ◌∙◌, arith}
 use Rattle.std.specs.Prelude.{if◌then◌else◌, nat_le}
 use Rattle.std.proofs.lemmas.Bool.Decides.{nat_tests}
 use Rattle.std.proofs.lemmas.Bool.{and_parts}
@@ -18,11 +18,11 @@ use Rattle.disk_model.specs.declared.plan.DiskPlan.{DiskPlan}
 use Rattle.disk_model.specs.declared.request.Command.{Command}
 use Rattle.disk_model.specs.declared.request.Request.{Request}
 use Rattle.disk_model.specs.declared.answer.Answer.{Answer}
-use Rattle.disk_model.specs.declared.answer.Answer.TheVariants.{Signature, Accepted, Finished, Refused, Ended, PageFollows, PageData}
+use Rattle.disk_model.specs.declared.answer.Answer.TheVariants.{Signature, Ended}
 use Rattle.disk_model.specs.declared.answer.Fault.{Fault}
 use Rattle.disk_model.specs.Histories.{Happening, Received, Sent, Plugged, Loaded}
 use Rattle.disk_model.specs.Requests.{Asks, IsCounted, queued_command, request_of, names_error_log}
-use Rattle.disk_model.specs.Sendings.{Sending, Register, SetsBits, SetsUp, Activates, SetsUpPio, Carries, Shows, answer_sent}
+use Rattle.disk_model.specs.Sendings.{Sending, SetsBits, Activates, Carries, Shows, answer_sent}
 use Rattle.disk_model.specs.Chunks.{chunks, chunk_setup, fault_of, put, report, error_of}
 use Rattle.disk_model.specs.Disks.{Moment, Started, Writing, turn, read_turn, write_turn, pick_turn, begun, picked, heard, after, moment_after, new_with, opening, opening_byte, opening_medium}
 use Rattle.disk_model.specs.Runs.{IsTurn, MayHappen, Runs, IsDiskRun, moment, most_sectors}
@@ -79,13 +79,7 @@ step_heard plan sectors m k (Ok (view.RegH2D f)) sized a =
     step_request plan sectors m k m.queued m.fault m.resetting (request_of f) (asks_of f) a
 step_heard plan sectors m k (Ok (view.Payload f)) sized a =
     step_data plan sectors m k m.started m.writing k.moving (drop 4 f) sized a.moving a
-step_heard plan sectors m k (Ok (view.RegD2H f)) sized a = a
-step_heard plan sectors m k (Ok (view.SetBits f)) sized a = a
-step_heard plan sectors m k (Ok (view.DmaActivate f)) sized a = a
-step_heard plan sectors m k (Ok (view.DmaSetup f)) sized a = a
-step_heard plan sectors m k (Ok (view.PioSetup f)) sized a = a
-step_heard plan sectors m k (Ok (view.Unknown f)) sized a = a
-step_heard plan sectors m k (Err e) sized a = a
+step_heard plan sectors m k other sized a = a
 
 pub put_all : (xs ys : List ℕ) → length xs ≡ length ys → put xs 0 ys ≡ ys
 put_all xs ys long =
@@ -186,12 +180,9 @@ IsNoBits (SetsBits v) = ⊥
 IsNoBits _ = Unit {0}
 
 answers_nothing : (l : Ledger) (x : Sending) (b : List ℕ) → IsNoBits x → Shows x b → AnswersOne l (seen b)
-answers_nothing l (Register v) b none shows = rw shows.viewed tt
 answers_nothing l (SetsBits v) b none shows = absurd none
-answers_nothing l (SetsUp v) b none shows = rw shows.viewed tt
-answers_nothing l Activates b none shows = rw shows.viewed tt
-answers_nothing l (SetsUpPio v) b none shows = rw shows.viewed tt
 answers_nothing l (Carries d) b none shows = rw shows.1 tt
+answers_nothing l other b none shows = rw shows.viewed tt
 
 -- a FIS that reports an error answers nothing either
 reports : (l : Ledger) (f : Fault) (b : List ℕ) → Shows (report f) b → AnswersOne l (seen b)
@@ -199,18 +190,13 @@ reports l f b shows = let e = error_tells (error_of f) b shows in rw shows.viewe
 
 answers_by : (l : Ledger) (sectors : ℕ) (plan : DiskPlan) (a : Answer) (later : List Answer) (b : List ℕ) → l.unanswered ≡ ended_tags (a ∷ later)
     → AreTags (ended_tags (a ∷ later)) → Shows (answer_sent sectors plan a) b → AnswersOne l (seen b)
-answers_by l sectors plan Signature later b is tags shows = answers_nothing l (answer_sent sectors plan Signature) b tt shows
-answers_by l sectors plan Accepted later b is tags shows = answers_nothing l (answer_sent sectors plan Accepted) b tt shows
-answers_by l sectors plan Finished later b is tags shows = answers_nothing l (answer_sent sectors plan Finished) b tt shows
-answers_by l sectors plan Refused later b is tags shows = answers_nothing l (answer_sent sectors plan Refused) b tt shows
-answers_by l sectors plan PageFollows later b is tags shows = answers_nothing l (answer_sent sectors plan PageFollows) b tt shows
-answers_by l sectors plan (PageData page) later b is tags shows = answers_nothing l (answer_sent sectors plan (PageData page)) b tt shows
 answers_by l sectors plan (Ended t) later b is tags shows =
     let within : t % 32 < 32 = omega arith in
     let small : 2 ^ (t % 32) < 4294967296 = pow-lt within in
     let same : t % 32 ≡ t = omega (arith, tags.0) in
     let sactive : field Bits SActive b ≡ 2 ^ t = sactive_tells (2 ^ (t % 32)) b small shows ∙ ap (λ k. 2 ^ k) same in
     rw shows.viewed (λ fine. subst (λ (xs : List ℕ). Names xs (field Bits SActive b)) (sym is) sactive)
+answers_by l sectors plan other later b is tags shows = answers_nothing l (answer_sent sectors plan other) b tt shows
 
 begins_answering : (plan : DiskPlan) (sectors : ℕ) (m : Moment) (l : Ledger) (c : Command) (bad : Option Fault) (write : Bool)
     (b : List ℕ) → IsSized plan → 0 < c.count → IsTurn (begun_by plan m c bad write) b → AnswersOne l (seen b)

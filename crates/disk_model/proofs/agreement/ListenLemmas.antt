@@ -5,7 +5,7 @@ use Rattle.fis_view.specs.Seen.{seen}
 use Rattle.disk_model.specs.declared.plan.DiskPlan.{DiskPlan}
 use Rattle.disk_model.specs.declared.request.Command.{Command}
 use Rattle.disk_model.specs.declared.answer.Answer.{Answer}
-use Rattle.disk_model.specs.declared.answer.Answer.TheVariants.{Signature, Accepted, Finished, Refused, Ended, PageFollows, PageData}
+use Rattle.disk_model.specs.declared.answer.Answer.TheVariants.{Ended, PageData}
 use Rattle.disk_model.specs.Sendings.{Shows, answer_sent}
 use Rattle.disk_model.specs.Disks.{Moment, Started, Writing}
 use Rattle.disk_model.specs.Ledger.{Wanted, Ledger, Moving, listens_up, sends_data}
@@ -17,13 +17,8 @@ use Rattle.disk_model.proofs.agreement.AgreeLemmas.{Beside, Stands, shown}
 -- ## An answer goes
 
 tags_left : (a : Answer) (later : List Answer) → AreTags (ended_tags (a ∷ later)) → AreTags (ended_tags later)
-tags_left Signature later tags = tags
-tags_left Accepted later tags = tags
-tags_left Finished later tags = tags
-tags_left Refused later tags = tags
 tags_left (Ended t) later tags = tags.1
-tags_left PageFollows later tags = tags
-tags_left (PageData page) later tags = tags
+tags_left other later tags = tags
 
 held_left : (queued : List Command) (a : Answer) (later : List Answer) (tag : ℕ) → IsHeld queued (a ∷ later) tag
     → IsHeld queued later tag
@@ -81,22 +76,14 @@ data_nowhere l v bytes none = rw none refl
 pub step_answer : (plan : DiskPlan) (sectors : ℕ) (m : Moment) (k : Beside) (a : Answer) (later : List Answer) (b : List ℕ)
     → Shows (answer_sent sectors plan a) b → Stands plan sectors (record m { owed = a ∷ later }) k
     → Agrees plan sectors (record m { owed = later }) (listens_up (shown (record m { owed = a ∷ later }) k) (seen b))
-step_answer plan sectors m k Signature later b shows g =
-    rw shows.viewed (answer_left plan sectors m k Signature later k.pages g.pages g)
-step_answer plan sectors m k Accepted later b shows g =
-    rw shows.viewed (answer_left plan sectors m k Accepted later k.pages g.pages g)
-step_answer plan sectors m k Finished later b shows g =
-    rw shows.viewed (answer_left plan sectors m k Finished later k.pages g.pages g)
-step_answer plan sectors m k Refused later b shows g =
-    rw shows.viewed (answer_left plan sectors m k Refused later k.pages g.pages g)
 step_answer plan sectors m k (Ended t) later b shows g =
     let fine = end_tells (2 ^ (t % 32)) b shows in
     rw (shows.viewed, fine) (answer_left plan sectors m k (Ended t) later k.pages g.pages g)
-step_answer plan sectors m k PageFollows later b shows g =
-    rw shows.viewed (answer_left plan sectors m k PageFollows later k.pages g.pages g)
 step_answer plan sectors m k (PageData page) later b shows g =
     let none : k.moving ≡ None =
     page_goes plan sectors m.medium m.queued (PageData page) later m.started m.writing k.moving refl g.moving in
     let nothing = data_nowhere (shown (record m { owed = PageData page ∷ later }) k) k.moving (drop 4 b) none in
     let left = wanted_left plan sectors page (pages_of later) k.pages g.pages in
     rw (shows.1, nothing) (answer_left plan sectors m k (PageData page) later (drop 1 k.pages) left g)
+step_answer plan sectors m k other later b shows g =
+    rw shows.viewed (answer_left plan sectors m k other later k.pages g.pages g)

@@ -28,7 +28,7 @@ use Rattle.fis_view.specs.Table as table
 use Rattle.disk_model.proofs.agreement.GeometryLemmas.{moved_none, chunk_part, some_chunks}
 use Rattle.disk_model.proofs.agreement.SetupLemmas.{chunk_stretch, set_up_none, set_up_next}
 use Rattle.disk_model.proofs.agreement.QueueLemmas.{is_in}
-use Rattle.disk_model.proofs.agreement.AgreeLemmas.{Beside, Stands, along, gives_up, idle, reading, shown, under, writing}
+use Rattle.disk_model.proofs.agreement.AgreeLemmas.{Beside, Stands, along, gives_up, idle, reading, shown, under, writing, only_moves}
 use Rattle.disk_model.proofs.agreement.TransferLemmas.{auto_of_read, auto_of_write, Carried, Follows, IsSending, chunk_bytes, length-sectors_at, none_moved, read_ends, read_goes_on, read_sets_up, same_moving, sent_so_far, setup_of_chunk, so_far}
 use Rattle.disk_model.proofs.agreement.ListenLemmas.{step_answer}
 
@@ -98,60 +98,30 @@ write_set_up : (plan : DiskPlan) (sectors : ℕ) (m : Moment) (k : Beside) (s0 :
     → Stands plan sectors (under m [] s0 w0) (along k v0)
     → Agrees plan sectors (writing m [] (record w { sends = activations auto }))
     (with_auto auto (shown (writing m [] (record w { sends = activations auto })) (along k (Some v))))
-write_set_up plan sectors m k s0 w0 v0 w v true mv writes bytes whole idle up setups held a = record {
-  outstanding = refl;
-  failed = refl;
-  unanswered = refl;
-  medium = a.medium;
-  length_is = a.length_is;
-  queue = a.queue;
-  tags = a.tags;
-  reads = a.reads;
-  moving = (
-    Asked,
-    record {
-      moving = record { same = mv.same; more = mv.more; among = mv.among; inside = mv.inside; some = mv.some; few = mv.few; tag = mv.tag; moved = mv.moved };
-      writes = writes;
-      bytes = bytes;
-      whole = whole;
-      stage = (refl, refl, up);
-      setups = setups;
-    },
-    held,
-  );
-  failure = a.failure;
-  resetting = refl;
-  in_reset = refl;
-  awaited = refl;
-  pages = a.pages;
-}
-write_set_up plan sectors m k s0 w0 v0 w v false mv writes bytes whole idle up setups held a = record {
-  outstanding = refl;
-  failed = refl;
-  unanswered = refl;
-  medium = a.medium;
-  length_is = a.length_is;
-  queue = a.queue;
-  tags = a.tags;
-  reads = a.reads;
-  moving = (
-    SetUp,
-    record {
-      moving = record { same = mv.same; more = mv.more; among = mv.among; inside = mv.inside; some = mv.some; few = mv.few; tag = mv.tag; moved = mv.moved };
-      writes = writes;
-      bytes = bytes;
-      whole = whole;
-      stage = (refl, idle, up);
-      setups = setups;
-    },
-    held,
-  );
-  failure = a.failure;
-  resetting = refl;
-  in_reset = refl;
-  awaited = refl;
-  pages = a.pages;
-}
+write_set_up plan sectors m k s0 w0 v0 w v true mv writes bytes whole idle up setups held a = only_moves _ _ m k _ _ _ _ _ _ _ a (
+  Asked,
+  record {
+    moving = record { same = mv.same; more = mv.more; among = mv.among; inside = mv.inside; some = mv.some; few = mv.few; tag = mv.tag; moved = mv.moved };
+    writes = writes;
+    bytes = bytes;
+    whole = whole;
+    stage = (refl, refl, up);
+    setups = setups;
+  },
+  held,
+)
+write_set_up plan sectors m k s0 w0 v0 w v false mv writes bytes whole idle up setups held a = only_moves _ _ m k _ _ _ _ _ _ _ a (
+  SetUp,
+  record {
+    moving = record { same = mv.same; more = mv.more; among = mv.among; inside = mv.inside; some = mv.some; few = mv.few; tag = mv.tag; moved = mv.moved };
+    writes = writes;
+    bytes = bytes;
+    whole = whole;
+    stage = (refl, idle, up);
+    setups = setups;
+  },
+  held,
+)
 
 write_asks : (plan : DiskPlan) (sectors : ℕ) (m : Moment) (k : Beside) (w : Writing) (v : Moving) (stage : Stage) (b : List ℕ)
     → IsSized plan → IsWriting plan sectors w v stage → IsHeld m.queued [] w.command.tag
@@ -191,33 +161,18 @@ write_asks plan sectors m k w v SetUp b sized r held a may =
     let n : Moment = writing m [] w in
     let mv = r.moving in
     let shows = subst (λ (xs : List Sending). IsTurn (write_turn n w xs) b) r.stage.0 may in
-    subst (λ (xs : List Sending). Follows plan sectors n (along k (Some v)) (write_turn n w xs) b) (sym r.stage.0) (rw shows.viewed (record {
-      outstanding = refl;
-      failed = refl;
-      unanswered = refl;
-      medium = a.medium;
-      length_is = a.length_is;
-      queue = a.queue;
-      tags = a.tags;
-      reads = a.reads;
-      moving = (
-        Asked,
-        record {
-          moving = record { same = mv.same; more = mv.more; among = mv.among; inside = mv.inside; some = mv.some; few = mv.few; tag = mv.tag; moved = mv.moved };
-          writes = r.writes;
-          bytes = r.bytes;
-          whole = r.whole;
-          stage = (refl, refl, r.stage.2);
-          setups = r.setups;
-        },
-        held,
-      );
-      failure = a.failure;
-      resetting = refl;
-      in_reset = refl;
-      awaited = refl;
-      pages = a.pages;
-    }))
+    subst (λ (xs : List Sending). Follows plan sectors n (along k (Some v)) (write_turn n w xs) b) (sym r.stage.0) (rw shows.viewed (only_moves _ _ m k _ _ _ _ _ _ _ a (
+      Asked,
+      record {
+        moving = record { same = mv.same; more = mv.more; among = mv.among; inside = mv.inside; some = mv.some; few = mv.few; tag = mv.tag; moved = mv.moved };
+        writes = r.writes;
+        bytes = r.bytes;
+        whole = r.whole;
+        stage = (refl, refl, r.stage.2);
+        setups = r.setups;
+      },
+      held,
+    )))
 write_asks plan sectors m k w v Asked b sized r held a may =
     absurd (subst (λ (xs : List Sending). IsTurn (write_turn (writing m [] w) w xs) b) r.stage.0 may)
 
@@ -272,44 +227,29 @@ start_of plan sectors m k c false b sized is here inside a may =
     let s : List ℕ = sectors_at m.medium c.lba c.count in
     let zeros = sym (none_moved plan.last_first s (512 * c.count) (length-sectors_at m.medium c.lba c.count room))
     ∙ ap (λ n. moved_bytes plan.last_first s (512 * c.count) (512 * n)) (sym nothing) in
-    subst (λ (xs : List Sending). Follows plan sectors n (along k None) (read_turn n c xs) b) (sym next) (rw (starts_told plan n k c b here told false (auto_of_read plan c all b is shows)) (record {
-      outstanding = refl;
-      failed = refl;
-      unanswered = refl;
-      medium = a.medium;
-      length_is = a.length_is;
-      queue = a.queue;
-      tags = a.tags;
-      reads = a.reads;
-      moving = (
-        all,
-        true,
-        record {
-          moving = record {
-            same = refl;
-            more = more;
-            among = omega arith;
-            inside = inside;
-            some = here.some;
-            few = here.few;
-            tag = here.tag;
-            moved = ap (λ n. 512 * n) (sym nothing);
-          };
-          reads = is;
-          before = sym a.medium;
-          bytes = zeros;
-          idle = refl;
-          stage = (sym (ap (drop 1) next), refl, refl);
-          setups = set_up_next plan c all [] part (set_up_none plan c sized.low here.some);
-        },
-        record { has = here.has; quiet = refl },
-      );
-      failure = a.failure;
-      resetting = refl;
-      in_reset = refl;
-      awaited = refl;
-      pages = a.pages;
-    }))
+    subst (λ (xs : List Sending). Follows plan sectors n (along k None) (read_turn n c xs) b) (sym next) (rw (starts_told plan n k c b here told false (auto_of_read plan c all b is shows)) (only_moves _ _ m k _ _ _ _ _ _ _ a (
+      all,
+      true,
+      record {
+        moving = record {
+          same = refl;
+          more = more;
+          among = omega arith;
+          inside = inside;
+          some = here.some;
+          few = here.few;
+          tag = here.tag;
+          moved = ap (λ n. 512 * n) (sym nothing);
+        };
+        reads = is;
+        before = sym a.medium;
+        bytes = zeros;
+        idle = refl;
+        stage = (sym (ap (drop 1) next), refl, refl);
+        setups = set_up_next plan c all [] part (set_up_none plan c sized.low here.some);
+      },
+      record { has = here.has; quiet = refl },
+    )))
 start_of plan sectors m k c true b sized is here inside a may =
     let n : Moment = idle m in
     let all = chunks plan c in

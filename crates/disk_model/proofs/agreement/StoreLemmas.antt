@@ -14,7 +14,7 @@ use Rattle.disk_model.specs.Between.{moved_sectors, tag_of}
 use Rattle.disk_model.proofs.agreement.PlaceLemmas.{length-put}
 use Rattle.disk_model.proofs.agreement.GeometryLemmas.{chunk_part}
 use Rattle.disk_model.proofs.agreement.QueueLemmas.{replies_same, pages_same, AreTags-append, IsQueue-filter}
-use Rattle.disk_model.proofs.agreement.AgreeLemmas.{Beside, Stands, along, shown, writing}
+use Rattle.disk_model.proofs.agreement.AgreeLemmas.{Beside, Stands, along, shown, writing, only_moves}
 
 pub with_writes-append : (medium : List ℕ) (ws : List Written) (w : Written)
     → with_writes medium (ws ++ w ∷ []) ≡ put (with_writes medium ws) w.at w.bytes
@@ -103,42 +103,27 @@ store_more plan sectors m k w v bytes sized asking fits other held named a =
     let not_last : (w.left == 1) ≡ false = search (rules, tests) in
     let not_all : (512 * moved_sectors plan c w.left + length bytes == 512 * c.count) ≡ false = grind (arith, nat_tests, less, fits) in
     let inside : 512 * chunk_from plan c w.left + length bytes ≤ length w.staged = omega (arith, part.inside, whole) in
-    rw (not_last, not_all) (record {
-      outstanding = refl;
-      failed = refl;
-      unanswered = refl;
-      medium = a.medium;
-      length_is = a.length_is;
-      queue = a.queue;
-      tags = a.tags;
-      reads = a.reads;
-      moving = (
-        Fresh,
-        record {
-          moving = record {
-            same = refl;
-            more = omega (arith, mv.more, other);
-            among = omega (arith, mv.among);
-            inside = mv.inside;
-            some = mv.some;
-            few = mv.few;
-            tag = mv.tag;
-            moved = omega (arith, part.next);
-          };
-          writes = asking.writes;
-          bytes = refl;
-          whole = length-put w.staged bytes (512 * chunk_from plan c w.left) inside ∙ whole;
-          stage = (refl, refl);
-          setups = named;
-        },
-        held,
-      );
-      failure = a.failure;
-      resetting = refl;
-      in_reset = refl;
-      awaited = refl;
-      pages = a.pages;
-    })
+    rw (not_last, not_all) (only_moves _ _ m k _ _ _ _ _ _ _ a (
+      Fresh,
+      record {
+        moving = record {
+          same = refl;
+          more = omega (arith, mv.more, other);
+          among = omega (arith, mv.among);
+          inside = mv.inside;
+          some = mv.some;
+          few = mv.few;
+          tag = mv.tag;
+          moved = omega (arith, part.next);
+        };
+        writes = asking.writes;
+        bytes = refl;
+        whole = length-put w.staged bytes (512 * chunk_from plan c w.left) inside ∙ whole;
+        stage = (refl, refl);
+        setups = named;
+      },
+      held,
+    ))
 
 pub store_by : (plan : DiskPlan) (sectors : ℕ) (m : Moment) (k : Beside) (w : Writing) (v : Moving) (bytes : List ℕ) (last : Bool)
     → eqb w.left 1 ≡ last → IsSized plan → IsAsking plan sectors w v

@@ -22,7 +22,7 @@ use Rattle.disk_model.proofs.agreement.PlaceLemmas.{put_front, put_back, chunk_o
 use Rattle.disk_model.proofs.agreement.GeometryLemmas.{chunk_part}
 use Rattle.disk_model.proofs.agreement.SetupLemmas.{set_up_next}
 use Rattle.disk_model.proofs.agreement.QueueLemmas.{IsQueue-filter}
-use Rattle.disk_model.proofs.agreement.AgreeLemmas.{Beside, Stands, along, reading, shown, under, writing}
+use Rattle.disk_model.proofs.agreement.AgreeLemmas.{Beside, Stands, along, reading, shown, under, writing, only_moves}
 use Rattle.disk_model.proofs.agreement.StoreLemmas.{IsAsking, asked, asked_for, store_by}
 
 -- ## Bytes of reads
@@ -229,35 +229,20 @@ read_sets_up plan sectors m k c sends v left b sized r held a may =
     let told : TellsSetup c.tag (512 * chunk_from plan c left) (512 * chunk_count plan c left) (not c.write) b =
     setup_of_chunk plan c left b part mv.few mv.tag shows in
     let plain : is_auto b ≡ false = auto_of_read plan c left b r.reads shows in
-    rw (is, told.viewed, plain) (record {
-      outstanding = refl;
-      failed = refl;
-      unanswered = refl;
-      medium = a.medium;
-      length_is = a.length_is;
-      queue = a.queue;
-      tags = a.tags;
-      reads = a.reads;
-      moving = (
-        left,
-        true,
-        record {
-          moving = record { same = mv.same; more = mv.more; among = mv.among; inside = mv.inside; some = mv.some; few = mv.few; tag = mv.tag; moved = mv.moved };
-          reads = r.reads;
-          before = r.before;
-          bytes = r.bytes;
-          idle = refl;
-          stage = (sym (ap (drop 1) next), told.offset_is, told.count_is);
-          setups = rw (told.offset_is, told.count_is) (set_up_next plan c left v.setups part r.setups);
-        },
-        held,
-      );
-      failure = a.failure;
-      resetting = refl;
-      in_reset = refl;
-      awaited = refl;
-      pages = a.pages;
-    })
+    rw (is, told.viewed, plain) (only_moves _ _ m k _ _ _ _ _ _ _ a (
+      left,
+      true,
+      record {
+        moving = record { same = mv.same; more = mv.more; among = mv.among; inside = mv.inside; some = mv.some; few = mv.few; tag = mv.tag; moved = mv.moved };
+        reads = r.reads;
+        before = r.before;
+        bytes = r.bytes;
+        idle = refl;
+        stage = (sym (ap (drop 1) next), told.offset_is, told.count_is);
+        setups = rw (told.offset_is, told.count_is) (set_up_next plan c left v.setups part r.setups);
+      },
+      held,
+    ))
 
 all_one : (sectors : ℕ) (x : ReadOut) → IsRead sectors x → All (IsRead sectors) (x ∷ [])
 all_one sectors x is zero d below = is
@@ -341,41 +326,26 @@ read_goes_on plan sectors m k s v left x later sized sending other next held nam
     let moved : 512 * moved_sectors plan c left + length d ≡ 512 * moved_sectors plan c (left - 1) = omega (arith, size, part.next) in
     let placed = data_placed plan sectors m.medium c left sized part a.length_is mv.inside
     ∙ ap (λ n. moved_bytes plan.last_first (sectors_at m.medium c.lba c.count) (512 * c.count) (512 * n)) (sym part.next) in
-    rw not_all (record {
-      outstanding = refl;
-      failed = refl;
-      unanswered = refl;
-      medium = a.medium;
-      length_is = a.length_is;
-      queue = a.queue;
-      tags = a.tags;
-      reads = a.reads;
-      moving = (
-        left - 1,
-        false,
-        record {
-          moving = record {
-            same = refl;
-            more = omega (arith, mv.more, other);
-            among = omega (arith, mv.among);
-            inside = mv.inside;
-            some = mv.some;
-            few = mv.few;
-            tag = mv.tag;
-            moved = moved;
-          };
-          reads = sending.reads;
-          before = sending.before;
-          bytes = placed;
-          idle = refl;
-          stage = sym next;
-          setups = named;
-        },
-        held,
-      );
-      failure = a.failure;
-      resetting = refl;
-      in_reset = refl;
-      awaited = refl;
-      pages = a.pages;
-    })
+    rw not_all (only_moves _ _ m k _ _ _ _ _ _ _ a (
+      left - 1,
+      false,
+      record {
+        moving = record {
+          same = refl;
+          more = omega (arith, mv.more, other);
+          among = omega (arith, mv.among);
+          inside = mv.inside;
+          some = mv.some;
+          few = mv.few;
+          tag = mv.tag;
+          moved = moved;
+        };
+        reads = sending.reads;
+        before = sending.before;
+        bytes = placed;
+        idle = refl;
+        stage = sym next;
+        setups = named;
+      },
+      held,
+    ))

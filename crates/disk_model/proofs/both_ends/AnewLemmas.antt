@@ -1,5 +1,5 @@
 -- For `disks_begin_anew`. Where both ends of a disk's link may begin anew, and what they tell from then on.
-use Rattle.std.proofs.Common.{◌≡◌, ℕ, Bool, true, false, List, [], ◌∷◌, ◌++◌, append_assoc, Option, Some, None, Ok, Err, Result, drop, refl, ap, sym, subst, ◌∙◌}
+use Rattle.std.proofs.Common.{◌≡◌, ℕ, Bool, true, false, List, [], ◌∷◌, ◌++◌, append_assoc, Option, Some, None, Ok, Result, drop, refl, ap, sym, subst, ◌∙◌}
 use Rattle.std.specs.Prelude.{if◌then◌else◌}
 use Rattle.std.proofs.lemmas.List.{append_cancel_left, append-nil}
 use Rattle.fis_view.specs.Table.{Bits, Error, field}
@@ -14,10 +14,10 @@ use Rattle.disk_model.specs.declared.request.Command.{Command}
 use Rattle.disk_model.specs.declared.request.Request.{Request}
 use Rattle.disk_model.specs.declared.request.Request.TheVariants.{Reset, Queue, ReadErrorLog, Identify, Flush, Other}
 use Rattle.disk_model.specs.declared.answer.Answer.{Answer}
-use Rattle.disk_model.specs.declared.answer.Answer.TheVariants.{Signature, Accepted, Finished, Refused, Ended, PageFollows, PageData}
+use Rattle.disk_model.specs.declared.answer.Answer.TheVariants.{Ended, PageData}
 use Rattle.disk_model.specs.declared.answer.Fault.{Fault}
 use Rattle.disk_model.specs.declared.answer.Page.{Page}
-use Rattle.disk_model.specs.Histories.{Happening, Received, Sent, Plugged, Loaded}
+use Rattle.disk_model.specs.Histories.{Happening, Received, Sent, Plugged}
 use Rattle.disk_model.specs.Requests.{request_of}
 use Rattle.disk_model.specs.Disks.{Started, Writing, opening, pick_turn, picked, turn}
 use Rattle.disk_model.specs.Runs.{IsDiskRun, IsTurn, moment}
@@ -84,14 +84,7 @@ fails_by l e false is = cc is
 
 fails : (l : Ledger) (r : Result Fis FisFault) → reports r ≡ true → HasFailed (listens_up l r)
 fails l (Ok (view.SetBits f)) is = fails_by l (field Bits Error f) (has_error f) is
-fails l (Ok (view.RegH2D f)) is = cc is
-fails l (Ok (view.RegD2H f)) is = cc is
-fails l (Ok (view.DmaActivate f)) is = cc is
-fails l (Ok (view.DmaSetup f)) is = cc is
-fails l (Ok (view.PioSetup f)) is = cc is
-fails l (Ok (view.Payload f)) is = cc is
-fails l (Ok (view.Unknown f)) is = cc is
-fails l (Err e) is = cc is
+fails l other is = cc is
 
 failed_now : (before : List Happening) (error : List ℕ) → reports (seen error) ≡ true → HasFailed (ledger (before ++ Sent error ∷ []))
 failed_now before error is = subst HasFailed (sym (ledger_push before (Sent error))) (fails (ledger before) (seen error) is)
@@ -99,25 +92,16 @@ failed_now before error is = subst HasFailed (sym (ledger_push before (Sent erro
 passes : (l : Ledger) (r : Request) (failed : Bool) → failed ≡ true → IsPassed r → asks l r failed ≡ l
 passes l (Reset on) failed is passed = absurd passed
 passes l ReadErrorLog failed is passed = absurd passed
-passes l (Queue c) true is passed = refl
-passes l Identify true is passed = refl
-passes l Flush true is passed = refl
-passes l Other true is passed = refl
 passes l (Queue c) false is passed = cc is
 passes l Identify false is passed = cc is
 passes l Flush false is passed = cc is
 passes l Other false is passed = cc is
+passes l request true is passed = refl
 
 unheard : (l : Ledger) (r : Result Fis FisFault) → HasFailed l → IsUnheard r → listens_down l r ≡ l
 unheard l (Ok (view.RegH2D f)) now passed = passes l (request_of f) l.failed now.failed passed
 unheard l (Ok (view.Payload f)) now passed = ap (λ (v : Option Moving). takes_data l v (drop 4 f)) now.rests.moving
-unheard l (Ok (view.RegD2H f)) now passed = refl
-unheard l (Ok (view.SetBits f)) now passed = refl
-unheard l (Ok (view.DmaActivate f)) now passed = refl
-unheard l (Ok (view.DmaSetup f)) now passed = refl
-unheard l (Ok (view.PioSetup f)) now passed = refl
-unheard l (Ok (view.Unknown f)) now passed = refl
-unheard l (Err e) now passed = refl
+unheard l other now passed = refl
 
 all_unheard : (l : Ledger) (between : List Happening) → HasFailed l → AreUnheard between → ledger_after l between ≡ l
 unfolding ledger_after
@@ -125,9 +109,7 @@ all_unheard l [] now none = refl
 all_unheard l (Received bytes ∷ between) now none =
     let same : listens l (Received bytes) ≡ l = unheard l (seen bytes) now none.0 in
     ap (λ (x : Ledger). ledger_after x between) same ∙ all_unheard l between now none.1
-all_unheard l (Sent bytes ∷ between) now none = absurd none
-all_unheard l (Plugged ∷ between) now none = absurd none
-all_unheard l (Loaded bytes ∷ between) now none = absurd none
+all_unheard l other now none = absurd none
 
 still : (before between : List Happening) (error : List ℕ) → reports (seen error) ≡ true → AreUnheard between → ledger ((before ++ Sent error ∷ []) ++ between) ≡ ledger (before ++ Sent error ∷ [])
 still before between error is none =
@@ -183,13 +165,9 @@ none_picked Newest = refl
 
 none_owed : (owed : List Answer) → replies owed ≡ [] → ended_tags owed ≡ [] → pages_of owed ≡ [] → owed ≡ []
 none_owed [] replied ended pages = refl
-none_owed (Signature ∷ later) replied ended pages = cc replied
-none_owed (Accepted ∷ later) replied ended pages = cc replied
-none_owed (Finished ∷ later) replied ended pages = cc replied
-none_owed (Refused ∷ later) replied ended pages = cc replied
 none_owed (Ended t ∷ later) replied ended pages = cc ended
-none_owed (PageFollows ∷ later) replied ended pages = cc replied
 none_owed (PageData page ∷ later) replied ended pages = cc pages
+none_owed other replied ended pages = cc replied
 
 no_pages : (plan : DiskPlan) (sectors : ℕ) (pages : List Page) (ws : List Wanted) → AreWanted plan sectors pages ws → ws ≡ [] → pages ≡ []
 no_pages plan sectors [] ws are none = refl

@@ -13,7 +13,7 @@ use Rattle.fis_view.specs.declared.view.Fis.TheVariants as view
 use Rattle.fis_view.specs.declared.view.FisFault.{FisFault}
 use Rattle.disk_model.specs.declared.request.Command.{Command}
 use Rattle.disk_model.specs.declared.request.Request.{Request}
-use Rattle.disk_model.specs.declared.request.Request.TheVariants.{Reset, Queue, ReadErrorLog, Identify, Flush, Other}
+use Rattle.disk_model.specs.declared.request.Request.TheVariants.{Reset, Queue}
 use Rattle.disk_model.specs.Requests.{request_of}
 use Rattle.disk_model.specs.Ledger.{Ledger, Moving, Names, activates, answers, asks, ends, goes_on, has_error, is_auto, listens_down, listens_up, mixes, moves, refuses, sends_data, sets_up, starts_moving, takes_data, with_auto}
 use Rattle.disk_model.specs.Laws.{ActivatesRight, AnswersFirst, AsksOnce, CarriesNext, CarriesRight, SetsUpRight, ShowsFirst, StartsOne}
@@ -144,10 +144,7 @@ mixes_none l x (c ∷ cs) e = cc e
 pub asks_fits : (l : Ledger) (r : Request) → l.failed ≡ false → FitsRequest l r → asks l r l.failed ≡ alone l r
 asks_fits l (Reset on) failed fits = absurd fits
 asks_fits l (Queue c) failed fits = opens_free l c failed fits.0.outstanding
-asks_fits l ReadErrorLog failed fits = ap (asks l ReadErrorLog) failed ∙ mixes_none l (alone l ReadErrorLog) l.outstanding fits.outstanding
-asks_fits l Identify failed fits = ap (asks l Identify) failed ∙ mixes_none l (alone l Identify) l.outstanding fits.outstanding
-asks_fits l Flush failed fits = ap (asks l Flush) failed ∙ mixes_none l (alone l Flush) l.outstanding fits.outstanding
-asks_fits l Other failed fits = ap (asks l Other) failed ∙ mixes_none l (alone l Other) l.outstanding fits.outstanding
+asks_fits l other failed fits = ap (asks l other) failed ∙ mixes_none l (alone l other) l.outstanding fits.outstanding
 
 -- ## A FIS that tells nothing
 
@@ -164,29 +161,18 @@ TellsNothing (Err e) = Unit {0}
 
 nothing_right : (l : Ledger) (s : Result Fis FisFault) → TellsNothing s → IsRight l s
 nothing_right l (Ok (view.RegH2D f)) none = record { moves = tt; answers = tt; replies = tt; asked = tt; fine = refl }
-nothing_right l (Ok (view.RegD2H f)) none = absurd none
-nothing_right l (Ok (view.SetBits f)) none = absurd none
-nothing_right l (Ok (view.DmaActivate f)) none = absurd none
-nothing_right l (Ok (view.DmaSetup f)) none = absurd none
-nothing_right l (Ok (view.PioSetup f)) none = absurd none
-nothing_right l (Ok (view.Payload f)) none = absurd none
 nothing_right l (Ok (view.Unknown f)) none = record { moves = tt; answers = tt; replies = tt; asked = tt; fine = refl }
 nothing_right l (Err e) none = record { moves = tt; answers = tt; replies = tt; asked = tt; fine = refl }
+nothing_right l other none = absurd none
 
 nothing_up : (l : Ledger) (s : Result Fis FisFault) → TellsNothing s → listens_up l s ≡ l
 nothing_up l (Ok (view.RegH2D f)) none = refl
-nothing_up l (Ok (view.RegD2H f)) none = absurd none
-nothing_up l (Ok (view.SetBits f)) none = absurd none
-nothing_up l (Ok (view.DmaActivate f)) none = absurd none
-nothing_up l (Ok (view.DmaSetup f)) none = absurd none
-nothing_up l (Ok (view.PioSetup f)) none = absurd none
-nothing_up l (Ok (view.Payload f)) none = absurd none
 nothing_up l (Ok (view.Unknown f)) none = refl
 nothing_up l (Err e) none = refl
+nothing_up l other none = absurd none
 
 -- a disk that rests has nothing to tell
 rest_hears : (l : Ledger) (s : Result Fis FisFault) → Rests l → IsRight l s → TellsNothing s
-rest_hears l (Ok (view.RegH2D f)) rests r = tt
 rest_hears l (Ok (view.RegD2H f)) rests r = subst (λ xs. AnswersFirst xs f) rests.awaited r.replies
 rest_hears l (Ok (view.SetBits f)) rests r = subst (λ xs. Names xs (field Bits SActive f)) rests.unanswered (r.answers r.fine)
 rest_hears l (Ok (view.DmaActivate f)) rests r = subst ActivatesRight rests.moving r.moves
@@ -195,8 +181,7 @@ rest_hears l (Ok (view.DmaSetup f)) rests r =
     subst (λ (cs : List Command). StartsOne (find (λ c. c.tag == field Setup BufferId f) cs) f) rests.outstanding first
 rest_hears l (Ok (view.PioSetup f)) rests r = subst (λ xs. ShowsFirst xs f) rests.awaited r.replies
 rest_hears l (Ok (view.Payload f)) rests r = (subst (PageAsked l) rests.moving r.asked) rests.pages
-rest_hears l (Ok (view.Unknown f)) rests r = tt
-rest_hears l (Err e) rests r = tt
+rest_hears l other rests r = tt
 
 -- ## Up and down at the same time
 
@@ -333,15 +318,13 @@ queue_nothing : (l : Ledger) (c : Command) (s : Result Fis FisFault) → TellsNo
 queue_nothing l c s none can = queue_by l s c l (nothing_up l s none) (nothing_up (opened l c) s none) (nothing_right (opened l c) s none) can
 
 cross_queue : (l : Ledger) (c : Command) (s : Result Fis FisFault) → IsOpen l c → IsRight l s → CrossesQueue l s c
-cross_queue l c (Ok (view.RegH2D f)) can r = queue_nothing l c (Ok (view.RegH2D f)) tt can
 cross_queue l c (Ok (view.RegD2H f)) can r = absurd (subst (λ xs. AnswersFirst xs f) can.2 r.replies)
 cross_queue l c (Ok (view.SetBits f)) can r = queue_bits l c f can r
 cross_queue l c (Ok (view.DmaActivate f)) can r = queue_activate l c f l.moving refl can r
 cross_queue l c (Ok (view.DmaSetup f)) can r = queue_setup l c f l.moving (find (λ q. q.tag == field Setup BufferId f) l.outstanding) refl refl can r
 cross_queue l c (Ok (view.PioSetup f)) can r = absurd (subst (λ xs. ShowsFirst xs f) can.2 r.replies)
 cross_queue l c (Ok (view.Payload f)) can r = queue_data l c f l.moving refl can r
-cross_queue l c (Ok (view.Unknown f)) can r = queue_nothing l c (Ok (view.Unknown f)) tt can
-cross_queue l c (Err e) can r = queue_nothing l c (Err e) tt can
+cross_queue l c other can r = queue_nothing l c other tt can
 
 cross_request : (l : Ledger) (s : Result Fis FisFault) (r : Request) → l.failed ≡ false → FitsRequest l r → IsRight l s → CrossesRequest l s r
 cross_request l s (Reset on) failed fits right = absurd fits
@@ -354,10 +337,7 @@ cross_request l s (Queue c) failed fits right =
       failed = q.open_yet.0;
       fits = (q.open_yet.1, q.open_yet.2);
     }
-cross_request l s ReadErrorLog failed fits right = cross_nothing l s ReadErrorLog (rest_hears l s fits right) failed fits
-cross_request l s Identify failed fits right = cross_nothing l s Identify (rest_hears l s fits right) failed fits
-cross_request l s Flush failed fits right = cross_nothing l s Flush (rest_hears l s fits right) failed fits
-cross_request l s Other failed fits right = cross_nothing l s Other (rest_hears l s fits right) failed fits
+cross_request l s other failed fits right = cross_nothing l s other (rest_hears l s fits right) failed fits
 
 -- ---- Data goes down
 
@@ -402,7 +382,6 @@ data_nothing l s v w b none moving = record {
 }
 
 cross_data : (l : Ledger) (s : Result Fis FisFault) (v w : Moving) (b : Bool) → l.moving ≡ Some v → v.active ≡ true → v.command.write ≡ true → IsRight l s → CrossesData l s v w b
-cross_data l (Ok (view.RegH2D f)) v w b moving active writes r = data_nothing l (Ok (view.RegH2D f)) v w b tt moving
 cross_data l (Ok (view.RegD2H f)) v w b moving active writes r = data_register l f v w b moving r
 cross_data l (Ok (view.SetBits f)) v w b moving active writes r = data_bits l f v w b l.unanswered refl moving r
 cross_data l (Ok (view.DmaActivate f)) v w b moving active writes r =
@@ -415,8 +394,7 @@ cross_data l (Ok (view.PioSetup f)) v w b moving active writes r = data_pio l f 
 cross_data l (Ok (view.Payload f)) v w b moving active writes r =
     let carries : CarriesNext v (drop 4 f) = subst (λ m. CarriesRight m (drop 4 f)) moving r.moves in
     absurd (true≢false (sym writes ∙ carries.reads))
-cross_data l (Ok (view.Unknown f)) v w b moving active writes r = data_nothing l (Ok (view.Unknown f)) v w b tt moving
-cross_data l (Err e) v w b moving active writes r = data_nothing l (Err e) v w b tt moving
+cross_data l other v w b moving active writes r = data_nothing l other v w b tt moving
 
 cross_payload : (l : Ledger) (s : Result Fis FisFault) (g : List ℕ) (v : Option Moving) → l.moving ≡ v → FitsData v (drop 4 g) → IsRight l s → Crosses l s (Ok (view.Payload g))
 cross_payload l s g None moving fits r = absurd fits
@@ -437,10 +415,4 @@ cross l s (Ok (view.RegH2D g)) r fits =
     let c : CrossesRequest l s (request_of g) = cross_request l s (request_of g) fits.0 fits.1 r in
     record { same = c.same; right = c.right; fits = (c.failed, c.fits) }
 cross l s (Ok (view.Payload g)) r fits = cross_payload l s g l.moving refl fits r
-cross l s (Ok (view.RegD2H g)) r fits = absurd fits
-cross l s (Ok (view.SetBits g)) r fits = absurd fits
-cross l s (Ok (view.DmaActivate g)) r fits = absurd fits
-cross l s (Ok (view.DmaSetup g)) r fits = absurd fits
-cross l s (Ok (view.PioSetup g)) r fits = absurd fits
-cross l s (Ok (view.Unknown g)) r fits = absurd fits
-cross l s (Err e) r fits = absurd fits
+cross l s other r fits = absurd fits

@@ -1,5 +1,5 @@
 -- For `ends_tell_the_same`. Both ends of a disk's link tell the same.
-use Rattle.std.proofs.Common.{◌≡◌, ◌==◌, eqb, ℕ, Bool, true, false, List, [], ◌∷◌, ◌++◌, Option, Some, None, Ok, Err, Result, drop, refl, ap, sym, subst, ◌∙◌}
+use Rattle.std.proofs.Common.{◌≡◌, ◌==◌, eqb, ℕ, Bool, true, false, List, [], ◌∷◌, ◌++◌, Option, Some, None, Ok, Result, drop, refl, ap, sym, subst, ◌∙◌}
 use Rattle.std.specs.Prelude.{All, find}
 use Rattle.std.proofs.lemmas.Bool.{true≢false}
 use Rattle.std.proofs.lemmas.List.Elements.{All-pop}
@@ -12,7 +12,7 @@ use Rattle.fis_view.specs.declared.view.FisFault.{FisFault}
 use Rattle.disk_model.specs.declared.plan.DiskPlan.{DiskPlan}
 use Rattle.disk_model.specs.declared.request.Command.{Command}
 use Rattle.disk_model.specs.declared.request.Request.{Request}
-use Rattle.disk_model.specs.declared.request.Request.TheVariants.{Reset, Queue, ReadErrorLog, Identify, Flush, Other}
+use Rattle.disk_model.specs.declared.request.Request.TheVariants.{Reset, Queue}
 use Rattle.disk_model.specs.Histories.{Happening, Received, Sent, Plugged, Loaded}
 use Rattle.disk_model.specs.Requests.{request_of}
 use Rattle.disk_model.specs.Disks.{opening}
@@ -34,35 +34,20 @@ use Rattle.disk_model.proofs.sent.MovesLemmas.{moves_right}
 waits : (l : Ledger) (r : Request) → FitsRequest l r → l.awaited ≡ []
 waits l (Reset on) fits = absurd fits
 waits l (Queue c) fits = fits.1
-waits l ReadErrorLog fits = fits.awaited
-waits l Identify fits = fits.awaited
-waits l Flush fits = fits.awaited
-waits l Other fits = fits.awaited
+waits l request fits = fits.awaited
 
 -- it is not answered yet
 not_answered : (l : Ledger) (r : Request) → FitsRequest l r → (alone l r).awaited ≡ [] → ⊥
 not_answered l (Reset on) fits e = fits
-not_answered l (Queue c) fits e = never_empty l.awaited _ e
-not_answered l ReadErrorLog fits e = never_empty l.awaited _ e
-not_answered l Identify fits e = never_empty l.awaited _ e
-not_answered l Flush fits e = never_empty l.awaited _ e
-not_answered l Other fits e = never_empty l.awaited _ e
+not_answered l request fits e = never_empty l.awaited _ e
 
 alone_moving : (l : Ledger) (r : Request) → (alone l r).moving ≡ l.moving
 alone_moving l (Reset on) = refl
-alone_moving l (Queue c) = refl
-alone_moving l ReadErrorLog = refl
-alone_moving l Identify = refl
-alone_moving l Flush = refl
-alone_moving l Other = refl
+alone_moving l request = refl
 
 alone_reads : (l : Ledger) (r : Request) → (alone l r).reads ≡ l.reads
 alone_reads l (Reset on) = refl
-alone_reads l (Queue c) = refl
-alone_reads l ReadErrorLog = refl
-alone_reads l Identify = refl
-alone_reads l Flush = refl
-alone_reads l Other = refl
+alone_reads l request = refl
 
 -- ## Two that go down, in either order
 
@@ -105,10 +90,7 @@ swap_queue l c bytes (Some v) moving asked can =
 swap_data : (l : Ledger) (r : Request) (bytes : List ℕ) → l.failed ≡ false → FitsRequest l r → FitsData l.moving bytes → SwapsData l r bytes
 swap_data l (Reset on) bytes failed fits asked = absurd fits
 swap_data l (Queue c) bytes failed fits asked = swap_queue l c bytes l.moving refl asked (failed, fits.0, fits.1)
-swap_data l ReadErrorLog bytes failed fits asked = absurd (no_data_beside l bytes fits asked)
-swap_data l Identify bytes failed fits asked = absurd (no_data_beside l bytes fits asked)
-swap_data l Flush bytes failed fits asked = absurd (no_data_beside l bytes fits asked)
-swap_data l Other bytes failed fits asked = absurd (no_data_beside l bytes fits asked)
+swap_data l request bytes failed fits asked = absurd (no_data_beside l bytes fits asked)
 
 -- what may be given after Data could have been given before it
 failed_before : (l : Ledger) (w : Moving) (b : Bool) → (after_bytes l w b true).failed ≡ false → l.failed ≡ false
@@ -133,10 +115,7 @@ request_before l (Reset on) v w b moving same failed fits = absurd fits
 request_before l (Queue c) v w b moving same failed fits =
     let can : IsOpen l c = open_before l c v w b moving same (failed, fits.0, fits.1) in
     (can.1, can.2)
-request_before l ReadErrorLog v w b moving same failed fits = absurd (no_rest_after l w b fits)
-request_before l Identify v w b moving same failed fits = absurd (no_rest_after l w b fits)
-request_before l Flush v w b moving same failed fits = absurd (no_rest_after l w b fits)
-request_before l Other v w b moving same failed fits = absurd (no_rest_after l w b fits)
+request_before l request v w b moving same failed fits = absurd (no_rest_after l w b fits)
 
 -- Data, and then a command
 record DataSwaps (l : Ledger) (r : Request) (bytes : List ℕ) : Type 0 where
@@ -183,37 +162,19 @@ swap_after_request l f (Ok (view.Payload g)) first next =
     let wanted : FitsData l.moving (drop 4 g) = subst (λ m. FitsData m (drop 4 g)) moves next in
     let s : SwapsData l r (drop 4 g) = swap_data l r (drop 4 g) first.0 first.1 wanted in
     record { first = wanted; second = (s.failed, s.fits); same = s.same }
-swap_after_request l f (Ok (view.RegD2H g)) first next = absurd next
-swap_after_request l f (Ok (view.SetBits g)) first next = absurd next
-swap_after_request l f (Ok (view.DmaActivate g)) first next = absurd next
-swap_after_request l f (Ok (view.DmaSetup g)) first next = absurd next
-swap_after_request l f (Ok (view.PioSetup g)) first next = absurd next
-swap_after_request l f (Ok (view.Unknown g)) first next = absurd next
-swap_after_request l f (Err e) first next = absurd next
+swap_after_request l f other first next = absurd next
 
 swap_after_data : (l : Ledger) (f : List ℕ) (u : Result Fis FisFault) → Fits l (Ok (view.Payload f)) → Fits (listens_down l (Ok (view.Payload f))) u → Swaps l (Ok (view.Payload f)) u
 swap_after_data l f (Ok (view.RegH2D g)) first next =
     let s : DataSwaps l (request_of g) (drop 4 f) = data_swaps l (request_of g) (drop 4 f) l.moving refl first next.0 next.1 in
     record { first = (s.failed, s.fits); second = s.asked; same = s.same }
 swap_after_data l f (Ok (view.Payload g)) first next = absurd (no_two_data l l.moving (drop 4 f) (drop 4 g) refl first next)
-swap_after_data l f (Ok (view.RegD2H g)) first next = absurd next
-swap_after_data l f (Ok (view.SetBits g)) first next = absurd next
-swap_after_data l f (Ok (view.DmaActivate g)) first next = absurd next
-swap_after_data l f (Ok (view.DmaSetup g)) first next = absurd next
-swap_after_data l f (Ok (view.PioSetup g)) first next = absurd next
-swap_after_data l f (Ok (view.Unknown g)) first next = absurd next
-swap_after_data l f (Err e) first next = absurd next
+swap_after_data l f other first next = absurd next
 
 swap : (l : Ledger) (t u : Result Fis FisFault) → Fits l t → Fits (listens_down l t) u → Swaps l t u
 swap l (Ok (view.RegH2D f)) u first next = swap_after_request l f u first next
 swap l (Ok (view.Payload f)) u first next = swap_after_data l f u first next
-swap l (Ok (view.RegD2H f)) u first next = absurd first
-swap l (Ok (view.SetBits f)) u first next = absurd first
-swap l (Ok (view.DmaActivate f)) u first next = absurd first
-swap l (Ok (view.DmaSetup f)) u first next = absurd first
-swap l (Ok (view.PioSetup f)) u first next = absurd first
-swap l (Ok (view.Unknown f)) u first next = absurd first
-swap l (Err e) u first next = absurd first
+swap l other u first next = absurd first
 
 -- ## Whole lists
 
@@ -350,17 +311,13 @@ reads_sent P l (Some v) bytes all =
     reads_ended P l w (is_all w) w.command.write (subst (λ (x : Ledger). All P x.reads) same all)
 
 reads_up : (P : ReadOut → Type 0) (l : Ledger) (s : Result Fis FisFault) → All P (listens_up l s).reads → All P l.reads
-reads_up P l (Ok (view.RegH2D f)) all = all
-reads_up P l (Ok (view.RegD2H f)) all = all
 reads_up P l (Ok (view.SetBits f)) all = reads_answered P l (field Bits Error f) (has_error f) all
 reads_up P l (Ok (view.DmaActivate f)) all = reads_activated P l l.moving all
 reads_up P l (Ok (view.DmaSetup f)) all =
     reads_set_up P l l.moving (field Setup BufferId f) (field Setup Offset f) (field Setup table.Count f)
     (reads_auto P (sets_up l l.moving (field Setup BufferId f) (field Setup Offset f) (field Setup table.Count f)) (is_auto f) all)
-reads_up P l (Ok (view.PioSetup f)) all = all
 reads_up P l (Ok (view.Payload f)) all = reads_sent P l l.moving (drop 4 f) all
-reads_up P l (Ok (view.Unknown f)) all = all
-reads_up P l (Err e) all = all
+reads_up P l other all = all
 
 pub all_reads_up : (P : ReadOut → Type 0) (l : Ledger) (up : List (List ℕ)) → All P (with_up l up).reads → All P l.reads
 unfolding with_up
@@ -378,13 +335,7 @@ reads_taken l (Some v) bytes moving asked = ap (λ (x : Ledger). x.reads) (data_
 reads_down : (l : Ledger) (t : Result Fis FisFault) → Fits l t → (listens_down l t).reads ≡ l.reads
 reads_down l (Ok (view.RegH2D f)) fits = ap (λ (x : Ledger). x.reads) (asks_fits l (request_of f) fits.0 fits.1) ∙ alone_reads l (request_of f)
 reads_down l (Ok (view.Payload f)) fits = reads_taken l l.moving (drop 4 f) refl fits
-reads_down l (Ok (view.RegD2H f)) fits = refl
-reads_down l (Ok (view.SetBits f)) fits = refl
-reads_down l (Ok (view.DmaActivate f)) fits = refl
-reads_down l (Ok (view.DmaSetup f)) fits = refl
-reads_down l (Ok (view.PioSetup f)) fits = refl
-reads_down l (Ok (view.Unknown f)) fits = refl
-reads_down l (Err e) fits = refl
+reads_down l other fits = refl
 
 pub all_reads_down : (l : Ledger) (down : List (List ℕ)) → AreFit l down → (with_down l down).reads ≡ l.reads
 unfolding with_down
@@ -454,15 +405,8 @@ page_asked plan sectors l None bytes right = λ e. subst (λ pages. IsPage plan 
 page_asked plan sectors l (Some v) bytes right = tt
 
 data_asked : (plan : DiskPlan) (sectors : ℕ) (l : Ledger) (s : Result Fis FisFault) → ErrsRight plan sectors l s → DataAsked l s
-data_asked plan sectors l (Ok (view.RegH2D f)) right = tt
-data_asked plan sectors l (Ok (view.RegD2H f)) right = tt
-data_asked plan sectors l (Ok (view.SetBits f)) right = tt
-data_asked plan sectors l (Ok (view.DmaActivate f)) right = tt
-data_asked plan sectors l (Ok (view.DmaSetup f)) right = tt
-data_asked plan sectors l (Ok (view.PioSetup f)) right = tt
 data_asked plan sectors l (Ok (view.Payload f)) right = page_asked plan sectors l l.moving (drop 4 f) right
-data_asked plan sectors l (Ok (view.Unknown f)) right = tt
-data_asked plan sectors l (Err e) right = tt
+data_asked plan sectors l other right = tt
 
 module _ (plan : DiskPlan) (sectors : ℕ) (size : IsSize plan sectors) where
   pub sent_right : (disk : List Happening) (bytes : List ℕ) → IsDiskRun plan sectors (disk ++ Sent bytes ∷ []) → reports (seen bytes) ≡ false → IsRight (ledger disk) (seen bytes)

@@ -1,5 +1,5 @@
 -- For `ends_tell_the_same`. What each FIS that is right or fits leaves of the commands that ended and of the writes.
-use Rattle.std.proofs.Common.{◌≡◌, ◌==◌, eqb, ℕ, ◌*◌, Bool, true, false, List, [], ◌∷◌, ◌++◌, append_assoc, Option, Some, None, Ok, Err, Result, drop, refl, ap, sym, subst, ◌∙◌, cond}
+use Rattle.std.proofs.Common.{◌≡◌, ◌==◌, eqb, ℕ, ◌*◌, Bool, true, false, List, [], ◌∷◌, ◌++◌, append_assoc, Option, Some, None, Ok, Result, drop, refl, ap, sym, subst, ◌∙◌, cond}
 use Rattle.std.specs.Prelude.{All, find, not}
 use Rattle.std.proofs.lemmas.Bool.{eq-eqb, eqb-true, or_from, or_left, or_parts, or_right, true≢false}
 use Rattle.std.proofs.lemmas.List.{append-nil}
@@ -13,7 +13,7 @@ use Rattle.fis_view.specs.declared.view.Fis.TheVariants as view
 use Rattle.fis_view.specs.declared.view.FisFault.{FisFault}
 use Rattle.disk_model.specs.declared.request.Command.{Command}
 use Rattle.disk_model.specs.declared.request.Request.{Request}
-use Rattle.disk_model.specs.declared.request.Request.TheVariants.{Reset, Queue, ReadErrorLog, Identify, Flush, Other}
+use Rattle.disk_model.specs.declared.request.Request.TheVariants.{Reset, Queue}
 use Rattle.disk_model.specs.Histories.{Received, Sent}
 use Rattle.disk_model.specs.Requests.{request_of}
 use Rattle.disk_model.specs.Ledger.{Ledger, Moving, Written, activates, answered, ends, is_auto, listens, listens_down, listens_up, sends_data, sets_up, starts_moving, with_auto}
@@ -172,15 +172,13 @@ up_data l f (Some v) moving r =
     (ap (λ (m : Option Moving). sends_data l m (drop 4 f)) moving ∙ goes_by l w (is_all w) false refl carries.reads)
 
 pub up_leaves : (l : Ledger) (s : Result Fis FisFault) → IsRight l s → UpLeaves l s
-up_leaves l (Ok (view.RegH2D f)) r = up_by l l (Ok (view.RegH2D f)) refl refl refl (λ tag o m. (o, m))
 up_leaves l (Ok (view.RegD2H f)) r = up_by l (answered l) (Ok (view.RegD2H f)) refl refl refl (λ tag o m. (o, m))
 up_leaves l (Ok (view.SetBits f)) r = up_bits l f r
 up_leaves l (Ok (view.DmaActivate f)) r = up_activate l f l.moving refl r
 up_leaves l (Ok (view.DmaSetup f)) r = up_setup l f l.moving (find (λ q. q.tag == field Setup BufferId f) l.outstanding) refl refl r
 up_leaves l (Ok (view.PioSetup f)) r = up_by l (answered l) (Ok (view.PioSetup f)) refl refl refl (λ tag o m. (o, m))
 up_leaves l (Ok (view.Payload f)) r = up_data l f l.moving refl r
-up_leaves l (Ok (view.Unknown f)) r = up_by l l (Ok (view.Unknown f)) refl refl refl (λ tag o m. (o, m))
-up_leaves l (Err e) r = up_by l l (Err e) refl refl refl (λ tag o m. (o, m))
+up_leaves l other r = up_by l l other refl refl refl (λ tag o m. (o, m))
 
 -- ## A FIS that goes down
 
@@ -212,10 +210,7 @@ none_apart l x rests = subst (AreApart x) (sym rests.unanswered) tt
 down_request : (l : Ledger) (f : List ℕ) (r : Request) → request_of f ≡ r → l.failed ≡ false → FitsRequest l r → listens_down l (Ok (view.RegH2D f)) ≡ alone l r → DownLeaves l (Ok (view.RegH2D f))
 down_request l f (Reset on) e failed fits is = absurd fits
 down_request l f (Queue c) e failed fits is = down_by l (opened l c) (Ok (view.RegH2D f)) is refl refl (λ a. apart_opened l c l.unanswered fits.0.unanswered a)
-down_request l f ReadErrorLog e failed fits is = down_by l (alone l ReadErrorLog) (Ok (view.RegH2D f)) is refl refl (λ a. none_apart l (alone l ReadErrorLog) fits)
-down_request l f Identify e failed fits is = down_by l (alone l Identify) (Ok (view.RegH2D f)) is refl refl (λ a. none_apart l (alone l Identify) fits)
-down_request l f Flush e failed fits is = down_by l (alone l Flush) (Ok (view.RegH2D f)) is refl refl (λ a. none_apart l (alone l Flush) fits)
-down_request l f Other e failed fits is = down_by l (alone l Other) (Ok (view.RegH2D f)) is refl refl (λ a. none_apart l (alone l Other) fits)
+down_request l f other e failed fits is = down_by l (alone l other) (Ok (view.RegH2D f)) is refl refl (λ a. none_apart l (alone l other) fits)
 
 down_write : (l : Ledger) (t : Result Fis FisFault) (v : Moving) (w : Moving) (b : Bool) → l.moving ≡ Some v → w.command ≡ v.command → listens_down l t ≡ after_bytes l w b true → DownLeaves l t
 down_write l t v w false moving same is = down_by l (after_bytes l w false true) t is refl refl
@@ -244,13 +239,7 @@ down_data l f (Some v) moving asked =
 pub down_leaves : (l : Ledger) (t : Result Fis FisFault) → Fits l t → DownLeaves l t
 down_leaves l (Ok (view.RegH2D f)) fits = down_request l f (request_of f) refl fits.0 fits.1 (asks_fits l (request_of f) fits.0 fits.1)
 down_leaves l (Ok (view.Payload f)) fits = down_data l f l.moving refl fits
-down_leaves l (Ok (view.RegD2H f)) fits = absurd fits
-down_leaves l (Ok (view.SetBits f)) fits = absurd fits
-down_leaves l (Ok (view.DmaActivate f)) fits = absurd fits
-down_leaves l (Ok (view.DmaSetup f)) fits = absurd fits
-down_leaves l (Ok (view.PioSetup f)) fits = absurd fits
-down_leaves l (Ok (view.Unknown f)) fits = absurd fits
-down_leaves l (Err e) fits = absurd fits
+down_leaves l other fits = absurd fits
 
 -- ## Whole lists
 
@@ -331,14 +320,7 @@ entered_by k l up down tag same right fit free =
 
 by_kind : (k : Ledger) (s : Result Fis FisFault) (tag : ℕ) (rest : List ℕ) → IsBits s → IsRight k s → k.unanswered ≡ tag ∷ rest → AreApart k k.unanswered → IsFree (listens_up k s) tag
 by_kind k (Ok (view.SetBits f)) tag rest bits right is a = free_next k f tag rest right is a
-by_kind k (Ok (view.RegH2D f)) tag rest bits right is a = absurd bits
-by_kind k (Ok (view.RegD2H f)) tag rest bits right is a = absurd bits
-by_kind k (Ok (view.DmaActivate f)) tag rest bits right is a = absurd bits
-by_kind k (Ok (view.DmaSetup f)) tag rest bits right is a = absurd bits
-by_kind k (Ok (view.PioSetup f)) tag rest bits right is a = absurd bits
-by_kind k (Ok (view.Payload f)) tag rest bits right is a = absurd bits
-by_kind k (Ok (view.Unknown f)) tag rest bits right is a = absurd bits
-by_kind k (Err e) tag rest bits right is a = absurd bits
+by_kind k other tag rest bits right is a = absurd bits
 
 pub free_after : (k : Ledger) (up : List (List ℕ)) (tag : ℕ) (rest : List ℕ) → AnswersNext up → AreRight k up → k.unanswered ≡ tag ∷ rest → AreApart k k.unanswered → IsFree (with_up k up) tag
 unfolding with_up AreRight

@@ -1,5 +1,5 @@
 -- For `disks_in_reset_take_no_command`. A disk in software reset takes no command, and sends nothing.
-use Rattle.std.proofs.Common.{◌≡◌, ℕ, true, false, List, [], ◌∷◌, ◌++◌, Option, Some, None, Ok, Err, Result, refl, ap, sym, subst, ◌∙◌}
+use Rattle.std.proofs.Common.{◌≡◌, ℕ, true, false, List, [], ◌∷◌, ◌++◌, Option, Some, None, Ok, Result, refl, ap, sym, subst, ◌∙◌}
 use Rattle.fis_view.specs.Seen.{seen}
 use Rattle.fis_view.specs.declared.view.Fis.{Fis}
 use Rattle.fis_view.specs.declared.view.Fis.TheVariants as view
@@ -10,10 +10,10 @@ use Rattle.disk_model.specs.declared.plan.Order.{Order}
 use Rattle.disk_model.specs.declared.plan.Order.TheVariants.{Oldest, Newest}
 use Rattle.disk_model.specs.declared.request.Command.{Command}
 use Rattle.disk_model.specs.declared.request.Request.{Request}
-use Rattle.disk_model.specs.declared.request.Request.TheVariants.{Reset, Queue, ReadErrorLog, Identify, Flush, Other}
+use Rattle.disk_model.specs.declared.request.Request.TheVariants.{Reset}
 use Rattle.disk_model.specs.Anew.{IsRequest, OwesOnly}
 use Rattle.disk_model.specs.Disks.{Moment, after, cleared, heard, moment_after, opening, pick_turn, picked, received, turn}
-use Rattle.disk_model.specs.Histories.{Happening, Received, Sent, Plugged, Loaded, sent_in}
+use Rattle.disk_model.specs.Histories.{Happening, Received, Sent, sent_in}
 use Rattle.disk_model.specs.InReset.{IsHeldRun, LeavesReset, LeavesSet, NoneEndsReset, TakesNoCommand}
 use Rattle.disk_model.specs.Ledger.{Ledger, Signs, asks, ledger, ledger_after, listens, listens_down}
 use Rattle.disk_model.specs.Requests.{request_of}
@@ -27,24 +27,12 @@ abbrev held : Moment → Moment
 held m = record (cleared m) { resetting = true; fault = Some Held }
 
 not_asked : (m : Moment) (r : Request) → LeavesSet r → received (held m) r (Some Held) ≡ held m
-not_asked m (Reset true) leaves = refl
 not_asked m (Reset false) leaves = absurd leaves
-not_asked m (Queue c) leaves = refl
-not_asked m ReadErrorLog leaves = refl
-not_asked m Identify leaves = refl
-not_asked m Flush leaves = refl
-not_asked m Other leaves = refl
+not_asked m request leaves = refl
 
 not_heard : (plan : DiskPlan) (m : Moment) (r : Result Fis FisFault) → LeavesReset r → heard plan (held m) r ≡ held m
 not_heard plan m (Ok (view.RegH2D f)) leaves = not_asked m (request_of f) leaves
-not_heard plan m (Ok (view.Payload f)) leaves = refl
-not_heard plan m (Ok (view.RegD2H f)) leaves = refl
-not_heard plan m (Ok (view.SetBits f)) leaves = refl
-not_heard plan m (Ok (view.DmaActivate f)) leaves = refl
-not_heard plan m (Ok (view.DmaSetup f)) leaves = refl
-not_heard plan m (Ok (view.PioSetup f)) leaves = refl
-not_heard plan m (Ok (view.Unknown f)) leaves = refl
-not_heard plan m (Err e) leaves = refl
+not_heard plan m other leaves = refl
 
 none_picked : (order : Order) → picked order [] ≡ None
 none_picked Oldest = refl
@@ -68,8 +56,7 @@ still plan sectors m (Received bytes ∷ later) stays run =
     let rest : IsStill plan sectors m later = still plan sectors m later stays.1 (subst (λ (x : Moment). Runs plan sectors x later) here run.1) in
     record { silent = rest.silent; same = ap (λ (x : Moment). moment_after plan sectors x later) here ∙ rest.same }
 still plan sectors m (Sent bytes ∷ later) stays run = absurd (no_turn plan sectors m bytes run.0)
-still plan sectors m (Plugged ∷ later) stays run = absurd stays
-still plan sectors m (Loaded bytes ∷ later) stays run = absurd stays
+still plan sectors m other stays run = absurd stays
 
 -- ## From a new disk on
 
@@ -111,24 +98,12 @@ held_same plan sectors before on between h =
 -- ## A listener
 
 not_asked_told : (l : Ledger) (r : Request) → LeavesSet r → asks (held_ledger l) r true ≡ held_ledger l
-not_asked_told l (Reset true) leaves = refl
 not_asked_told l (Reset false) leaves = absurd leaves
-not_asked_told l (Queue c) leaves = refl
-not_asked_told l ReadErrorLog leaves = refl
-not_asked_told l Identify leaves = refl
-not_asked_told l Flush leaves = refl
-not_asked_told l Other leaves = refl
+not_asked_told l request leaves = refl
 
 not_told : (l : Ledger) (r : Result Fis FisFault) → LeavesReset r → listens_down (held_ledger l) r ≡ held_ledger l
 not_told l (Ok (view.RegH2D f)) leaves = not_asked_told l (request_of f) leaves
-not_told l (Ok (view.Payload f)) leaves = refl
-not_told l (Ok (view.RegD2H f)) leaves = refl
-not_told l (Ok (view.SetBits f)) leaves = refl
-not_told l (Ok (view.DmaActivate f)) leaves = refl
-not_told l (Ok (view.DmaSetup f)) leaves = refl
-not_told l (Ok (view.PioSetup f)) leaves = refl
-not_told l (Ok (view.Unknown f)) leaves = refl
-not_told l (Err e) leaves = refl
+not_told l other leaves = refl
 
 still_told : (l : Ledger) (between : List Happening) → NoneEndsReset between → sent_in between ≡ [] → ledger_after (held_ledger l) between ≡ held_ledger l
 unfolding ledger_after
@@ -137,8 +112,7 @@ still_told l (Received bytes ∷ later) stays none =
     let here : listens (held_ledger l) (Received bytes) ≡ held_ledger l = not_told l (seen bytes) stays.0 in
     ap (λ (x : Ledger). ledger_after x later) here ∙ still_told l later stays.1 none
 still_told l (Sent bytes ∷ later) stays none = cc none
-still_told l (Plugged ∷ later) stays none = absurd stays
-still_told l (Loaded bytes ∷ later) stays none = absurd stays
+still_told l other stays none = absurd stays
 
 held_told : (plan : DiskPlan) (sectors : ℕ) (before : List Happening) (on : List ℕ) (between : List Happening)
     → IsHeldRun plan sectors before on between

@@ -1,5 +1,5 @@
 -- For `later_connections_tell_of_all`. A disk that is plugged in again.
-use Rattle.std.proofs.Common.{◌≡◌, ◌==◌, ◌&&◌, ℕ, zero, suc, ◌+◌, ◌*◌, Bool, true, false, List, [], ◌∷◌, ◌++◌, append_assoc, Option, Some, None, Ok, Err, Result, drop, length, refl, ap, sym, subst, ◌∙◌, arith}
+use Rattle.std.proofs.Common.{◌≡◌, ◌==◌, ◌&&◌, ℕ, zero, suc, ◌+◌, ◌*◌, Bool, true, false, List, [], ◌∷◌, ◌++◌, append_assoc, Option, Some, None, Ok, Result, drop, length, refl, ap, sym, subst, ◌∙◌, arith}
 use Rattle.std.specs.Prelude.{find, if◌then◌else◌, map, slice_get}
 use Rattle.std.specs.Option.{option_map}
 use Rattle.std.proofs.lemmas.List.{append-nil}
@@ -11,7 +11,7 @@ use Rattle.fis_view.specs.declared.view.Fis.TheVariants as view
 use Rattle.fis_view.specs.declared.view.FisFault.{FisFault}
 use Rattle.disk_model.specs.declared.request.Command.{Command}
 use Rattle.disk_model.specs.declared.request.Request.{Request}
-use Rattle.disk_model.specs.declared.request.Request.TheVariants.{Reset, Queue, ReadErrorLog, Identify, Flush, Other}
+use Rattle.disk_model.specs.declared.request.Request.TheVariants.{Reset, Queue}
 use Rattle.disk_model.specs.Histories.{Happening, Received, Sent, Plugged, Loaded}
 use Rattle.disk_model.specs.Requests.{request_of}
 use Rattle.disk_model.specs.Laws.{ActivatesRight, CarriesRight, SetsUpRight}
@@ -130,17 +130,13 @@ module _ (ws : List Written) (rs : List ReadOut) (resetting : Bool) where
   later_answers l error false = refl
 
   later_up : (l : Ledger) (r : Result Fis FisFault) → listens_up (later l) r ≡ later (listens_up l r)
-  later_up l (Ok (view.RegH2D f)) = refl
-  later_up l (Ok (view.RegD2H f)) = refl
   later_up l (Ok (view.SetBits f)) = later_answers l (field Bits Error f) (has_error f)
   later_up l (Ok (view.DmaActivate f)) = later_activates l l.moving
   later_up l (Ok (view.DmaSetup f)) =
       ap (with_auto (is_auto f)) (later_sets l l.moving (field Setup BufferId f) (field Setup Offset f) (field Setup table.Count f))
       ∙ later_autos (sets_up l l.moving (field Setup BufferId f) (field Setup Offset f) (field Setup table.Count f)) (is_auto f)
-  later_up l (Ok (view.PioSetup f)) = refl
   later_up l (Ok (view.Payload f)) = later_sends l l.moving (drop 4 f)
-  later_up l (Ok (view.Unknown f)) = refl
-  later_up l (Err e) = refl
+  later_up l other = refl
 
   -- ---- what goes down
 
@@ -164,18 +160,11 @@ module _ (ws : List Written) (rs : List ReadOut) (resetting : Bool) where
   fits_request l (Reset set) fits = absurd fits
   fits_request l (Queue c) fits =
       (record { outstanding = fits.0.outstanding; unanswered = fits.0.unanswered; moving = other_later c.tag l.moving fits.0.moving }, fits.1)
-  fits_request l ReadErrorLog fits = rests_later l fits
-  fits_request l Identify fits = rests_later l fits
-  fits_request l Flush fits = rests_later l fits
-  fits_request l Other fits = rests_later l fits
+  fits_request l request fits = rests_later l fits
 
   later_alone : (l : Ledger) (r : Request) → FitsRequest l r → alone (later l) r ≡ later (alone l r)
   later_alone l (Reset set) fits = absurd fits
-  later_alone l (Queue c) fits = refl
-  later_alone l ReadErrorLog fits = refl
-  later_alone l Identify fits = refl
-  later_alone l Flush fits = refl
-  later_alone l Other fits = refl
+  later_alone l request fits = refl
 
   fits_data : (v : Option Moving) (bytes : List ℕ) → FitsData v bytes → FitsData (option_map later_moving v) bytes
   fits_data None bytes fits = absurd fits
@@ -184,13 +173,7 @@ module _ (ws : List Written) (rs : List ReadOut) (resetting : Bool) where
   fits_later : (l : Ledger) (r : Result Fis FisFault) → Fits l r → Fits (later l) r
   fits_later l (Ok (view.RegH2D f)) fits = (fits.0, fits_request l (request_of f) fits.1)
   fits_later l (Ok (view.Payload f)) fits = fits_data l.moving (drop 4 f) fits
-  fits_later l (Ok (view.RegD2H f)) fits = absurd fits
-  fits_later l (Ok (view.SetBits f)) fits = absurd fits
-  fits_later l (Ok (view.DmaActivate f)) fits = absurd fits
-  fits_later l (Ok (view.DmaSetup f)) fits = absurd fits
-  fits_later l (Ok (view.PioSetup f)) fits = absurd fits
-  fits_later l (Ok (view.Unknown f)) fits = absurd fits
-  fits_later l (Err e) fits = absurd fits
+  fits_later l other fits = absurd fits
 
   later_taken : (l : Ledger) (v : Moving) (bytes : List ℕ) (b : Bool)
       → (if b then moves (later l) (later_moving v) bytes else later l) ≡ later (if b then moves l v bytes else l)
@@ -206,13 +189,7 @@ module _ (ws : List Written) (rs : List ReadOut) (resetting : Bool) where
       asks_fits (later l) (request_of f) fits.0 (fits_request l (request_of f) fits.1) ∙ later_alone l (request_of f) fits.1
       ∙ ap later (sym (asks_fits l (request_of f) fits.0 fits.1))
   later_down l (Ok (view.Payload f)) fits = later_takes l l.moving (drop 4 f)
-  later_down l (Ok (view.RegD2H f)) fits = absurd fits
-  later_down l (Ok (view.SetBits f)) fits = absurd fits
-  later_down l (Ok (view.DmaActivate f)) fits = absurd fits
-  later_down l (Ok (view.DmaSetup f)) fits = absurd fits
-  later_down l (Ok (view.PioSetup f)) fits = absurd fits
-  later_down l (Ok (view.Unknown f)) fits = absurd fits
-  later_down l (Err e) fits = absurd fits
+  later_down l other fits = absurd fits
 
   -- ---- a history
 
@@ -258,7 +235,6 @@ module _ (ws : List Written) (rs : List ReadOut) (resetting : Bool) where
   pages_back l (Some v) right = tt
 
   pub right_back : (l : Ledger) (r : Result Fis FisFault) → IsRight (later l) r → IsRight l r
-  right_back l (Ok (view.RegH2D f)) r = record { moves = tt; answers = tt; replies = tt; asked = tt; fine = refl }
   right_back l (Ok (view.RegD2H f)) r = record { moves = tt; answers = tt; replies = r.replies; asked = tt; fine = refl }
   right_back l (Ok (view.SetBits f)) r = record { moves = tt; answers = r.answers; replies = tt; asked = tt; fine = r.fine }
   right_back l (Ok (view.DmaActivate f)) r = record { moves = activates_back l.moving r.moves; answers = tt; replies = tt; asked = tt; fine = refl }
@@ -266,8 +242,7 @@ module _ (ws : List Written) (rs : List ReadOut) (resetting : Bool) where
   right_back l (Ok (view.PioSetup f)) r = record { moves = tt; answers = tt; replies = r.replies; asked = tt; fine = refl }
   right_back l (Ok (view.Payload f)) r =
       record { moves = carries_back l.moving (drop 4 f) r.moves; answers = tt; replies = tt; asked = pages_back l l.moving r.asked; fine = refl }
-  right_back l (Ok (view.Unknown f)) r = record { moves = tt; answers = tt; replies = tt; asked = tt; fine = refl }
-  right_back l (Err e) r = record { moves = tt; answers = tt; replies = tt; asked = tt; fine = refl }
+  right_back l other r = record { moves = tt; answers = tt; replies = tt; asked = tt; fine = refl }
 
 -- ## A later connection
 

@@ -1,5 +1,5 @@
 -- For `ends_tell_the_same_anew`. What was written stays written.
-use Rattle.std.proofs.Common.{◌≡◌, ◌==◌, ◌&&◌, ℕ, ◌*◌, Bool, true, false, List, [], ◌∷◌, ◌++◌, append_assoc, Option, Some, None, Ok, Err, Result, drop, length, refl, ap, sym, ◌∙◌}
+use Rattle.std.proofs.Common.{◌≡◌, ◌==◌, ◌&&◌, ℕ, ◌*◌, Bool, true, false, List, [], ◌∷◌, ◌++◌, append_assoc, Option, Some, None, Ok, Result, drop, length, refl, ap, sym, ◌∙◌}
 use Rattle.std.specs.Prelude.{find, if◌then◌else◌}
 use Rattle.std.specs.List.{list_any}
 use Rattle.std.proofs.lemmas.List.{append-nil}
@@ -48,16 +48,13 @@ read_or_not l false = mixed l _ l.outstanding refl
 asked : (l : Ledger) (r : Request) (failed : Bool) → (asks l r failed).writes ≡ l.writes
 asked l (Reset true) failed = refl
 asked l (Reset false) failed = restarted l l.resetting
-asked l ReadErrorLog false = mixed l _ l.outstanding refl
 asked l ReadErrorLog true = read_or_not l l.in_reset
 asked l (Queue c) false = opened_or_not l c (list_any (λ q. q.tag == c.tag) l.outstanding)
-asked l Flush false = mixed l _ l.outstanding refl
-asked l Identify false = mixed l _ l.outstanding refl
-asked l Other false = mixed l _ l.outstanding refl
 asked l (Queue c) true = refl
 asked l Flush true = refl
 asked l Identify true = refl
 asked l Other true = refl
+asked l request false = mixed l _ l.outstanding refl
 
 -- ## How data moves
 
@@ -109,16 +106,9 @@ answered_so l error false = refl
 down : (l : Ledger) (r : Result Fis FisFault) → GoesOn l (listens_down l r)
 down l (Ok (view.RegH2D f)) = stays l (asks l (request_of f) l.failed) (asked l (request_of f) l.failed)
 down l (Ok (view.Payload f)) = taken l l.moving (drop 4 f)
-down l (Ok (view.RegD2H f)) = stays l l refl
-down l (Ok (view.SetBits f)) = stays l l refl
-down l (Ok (view.DmaActivate f)) = stays l l refl
-down l (Ok (view.DmaSetup f)) = stays l l refl
-down l (Ok (view.PioSetup f)) = stays l l refl
-down l (Ok (view.Unknown f)) = stays l l refl
-down l (Err e) = stays l l refl
+down l other = stays l l refl
 
 up : (l : Ledger) (r : Result Fis FisFault) → GoesOn l (listens_up l r)
-up l (Ok (view.RegH2D f)) = stays l l refl
 up l (Ok (view.Payload f)) = sent l l.moving (drop 4 f)
 up l (Ok (view.RegD2H f)) = stays l (listens_up l (Ok (view.RegD2H f))) refl
 up l (Ok (view.SetBits f)) = stays l (answers l (field Bits Error f) (has_error f)) (answered_so l (field Bits Error f) (has_error f))
@@ -128,8 +118,7 @@ up l (Ok (view.DmaSetup f)) =
     stays l (with_auto (is_auto f) up)
     (autos up (is_auto f) ∙ set_up l l.moving (field Setup BufferId f) (field Setup Offset f) (field Setup table.Count f))
 up l (Ok (view.PioSetup f)) = stays l (listens_up l (Ok (view.PioSetup f))) refl
-up l (Ok (view.Unknown f)) = stays l l refl
-up l (Err e) = stays l l refl
+up l other = stays l l refl
 
 one : (l : Ledger) (e : Happening) → GoesOn l (listens l e)
 one l (Received bytes) = down l (seen bytes)

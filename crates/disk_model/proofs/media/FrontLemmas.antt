@@ -1,6 +1,6 @@
 -- For `reads_have_the_first_writes`. The writes that had ended when a read was started stay the first of all writes
 -- in the ledger.
-use Rattle.std.proofs.Common.{◌≡◌, ◌==◌, ◌&&◌, ℕ, zero, suc, subst, ◌*◌, Bool, true, false, List, [], ◌∷◌, ◌++◌, append_assoc, Option, Some, None, Ok, Err, Result, drop, length, ap, sym, ◌∙◌}
+use Rattle.std.proofs.Common.{◌≡◌, ◌==◌, ◌&&◌, ℕ, zero, suc, subst, ◌*◌, Bool, true, false, List, [], ◌∷◌, ◌++◌, append_assoc, Option, Some, None, Ok, Result, drop, length, ap, sym, ◌∙◌}
 use Rattle.std.specs.Prelude.{find, if◌then◌else◌, slice_get}
 use Rattle.std.specs.List.{list_any}
 use Rattle.std.proofs.lemmas.List.{append-nil}
@@ -59,9 +59,6 @@ each_at writes (q ∷ rs) (suc at) r there all = each_at writes rs at r there al
 
 -- ## What the host sends
 
-still : (l : Ledger) → AreFronts l → AreFronts (record l { moving = None })
-still l f = record { reads = f.reads; moving = tt }
-
 mixed : (l x : Ledger) (cs : List Command) → AreFronts l → AreFronts x → AreFronts (mixes l x cs)
 mixed l x [] f g = g
 mixed l x (c ∷ cs) f g = record { reads = f.reads; moving = tt }
@@ -82,16 +79,13 @@ read_or_not l false f = mixed l _ l.outstanding f (record { reads = f.reads; mov
 asked : (l : Ledger) (r : Request) (failed : Bool) → AreFronts l → AreFronts (asks l r failed)
 asked l (Reset true) failed f = record { reads = f.reads; moving = tt }
 asked l (Reset false) failed f = restarted l l.resetting f
-asked l ReadErrorLog false f = mixed l _ l.outstanding f (record { reads = f.reads; moving = f.moving })
 asked l ReadErrorLog true f = read_or_not l l.in_reset f
 asked l (Queue c) false f = opened_or_not l c (list_any (λ q. q.tag == c.tag) l.outstanding) f
-asked l Flush false f = mixed l _ l.outstanding f (record { reads = f.reads; moving = f.moving })
-asked l Identify false f = mixed l _ l.outstanding f (record { reads = f.reads; moving = f.moving })
-asked l Other false f = mixed l _ l.outstanding f (record { reads = f.reads; moving = f.moving })
 asked l (Queue c) true f = f
 asked l Flush true f = f
 asked l Identify true f = f
 asked l Other true f = f
+asked l request false f = mixed l _ l.outstanding f (record { reads = f.reads; moving = f.moving })
 
 -- ## How data moves
 
@@ -149,16 +143,9 @@ answered_so l error false f = record { reads = f.reads; moving = f.moving }
 down : (l : Ledger) (r : Result Fis FisFault) → AreFronts l → AreFronts (listens_down l r)
 down l (Ok (view.RegH2D f)) g = asked l (request_of f) l.failed g
 down l (Ok (view.Payload f)) g = taken l l.moving (drop 4 f) g g.moving
-down l (Ok (view.RegD2H f)) g = g
-down l (Ok (view.SetBits f)) g = g
-down l (Ok (view.DmaActivate f)) g = g
-down l (Ok (view.DmaSetup f)) g = g
-down l (Ok (view.PioSetup f)) g = g
-down l (Ok (view.Unknown f)) g = g
-down l (Err e) g = g
+down l other g = g
 
 up : (l : Ledger) (r : Result Fis FisFault) → AreFronts l → AreFronts (listens_up l r)
-up l (Ok (view.RegH2D f)) g = g
 up l (Ok (view.Payload f)) g = sent l l.moving (drop 4 f) g g.moving
 up l (Ok (view.RegD2H f)) g = record { reads = g.reads; moving = g.moving }
 up l (Ok (view.SetBits f)) g = answered_so l (field Bits Error f) (has_error f) g
@@ -167,8 +154,7 @@ up l (Ok (view.DmaSetup f)) g =
     autos (is_auto f) (sets_up l l.moving (field Setup BufferId f) (field Setup Offset f) (field Setup table.Count f))
     (set_up l l.moving (field Setup BufferId f) (field Setup Offset f) (field Setup table.Count f) g g.moving)
 up l (Ok (view.PioSetup f)) g = record { reads = g.reads; moving = g.moving }
-up l (Ok (view.Unknown f)) g = g
-up l (Err e) g = g
+up l other g = g
 
 one : (l : Ledger) (e : Happening) → AreFronts l → AreFronts (listens l e)
 one l (Received bytes) f = down l (seen bytes) f

@@ -7,7 +7,7 @@ use Rattle.disk_model.specs.declared.plan.DiskPlan.{DiskPlan}
 use Rattle.disk_model.specs.declared.answer.Answer.{Answer}
 use Rattle.disk_model.specs.declared.answer.Answer.TheVariants.{Signature, Accepted, Finished, Refused, Ended, PageFollows, PageData}
 use Rattle.disk_model.specs.Histories.{Happening, Sent}
-use Rattle.disk_model.specs.Sendings.{Sending, Register, SetsBits, SetsUp, Activates, SetsUpPio, Carries, Shows, register, page_follows, answer_sent}
+use Rattle.disk_model.specs.Sendings.{Sending, SetsUp, Activates, Carries, Shows, register, page_follows, answer_sent}
 use Rattle.disk_model.specs.Runs.{IsDiskRun}
 use Rattle.disk_model.specs.Ledger.{Ledger, IsSize, ledger}
 use Rattle.disk_model.specs.Laws.{IsRegister, AnswersRight}
@@ -53,12 +53,10 @@ answers_by l sectors plan PageFollows later b is shows = rw (shows.viewed, is) (
 answers_by l sectors plan (PageData page) later b is shows = rw shows.1 tt
 
 goes_by : (l : Ledger) (x : Sending) (b : List ℕ) → IsTransfer x → Shows x b → AnswersRight l (seen b)
-goes_by l (Register f) b moves shows = absurd moves
-goes_by l (SetsBits f) b moves shows = absurd moves
 goes_by l (SetsUp f) b moves shows = rw shows.viewed tt
 goes_by l Activates b moves shows = rw shows.viewed tt
-goes_by l (SetsUpPio f) b moves shows = absurd moves
 goes_by l (Carries bytes) b moves shows = rw shows.1 tt
+goes_by l other b moves shows = absurd moves
 
 pub answers_right : (plan : DiskPlan) (sectors : ℕ) (h : List Happening) (b : List ℕ) → IsSize plan sectors
     → IsDiskRun plan sectors (h ++ Sent b ∷ []) → AnswersRight (ledger h) (seen b)

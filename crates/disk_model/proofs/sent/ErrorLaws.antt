@@ -5,14 +5,14 @@ use Rattle.fis_view.specs.Seen.{seen}
 use Rattle.disk_model.specs.declared.plan.DiskPlan.{DiskPlan}
 use Rattle.disk_model.specs.declared.request.Command.{Command}
 use Rattle.disk_model.specs.declared.answer.Answer.{Answer}
-use Rattle.disk_model.specs.declared.answer.Answer.TheVariants.{Signature, Accepted, Finished, Refused, Ended, PageFollows, PageData}
+use Rattle.disk_model.specs.declared.answer.Answer.TheVariants.{Ended, PageData}
 use Rattle.disk_model.specs.declared.answer.Fault.{Fault}
 use Rattle.disk_model.specs.declared.answer.Fault.TheVariants.{Held, Mixed, Failed}
 use Rattle.disk_model.specs.declared.answer.Page.{Page}
 use Rattle.disk_model.specs.declared.answer.Page.TheVariants.{ErrorLog, Identity}
 use Rattle.disk_model.specs.Histories.{Happening, Sent}
 use Rattle.disk_model.specs.Pages.{error_log, page_bytes}
-use Rattle.disk_model.specs.Sendings.{Sending, Register, SetsBits, SetsUp, Activates, SetsUpPio, Carries, Shows, answer_sent}
+use Rattle.disk_model.specs.Sendings.{Sending, SetsUp, Activates, Carries, Shows, answer_sent}
 use Rattle.disk_model.specs.Chunks.{chunks, chunk_setup, fault_of, report, error_of}
 use Rattle.disk_model.specs.Disks.{Moment, picked}
 use Rattle.disk_model.specs.Runs.{IsDiskRun}
@@ -42,15 +42,13 @@ log_by : (plan : DiskPlan) (sectors : ℕ) (fault : Option Fault) (failure : Opt
     (bytes : List ℕ) → IsNoted plan sectors fault failure → bytes ≡ error_log fault
     → IsPage plan sectors (LogOf failure ∷ later) bytes
 log_by plan sectors None None later bytes noted is = is
-log_by plan sectors None (Some f) later bytes noted is = absurd noted
 log_by plan sectors (Some Mixed) None later bytes noted is = is ∙ mixed_log
-log_by plan sectors (Some Mixed) (Some f) later bytes noted is = absurd noted
 log_by plan sectors (Some Held) None later bytes noted is = is ∙ held_log
-log_by plan sectors (Some Held) (Some f) later bytes noted is = absurd noted
 log_by plan sectors (Some (Failed tag error lba)) None later bytes noted is = absurd noted
 log_by plan sectors (Some (Failed tag error lba)) (Some f) later bytes (c, turn, tags, fails, same) is =
     let told : LogsNext plan sectors (Some c) error bytes = (lba, fails, is ∙ ap (λ t. error_log (Some (Failed t error lba))) tags) in
     rw (turn, same) told
+log_by plan sectors other (Some f) later bytes noted is = absurd noted
 
 page_by : (plan : DiskPlan) (sectors : ℕ) (page : Page) (w : Wanted) (later : List Wanted) (bytes : List ℕ)
     → IsWanted plan sectors page w → bytes ≡ page_bytes sectors plan page → IsPage plan sectors (w ∷ later) bytes
@@ -67,16 +65,12 @@ pages_by plan sectors page pages (w ∷ ws) bytes are is = page_by plan sectors 
 answers_by : (plan : DiskPlan) (sectors : ℕ) (l : Ledger) (a : Answer) (later : List Answer) (b : List ℕ)
     → (is_page a ≡ true → l.moving ≡ None) → AreWanted plan sectors (pages_of (a ∷ later)) l.pages
     → Shows (answer_sent sectors plan a) b → ErrsRight plan sectors l (seen b)
-answers_by plan sectors l Signature later b none are shows = rw shows.viewed tt
-answers_by plan sectors l Accepted later b none are shows = rw shows.viewed tt
-answers_by plan sectors l Finished later b none are shows = rw shows.viewed tt
-answers_by plan sectors l Refused later b none are shows = rw shows.viewed tt
 answers_by plan sectors l (Ended t) later b none are shows = let fine = end_tells (2 ^ (t % 32)) b shows in rw shows.viewed (λ bad. cc (fine, bad))
-answers_by plan sectors l PageFollows later b none are shows = rw shows.viewed tt
 answers_by plan sectors l (PageData page) later b none are shows =
     let quiet : l.moving ≡ None = none refl in
     let bytes : drop 4 b ≡ page_bytes sectors plan page = ap (drop 4) shows.0 in
     rw (shows.1, quiet) (pages_by plan sectors page (pages_of later) l.pages (drop 4 b) are bytes)
+answers_by plan sectors l other later b none are shows = rw shows.viewed tt
 
 -- while a page is owed first, no command's data moves
 page_waits : (plan : DiskPlan) (sectors : ℕ) (m : Moment) (l : Ledger) → Agrees plan sectors m l → (a : Answer)
@@ -90,8 +84,7 @@ page_waits plan sectors m l agrees a later is page =
 fails_by : (plan : DiskPlan) (sectors : ℕ) (c : Command) (f : Fault) (error : ℕ) → FaultIs plan sectors c f → error ≡ error_of f
     → FailsNext plan sectors (Some c) error
 fails_by plan sectors c (Failed tag e lba) error is same = (lba, subst (λ n. Fails plan sectors c n lba) (sym same) is.1)
-fails_by plan sectors c Mixed error is same = absurd is
-fails_by plan sectors c Held error is same = absurd is
+fails_by plan sectors c other error is same = absurd is
 
 error_by : (plan : DiskPlan) (sectors : ℕ) (l : Ledger) (queued : List Command) (c : Command) (f : Fault) (b : List ℕ)
     → l.outstanding ≡ queued → picked plan.order queued ≡ Some c → fault_of plan sectors c ≡ Some f → l.moving ≡ None
@@ -114,12 +107,10 @@ start_by plan sectors l queued c b sized out turn here is none shows =
 
 goes_by : (plan : DiskPlan) (sectors : ℕ) (l : Ledger) (now : Moving) (x : Sending) (b : List ℕ) → l.moving ≡ Some now
     → IsTransfer x → Shows x b → ErrsRight plan sectors l (seen b)
-goes_by plan sectors l now (Register f) b is moves shows = absurd moves
-goes_by plan sectors l now (SetsBits f) b is moves shows = absurd moves
 goes_by plan sectors l now (SetsUp f) b is moves shows = rw (shows.viewed, is) tt
 goes_by plan sectors l now Activates b is moves shows = rw shows.viewed tt
-goes_by plan sectors l now (SetsUpPio f) b is moves shows = absurd moves
 goes_by plan sectors l now (Carries bytes) b is moves shows = rw (shows.1, is) tt
+goes_by plan sectors l now other b is moves shows = absurd moves
 
 pub errs_right : (plan : DiskPlan) (sectors : ℕ) (h : List Happening) (b : List ℕ) → IsSize plan sectors
     → IsDiskRun plan sectors (h ++ Sent b ∷ []) → ErrsRight plan sectors (ledger h) (seen b)

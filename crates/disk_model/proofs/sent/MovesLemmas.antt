@@ -5,7 +5,7 @@ use Rattle.fis_view.specs.Seen.{seen}
 use Rattle.disk_model.specs.declared.plan.DiskPlan.{DiskPlan}
 use Rattle.disk_model.specs.declared.request.Command.{Command}
 use Rattle.disk_model.specs.declared.answer.Answer.{Answer}
-use Rattle.disk_model.specs.declared.answer.Answer.TheVariants.{Signature, Accepted, Finished, Refused, Ended, PageFollows, PageData}
+use Rattle.disk_model.specs.declared.answer.Answer.TheVariants.{PageData}
 use Rattle.disk_model.specs.declared.answer.Fault.{Fault}
 use Rattle.disk_model.specs.Histories.{Happening, Sent}
 use Rattle.disk_model.specs.Sendings.{Sending, Shows, answer_sent}
@@ -28,13 +28,8 @@ use Rattle.disk_model.proofs.agreement.LawLemmas.{agrees, sized_by, last_may, sa
 -- an answer moves no command's data
 answer_moves : (l : Ledger) (sectors : ℕ) (plan : DiskPlan) (a : Answer) (b : List ℕ) → (is_page a ≡ true → l.moving ≡ None)
     → Shows (answer_sent sectors plan a) b → MovesRight l (seen b)
-answer_moves l sectors plan Signature b none shows = rw shows.viewed tt
-answer_moves l sectors plan Accepted b none shows = rw shows.viewed tt
-answer_moves l sectors plan Finished b none shows = rw shows.viewed tt
-answer_moves l sectors plan Refused b none shows = rw shows.viewed tt
-answer_moves l sectors plan (Ended t) b none shows = rw shows.viewed tt
-answer_moves l sectors plan PageFollows b none shows = rw shows.viewed tt
 answer_moves l sectors plan (PageData page) b none shows = let is : l.moving ≡ None = none refl in rw (shows.1, is) tt
+answer_moves l sectors plan other b none shows = rw shows.viewed tt
 
 -- the DMA Setup of a chunk
 setup_next : (plan : DiskPlan) (c : Command) (moved left : ℕ) (setups : List Stretch) (b : List ℕ) → ChunkPart plan c left

@@ -14,7 +14,7 @@ use Rattle.disk_model.specs.Disks.{Moment, Started, Writing, turn, read_turn, wr
 use Rattle.disk_model.specs.Runs.{IsDiskRun, moment}
 use Rattle.disk_model.specs.Ledger.{Ledger, Moving, Wanted, IsSize, ledger}
 use Rattle.disk_model.specs.Laws.{OwesNothing, SilentRight}
-use Rattle.disk_model.specs.Between.{AreWanted, Asked, Fresh, IsQueue, IsReading, IsSized, IsWriting, Moves, SetUp, Stage}
+use Rattle.disk_model.specs.Between.{AreWanted, Asked, IsQueue, IsReading, IsSized, IsWriting, Moves, Stage}
 use Rattle.disk_model.specs.Between.{begun_by, ended_tags, pages_of, replies}
 use Rattle.disk_model.proofs.turns.SendLemmas.{sends_left_next}
 use Rattle.disk_model.proofs.turns.TurnLemmas.{none_left}
@@ -63,9 +63,8 @@ none_wanted plan sectors (w ∷ ws) are = absurd are
 
 writes_waiting : (plan : DiskPlan) (sectors : ℕ) (m : Moment) (w : Writing) (v : Moving) (stage : Stage)
     → IsWriting plan sectors w v stage → write_turn m w w.sends ≡ None → (v.command.write ≡ true) × (v.active ≡ true)
-writes_waiting plan sectors m w v Fresh r none = absurd (asks_something m w _ _ _ r.stage.0 none)
-writes_waiting plan sectors m w v SetUp r none = absurd (asks_something m w _ _ _ r.stage.0 none)
 writes_waiting plan sectors m w v Asked r none = (ap (λ (c : Command). c.write) r.moving.same ∙ r.writes, r.stage.1)
+writes_waiting plan sectors m w v other r none = absurd (asks_something m w _ _ _ r.stage.0 none)
 
 silent_by : (plan : DiskPlan) (sectors : ℕ) (m : Moment) (owed : List Answer) (s : Option Started) (w : Option Writing)
     (v : Option Moving) (l : Ledger) → IsSized plan → IsQueue m.queued → l.outstanding ≡ m.queued

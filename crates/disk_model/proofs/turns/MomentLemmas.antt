@@ -80,9 +80,4 @@ hears_data plan m f bytes s is same = ap (data_taken plan m m.writing) same ∙ 
 pub hears_nothing : (plan : DiskPlan) (m : Moment) (fis : Fis) → ((f : List ℕ) → fis ≡ view.RegH2D f → ⊥) → ((f : List ℕ) → fis ≡ view.Payload f → ⊥) → m ≡ heard plan m (Ok fis)
 hears_nothing plan m (view.RegH2D f) other payload = absurd (other f refl)
 hears_nothing plan m (view.Payload f) other payload = absurd (payload f refl)
-hears_nothing plan m (view.RegD2H f) other payload = refl
-hears_nothing plan m (view.SetBits f) other payload = refl
-hears_nothing plan m (view.DmaActivate f) other payload = refl
-hears_nothing plan m (view.DmaSetup f) other payload = refl
-hears_nothing plan m (view.PioSetup f) other payload = refl
-hears_nothing plan m (view.Unknown f) other payload = refl
+hears_nothing plan m rest other payload = refl

@@ -3,11 +3,11 @@ use Rattle.std.proofs.Common.{◌≡◌, rules, ℕ, zero, suc, ◌+◌, ◌<◌
 use Rattle.std.specs.Prelude.{◌%◌, ◌==◌, ◌&&◌, if◌then◌else◌, is_some, is_none}
 use Rattle.disk_model.specs.declared.request.Command.{Command}
 use Rattle.disk_model.specs.declared.answer.Answer.{Answer}
-use Rattle.disk_model.specs.declared.answer.Answer.TheVariants.{Signature, Accepted, Finished, Refused, Ended, PageFollows, PageData}
+use Rattle.disk_model.specs.declared.answer.Answer.TheVariants.{Signature}
 use Rattle.disk_model.specs.declared.plan.DiskPlan.{DiskPlan}
 use Rattle.disk_model.specs.declared.disk.Reading.{Reading}
 use Rattle.disk_model.specs.declared.disk.quiet.Due.TheVariants as due
-use Rattle.disk_model.specs.Sendings.{Sending, Register, SetsBits, SetsUp, Activates, SetsUpPio, Carries, answer_sent}
+use Rattle.disk_model.specs.Sendings.{Sending, SetsBits, SetsUp, answer_sent}
 use Rattle.disk_model.specs.Chunks.{activations, asks_for, fault_of, sends_left}
 use Rattle.disk_model.specs.Disks.{DiskValue, Moment, Started, Writing, after_turn, answer_turn, idle_turn, picked, read_turn, starts, turn, waiting_turn, went, with_now, write_turn}
 use Rattle.disk_model.specs.Insides.{sends_after, sends_of}
@@ -38,10 +38,6 @@ never_both (Some w) = refl
 went_no_write : (m : Moment) (c : Command) (later : List Sending) → starts_write m (went m c later) ≡ false
 went_no_write m c [] = search rules
 went_no_write m c (s ∷ later) = never_both m.writing
-
-read_first_due : (m : Moment) (c : Command) (v : Sending) (later : List Sending)
-    → due_by m (read_turn m c (v ∷ later)) ≡ Some (kind_of m (went m c later) v)
-read_first_due m c v later = refl
 
 pub data_is_due : (plan : DiskPlan) (m : Moment) (medium : List ℕ) (r : Reading) (up : Bool) → up ≡ true → 0 < r.left
     → due_by m (read_turn m r.command (sends_of plan medium r up)) ≡ Some due.Data
@@ -90,12 +86,7 @@ pub record Starts (plan : DiskPlan) (sectors : ℕ) (m : Moment) : Type 0 where
 answer_no_start : (old new : Moment) (sectors : ℕ) (plan : DiskPlan) (a : Answer)
     → kind_of old new (answer_sent sectors plan a) ≡ due.Start → ⊥
 answer_no_start old new sectors plan Signature e = cc e
-answer_no_start old new sectors plan Accepted e = cc e
-answer_no_start old new sectors plan Finished e = cc e
-answer_no_start old new sectors plan Refused e = cc e
-answer_no_start old new sectors plan (Ended tag) e = cc e
-answer_no_start old new sectors plan PageFollows e = cc e
-answer_no_start old new sectors plan (PageData page) e = cc e
+answer_no_start old new sectors plan other e = cc e
 
 bits_no_start : (failed : Bool) → (if failed then due.Failed else due.Ended) ≡ due.Start → ⊥
 bits_no_start true e = cc e
@@ -106,12 +97,9 @@ setup_start true e = refl
 setup_start false e = absurd (cc e)
 
 kind_start : (old new : Moment) (s : Sending) → kind_of old new s ≡ due.Start → starts_write old new ≡ true
-kind_start old new (Register v) e = absurd (cc e)
 kind_start old new (SetsBits v) e = absurd (bits_no_start (v.status % 2 == 1) e)
 kind_start old new (SetsUp v) e = setup_start (starts_write old new) e
-kind_start old new Activates e = absurd (cc e)
-kind_start old new (SetsUpPio v) e = absurd (cc e)
-kind_start old new (Carries bytes) e = absurd (cc e)
+kind_start old new other e = absurd (cc e)
 
 some_same : (a b : due.the_data) → Some a ≡ Some b → a ≡ b
 some_same a b e = cc e

@@ -1,12 +1,10 @@
 -- For the calls of a disk. What a disk's turn is, from the facts that its code has.
-use Rattle.std.proofs.lemmas.Bool.Decides.{nat_tests}
-use Rattle.std.proofs.Common.{◌≡◌, ◌≢◌, ◌==◌, ◌≤◌, length-drop, rules, tests, ℕ, ◌+◌, ◌-◌, ◌*◌, ◌<◌, Bool, true, false, List, [], ◌∷◌, Some, None, length, get_or, drop, refl, ap, sym, subst, ◌∙◌, arith}
+use Rattle.std.proofs.Common.{◌≡◌, ◌≢◌, ℕ, ◌-◌, ◌<◌, Bool, true, false, List, [], ◌∷◌, Some, None, length, get_or, drop, refl, ap, sym, subst, ◌∙◌, arith}
 use Rattle.std.specs.Prelude.{Result, Ok, Err, OnErr, All, slice_get}
 use Rattle.std.proofs.lemmas.List.Elements.{All-get_or}
 use Rattle.std.proofs.lemmas.Option.{get_or_from_slice_get, slice_get_within}
 use Rattle.disk_model.specs.declared.request.Command.{Command}
 use Rattle.disk_model.specs.declared.answer.Answer.{Answer}
-use Rattle.disk_model.specs.declared.answer.Fault.{Fault}
 use Rattle.disk_model.specs.declared.plan.DiskPlan.{DiskPlan}
 use Rattle.disk_model.specs.declared.plan.Order.{Order}
 use Rattle.disk_model.specs.declared.plan.Order.TheVariants.{Oldest, Newest}
@@ -14,8 +12,8 @@ use Rattle.disk_model.specs.declared.disk.Reading.{Reading}
 use Rattle.disk_model.specs.declared.disk.Transfer.TheVariants.{Read}
 use Rattle.disk_model.specs.Requests.{IsCounted}
 use Rattle.disk_model.specs.Sendings.{Sending, Shows, answer_sent}
-use Rattle.disk_model.specs.Chunks.{activations, sends_left, asks_for, chunks, chunk_from, chunk_count, fault_of, report, put}
-use Rattle.disk_model.specs.Disks.{Moment, Turn, turn, went, ended, stopped, picked, starts, read_turn, write_turn, begun_write, data_taken}
+use Rattle.disk_model.specs.Chunks.{sends_left, chunks, fault_of}
+use Rattle.disk_model.specs.Disks.{Moment, Turn, turn, went, ended, picked, starts, read_turn}
 use Rattle.disk_model.specs.Runs.{Takes}
 use Rattle.disk_model.specs.Insides.{sends_of, sends_after, moved, started_by, Leads}
 use Rattle.disk_model.proofs.turns.SendLemmas.{sends_left_next}
@@ -63,30 +61,6 @@ pub takes_start : (plan : DiskPlan) (sectors : ℕ) (m n : Moment) (c : Command)
 takes_start plan sectors m n c later bytes read owed started writing pick good leads same =
     let a : turn plan sectors m ≡ starts plan m c c.write = rw (owed, started, writing, pick, good) refl in
     rw (a ∙ ap (starts plan m c) read) (takes_first m n c _ later bytes leads same)
-
-takes_ask : (m n : Moment) (c : Command) (left : ℕ) (staged : List ℕ) (whole sends later : List Sending) (bytes : List ℕ)
-    → Leads sends bytes later
-    → n ≡ record m { writing = Some (record { command = c; sends = later; left = left; staged = staged }) }
-    → Takes (write_turn m (record { command = c; sends = whole; left = left; staged = staged }) sends) bytes n
-takes_ask m n c left staged whole [] later bytes leads same = absurd leads
-takes_ask m n c left staged whole (s ∷ rest) later bytes leads same =
-    (leads.0, same ∙ ap (λ (xs : List Sending). record m { writing = Some (record { command = c; sends = xs; left = left; staged = staged }) }) (sym leads.1))
-
-pub takes_start_write : (plan : DiskPlan) (sectors : ℕ) (m n : Moment) (c : Command) (staged : List ℕ) (later : List Sending)
-    (bytes : List ℕ) → c.write ≡ true → m.owed ≡ [] → m.started ≡ None → m.writing ≡ None → picked plan.order m.queued ≡ Some c
-    → fault_of plan sectors c ≡ None → (begun_write plan c).staged ≡ staged
-    → Leads (asks_for plan c (chunks plan c)) bytes later
-    → n ≡ record m { writing = Some (record { command = c; sends = later; left = chunks plan c; staged = staged }) }
-    → Takes (turn plan sectors m) bytes n
-takes_start_write plan sectors m n c staged later bytes write owed started writing pick good zeros leads same =
-    let a : turn plan sectors m ≡ starts plan m c c.write = rw (owed, started, writing, pick, good) refl in
-    rw (a ∙ ap (starts plan m c) write, zeros) (takes_ask m n c (chunks plan c) staged (asks_for plan c (chunks plan c)) (asks_for plan c (chunks plan c)) later bytes leads same)
-
-pub takes_fault : (plan : DiskPlan) (sectors : ℕ) (m n : Moment) (c : Command) (f : Fault) (bytes : List ℕ) → m.owed ≡ []
-    → m.started ≡ None → m.writing ≡ None → picked plan.order m.queued ≡ Some c → fault_of plan sectors c ≡ Some f
-    → Shows (report f) bytes → n ≡ stopped m f → Takes (turn plan sectors m) bytes n
-takes_fault plan sectors m n c f bytes owed started writing pick bad shows same =
-    takes _ (report f) bytes (stopped m f) n (rw (owed, started, writing, pick, bad) refl) shows same
 
 -- ## It is the disk's turn
 
@@ -151,14 +125,3 @@ front_is (x ∷ xs) a some is = ap (λ y. y ∷ xs) (sym is)
 pub same_moment : (m n : Moment) → m.medium ≡ n.medium → m.queued ≡ n.queued → m.fault ≡ n.fault → m.resetting ≡ n.resetting
     → m.owed ≡ n.owed → m.started ≡ n.started → m.writing ≡ n.writing → m ≡ n
 same_moment m n a b c d e f g = λ i. record { medium = a i; queued = b i; fault = c i; resetting = d i; owed = e i; started = f i; writing = g i }
-
--- a chunk came that is not the last
-pub stored_more : (plan : DiskPlan) (m : Moment) (c : Command) (left gone : ℕ) (staged bytes : List ℕ)
-    → 1 + length (activations plan.auto) ≤ gone
-    → length bytes ≡ 512 * chunk_count plan c left → (left ≡ 1 → ⊥)
-    → data_taken plan m (Some (record { command = c; sends = drop gone (asks_for plan c left); left = left; staged = staged })) bytes ≡ record m { writing = Some (record { command = c; sends = asks_for plan c (left - 1); left = left - 1; staged = put staged (512 * chunk_from plan c left) bytes }) }
-stored_more plan m c left gone staged bytes past is more =
-    let none : (length (drop gone (asks_for plan c left)) == 0) ≡ true = grind (arith, length-drop gone (asks_for plan c left), nat_tests) in
-    let fits : (length bytes == 512 * chunk_count plan c left) ≡ true = search (rules, tests) in
-    let other : (left == 1) ≡ false = search (rules, tests) in
-    rw (none, fits, other) refl

@@ -2,16 +2,15 @@
 use Rattle.std.proofs.Common.{◌≡◌, ◌≢◌, ◌<◌, ◌≤◌, ◌-◌, ◌*◌, ◌%◌, ◌^◌, ℕ, rules, zero, suc, Bool, true, false, not, ◌&&◌, min, nat_eq, cond, List, length, replicate, set, refl, ap, sym, ◌∙◌, arith, inl, inr, w32, bit_and, bit_or, Option, Some, None}
 use Rattle.std.specs.Int.{bit_not, trailing_zeros}
 use Rattle.std.proofs.lemmas.Bool.{cases_eq, cases_lt, eq-eqb, ne_eqb, true≢false}
-use Rattle.std.proofs.lemmas.List.{get_or_past, get_or-replicate, get_or-set_same, get_or-set_other, length-replicate}
+use Rattle.std.proofs.lemmas.List.{get_or_past, get_or-replicate, length-replicate}
 use Rattle.std.proofs.lemmas.Nat.Bits.{bit_at-lt, bit_at-zero, bit_at_and, bit_at_not, bit_at_ones, bit_at_set_same, bit_at_set_other, bit_at_clear_same, bit_at_clear_other, bit_at-trailing_zeros}
 use Rattle.std.specs.Int.{bit_at}
 use Rattle.std.specs.Prelude.{IfSome}
 use Rattle.slots.proofs.Door.{lowest_found, lowest_none}
 use Rattle.slots.specs.Slots.{has_bit, lowest_below}
 use Rattle.hba_driver.specs.declared.slot.Head.{Head}
-use Rattle.hba_driver.specs.declared.taken.Masks.{Masks}
 use Rattle.hba_driver.specs.Drivers.{Entry, entry_at, has_ended, holds, is_issued, waits}
-use Rattle.hba_driver.specs.Masks.{AreMasks, IsLowestBit, IsMask, NoneAt, Notes, SetsBit}
+use Rattle.hba_driver.specs.Masks.{AreMasks, IsLowestBit, IsMask, NoneAt, SetsBit}
 use Rattle.hba_driver.specs.Requests.{is_free}
 use Rattle.hba_driver.specs.Ticks.{is_done}
 
@@ -74,27 +73,6 @@ past_none entries k long past = get_or_past entries k None (omega arith)
 
 -- ---- masks and entries
 
-mask_set : (test : Option Entry → Bool) (old new slot : ℕ) (entries : List (Option Entry)) (e : Option Entry) → slot < length entries → IsMask test old entries → SetsBit slot (test e) old new → IsMask test new (set entries slot e)
-mask_set test old new slot entries e below m sets = record {
-  bits = λ k lt. elim (cases_eq k slot) [
-    | inl same ↦
-        sets k lt ∙ ap (λ (b : Bool). cond b (test e) (has_bit old k)) (eq-eqb k slot same)
-        ∙ sym (ap (λ (i : ℕ). test (entry_at (set entries slot e) i)) same ∙ ap test (get_or-set_same entries slot e None below))
-    | inr other ↦
-        sets k lt ∙ ap (λ (b : Bool). cond b (test e) (has_bit old k)) (ne_eqb k slot other) ∙ m.bits k lt
-        ∙ sym (ap test (get_or-set_other entries slot k e None other))
-  ];
-}
-
--- one slot has changed
-pub masks_set : (old new : Masks) (slot : ℕ) (entries : List (Option Entry)) (e : Option Entry) → slot < length entries → AreMasks old entries → Notes slot e old new → AreMasks new (set entries slot e)
-masks_set old new slot entries e below m notes = record {
-  waits = mask_set (holds waits) old.waits new.waits slot entries e below m.waits notes.waits;
-  issued = mask_set (holds is_issued) old.issued new.issued slot entries e below m.issued notes.issued;
-  ended = mask_set (holds has_ended) old.ended new.ended slot entries e below m.ended notes.ended;
-  free = mask_set is_free old.free new.free slot entries e below m.free notes.free;
-}
-
 abbrev no_entry : Option Entry
 no_entry = None
 
@@ -129,10 +107,6 @@ done_bits mask issued entries fits m k below =
 -- what is not issued is not done, and what is free passes no test
 pub not_done : (issued k : ℕ) (e : Option Entry) → holds is_issued e ≡ false → holds (is_done issued k) e ≡ false
 not_done issued k e h = sym (done_is issued k e) ∙ ap (λ (b : Bool). b && not (has_bit issued k)) h
-
-pub free_passes : (test : Head → Bool) (e : Option Entry) → is_free e ≡ true → holds test e ≡ false
-free_passes test None h = refl
-free_passes test (Some e) h = cc
 
 -- what does not wait passes no test of those that wait
 pub not_waiting : (ready : Head → Bool) (e : Option Entry) → holds waits e ≡ false → holds (λ head. waits head && ready head) e ≡ false

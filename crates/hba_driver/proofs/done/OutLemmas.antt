@@ -430,7 +430,3 @@ unfolding ActsAll
 out_opening mode k old new before after slot dev stopped below acts table h =
     let there : IsIssuedAt acts.0 dev slot h.issue = kept_stopped (opening_write mode k) old acts.0 before acts.1 dev slot h.issue (opening_is mode k) stopped below acts.2 table h.is in
     record { issue = h.issue; is = subst (λ (p : Port). IsIssuedAt p dev slot h.issue) (sym acts.4.0) there; pio = h.pio; control = h.control }
-
-pub out_rest : (old new : Port) (before after : Memory) (slot dev : ℕ) → ActsAll [] old before new after → HasOut old slot dev → HasOut new slot dev
-unfolding ActsAll
-out_rest old new before after slot dev acts h = out_same old new slot dev acts.0 h

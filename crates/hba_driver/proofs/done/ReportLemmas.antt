@@ -49,9 +49,6 @@ stands_fresh Q port s old other f is = absurd is
 as_issued : (e : Entry) → e.head.phase ≡ Issued → e ≡ rephased Issued (rephased Waits e)
 as_issued e is = ap (λ (p : Phase). rephased p e) is
 
-done_out : (p : Phase) → p ≡ Ended Done → is_issued_in p ≡ false
-done_out p is = ap is_issued_in is
-
 -- what ended as Done was reported
 stands_free : (P : ℕ → Entry → Type 0) (port : Port) (s : ℕ) (e : Entry) (p : Phase) → issue_at port.slots s ≡ None → is_issued_in p ≡ true → Stands P port s e p → P s e
 stands_free P port s e Issued free is (inl h) = h

@@ -287,9 +287,6 @@ took_out false stage old new slot dev keeps is h = inr (is, keeps refl h)
 
 -- ---- a tick
 
-done_bar : (p : Phase) → p ≡ Ended Done → is_issued_in p ≡ true → ⊥
-done_bar p h k = false≢true (sym (ap is_issued_in h) ∙ k)
-
 -- what is there as Done after a tick is whole before it
 fits_ended : (stage : Stage) (port : Port) (slot dev : ℕ) (p : Phase) → issue_at port.slots slot ≡ None → is_issued_in p ≡ true → Fits stage port slot dev p → stage ≡ Whole
 fits_ended stage port slot dev Issued free is (inl h) = h

@@ -432,9 +432,6 @@ serves old new turns run s past served =
 
 -- ---- a host that opens
 
-no_entry : Option Entry
-no_entry = None
-
 none_here : (s : ℕ) (e : Entry) {P : Type 0} → entry_at (replicate 30 None) s ≡ Some e → P
 none_here s e h = elim (cases_lt s 30) [
   | inl less ↦ none_some e (sym (get_or-replicate 30 s None None less) ∙ h)

@@ -256,9 +256,6 @@ cleared_moves port d n s t other from =
 
 -- ---- each order
 
-area_next : (e : Effect) (old : Port) (new : Port) (before after : Memory) → new ≡ old → old.registers.fb ≡ 4096 → new.registers.fb ≡ 4096
-area_next e old new before after is h = ap (λ (p : Port). p.registers.fb) is ∙ h
-
 order_act : (D d : Driver) (file : TaskFile) (fs : List HostEvent) (c : event.Host) (mode : Mode) (order : Order) (old new : Port) (before after : Memory) → d.plan.asked ≡ false → IsOurs mode old.registers → d.plan.mode ≡ mode → IsRuled old → IsHostMemory before
     → list_all is_effect (order_effects mode order) ≡ true → (acts : ActsAll (order_effects mode order) old before new after) → Goes D (acted (Some (act.Orders order)) file d) fs c (beside new after)
     → Goes D d (events_of_effects (order_effects mode order) old before new after acts ++ fs) c (beside old before)

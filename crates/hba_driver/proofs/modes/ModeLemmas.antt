@@ -1,20 +1,17 @@
 -- For `turns_are_steady`. With FIS-based switching: what the words of the port that tell the modes apart come to.
 use Rattle.std.proofs.Common.{◌≡◌, ℕ, Bool, true, false, List, [], ◌∷◌, ap, subst, Option, Some, None}
-use Rattle.std.specs.Prelude.{◌==◌, ◌&&◌, ◌||◌, not, if◌then◌else◌, is_some, Result}
+use Rattle.std.specs.Prelude.{◌==◌, ◌||◌, if◌then◌else◌, is_some, Result}
 use Rattle.fis_view.specs.Seen.{seen}
 use Rattle.fis_view.specs.declared.view.Fis.{Fis}
 use Rattle.fis_view.specs.declared.view.FisFault.{FisFault}
-use Rattle.host_memory.specs.Memory.{Memory}
 use Rattle.rx_area.specs.Area.{row_of}
 use Rattle.hba_fbs.specs.declared.hearing.Fault.{Fault}
 use Rattle.hba_fbs.specs.declared.register.Register.TheVariants.{Ci}
-use Rattle.hba_fbs.specs.declared.registers.Registers.{Registers}
-use Rattle.hba_fbs.specs.Issuing.{any_beside, any_slot, asked, first_named, is_foreign, names_other}
+use Rattle.hba_fbs.specs.Issuing.{asked}
 use Rattle.hba_fbs.specs.Posting.{area_at}
 use Rattle.hba_fbs.specs.Reading.{shown_device}
 use Rattle.hba_fbs.specs.Taking.{PostsIn, PostsOf, ignores, is_ignored, is_running, passes_over, port_cause, row_for, stops_with}
 use Rattle.hba_fbs.specs.Views.{DeviceView, Port, view_of}
-use Rattle.hba_fbs.specs.Writing.{is_apart}
 use Rattle.hba_fbs.proofs.Door.{aimed_chosen}
 use Rattle.hba_laws.specs.Hosts.{Host}
 use Rattle.hba_laws.specs.Isolation.{Issued, written_to}
@@ -26,13 +23,6 @@ pub written_chosen : (n : ℕ) (host : Host) (value : ℕ) → host.port.registe
     → written_to n host Ci value ≡ (if n == host.port.registers.chosen then Issued (asked host.port.registers host.memory value) ∷ [] else [])
 written_chosen n host value on =
     ap (λ (dev : ℕ). if n == dev then Issued (asked host.port.registers host.memory value) ∷ [] else []) (aimed_chosen host.port.registers host.memory.structure value on)
-
--- a slot is refused if its header names another device than that one
-pub apart_chosen : (port : Port) (memory : Memory) (value : ℕ) → port.registers.switching ≡ true → is_apart port memory value ≡ any_slot value (is_foreign port.registers memory.structure)
-apart_chosen port memory value on =
-    let r : Registers = port.registers in
-    ap (λ (b : Bool). not b && not (value == 0) && any_beside port.slots (if b then r.chosen else first_named r memory.structure value)
-    || any_slot value (names_other r memory.structure (if b then r.chosen else first_named r memory.structure value))) on
 
 -- ---- what PxTFD shows
 

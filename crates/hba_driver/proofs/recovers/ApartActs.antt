@@ -67,9 +67,6 @@ own_path n other p well h = inr (record { dev = n; stage = ReadLog h.file; asked
 same_stage : (x y : Path) → Some x ≡ Some y → (x.dev ≡ y.dev) × (x.stage ≡ y.stage) × (x.asked ≡ y.asked)
 same_stage x y h = let is : x ≡ y = some_inj x y h in (ap (λ (p : Path). p.dev) is, ap (λ (p : Path). p.stage) is, ap (λ (p : Path). p.asked) is)
 
-none_stage : (s : Stage) {P : Type 0} → None ≡ Some s → P
-none_stage s h = cc
-
 none_path : (x : Path) {P : Type 0} → None ≡ Some x → P
 none_path x h = cc
 

@@ -167,11 +167,6 @@ posted_beside at count fb (Some dev) (Some fis) old new is apart h i below =
     let posts : Posts 4096 dev fis old new = subst (λ (n : ℕ). Posts n dev fis old new) is h in
     beside_rows at count old new apart posts.before posts.behind i below
 
--- a port that does not ignore a frame runs
-not_or : (a b : Bool) → (not a || b) ≡ false → a ≡ true
-not_or true b h = refl
-not_or false b h = absurd (true≢false h)
-
 and_first : (a b : Bool) → (a && b) ≡ true → a ≡ true
 and_first true b h = refl
 and_first false b h = absurd (false≢true h)
@@ -241,10 +236,6 @@ in_slots entries s e long here = elim (cases_lt s (length entries)) [
     none_some h = cc
 
 -- ---- all turns
-
-first_host : (turns : List HostTurn) (old new : Host) (run : DoesAll old turns new) → AreHosts old new turns run → IsHost old
-first_host [] old new run h = h
-first_host (t ∷ turns) old new run h = h.0
 
 stands_over : (turns : List HostTurn) (old new : Host) (run : DoesAll old turns new) → AreHosts old new turns run → AreRequests old.driver.given old.driver.entries → (s : ℕ) (e : Entry)
     → entry_at old.driver.entries s ≡ Some e → list_any (gives s e) turns ≡ false → Stands s old.memory new.memory

@@ -1,6 +1,6 @@
 -- For `turns_are_steady`. Each event of a calm tick does not concern a device, or issues for it the command in one
 -- slot.
-use Rattle.std.proofs.Common.{◌≡◌, ◌≢◌, ℕ, ◌+◌, ◌*◌, ◌/◌, ◌^◌, ◌<◌, ◌⊎◌, ◌&&◌, ◌||◌, nat_lt, Bool, true, false, List, [], ◌∷◌, ◌++◌, replicate, refl, sym, ◌∙◌, ap, subst, inl, inr, arith, append_assoc, Option, Some, None}
+use Rattle.std.proofs.Common.{◌≡◌, ◌≢◌, ℕ, ◌+◌, ◌*◌, ◌/◌, ◌^◌, ◌<◌, ◌⊎◌, ◌&&◌, ◌||◌, nat_lt, Bool, true, false, List, [], ◌∷◌, ◌++◌, replicate, refl, sym, ◌∙◌, ap, subst, inl, inr, arith, Option, Some, None}
 use Rattle.std.specs.Prelude.{if◌then◌else◌, ◌%◌, not, is_some}
 use Rattle.std.specs.Option.{option_or}
 use Rattle.std.proofs.lemmas.Bool.{cases_eq, false≢true, true≢false}
@@ -77,9 +77,6 @@ calm_write : (n slot : ℕ) (fs : List HostEvent) (c h : event.Host) (port : Por
 calm_write n slot fs c h port memory offset g value at first rest skip =
     subst (λ (r : Option Register). Calm n slot (match_some (write_refusal port memory offset value) (wrote_to r value) (λ e. []) ++ fs) c h) (sym at)
     (calm_by n slot fs c h (write_refusal port memory offset value) g value first rest skip)
-
-calm_more : (n slot : ℕ) (xs ys fs : List HostEvent) (c h : event.Host) → Calm n slot (xs ++ (ys ++ fs)) c h → Calm n slot ((xs ++ ys) ++ fs) c h
-calm_more n slot xs ys fs c h calm = subst (λ (l : List HostEvent). Calm n slot l c h) (sym (append_assoc xs ys fs)) calm
 
 -- ---- what is chosen, and issued
 

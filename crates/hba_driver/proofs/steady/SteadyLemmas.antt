@@ -103,9 +103,6 @@ absent_starting d is r = cc
 starting_ready : (d : Device) → d ≡ Starting → d ≡ Ready → ⊥
 starting_ready d is r = cc
 
-fine_absent : (d : Device) → d ≡ Absent → IsFine d
-fine_absent d is = subst IsFine (sym is) tt
-
 -- ---- slot 31
 
 detected_cases : (answer : ℕ) (device : Device) → device ≡ Absent → (detected answer device ≡ Starting) ⊎ (detected answer device ≡ Absent)

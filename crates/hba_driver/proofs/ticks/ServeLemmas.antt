@@ -76,10 +76,6 @@ unfolding stage_fields
 steps_none mode dev other AwaitReset = refl
 steps_none mode dev other rest = issues_none mode dev 30 other false
 
--- an order flushes only the port that it clears
-abbrev ClearsPort : ℕ → Order → Type 0
-ClearsPort dev order = order ≡ Clear dev
-
 equal_of : (x y : ℕ) → ((x == y) || false) ≡ true → x ≡ y
 equal_of x y h = grind (arith, nat_tests)
 

@@ -29,7 +29,7 @@ use Rattle.hba_fbs.proofs.Door.{active_is, commands_are, decided_if, outgoing_is
 use Rattle.hba_laws.specs.Alike.{bytes_out}
 use Rattle.hba_laws.specs.Cores.{DoesBy, Hearkens, HostsAreCores, IsCore, gave_event}
 use Rattle.hba_laws.specs.Sound.{IsHost}
-use Rattle.hba_laws.specs.Hosts.{Flushed, Gave, Host, Put, Rewrote, Stored, TakesFrame, Took, Wrote}
+use Rattle.hba_laws.specs.Hosts.{Flushed, Gave, Host, TakesFrame, Took, Wrote}
 
 -- the core of a sound host keeps the rules of every core
 pub is_core : (host : Host) → IsHost host → IsCore host.port
@@ -133,6 +133,4 @@ hosts_are_cores old new (Took frame report) does = took old new frame report doe
 hosts_are_cores old new (Wrote register value) does = wrote old.port new.port old.memory register value does.0 does.1
 hosts_are_cores old new (Flushed dev) does = does.0
 hosts_are_cores old new (Gave frame) does = gave_as old.port new.port old.memory frame does.0
-hosts_are_cores old new (Stored structure) does = does.1
-hosts_are_cores old new (Rewrote dev row) does = does.1
-hosts_are_cores old new (Put at bytes) does = does.1
+hosts_are_cores old new other does = does.1

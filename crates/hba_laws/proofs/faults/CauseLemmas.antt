@@ -28,7 +28,7 @@ use Rattle.hba_fbs.specs.Views.{DeviceView, Port, stopped_view, view_of}
 use Rattle.hba_fbs.specs.Writing.{cleared_by, errors_after, is_device}
 use Rattle.hba_laws.specs.Causes.{DeviceCausesStay, OthersFaultNone, PortCausesStay, clears, clears_port, comes_from}
 use Rattle.hba_laws.specs.CoreCauses.{CoreDeviceCausesStay, CoreOthersFaultNone, CorePortCausesStay, clears_all, clears_by, clears_one, is_from}
-use Rattle.hba_laws.specs.Cores.{Chose, Commanded, CoreEvent, DoesBy, Failed, Flushed, Gave, Greeted, Hearkens, Hung, Overrode, Placed, Relinked, Restarted, StepsBy, Took, Wrote, core_event, gave_event}
+use Rattle.hba_laws.specs.Cores.{Chose, Commanded, CoreEvent, DoesBy, Failed, Flushed, Gave, Greeted, Hearkens, Hung, Overrode, Placed, StepsBy, Took, Wrote, core_event, gave_event}
 use Rattle.hba_laws.specs.Hosts as host
 use Rattle.hba_laws.specs.Hosts.{Does, Host, HostEvent}
 use Rattle.hba_laws.specs.Isolation.{lowers_st}
@@ -126,8 +126,7 @@ event_fault n lt old new (Commanded value) does from none =
     fault_in (view_of n new) (view_commanded old value n) (does.1.views n lt) ∙ unless_chosen (falls old.registers value) (fallen_view (view_of n old)) (view_of n old) none
 event_fault n lt old new (Overrode dev) does from none = sent_fault n dev old new _ does.own refl does.others
 event_fault n lt old new (Hung dev line) does from none = fault_in (view_of n new) (view_of n old) (does.others n (λ e. eqb-false dev n none (sym e)))
-event_fault n lt old new Relinked does from none = absurd (true≢false none)
-event_fault n lt old new Restarted does from none = absurd (true≢false none)
+event_fault n lt old new other does from none = absurd (true≢false none)
 
 event_keeps : (n : ℕ) → n < 16 → (cause : DeviceCause) (old new : Port) (event : CoreEvent) → DoesBy old event new → clears_by n old event ≡ false → fault_of n old ≡ Some cause
     → fault_of n new ≡ Some cause
@@ -190,13 +189,11 @@ port_in e f is = ap (λ (x : Errors). x.port) is
 
 turned_port : (t : Turn) (cause : Stop) (old new : Port) → Turns t old new → stopped_by old ≡ Some cause → stopped_by new ≡ Some cause
 turned_port Rests cause old new does is = ap (λ (p : Port). stopped_by p) does ∙ is
-turned_port (Feeds dev slot offset len) cause old new does is = port_in new.errors old.errors does.errors ∙ is
-turned_port (Orders dev slot command) cause old new does is = port_in new.errors old.errors does.errors ∙ is
+turned_port other cause old new does is = port_in new.errors old.errors does.errors ∙ is
 
 chosen_port : (t : Turn) (cause : Stop) (old new : Port) → Chooses t old new → stopped_by old ≡ Some cause → stopped_by new ≡ Some cause
 chosen_port Rests cause old new does is = ap (λ (p : Port). stopped_by p) does ∙ is
-chosen_port (Feeds dev slot offset len) cause old new does is = port_in new.errors old.errors does.errors ∙ is
-chosen_port (Orders dev slot command) cause old new does is = port_in new.errors old.errors does.errors ∙ is
+chosen_port other cause old new does is = port_in new.errors old.errors does.errors ∙ is
 
 greeted_port : (dev : ℕ) (o : Option (List ℕ)) (report : TakeReport) (cause : Stop) (old new : Port) → Greets old dev o report new → stopped_by old ≡ Some cause → stopped_by new ≡ Some cause
 greeted_port dev None report cause old new does is = ap (λ (p : Port). stopped_by p) does.port ∙ is
@@ -216,8 +213,7 @@ event_stops cause old new (Greeted frame report) does none is = greeted_port (po
 event_stops cause old new (Commanded value) does none is = port_in new.errors (errors_after Cmd old value) does.1.errors ∙ written_port Cmd old value none ∙ is
 event_stops cause old new (Overrode dev) does none is = port_in new.errors old.errors does.errors ∙ is
 event_stops cause old new (Hung dev line) does none is = port_in new.errors (without old.errors dev) does.errors ∙ is
-event_stops cause old new Relinked does none is = absurd (true≢false none)
-event_stops cause old new Restarted does none is = absurd (true≢false none)
+event_stops cause old new other does none is = absurd (true≢false none)
 
 pub core_port_causes_stay : CorePortCausesStay
 core_port_causes_stay cause old new [] run none is = ap (λ (p : Port). stopped_by p) run ∙ is

@@ -34,7 +34,7 @@ use Rattle.hba_fbs.specs.Writing.{cleared_by}
 use Rattle.hba_laws.specs.Agreement.{AreHistoriesOf, IsHistoryOf, end_of}
 use Rattle.hba_laws.specs.Client.{By, FillsWithin, Puts, Stops, Touches, client, filling, own}
 use Rattle.hba_laws.specs.Delivering.{begun_by, HasTables, HaveTables, IsClient, by_device, event_heard, event_of, event_taken, is_control_issue, issued_below, issued_in, touched, touched_by_clear, touched_by_out, touched_by_write}
-use Rattle.hba_laws.specs.History.{Carried, Emptied, Sent, SentControl, SetUp, Setup, is_set_up, issued, last_setup}
+use Rattle.hba_laws.specs.History.{Carried, Sent, SentControl, SetUp, Setup, is_set_up, issued, last_setup}
 use Rattle.hba_laws.specs.Hosts.{Gave, Host, HostEvent, Took, Wrote as WroteRegister}
 use Rattle.hba_laws.specs.Sent.{AreGathered, DataIsGathered, HoldsWrites, IsGathered}
 use Rattle.hba_laws.specs.Sound.{IsHost}
@@ -255,14 +255,6 @@ write_quiet old Fbs value = by_clear (cleared_by old.port.errors value)
     by_clear (Some dev) = tt
 write_quiet old _ value = tt
 
-pub flush_quiet : (dev : ℕ) → AreQuiet (By dev Emptied ∷ [])
-unfolding AreQuiet
-flush_quiet dev = tt
-
-pub none_quiet : AreQuiet []
-unfolding AreQuiet
-none_quiet = tt
-
 pub order_quiet : (old : Host) (dev slot : ℕ) (command : Command) → AreQuiet (touched_by_out old (out.Order dev slot command))
 unfolding AreQuiet
 order_quiet old dev slot command = by_issue (issue_at old.port.slots slot)
@@ -284,18 +276,12 @@ module _ (old : Host) (host : IsHost old) (past : Touches) (hist : AreHistoriesO
   happening_gathered : (n : ℕ) → n < 16 → (x : Happening) (block : Option Block) (bytes : List ℕ)
       → Carries (view_of n old.port).slots (is_sound old.memory old.port.commands (view_of n old.port).slots) (length bytes) x
       → AreGathered opening (by_device n (event_of x block bytes) ++ past)
-  happening_gathered n lt happening.Nothing block bytes x = before
   happening_gathered n lt (happening.Answered answer.Nobody) block bytes x = before
-  happening_gathered n lt (happening.Answered (answer.Queued slot)) block bytes x = before
-  happening_gathered n lt (happening.Answered (answer.Done slot)) block bytes x = before
-  happening_gathered n lt (happening.Answered (answer.Short slot)) block bytes x = before
-  happening_gathered n lt (happening.Named mask) block bytes x = before
-  happening_gathered n lt (happening.SetUp c) block bytes x = before
   happening_gathered n lt (happening.PioSetUp count to_host) None bytes x = before
   happening_gathered n lt (happening.PioSetUp count to_host) (Some b) bytes x = before
-  happening_gathered n lt happening.Activated block bytes x = before
   happening_gathered n lt (happening.Carried wrote finishes) block bytes x =
       (heard_gathered old host past n (hist n lt) opening bytes wrote (is_sound old.memory old.port.commands (view_of n old.port).slots) x, before)
+  happening_gathered n lt other block bytes x = before
 
   took_gathered : (frame : List ℕ) → AreGathered opening (by_device (port_of frame) (event_taken old frame) ++ past)
   took_gathered frame = by_ignored (ignores (port_of frame) old.port frame)

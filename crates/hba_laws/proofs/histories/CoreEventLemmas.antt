@@ -40,7 +40,7 @@ use Rattle.hba_fbs.specs.Writing.{cleared_by, is_device}
 use Rattle.hba_laws.specs.Agreement.{IsTold, end_of, is_pio_issue}
 use Rattle.hba_laws.specs.Alike.{told_issued}
 use Rattle.hba_laws.specs.CoreHistories.{CoreViewsAreTold, IsFramedBy, event_by, happened, turned_for, written_for}
-use Rattle.hba_laws.specs.Cores.{Chose, Commanded, CoreEvent, DoesBy, Failed, Flushed, Gave, Greeted, HasBytes, Hearkens, Hung, IsCore, Overrode, Placed, Relinked, Restarted, Took, Wrote}
+use Rattle.hba_laws.specs.Cores.{Chose, Commanded, CoreEvent, DoesBy, Failed, Flushed, Gave, Greeted, HasBytes, Hearkens, Hung, IsCore, Overrode, Placed, Took, Wrote}
 use Rattle.hba_laws.specs.Delivering.{begun_by, event_heard, event_sent, is_control_issue}
 use Rattle.hba_laws.specs.History.{Carried, Emptied, Event, History, Sent, SentControl, SetUp}
 use Rattle.hba_laws.specs.Between.{HasContext, IsOwn}
@@ -461,8 +461,7 @@ module _ (n : ℕ) (old : Port) (core : IsCore old) (past : History) (told : IsT
   step_by (Commanded value) new lt framed does = commanded value new lt does.1
   step_by (Overrode dev) new lt framed does = filed dev overridden_state new (λ s. refl) does.own does.others
   step_by (Hung dev line) new lt framed does = hung dev line new does
-  step_by Relinked new lt framed does = subst (λ (p : Port). IsTold (view_of n p) (Emptied ∷ past)) (sym does) (reset_told n past)
-  step_by Restarted new lt framed does = subst (λ (p : Port). IsTold (view_of n p) (Emptied ∷ past)) (sym does) (reset_told n past)
+  step_by other new lt framed does = subst (λ (p : Port). IsTold (view_of n p) (Emptied ∷ past)) (sym does) (reset_told n past)
 
 -- ---- lists of events
 

@@ -27,11 +27,11 @@ use Rattle.hba_fbs.specs.Views.{DeviceView, Port, view_of}
 use Rattle.hba_fbs.specs.Writing.{cleared_by, is_device}
 use Rattle.hba_laws.specs.Alike.{AreFilledAlike, told_going, told_issue, told_issued, told_order, told_own}
 use Rattle.hba_laws.specs.CoreHistories.{CoreFillAlike, CoreHistoriesByOwn, Given, IsGivenAlike, event_by, given_by, given_through, happened, history_given, history_through, told_arrival, told_given, turned_for, with_caller, written_for}
-use Rattle.hba_laws.specs.Cores.{AreCores, AreOfOnes, Arrived, Chose, Commanded, CoreEvent, CoreOwn, DoesBy, Failed, Fed, Flushed, Gave, Gone, Greeted, Hung, IsCore, IsPart, Overridden, Overrode, Own, Placed, Relinked, Restarted, RunsBy, Sent, Took, Wrote, chosen_to, own_by, part_by, part_by_all, stops_by, turned_to, used}
+use Rattle.hba_laws.specs.Cores.{AreCores, AreOfOnes, Arrived, Chose, Commanded, CoreEvent, CoreOwn, DoesBy, Fed, Flushed, Gave, Gone, Hung, IsCore, IsPart, Overridden, Overrode, Own, Placed, RunsBy, Sent, Took, Wrote, chosen_to, own_by, part_by, part_by_all, stops_by, turned_to, used}
 use Rattle.hba_laws.specs.Delivering.{begun_by, event_heard, event_sent, is_control_issue}
 use Rattle.hba_laws.specs.History as event
 use Rattle.hba_laws.specs.History.{Event, History, filled, issued}
-use Rattle.hba_laws.specs.Isolation.{Came, Cleared, Emptied, Issued, OwnEvent, Rewritten, Went, lowers_st, next_own}
+use Rattle.hba_laws.specs.Isolation.{Cleared, Emptied, Issued, OwnEvent, Went, lowers_st, next_own}
 use Rattle.hba_laws.specs.Parts.{DevicePart}
 use Rattle.hba_laws.specs.Between.{IsOrder}
 use Rattle.hba_laws.proofs.histories.ChoiceLemmas.{chosen_own}
@@ -150,16 +150,13 @@ told_by n old new (Took frame room report) p past lt before runs does none is = 
 told_by n old new (Wrote register value offer tables) p past lt before runs does none is = wrote n old p register value offer tables past none
 told_by n old new (Flushed dev) p past lt before runs does none is = told_if n p past (with_caller (Flushed dev)) (dev == n) (Own Emptied) (event.Emptied ∷ []) (λ same. refl)
 told_by n old new (Gave bytes) p past lt before runs does none is = gave n old p (turn_of old) bytes past lt before is refl
-told_by n old new Failed p past lt before runs does none is = absurd (true≢false none)
 told_by n old new (Placed dev slots offer tables) p past lt before runs does none is =
     told_if n p past (with_caller (Placed dev slots offer tables)) (dev == n) (Own (Issued (asked_by offer slots))) (told_issued (asked_by offer slots) tables 32) (λ same. refl)
 told_by n old new (Chose turn bytes) p past lt before runs does none is = chose n old p turn bytes past does.0 is
-told_by n old new (Greeted frame report) p past lt before runs does none is = absurd (true≢false none)
 told_by n old new (Commanded value) p past lt before runs does none is = sym (ap (λ (b : Bool). (if b then event.Emptied ∷ [] else []) ++ past) none)
 told_by n old new (Overrode dev) p past lt before runs does none is = told_nothing n p past (with_caller (Overrode dev)) (dev == n) Overridden refl
 told_by n old new (Hung dev line) p past lt before runs does none is = told_if n p past (with_caller (Hung dev line)) (dev == n) (Gone line) (event.Emptied ∷ []) (λ same. refl)
-told_by n old new Relinked p past lt before runs does none is = absurd (true≢false none)
-told_by n old new Restarted p past lt before runs does none is = absurd (true≢false none)
+told_by n old new other p past lt before runs does none is = absurd (true≢false none)
 
 -- ---- lists of events
 
@@ -211,12 +208,8 @@ issued_alike commands one other (suc m) same =
 
 pub own_alike : (n : ℕ) (p : DevicePart) (own : OwnEvent) (one other : ℕ → List Prd) (bytes : List ℕ)
     → ((slot : ℕ) → slot < 32 → one slot ≡ other slot) → told_own n p own one bytes ≡ told_own n p own other bytes
-own_alike n p (Came frame) one other bytes same = refl
 own_alike n p (Issued commands) one other bytes same = issued_alike commands one other 32 same
-own_alike n p Went one other bytes same = refl
-own_alike n p Cleared one other bytes same = refl
-own_alike n p Emptied one other bytes same = refl
-own_alike n p (Rewritten row) one other bytes same = refl
+own_alike n p rest one other bytes same = refl
 
 given_alike : (n : ℕ) (p : DevicePart) (event : CoreOwn) (one other : ℕ → List Prd) (bytes : List ℕ)
     → ((slot : ℕ) → slot < 32 → one slot ≡ other slot) → told_given n p event one bytes ≡ told_given n p event other bytes

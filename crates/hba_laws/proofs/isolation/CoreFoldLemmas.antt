@@ -16,7 +16,7 @@ use Rattle.hba_fbs.specs.declared.turn.Turn.TheVariants.{Feeds, Orders, Rests}
 use Rattle.hba_fbs.specs.Deciding.{heard_within, room_if}
 use Rattle.hba_fbs.specs.Issuing.{aimed, asked}
 use Rattle.hba_fbs.specs.Offering.{offer_of}
-use Rattle.hba_fbs.specs.Sending.{Data, Gives, Nothing, Order, Outgoing, Unreadable, data_with, outgoing}
+use Rattle.hba_fbs.specs.Sending.{Gives, Outgoing, Unreadable, data_with, outgoing}
 use Rattle.hba_fbs.specs.Tables.{is_sound, sound_command}
 use Rattle.hba_fbs.specs.Taking.{admitted, ignored_report, ignores, is_running, port_of, stops_with}
 use Rattle.hba_fbs.specs.Turning.{outgoing_at, turn_of}
@@ -26,7 +26,7 @@ use Rattle.hba_fbs.proofs.Door.{decided_if, outgoing_is}
 use Rattle.hba_laws.specs.Alike.{bytes_out, tables_in}
 use Rattle.hba_laws.specs.Cores as core
 use Rattle.hba_laws.specs.Cores.{Arrived, CoreEvent, CoreOwn, DoesBy, HostsFoldByCore, IsCore, IsPart, Own, after_hearing, gave_event, part_by, part_by_all, stops_by, told_to, turned_to, used}
-use Rattle.hba_laws.specs.Hosts.{Does, Flushed, Gave, Host, HostEvent, Put, Rewrote, Runs, Stored, Took, Wrote}
+use Rattle.hba_laws.specs.Hosts.{Does, Flushed, Gave, Host, HostEvent, Rewrote, Runs, Took, Wrote}
 use Rattle.hba_laws.specs.Isolation.{AreOfDevices, Came, Cleared, Emptied, Issued, OwnEvent, Rewritten, Went, after_fis, fails_by_bus, gone_to, own_events, own_over, part_after, part_after_all, skips, stops, stops_port, written_to}
 use Rattle.hba_laws.specs.Parts.{DevicePart, part_of}
 use Rattle.hba_laws.specs.Sound.{AreHosts, IsHost}
@@ -77,10 +77,8 @@ turned_same n old new memory None p (Orders dev slot command) gives none = absur
 turned_same n old new memory (Some f) p (Orders dev slot command) gives none = gone_same n p dev f (ap (λ (x : Stamped). x.stamp.port) gives.frame_is)
 
 pub goes_on : (o : Outgoing) (bytes : List ℕ) → fails_by_bus o ≡ false → gave_event o bytes ≡ core.Gave bytes
-goes_on Nothing bytes none = refl
 goes_on (Unreadable dev) bytes none = absurd (true≢false none)
-goes_on (Data dev offset len command) bytes none = refl
-goes_on (Order dev slot command) bytes none = refl
+goes_on other bytes none = refl
 
 -- ---- one event
 
@@ -115,8 +113,7 @@ host_step n old new (Gave frame) p lt before next runs does none is =
 host_step n old new (Rewrote dev row) p lt before next runs does none is =
     let here : IsPart n new.port p = same_port n old.port new.port p is does.1 in
     one_own n new.port p (dev == n) (Rewritten row) (λ same. record { view = here.view; commands = here.commands; row = row_is_row p.row row ∙ here.row }) (λ differs. here)
-host_step n old new (Stored structure) p lt before next runs does none is = same_port n old.port new.port p is does.1
-host_step n old new (Put at bytes) p lt before next runs does none is = same_port n old.port new.port p is does.1
+host_step n old new other p lt before next runs does none is = same_port n old.port new.port p is does.1
 
 -- ---- and a list of them
 

@@ -16,7 +16,7 @@ use Rattle.hba_fbs.specs.declared.register.Register.TheVariants.{Clb, Cmd, Ci, F
 use Rattle.hba_fbs.specs.declared.registers.Registers.{Registers}
 use Rattle.hba_fbs.specs.declared.report.TakeReport.{TakeReport}
 use Rattle.hba_fbs.specs.declared.room.Room.{Room}
-use Rattle.hba_fbs.specs.declared.room.Room.TheVariants.{Bytes, NoTable, Whole}
+use Rattle.hba_fbs.specs.declared.room.Room.TheVariants.{NoTable}
 use Rattle.hba_fbs.specs.declared.turn.Turn.{Turn}
 use Rattle.hba_fbs.specs.declared.turn.Turn.TheVariants.{Feeds, Orders, Rests}
 use Rattle.hba_fbs.specs.declared.greeting.Line.{Line}
@@ -34,7 +34,7 @@ use Rattle.hba_fbs.specs.Turning.{Goes, IsOrdered, Turns, feeds, orders, turn_of
 use Rattle.hba_fbs.specs.Views.{DeviceView, Flushes, Port, flushed_view, last_command, stopped_view, view_of}
 use Rattle.hba_fbs.specs.Writing.{cleared_by, is_device}
 use Rattle.hba_laws.specs.Between.{IsOrder, KeepsOwn}
-use Rattle.hba_laws.specs.Cores.{AreCores, AreOfOnes, Arrived, Chose, Commanded, CoreEvent, CoreOwn, DoesBy, Failed, Fed, Flushed, Gave, Gone, Greeted, Hung, IsCore, IsFoldByOwn, IsPart, Overridden, Overrode, Own, Placed, Relinked, Restarted, RunsBy, Sent, Took, Wrote, after_hearing, chosen_to, own_by, own_through, part_by, part_by_all, stops_by, told_to, turned_to, used}
+use Rattle.hba_laws.specs.Cores.{AreCores, AreOfOnes, Arrived, Chose, Commanded, CoreEvent, CoreOwn, DoesBy, Fed, Flushed, Gave, Gone, Hung, IsCore, IsFoldByOwn, IsPart, Overridden, Overrode, Own, Placed, RunsBy, Sent, Took, Wrote, after_hearing, chosen_to, own_by, own_through, part_by, part_by_all, stops_by, told_to, turned_to, used}
 use Rattle.hba_laws.specs.Isolation.{Cleared, Emptied, Issued, Went, after_going, after_order, lowers_st, next_own, part_after, row_with, skips}
 use Rattle.hba_laws.specs.Parts.{DevicePart, commands_of, with_view}
 use Rattle.hba_laws.proofs.soundness.KeptLemmas.{taken_mode}
@@ -105,8 +105,7 @@ pub decided_used : (n : ℕ) (v : DeviceView) (room : Room) (fis : Option Fis) �
 unfolding heard_within
 decided_used n v NoTable None h = refl
 decided_used n v NoTable (Some fis) h = heard_alike n v false (Some fis) h
-decided_used n v (Bytes total) fis h = refl
-decided_used n v Whole fis h = refl
+decided_used n v other fis h = refl
 
 heard_own : (n : ℕ) (old new : Port) (p : DevicePart) (room : Room) (fis : Option Fis) (report : TakeReport) → IsPart n old p → Decides old n room fis report new
     → stops_with old.registers.switching (decided n (view_of n old) room fis).fault ≡ false → IsPart n new (after_hearing n p (used room) fis)
@@ -453,16 +452,13 @@ step n old new (Wrote register value offer tables) p lt before next runs does no
     wrote n old new p register value offer lt (and_parts old.registers.started (is_none old.errors.port) runs).0 before next is (accepted old new register value offer does.0 does.1) none
 step n old new (Flushed dev) p lt before next runs does none is = emptied n old new p dev is does
 step n old new (Gave bytes) p lt before next runs does none is = gave n old new p (turn_of old) lt before refl does.0 is
-step n old new Failed p lt before next runs does none is = absurd (true≢false none)
 step n old new (Placed dev slots offer tables) p lt before next runs does none is = placed n old new p dev slots offer before next does.1 is does.2
 step n old new (Chose turn bytes) p lt before next runs does none is = chose n old new p turn does.0 does.1 is
-step n old new (Greeted frame report) p lt before next runs does none is = absurd (true≢false none)
 step n old new (Commanded value) p lt before next runs does none is =
     commanded n old new p value lt (and_parts old.registers.started (is_none old.errors.port) runs).0 does.0 does.1 none is
 step n old new (Overrode dev) p lt before next runs does none is = overrode n old new p dev is does
 step n old new (Hung dev line) p lt before next runs does none is = hung n old new p dev line is does
-step n old new Relinked p lt before next runs does none is = absurd (true≢false none)
-step n old new Restarted p lt before next runs does none is = absurd (true≢false none)
+step n old new other p lt before next runs does none is = absurd (true≢false none)
 
 by_append : (n : ℕ) (p : DevicePart) (xs ys : List CoreOwn) → part_by_all n p (xs ++ ys) ≡ part_by_all n (part_by_all n p xs) ys
 by_append n p [] ys = refl

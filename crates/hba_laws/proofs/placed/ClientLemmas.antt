@@ -164,31 +164,19 @@ module _ (old : Host) (host : IsHost old) (past : Touches) (n : ℕ) (told : IsH
       → Delivers old.memory old.port.commands payload (wrote_by x) after → MatchOption (event_of x block payload) (Unit {0}) (DataReadsAsIssued old (own n past))
       → (before : ℕ → ℕ) → IsClient before past old → (k : ℕ) → k < length after
       → slice_index after k ≡ client before (by_device n (event_of x block payload) ++ past) (client_start + k)
-  happening_is happening.Nothing block payload after x d r before is k lt = ap (λ (l : List ℕ). slice_index l k) d ∙ is k (subst (λ (l : List ℕ). k < length l) d lt)
   happening_is (happening.Answered answer.Nobody) block payload after x d r before is k lt = ap (λ (l : List ℕ). slice_index l k) d ∙ is k (subst (λ (l : List ℕ). k < length l) d lt)
-  happening_is (happening.Answered (answer.Queued slot)) block payload after x d r before is k lt = ap (λ (l : List ℕ). slice_index l k) d ∙ is k (subst (λ (l : List ℕ). k < length l) d lt)
-  happening_is (happening.Answered (answer.Done slot)) block payload after x d r before is k lt = ap (λ (l : List ℕ). slice_index l k) d ∙ is k (subst (λ (l : List ℕ). k < length l) d lt)
-  happening_is (happening.Answered (answer.Short slot)) block payload after x d r before is k lt = ap (λ (l : List ℕ). slice_index l k) d ∙ is k (subst (λ (l : List ℕ). k < length l) d lt)
-  happening_is (happening.Named mask) block payload after x d r before is k lt = ap (λ (l : List ℕ). slice_index l k) d ∙ is k (subst (λ (l : List ℕ). k < length l) d lt)
-  happening_is (happening.SetUp c) block payload after x d r before is k lt = ap (λ (l : List ℕ). slice_index l k) d ∙ is k (subst (λ (l : List ℕ). k < length l) d lt)
   happening_is (happening.PioSetUp count to_host) None payload after x d r before is k lt = ap (λ (l : List ℕ). slice_index l k) d ∙ is k (subst (λ (l : List ℕ). k < length l) d lt)
   happening_is (happening.PioSetUp count to_host) (Some b) payload after x d r before is k lt = ap (λ (l : List ℕ). slice_index l k) d ∙ is k (subst (λ (l : List ℕ). k < length l) d lt)
-  happening_is happening.Activated block payload after x d r before is k lt = ap (λ (l : List ℕ). slice_index l k) d ∙ is k (subst (λ (l : List ℕ). k < length l) d lt)
   happening_is (happening.Carried wrote finishes) block payload after x d r before is k lt = carried_is payload wrote after x d r before is k lt
+  happening_is other block payload after x d r before is k lt = ap (λ (l : List ℕ). slice_index l k) d ∙ is k (subst (λ (l : List ℕ). k < length l) d lt)
 
   happening_within : (x : Happening) (block : Option Block) (payload : List ℕ) → Carries v.slots (is_sound old.memory old.port.commands v.slots) (length payload) x → AreWithin past
       → AreWithin (by_device n (event_of x block payload) ++ past)
-  happening_within happening.Nothing block payload x w = w
   happening_within (happening.Answered answer.Nobody) block payload x w = w
-  happening_within (happening.Answered (answer.Queued slot)) block payload x w = w
-  happening_within (happening.Answered (answer.Done slot)) block payload x w = w
-  happening_within (happening.Answered (answer.Short slot)) block payload x w = w
-  happening_within (happening.Named mask) block payload x w = w
-  happening_within (happening.SetUp c) block payload x w = w
   happening_within (happening.PioSetUp count to_host) None payload x w = w
   happening_within (happening.PioSetUp count to_host) (Some b) payload x w = w
-  happening_within happening.Activated block payload x w = w
   happening_within (happening.Carried wrote finishes) block payload x w = (within_of x.context (length payload) x.now x.fits, w)
+  happening_within other block payload x w = w
 
   -- Data that goes out fills nothing, and is within
   sent_fills : (c : Context) → v.slots.context ≡ Some c → c.to_host ≡ false → filling (own n past) ≡ None

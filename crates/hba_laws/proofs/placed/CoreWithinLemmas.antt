@@ -36,7 +36,7 @@ use Rattle.hba_laws.specs.Alike.{told_issue, told_issued}
 use Rattle.hba_laws.specs.Client.{IsWithin}
 use Rattle.hba_laws.specs.CoreHistories.{CoreChoicesFilled, CoreDataIsWithin, CoreReportsFilled, CoreSendsFilled, FillsFrom, ReportsFilled, WereWithin, event_by, happened, history_through, turned_for, written_for}
 use Rattle.hba_laws.specs.Cores as core
-use Rattle.hba_laws.specs.Cores.{Chose, Commanded, CoreEvent, Failed, Flushed, Gave, Greeted, Hearkens, Hung, IsCore, Overrode, Placed, Relinked, Restarted, RunsBy, Took}
+use Rattle.hba_laws.specs.Cores.{Chose, Commanded, CoreEvent, Flushed, Gave, Hearkens, Hung, IsCore, Placed, RunsBy, Took}
 use Rattle.hba_laws.specs.Delivering.{begun_by, event_heard, event_of, event_sent, is_control_issue}
 use Rattle.hba_laws.specs.History.{Carried, Emptied, History, Sent, SentControl, SetUp, issued}
 use Rattle.hba_laws.specs.Between.{HasContext, IsOwn}
@@ -109,42 +109,31 @@ module _ (n : ℕ) (old : Port) (is_core : IsCore old) (past : History) (told : 
   -- a happening and its event fill what the report says
   by_answer : (a : Answered) (block : Option Block) (payload : List ℕ) → ReportsFilled None payload (event_of (happening.Answered a) block payload) past
   by_answer answer.Nobody block payload = tt
-  by_answer (answer.Queued slot) block payload = tt
-  by_answer (answer.Done slot) block payload = tt
-  by_answer (answer.Short slot) block payload = tt
+  by_answer other block payload = tt
 
   by_block : (count : ℕ) (to_host : Bool) (block : Option Block) (payload : List ℕ) → ReportsFilled None payload (event_of (happening.PioSetUp count to_host) block payload) past
   by_block count to_host None payload = tt
   by_block count to_host (Some b) payload = tt
 
   by_happening : (x : Happening) (sound : Bool) (block : Option Block) (payload : List ℕ) → Carries v.slots sound (length payload) x → ReportsFilled (wrote_by x) payload (event_of x block payload) past
-  by_happening happening.Nothing sound block payload carries = tt
   by_happening (happening.Answered a) sound block payload carries = by_answer a block payload
-  by_happening (happening.Named mask) sound block payload carries = tt
-  by_happening (happening.SetUp c) sound block payload carries = tt
   by_happening (happening.PioSetUp count to_host) sound block payload carries = by_block count to_host block payload
-  by_happening happening.Activated sound block payload carries = tt
   by_happening (happening.Carried wrote finishes) sound block payload carries = record {
     is = refl;
     len = ap (λ (w : Wrote). w.len) carries.wrote_is;
     fills = subst (λ (w : Wrote). FillsFrom w.slot w.offset w.len past) (sym carries.wrote_is) (fills_from n v.slots ends past carries.context (length payload) owns says carries.now carries.fits);
   }
+  by_happening other sound block payload carries = tt
 
   -- and are within
   within_happening : (x : Happening) (sound : Bool) (block : Option Block) (payload : List ℕ) → Carries v.slots sound (length payload) x → WereWithin past
       → WereWithin (match_some (event_of x block payload) [] (λ e. e ∷ []) ++ past)
-  within_happening happening.Nothing sound block payload carries w = w
   within_happening (happening.Answered answer.Nobody) sound block payload carries w = w
-  within_happening (happening.Answered (answer.Queued slot)) sound block payload carries w = w
-  within_happening (happening.Answered (answer.Done slot)) sound block payload carries w = w
-  within_happening (happening.Answered (answer.Short slot)) sound block payload carries w = w
-  within_happening (happening.Named mask) sound block payload carries w = w
-  within_happening (happening.SetUp c) sound block payload carries w = w
   within_happening (happening.PioSetUp count to_host) sound None payload carries w = w
   within_happening (happening.PioSetUp count to_host) sound (Some b) payload carries w = w
-  within_happening happening.Activated sound block payload carries w = w
   within_happening (happening.Carried wrote finishes) sound block payload carries w =
       (within_is n v.slots ends past carries.context (length payload) owns says carries.now carries.fits, w)
+  within_happening other sound block payload carries w = w
 
   -- ---- Data that goes out
 
@@ -195,16 +184,12 @@ module _ (n : ℕ) (old : Port) (is_core : IsCore old) (past : History) (told : 
   event_within (core.Wrote register value offer tables) new does w = written_within register value offer tables w
   event_within (Flushed dev) new does w = within_if (dev == n) (Emptied ∷ []) past w (λ b. w)
   event_within (Gave bytes) new does w = turn_within (turn_of old) bytes (turn_goes old) does.1 w
-  event_within Failed new does w = w
   event_within (Placed dev slots offer tables) new does w =
       within_if (dev == n) (told_issued (asked_by offer slots) tables 32) past w (λ b. within_issued (asked_by offer slots) tables 32 past w)
   event_within (Chose turn bytes) new does w = turn_within turn bytes (chosen_goes old turn does.0) does.2 w
-  event_within (Greeted frame report) new does w = w
   event_within (Commanded value) new does w = within_if (falls old.registers value) (Emptied ∷ []) past w (λ b. w)
-  event_within (Overrode dev) new does w = w
   event_within (Hung dev line) new does w = within_if (dev == n) (Emptied ∷ []) past w (λ b. w)
-  event_within Relinked new does w = w
-  event_within Restarted new does w = w
+  event_within other new does w = w
 
 -- ---- lists of events
 

@@ -1,14 +1,13 @@
 -- For `one_order_at_a_time`. What the control port says, and what is said to it.
-use Rattle.std.proofs.Common.{◌≡◌, ℕ, Bool, true, false, bit_and, List, Option, Some, None, Ok, Err, refl, sym, ◌∙◌, ap, subst}
-use Rattle.std.specs.Prelude.{◌==◌, ◌%◌, if◌then◌else◌, slice_index, Result}
+use Rattle.std.proofs.Common.{◌≡◌, ℕ, Bool, true, false, bit_and, List, Option, Some, None, Ok, Err, refl, ◌∙◌, ap, subst}
+use Rattle.std.specs.Prelude.{◌==◌, if◌then◌else◌, Result}
 use Rattle.std.specs.Int.{from_bool}
 use Rattle.fis_view.specs.Built.{IsBuilt, cut, d2h_given, h2d_given, set_bits_given}
 use Rattle.fis_view.specs.Frames.{Stamped}
-use Rattle.fis_view.specs.Table.{Bits, C, Control, Count, D2h, Error, H2d, Lba, PmPort, SActive, Status, field, places}
+use Rattle.fis_view.specs.Table.{Bits, C, Control, Count, D2h, Error, H2d, Lba, SActive, Status, field, places}
 use Rattle.fis_view.specs.declared.build.D2hFields.{D2hFields}
 use Rattle.fis_view.specs.declared.build.H2dFields.{H2dFields}
 use Rattle.fis_view.specs.declared.frame.Stamp.{Stamp}
-use Rattle.fis_view.proofs.Door.{port_bits, port_field}
 use Rattle.hba_fbs.specs.Posting.{is_signature}
 use Rattle.hba_fbs.specs.Status.{is_busy, is_error}
 use Rattle.pm_registers.specs.RegisterMap.{RegisterMap, read_at}
@@ -117,8 +116,3 @@ notice_is bytes built = record {
   right = ap is_error (built.fields Status);
   names = built.fields SActive;
 }
-
--- ---- PM Ports
-
-pub h2d_port : (f : H2dFields) (bytes : List ℕ) → IsBuilt H2d (h2d_given f) bytes → slice_index bytes 1 % 16 ≡ cut (places H2d PmPort) f.pm_port
-h2d_port f bytes built = sym (port_bits bytes) ∙ sym (port_field H2d bytes) ∙ built.fields PmPort

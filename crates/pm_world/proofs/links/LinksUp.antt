@@ -204,9 +204,6 @@ module _ (capacity : ℕ) (old : Places) (n : ℕ) (place after : Place) (left :
   abbrev after_both : Places
   after_both = with_multiplier (with_device old n after) left
 
-  abbrev has : HasRoomUp capacity place
-  has = rw is at (room.devices n)
-
   rests_at : (a : Answer) → tells_up a ≡ false → after.up ≡ place.up → after.presence ≡ place.presence → KeepsHeld old.multiplier left → GoesUp capacity old a after_both
   rests_at a tells up presence ports =
       rests capacity old a after_both room tells refl (λ m. keeps_after old.devices n place after m is (keeps_place place after up presence)) ports

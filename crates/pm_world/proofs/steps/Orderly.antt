@@ -1,5 +1,5 @@
 -- For `paths_go_on`, clause `orderly`. Every world is orderly: a new one is, and no step makes it otherwise.
-use Rattle.std.proofs.Common.{◌≡◌, ◌≢◌, ℕ, ◌<◌, ◌≤◌, ◌==◌, Bool, true, false, List, [], ◌∷◌, length, map, Option, Some, None, refl, sym, ap, ◌∙◌, subst, arith}
+use Rattle.std.proofs.Common.{◌≡◌, ℕ, ◌<◌, ◌≤◌, ◌==◌, Bool, true, false, List, [], ◌∷◌, length, map, Option, Some, None, refl, sym, ap, ◌∙◌, subst, arith}
 use Rattle.std.specs.Prelude.{slice_set, is_none, is_some, nat_le, if◌then◌else◌, Ok, MatchOption, MatchBool, ◌&&◌, ◌%◌}
 use Rattle.std.proofs.lemmas.Bool.{and_parts, eqb-true, leb-false, leb-true}
 use Rattle.std.proofs.lemmas.Option.{same_Some}
@@ -42,9 +42,6 @@ use Rattle.pm_world.proofs.steps.Steps.{AtDevice, AtBoth, at_device, at_both}
 
 pub port_same : (pm : PmState) (n : ℕ) (p : PortState) → length pm.ports ≡ 15 → n < 15 → port_at (with_port pm n p) n ≡ p
 port_same pm n p room lt = ports.this_port pm.ports n p (omega arith)
-
-pub port_other : (pm : PmState) (n : ℕ) (p : PortState) (m : ℕ) → m ≢ n → port_at (with_port pm n p) m ≡ port_at pm m
-port_other pm n p m other = ports.other_port pm.ports n m p other
 
 -- ---- the multiplier
 

@@ -58,18 +58,6 @@ inject_named bytes place =
     by_test (not place.plugged) (Some error.NotThere) (if not (is_frame bytes) then Some error.BadBytes else send_refusal place) tt
     (by_test (not (is_frame bytes)) (Some error.BadBytes) (send_refusal place) tt (send_named place))
 
-pub came_refuses : (place : Place) (e : StepError) → came_refusal place ≡ Some e → Refuses (came_refusal place) e
-came_refuses place e is = refuses_named (came_refusal place) e (came_named place) is
-
-pub gone_refuses : (place : Place) (e : StepError) → gone_refusal place ≡ Some e → Refuses (gone_refusal place) e
-gone_refuses place e is = refuses_named (gone_refusal place) e (gone_named place) is
-
-pub send_refuses : (place : Place) (e : StepError) → send_refusal place ≡ Some e → Refuses (send_refusal place) e
-send_refuses place e is = refuses_named (send_refusal place) e (send_named place) is
-
-pub inject_refuses : (bytes : List ℕ) (place : Place) (e : StepError) → inject_refusal bytes place ≡ Some e → Refuses (inject_refusal bytes place) e
-inject_refuses bytes place e is = refuses_named (inject_refusal bytes place) e (inject_named bytes place) is
-
 port_named : (o : Option Place) (first : Place → Option StepError) → ((place : Place) → IsNamed (first place)) → IsNamed (option_map_or first o (Some error.NoSuchPort))
 port_named None first named = tt
 port_named (Some place) first named = named place
