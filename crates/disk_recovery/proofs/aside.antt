@@ -3,4 +3,5 @@ pub mod ResetAside
 pub mod BesideLemmas
 pub mod ApartLines
 pub mod ApartDriver
+pub mod ApartIdle
 pub mod ApartTurns

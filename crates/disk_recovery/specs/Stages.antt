@@ -5,6 +5,7 @@
 -- Cited: the stages (`hba_driver`, specs/Slot30.antt) and the line (`disk_simulation`, specs/Line.antt).
 use Rattle.std.specs.Prelude.{ℕ, ◌≡◌, false}
 use Rattle.slots.specs.Slots.{has_bit}
+use Rattle.hba_fbs.specs.Status.{is_busy, wants_data}
 use Rattle.hba_fbs.specs.Views.{view_of}
 use Rattle.disk_simulation.specs.Line.{Asked, Both, Failed, Held, Line, Loose, Releasing, Resting}
 use Rattle.hba_driver.specs.declared.path.Recovery.TheVariants.{Reset}
@@ -28,7 +29,6 @@ abbrev pub FitsLoose : Stage30 → Type 0
 FitsLoose Faulty = Unit {0}
 FitsLoose Cleared = Unit {0}
 FitsLoose Sets = Unit {0}
-FitsLoose Off = Unit {0}
 FitsLoose _ = ⊥
 
 abbrev pub FitsHeld : Stage30 → Type 0
@@ -59,7 +59,19 @@ GoesByReset n Asks h = ⊥
 GoesByReset n LogSent h = ⊥
 GoesByReset n _ h = Unit {0}
 
--- the same, where the line is loose
+-- the port shows neither BSY nor DRQ of the device
+pub record IsIdle (n : ℕ) (h : Host) : Type 0 where
+  pub busy : is_busy (view_of n h.port).state.status ≡ false
+  pub wants : wants_data (view_of n h.port).state.status ≡ false
+
+-- The fault of the device was cleared, and its log is about to be asked for. So that command may go out.
+abbrev pub GoesByLog : ℕ → Stage30 → Host → Type 0
+GoesByLog n Cleared h = IsIdle n h
+GoesByLog n Asks h = IsIdle n h
+GoesByLog n _ h = Unit {0}
+
+-- the first where the line is loose, the second where the disk failed
 abbrev pub Leans : ℕ → Line → Stage30 → Host → Type 0
 Leans n Loose stage h = GoesByReset n stage h
+Leans n Failed stage h = GoesByLog n stage h
 Leans n _ stage h = Unit {0}

@@ -9,6 +9,7 @@ use Rattle.pm_world.specs.Rules.{Run}
 use Rattle.pm_world.specs.declared.step.Answer.{Answer}
 use Rattle.pm_world.specs.declared.step.Step.{Step}
 use Rattle.pm_world.specs.declared.step.Step.TheVariants as step
+use Rattle.world_rests.specs.Ended.{AsidesRecover, EachAsideRecovers}
 use Rattle.world_rests.specs.Laws.{RestsAfter}
 use Rattle.world_rests.specs.Left.{RestedDisksHaveDone}
 use Rattle.world_rests.specs.Opens.{MultiplierIsSet, RestedPortsAreOpen}
@@ -78,3 +79,11 @@ disk_is_left seen items opened old new steps answers is right run rests law sect
     let fit : is_config config (length (map seen items)) ≡ true = ap (λ (n : ℕ). is_config config n) (length-map items seen) ∙ right in
     let r = rests config (map seen items) fit steps answers (subst (λ (w : Places). Run w steps answers old) is run) has_round in
     law config (map seen items) 0 sectors plan past fit (omega (arith)) has new d there (subst IsAtRest (sym r.0) r.1)
+
+pub asides_go_on : {X : Type 0} (seen : X → Attached) (items : List X) (opened old new : Places) (steps : List Step) (answers : List Answer) → opened ≡ new_world config (map seen items)
+    → is_config config (length items) ≡ true → Run opened steps answers old → RestsAfter old round new → AsidesRecover → EachAsideRecovers new.host
+asides_go_on seen items opened old new steps answers is right run rests law =
+    let fit : is_config config (length (map seen items)) ≡ true = ap (λ (n : ℕ). is_config config n) (length-map items seen) ∙ right in
+    let made : Run (new_world config (map seen items)) steps answers old = subst (λ (w : Places). Run w steps answers old) is run in
+    let r = rests config (map seen items) fit steps answers made has_round in
+    subst (λ (w : Places). EachAsideRecovers w.host) (sym r.0) (law config (map seen items) fit steps answers old made)

@@ -3,6 +3,7 @@
 
 ghost use Rattle.std.specs.Prelude.{IfSome, map};
 ghost use Rattle.hba_driver.specs.HostTurns.{sight_in};
+ghost use Rattle.world_rests.specs.Ended.{EachAsideRecovers};
 ghost use Rattle.world_rests.specs.Opens.{MultiplierIsSet};
 ghost use Rattle.world_rests.specs.Rests.{NothingMoves};
 ghost use Rattle.world_rests.specs.Waits.{HostWaits};
@@ -28,7 +29,8 @@ const ROUND: [Step; 10] = [
 
 /// Makes a world of one unit, does these steps, and then a round. Gives the world if the round did nothing: then nothing moves,
 /// and the host waits, whatever the steps were; slot 31 waits for a notification alone, and the port is open, and forwards if a device
-/// is present. If the unit is a disk that was left alone, no command is with it.
+/// is present. A request that was set aside is of a device that recovers or is taken to be absent. If the unit is a disk that was left
+/// alone, no command is with it.
 pub fn rested<D: PortDevice + Drop>(
     alloc: Global,
     units: Vec<D>,
@@ -37,6 +39,7 @@ pub fn rested<D: PortDevice + Drop>(
     ensures rests { IfSome result (λ world. NothingMoves world × HostWaits world.host) }
     ensures watches { IfSome result (λ world. WaitsForNotice (sight_in world.host) world.host.driver.plan) }
     ensures opens { IfSome result (λ world. MultiplierIsSet world) }
+    ensures asides { IfSome result (λ world. EachAsideRecovers world.host) }
     ensures disk { IfSome result (λ world. DiskHasDoneIn (map D.seen units.items) world) }
     ensures left { IfSome result (λ world. DiskIsLeftIn (map D.seen units.items) world) }
 {
@@ -58,5 +61,6 @@ pub fn rested<D: PortDevice + Drop>(
     world_rests::rested_disks_are_left();
     world_rests::rested_drivers_watch();
     world_rests::rested_ports_are_open();
+    world_rests::asides_recover();
     Some(world)
 }

@@ -29,7 +29,7 @@ use Rattle.hba_fbs.specs.Views.{DeviceView}
 use Rattle.disk_model.specs.declared.request.Command.{Command}
 use Rattle.disk_model.specs.Ends.{IsRight}
 use Rattle.disk_model.specs.Laws.{ShowsFirst}
-use Rattle.disk_model.specs.Ledger.{Accepts, Finishes, Ledger, Moving, Refuses, Reply, ShowsPage, Signs, answered, ends, is_auto, listens_up, moves, sends_data, sets_up, starts_moving, takes_data, with_auto}
+use Rattle.disk_model.specs.Ledger.{Ledger, Moving, Reply, ShowsPage, answered, ends, is_auto, listens_up, moves, sends_data, sets_up, starts_moving, takes_data, with_auto}
 use Rattle.disk_model.proofs.Door.{bits_up}
 use Rattle.hba_laws.specs.History.{History}
 use Rattle.disk_simulation.specs.Together.{AtMostAccepts, InTalk, AtMostAccepts, Pages, Queues, Replies, Shows}
@@ -83,11 +83,8 @@ is_automatic k tag offset count v false now set = sets_quiet k k.moving tag offs
 
 not_accepts : (xs : List Reply) (f : List ℕ) → ShowsFirst xs f → AtMostAccepts xs → ⊥
 not_accepts [] f shows most = shows
-not_accepts (Signs ∷ xs) f shows most = shows
-not_accepts (Accepts ∷ xs) f shows most = shows
-not_accepts (Finishes ∷ xs) f shows most = shows
-not_accepts (Refuses ∷ xs) f shows most = shows
 not_accepts (ShowsPage ∷ xs) f shows most = most
+not_accepts other f shows most = shows
 
 shows_idle : (past : History) (k : Ledger) (f : List ℕ) → ShowsFirst k.awaited f → InTalk past k → k.moving ≡ None
 shows_idle past k f shows (Queues most waits pages) = absurd (not_accepts k.awaited f shows most)
@@ -166,7 +163,6 @@ module _ (own : DeviceSlots) (state : DeviceState) (sound : Bool) (past : Histor
 
   asks_fis : (fis : Fis) → IsRight k (Ok fis) → Asks (Ok fis) (heard_fis own state sound fis)
   unfolding heard_fis
-  asks_fis (view.RegH2D f) right = λ fine. quiet k (quietly state happening.Nothing) refl tt
   asks_fis (view.RegD2H f) right = λ fine. quiet (answered k) (heard_fis own state sound (view.RegD2H f)) refl
       (leaves_register own state (field D2h Status f) (field D2h table.Error f) state.resetting (is_error (field D2h Status f)) (is_busy (field D2h Status f)))
   asks_fis (view.SetBits f) right = λ fine. quiet (listens_up k (Ok (view.SetBits f))) (heard_fis own state sound (view.SetBits f)) (ap (λ (x : Ledger). x.moving) (bits_up k f right.fine))
@@ -175,7 +171,7 @@ module _ (own : DeviceSlots) (state : DeviceState) (sound : Bool) (past : Histor
   asks_fis (view.DmaSetup f) right = by_setup f (setup_fault (own_issue own (tag_of f)) (field Setup Offset f) (field Setup table.Count f) (field Setup table.D f == 1))
   asks_fis (view.PioSetup f) right = λ fine v c now set there. no_moving k.moving v (shows_idle past k f right.replies talk) now
   asks_fis (view.Payload f) right = λ fine v c now set there. sends_quiet k k.moving v (drop 4 f) refl now set
-  asks_fis (view.Unknown f) right = λ fine. quiet k (quietly state happening.Nothing) refl tt
+  asks_fis other right = λ fine. quiet k (quietly state happening.Nothing) refl tt
 
 module _ (dev : ℕ) (w : DeviceView) (sound : Bool) (past : History) (k : Ledger) (talk : InTalk past k) (asked : IsAsked w.slots.context k) where
   by_admitted : (fis : Fis) (b : Bool) → IsRight k (Ok fis) → Asks w.slots w.state sound past k talk asked (Ok fis) (heard dev w sound (if b then Some fis else None))

@@ -214,12 +214,11 @@ not_none [] x is = cc is
 not_none (y ∷ xs) x is = cc is
 
 awaits_some : (k : Ledger) (r : Request) → IsAlone r → (alone k r).awaited ≢ []
-awaits_some k (request.Reset on) one empty = absurd one
-awaits_some k (request.Queue c) one empty = absurd one
 awaits_some k request.ReadErrorLog one empty = not_none k.awaited ShowsPage empty
 awaits_some k request.Identify one empty = not_none k.awaited ShowsPage empty
 awaits_some k request.Flush one empty = not_none k.awaited _ empty
 awaits_some k request.Other one empty = not_none k.awaited _ empty
+awaits_some k other one empty = absurd one
 
 alone_rests : (k : Ledger) (f : List ℕ) → IsAlone (request_of f) → Fits k (Ok (view.RegH2D f)) → Rests k
 alone_rests k f one fits = by_request (request_of f) one fits.1
@@ -227,10 +226,7 @@ alone_rests k f one fits = by_request (request_of f) one fits.1
     by_request : (r : Request) → IsAlone r → FitsRequest k r → Rests k
     by_request (request.Reset on) one rests = absurd one
     by_request (request.Queue c) one rests = absurd one
-    by_request request.ReadErrorLog one rests = rests
-    by_request request.Identify one rests = rests
-    by_request request.Flush one rests = rests
-    by_request request.Other one rests = rests
+    by_request other one rests = rests
 
 -- what the host gives fits the ledger
 pub record GivenFits : Type 0 where

@@ -334,11 +334,10 @@ passed_ports devices pm frame p after rule are = by_test (pm_port frame == contr
 
     device : (o : Option ℕ) (r : Passed) → MatchOption o (ToNobody pm (Ok r) after) (λ conn. ToDevice pm (pm_port frame) conn frame (Ok r) after) → PortsAre devices after
     device None passed.Dropped acts = same_ports devices pm after (λ m. ap (λ (s : PmState). port_at s m) acts) are
-    device None _ acts = absurd acts
     device (Some conn) (passed.Down k) acts =
         port_written devices pm after (pm_port frame) (with_down (port_at pm (pm_port frame)) (Some (falling conn frame))) (λ m. ap (λ (s : PmState). port_at s m) acts.2)
         (λ place at. are (pm_port frame) place at) are
-    device (Some conn) _ acts = absurd acts
+    device other _ acts = absurd acts
 
     by_test : (b : Bool) → MatchBool b (ToControl pm frame (Ok p) after) (ToPort pm frame (Ok p) after) → PortsAre devices after
     by_test true acts = control p acts

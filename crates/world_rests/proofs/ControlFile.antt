@@ -20,7 +20,7 @@ use Rattle.pm_registers.specs.declared.words.RegisterError.TheVariants.{NoPort, 
 use Rattle.pm_control.specs.Answers.{IsAnswer, answer_to_request, notice_fields, read_answer, refused, signature, write_answer}
 use Rattle.pm_control.specs.Requests.{request_in}
 use Rattle.pm_control.specs.declared.request.Request.{Request}
-use Rattle.pm_control.specs.declared.request.Request.TheVariants.{Read, Write, Unknown, Reset, EndReset}
+use Rattle.pm_control.specs.declared.request.Request.TheVariants.{Read, Write, Unknown, EndReset}
 use Rattle.pm_ports.specs.Port.{came_refusal, gone_refusal}
 use Rattle.multiplier.specs.Arbiter.{control_port}
 use Rattle.multiplier.specs.Between.{Answer as Answers, FromPort, Gives, Notice}
@@ -34,7 +34,7 @@ use Rattle.hba_fbs.specs.Status.{is_busy, wants_data}
 use Rattle.hba_fbs.specs.Tables.{is_sound}
 use Rattle.hba_fbs.specs.Taking.{admitted, heard_view, ignores, port_of}
 use Rattle.hba_fbs.specs.Views.{view_of}
-use Rattle.hba_driver.specs.HostTurns.{Does, Host, HostTurn, Polled, Pushed, Put, Submitted, Ticked, Took}
+use Rattle.hba_driver.specs.HostTurns.{Does, Host, HostTurn, Pushed, Ticked, Took}
 use Rattle.hba_driver.specs.Slot31.{Asks, Follows31, IsIn, Pushes31, Resets, Signs, Stage31, Turns31, control_of, is_resetting}
 use Rattle.hba_driver.proofs.Door.{going_turn, turn31}
 use Rattle.pm_world.specs.Rules.{recorded}
@@ -99,12 +99,11 @@ end_said true stamp g is = said signature stamp g refl right_busy right_data is
 end_said false stamp g is = absurd is
 
 request_said : (mark : Bool) (m : RegisterMap) (r : Option Request) (stamp : Stamp) (g : Stamped) → IsAnswer (answer_to_request mark m r) stamp (Some g) → IsSaid g stamp
-request_said mark m None stamp g is = absurd is
 request_said mark m (Some (Read at)) stamp g is = read_said (read_at m at.port at.register) stamp g is
 request_said mark m (Some (Write at value)) stamp g is = write_said (read_at m at.port at.register) stamp g is
 request_said mark m (Some Unknown) stamp g is = said (refused 4) stamp g refl wrong_busy wrong_data is
-request_said mark m (Some Reset) stamp g is = absurd is
 request_said mark m (Some EndReset) stamp g is = end_said mark stamp g is
+request_said mark m other stamp g is = absurd is
 
 notice_status : cut (places Bits Status) 0x50 ≡ 0x50
 unfolding cut places
@@ -307,9 +306,7 @@ turned_view l g (Took frame report) inside host does is = absurd inside
 turned_view l g (Pushed None) inside host does is = nothing_pushed l.host host does is
 turned_view l g (Pushed (Some f)) inside host does is = absurd inside
 turned_view l g (Ticked acted) inside host does is = tick_settled l.host host acted g.going.way.sound does is
-turned_view l g (Submitted dev request ticket) inside host does is = subst (λ p. IsSettled (view_of 15 p)) (sym does.port) is
-turned_view l g (Polled completion) inside host does is = subst (λ p. IsSettled (view_of 15 p)) (sym does.port) is
-turned_view l g (Put at bytes) inside host does is = subst (λ p. IsSettled (view_of 15 p)) (sym does.port) is
+turned_view l g other inside host does is = subst (λ p. IsSettled (view_of 15 p)) (sym does.port) is
 
 with_waits : (l : Line) (pm : PmState) (down : List Stamped) → ((g : Stamped) → pm.answer ≡ Some g → (l.pm.answer ≡ Some g) ⊎ IsSaid g (control_stamp l.pm)) → IsCalm l → IsCalm (record l { pm = pm; down = down })
 with_waits l pm down from c = record {

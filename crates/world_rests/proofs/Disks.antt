@@ -31,6 +31,7 @@ use Rattle.pm_world.specs.declared.step.Answer.{Answer}
 use Rattle.pm_world.specs.declared.step.Answer.TheVariants as answer
 use Rattle.pm_world.specs.declared.step.Step.{Step}
 use Rattle.pm_world.specs.declared.step.Step.TheVariants as step
+use Rattle.world_rests.specs.Ended.{AsidesRecover, EachAsideRecovers}
 use Rattle.world_rests.specs.Laws.{RestedHaveDone}
 use Rattle.world_rests.specs.Left.{IsOccupied, NoneIsOut, RestedDisksHaveDone}
 use Rattle.world_rests.specs.Opens.{RestedPortsAreOpen}
@@ -38,8 +39,9 @@ use Rattle.world_rests.specs.Out.{DiskIsFree, NothingIsOut, RestedDisksAreLeft}
 use Rattle.world_rests.specs.Rests.{HasAnswered, IsAtRest, NothingMoves, PortRests}
 use Rattle.world_rests.specs.Waits.{HostWaits}
 use Rattle.world_rests.proofs.Answered.{none_is_out, together_idle}
+use Rattle.world_rests.proofs.Asides.{each_has_ended}
 use Rattle.world_rests.proofs.Calm.{GivenFits}
-use Rattle.world_rests.proofs.Freed.{is_free, is_unworked}
+use Rattle.world_rests.proofs.Freed.{is_free, recovers, shows}
 use Rattle.world_rests.proofs.NothingOut.{nothing_is_out}
 use Rattle.world_rests.proofs.Ready.{none_is_left, none_is_shown}
 use Rattle.world_rests.proofs.Comings.{Of, all, known, known_reached}
@@ -179,18 +181,22 @@ rested_disks_have_done theirs fit have_done are_open orderly meet config units n
       left = λ ready. none_is_left n below plan sectors now.host r.history r.floors r.touches r.running r.host.port r.host.driver out ready idle r.ends;
     }
 
-pub rested_disks_are_left : RestedHaveDone → RestedPortsAreOpen → ReachedAreOrderly → EndsMeet → RestedDisksHaveDone → RestedDisksAreLeft
-rested_disks_are_left have_done are_open orderly meet disks_have_done config units n sectors plan past fits below disk now d there rests_now =
+pub rested_disks_are_left : DisksSendTheirs → GivenFits → RestedHaveDone → RestedPortsAreOpen → ReachedAreOrderly → EndsMeet → AsidesRecover → RestedDisksAreLeft
+rested_disks_are_left theirs fit have_done are_open orderly meet recover config units n sectors plan past fits below disk now d there rests_now =
     let opens : forwards now.multiplier.registers n ≡ true = port_opens are_open config units n fits now d there rests_now in
     let r : HasRested n plan sectors now = has_rested have_done orderly meet config units n sectors plan past fits below disk now d there opens rests_now in
     let out : NothingIsOut n now.host.port =
     nothing_is_out n below plan sectors now.host r.history r.floors r.touches r.running r.owes (r.host.port.fed n (omega (arith, below))) (r.host.port.faultless n) r.ends in
-    let free : (IsOccupied n now.host.port → ⊥) → DiskIsFree n now.host =
-    λ idle. is_free n below plan sectors now.host r.history r.floors r.touches r.running r.owes r.host.port r.host.driver out idle r.ends in
+    let idle : IsTogether n now.host r.history [] [] r.floors r.touches → IsOccupied n now.host.port → ⊥ =
+    together_idle n below plan sectors now.host r.history r.floors r.touches r.running r.owes (r.host.port.fed n (omega (arith, below))) (r.host.port.faultless n) theirs fit in
+    let free : DiskIsFree n now.host = is_free n below plan sectors now.host r.history r.floors r.touches r.running r.owes r.host.port r.host.driver out idle r.ends in
+    let run : Run (new_world config units) (d.first ++ step.Came n ∷ d.steps) (d.told ++ answer.Came n d.conn ∷ d.answers) now =
+    run_both (new_world config units) d.out now d.first d.told (step.Came n ∷ d.steps) (answer.Came n d.conn ∷ d.answers) d.made d.run in
+    let asides : EachAsideRecovers now.host = recover config units fits (d.first ++ step.Came n ∷ d.steps) (d.told ++ answer.Came n d.conn ∷ d.answers) now run in
     record {
       out = out;
       free = free;
-      fine = λ fine.
-          let idle : IsOccupied n now.host.port → ⊥ = (disks_have_done config units n sectors plan past fits below disk now d there rests_now).idle fine in
-          (free idle, is_unworked n below plan sectors now.host r.history r.floors r.touches r.running r.owes r.host.port r.host.driver out idle r.ends fine);
+      ended = λ known. each_has_ended n now.host asides free.requests known;
+      recovers = recovers n below plan sectors now.host r.history r.floors r.touches r.running r.owes r.host.port r.host.driver out idle r.ends;
+      shows = shows n below plan sectors now.host r.history r.floors r.touches r.running r.owes r.host.port r.host.driver out idle r.ends;
     }

@@ -37,7 +37,7 @@ use Rattle.hba_fbs.specs.Views.{DeviceView}
 use Rattle.disk_model.specs.declared.request.Command.{Command}
 use Rattle.disk_model.specs.Ends.{IsRight}
 use Rattle.disk_model.specs.Laws.{ActivatesRight, ShowsFirst, SetsUpRight, StartsOne}
-use Rattle.disk_model.specs.Ledger.{Accepts, Finishes, Ledger, Moving, Names, Refuses, Reply, ShowsPage, Signs, answered, listens_up, sends_data}
+use Rattle.disk_model.specs.Ledger.{Finishes, Ledger, Moving, Names, Refuses, Reply, ShowsPage, answered, listens_up, sends_data}
 use Rattle.hba_laws.specs.Agreement.{ContextAgrees, IsTold, IssueAgrees, SetupAgrees, end_of, is_for, is_pio_issue, work_of_issue}
 use Rattle.hba_laws.specs.Between.{HasContext, IsOwn, NotIssue}
 use Rattle.hba_laws.specs.History as event
@@ -88,11 +88,9 @@ owes_none block k (OwesPage is some quiet) none empty = absurd (some empty)
 -- ---- meanwhile no queued command is there
 
 end_unqueued : (reply : Reply) → IsEnd reply → AtMostAccepts (reply ∷ []) → ⊥
-end_unqueued Signs end most = end
-end_unqueued Accepts end most = end
 end_unqueued Finishes end most = most
 end_unqueued Refuses end most = most
-end_unqueued ShowsPage end most = end
+end_unqueued other end most = end
 
 pub idle_by : (block : Option Block) (past : History) (k : Ledger) → OwesIt block k → InTalk past k → IsIdle k
 idle_by block past k owes (talk.Replies reply idle one mine pages) = idle
@@ -345,11 +343,9 @@ module _ (dev : ℕ) (w : DeviceView) (sound : Bool) (commands : ℕ → SlotCom
   shown_next f block quiet shows (OwesReply reply is end) = absurd (by_reply reply end (subst (λ (xs : List Reply). ShowsFirst xs f) is shows))
     where
       by_reply : (reply : Reply) → IsEnd reply → ShowsFirst (reply ∷ []) f → ⊥
-      by_reply Signs end shows = end
-      by_reply Accepts end shows = end
       by_reply Finishes end shows = shows
       by_reply Refuses end shows = shows
-      by_reply ShowsPage end shows = end
+      by_reply other end shows = end
   shown_next f block quiet shows (OwesShow is some) = OwesPage (ap (drop 1) is) some quiet
   shown_next f block quiet shows (OwesPage is some before) = absurd (subst (λ (xs : List Reply). ShowsFirst xs f) is shows)
 
@@ -386,7 +382,6 @@ module _ (dev : ℕ) (w : DeviceView) (sound : Bool) (commands : ℕ → SlotCom
 
   leaves_fis : (fis : Fis) → IsRight k (Ok fis) → IsFull (Ok fis) → Leaves (Ok fis) (heard_fis w.slots w.state sound fis)
   unfolding heard_fis NotIssue
-  leaves_fis (view.RegH2D f) right full = λ fine. owed
   leaves_fis (view.RegD2H f) right full = λ fine s t waits. absurd (false≢true waits.waits)
   leaves_fis (view.SetBits f) right full = λ fine s t waits.
       let quiet : IsIdle k = idle s t (before (event.Named (field Bits SActive f)) s t tt refl waits) in
@@ -397,7 +392,7 @@ module _ (dev : ℕ) (w : DeviceView) (sound : Bool) (commands : ℕ → SlotCom
       (event.SetUp (field table.Setup BufferId f) (field table.Setup Offset f) (field table.Setup table.Count f) (field table.Setup table.D f == 1)) s t tt refl waits)))
   leaves_fis (view.PioSetup f) right full = by_pio f right full
   leaves_fis (view.Payload f) right full = by_data f full
-  leaves_fis (view.Unknown f) right full = λ fine. owed
+  leaves_fis other right full = λ fine. owed
 
   by_admitted : (fis : Fis) (b : Bool) → IsRight k (Ok fis) → IsFull (Ok fis) → Leaves (Ok fis) (heard dev w sound (if b then Some fis else None))
   by_admitted fis true right full = leaves_fis fis right full

@@ -28,7 +28,7 @@ use Rattle.disk_model.specs.Between.{alone}
 use Rattle.disk_model.specs.Ends.{Fits, FitsRequest, IsRight, Rests}
 use Rattle.disk_model.specs.Histories.{Happening, Received, Sent}
 use Rattle.disk_model.specs.Laws.{AnswersFirst}
-use Rattle.disk_model.specs.Ledger.{Accepts, Finishes, Ledger, Refuses, Reply, ShowsPage, Signs, Wanted, asks, ledger, listens, listens_down, listens_up}
+use Rattle.disk_model.specs.Ledger.{Finishes, Ledger, Refuses, Reply, ShowsPage, Signs, Wanted, asks, ledger, listens, listens_down, listens_up}
 use Rattle.disk_model.specs.Requests.{request_of}
 use Rattle.disk_model.proofs.Door.{asks_fits, ledger_push}
 use Rattle.hba_laws.specs.Agreement.{IssueAgrees, work_of_issue, work_of_transfer}
@@ -76,11 +76,9 @@ not_first block k f owes answers signs = by_due owes
     other zero = false≢true (sym (ap (λ (n : ℕ). n % 256 == 1) zero) ∙ first)
 
     by_reply : (reply : Reply) → IsEnd reply → AnswersFirst (reply ∷ []) f → ⊥
-    by_reply Signs end first = end
-    by_reply Accepts end first = end
     by_reply Finishes end first = other first.lba
     by_reply Refuses end first = other first.lba
-    by_reply ShowsPage end first = end
+    by_reply other end first = end
 
     by_due : OwesIt block k → ⊥
     by_due (OwesReply reply is end) = by_reply reply end (subst (λ (xs : List Reply). AnswersFirst xs f) is answers)
@@ -145,20 +143,16 @@ no_page (y ∷ xs) x is = cc is
 
 -- a command that is alone is answered, or its page is shown
 owes_alone : (block : Option Block) (k : Ledger) (r : Request) → IsAlone r → Rests k → OwesIt block (alone k r)
-owes_alone block k (request.Reset on) is rests = absurd is
-owes_alone block k (request.Queue c) is rests = absurd is
 owes_alone block k request.ReadErrorLog is rests = OwesShow (ap (λ (xs : List Reply). xs ++ ShowsPage ∷ []) rests.awaited) (λ none. no_page k.pages _ none)
 owes_alone block k request.Identify is rests = OwesShow (ap (λ (xs : List Reply). xs ++ ShowsPage ∷ []) rests.awaited) (λ none. no_page k.pages _ none)
 owes_alone block k request.Flush is rests = OwesReply Finishes (ap (λ (xs : List Reply). xs ++ Finishes ∷ []) rests.awaited) tt
 owes_alone block k request.Other is rests = OwesReply Refuses (ap (λ (xs : List Reply). xs ++ Refuses ∷ []) rests.awaited) tt
+owes_alone block k other is rests = absurd is
 
 rests_by : (k : Ledger) (r : Request) → IsAlone r → FitsRequest k r → Rests k
 rests_by k (request.Reset on) is fits = absurd is
 rests_by k (request.Queue c) is fits = absurd is
-rests_by k request.ReadErrorLog is fits = fits
-rests_by k request.Identify is fits = fits
-rests_by k request.Flush is fits = fits
-rests_by k request.Other is fits = fits
+rests_by k other is fits = fits
 
 asked_owed : (block : Option Block) (k : Ledger) (r : Request) → IsAlone r → k.failed ≡ false → FitsRequest k r → OwesIt block (asks k r k.failed)
 asked_owed block k r is fine fits = subst (OwesIt block) (sym (asks_fits k r fine fits)) (owes_alone block k r is (rests_by k r is fits))

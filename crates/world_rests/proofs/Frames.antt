@@ -6,7 +6,7 @@ use Rattle.fis_view.specs.Built.{cut}
 use Rattle.fis_view.specs.Frames.{IsFrame, marked}
 use Rattle.fis_view.specs.Marks.{IsMarked}
 use Rattle.fis_view.specs.Seen.{kind_of, may_have, seen, view_as}
-use Rattle.fis_view.specs.Table.{Activate, Bits, D2h, EStatus, H2d, Kind, Other, Pio, Setup, field, places}
+use Rattle.fis_view.specs.Table.{EStatus, Kind, Pio, field, places}
 use Rattle.fis_view.specs.Table as table
 use Rattle.fis_view.specs.declared.view.Fis.{Fis}
 use Rattle.fis_view.specs.declared.view.Fis.TheVariants as view
@@ -15,7 +15,7 @@ use Rattle.fis_view.specs.declared.view.FisFault.TheVariants.{WrongLength}
 use Rattle.fis_view.proofs.Door.{is_marked}
 use Rattle.hba_fbs.specs.Status.{is_quiet}
 use Rattle.disk_model.specs.declared.answer.Answer.{Answer}
-use Rattle.disk_model.specs.declared.answer.Answer.TheVariants.{Signature, Accepted, Finished, Refused, Ended, PageFollows, PageData}
+use Rattle.disk_model.specs.declared.answer.Answer.TheVariants.{PageFollows, PageData}
 use Rattle.disk_model.specs.declared.plan.DiskPlan.{DiskPlan}
 use Rattle.disk_model.specs.Anew as anew
 use Rattle.disk_model.specs.Anew.{IsLinkedOn}
@@ -25,7 +25,7 @@ use Rattle.disk_model.specs.Histories.{Happening, Loaded, Plugged, Received, Sen
 use Rattle.disk_model.specs.Ledger.{IsSize, ledger}
 use Rattle.disk_model.specs.Pages.{page_bytes}
 use Rattle.disk_model.specs.Runs.{IsDiskRun, IsTurn, Runs, moment}
-use Rattle.disk_model.specs.Sendings.{Activates, Carries, Register, Sending, SetsBits, SetsUp, SetsUpPio, Shows, answer_sent}
+use Rattle.disk_model.specs.Sendings.{Carries, Sending, SetsUpPio, Shows, answer_sent}
 use Rattle.disk_model.proofs.Door.{agrees, last_may}
 use Rattle.world_rests.proofs.Owes.{has_chunks}
 use Rattle.world_rests.proofs.Shown.{HasChunks, OfEach, chunk_some, data_long, page_long, turn_of}
@@ -43,13 +43,9 @@ IsWhole (SetsUpPio v) = v.e_status ≡ 0x50
 IsWhole _ = Unit {0}
 
 whole_answer : (sectors : ℕ) (plan : DiskPlan) (a : Answer) → IsWhole (answer_sent sectors plan a)
-whole_answer sectors plan Signature = tt
-whole_answer sectors plan Accepted = tt
-whole_answer sectors plan Finished = tt
-whole_answer sectors plan Refused = tt
-whole_answer sectors plan (Ended tag) = tt
 whole_answer sectors plan PageFollows = refl
 whole_answer sectors plan (PageData page) = let long : length (page_bytes sectors plan page) ≡ 512 = page_long sectors plan page in omega (arith, long)
+whole_answer sectors plan other = tt
 
 whole_each : (plan : DiskPlan) (sectors : ℕ) → HasChunks plan → OfEach plan sectors IsWhole
 whole_each plan sectors sized = record {
@@ -65,14 +61,11 @@ whole_each plan sectors sized = record {
 
 shows_full : (s : Sending) (b : List ℕ) → Shows s b → IsWhole s → IsFull (seen b)
 unfolding places cut
-shows_full (Register v) b shows whole = rw shows.viewed tt
-shows_full (SetsBits v) b shows whole = rw shows.viewed tt
-shows_full (SetsUp v) b shows whole = rw shows.viewed tt
-shows_full Activates b shows whole = rw shows.viewed tt
 shows_full (SetsUpPio v) b shows whole =
     let e : field Pio EStatus b ≡ 0x50 = shows.fields EStatus ∙ ap (λ (n : ℕ). cut (places Pio EStatus) n) whole in
     rw shows.viewed (ap is_quiet e)
 shows_full (Carries bytes) b shows whole = rw shows.1 (subst (λ (f : List ℕ). 512 ≤ length (drop 4 f)) (sym shows.0) whole)
+shows_full other b shows whole = rw shows.viewed tt
 
 by_turn : (o : Turn) (b : List ℕ) → ((t : Sending × Moment) → o ≡ Some t → IsWhole t.0) → IsTurn o b → IsFull (seen b)
 by_turn None b whole is = absurd is
@@ -101,9 +94,7 @@ OneFull _ = Unit {0}
 
 next_full : (e : Happening) (later : List Happening) → OneFull e → AllFull later → AllFull (e ∷ later)
 next_full (Sent bytes) later one all = (one, all)
-next_full (Received bytes) later one all = all
-next_full Plugged later one all = all
-next_full (Loaded bytes) later one all = all
+next_full other later one all = all
 
 pub full_more : (front : List Happening) (e : Happening) → AllFull front → OneFull e → AllFull (front ++ e ∷ [])
 full_more [] e all one = next_full e [] one tt
@@ -114,9 +105,7 @@ full_more (Loaded bytes ∷ front) e all one = full_more front e all one
 
 first_full : (e : Happening) → AllFull (e ∷ []) → OneFull e
 first_full (Sent bytes) all = all.0
-first_full (Received bytes) all = tt
-first_full Plugged all = tt
-first_full (Loaded bytes) all = tt
+first_full other all = tt
 
 pub full_last : (front : List Happening) (e : Happening) → AllFull (front ++ e ∷ []) → AllFull front × OneFull e
 full_last [] e all = (tt, first_full e all)
@@ -133,9 +122,7 @@ runs_front plan sectors m (e ∷ front) back run = (run.0, runs_front plan secto
 module _ (plan : DiskPlan) (sectors : ℕ) (size : IsSize plan sectors) where
   one_full : (before : List Happening) (e : Happening) → IsDiskRun plan sectors (before ++ e ∷ []) → OneFull e
   one_full before (Sent bytes) run = sent_full plan sectors before bytes size run
-  one_full before (Received bytes) run = tt
-  one_full before Plugged run = tt
-  one_full before (Loaded bytes) run = tt
+  one_full before other run = tt
 
   rest_full : (before later : List Happening) → IsDiskRun plan sectors (before ++ later) → AllFull later
   rest_full before [] run = tt
@@ -179,14 +166,9 @@ given_full plan sectors base disk given down stale up size run linked = (both_fu
 
 module _ (old new : List ℕ) (port : ℕ) (m : IsMarked port old new) where
   full_kind : (kind : Kind) → IsFull (Ok (view_as kind old)) → IsFull (Ok (view_as kind new))
-  full_kind H2d full = tt
-  full_kind D2h full = tt
-  full_kind Activate full = tt
-  full_kind Setup full = tt
   full_kind table.Data full = subst (λ (bytes : List ℕ). 512 ≤ length bytes) (sym m.payload) full
   full_kind Pio full = ap is_quiet (m.fields Pio EStatus (λ e. cc e)) ∙ full
-  full_kind Bits full = tt
-  full_kind Other full = tt
+  full_kind other full = tt
 
   full_new : IsFull (seen old) → IsFull (seen new)
   unfolding seen

@@ -229,10 +229,8 @@ module _ (l : Line) (g : IsGood l) (acted : Bool) (host : Host) (does : Does l.h
 
 module _ (start : Memory) (right : IsHostMemory start) (l : Line) (g : IsGood l) (driven : IsDriven start l.host) (e : AreHeeded l) (most : l.pm.registers.ports ≤ 15) where
   turns_heeded : (t : HostTurn) (inside : IsInside t) (host : Host) (does : Does l.host t host) → IsGood (record l { host = host }) → AreHeeded (record l { host = host })
-  turns_heeded (Took frame report) inside host does h = absurd inside
   turns_heeded (Pushed None) inside host does h =
       still_heeded l g (Pushed None) inside host does h (ap (λ (d : Driver). d.plan) does.driver) (pushed_noticed l.host host None does) (then31 l g (Pushed None) inside host does).is e
-  turns_heeded (Pushed (Some f)) inside host does h = absurd inside
   turns_heeded (Ticked acted) inside host does h = ticks_heeded l g acted host does h e most start right driven
   turns_heeded (Submitted dev request ticket) inside host does h =
       still_heeded l g (Submitted dev request ticket) inside host does h (ap (λ (d : Driver). d.plan) does.taken.driver) (ap (λ p. is_noticed (record l.host { port = p })) does.port)
@@ -242,6 +240,7 @@ module _ (start : Memory) (right : IsHostMemory start) (l : Line) (g : IsGood l)
       (then31 l g (Polled completion) inside host does).is e
   turns_heeded (Put at bytes) inside host does h =
       still_heeded l g (Put at bytes) inside host does h (ap (λ (d : Driver). d.plan) does.driver) (ap (λ p. is_noticed (record l.host { port = p })) does.port) (then31 l g (Put at bytes) inside host does).is e
+  turns_heeded other inside host does h = absurd inside
 
   pub keeps_heeded : (ports : ℕ) (m : Line) → IsCalm l → IsSetUp ports l → IsGood m → Way l m → AreHeeded m
   keeps_heeded ports m c u h (Stays pm registers resetting answer is) =

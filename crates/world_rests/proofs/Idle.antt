@@ -16,7 +16,7 @@ use Rattle.hba_driver.specs.declared.path.Recovery.TheVariants.{Log, Reset}
 use Rattle.hba_driver.specs.declared.path.Stage.{Stage}
 use Rattle.hba_driver.specs.declared.path.Stage.TheVariants.{AwaitReset, Identify}
 use Rattle.hba_driver.specs.declared.plan.Device.{Device}
-use Rattle.hba_driver.specs.declared.plan.Device.TheVariants.{Ready, Recovering, Starting}
+use Rattle.hba_driver.specs.declared.plan.Device.TheVariants.{Recovering, Starting}
 use Rattle.hba_driver.specs.declared.plan.Plan.{Plan}
 use Rattle.hba_driver.specs.declared.request.Outcome.TheVariants.{Done}
 use Rattle.hba_driver.specs.declared.slot.Phase.{Phase}
@@ -228,9 +228,6 @@ entry_below (x ∷ xs) (suc s) e is = let k : s < length xs = entry_below xs s e
 wait_unissued : (p : Phase) → waits_in p ≡ true → is_issued_in p ≡ false
 wait_unissued Waits e = refl
 wait_unissued other e = absurd (false≢true e)
-
-is_ready_at : (device : Device) → device ≡ Ready → is_ready device ≡ true
-is_ready_at device e = ap is_ready e
 
 no_request : (p : Plan) (entries : List (Option Entry)) → request_due p entries ≡ None → (s : ℕ) → s < 30 → may_issue p (entry_at entries s) ≡ false
 unfolding request_due

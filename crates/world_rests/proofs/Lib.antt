@@ -31,7 +31,6 @@ mod Answered
 mod NothingOut
 mod Ready
 mod Freed
-mod Disks
 mod Noticed
 mod Watched
 mod Setting
@@ -48,3 +47,6 @@ mod HeededWays
 mod HeededHost
 mod Present
 mod Opened
+mod Aside
+mod Asides
+mod Disks

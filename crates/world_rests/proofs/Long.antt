@@ -133,14 +133,7 @@ module _ (plan : DiskPlan) (sectors : ℕ) (h : List Happening) (a : Agrees plan
   fis_long : (r : Result Fis FisFault) → HasSome r → MovesRight (ledger h) r → ErrsRight plan sectors (ledger h) r → IsLong r
   unfolding HasSome
   fis_long (Ok (view.Payload f)) some moves errs = data_long (drop 4 f) (ledger h).moving refl some moves errs
-  fis_long (Ok (view.RegH2D f)) some moves errs = tt
-  fis_long (Ok (view.RegD2H f)) some moves errs = tt
-  fis_long (Ok (view.SetBits f)) some moves errs = tt
-  fis_long (Ok (view.DmaActivate f)) some moves errs = tt
-  fis_long (Ok (view.DmaSetup f)) some moves errs = tt
-  fis_long (Ok (view.PioSetup f)) some moves errs = tt
-  fis_long (Ok (view.Unknown f)) some moves errs = tt
-  fis_long (Err e) some moves errs = tt
+  fis_long other some moves errs = tt
 
 pub sent_long : (plan : DiskPlan) (sectors : ℕ) (h : List Happening) (b : List ℕ) → IsSize plan sectors → IsDiskRun plan sectors (h ++ Sent b ∷ []) → IsLong (seen b)
 sent_long plan sectors h b size run =

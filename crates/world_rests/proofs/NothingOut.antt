@@ -34,11 +34,11 @@ use Rattle.hba_driver.specs.Orders.{control, identify_fields, log_fields, reques
 use Rattle.hba_driver.specs.Orders as order
 use Rattle.hba_driver.specs.Paths.{stage_fields}
 use Rattle.hba_driver.specs.Served.{IsFisOf, IsIssueOf, IsRequest, IsStep}
-use Rattle.hba_driver.specs.Slot30.{Asks, Cleared, Clears, Faulty, IsSlot30, LogSent, Off, On, Sets, Stage30, is_faulty}
+use Rattle.hba_driver.specs.Slot30.{Asks, Clears, Faulty, IsSlot30, LogSent, Sets, Stage30, is_faulty}
 use Rattle.hba_driver.specs.Tended.{Awaits, Fine, Identifies, IsTendedBy, Logs, Releases, Spoilt}
 use Rattle.hba_driver.proofs.Door.{is_alone}
 use Rattle.disk_simulation.specs.Anew.{IsKeptOn}
-use Rattle.disk_simulation.specs.Line.{Asked, Both, Failed, Held, Line, Loose, OnLine, Releasing, Resting}
+use Rattle.disk_simulation.specs.Line.{Asked, Line, OnLine}
 use Rattle.disk_recovery.specs.Ends.{Apart, AreEnds, IsRunning, IsSetAside, IsTogether, Together}
 use Rattle.disk_recovery.specs.Stages.{Fits}
 use Rattle.disk_recovery.proofs.Door.{request_kind}
@@ -54,9 +54,8 @@ use Rattle.world_rests.proofs.Open.{WasIssued, was_issued}
 
 flush_plain : (slot : ℕ) (w : driver_work.Work) (dev lba sectors : ℕ) → order.is_queued w ≡ false → IsPlain (work_of (request_of (work_fields slot w dev lba sectors)))
 unfolding work_of
-flush_plain slot work.Read dev lba sectors plain = absurd (true≢false plain)
-flush_plain slot work.Write dev lba sectors plain = absurd (true≢false plain)
 flush_plain slot work.Flush dev lba sectors plain = inl refl
+flush_plain slot other dev lba sectors plain = absurd (true≢false plain)
 
 request_plain : (slot : ℕ) (e : Entry) → order.is_queued e.head.work ≡ false → IsPlain (work_of (request_of (request_fields slot e.head)))
 unfolding request_fields
@@ -201,13 +200,8 @@ module _ (n : ℕ) (below : n < 15) (plan : DiskPlan) (sectors : ℕ) (h : Host)
 
   -- READ LOG EXT went out, and has not come down
   log_down : (line : Line) → Fits line LogSent → OnLine line (ledger disk) [] [] → ⊥
-  log_down Failed fits on = fits
   log_down Asked fits on = no_end on.ahead on.log on.is
-  log_down Loose fits on = fits
-  log_down Held fits on = fits
-  log_down Both fits on = fits
-  log_down Resting fits on = fits
-  log_down Releasing fits on = fits
+  log_down other fits on = fits
 
   apart_none : IsSetAside n h disk [] [] → NothingIsOut n h.port
   apart_none a slot issue low there its =
@@ -227,13 +221,11 @@ module _ (n : ℕ) (below : n < 15) (plan : DiskPlan) (sectors : ℕ) (h : Host)
 
       by_stage : (stage : Stage30) → is_faulty stage ≡ false → Fits a.line stage → IsSlot30 n stage h.port → own_issue (view_of n h.port).slots 30 ≡ Some issue → issue.sent ≡ false
       by_stage Faulty well fits slot own_it = absurd (true≢false well)
-      by_stage Cleared well fits slot own_it = none_there slot own_it
       by_stage Asks well fits slot own_it = unsent _ refl slot.issued own_it
       by_stage LogSent well fits slot own_it = absurd (log_down a.line fits a.on)
       by_stage Sets well fits slot own_it = unsent _ refl slot.issued own_it
-      by_stage On well fits slot own_it = none_there slot own_it
       by_stage Clears well fits slot own_it = unsent _ refl slot.issued own_it
-      by_stage Off well fits slot own_it = none_there slot own_it
+      by_stage other well fits slot own_it = none_there slot own_it
 
   pub nothing_is_out : AreEnds n h disk [] [] floors touches → NothingIsOut n h.port
   nothing_is_out (Together t) =

@@ -84,9 +84,8 @@ or_set a =
 -- it stays when a FIS is posted
 posted_stays : (r : Registers) (dev : ℕ) (b : Bool) (fis : Option Fis) (h : Heard) → has_bit r.notified 15 ≡ true → has_bit (settled (posted_of r dev b fis) h).notified 15 ≡ true
 unfolding posted settled
-posted_stays r dev b None h is = is
 posted_stays r dev b (Some (view.SetBits f)) h is = or_bit r.notified (bit dev (field Bits N f == 1)) is
-posted_stays r dev b (Some other) h is = is
+posted_stays r dev b other h is = is
 
 -- a notification sets it
 posted_sets : (r : Registers) (b : Bool) (f : List ℕ) (h : Heard) → field Bits N f ≡ 1 → has_bit (settled (posted_of r 15 b (Some (view.SetBits f))) h).notified 15 ≡ true

@@ -304,9 +304,6 @@ due_out n offset len host command goes = record { context = goes.0; now = goes.1
 is_payload_by : (bytes : List ℕ) → 4 ≤ length bytes → length bytes ≤ 8192 → length bytes % 4 ≡ 0 → IsPayload bytes
 is_payload_by bytes low high dwords = grind (arith, nat_tests)
 
-moved_inactive : {X : Type 0} (a c : Context) → Some a ≡ Some c → a.activated ≡ false → (c.activated ≡ true → X) → c.activated ≡ false
-moved_inactive a c same unset h = let is : a ≡ c = cc same in subst (λ (x : Context). x.activated ≡ false) is unset
-
 module _ (n offset len : ℕ) (host new : Host) (frame : Stamped) (command : issued_command.Command) (commands : ℕ → SlotCommand) (past : History) (k : Ledger)
     (sound : IsHost host) (does : Does host (Gave (Some frame)) new) (out : outgoing host.port host.memory ≡ Data n offset len command) (joined : IsJoined n commands host past k) where
   abbrev bytes : List ℕ

@@ -153,8 +153,7 @@ plain_made : (mark : Bool) (m : RegisterMap) (r : Request) (stamp : Stamp) (now 
 plain_made mark m (Read at) stamp now plain is = read_made (read_at m at.port at.register) stamp now is
 plain_made mark m (Write at value) stamp now plain is = write_made (read_at m at.port at.register) stamp now is
 plain_made mark m Unknown stamp now plain is = made (refused 4) stamp now refl wrong_busy is
-plain_made mark m Reset stamp now plain is = absurd plain
-plain_made mark m EndReset stamp now plain is = absurd plain
+plain_made mark m other stamp now plain is = absurd plain
 
 own_port : cut (places D2h PmPort) 15 ≡ 15
 unfolding cut places

@@ -1,6 +1,6 @@
 -- For `rested_disks_have_done`. A page that a disk shows fills the block that its PIO Setup FIS announced, and no page comes before
 -- that FIS.
-use Rattle.std.proofs.Common.{◌≡◌, ◌≢◌, ◌⊎◌, ◌==◌, ◌&&◌, ◌+◌, eqb, ℕ, ◌≤◌, Bool, true, false, List, [], ◌∷◌, ◌++◌, drop, length, refl, sym, ap, subst, ◌∙◌, inl, inr, Option, Some, None, Ok, Err, Result, arith}
+use Rattle.std.proofs.Common.{◌≡◌, ◌≢◌, ◌⊎◌, ◌==◌, ◌&&◌, ◌+◌, eqb, ℕ, ◌≤◌, Bool, true, false, List, [], ◌∷◌, ◌++◌, drop, length, refl, sym, ap, subst, ◌∙◌, inl, inr, Option, Some, None, Ok, Result, arith}
 use Rattle.std.specs.Prelude.{◌*◌, if◌then◌else◌, find}
 use Rattle.std.proofs.lemmas.Bool.{eq-eqb, eqb-true, false≢true, true≢false}
 use Rattle.fis_view.specs.Table.{Bits, BufferId, EStatus, Offset, Pio, SActive, Setup, field}
@@ -16,7 +16,7 @@ use Rattle.disk_model.specs.declared.request.Request.TheVariants as asked
 use Rattle.disk_model.specs.Between.{alone, opened}
 use Rattle.disk_model.specs.Ends.{IsFree, IsRight, MovesOther, Rests}
 use Rattle.disk_model.specs.Laws.{SetsUpRight, ShowsFirst, StartsOne}
-use Rattle.disk_model.specs.Ledger.{Accepts, Finishes, Ledger, Moving, Refuses, Reply, ShowsPage, Signs, Wanted, activates, answered, ends, is_auto, listens_up, moves, sends_data, sets_up, starts_moving, takes_data, with_auto}
+use Rattle.disk_model.specs.Ledger.{Accepts, Finishes, Ledger, Moving, Refuses, Reply, ShowsPage, Wanted, activates, answered, ends, is_auto, listens_up, moves, sends_data, sets_up, starts_moving, takes_data, with_auto}
 use Rattle.disk_model.proofs.Door.{bits_up, found_not}
 use Rattle.hba_laws.specs.Between.{NotIssue}
 use Rattle.hba_laws.specs.History as event
@@ -51,11 +51,7 @@ one_reply past k (Queues most waits pages) = by_replies k.awaited most
     by_replies : (xs : List Reply) → AtMostAccepts xs → drop 1 xs ≡ []
     by_replies [] most = refl
     by_replies (Accepts ∷ []) most = refl
-    by_replies (Accepts ∷ x ∷ xs) most = absurd most
-    by_replies (Signs ∷ xs) most = absurd most
-    by_replies (Finishes ∷ xs) most = absurd most
-    by_replies (Refuses ∷ xs) most = absurd most
-    by_replies (ShowsPage ∷ xs) most = absurd most
+    by_replies other most = absurd most
 one_reply past k (Replies reply idle one mine pages) = ap (λ (xs : List Reply). drop 1 xs) one
 one_reply past k (Shows idle one most unset) = ap (λ (xs : List Reply). drop 1 xs) one
 one_reply past k (Pages page idle none one waits) = ap (λ (xs : List Reply). drop 1 xs) none
@@ -137,18 +133,12 @@ asked_down k bytes = asked_takes k k.moving bytes
 first_page : {X : Type 0} (xs : List Reply) (f : List ℕ) → ShowsFirst xs f → ((later : List Reply) → xs ≡ ShowsPage ∷ later → X) → X
 first_page [] f shows h = absurd shows
 first_page (ShowsPage ∷ xs) f shows h = h xs refl
-first_page (Signs ∷ xs) f shows h = absurd shows
-first_page (Accepts ∷ xs) f shows h = absurd shows
-first_page (Finishes ∷ xs) f shows h = absurd shows
-first_page (Refuses ∷ xs) f shows h = absurd shows
+first_page other f shows h = absurd shows
 
 page_of_512 : (xs : List Reply) (f : List ℕ) → ShowsFirst xs f → field Pio table.Transfer f ≡ 512
 page_of_512 [] f shows = absurd shows
 page_of_512 (ShowsPage ∷ xs) f shows = shows.2
-page_of_512 (Signs ∷ xs) f shows = absurd shows
-page_of_512 (Accepts ∷ xs) f shows = absurd shows
-page_of_512 (Finishes ∷ xs) f shows = absurd shows
-page_of_512 (Refuses ∷ xs) f shows = absurd shows
+page_of_512 other f shows = absurd shows
 
 -- a DMA Setup is for a tag that is not free
 unfree : {X : Type 0} (k : Ledger) (f : List ℕ) (s : ℕ) → field Setup BufferId f ≡ s → IsFree k s → SetsUpRight k k.moving f → X
@@ -306,15 +296,13 @@ module _ (past : History) (k : Ledger) (talk : InTalk past k) (p : IsPaged past 
   pub paged_up : (r : Result Fis FisFault) → IsRight k r → IsOfDisk r → IsLong r → ((s : ℕ) → NoneQueued (issued s past) → IsFree k s)
       → ((f : List ℕ) → r ≡ Ok (view.Payload f) → k.moving ≡ None → IsPageDue past k) → IsPaged (told r ++ past) (listens_up k r)
   unfolding NotIssue
-  paged_up (Ok (view.RegH2D f)) right mine long frees due = absurd mine
   paged_up (Ok (view.RegD2H f)) right mine long frees due = paged_answered
   paged_up (Ok (view.SetBits f)) right mine long frees due = quiet (event.Named (field Bits SActive f)) (listens_up k (Ok (view.SetBits f))) tt (λ s. refl) refl refl (asked_bits k f right)
   paged_up (Ok (view.DmaActivate f)) right mine long frees due = unchanged (listens_up k (Ok (view.DmaActivate f))) (asked_activate_fis k f)
   paged_up (Ok (view.DmaSetup f)) right mine long frees due = paged_setup f frees right.moves
   paged_up (Ok (view.PioSetup f)) right mine long frees due = paged_pio f right.replies mine
   paged_up (Ok (view.Payload f)) right mine long frees due = paged_data (drop 4 f) k.moving refl long (λ none. due f refl none)
-  paged_up (Ok (view.Unknown f)) right mine long frees due = absurd mine
-  paged_up (Err e) right mine long frees due = absurd mine
+  paged_up other right mine long frees due = absurd mine
 
   -- ---- a command is sent
 

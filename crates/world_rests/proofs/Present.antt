@@ -109,15 +109,13 @@ written_long m port register value =
     (length-set m.bank port (port_written (shown_at m port) register value))
 
 request_long : (m : RegisterMap) (o : Option Request) → length (registers_after_request m o).bank ≡ length m.bank
-request_long m None = refl
 request_long m (Some (Write at value)) =
     either (λ (r : RegisterMap). length r.bank ≡ length m.bank) (is_some (register_at m at.port at.register)) (settled (summary m) (written m at.port at.register value)) m (written_long m at.port at.register value) refl
-request_long m (Some other) = refl
+request_long m other = refl
 
 request_present : (m : RegisterMap) (o : Option Request) (n : ℕ) → (shown_at (registers_after_request m o) n).present ≡ (shown_at m n).present
-request_present m None n = refl
 request_present m (Some (Write at value)) n = write_devices m at.port at.register value n
-request_present m (Some other) n = refl
+request_present m other n = refl
 
 heard_shows : (pm : PmState) (f : Stamped) (p : Passed) (after : PmState) → FromHostRule pm f (Ok p) after → ShowsAll pm → ShowsAll after
 heard_shows pm f p after rule s = by_test (pm_port f == control_port) rule
@@ -130,10 +128,9 @@ heard_shows pm f p after rule s = by_test (pm_port f == control_port) rule
 
     device : (o : Option ℕ) (r : Passed) → MatchOption o (ToNobody pm (Ok r) after) (λ conn. ToDevice pm (pm_port f) conn f (Ok r) after) → ShowsAll after
     device None passed.Dropped acts = registers_show pm pm.registers after refl (λ n. refl) (ap (λ (x : PmState). x.registers) acts) (ap (λ (x : PmState). x.ports) acts) s
-    device None _ acts = absurd acts
     device (Some conn) (passed.Down k) acts =
         port_shows pm (pm_port f) (with_down (port_at pm (pm_port f)) (Some (falling conn f))) after refl (ap (λ (x : PmState). x.registers) acts.2) (ap (λ (x : PmState). x.ports) acts.2) s
-    device (Some conn) _ acts = absurd acts
+    device other _ acts = absurd acts
 
     by_test : (b : Bool) → MatchBool b (ToControl pm f (Ok p) after) (ToPort pm f (Ok p) after) → ShowsAll after
     by_test true acts = control p acts

@@ -41,7 +41,7 @@ use Rattle.hba_driver.specs.Orders.{is_flush, is_queued}
 use Rattle.hba_driver.specs.Seeing.{Sight}
 use Rattle.hba_driver.specs.Served.{IsIssueOf, IsRequest}
 use Rattle.hba_driver.specs.Sights.{px_ci, px_sact, shown, sight_of}
-use Rattle.hba_driver.specs.Slot30.{Asks, Cleared, Clears, Faulty, IsPlan30, LogSent, Off, On, Sets, Stage30, is_faulty}
+use Rattle.hba_driver.specs.Slot30.{Faulty, IsPlan30, Off, On, Stage30, is_faulty}
 use Rattle.hba_driver.specs.Steady.{IsFine}
 use Rattle.hba_driver.specs.Tended.{Awaits, Fine, Identifies, IsLiveAt, IsTendedBy, Logs, Releases, Spoilt}
 use Rattle.hba_driver.proofs.Door.{issued_live, sight_is, told_of}
@@ -100,9 +100,8 @@ not_dma QueuedWrite queued dma = false≢true dma
 not_dma other queued dma = false≢true queued
 
 flushes : (w : Work) → is_queued w ≡ false → is_flush w ≡ true
-flushes work.Read plain = absurd (true≢false plain)
-flushes work.Write plain = absurd (true≢false plain)
 flushes work.Flush plain = refl
+flushes other plain = absurd (true≢false plain)
 
 -- ---- a ready device
 
@@ -124,15 +123,11 @@ module _ (n : ℕ) (h : Host) (disk : List Happening) (port : PortWaits h.port) 
 
   recovers : (stage : Stage30) → is_faulty stage ≡ false → IsPlan30 n stage h.driver.plan → ⊥
   recovers Faulty well at = true≢false well
-  recovers Cleared well at = never _ at.device
-  recovers Asks well at = never _ at.device
-  recovers LogSent well at = never _ at.device
-  recovers Sets well at = never _ at.device
   recovers On well (inl at) = never _ at.device
   recovers On well (inr at) = never _ at.device
-  recovers Clears well at = never _ at.device
   recovers Off well (inl at) = never _ at.device
   recovers Off well (inr at) = never _ at.device
+  recovers other well at = never _ at.device
 
   pub apart_never : IsSetAside n h disk [] [] → ⊥
   apart_never a =

@@ -107,9 +107,8 @@ passed_turn pm frame p after rule = by_test (pm_port frame == control_port) rule
 
     device : (o : Option ℕ) (q : Passed) → MatchOption o (ToNobody pm (Ok q) after) (λ conn. ToDevice pm (pm_port frame) conn frame (Ok q) after) → after.served ≡ pm.served
     device None passed.Dropped acts = ap (λ (m : PmState). m.served) acts
-    device None _ acts = absurd acts
     device (Some conn) (passed.Down m) acts = ap (λ (q : PmState). q.served) acts.2
-    device (Some conn) _ acts = absurd acts
+    device other _ acts = absurd acts
 
     by_test : (b : Bool) → MatchBool b (ToControl pm frame (Ok p) after) (ToPort pm frame (Ok p) after) → after.served ≡ pm.served
     by_test true acts = control p acts

@@ -226,10 +226,8 @@ module _ (ports : ℕ) (l : Line) (g : IsGood l) (u : IsSetUp ports l) (t : Host
 -- ---- each way
 
 turns_set : (ports : ℕ) (l : Line) (g : IsGood l) (u : IsSetUp ports l) (t : HostTurn) (inside : IsInside t) (host : Host) (does : Does l.host t host) → IsGood (record l { host = host }) → IsSetUp ports (record l { host = host })
-turns_set ports l g u (Took frame report) inside host does h = absurd inside
 turns_set ports l g u (Pushed None) inside host does h =
     next_set ports l g u (Pushed None) inside host does h (ap (λ (d : Driver). control_in d.plan) does.driver) (then31 l g (Pushed None) inside host does).is
-turns_set ports l g u (Pushed (Some f)) inside host does h = absurd inside
 turns_set ports l g u (Ticked acted) inside host does h =
     let n = then31 l g (Ticked acted) inside host does in
     goes_set ports l g u (Ticked acted) inside host does h n.is.stays n.is.goes
@@ -239,6 +237,7 @@ turns_set ports l g u (Polled completion) inside host does h =
     next_set ports l g u (Polled completion) inside host does h (ap control_in (ap (λ (d : Driver). d.plan) does.driver ∙ poll_plan l.host.driver)) (then31 l g (Polled completion) inside host does).is
 turns_set ports l g u (Put at bytes) inside host does h =
     next_set ports l g u (Put at bytes) inside host does h (ap (λ (d : Driver). control_in d.plan) does.driver) (then31 l g (Put at bytes) inside host does).is
+turns_set ports l g u other inside host does h = absurd inside
 
 pub keeps_set : (ports : ℕ) (l m : Line) → IsGood l → IsCalm l → IsGood m → Way l m → IsSetUp ports l → IsSetUp ports m
 keeps_set ports l m g c h (Stays pm registers resetting answer e) u =

@@ -185,9 +185,7 @@ event_settled (event.Flushed dev) old new quiet does is = elim (cases_eq 15 dev)
   | inl own ↦ settled_as flushed_view (view_of 15 new.port) (ap (λ (n : ℕ). view_of n new.port) own ∙ does.0.own) (free_settled flushed_view refl refl)
   | inr other ↦ settled_as (view_of 15 old.port) (view_of 15 new.port) (does.0.others 15 other) is
 ]
-event_settled (event.Stored structure) old new quiet does is = same_settled old.port new.port does.1 is
-event_settled (event.Rewrote dev row) old new quiet does is = same_settled old.port new.port does.1 is
-event_settled (event.Put at bytes) old new quiet does is = same_settled old.port new.port does.1 is
+event_settled other old new quiet does is = same_settled old.port new.port does.1 is
 
 events_settled : (es : List HostEvent) (old new : event.Host) → AreQuiet es → event.Runs old es new → IsSettled (view_of 15 old.port) → IsSettled (view_of 15 new.port)
 events_settled [] old new quiet runs is = subst (λ (h : event.Host). IsSettled (view_of 15 h.port)) (sym runs) is
@@ -222,8 +220,6 @@ none_pushed : (f : Stamped) {P : Type 0} → Some f ≡ None → P
 none_pushed f e = absurd (cc)
 
 gives_from : (o : Outgoing) (old : Port) (memory : Memory) (f : Stamped) (new : Port) → Gives o old memory (Some f) new → f.stamp.port ≡ 15 → IsSetFrom old new
-gives_from Nothing old memory f new gives own = none_pushed f gives.0
-gives_from (Unreadable dev) old memory f new gives own = none_pushed f gives.0
 gives_from (Data dev offset len command) old memory f new gives own =
     let is : 15 ≡ dev = sym own ∙ ap (λ (x : Stamped). x.stamp.port) gives.frame_is in
     inl (ap (λ (n : ℕ). (view_of n new).state.status) is ∙ ap (λ (v : DeviceView). v.state.status) gives.own ∙ ap (λ (n : ℕ). (view_of n old).state.status) (sym is))
@@ -235,15 +231,15 @@ gives_from (Order dev slot command) old memory f new gives own =
       | inl same ↦ inl (now ∙ same ∙ was)
       | inr set ↦ inr (now ∙ set ∙ ap (λ (s : ℕ). bit_or s 0x80) was)
     ]
+gives_from other old memory f new gives own = none_pushed f gives.0
 
 pub pushed_data : (old new : Host) (f : Stamped) → Does old (Pushed (Some f)) new → f.stamp.port ≡ 15 → wants_data (view_of 15 old.port).state.status ≡ false → wants_data (view_of 15 new.port).state.status ≡ false
 pushed_data old new f does own none = set_data old.port new.port (gives_from (outgoing old.port old.memory) old.port old.memory f new.port does.gives own) none
 
 gives_other : (o : Outgoing) (old : Port) (memory : Memory) (f : Stamped) (new : Port) → Gives o old memory (Some f) new → f.stamp.port ≢ 15 → view_of 15 new ≡ view_of 15 old
-gives_other Nothing old memory f new gives other = none_pushed f gives.0
-gives_other (Unreadable dev) old memory f new gives other = none_pushed f gives.0
 gives_other (Data dev offset len command) old memory f new gives other = gives.others 15 (λ same. other (ap (λ (x : Stamped). x.stamp.port) gives.frame_is ∙ sym same))
 gives_other (Order dev slot command) old memory f new gives other = gives.others 15 (λ same. other (ap (λ (x : Stamped). x.stamp.port) gives.frame_is ∙ sym same))
+gives_other rest old memory f new gives other = none_pushed f gives.0
 
 pub pushed_other : (old new : Host) (f : Stamped) → Does old (Pushed (Some f)) new → f.stamp.port ≢ 15 → view_of 15 new.port ≡ view_of 15 old.port
 pushed_other old new f does other = gives_other (outgoing old.port old.memory) old.port old.memory f new.port does.gives other
@@ -251,8 +247,7 @@ pushed_other old new f does other = gives_other (outgoing old.port old.memory) o
 gives_none : (o : Outgoing) (old : Port) (memory : Memory) (new : Port) → Gives o old memory None new → IsSettled (view_of 15 old) → IsSettled (view_of 15 new)
 gives_none Nothing old memory new gives is = same_settled old new gives.1 is
 gives_none (Unreadable dev) old memory new gives is = subst (λ (p : Port). IsSettled (view_of 15 p)) (sym gives.1) (record { drq = is.drq; busy = is.busy })
-gives_none (Data dev offset len command) old memory new gives is = absurd gives
-gives_none (Order dev slot command) old memory new gives is = absurd gives
+gives_none other old memory new gives is = absurd gives
 
 pub nothing_pushed : (old new : Host) → Does old (Pushed None) new → IsSettled (view_of 15 old.port) → IsSettled (view_of 15 new.port)
 nothing_pushed old new does is = gives_none (outgoing old.port old.memory) old.port old.memory new.port does.gives is

@@ -129,9 +129,7 @@ event_asks (event.Flushed dev) old new quiet does a = elim (cases_eq 15 dev) [
   | inl own ↦ absurd (never_empty (view_of 15 new.port) (ap (λ (n : ℕ). (view_of n new.port).slots) own ∙ ap (λ (v : DeviceView). v.slots) does.0.own) a)
   | inr other ↦ subst IsAsking (does.0.others 15 other) a
 ]
-event_asks (event.Stored structure) old new quiet does a = same_asks old.port new.port does.1 a
-event_asks (event.Rewrote dev row) old new quiet does a = same_asks old.port new.port does.1 a
-event_asks (event.Put at bytes) old new quiet does a = same_asks old.port new.port does.1 a
+event_asks other old new quiet does a = same_asks old.port new.port does.1 a
 
 events_ask : (es : List HostEvent) (old new : event.Host) → AreQuiet es → event.Runs old es new → IsAsking (view_of 15 new.port) → IsAsking (view_of 15 old.port)
 events_ask [] old new quiet runs a = subst (λ (h : event.Host). IsAsking (view_of 15 h.port)) runs a
@@ -139,13 +137,12 @@ events_ask (e ∷ es) old new quiet runs a = event_asks e old runs.0 quiet.0 run
 
 pub are_quiet : (es : List HostEvent) → flat_map took es ≡ [] → flat_map gave es ≡ [] → AreQuiet es
 are_quiet [] none_came none_went = tt
-are_quiet (event.Took frame report ∷ es) none_came none_went = absurd (cc)
-are_quiet (event.Gave frame ∷ es) none_came none_went = absurd (cc)
 are_quiet (event.Wrote register value ∷ es) none_came none_went = (tt, are_quiet es none_came none_went)
 are_quiet (event.Flushed dev ∷ es) none_came none_went = (tt, are_quiet es none_came none_went)
 are_quiet (event.Stored structure ∷ es) none_came none_went = (tt, are_quiet es none_came none_went)
 are_quiet (event.Rewrote dev row ∷ es) none_came none_went = (tt, are_quiet es none_came none_went)
 are_quiet (event.Put at bytes ∷ es) none_came none_went = (tt, are_quiet es none_came none_went)
+are_quiet other none_came none_went = absurd (cc)
 
 pub tick_asks : (old new : Host) (acted : Bool) → IsSoundHost old → Ticks old acted new → IsAsking (view_of 15 new.port) → IsAsking (view_of 15 old.port)
 tick_asks old new acted sound ticks a =
@@ -160,12 +157,11 @@ none_pushed : (f : Stamped) {P : Type 0} → Some f ≡ None → P
 none_pushed f e = absurd (cc)
 
 push_other : (o : Outgoing) (old : Port) (memory : Memory) (f : Stamped) (new : Port) → Gives o old memory (Some f) new → f.stamp.port ≢ 15 → IsAsking (view_of 15 new) → IsAsking (view_of 15 old)
-push_other Nothing old memory f new gives other a = none_pushed f gives.0
-push_other (Unreadable dev) old memory f new gives other a = none_pushed f gives.0
 push_other (Data dev offset len command) old memory f new gives other a =
     subst IsAsking (gives.others 15 (λ same. other (ap (λ (x : Stamped). x.stamp.port) gives.frame_is ∙ sym same))) a
 push_other (Order dev slot command) old memory f new gives other a =
     subst IsAsking (gives.others 15 (λ same. other (ap (λ (x : Stamped). x.stamp.port) gives.frame_is ∙ sym same))) a
+push_other rest old memory f new gives other a = none_pushed f gives.0
 
 push_none : (o : Outgoing) (old : Port) (memory : Memory) (new : Port) → Gives o old memory None new → IsAsking (view_of 15 new) → IsAsking (view_of 15 old)
 push_none Nothing old memory new gives a = same_asks old new gives.1 a
@@ -252,8 +248,6 @@ answered_out None i e sent = absurd (cc)
 answered_out (Some was) i e sent = (was, refl, ap (λ (x : Issue). x.sent) (same_Some (answered_issue was) i e) ∙ sent)
 
 answer_keeps : (a : Answered) (own : DeviceSlots) → IsOut (answered_as a own) → IsOut own
-answer_keeps answer.Nobody own out = out
-answer_keeps (answer.Short slot) own out = out
 answer_keeps (answer.Done slot) own out = record { issue = out.issue; there = freed_keeps (is_slot slot) own out.issue out.there; sent = out.sent }
 answer_keeps (answer.Queued slot) own out = elim (set_gives own.issues slot 31 (option_map answered_issue (own_issue own slot)) out.issue out.there) [
   | inl h ↦
@@ -261,6 +255,7 @@ answer_keeps (answer.Queued slot) own out = elim (set_gives own.issues slot 31 (
       record { issue = was.0; there = subst (λ (s : ℕ). own_issue own s ≡ Some was.0) h.1 was.1; sent = was.2 }
   | inr h ↦ record { issue = out.issue; there = h; sent = out.sent }
 ]
+answer_keeps other own out = out
 
 -- what the host knows of slot 31 while a command of it is unanswered
 pub record IsAwaiting (h : Host) : Type 0 where

@@ -36,7 +36,7 @@ use Rattle.disk_model.specs.declared.request.Command.{Command}
 use Rattle.disk_model.specs.Anew.{IsClear}
 use Rattle.disk_model.specs.Ends.{IsRight, MovesOther, PageAsked}
 use Rattle.disk_model.specs.Laws.{ActivatesRight, AnswersFirst, SetsUpRight, ShowsFirst, StartsOne}
-use Rattle.disk_model.specs.Ledger.{Accepts, Finishes, Ledger, Moving, Names, Refuses, Reply, ShowsPage, Signs, answered, listens_up, sends_data}
+use Rattle.disk_model.specs.Ledger.{Ledger, Moving, Names, Reply, ShowsPage, answered, listens_up, sends_data}
 use Rattle.hba_laws.specs.Agreement.{ContextAgrees, IssueAgrees, IsTold, SetupAgrees, end_of, is_for, is_pio_issue, work_of_issue, work_of_transfer}
 use Rattle.hba_laws.specs.History as event
 use Rattle.hba_laws.specs.History.{History, Setup as LastSetup, Transfer, carried, is_set_up, issued, last_setup}
@@ -106,18 +106,12 @@ d2h_status own state f status error false false false = refl
 pub answer_calm : (xs : List Reply) (f : List ℕ) → AnswersFirst xs f → (is_busy (field D2h Status f) ≡ false) × (wants_data (field D2h Status f) ≡ false)
 answer_calm [] f answers = absurd answers
 answer_calm (ShowsPage ∷ xs) f answers = absurd answers
-answer_calm (Signs ∷ xs) f answers = (ap is_busy answers.status_is, ap wants_data answers.status_is)
-answer_calm (Accepts ∷ xs) f answers = (ap is_busy answers.status_is, ap wants_data answers.status_is)
-answer_calm (Finishes ∷ xs) f answers = (ap is_busy answers.status_is, ap wants_data answers.status_is)
-answer_calm (Refuses ∷ xs) f answers = (ap is_busy answers.status_is, ap wants_data answers.status_is)
+answer_calm other f answers = (ap is_busy answers.status_is, ap wants_data answers.status_is)
 
 page_status : (xs : List Reply) (f : List ℕ) → ShowsFirst xs f → field Pio Status f ≡ 0x58
 page_status [] f shows = absurd shows
 page_status (ShowsPage ∷ xs) f shows = shows.0.status_is
-page_status (Signs ∷ xs) f shows = absurd shows
-page_status (Accepts ∷ xs) f shows = absurd shows
-page_status (Finishes ∷ xs) f shows = absurd shows
-page_status (Refuses ∷ xs) f shows = absurd shows
+page_status other f shows = absurd shows
 
 -- ---- other FISes without data
 
@@ -405,14 +399,13 @@ module _ (v : DeviceView) (commands : ℕ → SlotCommand) (past : History) (k :
   calm_payload f sound right long (inr calm) = data_calm f sound v.slots.context refl right long calm
 
   calm_fis : (fis : Fis) (sound : Bool) → IsRight k (Ok fis) → IsOfDisk (Ok fis) → IsLong (Ok fis) → WasCalm → Calms (told (Ok fis) ++ past) (listens_up k (Ok fis)) (heard_fis v.slots v.state sound fis)
-  calm_fis (view.RegH2D f) sound right mine long was = absurd mine
   calm_fis (view.RegD2H f) sound right mine long was = λ fine. calm_d2h f sound (event.Answered ∷ past) (answered k) right
   calm_fis (view.SetBits f) sound right mine long was = λ fine. calm_bits f sound right was
   calm_fis (view.DmaActivate f) sound right mine long was = λ fine. calm_activate f sound right was
   calm_fis (view.DmaSetup f) sound right mine long was = λ fine. calm_setup f sound right was _
   calm_fis (view.PioSetup f) sound right mine long was = λ fine. calm_pio f sound right mine
   calm_fis (view.Payload f) sound right mine long was = calm_payload f sound right long was
-  calm_fis (view.Unknown f) sound right mine long was = absurd mine
+  calm_fis other sound right mine long was = absurd mine
 
   by_admitted : (dev : ℕ) (fis : Fis) (sound b : Bool) → IsRight k (Ok fis) → IsOfDisk (Ok fis) → IsLong (Ok fis) → WasCalm
       → Calms (told (Ok fis) ++ past) (listens_up k (Ok fis)) (heard dev v sound (if b then Some fis else None))

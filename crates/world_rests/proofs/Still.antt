@@ -6,7 +6,7 @@ use Rattle.std.proofs.lemmas.Bool.{and_parts, false≢true, true≢false}
 use Rattle.std.proofs.lemmas.Option.{same_Some}
 use Rattle.host_memory.specs.Memory.{Memory}
 use Rattle.multiplier.specs.State.{PmState}
-use Rattle.hba_fbs.specs.Sending.{Data, Gives, Nothing, Order, Outgoing, Unreadable, outgoing}
+use Rattle.hba_fbs.specs.Sending.{Gives, Nothing, Outgoing, Unreadable, outgoing}
 use Rattle.hba_fbs.specs.Views.{Port}
 use Rattle.hba_laws.specs.Isolation.{fails_by_bus}
 use Rattle.hba_driver.specs.declared.mode.Mode.TheVariants.{Switching}
@@ -95,8 +95,7 @@ GivesNoFault host = fails_by_bus (outgoing host.port host.memory) ≡ false
 none_given : (o : Outgoing) (old : Port) (memory : Memory) (new : Port) → fails_by_bus o ≡ false → Gives o old memory None new → new ≡ old
 none_given Nothing old memory new e gives = gives.1
 none_given (Unreadable dev) old memory new e gives = absurd (true≢false e)
-none_given (Data dev offset len command) old memory new e gives = absurd gives
-none_given (Order dev slot command) old memory new e gives = absurd gives
+none_given other old memory new e gives = absurd gives
 
 host_same : (old new : Host) → new.port ≡ old.port → new.driver ≡ old.driver → new.memory ≡ old.memory → new ≡ old
 host_same old new port driver memory =

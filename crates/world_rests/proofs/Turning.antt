@@ -85,12 +85,9 @@ ticks_reset stage next (inr h) on = absurd (false≢true (sym (ap is_resetting h
 
 pub inside_reset : (t : HostTurn) → IsInside t → (stage next : Stage31) (old new : Host) → IsNext31 stage old t new next → is_resetting next ≡ true → next ≡ stage
 inside_reset (Took frame report) inside stage next old new is on = absurd inside
-inside_reset (Pushed None) inside stage next old new is on = is
 inside_reset (Pushed (Some f)) inside stage next old new is on = absurd inside
 inside_reset (Ticked acted) inside stage next old new is on = ticks_reset stage next is.stays on
-inside_reset (Submitted dev request ticket) inside stage next old new is on = is
-inside_reset (Polled completion) inside stage next old new is on = is
-inside_reset (Put at bytes) inside stage next old new is on = is
+inside_reset other inside stage next old new is on = is
 
 -- its two stages are apart
 never_both : (o : Order) (asked : Bool) (part : DevicePart) → IsIn Resets o asked part → IsIn Signs o asked part → ⊥

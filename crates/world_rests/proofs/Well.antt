@@ -161,9 +161,8 @@ control_ports pm frame _ after acts = absurd acts
 
 device_ports : (pm : PmState) (frame : Stamped) (o : Option ℕ) (p : Passed) (after : PmState) → MatchOption o (ToNobody pm (Ok p) after) (λ conn. ToDevice pm (pm_port frame) conn frame (Ok p) after) → KeepsPorts pm after
 device_ports pm frame None passed.Dropped after acts = as_ports pm after _ acts (refl, λ low. low)
-device_ports pm frame None _ after acts = absurd acts
 device_ports pm frame (Some conn) (passed.Down m) after acts = as_ports pm after _ acts.2 (refl, λ low. low)
-device_ports pm frame (Some conn) _ after acts = absurd acts
+device_ports pm frame other _ after acts = absurd acts
 
 passed_ports : (pm : PmState) (frame : Stamped) (p : Passed) (after : PmState) → FromHostRule pm frame (Ok p) after → KeepsPorts pm after
 passed_ports pm frame p after rule = by_test (pm_port frame == control_port) rule

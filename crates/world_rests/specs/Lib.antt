@@ -4,6 +4,7 @@ pub mod Waits
 pub mod Turns
 pub mod Laws
 pub mod Left
+pub mod Ended
 pub mod Out
 pub mod Watches
 pub mod Opens

@@ -1,24 +1,26 @@
 -- What a host at rest has out with a disk: nothing (AHCI 1.3.1, 5.3 and 5.6, how a port receives FISes, and how commands are
 -- completed; ACS-3, FLUSH CACHE EXT, IDENTIFY DEVICE, READ LOG EXT; Serial ATA 3.x, 13.6, native command queuing).
 --
--- Cited: a disk that was left alone since its plugging (`pm_world`, specs/Disks.antt), and when its port shows BSY or DRQ
--- (specs/Left.antt).
+-- Cited: a disk that was left alone since its plugging (`pm_world`, specs/Disks.antt), and what became of a request that was set aside
+-- (specs/Ended.antt), and when its port shows BSY or DRQ (specs/Left.antt).
 use Rattle.std.specs.Prelude.{ℕ, ◌≡◌, ◌≢◌, ◌<◌, ◌||◌, true, false, List, length, Some}
 use Rattle.slots.specs.Slots.{Issue, issue_at}
 use Rattle.hba_fbs.specs.Views.{Port}
 use Rattle.disk_model.specs.declared.plan.DiskPlan.{DiskPlan}
 use Rattle.disk_model.specs.Histories.{Happening}
 use Rattle.hba_driver.specs.declared.path.Path.{Path}
-use Rattle.hba_driver.specs.declared.path.Stage.TheVariants.{AwaitReset}
+use Rattle.hba_driver.specs.declared.path.Recovery.{Recovery}
+use Rattle.hba_driver.specs.declared.plan.Device.TheVariants.{Recovering}
+use Rattle.hba_driver.specs.declared.plan.Plan.{Plan}
 use Rattle.hba_driver.specs.Drivers.{Entry, device_at, entry_at, is_issued, waits}
 use Rattle.hba_driver.specs.HostTurns.{Host}
-use Rattle.hba_driver.specs.Steady.{IsFine}
 use Rattle.hba_driver.specs.Tended.{IsUnworked}
 use Rattle.pm_world.specs.Attached.{Attached}
 use Rattle.pm_world.specs.Disks.{DiskRun, HasDisk}
 use Rattle.pm_world.specs.PathEnds.{IsThere}
 use Rattle.pm_world.specs.Places.{Places, is_config}
 use Rattle.pm_world.specs.declared.step.Config.{Config}
+use Rattle.world_rests.specs.Ended.{EachHasEnded, IsKnown}
 use Rattle.world_rests.specs.Left.{IsOccupied}
 use Rattle.world_rests.specs.Rests.{IsAtRest}
 
@@ -37,22 +39,24 @@ NoRequestIsLeft n h =
     (slot : ℕ) (e : Entry) → slot < 30 → entry_at h.driver.entries slot ≡ Some e → e.head.dev ≡ n
     → (waits e.head || is_issued e.head) ≡ false
 
--- slot 30 works on the device at most to await the end of its software reset
-abbrev pub AwaitsAtMost : ℕ → Host → Type 0
-AwaitsAtMost n h = (p : Path) → h.driver.plan.path ≡ Some p → p.dev ≡ n → (p.asked ≡ false) × (p.stage ≡ AwaitReset)
+-- slot 30 works on another device
+abbrev pub WorksElsewhere : ℕ → Plan → Type 0
+WorksElsewhere n plan = (p : Path) × ((plan.path ≡ Some p) × (p.dev ≢ n))
 
--- Nothing is issued for the disk, no request of it waits, and slot 30 has no command for it.
+-- Nothing is issued for the disk, no request of it waits or is issued, and slot 30 does not work on it.
 pub record DiskIsFree (n : ℕ) (h : Host) : Type 0 where
   pub issued : NothingIsIssued n h.port
   pub requests : NoRequestIsLeft n h
-  pub path : AwaitsAtMost n h
+  pub path : IsUnworked n h.driver.plan
 
--- No command is with the disk. While the driver does not take it to recover, it is free, and slot 30 does not work on it. It is free, too,
--- while its port shows neither BSY nor DRQ of it.
+-- No command is with the disk, and it is free. Each request of it has ended, while the driver takes it to be there and not to recover. It
+-- recovers only while slot 30 works on another device, and only then the port shows BSY or DRQ of it.
 pub record DiskIsLeft (n : ℕ) (h : Host) : Type 0 where
   pub out : NothingIsOut n h.port
-  pub fine : IsFine (device_at h.driver.plan n) → DiskIsFree n h × IsUnworked n h.driver.plan
-  pub free : (IsOccupied n h.port → ⊥) → DiskIsFree n h
+  pub free : DiskIsFree n h
+  pub ended : IsKnown (device_at h.driver.plan n) → EachHasEnded n h
+  pub recovers : (way : Recovery) → device_at h.driver.plan n ≡ Recovering way → WorksElsewhere n h.driver.plan
+  pub shows : IsOccupied n h.port → WorksElsewhere n h.driver.plan
 
 -- That holds in a world at rest for a disk that is plugged in, and was left alone since then.
 abbrev pub RestedDisksAreLeft : Type 0

@@ -1,5 +1,6 @@
 //! Laws, which run no code.
 
+ghost use Rattle.world_rests.specs.Ended.{AsidesRecover};
 ghost use Rattle.world_rests.specs.Laws.{IdleDriversWait, RestedHaveDone, StillRoundsRest};
 ghost use Rattle.world_rests.specs.Left.{RestedDisksHaveDone};
 ghost use Rattle.world_rests.specs.Opens.{RestedPortsAreOpen};
@@ -66,17 +67,28 @@ pub fn rested_drivers_watch()
 /// Holds of each world at rest that a run from a new one with FIS-based switching leads to, for a disk of `disk_model` that was
 /// left alone since its plugging (nothing was injected at its port), and is plugged in. No command is with the disk: what is issued
 /// for it did not go out, be it a read, a write, a FLUSH, an IDENTIFY DEVICE or the read of its error log.
-/// While the driver does not take the disk to recover, nothing is issued for it, no request of it waits or is issued, and slot 30 does
-/// not work on it. Of a disk that recovers that holds while the host port shows neither BSY nor DRQ of it, but that slot 30 may
-/// await the end of its software reset.
+/// Nothing is issued for it, no request of it waits or is issued, and slot 30 does not work on it: above all, it does not await the end of
+/// its software reset. Each request of it has ended, unless the driver takes it to recover or to be absent. It recovers only while
+/// slot 30 works on another device, and only then the host port shows BSY or DRQ of it.
 pub fn rested_disks_are_left()
     ensures { RestedDisksAreLeft }
 {
+    disk_simulation::port_and_ledger_stay_joined();
+    disk_simulation::task_files_stay_fine();
     rested_have_done();
     rested_ports_are_open();
-    rested_disks_have_done();
+    asides_recover();
     pm_world::paths_go_on();
     pm_world::ends_meet();
+}
+
+/// Holds of each world that a run from a new one with FIS-based switching leads to, whatever its devices are. A request that the driver set
+/// aside is of a device that recovers, or of one that it takes to be absent, since a search found none at the port.
+pub fn asides_recover()
+    ensures { AsidesRecover }
+{
+    pm_world::one_order_at_a_time();
+    pm_world::ports_go_on();
 }
 
 /// Holds of each world at rest that a run from a new one with FIS-based switching leads to, whatever its devices are. The driver has

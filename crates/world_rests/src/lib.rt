@@ -7,7 +7,8 @@ mod laws;
 mod round;
 
 pub use laws::{
-    each_takes_turns, idle_drivers_wait, rested_disks_are_left, rested_disks_have_done,
-    rested_drivers_watch, rested_have_done, rested_ports_are_open, still_rounds_rest,
+    asides_recover, each_takes_turns, idle_drivers_wait, rested_disks_are_left,
+    rested_disks_have_done, rested_drivers_watch, rested_have_done, rested_ports_are_open,
+    still_rounds_rest,
 };
 pub use round::{is_still, rests};

@@ -106,7 +106,7 @@ faulty_ignored false true s h = refl
 faulty_ignored r false s h = absurd (false≢true h)
 
 module _ (n : ℕ) (old new : Host) where
-  pushed_none : (o : Outgoing) (frame : Option Stamped) → Gives o old.port old.memory frame new.port → frame ≡ None
+  pub pushed_none : (o : Outgoing) (frame : Option Stamped) → Gives o old.port old.memory frame new.port → frame ≡ None
       → view_of n new.port ≡ view_of n old.port
   pushed_none (Data dev offset len command) None gives is = absurd gives
   pushed_none (Data dev offset len command) (Some f) gives is = cc is
@@ -114,7 +114,7 @@ module _ (n : ℕ) (old new : Host) where
   pushed_none (Goes dev slot command) (Some f) gives is = cc is
   pushed_none other frame gives is = ap (view_of n) gives.1
 
-  pushed_other : (o : Outgoing) (f : Stamped) → Gives o old.port old.memory (Some f) new.port → f.stamp.port ≢ n
+  pub pushed_other : (o : Outgoing) (f : Stamped) → Gives o old.port old.memory (Some f) new.port → f.stamp.port ≢ n
       → view_of n new.port ≡ view_of n old.port
   pushed_other (Data dev offset len command) f gives other = gives.others n (λ e. other (ap (λ (x : Stamped). x.stamp.port) gives.frame_is ∙ sym e))
   pushed_other (Goes dev slot command) f gives other = gives.others n (λ e. other (ap (λ (x : Stamped). x.stamp.port) gives.frame_is ∙ sym e))
@@ -171,7 +171,7 @@ module _ (n : ℕ) (past : Touches) (h : Host) (low : n < 15) (on : IsOn30 past 
   unclear : is_faulty stage ≡ false → IsClearTick n h → ⊥
   unclear well is = false≢true (sym well ∙ sym at.fault ∙ cleared_faulty h.port n on.sound.ruled (may_clear n is).faulty)
 
-  calm_tick : is_faulty stage ≡ false → IsCalmTick n h
+  pub calm_tick : is_faulty stage ≡ false → IsCalmTick n h
   calm_tick well = elim (calm_or_flush n h on.going (unclear well)) [
     | inl calm ↦ calm
     | inr flushes ↦ absurd (flush flushes)
@@ -256,6 +256,15 @@ module _ (n : ℕ) (past : Touches) (h : Host) (low : n < 15) (on : IsOn30 past 
 
     other_device : (c : Clearing30) → c.dev ≢ n → device_at new.driver.plan n ≡ device_at h.driver.plan n
     other_device c other = ap (λ (p : Plan). device_at p n) (clears_plan c) ∙ device_if (nat_lt c.dev 15) c.dev other
+
+    -- its fault is cleared, and that of no other device
+    pub cleared_view : is_some (view_of n new.port).fault ≡ false → view_of n new.port ≡ stopped_view (view_of n h.port)
+    cleared_view none =
+        let c : Clearing30 = clears_due in
+        elim (cases_eq c.dev n) [
+          | inl same ↦ own_view c same
+          | inr other ↦ absurd (true≢false (sym (ap (λ (w : DeviceView). is_some w.fault) (other_view c other) ∙ at.fault ∙ failed) ∙ none))
+        ]
 
     -- the fault of the device stands on
     stands_on : is_some (view_of n new.port).fault ≡ true

@@ -1,6 +1,6 @@
 -- For `ends_go_on`. How slot 30 of a device that is set aside and the line of its link fit together, and go on
 -- together.
-use Rattle.std.proofs.Common.{◌≡◌, ℕ, true, false, List, [], ◌∷◌, ◌++◌, refl, sym, subst, inl, inr, Some, None}
+use Rattle.std.proofs.Common.{◌≡◌, ℕ, true, false, List, [], ◌∷◌, ◌++◌, refl, sym, ap, subst, ◌∙◌, inl, inr, Some, None}
 use Rattle.fis_view.specs.declared.build.H2dFields.{H2dFields}
 use Rattle.fis_view.specs.Seen.{seen}
 use Rattle.hba_fbs.specs.Posting.{signs}
@@ -10,8 +10,8 @@ use Rattle.disk_model.specs.declared.request.Request.{Request}
 use Rattle.disk_model.specs.declared.request.Request.TheVariants as asked
 use Rattle.disk_model.specs.Anew.{IsRequest}
 use Rattle.disk_model.specs.Ledger.{Ledger, LogOf, ShowsPage, Signs, Wanted}
-use Rattle.disk_simulation.specs.Line.{Asked, Both, BothBegin, ComesTo, Failed, HasSpoken, Held, Line, LinesGoOn, Loose, OnLine, Releasing, Resting}
-use Rattle.disk_recovery.specs.Stages.{Fits, FitsAsked, FitsFailed, FitsHeld, FitsLoose, FitsOff, GoesByReset, Leans}
+use Rattle.disk_simulation.specs.Line.{Asked, Both, BothBegin, ComesTo, Failed, HasSpoken, Held, IsBoth, Line, LinesGoOn, Loose, OnLine, Releasing, Resting}
+use Rattle.disk_recovery.specs.Stages.{Fits, FitsAsked, FitsFailed, FitsHeld, FitsLoose, FitsOff, GoesByLog, GoesByReset, Leans}
 
 -- The line may stand at the first of these, and then it stands at the other too.
 pub record IsFit (n : ℕ) (line : Line) (stage : Stage30) (h : Host) (k : Ledger) (down up : List (List ℕ)) : Type 0 where
@@ -53,7 +53,6 @@ module _ (laws : LinesGoOn) (n : ℕ) (h : Host) (k : Ledger) (down up : List (L
   gives_loose Sets fields are fits asks on = record { at = Held; fits = tt; leans = tt; on = laws.holds k down up bytes asks on }
   gives_loose Faulty fields are fits asks on = no_fields fields (Gives Loose Faulty) are
   gives_loose Cleared fields are fits asks on = no_fields fields (Gives Loose Cleared) are
-  gives_loose Off fields are fits asks on = no_fields fields (Gives Loose Off) are
   gives_loose _ fields are fits asks on = absurd fits
 
   gives_held : (stage : Stage30) (fields : H2dFields) → fields30 n stage ≡ Some fields → FitsHeld stage → IsRequest bytes (request30 stage)
@@ -101,23 +100,28 @@ is_off : (stage : Stage30) → FitsOff stage → stage ≡ Off
 is_off Off fits = refl
 is_off _ fits = absurd fits
 
-off_loose : (n : ℕ) (stage : Stage30) (h : Host) → FitsOff stage → FitsLoose stage × GoesByReset n stage h
-off_loose n Off h fits = (tt, tt)
-off_loose n _ h fits = absurd fits
+-- two FISes are on their way, and the first comes: so one is left
+not_last : {X : Type 0} (xs : List (List ℕ)) (x y z : List ℕ) → z ∷ [] ≡ xs ++ x ∷ y ∷ [] → X
+not_last [] x y z is = cc is
+not_last (w ∷ []) x y z is = cc is
+not_last (w ∷ v ∷ xs) x y z is = cc is
 
-module _ (n : ℕ) (stage : Stage30) (h : Host) (old new : Ledger) (back up : List (List ℕ)) where
-  pub comes_on : (line : Line) → Fits line stage → Leans n line stage h → ComesTo line old new back up → Comes30 n stage h old new back up
-  comes_on Failed fits leans stands = Line30 Failed fits leans stands.on
-  comes_on Asked fits leans (inr both) = LogRead (LogOf old.failure) (is_log stage fits) both
-  comes_on Loose fits leans stands = Line30 Loose fits leans stands.on
-  comes_on Held fits leans (inr on) = Line30 Resting fits tt on
-  comes_on Both fits leans (inr (inl on)) = Line30 Releasing fits tt on
-  comes_on Both fits leans (inr (inr on)) =
-      let loose = off_loose n stage h fits in
-      Line30 Loose loose.0 loose.1 on.0.on
-  comes_on Resting fits leans none = absurd none
-  comes_on Releasing fits leans both = ResetDone (is_off stage fits) both
-  comes_on other fits leans (inl stands) = Line30 other fits leans stands.on
+-- what comes is the first of what is on its way
+module _ (n : ℕ) (stage : Stage30) (h : Host) (old new : Ledger) (bytes : List ℕ) (back up : List (List ℕ)) where
+  both_left : {X : Type 0} → IsBoth old (bytes ∷ back) up → back ≡ [] → X
+  both_left on none = not_last on.ahead on.on on.off bytes (sym (ap (λ (xs : List (List ℕ)). bytes ∷ xs) none) ∙ on.is)
+
+  pub comes_on : (line : Line) → Fits line stage → Leans n line stage h → OnLine line old (bytes ∷ back) up → ComesTo line old new back up
+      → Comes30 n stage h old new back up
+  comes_on Failed fits leans was stands = Line30 Failed fits leans stands.on
+  comes_on Asked fits leans was (inr both) = LogRead (LogOf old.failure) (is_log stage fits) both
+  comes_on Loose fits leans was stands = Line30 Loose fits leans stands.on
+  comes_on Held fits leans was (inr on) = Line30 Resting fits tt on
+  comes_on Both fits leans was (inr (inl on)) = Line30 Releasing fits tt on
+  comes_on Both fits leans was (inr (inr on)) = both_left was on.1
+  comes_on Resting fits leans was none = absurd none
+  comes_on Releasing fits leans was both = ResetDone (is_off stage fits) both
+  comes_on other fits leans was (inl stands) = Line30 other fits leans stands.on
 
 -- ## Turns in which nothing goes over the link
 
@@ -135,14 +139,17 @@ module _ (laws : LinesGoOn) (n : ℕ) (h : Host) (k : Ledger) (down up : List (L
   reset_failed : Fit Failed Sets
   reset_failed = record { at = Loose; fits = tt; leans = tt; on = laws.loosens k down up }
 
-  failed_on : (stage next : Stage30) → FitsFailed stage → TicksOn30 stage next → Fit Failed next
-  failed_on Faulty next fits (inl is) = moved Failed next Faulty is (same Failed Faulty tt tt)
-  failed_on Faulty next fits (inr is) = moved Failed next Cleared is (same Failed Cleared tt tt)
-  failed_on Cleared next fits (inl is) = moved Failed next Cleared is (same Failed Cleared tt tt)
-  failed_on Cleared next fits (inr (inl is)) = moved Failed next Asks is (same Failed Asks tt tt)
-  failed_on Cleared next fits (inr (inr is)) = moved Failed next Sets is reset_failed
-  failed_on Asks next fits is = moved Failed next Asks is (same Failed Asks tt tt)
-  failed_on _ next fits is = absurd fits
+  failed_at : (next stage : Stage30) → next ≡ stage → FitsFailed stage → GoesByLog n next h → Fit Failed next
+  failed_at next stage is fits goes = same Failed next (subst FitsFailed (sym is) fits) goes
+
+  failed_on : (stage next : Stage30) → FitsFailed stage → TicksOn30 stage next → GoesByLog n next h → Fit Failed next
+  failed_on Faulty next fits (inl is) goes = failed_at next Faulty is tt goes
+  failed_on Faulty next fits (inr is) goes = failed_at next Cleared is tt goes
+  failed_on Cleared next fits (inl is) goes = failed_at next Cleared is tt goes
+  failed_on Cleared next fits (inr (inl is)) goes = failed_at next Asks is tt goes
+  failed_on Cleared next fits (inr (inr is)) goes = moved Failed next Sets is reset_failed
+  failed_on Asks next fits is goes = failed_at next Asks is tt goes
+  failed_on _ next fits is goes = absurd fits
 
   loose_at : (next stage : Stage30) → next ≡ stage → FitsLoose stage → GoesByReset n next h → Fit Loose next
   loose_at next stage is fits goes = same Loose next (subst FitsLoose (sym is) fits) goes
@@ -154,7 +161,6 @@ module _ (laws : LinesGoOn) (n : ℕ) (h : Host) (k : Ledger) (down up : List (L
   loose_on Cleared next fits (inr (inl is)) goes = absurd (subst (λ (x : Stage30). GoesByReset n x h) is goes)
   loose_on Cleared next fits (inr (inr is)) goes = loose_at next Sets is tt goes
   loose_on Sets next fits is goes = loose_at next Sets is tt goes
-  loose_on Off next fits is goes = loose_at next Off is tt goes
   loose_on _ next fits is goes = absurd fits
 
   held_on : (stage next : Stage30) → FitsHeld stage → TicksOn30 stage next → FitsHeld next
@@ -172,7 +178,7 @@ module _ (laws : LinesGoOn) (n : ℕ) (h : Host) (k : Ledger) (down up : List (L
   off_on _ next fits is = absurd fits
 
   pub ticks_on : (line : Line) (stage next : Stage30) → Fits line stage → TicksOn30 stage next → Leans n line next h → Fit line next
-  ticks_on Failed stage next fits is leans = failed_on stage next fits is
+  ticks_on Failed stage next fits is leans = failed_on stage next fits is leans
   ticks_on Asked stage next fits is leans = same Asked next (asked_on stage next fits is) tt
   ticks_on Loose stage next fits is leans = loose_on stage next fits is leans
   ticks_on Both stage next fits is leans = same Both next (off_on stage next fits is) tt
@@ -187,7 +193,6 @@ module _ (laws : LinesGoOn) (n : ℕ) (h : Host) (k : Ledger) (down up : List (L
   loose_taken Cleared next fits (inr is) goes = loose_at next Faulty is tt goes
   loose_taken Sets next fits (inl is) goes = loose_at next Sets is tt goes
   loose_taken Sets next fits (inr is) goes = loose_at next Faulty is tt goes
-  loose_taken Off next fits is goes = loose_at next Off is tt goes
   loose_taken _ next fits is goes = absurd fits
 
   held_taken : (stage next : Stage30) → FitsHeld stage → TakesOn30 stage next → FitsHeld next

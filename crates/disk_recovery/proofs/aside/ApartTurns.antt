@@ -12,7 +12,7 @@ use Rattle.disk_model.specs.Anew.{IsRequest}
 use Rattle.disk_model.specs.Histories.{Happening, Received, Sent}
 use Rattle.disk_model.specs.Ledger.{IsSize, Ledger, ShowsPage, Signs, Wanted, ledger}
 use Rattle.disk_model.specs.Runs.{IsDiskRun}
-use Rattle.disk_simulation.specs.Line.{Asked, BothBegin, GoesUp, IsTaken, Line, LinesGoOn, Loose, OnLine}
+use Rattle.disk_simulation.specs.Line.{Asked, BothBegin, Failed, GoesUp, HasSpoken, IsTaken, Line, LinesGoOn, Loose, OnLine}
 use Rattle.disk_simulation.proofs.Door.{lines_go_on, marks_ask_nothing}
 use Rattle.hba_driver.specs.HostTurns.{Does, DoesAll, Host, HostTurn, Pushed, Ticked, Took}
 use Rattle.hba_driver.specs.Slot30.{Cleared, Faulty, Goes30, IsAt30, IsNext30, IsOn30, IsUnsought, LogSent, Off, On, Stage30, TicksOn30}
@@ -21,6 +21,7 @@ use Rattle.hba_driver.proofs.Door.{turns_serve}
 use Rattle.disk_recovery.specs.Ends.{Apart, AreFloors, EndsAfter, IsBesideTurn, IsRunning, IsSetAside}
 use Rattle.disk_recovery.specs.Stages.{Fits, Leans}
 use Rattle.disk_recovery.proofs.aside.ApartDriver.{MayBe30, leads, requests, resets, still_off}
+use Rattle.disk_recovery.proofs.aside.ApartIdle.{idles}
 use Rattle.disk_recovery.proofs.aside.ApartLines.{Comes30, IsFit, IsGiven, Line30, LogRead, ResetDone, comes_on, given_on, may_come, request30, takes_on}
 use Rattle.disk_recovery.proofs.aside.ApartLines.{ticks_on}
 
@@ -59,10 +60,12 @@ beside_next n stage next old other beside is = same_ticks stage next is
 -- ---- turns
 
 module _ (n : ℕ) (past : Touches) (old : Host) (turn : HostTurn) (new : Host) (below : n < 15) (on : IsOn30 past old) (does : Does old turn new) where
-  leans_on : (stage : Stage30) (line : Line) → MayBe30 n stage old turn → IsUnsought n old → IsAt30 n stage old → (t : Turns30 n stage turn new)
+  leans_on : (stage : Stage30) (line : Line) → (line ≡ Failed → IsBesideTurn n old turn) → MayBe30 n stage old turn → IsUnsought n old → IsAt30 n stage old
+      → (t : Turns30 n stage turn new)
       → Leans n line stage old → Leans n line t.next new
-  leans_on stage Loose may off at t leans = resets n past old turn new stage below on does may off at t leans
-  leans_on stage _ may off at t leans = tt
+  leans_on stage Loose beside may off at t leans = resets n past old turn new stage below on does may off at t leans
+  leans_on stage Failed beside may off at t leans = idles n past old turn new stage below on does (beside refl) at t leans
+  leans_on stage _ beside may off at t leans = tt
 
   pub aside_beside : (disk : List Happening) (down up : List (List ℕ)) → IsBesideTurn n old turn → IsSetAside n old disk down up
       → IsSetAside n new disk down up
@@ -71,7 +74,7 @@ module _ (n : ℕ) (past : Touches) (old : Host) (turn : HostTurn) (new : Host) 
       let t : Turns30 n h.stage turn new = leads n past old turn new h.stage below on does may h.off h.at in
       let fit : IsFit n h.line t.next new (ledger disk) down up =
       ticks_on lines n new (ledger disk) down up h.line h.stage t.next h.fits (beside_next n h.stage t.next old turn beside t.is)
-      (leans_on h.stage h.line may h.off h.at t h.leans) in
+      (leans_on h.stage h.line (λ failed. beside) may h.off h.at t h.leans) in
       record { stage = t.next; line = fit.at; at = t.at; off = still_off n h.stage old turn new does may h.off; fits = fit.fits; leans = fit.leans; on = fit.on h.on }
 
 -- the host gives the disk a FIS
@@ -107,7 +110,7 @@ aside_takes n past old bytes report new below on does disk down up framed port h
     let t : Turns30 n h.stage turn new = leads n past old turn new h.stage below on does may h.off h.at in
     let fit : IsFit n h.line t.next new (ledger disk) down up =
     takes_on lines n new (ledger disk) down up h.line h.stage t.next taken.spoken h.fits (t.is.0 port)
-    (leans_on n past old turn new below on does h.stage h.line may h.off h.at t h.leans) in
+    (leans_on n past old turn new below on does h.stage h.line (λ failed. absurd (subst HasSpoken failed taken.spoken)) may h.off h.at t h.leans) in
     record { stage = t.next; line = fit.at; at = t.at; off = still_off n h.stage old turn new does may h.off; fits = fit.fits; leans = fit.leans; on = fit.on taken.on }
 
 -- ---- steps of the disk
@@ -128,7 +131,7 @@ asked_silent _ k down up fits on = absurd fits
 pub aside_comes : (n : ℕ) (h : Host) (disk : List Happening) (back up : List (List ℕ)) (bytes : List ℕ) → IsSetAside n h disk (bytes ∷ back) up
     → GoesAside n h disk (disk ++ Received bytes ∷ []) back up
 aside_comes n h disk back up bytes a =
-    by_case (comes_on n a.stage h (ledger disk) (ledger (disk ++ Received bytes ∷ [])) back up a.line a.fits a.leans
+    by_case (comes_on n a.stage h (ledger disk) (ledger (disk ++ Received bytes ∷ [])) bytes back up a.line a.fits a.leans a.on
     (lines.comes a.line disk [] back up bytes (inl refl) a.on))
   where
     by_case : Comes30 n a.stage h (ledger disk) (ledger (disk ++ Received bytes ∷ [])) back up

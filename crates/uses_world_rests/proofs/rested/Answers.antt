@@ -1,6 +1,6 @@
 use Rattle.std.proofs.Common.{ap, ◌∙◌}
 use Rattle.std.specs.Prelude.{Ok}
-use Rattle.uses_world_rests.proofs.Round.{disk_has_done, disk_is_left, fits, moves_none, opens_all, watches_alone}
+use Rattle.uses_world_rests.proofs.Round.{asides_go_on, disk_has_done, disk_is_left, fits, moves_none, opens_all, watches_alone}
 use Rattle.uses_world_rests.proofs.rested.Goals as goal
 
 pub returns-clause-rests : goal.returns-clause-rests
@@ -17,6 +17,11 @@ pub returns-clause-opens : goal.returns-clause-opens
 returns-clause-opens g c =
     opens_all _ c.args.units.items c.in-Ok.world _ _ _ _ c.in-Ok.ensures.ok (fits c.new.result _ c.in-Ok.world _ c.new.ensures.bad_config c.in-Ok.is) c.in-Ok-run.ensures.run
     (c.rests.ensures.rests (c.in-Ok-true.is ∙ ap Ok c.in-Ok-true.field-0-test)) c.rested_ports_are_open.ensures
+
+pub returns-clause-asides : goal.returns-clause-asides
+returns-clause-asides g c =
+    asides_go_on _ c.args.units.items c.in-Ok.world _ _ _ _ c.in-Ok.ensures.ok (fits c.new.result _ c.in-Ok.world _ c.new.ensures.bad_config c.in-Ok.is) c.in-Ok-run.ensures.run
+    (c.rests.ensures.rests (c.in-Ok-true.is ∙ ap Ok c.in-Ok-true.field-0-test)) c.asides_recover.ensures
 
 pub returns-clause-disk : goal.returns-clause-disk
 returns-clause-disk g c =
