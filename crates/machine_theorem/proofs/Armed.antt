@@ -1,14 +1,14 @@
 -- A bit of PxSACT that is not written is not there: while a queued command is issued in its slot, its bit of PxSACT shows nothing but that.
-use Rattle.std.proofs.Common.{◌≡◌, ℕ, ◌+◌, ◌<◌, ◌^◌, ◌&&◌, ◌||◌, Bool, true, false, not, List, [], ◌∷◌, refl, sym, ap, subst, ◌∙◌, inl, inr, length, arith, Option, Some, None, bit_or}
-use Rattle.std.specs.Prelude.{◌==◌, MatchOption, is_some, if◌then◌else◌}
-use Rattle.std.proofs.lemmas.Bool.{cases_Bool, false≢true}
+use Rattle.std.proofs.Common.{◌≡◌, ℕ, ◌<◌, ◌^◌, Bool, true, false, List, refl, sym, ap, subst, ◌∙◌, arith, Option, Some, None, bit_or}
+use Rattle.std.specs.Prelude.{MatchOption, is_some, if◌then◌else◌}
+use Rattle.std.proofs.lemmas.Bool.{false≢true}
 use Rattle.fis_view.specs.declared.view.Fis.{Fis}
 use Rattle.fis_view.specs.declared.view.Fis.TheVariants as view
 use Rattle.guest_fetch.specs.Commands.{Fetched}
 use Rattle.guest_fetch.specs.declared.fetch.Supplied.{Supplied}
 use Rattle.guest_fetch.specs.declared.fetch.Supplied.TheVariants as came_as
 use Rattle.slots.specs.Commands.{slots_where}
-use Rattle.slots.specs.Slots.{DeviceSlots, Issue, has_bit, holds, is_queued_issue, issue_at, mask_of, own_issue, slots_of}
+use Rattle.slots.specs.Slots.{Issue, has_bit, holds, is_queued_issue, issue_at, mask_of, own_issue, slots_of}
 use Rattle.slots.specs.Table.{IsIssue, IsTable}
 use Rattle.slots.proofs.Door.{has_bit_mask}
 use Rattle.ahci_registers.specs.Bits as line_bits
@@ -17,7 +17,6 @@ use Rattle.ahci_registers.specs.declared.link.Effect.{Effect}
 use Rattle.ahci_registers.specs.declared.link.Effect.TheVariants as effect
 use Rattle.ahci_registers.specs.declared.register.Register.{Register}
 use Rattle.ahci_registers.specs.declared.register.Register.TheVariants as ahci
-use Rattle.hba_fbs.specs.Bits.{st, without}
 use Rattle.hba_fbs.specs.Choosing.{Chooses, may_feed}
 use Rattle.hba_fbs.specs.Deciding.{Decides, decided}
 use Rattle.hba_fbs.specs.Greeting.{Greets}
@@ -38,8 +37,8 @@ use Rattle.hba_fbs.specs.declared.registers.Registers.{Registers}
 use Rattle.hba_fbs.specs.declared.report.TakeReport.{TakeReport}
 use Rattle.hba_fbs.specs.declared.room.Room.{Room}
 use Rattle.hba_fbs.specs.declared.turn.Turn.{Turn}
-use Rattle.hba_fbs.specs.declared.turn.Turn.TheVariants.{Feeds, Orders, Rests}
-use Rattle.hba_laws.proofs.Door.{held, own_here, own_in}
+use Rattle.hba_fbs.specs.declared.turn.Turn.TheVariants.{Feeds, Rests}
+use Rattle.hba_laws.proofs.Door.{own_here, own_in}
 use Rattle.ahci_controller.specs.Access.{fits as fits_width, merged}
 use Rattle.ahci_controller.specs.Feeding.{GathersIf, Loses, LosesIf, MissesIf as MissesDataIf, SendsIf, without_feeding}
 use Rattle.ahci_controller.specs.Fetching.{GoesOn, MissesIf, SuppliesIf, answered, fits, is_asked, without_fetch}
@@ -49,7 +48,7 @@ use Rattle.ahci_controller.specs.Offers.{offer_in, offers_nothing}
 use Rattle.ahci_controller.specs.Reading.{shown}
 use Rattle.ahci_controller.specs.States.{ControllerState}
 use Rattle.ahci_controller.specs.Taking.{CoreHearsIf}
-use Rattle.ahci_controller.specs.Wide.{WritesAt, WritesFitting, WritesIf, WritesNothing, block_of}
+use Rattle.ahci_controller.specs.Wide.{WritesFitting, WritesIf, WritesNothing}
 use Rattle.ahci_controller.specs.Writing.{ClearsIf, Commands, Leaves, ResetsBy, WritesGlobal, WritesRegister, armed_by, link_effect, link_moved, plain, told_refusal}
 use Rattle.ahci_controller.specs.declared.access.Width.{Width}
 use Rattle.ahci_controller.specs.declared.feeding.Fed.{Fed}
@@ -88,13 +87,7 @@ emptied s new is = ap (λ (m : ℕ). has_bit m s) is ∙ none_set s
 posted_armed : (r : Registers) (dev : ℕ) (resetting : Bool) (fis : Fis) → (posted r dev resetting fis).armed ≡ r.armed
 unfolding posted
 posted_armed r dev resetting (view.RegH2D f) = refl
-posted_armed r dev resetting (view.RegD2H f) = refl
-posted_armed r dev resetting (view.SetBits f) = refl
-posted_armed r dev resetting (view.DmaActivate f) = refl
-posted_armed r dev resetting (view.DmaSetup f) = refl
-posted_armed r dev resetting (view.Payload f) = refl
-posted_armed r dev resetting (view.PioSetup f) = refl
-posted_armed r dev resetting (view.Unknown f) = refl
+posted_armed r dev resetting other = refl
 
 posted_if : (r : Registers) (dev : ℕ) (resetting : Bool) (o : Option Fis) → (posted_of r dev resetting o).armed ≡ r.armed
 posted_if r dev resetting None = refl
@@ -122,8 +115,7 @@ hears false ignored s old frame report new is h was = greets s (port_of frame) o
 
 chooses : (s : ℕ) (turn : Turn) (old new : Port) → Chooses turn old new → IsBare s old → IsBare s new
 chooses s Rests old new h was = by_core s old new h was
-chooses s (Feeds dev slot offset len) old new h was = by_registers s old new h.registers was
-chooses s (Orders dev slot command) old new h was = by_registers s old new h.registers was
+chooses s other old new h was = by_registers s old new h.registers was
 
 -- ---- writes
 
@@ -185,9 +177,8 @@ global true value s old new h was = emptied s new.core (ap (λ (r : Registers). 
 global false value s old new h was = by_core s old.core new.core (ap (λ (c : ControllerState). c.core) h) was
 
 linked : (e : Effect) (s : ℕ) (old new : ControllerState) → ResetsBy e old new → IsBare s old.core → IsBare s new.core
-linked effect.Nothing s old new h was = by_core s old.core new.core (ap (λ (c : ControllerState). c.core) h) was
 linked effect.LinkReset s old new h was = emptied s new.core (ap (λ (r : Registers). r.armed) h.core.registers)
-linked effect.LinkUp s old new h was = by_core s old.core new.core (ap (λ (c : ControllerState). c.core) h) was
+linked other s old new h was = by_core s old.core new.core (ap (λ (c : ControllerState). c.core) h) was
 
 asked_core : (running : Bool) (c d : ControllerState) → d.core ≡ c.core → (if running then d else c).core ≡ c.core
 asked_core true c d is = is
@@ -197,28 +188,16 @@ unmoved : (s : ℕ) (old new : ControllerState) → new.core ≡ old.core → Is
 unmoved s old new is was = by_core s old.core new.core is was
 
 register : (r : Register) (value s : ℕ) (old new : ControllerState) (result : Written) → s < 32 → Leaves r old value result new → (r ≡ ahci.PxSact → IsTaken s old.core) → IsBare s old.core → IsBare s new.core
-register ahci.Cap value s old new result below h there was = unmoved s old new (ap (λ (c : ControllerState). c.core) h.0) was
 register ahci.Ghc value s old new result below h there was = global (line_bits.has_bit value 0) value s old new h.0 was
-register ahci.Is value s old new result below h there was = unmoved s old new (ap (λ (c : ControllerState). c.core) h.0) was
-register ahci.Pi value s old new result below h there was = unmoved s old new (ap (λ (c : ControllerState). c.core) h.0) was
-register ahci.Vs value s old new result below h there was = unmoved s old new (ap (λ (c : ControllerState). c.core) h.0) was
-register ahci.Cap2 value s old new result below h there was = unmoved s old new (ap (λ (c : ControllerState). c.core) h.0) was
-register ahci.PxClb value s old new result below h there was = unmoved s old new (ap (λ (c : ControllerState). c.core) h.0) was
-register ahci.PxClbu value s old new result below h there was = unmoved s old new (ap (λ (c : ControllerState). c.core) h.0) was
-register ahci.PxFb value s old new result below h there was = unmoved s old new (ap (λ (c : ControllerState). c.core) h.0) was
-register ahci.PxFbu value s old new result below h there was = unmoved s old new (ap (λ (c : ControllerState). c.core) h.0) was
 register ahci.PxIs value s old new result below h there was = told_armed (told_refusal old on_port.Is value) on_port.Is value s old.core new.core (same_bit s _ _ (is_armed value old.core.registers)) h.0.core was
-register ahci.PxIe value s old new result below h there was = unmoved s old new (ap (λ (c : ControllerState). c.core) h.0) was
 register ahci.PxCmd value s old new result below h there was = commands value s old new result.ignored h.0 was
-register ahci.PxTfd value s old new result below h there was = unmoved s old new (ap (λ (c : ControllerState). c.core) h.0) was
-register ahci.PxSig value s old new result below h there was = unmoved s old new (ap (λ (c : ControllerState). c.core) h.0) was
-register ahci.PxSsts value s old new result below h there was = unmoved s old new (ap (λ (c : ControllerState). c.core) h.0) was
 register ahci.PxSctl value s old new result below h there was = linked (link_effect old value) s (link_moved old value) new h.0 was
 register ahci.PxSerr value s old new result below h there was = told_armed (told_refusal old on_port.Serr value) on_port.Serr value s old.core new.core (same_bit s _ _ (serr_armed value old.core.registers)) h.0.core was
 register ahci.PxSact value s old new result below h there was = told_armed (told_refusal old on_port.Sact (armed_by old.core value)) on_port.Sact (armed_by old.core value) s old.core new.core (sact_bare value s old.core below (there refl)) h.0.core was
 register ahci.PxCi value s old new result below h there was = unmoved s old new (ap (λ (c : ControllerState). c.core) h.0 ∙ asked_core old.own.starts old _ refl) was
 register ahci.PxSntf value s old new result below h there was = told_armed (told_refusal old on_port.Sntf value) on_port.Sntf value s old.core new.core (same_bit s _ _ (sntf_armed value old.core.registers)) h.0.core was
 register ahci.PxFbs value s old new result below h there was = told_armed (told_refusal (record old { wants = record old.wants { feeding = 0 } }) on_port.Fbs _) on_port.Fbs _ s old.core new.core (same_bit s _ _ (fbs_armed _ old.core.registers)) h.0.core was
+register other value s old new result below h there was = unmoved s old new (ap (λ (c : ControllerState). c.core) h.0) was
 
 at_register : (o : Option Register) (value : Register → ℕ) (s : ℕ) (old new : ControllerState) (result : Written) (nothing : Type 0) → s < 32 → (nothing → new ≡ old) → MatchOption o nothing (λ r. WritesRegister r old (value r) result new)
     → (o ≡ Some ahci.PxSact → IsTaken s old.core) → IsBare s old.core → IsBare s new.core
@@ -276,10 +255,9 @@ issues slot s f None base new supply h was = places s (device_of f) (2 ^ slot) b
 issues slot s f (Some reason) base new supply h was = unmoved s base new (ap (λ (c : ControllerState). c.core) h.rest) was
 
 goes_on : (slot s : ℕ) (came : Supplied) (base new : ControllerState) (supply : Supply) → GoesOn base slot came supply new → IsBare s base.core → IsBare s new.core
-goes_on slot s (came_as.More f) base new supply h was = unmoved s base new (ap (λ (c : ControllerState). c.core) h.0) was
-goes_on slot s (came_as.OutOfMemory f) base new supply h was = unmoved s base new (ap (λ (c : ControllerState). c.core) h.0) was
 goes_on slot s (came_as.Refused r) base new supply h was = unmoved s base new (ap (λ (c : ControllerState). c.core) h.rest) was
 goes_on slot s (came_as.Whole f) base new supply h was = issues slot s f (not_issued base.core slot f) base new supply h was
+goes_on slot s other base new supply h was = unmoved s base new (ap (λ (c : ControllerState). c.core) h.0) was
 
 supplies : (fit : Bool) (slot s : ℕ) (bytes : List ℕ) (old new : ControllerState) (supply : Supply) → SuppliesIf fit old slot bytes supply new → IsBare s old.core → IsBare s new.core
 supplies false slot s bytes old new supply h was = unmoved s old new (ap (λ (c : ControllerState). c.core) h.0) was
@@ -327,9 +305,8 @@ gathers false dev s old new fed h was = unmoved s old new (ap (λ (c : Controlle
 gathers true dev s old new fed h was = sends (may_feed old.core dev) dev s (without_feeding old dev) new fed h was
 
 loses : (turn : Turn) (base new : ControllerState) (fed : Fed) → Loses turn base fed new → new.core ≡ base.core
-loses Rests base new fed h = ap (λ (c : ControllerState). c.core) h.0
 loses (Feeds dev slot offset len) base new fed h = ap (λ (c : ControllerState). c.core) h.rest
-loses (Orders dev slot command) base new fed h = ap (λ (c : ControllerState). c.core) h.0
+loses other base new fed h = ap (λ (c : ControllerState). c.core) h.0
 
 loses_if : (due : Bool) (dev : ℕ) (base new : ControllerState) (fed : Fed) → LosesIf due base dev fed new → new.core ≡ base.core
 loses_if false dev base new fed h = ap (λ (c : ControllerState). c.core) h.0
@@ -340,17 +317,16 @@ misses_data false dev old new fed h = ap (λ (c : ControllerState). c.core) h.0
 misses_data true dev old new fed h = loses_if (may_feed old.core dev) dev (without_feeding old dev) new fed h
 
 -- so it is over every call
-stays_bare : (e : Event) (s : ℕ) (old new : ControllerState) → IsTable old.core.slots → s < 32 → Does old e new → IsTaken s old.core → IsBare s old.core → IsBare s new.core
+pub stays_bare : (e : Event) (s : ℕ) (old new : ControllerState) → IsTable old.core.slots → s < 32 → Does old e new → IsTaken s old.core → IsBare s old.core → IsBare s new.core
 stays_bare (call.Wrote offset value written) s old new ok below h there was = at_register (register_at offset) (λ r. value) s old new written _ below (λ n. n.0) h (λ e. there) was
 stays_bare (call.WroteWide offset width value written) s old new ok below h there was = wide (fits_width width offset) offset width value s old new written ok below h there was
 stays_bare (call.Supplied slot number bytes supply) s old new ok below h there was = supplies (fits old slot number bytes) slot s bytes old new supply h was
 stays_bare (call.Missed slot number supply) s old new ok below h there was = unmoved s old new (misses (is_asked old.wants slot number) slot old new supply h) was
 stays_bare (call.Took frame took) s old new ok below h there was = hears old.core.registers.started (ignores (port_of frame) old.core frame) s old frame took.report new.core refl h.hears.core was
-stays_bare (call.Left frame why) s old new ok below h there was = unmoved s old new (ap (λ (c : ControllerState). c.core) h.1) was
 stays_bare (call.Turned next) s old new ok below h there was = turns (next_write old) s old new next h was
-stays_bare (call.Said write) s old new ok below h there was = unmoved s old new (ap (λ (c : ControllerState). c.core) h.1) was
 stays_bare (call.Gathered dev number frame fed) s old new ok below h there was = gathers (is_fed old.wants dev number) dev s old new fed h.1 was
 stays_bare (call.NotThere dev number fed) s old new ok below h there was = unmoved s old new (misses_data (is_fed old.wants dev number) dev old new fed h) was
+stays_bare other s old new ok below h there was = unmoved s old new (ap (λ (c : ControllerState). c.core) h.1) was
 
 -- ---- a queued command that is there
 

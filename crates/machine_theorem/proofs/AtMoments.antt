@@ -1,5 +1,5 @@
 -- What is sent is sent at a moment of the run, and the disk's command then came from a slot.
-use Rattle.std.proofs.Common.{◌≡◌, ℕ, ◌<◌, Bool, true, List, [], ◌∷◌, ◌++◌, append_assoc, Option, Some, None, refl, sym, ap, ◌∙◌, subst, inl, inr}
+use Rattle.std.proofs.Common.{◌≡◌, ◌⊎◌, ℕ, ◌<◌, Bool, true, List, [], ◌∷◌, ◌++◌, append_assoc, Option, Some, None, refl, sym, ap, ◌∙◌, subst, inl, inr}
 use Rattle.fis_view.specs.Frames.{Stamped}
 use Rattle.block_disk.specs.Laws.{Page}
 use Rattle.block_queue.specs.Line.{command_at, has_bit}
@@ -19,6 +19,7 @@ use Rattle.machine_laws.specs.ControllerLaws.{RunsRuled}
 use Rattle.machine_laws.specs.Deeds.{Deed, Does, Moved}
 use Rattle.machine_laws.specs.Heard.{DisksHaveLived, HasLived, life_in, no_life}
 use Rattle.machine_theorem.specs.Commands.{CommandsOfNewDisks}
+use Rattle.machine_theorem.specs.Completed.{IsFisBy, IsFisIn}
 use Rattle.machine_theorem.specs.Ends.{EndOrigin, EndsAreOfDevices, HasEarnedAt, IsEndBy, IsEndIn, IsEnded}
 use Rattle.machine_theorem.specs.Moments.{CompletionsAreEarned, DataAreOfSlots, Earns, EndedAtMoments, EndsAreOfSlots, GivesNext, HasCommand, IsOfSlots, Moment, OfNewDisk, PayloadIsOfSlots, SentAtMoments, IsEndOfSlot}
 use Rattle.machine_theorem.specs.Origins.{IsSentBy, IsSentIn}
@@ -53,27 +54,35 @@ moment_behind R old past m deed later next does first holds = record {
   holds = holds;
 }
 
-sent_from : (f : Stamped) (old : MachineState) (past : List Deed) (m : MachineState) → RunsRuled old past m → (deeds : List Deed) (now : MachineState) (run : RunsRuled m deeds now)
-    → IsSentIn f m deeds now run → Moment old (past ++ deeds) (IsSentBy f)
-sent_from f old past m first [] now run sent = absurd sent
-sent_from f old past m first (deed ∷ later) now run (inl by) = moment_behind (IsSentBy f) old past m deed later run.1.0 run.1.1 first by
-sent_from f old past m first (deed ∷ later) now run (inr is) =
-    subst (λ (l : List Deed). Moment old l (IsSentBy f)) (append_assoc past (deed ∷ []) later)
-    (sent_from f old (past ++ deed ∷ []) run.1.0 (more past old m run.1.0 deed first run.1.1 (first_ruled later run.1.0 now run.1.2)) later now run.1.2 is)
+abbrev OverRuns : Type 1
+OverRuns = (old : MachineState) → (deeds : List Deed) → (new : MachineState) → RunsRuled old deeds new → Type 0
+
+-- what a run has by one of its deeds, it has at a moment
+module _ (R : Holding) (In : OverRuns) (none : (m now : MachineState) (run : RunsRuled m [] now) → In m [] now run → ⊥)
+    (one : (m : MachineState) (deed : Deed) (later : List Deed) (now : MachineState) (run : RunsRuled m (deed ∷ later) now) → In m (deed ∷ later) now run
+    → R m deed run.1.0 run.1.1 ⊎ In run.1.0 later now run.1.2) where
+  moment_from : (old : MachineState) (past : List Deed) (m : MachineState) → RunsRuled old past m → (deeds : List Deed) (now : MachineState) (run : RunsRuled m deeds now)
+      → In m deeds now run → Moment old (past ++ deeds) R
+  moment_from old past m first [] now run is = absurd (none m now run is)
+  moment_from old past m first (deed ∷ later) now run is =
+      elim (one m deed later now run is) [
+        | inl here ↦ moment_behind R old past m deed later run.1.0 run.1.1 first here
+        | inr there ↦
+            subst (λ (l : List Deed). Moment old l R) (append_assoc past (deed ∷ []) later)
+            (moment_from old (past ++ deed ∷ []) run.1.0 (more past old m run.1.0 deed first run.1.1 (first_ruled later run.1.0 now run.1.2)) later now run.1.2 there)
+      ]
+
+  moment_at : (old : MachineState) (deeds : List Deed) (now : MachineState) (run : RunsRuled old deeds now) → In old deeds now run → Moment old deeds R
+  moment_at old deeds now run is = moment_from old [] old (first_ruled deeds old now run, refl) deeds now run is
 
 pub sent_at : SentAtMoments
-sent_at f old deeds now run sent = sent_from f old [] old (first_ruled deeds old now run, refl) deeds now run sent
-
-ended_from : (f : Stamped) (tag : ℕ) (old : MachineState) (past : List Deed) (m : MachineState) → RunsRuled old past m → (deeds : List Deed) (now : MachineState)
-    (run : RunsRuled m deeds now) → IsEndIn f tag m deeds now run → Moment old (past ++ deeds) (IsEndBy f tag)
-ended_from f tag old past m first [] now run sent = absurd sent
-ended_from f tag old past m first (deed ∷ later) now run (inl by) = moment_behind (IsEndBy f tag) old past m deed later run.1.0 run.1.1 first by
-ended_from f tag old past m first (deed ∷ later) now run (inr is) =
-    subst (λ (l : List Deed). Moment old l (IsEndBy f tag)) (append_assoc past (deed ∷ []) later)
-    (ended_from f tag old (past ++ deed ∷ []) run.1.0 (more past old m run.1.0 deed first run.1.1 (first_ruled later run.1.0 now run.1.2)) later now run.1.2 is)
+sent_at f old deeds now run sent = moment_at (IsSentBy f) (IsSentIn f) (λ m now run h. h) (λ m deed later now run h. h) old deeds now run sent
 
 pub ended_at : EndedAtMoments
-ended_at f tag old deeds now run sent = ended_from f tag old [] old (first_ruled deeds old now run, refl) deeds now run sent
+ended_at f tag old deeds now run sent = moment_at (IsEndBy f tag) (IsEndIn f tag) (λ m now run h. h) (λ m deed later now run h. h) old deeds now run sent
+
+pub fis_at : (f : Stamped) (old : MachineState) (deeds : List Deed) (now : MachineState) (run : RunsRuled old deeds now) → IsFisIn f old deeds now run → Moment old deeds (IsFisBy f)
+fis_at f old deeds now run sent = moment_at (IsFisBy f) (IsFisIn f) (λ m now run h. h) (λ m deed later now run h. h) old deeds now run sent
 
 -- ---- what a disk sends
 

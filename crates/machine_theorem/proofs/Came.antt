@@ -10,10 +10,10 @@ use Rattle.block_command.specs.declared.command.Command.{Command}
 use Rattle.block_command.specs.declared.command.Turn.{Turn}
 use Rattle.block_command.specs.declared.command.Turn.TheVariants as turn
 use Rattle.block_command.specs.Moments.{Moment, turn_of}
-use Rattle.block_command.specs.Laws.{AskedFlush, AskedLoad, AskedStore, CameData, Comes, Fails, Failed, Flushed, Flushes, Goes, Happening, Input, Ledger, Loaded, Loads, SentActivate, SentAnnounce, SentData, SentEnd, SentError, SentSetUp, Stored, Stores, Waited, blank, entered, given_to, shown, stored_in}
+use Rattle.block_command.specs.Laws.{CameData, Comes, Failed, Flushed, Goes, Happening, Input, Ledger, Loaded, Loads, SentSetUp, Stored, blank, entered, given_to, shown, stored_in}
 use Rattle.block_disk.specs.Table as table
 use Rattle.block_disk.specs.Table.{is_under_way}
-use Rattle.block_disk.specs.Laws.{At, AtNone, Page, Refused, Reset, Shown, Took, at_page, entered_in, page_entered, shown_at}
+use Rattle.block_disk.specs.Laws.{At, Page, Refused, Reset, Shown, Took, at_page, entered_in, page_entered, shown_at}
 use Rattle.block_disk.specs.Requests.{Answered, Asked, Books, Drawn, OnLink, Seen, entered_by, is_out, no_books, seen, told}
 use Rattle.block_disk.proofs.Door.{each_is}
 use Rattle.block_queue.specs.Deeds as deed
@@ -39,7 +39,7 @@ use Rattle.sata_disk.specs.Hearing.{ranges_of, register_told}
 use Rattle.sata_disk.specs.declared.out.Out.{Out}
 use Rattle.sata_disk.specs.declared.out.Out.TheVariants as out
 use Rattle.sata_disk_laws.specs.Calls as call
-use Rattle.sata_disk_laws.specs.Calls.{Call, act_steps, after_call, all_steps, ask_steps, data_steps, fis_steps, out_steps, range_steps, start_steps, steps_of}
+use Rattle.sata_disk_laws.specs.Calls.{Call, act_steps, all_steps, ask_steps, data_steps, fis_steps, out_steps, range_steps, start_steps, steps_of}
 use Rattle.sata_disk_laws.specs.Laws.{reached, seen_in}
 use Rattle.sata_disk_books.specs.Books.{CommandsAreAsked, IsAskedFor, books_after, page_in}
 use Rattle.sata_disk_books.proofs.Door.{books_both, shown_both, shown_from}
@@ -199,16 +199,7 @@ module _ (was now : Holding) (fresh : (c : Command) → now c []) (stays : (c : 
   ledger_holds c l Stored is of = same_came c l (stored_in l l.storing) (stored_came l l.storing) is
   ledger_holds c l SentSetUp is of = same_came c l (entered c l SentSetUp) (set_up_came l (c.write && c.auto_activate)) is
   ledger_holds c l Flushed is of = same_came c l (entered c l Flushed) (flushed_came l l.flushing) is
-  ledger_holds c l (AskedLoad lba n) is of = stays c l.came is
-  ledger_holds c l (AskedStore lba bytes) is of = stays c l.came is
-  ledger_holds c l AskedFlush is of = stays c l.came is
-  ledger_holds c l (SentData part) is of = stays c l.came is
-  ledger_holds c l SentActivate is of = stays c l.came is
-  ledger_holds c l SentAnnounce is of = stays c l.came is
-  ledger_holds c l SentEnd is of = stays c l.came is
-  ledger_holds c l SentError is of = stays c l.came is
-  ledger_holds c l Failed is of = stays c l.came is
-  ledger_holds c l Waited is of = stays c l.came is
+  ledger_holds c l other is of = stays c l.came is
 
   page_stays : (x : Option Page) → OfPage was x → OfPage now x
   page_stays None is = tt
@@ -223,11 +214,10 @@ module _ (was now : Holding) (fresh : (c : Command) → now c []) (stays : (c : 
 
   shown_entered : (pages : List (Option Page)) (s : Shown) → OfPages was pages → OfShown was now s → OfPages now (entered_in pages s)
   shown_entered pages (Took c) before of = set_each (OfPage now) pages c.place (Some (record { command = c; ledger = blank })) (fresh c) (pages_stay pages before)
-  shown_entered pages (Refused c) before of = pages_stay pages before
   shown_entered pages (At place h) before of =
       set_each (OfPage now) pages place (option_map (λ p. page_entered p h) (at_page pages place)) (page_holds h (at_page pages place) (before place) of) (pages_stay pages before)
-  shown_entered pages (AtNone place) before of = pages_stay pages before
   shown_entered pages Reset before of = no_pages now
+  shown_entered pages other before of = pages_stay pages before
 
   answer_entered : (b : Books) (place number : ℕ) (h : Happening) (d : Bool) → OfPages was b.pages → OfHappening was now h
       → OfPages now (if d then record { pages = entered_in b.pages (At place h); out = set b.out place 0 } else b).pages
@@ -290,16 +280,7 @@ all_entered holds fresh (s ∷ later) b before none =
 
 turn_none : (m : Moment) (t : Turn) → NoHappening (shown m t)
 turn_none m turn.Nothing = tt
-turn_none m turn.Start = tt
-turn_none m turn.Load = tt
-turn_none m turn.SetUp = tt
-turn_none m turn.Announce = tt
-turn_none m turn.Data = tt
-turn_none m turn.Activate = tt
-turn_none m turn.Store = tt
-turn_none m turn.Flush = tt
-turn_none m turn.End = tt
-turn_none m turn.Fail = tt
+turn_none m other = tt
 
 goes_none : (place : ℕ) (x : Option Moment) → NoShown (shown_at place x Goes)
 goes_none place None = tt
@@ -307,11 +288,7 @@ goes_none place (Some m) = turn_none m (turn_of m.stage)
 
 told_none : (i : Input) → NoHappening (told i)
 told_none (Loads bytes) = tt
-told_none Stores = tt
-told_none Flushes = tt
-told_none Fails = tt
-told_none Goes = tt
-told_none (Comes part) = tt
+told_none other = tt
 
 taken_none : (c : Command) (b : Bool) → NoShown (if b then Refused c else Took c)
 taken_none c true = tt
@@ -324,8 +301,7 @@ deed_seen l (deed.Sends place) none = goes_none place (table.at l.queue.table pl
 deed_seen l (deed.Asks place) none = goes_none place (table.at l.queue.table place)
 deed_seen l (deed.Hears place part) none = absurd none
 deed_seen l (deed.Answers place number i) none = told_none i
-deed_seen l deed.Resets none = tt
-deed_seen l deed.Draws none = tt
+deed_seen l other none = tt
 
 deeds_seen : (ds : List Deed) (l : Line) → Each NoDeed ds → Each NoSeen (seen_of l ds)
 unfolding seen_of
@@ -346,16 +322,11 @@ sent_deeds place true = (tt, (tt, tt))
 sent_deeds place false = (tt, tt)
 
 move_deeds : (s : Schedule) (m : Move) → NoMove m → Each NoDeed (deeds_of s m)
-move_deeds s (move.Takes c) none = (tt, tt)
 move_deeds s (move.Sends place) none = sent_deeds place (ends_all s.line place)
 move_deeds s move.SendsEnds none = ends_none s.line 32
 move_deeds s move.Forgives none = tt
-move_deeds s (move.Starts place) none = (tt, tt)
-move_deeds s (move.Asks place) none = (tt, tt)
 move_deeds s (move.Hears place part) none = absurd none
-move_deeds s (move.Answers place number i) none = (tt, tt)
-move_deeds s move.Draws none = (tt, tt)
-move_deeds s move.Resets none = (tt, tt)
+move_deeds s other none = (tt, tt)
 
 moves_deeds : (ms : List Move) (s : Schedule) → Each NoMove ms → Each NoDeed (all_deeds s ms)
 unfolding all_deeds
@@ -369,18 +340,11 @@ answer_none e (Some p) number answers.Done = (tt, tt)
 answer_none e (Some p) number (answers.Failed f) = (tt, tt)
 
 step_moves : (e : EngineState) (s : Step) → NoStep s → Each NoMove (moves_of e s)
-step_moves e (engine.Takes c) none = (tt, tt)
 step_moves e (engine.TakesAside k ranges) none = tt
 step_moves e (engine.Answers number a) none = answer_none e (place_of e number) number a
 step_moves e engine.SendsAside none = tt
-step_moves e (engine.Starts p) none = (tt, tt)
-step_moves e (engine.Asks p) none = (tt, tt)
-step_moves e engine.AsksAside none = (tt, tt)
 step_moves e (engine.Hears p part) none = absurd none
-step_moves e (engine.Sends p) none = (tt, tt)
-step_moves e engine.SendsEnds none = (tt, tt)
-step_moves e engine.Forgives none = (tt, tt)
-step_moves e engine.Resets none = (tt, tt)
+step_moves e other none = (tt, tt)
 
 steps_moves : (ss : List Step) (e : EngineState) → Each NoStep ss → Each NoMove (all_moves e ss)
 unfolding all_moves
@@ -413,9 +377,7 @@ data CallSteps (k : Call) (steps : List Step) : Type 0 where
 
 act_none : (e : EngineState) (a : Act) → Each NoStep (act_steps e a)
 act_none e act.Nothing = tt
-act_none e (act.Takes c) = (tt, tt)
-act_none e act.Flushes = (tt, tt)
-act_none e act.Resets = (tt, tt)
+act_none e other = (tt, tt)
 
 range_none : (x : Option (List Range)) → Each NoStep (range_steps x)
 range_none None = tt
@@ -442,20 +404,18 @@ ask_none None = (tt, tt)
 ask_none (Some p) = (tt, tt)
 
 out_none : (o : Out) → Each NoStep (out_steps o)
-out_none (out.Own r) = tt
-out_none (out.Page p) = tt
 out_none (out.Beside r) = (tt, tt)
 out_none (out.Ends tags) = (tt, tt)
 out_none (out.Of p r) = (tt, (tt, tt))
 out_none (out.Data p n) = (tt, (tt, tt))
+out_none other = tt
 
 call_kind : (d : DiskState) (k : Call) → CallSteps k (steps_of d k)
-call_kind d call.Plugs = Quiet (tt, tt)
 call_kind d (call.Hears f) = fis_kind d f (view_seen f) refl
 call_kind d (call.Starts x) = Quiet (start_none x)
 call_kind d (call.Asks r) = Quiet (ask_none r.place)
-call_kind d (call.Answers number a) = Quiet (tt, tt)
 call_kind d (call.Sends o) = Quiet (out_none o)
+call_kind d other = Quiet (tt, tt)
 
 one_seen : (b : Books) (s : Seen) → books_after b (s ∷ []) ≡ entered_by b s
 unfolding books_after

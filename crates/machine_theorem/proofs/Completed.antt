@@ -1,8 +1,8 @@
 -- What ends a command as a FIS is taken, by the history of its device.
-use Rattle.std.proofs.Common.{◌≡◌, ◌⊎◌, ℕ, ◌<◌, ◌||◌, Bool, true, false, List, [], ◌∷◌, ◌++◌, drop, refl, sym, ap, ◌∙◌, subst, inl, inr, Option, Some, None, length, arith, bit_or}
-use Rattle.std.specs.Prelude.{◌==◌, ◌&&◌, not, IfSome, MatchOption, if◌then◌else◌}
+use Rattle.std.proofs.Common.{◌≡◌, ◌⊎◌, ℕ, ◌<◌, ◌||◌, Bool, true, false, List, [], ◌∷◌, ◌++◌, drop, refl, sym, ap, ◌∙◌, subst, inl, inr, Option, Some, None, arith}
+use Rattle.std.specs.Prelude.{◌==◌, ◌&&◌, IfSome, MatchOption, if◌then◌else◌}
 use Rattle.std.specs.Option.{option_map}
-use Rattle.std.proofs.lemmas.Bool.{and_parts, eqb-true, false≢true, true≢false}
+use Rattle.std.proofs.lemmas.Bool.{eqb-true, false≢true}
 use Rattle.fis_view.specs.Seen.{seen}
 use Rattle.slots.specs.Commands.{slots_where}
 use Rattle.slots.specs.Slots.{Issue, has_bit, holds, is_queued_issue, issue_at, match_some, own_issue, slots_of}
@@ -20,7 +20,7 @@ use Rattle.hba_fbs.specs.declared.hearing.Happening.TheVariants as happening
 use Rattle.hba_fbs.specs.declared.room.Room.{Room}
 use Rattle.hba_fbs.specs.declared.status.Block.{Block}
 use Rattle.hba_laws.specs.Agreement.{work_of_issue, work_of_transfer}
-use Rattle.hba_laws.specs.CoreHistories.{event_by, frees, history_through, is_freed_in}
+use Rattle.hba_laws.specs.CoreHistories.{event_by, frees, is_freed_in}
 use Rattle.hba_laws.specs.Cores.{RunsBy}
 use Rattle.hba_laws.specs.Delivering.{event_heard, event_of, event_of_answer, event_of_block}
 use Rattle.hba_laws.specs.History as history
@@ -54,22 +54,16 @@ IsOfFis e = Unit {0}
 
 answer_event : (a : answered_type.Answered) → IfSome (event_of_answer a) IsOfFis
 answer_event answer.Nobody = tt
-answer_event (answer.Queued slot) = tt
-answer_event (answer.Done slot) = tt
-answer_event (answer.Short slot) = tt
+answer_event other = tt
 
 block_event : (count : ℕ) (to_host : Bool) (b : Option Block) → IfSome (event_of_block count to_host b) IsOfFis
 block_event count to_host None = tt
 block_event count to_host (Some b) = tt
 
 heard_event : (h : Happening) (block : Option Block) (payload : List ℕ) → IfSome (event_of h block payload) IsOfFis
-heard_event happening.Nothing block payload = tt
 heard_event (happening.Answered a) block payload = answer_event a
-heard_event (happening.Named mask) block payload = tt
-heard_event (happening.SetUp c) block payload = tt
 heard_event (happening.PioSetUp count to_host) block payload = block_event count to_host block
-heard_event happening.Activated block payload = tt
-heard_event (happening.Carried wrote finishes) block payload = tt
+heard_event other block payload = tt
 
 frame_event : (port : Port) (room : Room) (frame : List ℕ) → IfSome (event_by port room frame) IsOfFis
 frame_event port room frame = by (ignores (port_of frame) port frame)
@@ -99,15 +93,10 @@ named_queued true false c h = absurd (false≢true h)
 named_queued false b c h = absurd (false≢true h)
 
 kinds : (s : ℕ) (e : Event) (past : History) (w : Work) → completes s e past w ≡ true → is_queued w.kind ≡ false → IsEnd e
-kinds s (history.Issued slot x) past w h plain = absurd (false≢true h)
-kinds s (history.SentControl slot) past w h plain = absurd (false≢true h)
-kinds s history.Emptied past w h plain = absurd (false≢true h)
-kinds s (history.Sent slot) past w h plain = absurd (false≢true h)
-kinds s (history.SetUp tag offset count to_host) past w h plain = absurd (false≢true h)
-kinds s (history.PioSetUp count to_host ends) past w h plain = absurd (false≢true h)
 kinds s (history.Carried bytes) past w h plain = inr (bytes, refl)
 kinds s history.Answered past w h plain = inl refl
 kinds s (history.Named mask) past w h plain = absurd (false≢true (sym plain ∙ named_queued (has_bit mask s) (is_queued w.kind) _ h))
+kinds s other past w h plain = absurd (false≢true h)
 
 -- ---- the history of the slot's device
 

@@ -1,5 +1,5 @@
 -- The FIS that ends a command is one that a device sent.
-use Rattle.std.proofs.Common.{◌≡◌, ℕ, Bool, true, List, [], ◌∷◌, Result, Ok, Err, Some, refl, sym, subst, ◌<◌, inl, inr, All, Contains}
+use Rattle.std.proofs.Common.{◌≡◌, ℕ, true, List, [], ◌∷◌, Result, Ok, Err, Some, refl, subst, ◌<◌, inl, inr, All, Contains}
 use Rattle.std.proofs.lemmas.List.Elements.{All-contains, All-contains_itself, All-nil, All-weaker, Contains-append_right, Contains-push}
 use Rattle.fis_view.specs.Frames.{Stamped}
 use Rattle.hba_fbs.specs.Taking.{port_of}
@@ -39,7 +39,7 @@ record IsFis (old : MachineState) (deed : Deed) (f : Stamped) : Type 0 where
   port : is_multiplier old.fan ≡ true → f.stamp.port ≡ sender deed
   origin : FisOrigin old deed
 
-origin_of : SinglesAreOfPages → (old : MachineState) (n : ℕ) (o : Out) (disk : DiskState) (bytes : List ℕ) → (bay_at old n).unit ≡ Disk disk → IsOut disk (Some o) → IsDiskFis disk o bytes
+pub origin_of : SinglesAreOfPages → (old : MachineState) (n : ℕ) (o : Out) (disk : DiskState) (bytes : List ℕ) → (bay_at old n).unit ≡ Disk disk → IsOut disk (Some o) → IsDiskFis disk o bytes
     → FisOrigin old (Moved (act.Speaks n o))
 origin_of law old n (out.Of place replies.Done) disk bytes there next fis = record {
   disk = disk;

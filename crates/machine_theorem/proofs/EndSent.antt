@@ -75,7 +75,7 @@ unfolding seen
 seen_kind f v h = view_kind (kind_of f) (may_have (kind_of f) (length f)) f v h
 
 -- a FIS with the type of another has its kind
-other_kind : {C : Type 0} (f g : List ℕ) (v : Fis) → slice_index f 0 ≡ slice_index g 0 → seen f ≡ Ok (view.SetBits f) → seen g ≡ Ok v → (Bits ≡ kind_view v → C) → C
+pub other_kind : {C : Type 0} (f g : List ℕ) (v : Fis) → slice_index f 0 ≡ slice_index g 0 → seen f ≡ Ok (view.SetBits f) → seen g ≡ Ok v → (Bits ≡ kind_view v → C) → C
 other_kind f g v same is other absurd_of =
     absurd_of (sym (seen_kind f (view.SetBits f) is) ∙ ap (λ (t : ℕ). kind_of (t ∷ [])) same ∙ seen_kind g v other)
 
@@ -93,7 +93,7 @@ sactive_kept : (f : List ℕ) (port : ℕ) → field Bits SActive (marked f port
 unfolding field places spelled
 sactive_kept f port = ap (λ (x : ℕ). x + 2 ^ 32 * 0) (set_kept f (slice_index f 1 / 16 * 16 + port) 32 32 (omega arith))
 
-risen_sactive : (f : FanOut) (n : ℕ) (frame : Stamped) → field Bits SActive (risen f n frame).bytes ≡ field Bits SActive frame.bytes
+pub risen_sactive : (f : FanOut) (n : ℕ) (frame : Stamped) → field Bits SActive (risen f n frame).bytes ≡ field Bits SActive frame.bytes
 risen_sactive (Device s) n frame = sactive_kept frame.bytes s.asked
 risen_sactive (Multiplier f) n frame = sactive_kept frame.bytes n
 
@@ -108,7 +108,7 @@ low_bit x tag low is =
     whole : x ≡ x / 2 ^ 32 * 2 ^ 32 + x % 2 ^ 32
     whole = omega arith
 
-cut_bit : (tags tag : ℕ) → tag < 32 → has_bit (cut (places Bits SActive) tags) tag ≡ true → has_bit tags tag ≡ true
+pub cut_bit : (tags tag : ℕ) → tag < 32 → has_bit (cut (places Bits SActive) tags) tag ≡ true → has_bit tags tag ≡ true
 unfolding places
 cut_bit tags tag low is = low_bit tags tag low (subst (λ (y : ℕ). has_bit y tag ≡ true) (cut_run 4 0 32 tags) is)
 
@@ -119,20 +119,15 @@ none_named tag is = false≢true (sym (ap (λ (y : ℕ). y == 1) (ap (λ (y : �
 -- ---- replies
 
 -- no reply but the ends of queued commands names a tag
-no_reply : (r : Reply) (g f : List ℕ) (tag : ℕ) → IsNoEnd r → Shows r g → slice_index f 0 ≡ slice_index g 0 → field Bits SActive f ≡ field Bits SActive g → seen f ≡ Ok (view.SetBits f)
+pub no_reply : (r : Reply) (g f : List ℕ) (tag : ℕ) → IsNoEnd r → Shows r g → slice_index f 0 ≡ slice_index g 0 → field Bits SActive f ≡ field Bits SActive g → seen f ≡ Ok (view.SetBits f)
     → has_bit (field Bits SActive f) tag ≡ true → ⊥
-no_reply reply.Signature g f tag none shows type same is names = other_kind f g (view.RegD2H g) type is shows.viewed (λ e. absurd (cc))
-no_reply reply.Accepted g f tag none shows type same is names = other_kind f g (view.RegD2H g) type is shows.viewed (λ e. absurd (cc))
-no_reply reply.Done g f tag none shows type same is names = other_kind f g (view.RegD2H g) type is shows.viewed (λ e. absurd (cc))
-no_reply reply.Active g f tag none shows type same is names = other_kind f g (view.RegD2H g) type is shows.viewed (λ e. absurd (cc))
-no_reply reply.Healthy g f tag none shows type same is names = other_kind f g (view.RegD2H g) type is shows.viewed (λ e. absurd (cc))
-no_reply (reply.Failed x) g f tag none shows type same is names = other_kind f g (view.RegD2H g) type is shows.viewed (λ e. absurd (cc))
 no_reply (reply.Ends tags) g f tag none shows type same is names = none
 no_reply (reply.Aborts error) g f tag none shows type same is names =
     none_named tag (subst (λ (y : ℕ). has_bit y tag ≡ true) (same ∙ shows.fields SActive) names)
 no_reply (reply.SetUp s) g f tag none shows type same is names = other_kind f g (view.DmaSetup g) type is shows.viewed (λ e. absurd (cc))
 no_reply (reply.Announce a) g f tag none shows type same is names = other_kind f g (view.PioSetup g) type is shows.viewed (λ e. absurd (cc))
 no_reply reply.Activate g f tag none shows type same is names = other_kind f g (view.DmaActivate g) type is shows.viewed (λ e. absurd (cc))
+no_reply other g f tag none shows type same is names = other_kind f g (view.RegD2H g) type is shows.viewed (λ e. absurd (cc))
 
 -- ---- each deed
 

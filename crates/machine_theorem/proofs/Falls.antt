@@ -165,7 +165,7 @@ module _ (laws : Laws) where
   pub kept_of : (m : MachineState) → HasRules m → IsController m.controller
   kept_of m rules = record { port = rules.port; slots = rules.slots; rules = rules.rules }
 
-  named_by : (now : MachineState) (took : Took) (new : MachineState) (does : Does now (Moved (act.Takes took)) new) → HasRules now → HasRules new → (t : Told now.controller)
+  pub named_by : (now : MachineState) (took : Took) (new : MachineState) (does : Does now (Moved (act.Takes took)) new) → HasRules now → HasRules new → (t : Told now.controller)
       → (slot : ℕ) → slot < 32 → has_bit (shown PxSact now.controller) slot ≡ true → has_bit (shown PxSact new.controller) slot ≡ false
       → IsNamed slot t.past now.controller does.does.frame.bytes
   named_by now took new does rules rules_new t slot low shows hides =
@@ -179,10 +179,10 @@ module _ (laws : Laws) where
       (ap (λ (x : ControllerState). has_bit (shown PxSact x) slot) (sym same) ∙ hides)
 
   -- it has the slot in SActive
-  naming : (now : MachineState) (frame : List ℕ) (past : ℕ → History) (slot : ℕ) (named : IsNamed slot past now.controller frame) → IsNamingOf frame named.mask
+  pub naming : (now : MachineState) (frame : List ℕ) (past : ℕ → History) (slot : ℕ) (named : IsNamed slot past now.controller frame) → IsNamingOf frame named.mask
   naming now frame past slot named = names now.controller.core (room_for now.controller (port_of frame)) frame named.mask named.heard
 
-  some_named : (mask slot : ℕ) → has_bit mask slot ≡ true → mask ≡ 0 → ⊥
+  pub some_named : (mask slot : ℕ) → has_bit mask slot ≡ true → mask ≡ 0 → ⊥
   some_named mask slot has none =
       false≢true (sym (ap (λ (y : ℕ). y == 1) (ap (λ (y : ℕ). bit_at y slot) none ∙ bit_at-zero slot)) ∙ has)
 
@@ -222,13 +222,7 @@ module _ (laws : Laws) where
   quiet_none (call.Wrote offset value written) slot past old new does are quiet h = false≢true quiet
   quiet_none (call.WroteWide offset width value written) slot past old new does are quiet h = false≢true quiet
   quiet_none (call.Took frame took) slot past old new does are quiet h = false≢true quiet
-  quiet_none (call.Supplied s number bytes told) slot past old new does are quiet h = h
-  quiet_none (call.Missed s number told) slot past old new does are quiet h = h
-  quiet_none (call.Left frame why) slot past old new does are quiet h = h
-  quiet_none (call.Turned said) slot past old new does are quiet h = h
-  quiet_none (call.Said write) slot past old new does are quiet h = h
-  quiet_none (call.Gathered dev number frame fed) slot past old new does are quiet h = h
-  quiet_none (call.NotThere dev number fed) slot past old new does are quiet h = h
+  quiet_none other slot past old new does are quiet h = h
 
   quiet_keeps : (events : List Event) (old new : ControllerState) → call.Runs old events new → Told old → AllQuiet events → (slot : ℕ) → slot < 32
       → has_bit (shown PxSact old) slot ≡ true → has_bit (shown PxSact new) slot ≡ false → ⊥

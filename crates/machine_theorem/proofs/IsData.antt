@@ -87,8 +87,7 @@ fis_none own state sound (view.PioSetup f) other =
     pio own state (field table.Pio table.Status f) (field table.Pio table.Error f) (field table.Pio table.Transfer f) (eqb (field table.Pio table.D f) 1) (block_of f) (is_error (field table.Pio table.Status f))
     (is_some (sent_pio own)) (pio_fault (pio_issue own) (field table.Pio table.Transfer f) (eqb (field table.Pio table.D f) 1)) (out_setup own (field table.Pio table.Transfer f) (eqb (field table.Pio table.D f) 1))
 fis_none own state sound (view.Payload f) other = absurd (cc)
-fis_none own state sound (view.RegH2D f) other = refl
-fis_none own state sound (view.Unknown f) other = refl
+fis_none own state sound rest other = refl
 
 abbrev IsOther : Option Fis → Type 0
 IsOther None = Unit {0}
@@ -193,8 +192,7 @@ no_part c dev = of_slot (receiving_slot (context_of c.core.slots dev))
 
 past_data : (c : ControllerState) (frame : List ℕ) (r : Result Fis FisFault) → seen frame ≡ r → IsDataOr frame (part_of c (port_of frame) (payload_of r))
 past_data c frame (Ok (view.Payload f)) is = brought_any frame (part_of c (port_of frame) (length f - 4)) (payload_type frame f is)
-past_data c frame (Ok other) is = nothing frame (part_of c (port_of frame) 0) (no_part c (port_of frame))
-past_data c frame (Err e) is = nothing frame (part_of c (port_of frame) 0) (no_part c (port_of frame))
+past_data c frame rest is = nothing frame (part_of c (port_of frame) 0) (no_part c (port_of frame))
 
 brought_data : (over : Bool) (c : ControllerState) (frame : List ℕ) (wrote : Option Wrote) → IsDataOr frame wrote → IsDataOr frame (if over then part_of c (port_of frame) (payload_of (seen frame)) else wrote)
 brought_data true c frame wrote h = past_data c frame (seen frame) refl

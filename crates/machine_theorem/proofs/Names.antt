@@ -108,7 +108,6 @@ module _ (own : DeviceSlots) (state : DeviceState) where
 
 heard_names : (own : DeviceSlots) (state : DeviceState) (sound : Bool) (fis : Fis) → Names (Some fis) (heard_fis own state sound fis).happening
 unfolding heard_fis
-heard_names own state sound (view.RegH2D f) = tt
 heard_names own state sound (view.RegD2H f) =
     none_names (Some (view.RegD2H f)) _ (register own state (field table.D2h table.Status f) (field table.D2h table.Error f) state.resetting)
 heard_names own state sound (view.SetBits f) = bits own state f (is_error (field table.Bits table.Status f))
@@ -122,7 +121,7 @@ heard_names own state sound (view.PioSetup f) =
     (pio own state (field table.Pio table.Status f) (field table.Pio table.Error f) (field table.Pio table.Transfer f) (eqb (field table.Pio table.D f) 1) (block_of f) (is_error (field table.Pio table.Status f))
     (is_some (sent_pio own)) (pio_fault (pio_issue own) (field table.Pio table.Transfer f) (eqb (field table.Pio table.D f) 1)) (out_setup own (field table.Pio table.Transfer f) (eqb (field table.Pio table.D f) 1)))
 heard_names own state sound (view.Payload f) = none_names (Some (view.Payload f)) _ (payload own state sound (length f - 4) own.context)
-heard_names own state sound (view.Unknown f) = tt
+heard_names own state sound other = tt
 
 decided_names : (dev : ℕ) (v : DeviceView) (room : Room) (fis : Option Fis) → Names fis (decided dev v room fis).happening
 unfolding heard_within
@@ -143,22 +142,17 @@ mask_or other o = other
 
 answer_not : {C : Type 0} (a : Answered) (mask : ℕ) → event_of_answer a ≡ Some (event.Named mask) → C
 answer_not answer.Nobody mask e = absurd (cc)
-answer_not (answer.Queued slot) mask e = absurd (cc)
-answer_not (answer.Done slot) mask e = absurd (cc)
-answer_not (answer.Short slot) mask e = absurd (cc)
+answer_not other mask e = absurd (cc)
 
 block_not : {C : Type 0} (count : ℕ) (to_host : Bool) (block : Option Block) (mask : ℕ) → event_of_block count to_host block ≡ Some (event.Named mask) → C
 block_not count to_host None mask e = absurd (cc)
 block_not count to_host (Some block) mask e = absurd (cc)
 
 event_names : (fis : Option Fis) (h : Happening) (block : Option Block) (bytes : List ℕ) (mask : ℕ) → Names fis h → event_of h block bytes ≡ Some (event.Named mask) → IsBits fis mask
-event_names fis happening.Nothing block bytes mask is e = absurd (cc)
 event_names fis (happening.Answered a) block bytes mask is e = answer_not a mask e
 event_names fis (happening.Named m) block bytes mask is e = subst (IsBits fis) (ap (mask_or m) e) is
-event_names fis (happening.SetUp c) block bytes mask is e = absurd (cc)
 event_names fis (happening.PioSetUp count to_host) block bytes mask is e = block_not count to_host block mask e
-event_names fis happening.Activated block bytes mask is e = absurd (cc)
-event_names fis (happening.Carried wrote finishes) block bytes mask is e = absurd (cc)
+event_names fis other block bytes mask is e = absurd (cc)
 
 -- ---- the frame
 
@@ -171,7 +165,7 @@ view_by kind false f g h = absurd (cc)
 view_by table.Bits true f g h = sym (ap frame_in h)
 view_by kind true f g h = absurd (cc)
 
-same_frame : (f g : List ℕ) → seen f ≡ Ok (view.SetBits g) → g ≡ f
+pub same_frame : (f g : List ℕ) → seen f ≡ Ok (view.SetBits g) → g ≡ f
 unfolding seen
 same_frame f g h = view_by (kind_of f) (may_have (kind_of f) (length f)) f g h
 

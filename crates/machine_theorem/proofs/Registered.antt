@@ -29,7 +29,7 @@ use Rattle.hba_commands.specs.declared.command.Command as core_command
 use Rattle.hba_fbs.specs.Choosing.{may_feed}
 use Rattle.hba_fbs.specs.declared.report.Wrote.{Wrote}
 use Rattle.hba_fbs.specs.declared.turn.Turn.{Turn}
-use Rattle.hba_fbs.specs.declared.turn.Turn.TheVariants.{Feeds, Orders, Rests}
+use Rattle.hba_fbs.specs.declared.turn.Turn.TheVariants.{Feeds}
 use Rattle.ahci_controller.specs.Access.{fits as fits_width}
 use Rattle.ahci_controller.specs.Feeding.{GathersIf, Loses, LosesIf, MissesIf as MissesDataIf, SendsIf, sent_to, without_feeding}
 use Rattle.ahci_controller.specs.Fetching.{GoesOn, MissesIf, SuppliesIf, answered, fetch_of, fits, is_asked, without_fetch}
@@ -118,10 +118,9 @@ comes at (AtEntries head table) raw is =
     entries_came at head (with_entries table (entries_at raw 0 (asked head table))) (first_fault (length table.entries) (left_of table) (entries_at raw 0 (asked head table))) is
 
 supplies : (at : ℕ) (step : Step) (raw : List ℕ) (c : Supplied) → OfStep step → SuppliesAt at step raw c → OfCame c
-supplies at step raw (came.More f) is h = subst OfCame h (comes at step raw is)
-supplies at step raw (came.Whole command) is h = subst OfCame h (comes at step raw is)
 supplies at step raw (came.Refused r) is h = tt
 supplies at step raw (came.OutOfMemory f) is h = tt
+supplies at step raw other is h = subst OfCame h (comes at step raw is)
 
 -- ---- of all slots
 
@@ -227,11 +226,9 @@ gathers false dev old new result h was = same_all old new h.0 was
 gathers true dev old new result h was = sends (may_feed old.core dev) dev old new result h was
 
 loses : (turn : Turn) (old fed new : ControllerState) (result : Fed) → fed.fetches ≡ old.fetches → fed.commands ≡ old.commands → Loses turn fed result new → AreRegisters old → AreRegisters new
-loses Rests old fed new result fetches commands h was =
-    same_lists old new (ap (λ (c : ControllerState). c.fetches) h.0 ∙ fetches) (ap (λ (c : ControllerState). c.commands) h.0 ∙ commands) was
 loses (Feeds dev slot offset len) old fed new result fetches commands h was =
     same_lists old new (ap (λ (c : ControllerState). c.fetches) h.rest ∙ fetches) (ap (λ (c : ControllerState). c.commands) h.rest ∙ commands) was
-loses (Orders dev slot command) old fed new result fetches commands h was =
+loses other old fed new result fetches commands h was =
     same_lists old new (ap (λ (c : ControllerState). c.fetches) h.0 ∙ fetches) (ap (λ (c : ControllerState). c.commands) h.0 ∙ commands) was
 
 loses_if : (due : Bool) (dev : ℕ) (old new : ControllerState) (result : Fed) → LosesIf due (without_feeding old dev) dev result new → AreRegisters old → AreRegisters new

@@ -62,17 +62,12 @@ bits f type is = let same : view.SetBits f ≡ view.Payload f = seen_data f (vie
 
 -- and no reply is one
 no_reply : (r : Reply) (f : List ℕ) → Shows r f → slice_index f 0 ≡ 0x46 → ⊥
-no_reply reply.Signature f shows type = register f type shows.viewed
-no_reply reply.Accepted f shows type = register f type shows.viewed
-no_reply reply.Done f shows type = register f type shows.viewed
-no_reply reply.Active f shows type = register f type shows.viewed
-no_reply reply.Healthy f shows type = register f type shows.viewed
-no_reply (reply.Failed x) f shows type = register f type shows.viewed
 no_reply (reply.Ends tags) f shows type = bits f type shows.viewed
 no_reply (reply.Aborts error) f shows type = bits f type shows.viewed
 no_reply (reply.SetUp s) f shows type = let same : view.DmaSetup f ≡ view.Payload f = seen_data f (view.DmaSetup f) type shows.viewed in cc
 no_reply (reply.Announce a) f shows type = let same : view.PioSetup f ≡ view.Payload f = seen_data f (view.PioSetup f) type shows.viewed in cc
 no_reply reply.Activate f shows type = let same : view.DmaActivate f ≡ view.Payload f = seen_data f (view.DmaActivate f) type shows.viewed in cc
+no_reply other f shows type = register f type shows.viewed
 
 -- ---- only the PM Port is written on the way up
 

@@ -51,12 +51,7 @@ one_kept s old (call.Wrote offset value written) new does was is = pending new s
 one_kept s old (call.WroteWide offset width value written) new does was is = wide (fits width offset) s old offset width value written new does was
 one_kept s old (call.Supplied slot number bytes told) new does was is = supply_by (slot == s) told old s bytes was is
 one_kept s old (call.Missed slot number told) new does was is = supply_by (slot == s) told old s [] was is
-one_kept s old (call.Took frame took) new does was is = refl
-one_kept s old (call.Left frame why) new does was is = refl
-one_kept s old (call.Turned said) new does was is = refl
-one_kept s old (call.Said write) new does was is = refl
-one_kept s old (call.Gathered dev number frame fed) new does was is = refl
-one_kept s old (call.NotThere dev number fed) new does was is = refl
+one_kept s old other new does was is = refl
 
 pub all_kept : (s : ℕ) (events : List Event) (old new : ControllerState) (run : call.Runs old events new) (was : Sources) → AreNotIssued s events
     → Kept (sources_after s was old events new run) was

@@ -1,17 +1,15 @@
 -- While the bit of a slot stands, no other command is issued there, and what was sent from there since is the one that was supplied.
-use Rattle.std.proofs.Common.{◌≡◌, ◌⊎◌, ℕ, zero, suc, ◌+◌, ◌<◌, ◌&&◌, ◌^◌, Bool, true, false, List, [], ◌∷◌, ◌++◌, length, refl, sym, ap, subst, ◌∙◌, inl, inr, arith, Option, Some, None}
+use Rattle.std.proofs.Common.{◌≡◌, ℕ, suc, ◌+◌, ◌<◌, ◌&&◌, ◌^◌, Bool, true, false, List, [], ◌∷◌, ◌++◌, length, refl, sym, ap, subst, ◌∙◌, inl, inr, arith, Option, Some, None}
 use Rattle.std.specs.Prelude.{◌==◌, MatchOption, if◌then◌else◌}
 use Rattle.std.proofs.lemmas.Bool.{and_parts, eqb-true, false≢true}
 use Rattle.std.proofs.lemmas.List.{append_assoc, length-append}
 use Rattle.slots.specs.Commands.{slots_where}
 use Rattle.slots.specs.Slots.{has_bit, holds, is_queued_issue, issue_at}
-use Rattle.block_command.specs.declared.command.Command.{Command}
 use Rattle.ahci_registers.specs.declared.register.Register.{Register}
 use Rattle.ahci_registers.specs.declared.register.Register.TheVariants.{PxCi, PxSact}
 use Rattle.guest_fetch.specs.Commands.{Fetched}
 use Rattle.guest_fetch.specs.declared.fetch.Supplied.{Supplied}
 use Rattle.guest_fetch.specs.declared.fetch.Supplied.TheVariants as came_as
-use Rattle.hba_fbs.specs.Bits.{without}
 use Rattle.hba_fbs.specs.declared.registers.Registers.{Registers}
 use Rattle.ahci_controller.specs.Fetching.{GoesOn, MissesIf, SuppliesIf, answered, fits, is_asked, without_fetch}
 use Rattle.ahci_controller.specs.Issuing.{PlacesSlot, RefusesSlot, not_issued}
@@ -25,18 +23,16 @@ use Rattle.ahci_controller.proofs.Door.{pow_same}
 use Rattle.controller_laws.specs.Events as call
 use Rattle.controller_laws.specs.Events.{Does as Calls, Event, IsController, Runs}
 use Rattle.controller_laws.specs.Sources.{Source, Sources, after_supply, no_sources, sources_after, sources_by}
-use Rattle.disk_pages.specs.declared.profile.Profile.{Profile}
-use Rattle.sata_disk_laws.specs.Calls.{Call}
-use Rattle.ahci_machine.specs.States.{HasRules, IsOpeningMachine, MachineState}
+use Rattle.ahci_machine.specs.States.{HasRules, MachineState}
 use Rattle.machine_laws.specs.ControllerLaws.{ControllerRuns, RunsAreCalls, RunsRuled, calls_in}
 use Rattle.machine_laws.specs.Controllers.{ControllerGoesOn, GathersDue, OpensDue, StaysDue, deed_calls}
 use Rattle.machine_laws.specs.Deeds.{Deed, Does}
-use Rattle.machine_theorem.specs.Commands.{AreNotIssued, IsOfSlot, is_issue, issues_in}
-use Rattle.machine_theorem.specs.Standing.{AreIssuing, CommandsStand, HasStood, IsAsSupplied, IssuesAreAlone, IsShownOver, MayShow, NoneIsIssuedBeside, Stands}
+use Rattle.machine_theorem.specs.Commands.{AreNotIssued, is_issue, issues_in}
+use Rattle.machine_theorem.specs.Standing.{CommandsStand, HasStood, IssuesAreAlone, IsShownOver, MayShow, NoneIsIssuedBeside, Stands}
 use Rattle.machine_theorem.proofs.Armed.{IsBare, IsQueuedAlone, queued_bit, stays_alone, there_of}
 use Rattle.machine_theorem.proofs.Few.{AreFew, are_few}
 use Rattle.machine_theorem.proofs.Still.{all_kept}
-use Rattle.machine_theorem.proofs.Unread.{IsHeld, IsNotRead, is_alone, is_held, left_none, none_issued, stays_unread, taken}
+use Rattle.machine_theorem.proofs.Unread.{IsNotRead, is_alone, is_held, none_issued, stays_unread, taken}
 use Rattle.machine_theorem.proofs.Unread.IsHeld.{Issues}
 
 -- ---- one call
@@ -100,9 +96,9 @@ run_stands laws r s below (deed ∷ later) old new run due shows h =
 -- ---- behind the issue
 
 -- a command was issued in the slot
-record IsPlaced (s : ℕ) (c : ControllerState) : Type 0 where
-  unread : IsNotRead s c
-  armed : holds is_queued_issue (issue_at c.core.slots s) ≡ true → IsBare s c.core
+pub record IsPlaced (s : ℕ) (c : ControllerState) : Type 0 where
+  pub unread : IsNotRead s c
+  pub armed : holds is_queued_issue (issue_at c.core.slots s) ≡ true → IsBare s c.core
 
 placed : (slot : ℕ) (f : Fetched) (base new : ControllerState) (supply : Supply) → slot < 32 → PlacesSlot base slot f supply new → IsPlaced slot new
 placed slot f base new supply below h = record {
@@ -116,10 +112,9 @@ issued slot f None base new supply below is h = placed slot f base new supply be
 issued slot f (Some reason) base new supply below is h = absurd (false≢true (sym (ap is_issue h.told) ∙ is))
 
 goes_on : (slot : ℕ) (came : Supplied) (base new : ControllerState) (supply : Supply) → slot < 32 → is_issue supply ≡ true → GoesOn base slot came supply new → IsPlaced slot new
-goes_on slot (came_as.More f) base new supply below is h = absurd (false≢true (sym (ap is_issue h.1) ∙ is))
-goes_on slot (came_as.OutOfMemory f) base new supply below is h = absurd (false≢true (sym (ap is_issue h.1) ∙ is))
 goes_on slot (came_as.Refused r) base new supply below is h = absurd (false≢true (sym (ap is_issue h.told) ∙ is))
 goes_on slot (came_as.Whole f) base new supply below is h = issued slot f (not_issued base.core slot f) base new supply below is h
+goes_on slot other base new supply below is h = absurd (false≢true (sym (ap is_issue h.1) ∙ is))
 
 supplied : (fit : Bool) (slot : ℕ) (bytes : List ℕ) (old new : ControllerState) (supply : Supply) → slot < 32 → is_issue supply ≡ true → SuppliesIf fit old slot bytes supply new → IsPlaced slot new
 supplied false slot bytes old new supply below is h = absurd (false≢true (sym (ap is_issue h.1) ∙ is))
@@ -129,7 +124,7 @@ missed : (out : Bool) (slot : ℕ) (old new : ControllerState) (supply : Supply)
 missed false slot old new supply is h = absurd (false≢true (sym (ap is_issue h.1) ∙ is))
 missed true slot old new supply is h = absurd (false≢true (sym (ap is_issue h.told) ∙ is))
 
-is_placed : (e : Event) (s : ℕ) (old new : ControllerState) → s < 32 → Calls old e new → issues_in s e ≡ true → IsPlaced s new
+pub is_placed : (e : Event) (s : ℕ) (old new : ControllerState) → s < 32 → Calls old e new → issues_in s e ≡ true → IsPlaced s new
 is_placed (call.Supplied slot number bytes supply) s old new below h is =
     let both = and_parts (slot == s) (is_issue supply) is in
     let here : slot ≡ s = eqb-true slot s both.0 in
@@ -137,14 +132,7 @@ is_placed (call.Supplied slot number bytes supply) s old new below h is =
 is_placed (call.Missed slot number supply) s old new below h is =
     let both = and_parts (slot == s) (is_issue supply) is in
     subst (λ (n : ℕ). IsPlaced n new) (eqb-true slot s both.0) (missed (is_asked old.wants slot number) slot old new supply both.1 h)
-is_placed (call.Wrote offset value written) s old new below h is = absurd (false≢true is)
-is_placed (call.WroteWide offset width value written) s old new below h is = absurd (false≢true is)
-is_placed (call.Took frame took) s old new below h is = absurd (false≢true is)
-is_placed (call.Left frame why) s old new below h is = absurd (false≢true is)
-is_placed (call.Turned next) s old new below h is = absurd (false≢true is)
-is_placed (call.Said write) s old new below h is = absurd (false≢true is)
-is_placed (call.Gathered dev number frame fed) s old new below h is = absurd (false≢true is)
-is_placed (call.NotThere dev number fed) s old new below h is = absurd (false≢true is)
+is_placed other s old new below h is = absurd (false≢true is)
 
 begins : (r : Register) (s : ℕ) (m : MachineState) → IsPlaced s m.controller → MayShow r s m → Holds r s m.controller
 begins PxCi s m h may = h.unread
@@ -215,14 +203,7 @@ supply_has true Stale c s bytes was is = absurd (false≢true is)
 event_has : (e : Event) (s : ℕ) (old new : ControllerState) (does : Calls old e new) (was : Sources) → issues_in s e ≡ true → HasIssued (sources_by s old e new does was)
 event_has (call.Supplied slot number bytes told) s old new does was is = supply_has (slot == s) told old s bytes was is
 event_has (call.Missed slot number told) s old new does was is = supply_has (slot == s) told old s [] was is
-event_has (call.Wrote offset value written) s old new does was is = absurd (false≢true is)
-event_has (call.WroteWide offset width value written) s old new does was is = absurd (false≢true is)
-event_has (call.Took frame took) s old new does was is = absurd (false≢true is)
-event_has (call.Left frame why) s old new does was is = absurd (false≢true is)
-event_has (call.Turned next) s old new does was is = absurd (false≢true is)
-event_has (call.Said write) s old new does was is = absurd (false≢true is)
-event_has (call.Gathered dev number frame fed) s old new does was is = absurd (false≢true is)
-event_has (call.NotThere dev number fed) s old new does was is = absurd (false≢true is)
+event_has other s old new does was is = absurd (false≢true is)
 
 run_has : (s : ℕ) (before : List Event) (e : Event) (since : List Event) → issues_in s e ≡ true → AreNotIssued s since → (old new : ControllerState) (run : Runs old (before ++ e ∷ since) new) (was : Sources)
     → HasIssued (sources_after s was old (before ++ e ∷ since) new run)

@@ -256,7 +256,7 @@ writes_are laws ports legacy old opening deeds now run n tags new does tag low b
 
 module _ (laws : Laws) (ports : ℕ) (legacy : Bool) (old : MachineState) (opening : IsOpeningMachine ports legacy old) (before : List Deed) (at : MachineState)
     (first : RunsRuled old before at) where
-  of_earned : (n tag : ℕ) → HasEarnedAt at n tag → SuppliedToNewDisk old before at first n tag Earns
+  pub of_earned : (n tag : ℕ) → HasEarnedAt at n tag → SuppliedToNewDisk old before at first n tag Earns
   of_earned n tag h = ends_of laws ports legacy old opening before at first n tag h.disk h.there h.earned
 
   move_end : (a : Act) (tag : ℕ) → EndOrigin at (Moved a) tag → IsSuppliedEnd old before at first (Moved a) tag

@@ -1,8 +1,8 @@
 -- No command is read for a slot while one is issued in it, or while it is a bad one; so none is issued there.
-use Rattle.std.proofs.Common.{◌≡◌, ℕ, ◌+◌, ◌-◌, ◌<◌, ◌^◌, ◌&&◌, min, Bool, true, false, List, [], ◌∷◌, refl, sym, ap, subst, ◌∙◌, inl, inr, arith, w32, Option, Some, None, bit_or}
+use Rattle.std.proofs.Common.{◌≡◌, ℕ, ◌+◌, ◌-◌, ◌<◌, ◌^◌, ◌&&◌, Bool, true, false, List, refl, sym, ap, subst, ◌∙◌, inl, inr, arith, w32, Option, Some, None, bit_or}
 use Rattle.std.specs.Prelude.{◌==◌, MatchOption, is_some, nat_lt, if◌then◌else◌}
 use Rattle.std.specs.Int.{bit_at}
-use Rattle.std.proofs.lemmas.Bool.{and_parts, cases_Bool, eqb-true, false≢true, ltb-false, ltb-true, true≢false}
+use Rattle.std.proofs.lemmas.Bool.{and_parts, cases_Bool, eqb-true, false≢true, ltb-false, ltb-true}
 use Rattle.std.proofs.lemmas.Nat.Bits.{bit_at-lt, bit_at-zero, bit_at_and, bit_at_not}
 use Rattle.slots.specs.Commands.{is_unanswered, slots_where}
 use Rattle.slots.specs.Slots.{Issue, has_bit, holds, issue_at, mask_of, match_some}
@@ -23,10 +23,10 @@ use Rattle.hba_fbs.specs.Reading.{value_of}
 use Rattle.hba_fbs.specs.declared.error.WriteError.{WriteError}
 use Rattle.hba_fbs.specs.declared.register.Register as port_register
 use Rattle.hba_fbs.specs.declared.turn.Turn.{Turn}
-use Rattle.hba_fbs.specs.declared.turn.Turn.TheVariants.{Feeds, Orders, Rests}
+use Rattle.hba_fbs.specs.declared.turn.Turn.TheVariants.{Feeds}
 use Rattle.ahci_controller.specs.Access.{fits as fits_width, merged}
 use Rattle.ahci_controller.specs.Feeding.{GathersIf, Loses, LosesIf, MissesIf as MissesDataIf, SendsIf, without_feeding}
-use Rattle.ahci_controller.specs.Fetching.{GoesOn, MissesIf, SuppliesIf, answered, fits, is_asked, want_at, without_fetch}
+use Rattle.ahci_controller.specs.Fetching.{GoesOn, MissesIf, SuppliesIf, answered, fits, is_asked, without_fetch}
 use Rattle.ahci_controller.specs.Issuing.{PlacesSlot, RefusesSlot, not_issued}
 use Rattle.ahci_controller.specs.Next.{Frames, FramesFor, GoesIf, Reads, RestsNow, TurnsIf, is_fed, is_halted, next_device, next_read, next_slot, next_write, turn_to, written}
 use Rattle.ahci_controller.specs.Own as own_words
@@ -34,20 +34,19 @@ use Rattle.ahci_controller.specs.Own.{commanded}
 use Rattle.ahci_controller.specs.Reading.{is_idle, shown}
 use Rattle.ahci_controller.specs.States.{ControllerState}
 use Rattle.ahci_controller.specs.Wants.{dropped}
-use Rattle.ahci_controller.specs.Wide.{WritesAt, WritesFitting, WritesIf, block_of}
+use Rattle.ahci_controller.specs.Wide.{WritesFitting, WritesIf, block_of}
 use Rattle.ahci_controller.specs.Writing.{Commands, Leaves, ResetsBy, Restarts, Tells, WritesGlobal, WritesRegister, asked_state, fresh_slots, idle_for, link_effect, link_moved, plain}
 use Rattle.ahci_controller.specs.declared.access.Width.{Width}
 use Rattle.ahci_controller.specs.declared.feeding.Fed.{Fed}
 use Rattle.ahci_controller.specs.declared.issuing.NotTaken.{NotTaken}
 use Rattle.ahci_controller.specs.declared.issuing.Supply.{Supply}
-use Rattle.ahci_controller.specs.declared.issuing.Supply.TheVariants.{Issued, More, NotTaken as NotTakenFor, OutOfMemory, Stale}
 use Rattle.ahci_controller.specs.declared.latch.Latch.{Latch}
 use Rattle.ahci_controller.specs.declared.next.Next.{Next}
 use Rattle.ahci_controller.specs.declared.own.OwnRegisters.{OwnRegisters}
 use Rattle.ahci_controller.specs.declared.wants.Wants.{Wants}
 use Rattle.ahci_controller.specs.declared.wide.WideWritten.{WideWritten}
 use Rattle.ahci_controller.specs.declared.writing.Written.{Written}
-use Rattle.ahci_controller.proofs.Door.{or_left, or_none, or_right, pow_same}
+use Rattle.ahci_controller.proofs.Door.{or_left, or_none, or_right}
 use Rattle.controller_laws.specs.Events as call
 use Rattle.controller_laws.specs.Events.{Does, Event, IsController}
 use Rattle.machine_theorem.specs.Commands.{is_issue, issues_in}
@@ -134,9 +133,8 @@ global true value s old new h was = emptied s new (ap (λ (c : ControllerState).
 global false value s old new h was = same s old new (ap (λ (c : ControllerState). c.wants.pending) h) was
 
 linked : (e : Effect) (s : ℕ) (old new : ControllerState) → ResetsBy e old new → IsNotRead s old → IsNotRead s new
-linked effect.Nothing s old new h was = unmoved s old new h was
 linked effect.LinkReset s old new h was = emptied s new (ap (λ (c : ControllerState). c.wants.pending) h.rest)
-linked effect.LinkUp s old new h was = unmoved s old new h was
+linked other s old new h was = unmoved s old new h was
 
 told : (register : port_register.Register) (value s : ℕ) (old new : ControllerState) (latch : Latch) (own : OwnRegisters) (ignored : Option WriteError) → Tells old register value latch own ignored new → IsNotRead s old → IsNotRead s new
 told register value s old new latch own ignored h was = same s old new (ap (λ (c : ControllerState). c.wants.pending) h.rest) was
@@ -158,12 +156,8 @@ asked true value s c below held was = or_none c.wants.pending (fresh_slots c val
 asked false value s c below held was = was
 
 register : (r : Register) (value s : ℕ) (old new : ControllerState) (result : Written) → s < 32 → Leaves r old value result new → (r ≡ ahci.PxCi → IsHeld s old) → IsNotRead s old → IsNotRead s new
-register ahci.Cap value s old new result below h held was = unmoved s old new h.0 was
 register ahci.Ghc value s old new result below h held was = global (line_bits.has_bit value 0) value s old new h.0 was
 register ahci.Is value s old new result below h held was = same s old new (ap (λ (c : ControllerState). c.wants.pending) h.0) was
-register ahci.Pi value s old new result below h held was = unmoved s old new h.0 was
-register ahci.Vs value s old new result below h held was = unmoved s old new h.0 was
-register ahci.Cap2 value s old new result below h held was = unmoved s old new h.0 was
 register ahci.PxClb value s old new result below h held was = same s old new (ap (λ (c : ControllerState). c.wants.pending) h.0) was
 register ahci.PxClbu value s old new result below h held was = same s old new (ap (λ (c : ControllerState). c.wants.pending) h.0) was
 register ahci.PxFb value s old new result below h held was = same s old new (ap (λ (c : ControllerState). c.wants.pending) h.0) was
@@ -171,15 +165,13 @@ register ahci.PxFbu value s old new result below h held was = same s old new (ap
 register ahci.PxIs value s old new result below h held was = told _ _ s old new _ _ result.ignored h.0 was
 register ahci.PxIe value s old new result below h held was = same s old new (ap (λ (c : ControllerState). c.wants.pending) h.0) was
 register ahci.PxCmd value s old new result below h held was = commands value s old new result.ignored h.0 was
-register ahci.PxTfd value s old new result below h held was = unmoved s old new h.0 was
-register ahci.PxSig value s old new result below h held was = unmoved s old new h.0 was
-register ahci.PxSsts value s old new result below h held was = unmoved s old new h.0 was
 register ahci.PxSctl value s old new result below h held was = linked (link_effect old value) s (link_moved old value) new h.0 (same s old (link_moved old value) refl was)
 register ahci.PxSerr value s old new result below h held was = told _ _ s old new _ _ result.ignored h.0 was
 register ahci.PxSact value s old new result below h held was = told _ _ s old new _ _ result.ignored h.0 was
 register ahci.PxCi value s old new result below h held was = unmoved s (asked_state old value) new h.0 (asked old.own.starts value s old below (held refl) was)
 register ahci.PxSntf value s old new result below h held was = told _ _ s old new _ _ result.ignored h.0 was
 register ahci.PxFbs value s old new result below h held was = told _ _ s (record old { wants = record old.wants { feeding = 0 } }) new _ _ result.ignored h.0 (same s old (record old { wants = record old.wants { feeding = 0 } }) refl was)
+register other value s old new result below h held was = unmoved s old new h.0 was
 
 at_register : (o : Option Register) (value : Register → ℕ) (s : ℕ) (old new : ControllerState) (result : Written) (nothing : Type 0) → s < 32 → (nothing → new ≡ old) → MatchOption o nothing (λ r. WritesRegister r old (value r) result new)
     → (o ≡ Some ahci.PxCi → IsHeld s old) → IsNotRead s old → IsNotRead s new
@@ -239,10 +231,9 @@ issues slot s f None base new supply h was = lessened s slot base new (ap (λ (c
 issues slot s f (Some reason) base new supply h was = lessened s slot base new (ap (λ (c : ControllerState). c.wants.pending) h.rest) was
 
 goes_on : (slot s : ℕ) (came : Supplied) (base new : ControllerState) (supply : Supply) → GoesOn base slot came supply new → IsNotRead s base → IsNotRead s new
-goes_on slot s (came_as.More f) base new supply h was = same s base new (ap (λ (c : ControllerState). c.wants.pending) h.0) was
-goes_on slot s (came_as.OutOfMemory f) base new supply h was = same s base new (ap (λ (c : ControllerState). c.wants.pending) h.0) was
 goes_on slot s (came_as.Refused r) base new supply h was = lessened s slot base new (ap (λ (c : ControllerState). c.wants.pending) h.rest) was
 goes_on slot s (came_as.Whole f) base new supply h was = issues slot s f (not_issued base.core slot f) base new supply h was
+goes_on slot s other base new supply h was = same s base new (ap (λ (c : ControllerState). c.wants.pending) h.0) was
 
 supplies : (fit : Bool) (slot s : ℕ) (bytes : List ℕ) (old new : ControllerState) (supply : Supply) → SuppliesIf fit old slot bytes supply new → IsNotRead s old → IsNotRead s new
 supplies false slot s bytes old new supply h was = unmoved s old new h.0 was
@@ -291,9 +282,8 @@ gathers true dev old new result h = sends (may_feed old.core dev) h
     sends true d = ap (λ (c : ControllerState). c.wants.pending) d.rest
 
 loses : (turn : Turn) (base new : ControllerState) (result : Fed) → Loses turn base result new → new.wants.pending ≡ base.wants.pending
-loses Rests base new result h = ap (λ (c : ControllerState). c.wants.pending) h.0
 loses (Feeds dev slot offset len) base new result h = ap (λ (c : ControllerState). c.wants.pending) h.rest
-loses (Orders dev slot command) base new result h = ap (λ (c : ControllerState). c.wants.pending) h.0
+loses other base new result h = ap (λ (c : ControllerState). c.wants.pending) h.0
 
 misses_data : (out : Bool) (dev : ℕ) (old new : ControllerState) (result : Fed) → MissesDataIf out old dev result new → new.wants.pending ≡ old.wants.pending
 misses_data false dev old new result h = ap (λ (c : ControllerState). c.wants.pending) h.0
@@ -365,14 +355,7 @@ issue_wanted (call.Supplied slot number bytes supply) s old new h is =
     subst (λ (n : ℕ). IsWanted n old.wants) (eqb-true slot s both.0) (supplied_wanted (fits old slot number bytes) slot number bytes old new supply refl h both.1)
 issue_wanted (call.Missed slot number supply) s old new h is =
     absurd (false≢true (sym (missed_none (is_asked old.wants slot number) slot old new supply h) ∙ (and_parts (slot == s) (is_issue supply) is).1))
-issue_wanted (call.Wrote offset value written) s old new h is = absurd (false≢true is)
-issue_wanted (call.WroteWide offset width value written) s old new h is = absurd (false≢true is)
-issue_wanted (call.Took frame took) s old new h is = absurd (false≢true is)
-issue_wanted (call.Left frame why) s old new h is = absurd (false≢true is)
-issue_wanted (call.Turned next) s old new h is = absurd (false≢true is)
-issue_wanted (call.Said write) s old new h is = absurd (false≢true is)
-issue_wanted (call.Gathered dev number frame fed) s old new h is = absurd (false≢true is)
-issue_wanted (call.NotThere dev number fed) s old new h is = absurd (false≢true is)
+issue_wanted other s old new h is = absurd (false≢true is)
 
 -- a slot for which bytes are wanted is read
 pub is_read : (s : ℕ) (c : ControllerState) → IsController c → IsWanted s c.wants → has_bit c.wants.pending s ≡ true

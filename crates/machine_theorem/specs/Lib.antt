@@ -7,3 +7,6 @@ pub mod Guest
 pub mod Standing
 pub mod Completed
 pub mod Writes
+pub mod Tags
+pub mod Orders
+pub mod Identity

@@ -1,11 +1,13 @@
--- A write of the guest: the bytes that the caller is asked to store are those of Data FISes that went with what it had supplied for them, and the
--- write ends well only once these were stored (AHCI 1.3.1, 5.3 and 9.3, what a port sends; Serial ATA 3.x, 10.5, Data, and 13.6, native command queuing).
+-- A write of the guest: the bytes that the caller is asked to store are those of Data FISes that went with what it had supplied for
+-- them, and the write ends well only once these were stored (AHCI 1.3.1, 5.3 and 9.3, what a port sends, and 3.3.14, PxCI; Serial ATA
+-- 3.x, 10.5, Data and Register Device to Host, and 13.6, native command queuing).
 use Rattle.std.specs.Prelude.{◌≡◌, ◌<◌, ◌*◌, ℕ, Bool, true, false, List, [], ◌∷◌, ◌++◌, drop, length, slice_index, Some}
 use Rattle.std.specs.List.{All}
 use Rattle.fis_view.specs.Frames.{Stamped}
 use Rattle.slots.specs.Slots.{has_bit as is_named}
 use Rattle.fan_out.specs.declared.fan_out.FanOut.{FanOut}
-use Rattle.ahci_registers.specs.declared.register.Register.TheVariants.{PxSact}
+use Rattle.ahci_registers.specs.declared.register.Register.TheVariants.{PxCi, PxSact}
+use Rattle.hba_fbs.specs.Taking.{port_of}
 use Rattle.ahci_controller.specs.Reading.{shown}
 use Rattle.ahci_controller.specs.declared.taking.Took.{Took}
 use Rattle.block_command.specs.Laws.{AskedStore}
@@ -13,6 +15,7 @@ use Rattle.block_disk.specs.Laws.{Page}
 use Rattle.block_engine.specs.declared.request.Request.{Request}
 use Rattle.block_engine.specs.declared.request.What.TheVariants as what
 use Rattle.block_queue.specs.Line.{has_bit}
+use Rattle.ata_reply.specs.declared.reply.Reply.TheVariants as replies
 use Rattle.disk_pages.specs.declared.profile.Profile.{Profile}
 use Rattle.sata_disk.specs.State.{DiskState, new_disk}
 use Rattle.sata_disk.specs.declared.out.Out.TheVariants as out
@@ -27,6 +30,7 @@ use Rattle.machine_laws.specs.ControllerLaws.{RunsRuled}
 use Rattle.machine_laws.specs.Deeds.{Deed, Does, Moved}
 use Rattle.machine_laws.specs.Heard.{AllHeard, HasLived, life_in, no_life}
 use Rattle.machine_laws.specs.Rising.{is_multiplier}
+use Rattle.machine_theorem.specs.Completed.{IsCompletedBy, IsFisBy}
 use Rattle.machine_theorem.specs.Ends.{IsEndBy, IsEnded}
 use Rattle.machine_theorem.specs.Guest.{IsFed}
 use Rattle.machine_theorem.specs.Moments.{Earns, HasCommand, Moment}
@@ -109,7 +113,7 @@ StoresAreOfGuests = (ports : ℕ) (legacy : Bool) (old : MachineState) → IsOpe
     → (deeds : List Deed) (now : MachineState) (run : RunsRuled old deeds now) (id : MediumId) (asked : Request) (new : MachineState)
     → Does now (Moved (act.Asks id asked)) new → (lba count : ℕ) → asked.what ≡ what.Store lba count → IsStore old deeds now run id asked lba count new
 
--- ---- the ends of writes
+-- ---- the ends of queued writes
 
 -- A command of which a disk says that it ended well has earned that: if it is a write, what came for it was stored, and flushed where it is to last.
 -- And what came was supplied.
@@ -138,3 +142,38 @@ CompletionsAreSupplied = (ports : ℕ) (legacy : Bool) (old : MachineState) → 
     → (does : Does now (Moved (act.Takes took)) new) → HasRules new → (slot : ℕ) → slot < 32
     → is_named (shown PxSact now.controller) slot ≡ true → is_named (shown PxSact new.controller) slot ≡ false
     → IsEndedSupplied old deeds now run new.fan does.does.frame slot
+
+-- ---- the ends of writes that are not queued
+
+-- A command that is not queued and moves sectors, by DMA or PIO, and of which a disk says by a Register FIS that it ended well, has
+-- earned that: if it is a write, what came for it was stored, and flushed where it is to last. And what came was supplied.
+abbrev pub DoneWritesAreSupplied : Type 0
+DoneWritesAreSupplied = (ports : ℕ) (legacy : Bool) (old : MachineState) → IsOpeningMachine ports legacy old
+    → (deeds : List Deed) (now : MachineState) (run : RunsRuled old deeds now) (n place : ℕ) (new : MachineState)
+    → Does now (Moved (act.Speaks n (out.Of place replies.Done))) new → SuppliedToNewDisk old deeds now run n place Earns
+
+-- what sends a FIS by a deed: so it is if a disk says Done that was new as it was put there; of any other FIS nothing is said
+abbrev pub IsSuppliedDone : (old : MachineState) → (deeds : List Deed) → (now : MachineState) → RunsRuled old deeds now → Deed → Type 0
+IsSuppliedDone old deeds now run (Moved (act.Speaks n (out.Of place replies.Done))) = SuppliedToNewDisk old deeds now run n place Earns
+IsSuppliedDone old deeds now run deed = Unit {0}
+
+-- A device sent this FIS at a moment of the run. If it is such a disk, and said Done by it, what came for the command of which it said
+-- so was supplied.
+pub record IsSentSupplied (old : MachineState) (deeds : List Deed) (fis : Stamped) : Type 0 where
+  pub sent : Moment old deeds (IsFisBy fis)
+  pub done : IsSuppliedDone old sent.before sent.at sent.first sent.deed
+
+pub record IsFallenSupplied (old : MachineState) (deeds : List Deed) (now : MachineState) (run : RunsRuled old deeds now) (end : FanOut) (fis : Stamped) (slot : ℕ)
+    : Type 0 where
+  pub completed : IsCompletedBy old deeds now run end fis slot
+  -- unless it is of the control port
+  pub sent : (is_multiplier end ≡ true → port_of fis.bytes < 15) → IsSentSupplied old deeds fis
+
+-- So it is where a bit of PxCI falls as a FIS is taken, and PxSACT does not show the slot: what the write stored of which a disk said
+-- Done by this FIS was supplied.
+abbrev pub FallsAreSupplied : Type 0
+FallsAreSupplied = (ports : ℕ) (legacy : Bool) (old : MachineState) → IsOpeningMachine ports legacy old
+    → (deeds : List Deed) (now : MachineState) (run : RunsRuled old deeds now) (took : Took) (new : MachineState)
+    → (does : Does now (Moved (act.Takes took)) new) → HasRules new → (slot : ℕ) → slot < 32
+    → is_named (shown PxCi now.controller) slot ≡ true → is_named (shown PxCi new.controller) slot ≡ false
+    → is_named (shown PxSact new.controller) slot ≡ false → IsFallenSupplied old deeds now run new.fan does.does.frame slot

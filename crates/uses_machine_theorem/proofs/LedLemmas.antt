@@ -5,11 +5,10 @@ use Rattle.std.specs.declared.alloc.AllocError.{AllocError}
 use Rattle.hba_fbs.specs.Views.{IsCorePort}
 use Rattle.slots.specs.Table.{IsTable}
 use Rattle.block_command.specs.Moments.{Moment}
-use Rattle.block_engine.specs.declared.request.Request.{Request}
-use Rattle.block_engine.specs.declared.request.What.TheVariants as what
 use Rattle.block_queue.specs.Line.{command_at}
 use Rattle.ahci_controller.specs.Rules.{IsRuled}
 use Rattle.ahci_controller.specs.declared.next.Next.TheVariants as next
+use Rattle.ata_reply.specs.declared.reply.Reply.TheVariants as replies
 use Rattle.disk_pages.specs.declared.profile.Profile.{Profile}
 use Rattle.sata_disk.specs.State.{DiskState, commands, new_disk}
 use Rattle.sata_disk.specs.declared.out.Out.TheVariants as out
@@ -31,8 +30,8 @@ use Rattle.machine_theorem.specs.Guest.{HeardIsOfGuest}
 use Rattle.machine_theorem.specs.Moments.{CompletionsAreEarned, DataAreOfSlots, PayloadIsOfSlots}
 use Rattle.machine_theorem.specs.Parts.{PayloadIsBrought}
 use Rattle.machine_theorem.specs.Standing.{CommandsStand}
-use Rattle.machine_theorem.specs.Writes.{CompletionsAreSupplied, DataAreSupplied, IsStore, StoresAreOfGuests, StoresNext, SuppliedToNewDisk, WritesAreSupplied}
-use Rattle.uses_machine_theorem.specs.Led.{AsksSupplied, EndsCompleted, EndsEarned, EndsSupplied, HoldsSupplied, IsLed, KnowsDisks, LendsBrought, LendsOfSlots, PutsNew, SpeaksOfSlots, SpeaksSupplied}
+use Rattle.machine_theorem.specs.Writes.{CompletionsAreSupplied, DataAreSupplied, DoneWritesAreSupplied, FallsAreSupplied, IsStore, StoresAreOfGuests, StoresNext, SuppliedToNewDisk, WritesAreSupplied}
+use Rattle.uses_machine_theorem.specs.Led.{AsksSupplied, EndsCompleted, EndsEarned, EndsSupplied, FallsSupplied, HoldsSupplied, IsLed, KnowsDisks, LendsBrought, LendsOfSlots, PutsNew, SpeaksDone, SpeaksOfSlots, SpeaksSupplied}
 
 pub ruled : (m : MachineState) → IsCorePort m.controller.core → IsTable m.controller.core.slots → IsRuled m.controller → HasRules m
 ruled m port slots rules = record { port = port; slots = slots; rules = rules }
@@ -98,6 +97,15 @@ pub ended_supplied : CompletionsAreSupplied → (old new : MachineState) (told :
 ended_supplied law old new told step rules took is was slot low shows hides =
     let does : Steps old (act.Takes took) new = told_is old new told (act.Takes took) step is in
     (does.does.frame, law was.ports was.legacy was.first was.opens was.deeds old was.run took new does rules slot low shows hides)
+
+pub speaks_done : DoneWritesAreSupplied → (old new : MachineState) (told : Result Act AllocError) → IfOk told (λ a. Steps old a new) → SpeaksDone old told
+speaks_done law old new told step n place is was =
+    law was.ports was.legacy was.first was.opens was.deeds old was.run n place new (told_is old new told (act.Speaks n (out.Of place replies.Done)) step is)
+
+pub fallen : FallsAreSupplied → (old new : MachineState) (told : Result Act AllocError) → IfOk told (λ a. Steps old a new) → HasRules new → FallsSupplied old told new
+fallen law old new told step rules took is was slot low shows hides none =
+    let does : Steps old (act.Takes took) new = told_is old new told (act.Takes took) step is in
+    (does.does.frame, law was.ports was.legacy was.first was.opens was.deeds old was.run took new does rules slot low shows hides none)
 
 -- a machine holds one list of bytes for a place
 one_moment : (x : Option Moment) (a b : List ℕ) → MatchOption x ⊥ (λ c. a ≡ c.bytes) → MatchOption x ⊥ (λ c. b ≡ c.bytes) → a ≡ b

@@ -1,2 +1,3 @@
 mod LedLemmas
 mod StandLemmas
+mod SlotLemmas

@@ -14,6 +14,7 @@ use Rattle.block_disk.specs.Laws.{Page}
 use Rattle.block_engine.specs.declared.request.Request.{Request}
 use Rattle.block_engine.specs.declared.request.What.TheVariants as what
 use Rattle.block_queue.specs.Line.{has_bit as has_tag}
+use Rattle.ata_reply.specs.declared.reply.Reply.TheVariants as replies
 use Rattle.controller_laws.specs.Events.{Event}
 use Rattle.disk_pages.specs.declared.profile.Profile.{Profile}
 use Rattle.sata_disk.specs.State.{DiskState, new_disk}
@@ -37,7 +38,7 @@ use Rattle.machine_theorem.specs.Guest.{IsOfGuest}
 use Rattle.machine_theorem.specs.Moments.{Earns, GivesNext, IsBroughtFor, IsEndedFor, OfNewDisk}
 use Rattle.machine_theorem.specs.Parts.{IsBrought}
 use Rattle.machine_theorem.specs.Standing.{HasStood, IsAsSupplied}
-use Rattle.machine_theorem.specs.Writes.{IsEndedSupplied, IsStore, IsSuppliedData, StoresNext, SuppliedToNewDisk}
+use Rattle.machine_theorem.specs.Writes.{IsEndedSupplied, IsFallenSupplied, IsStore, IsSuppliedData, StoresNext, SuppliedToNewDisk}
 
 -- some run led here from a machine that opened
 pub record IsLed (now : MachineState) : Type 0 where
@@ -101,6 +102,19 @@ abbrev pub EndsSupplied : MachineState → Result Act AllocError → MachineStat
 EndsSupplied now told new = (took : Took) → told ≡ Ok (act.Takes took) → (led : IsLed now) → (slot : ℕ) → slot < 32
     → has_bit (shown PxSact now.controller) slot ≡ true → has_bit (shown PxSact new.controller) slot ≡ false
     → (fis : Stamped) × IsEndedSupplied led.first led.deeds now led.run new.fan fis slot
+
+-- A move says that a disk ends a command well that is not queued: if it was new as it was put at its port, the command has earned
+-- that, and what came for it was supplied.
+abbrev pub SpeaksDone : MachineState → Result Act AllocError → Type 0
+SpeaksDone now told = (n place : ℕ) → told ≡ Ok (act.Speaks n (out.Of place replies.Done)) → (led : IsLed now)
+    → SuppliedToNewDisk led.first led.deeds now led.run n place Earns
+
+-- A bit of PxCI falls by a move that takes a FIS, and PxSACT does not show the slot: what the write stored was supplied of which such
+-- a disk said Done by this FIS.
+abbrev pub FallsSupplied : MachineState → Result Act AllocError → MachineState → Type 0
+FallsSupplied now told new = (took : Took) → told ≡ Ok (act.Takes took) → (led : IsLed now) → (slot : ℕ) → slot < 32
+    → has_bit (shown PxCi now.controller) slot ≡ true → has_bit (shown PxCi new.controller) slot ≡ false
+    → has_bit (shown PxSact new.controller) slot ≡ false → (fis : Stamped) × IsFallenSupplied led.first led.deeds now led.run new.fan fis slot
 
 -- Each FIS that the disk at a port heard since it was put there is of a command in a slot, or has Data that were supplied; and if it was new then,
 -- each command that its books have came from a slot. While the slot's bit has stood since an issue there, what was sent from it since is as supplied.

@@ -1,2 +1,3 @@
 pub mod Led
 pub mod Standing
+pub mod Slots

@@ -5,7 +5,10 @@ ghost use Rattle.std.specs.Prelude.{◌≡◌, ◌<◌, ◌≤◌, IfOk, IfSome}
 ghost use Rattle.slots.specs.Slots.{has_bit};
 ghost use Rattle.ahci_registers.specs.declared.register.Register.TheVariants.{PxCi};
 ghost use Rattle.ahci_controller.specs.Reading.{shown};
-ghost use Rattle.uses_machine_theorem.specs.Led.{AsksSupplied, EndsCompleted, EndsEarned, EndsSupplied, HoldsSupplied, IsLed, KnowsDisks, LendsBrought, LendsOfSlots, PutsNew, SpeaksOfSlots, SpeaksSupplied};
+ghost use Rattle.uses_machine_theorem.specs.Led.{AsksSupplied, EndsCompleted, EndsEarned, EndsSupplied, FallsSupplied, HoldsSupplied};
+ghost use Rattle.uses_machine_theorem.specs.Led.{IsLed, KnowsDisks, LendsBrought, LendsOfSlots, PutsNew, SpeaksDone, SpeaksOfSlots};
+ghost use Rattle.uses_machine_theorem.specs.Led.{SpeaksSupplied};
+ghost use Rattle.uses_machine_theorem.specs.Slots.{KnowsOrders, KnowsSlots, KnowsTags};
 ghost use Rattle.uses_machine_theorem.specs.Standing.{BeginsToStand, GoesOnStanding};
 
 use ahci_controller::Width;
@@ -40,11 +43,12 @@ pub fn puts(
     Ok(())
 }
 
-/// The machine moves. Where it says that payload is to be written, the bytes that it lends are those of a Data FIS that a device sent: of a
-/// disk the next bytes that the caller gave for the sectors of the command, and this command came from a slot. Where it says that a disk sends
-/// Data, they are such bytes. Where a bit of PxSACT falls as it takes a FIS, the device that owns the slot said so, and a disk has earned that.
-/// Where one of PxCI does, this device completed the slot's command. Where a disk asks for a store, the bytes are the guest's, as they were supplied for
-/// a command from a slot; and so is what a write stored that ends.
+/// The machine moves. Where it says that payload is to be written, the bytes that it lends are those of a Data FIS that a device
+/// sent: of a disk the next bytes that the caller gave for the sectors of the command, and this command came from a slot. Where it
+/// says that a disk sends Data, they are such bytes. Where a bit of PxSACT falls as it takes a FIS, the device that owns the slot
+/// said so, and a disk has earned that. Where one of PxCI does, this device completed the slot's command. Where a disk asks for a
+/// store, the bytes are the guest's, as they were supplied for a command from a slot; and so is what a write stored that ends, be it
+/// queued or not.
 pub fn moves(alloc: Global, machine: &mut Machine) -> Result<Act, AllocError>
     ensures led { IsLed machine.old → IfOk result (λ moved. IsLed machine.new) }
     ensures brought { LendsBrought machine.old result machine.new }
@@ -55,6 +59,8 @@ pub fn moves(alloc: Global, machine: &mut Machine) -> Result<Act, AllocError>
     ensures stores { AsksSupplied machine.old result machine.new }
     ensures ends { SpeaksSupplied machine.old result }
     ensures supplied { EndsSupplied machine.old result machine.new }
+    ensures done { SpeaksDone machine.old result }
+    ensures fallen { FallsSupplied machine.old result machine.new }
 {
     machine_theorem::payload_comes_from_devices();
     machine_theorem::data_are_of_slots();
@@ -110,13 +116,21 @@ pub fn watches(alloc: Global, machine: &mut Machine, slot: u8) -> Result<bool, A
 }
 
 /// Plugs in what is at a port. The caller knows of each disk in the machine, whatever run led to it, that it heard nothing but its guest, that
-/// the Data among that were supplied, that its commands came from slots, and that they are as they were supplied while their slots' bits stand.
+/// the Data among that were supplied, that its commands came from slots, and that they are as they were supplied while their slots' bits stand. Of each
+/// tag it ended no more commands than it heard; no more were sent from a slot than its bit of PxSACT fell, but the one that stands; and behind a
+/// moment at rest its command under a tag is the one in the slot of this number, if the guest kept to the standard.
 pub fn plugs(machine: &mut Machine, port: u8) -> Result<(), PortFault>
-    ensures { KnowsDisks machine.new }
+    ensures disks { KnowsDisks machine.new }
+    ensures tags { KnowsTags machine.new }
+    ensures orders { KnowsOrders machine.new }
+    ensures slots { KnowsSlots machine.new }
 {
     machine_theorem::commands_come_from_slots();
     machine_theorem::disks_hear_their_guest();
     machine_theorem::slots_have_one_command();
     machine_theorem::writes_come_from_guests();
+    machine_theorem::tags_are_counted();
+    machine_theorem::commands_are_sent_once();
+    machine_theorem::slots_name_their_disks_commands();
     machine.plug(port)
 }

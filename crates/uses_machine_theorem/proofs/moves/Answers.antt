@@ -1,4 +1,4 @@
-use Rattle.uses_machine_theorem.proofs.LedLemmas.{asks, brought, completed, ended, ended_supplied, led, of_slots, ruled, speaks, speaks_supplied}
+use Rattle.uses_machine_theorem.proofs.LedLemmas.{asks, brought, completed, ended, ended_supplied, fallen, led, of_slots, ruled, speaks, speaks_done, speaks_supplied}
 use Rattle.uses_machine_theorem.proofs.moves.Goals as goal
 
 pub returns-clause-led : goal.returns-clause-led
@@ -34,4 +34,12 @@ returns-clause-ends c = speaks_supplied c.writes_come_from_guests.ensures.ends c
 pub returns-clause-supplied : goal.returns-clause-supplied
 returns-clause-supplied c =
     ended_supplied c.writes_come_from_guests.ensures.completed c.args.machine.now c.step-moved.new.self c.step-moved.result c.step-moved.ensures.ok
+    (ruled c.step-moved.new.self c.keeps_rules-2.ensures.port c.keeps_rules-2.ensures.slots c.keeps_rules-2.ensures.rules)
+
+pub returns-clause-done : goal.returns-clause-done
+returns-clause-done c = speaks_done c.writes_come_from_guests.ensures.done c.args.machine.now c.step-moved.new.self c.step-moved.result c.step-moved.ensures.ok
+
+pub returns-clause-fallen : goal.returns-clause-fallen
+returns-clause-fallen c =
+    fallen c.writes_come_from_guests.ensures.fallen c.args.machine.now c.step-moved.new.self c.step-moved.result c.step-moved.ensures.ok
     (ruled c.step-moved.new.self c.keeps_rules-2.ensures.port c.keeps_rules-2.ensures.slots c.keeps_rules-2.ensures.rules)

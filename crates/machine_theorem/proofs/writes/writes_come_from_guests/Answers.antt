@@ -1,3 +1,4 @@
+use Rattle.machine_theorem.proofs.Done.{done_are, falls_are}
 use Rattle.machine_theorem.proofs.FromHost as from_host
 use Rattle.machine_theorem.proofs.Stored.{Laws, completions, stores_are, writes_are}
 use Rattle.machine_theorem.proofs.Supplied.{data_are}
@@ -30,4 +31,11 @@ returns c =
       stores = c.stores_are_heard.ensures;
       ends = c.ends_are_of_pages.ensures.ends;
     } in
-    record { heard = data_are c.disks_hear_their_guest.ensures; stores = stores_are laws; ends = writes_are laws; completed = completions laws c.ends_come_from_devices.ensures.ends }
+    record {
+      heard = data_are c.disks_hear_their_guest.ensures;
+      stores = stores_are laws;
+      ends = writes_are laws;
+      completed = completions laws c.ends_come_from_devices.ensures.ends;
+      done = done_are laws c.ends_are_of_pages.ensures.singles;
+      fallen = falls_are laws c.completions_are_of_devices.ensures;
+    }
