@@ -1,16 +1,17 @@
 -- What holds for every table still holds after a call.
 use Rattle.std.proofs.Common.{◌≡◌, ℕ, ◌/◌, ◌<◌, Bool, true, false, not, ◌&&◌, ◌||◌, List, [], get_or, length, cond, refl, sym, ◌∙◌, ap, subst, arith, inl, inr, Option, Some, None, get_or-set_same}
-use Rattle.std.specs.Prelude.{MatchOption, IfSome, is_none}
+use Rattle.std.specs.Prelude.{MatchOption, IfSome, IsSome, is_none}
+use Rattle.std.specs.Bool.{then_some}
 use Rattle.std.specs.Option.{is_some, option_map}
 use Rattle.std.proofs.lemmas.Bool.{cases_lt, and_parts, or_left, or_right, or_cases, cond-true, cond-false, not-true, false≢true}
 use Rattle.std.proofs.lemmas.List.{get_or_default, get_or_past, length-map, length-replicate}
 use Rattle.slots.specs.declared.table.Context.{Context}
-use Rattle.slots.specs.Commands.{MayBeSent, after_sent, answer_for, answer_of, answered_issue, is_slot, may_begin, may_go, sent_issue, whole_pio, with_sent}
+use Rattle.slots.specs.Commands.{MayBeSent, after_pio_done, after_sent, answer_for, answer_of, answered_issue, is_slot, may_begin, may_go, sent_issue, whole_pio, with_sent}
 use Rattle.slots.specs.declared.slot.Issued.{Issued}
 use Rattle.slots.specs.declared.work.Work.{Work}
 use Rattle.slots.specs.Work.{IsWork, needs_all}
 use Rattle.slots.specs.Issued.{issued_of, with_flags}
-use Rattle.slots.specs.Slots.{Issue, Slots, DeviceSlots, issue_at, owned_by, own_issue, slots_of, freed, has_bit, holds, is_control, is_queued_issue, is_sent_pio, is_under_way, is_waiting, is_whole_issue, match_some, new_issue, sent_pio, waiting}
+use Rattle.slots.specs.Slots.{Issue, Slots, DeviceSlots, issue_at, owned_by, own_issue, slots_of, freed, has_bit, holds, is_control, is_out_issue, is_queued_issue, is_sent_pio, is_under_way, is_waiting, is_whole_issue, match_some, new_issue, sent_out, sent_pio, waiting}
 use Rattle.slots.specs.Setup.{after_setup_pio, begun, came, is_outstanding, new_context, pio_fault, pio_issue, with_own_context}
 use Rattle.slots.specs.declared.answer.Answered.{Answered}
 use Rattle.slots.specs.declared.answer.SetupError.{SetupError}
@@ -276,3 +277,76 @@ pio_whole dev s t o is lt first h whole =
 
 pub pio_refused : (dev count : ℕ) (to_host : Bool) (t : Slots) (fault : SetupError) → pio_fault (pio_issue (slots_of dev t)) count to_host ≡ Some fault → slots_of dev t ≡ after_setup_pio (slots_of dev t) count to_host
 pio_refused dev count to_host t fault h = sym (cond-true (is_some (pio_fault (pio_issue (slots_of dev t)) count to_host)) (slots_of dev t) _ (ap is_some h))
+
+-- ---- what is not there
+
+pub nobody : (P : Issue → Type 0) (o : Option Issue) → option_map issued_of o ≡ None → IfSome o P
+nobody P None e = tt
+nobody P (Some i) e = absurd (cc)
+
+pub owned_there : (o : Option Issue) (h : Issued) → option_map issued_of o ≡ Some h → IsSome (owned_by h.dev o)
+owned_there None h e = absurd (cc)
+owned_there (Some i) h e = subst (λ (x : Option Issue). IsSome x) (sym (owned_own h.dev i (ap (λ (x : Issued). x.dev) (head_is i h e)))) refl
+
+pub dev_below : (s : ℕ) (t : Slots) (o : Option Issue) (h : Issued) → IsTable t → issue_at t s ≡ o → option_map issued_of o ≡ Some h → h.dev < 16
+dev_below s t None h is at e = absurd (cc)
+dev_below s t (Some i) h is at e =
+    let r : IsIssue i = subst (λ (o : Option Issue). MatchOption o (Unit {0}) IsIssue) at (is.issues s) in
+    subst (λ (x : Issued). x.dev < 16) (head_is i h e) r.dev_below
+
+pub other_there : (o : Option Issue) (h : Issued) → option_map issued_of o ≡ Some h → is_control h.work.kind ≡ false → MatchOption o ⊥ (λ issue. (issue.dev ≡ h.dev) × (is_control issue.work.kind ≡ false))
+other_there None h e kind = absurd (cc)
+other_there (Some i) h e kind =
+    (ap (λ (x : Issued). x.dev) (head_is i h e), ap (λ (x : Issued). is_control x.work.kind) (head_is i h e) ∙ kind)
+
+pub alone_there : (t : Slots) (o : Option Issue) (h : Issued) → option_map issued_of o ≡ Some h → is_control h.work.kind ≡ false
+    → MatchOption o ⊥ (λ issue. (issue.sent ≡ false) × (is_control issue.work.kind ≡ false → waiting (slots_of issue.dev t) ≡ None)) → waiting (slots_of h.dev t) ≡ None
+alone_there t None h e kind may = absurd may
+alone_there t (Some i) h e kind may =
+    let same = head_is i h e in
+    subst (λ (x : Issued). waiting (slots_of x.dev t) ≡ None) same (may.1 (ap (λ (x : Issued). is_control x.work.kind) same ∙ kind))
+
+-- ---- the PIO data-out
+
+abbrev no_slot : Option ℕ
+no_slot = None
+
+if_there : (b : Bool) (s : ℕ) → cond b (Some s) no_slot ≡ then_some b s
+if_there true s = refl
+if_there false s = refl
+
+pub out_is : (dev s : ℕ) (t : Slots) (o : Option Issue) → o ≡ issue_at t s → s < length t.issues → waiting (slots_of dev t) ≡ Some s → holds is_waiting (own_issue (slots_of dev t) s) ≡ true
+    → sent_out (slots_of dev t) ≡ then_some (holds is_out_issue o) s
+out_is dev s t o is lt first waits =
+    let own : DeviceSlots = slots_of dev t in
+    let none : Option ℕ = None in
+    ap (λ (m : Option ℕ). match_some m none (λ slot. cond (holds is_out_issue (own_issue own slot)) (Some slot) none)) first
+    ∙ ap (λ (o : Option Issue). cond (holds is_out_issue o) (Some s) none) (own_found is_waiting dev s t o is lt waits)
+    ∙ if_there (holds is_out_issue o) s
+
+pub some_below : (b : Bool) (s : ℕ) (o : Option ℕ) → o ≡ then_some b s → s < 32 → IfSome o (λ slot. slot < 32)
+some_below true s o e lt = subst (λ (x : Option ℕ). IfSome x (λ slot. slot < 32)) (sym e) lt
+some_below false s o e lt = subst (λ (x : Option ℕ). IfSome x (λ slot. slot < 32)) (sym e) tt
+
+pub out_gone : (own : DeviceSlots) → waiting own ≡ None → sent_out own ≡ None
+out_gone own h = ap (λ (m : Option ℕ). match_some m no_slot (λ slot. cond (holds is_out_issue (own_issue own slot)) (Some slot) no_slot)) h
+
+-- ---- the PIO data-in
+
+pub pio_none : (own : DeviceSlots) (count : ℕ) (to_host : Bool) → sent_pio own ≡ None → pio_fault (pio_issue own) count to_host ≡ Some SetupError.NotOutstanding
+pio_none own count to_host h =
+    let none : Option Issue = None in
+    ap (λ (m : Option ℕ). pio_fault (match_some m none (own_issue own)) count to_host) h
+
+pub none_whole : (own : DeviceSlots) → sent_pio own ≡ None → whole_pio own ≡ None
+none_whole own h = ap (λ (m : Option ℕ). match_some m no_slot (λ slot. cond (holds is_whole_issue (own_issue own slot)) (Some slot) no_slot)) h
+
+pub pio_missing : (dev s : ℕ) (t : Slots) (o : Option Issue) → o ≡ issue_at t s → s < length t.issues → sent_pio (slots_of dev t) ≡ Some s → holds is_sent_pio (own_issue (slots_of dev t) s) ≡ true → holds is_whole_issue o ≡ false
+    → whole_pio (slots_of dev t) ≡ None
+pio_missing dev s t o is lt first h missing =
+    let own : DeviceSlots = slots_of dev t in
+    ap (λ (m : Option ℕ). match_some m no_slot (λ slot. cond (holds is_whole_issue (own_issue own slot)) (Some slot) no_slot)) first
+    ∙ ap (λ (b : Bool). cond b (Some s) no_slot) (ap (holds is_whole_issue) (own_found is_sent_pio dev s t o is lt h) ∙ missing)
+
+pub pio_stays : (own : DeviceSlots) → whole_pio own ≡ None → own ≡ after_pio_done own
+pio_stays own h = sym (ap (λ (o : Option ℕ). match_some o own (λ slot. freed (is_slot slot) own)) h)

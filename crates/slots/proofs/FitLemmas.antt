@@ -2,8 +2,8 @@
 use Rattle.std.proofs.Common.{◌≡◌, ℕ, ◌+◌, ◌%◌, ◌<◌, ◌≤◌, Bool, true, false, not, ◌&&◌, ◌||◌, nat_eq, nat_lt, nat_le, List, length, refl, sym, ◌∙◌, ap, subst, arith, inl, inr, Option, Some, None}
 use Rattle.std.specs.Prelude.{MatchOption, if◌then◌else◌, Result, Ok, Err}
 use Rattle.std.specs.Bool.{beq}
-use Rattle.std.specs.Option.{option_or}
-use Rattle.std.proofs.lemmas.Bool.{and_parts, or_left, or_right, cases_lt, eqb-true, eqb-false, ltb-false, false≢true}
+use Rattle.std.specs.Option.{is_some, option_or}
+use Rattle.std.proofs.lemmas.Bool.{and_parts, cond-true, or_left, or_right, cases_lt, eqb-true, eqb-false, ltb-false, false≢true}
 use Rattle.slots.specs.declared.table.Context.{Context}
 use Rattle.slots.specs.declared.work.Kind.{Kind}
 use Rattle.slots.specs.declared.work.Kind.TheVariants.{QueuedRead, QueuedWrite, DmaIn, DmaOut, PioIn, PioOut, NoData, Control}
@@ -12,7 +12,7 @@ use Rattle.slots.specs.Bytes.{any_over, ends_at, none_over, stretches_of}
 use Rattle.slots.specs.declared.answer.SetupError.{SetupError}
 use Rattle.slots.specs.declared.answer.SetupError.TheVariants.{NotOutstanding, WrongWay, Overflow, Twice, Fragments, BadCount}
 use Rattle.slots.specs.Data.{activated}
-use Rattle.slots.specs.Setup.{came, context_or, dma_context, is_full_at, is_outstanding, long_fault, new_context, out_context, out_fault, out_setup, setup_fault, transfer_fault}
+use Rattle.slots.specs.Setup.{after_setup, after_setup_out, came, context_or, dma_context, is_full_at, is_outstanding, long_fault, new_context, out_context, out_fault, out_setup, setup_fault, transfer_fault, with_setup}
 use Rattle.slots.specs.Slots.{DeviceSlots, Issue, Slots, issue_at, holds, is_out_issue, is_under_way, is_waiting, match_some, own_issue, owned_by, sent_out, slots_of, waiting}
 use Rattle.slots.specs.Table.{IsContext, IsContextOf, IsFresh, IsIssue, IsTable}
 use Rattle.slots.specs.Work.{is_dma, is_out, is_read, needs_all}
@@ -164,6 +164,16 @@ pub set_up_inside : (dev s offset count : ℕ) (to_host : Bool) (t : Slots) (o :
 set_up_inside dev s offset count to_host t o at is below h =
     (below, set_up_at dev s offset count to_host (issue_at t s) (ap (λ (x : Option Issue). setup_fault (owned_by dev x) offset count to_host) (sym at) ∙ h))
 
+-- the fault that was found is the one of the device's slot
+pub setup_tested : (dev s offset count : ℕ) (to_host : Bool) (t : Slots) (o : Option Issue) (r : Option SetupError) → o ≡ issue_at t s → IsTable t → s < 32
+    → r ≡ setup_fault (owned_by dev o) offset count to_host → setup_fault (own_issue (slots_of dev t) s) offset count to_host ≡ r
+setup_tested dev s offset count to_host t o r at is below h =
+    ap (λ (x : Option Issue). setup_fault x offset count to_host) (own_at dev t s (omega (arith, below, is.slots)))
+    ∙ ap (λ (x : Option Issue). setup_fault (owned_by dev x) offset count to_host) (sym at) ∙ sym h
+
+pub setup_refused : (own : DeviceSlots) (s offset count : ℕ) (to_host auto : Bool) (fault : SetupError) → setup_fault (own_issue own s) offset count to_host ≡ Some fault → own ≡ after_setup own s offset count to_host auto
+setup_refused own s offset count to_host auto fault h = sym (cond-true (is_some (setup_fault (own_issue own s) offset count to_host)) own _ (ap is_some h))
+
 -- ---- a PIO Setup for a PIO data-out
 
 out_needs : (k : Kind) → is_out k ≡ true → (needs_all k ≡ true) × (is_read k ≡ false)
@@ -286,3 +296,11 @@ out_refuses dev s count to_host t d di fault is first refused =
     ap (λ (x : Option ℕ). match_some x bad (λ slot. match_some (own_issue own slot) bad (out_context slot count to_host))) first
     ∙ ap (λ (x : Option Issue). match_some x bad (out_context s count to_host)) o.own
     ∙ context_refused (out_fault count to_host o.issue) fault (dma_context s (came o.issue) count false true) why
+
+pub out_none : (own : DeviceSlots) (count : ℕ) (to_host : Bool) → sent_out own ≡ None → out_setup own count to_host ≡ Err NotOutstanding
+out_none own count to_host h =
+    let bad : Result Context SetupError = Err NotOutstanding in
+    ap (λ (x : Option ℕ). match_some x bad (λ slot. match_some (own_issue own slot) bad (out_context slot count to_host))) h
+
+pub out_stays : (own : DeviceSlots) (count : ℕ) (to_host : Bool) (fault : SetupError) → out_setup own count to_host ≡ Err fault → own ≡ after_setup_out own count to_host
+out_stays own count to_host fault h = sym (ap (with_setup own) h)

@@ -11,6 +11,7 @@ mod ListLemmas
 mod TableLemmas
 mod FreeLemmas
 mod CallLemmas
+mod FaultLemmas
 mod FitLemmas
 mod MoveLemmas
 mod NewLemmas

@@ -1,5 +1,5 @@
 -- For the functions of mask.rt and list.rt. Masks of slots, and the issues that they stand for.
-use Rattle.std.proofs.Common.{◌≡◌, ◌≢◌, ◌<◌, ◌+◌, ◌-◌, ◌*◌, ◌%◌, ◌^◌, ℕ, zero, suc, Bool, true, false, not, ◌&&◌, ◌||◌, min, nat_eq, cond, List, length, set, get_or, refl, ap, sym, ◌∙◌, arith, inl, inr, w32, bit_and, bit_or, Option, Some, None, get_or-set_same, get_or-set_other, length-set}
+use Rattle.std.proofs.Common.{◌≡◌, ◌≢◌, ◌<◌, ◌+◌, ◌-◌, ◌*◌, ◌%◌, ◌^◌, ℕ, zero, suc, Bool, true, false, not, ◌&&◌, ◌||◌, min, nat_eq, cond, List, length, set, get_or, refl, ap, sym, subst, ◌∙◌, arith, inl, inr, w32, bit_and, bit_or, Option, Some, None, get_or-set_same, get_or-set_other, length-set}
 use Rattle.std.specs.Int.{bit_at, bit_not, trailing_zeros}
 use Rattle.std.specs.Option.{option_map}
 use Rattle.std.specs.Prelude.{is_none}
@@ -13,7 +13,7 @@ use Rattle.slots.specs.Data.{moved_over}
 use Rattle.slots.specs.Masks.{AreMasksBelow, IsLowestBit, IsMask, IsWithout, LeavesOut, Notes, SetsBit}
 use Rattle.slots.specs.Setup.{is_outstanding}
 use Rattle.slots.specs.Slots.{Issue, Slots, has_bit, holds, is_control, is_done_issue, is_pio, is_queued_issue, is_sent_pio, is_short_issue, is_unsent, is_waiting, is_whole_issue, issue_at, issues_unless, lowest_below, mask_below, own_issue, own_of, owned_by, slots_of, waiting}
-use Rattle.slots.proofs.MaskLemmas.{freed_all, get-unless, has_bit_mask, lowest_found, lowest_none, mask_fits, own_read}
+use Rattle.slots.proofs.MaskLemmas.{freed_all, get-unless, has_bit_mask, lowest_found, lowest_none, mask_fits, own_read, slot_read}
 
 -- ---- bits
 
@@ -211,14 +211,21 @@ mask_set_at test old new slot issues o below m sets = record {
   ];
 }
 
--- one slot has changed
-pub masks_set : (old new : Masks) (slot : ℕ) (issues : List (Option Issue)) (o : Option Issue) → slot < length issues → AreMasksBelow 32 old issues → Notes slot o old new → AreMasksBelow 32 new (set issues slot o)
+masks_set : (old new : Masks) (slot : ℕ) (issues : List (Option Issue)) (o : Option Issue) → slot < length issues → AreMasksBelow 32 old issues → Notes slot o old new → AreMasksBelow 32 new (set issues slot o)
 masks_set old new slot issues o below m notes = record {
   issued = mask_set_at is_any old.issued new.issued slot issues o below m.issued notes.issued;
   unanswered = mask_set_at is_unanswered old.unanswered new.unanswered slot issues o below m.unanswered notes.unanswered;
   queued = mask_set_at is_queued_issue old.queued new.queued slot issues o below m.queued notes.queued;
   unsent = mask_set_at is_unsent old.unsent new.unsent slot issues o below m.unsent notes.unsent;
 }
+
+-- one slot has changed
+pub slot_changed : (old new : Masks) (slot : ℕ) (issues : List (Option Issue)) (o d : Option Issue) → slot < 32 → (length issues ≡ 32) × AreMasksBelow 32 old issues
+    → Notes slot (get_or (set issues slot o) slot d) old new → (length (set issues slot o) ≡ 32) × AreMasksBelow 32 new (set issues slot o)
+slot_changed old new slot issues o d small m notes =
+    let below : slot < length issues = omega (arith, m.0, small) in
+    let now : Notes slot o old new = subst (λ (x : Option Issue). Notes slot x old new) (get_or-set_same issues slot o d below) notes in
+    (length-set issues slot o ∙ m.0, masks_set old new slot issues o below m.1 now)
 
 same_moved : (test : Issue → Bool) (offset count : ℕ) (o : Option Issue) → ((i : Issue) → test (moved_over offset count i) ≡ test i) → holds test (option_map (moved_over offset count) o) ≡ holds test o
 same_moved test offset count None same = refl
@@ -306,6 +313,18 @@ no_outstanding dev (Some i) h = owned_fails is_outstanding dev i (queued_not (is
 pub none_beside : (dev : ℕ) (o : Option Issue) → (holds is_any o && not (holds is_unsent o)) ≡ false → holds (is_sent_beside dev) o ≡ false
 none_beside dev None h = refl
 none_beside dev (Some i) h = sent_not i.sent (not (nat_eq i.dev dev)) h
+
+-- what a test of one slot of a device says
+pub seen_own : (dev s : ℕ) (test : Issue → Bool) (inside now : List (Option Issue)) (d : Option Issue) (b : Bool) → inside ≡ now → length inside ≡ 32 → s < 32
+    → b ≡ holds test (owned_by dev (get_or inside s d)) → holds test (own_issue (own_of dev now) s) ≡ b
+seen_own dev s test inside now d b same long below is =
+    subst (λ (x : List (Option Issue)). holds test (own_issue (own_of dev x) s) ≡ b) same (sym (is ∙ ap (holds test) (own_read dev inside s d (omega (arith, long, below)))))
+
+-- the same, whatever its device
+pub seen : (s : ℕ) (test : Issue → Bool) (inside now : List (Option Issue)) (d : Option Issue) (b : Bool) → inside ≡ now → length inside ≡ 32 → s < 32
+    → b ≡ holds test (get_or inside s d) → holds test (get_or now s None) ≡ b
+seen s test inside now d b same long below is =
+    subst (λ (x : List (Option Issue)). holds test (get_or x s None) ≡ b) same (sym (is ∙ ap (holds test) (slot_read inside s d (omega (arith, long, below)))))
 
 -- the slots of one mask that are not in another one
 pub left_by : (one other test : Option Issue → Bool) (a b : ℕ) (issues : List (Option Issue)) → b < 2 ^ 32 → ((k : ℕ) → k < 32 → has_bit a k ≡ one (get_or issues k None)) → ((k : ℕ) → k < 32 → has_bit b k ≡ other (get_or issues k None))

@@ -285,3 +285,9 @@ is_then_table t is =
     (λ s lt. ap not (slot_proper t.issues t.contexts s (issue_at t s) is refl (is.issues s)))))
     (ap (λ (o : Option ℕ). is_none o) (lowest_none (λ dev. not (is_context_proper t.issues t.contexts dev)) 16
     (λ dev lt. ap not (own_context_proper t dev (context_of t dev) (is.contexts dev)))))
+
+-- what waits is the first, or nothing waits
+pub first_told : (s a : Bool) (o p : Option ℕ) (slot : ℕ) → not s ≡ false → a ≡ false → p ≡ o → match_some p true (λ first. nat_eq first slot) ≡ (not (s && not a) || match_some o true (λ first. nat_eq first slot))
+first_told false a o p slot hs ha e = absurd (false≢true (sym hs))
+first_told true true o p slot hs ha e = absurd (false≢true (sym ha))
+first_told true false o p slot hs ha e = ap (λ (x : Option ℕ). match_some x true (λ first. nat_eq first slot)) e

@@ -1,5 +1,5 @@
 -- What is issued, and which of its bytes were transferred, as words.
-use Rattle.std.specs.Prelude.{◌≡◌, ℕ, ◌+◌, ◌*◌, ◌/◌, ◌^◌, ◌<◌, ◌≤◌, Bool, List, [], ◌∷◌, Option, Some, None, length, refl, slice_index_or, suc, MatchOption}
+use Rattle.std.specs.Prelude.{◌≡◌, ℕ, ◌+◌, ◌*◌, ◌/◌, ◌^◌, ◌<◌, ◌≤◌, ◌==◌, Bool, if◌then◌else◌, List, [], ◌∷◌, Option, Some, None, length, refl, slice_index_or, suc, MatchOption}
 use Rattle.std.specs.List.{AllByRecursion}
 use Rattle.std.proofs.Common.{ap, arith, subst, sym, ◌∙◌}
 use Rattle.saved_state.specs.State.{IsToldApart, KeepsOption, all_apart, bool_apart, list_apart, number_apart, option_apart, pair_apart, parts_apart, put_all, put_bool, put_list, put_number, put_option, put_pair, put_three, three_apart}
@@ -53,16 +53,24 @@ kind_number Control = 8
 abbrev pub put_kind : Kind → List ℕ → List ℕ
 put_kind kind rest = kind_number kind ∷ rest
 
+kind_of : ℕ → Kind
+kind_of n =
+    if n == 1 then QueuedRead else if n == 2 then QueuedWrite else if n == 3 then DmaIn else if n == 4 then DmaOut
+    else if n == 5 then PioIn else if n == 6 then PioOut else if n == 7 then NoData else Control
+
+kind_back : (kind : Kind) → kind_of (kind_number kind) ≡ kind
+unfolding kind_of
+kind_back QueuedRead = refl
+kind_back QueuedWrite = refl
+kind_back DmaIn = refl
+kind_back DmaOut = refl
+kind_back PioIn = refl
+kind_back PioOut = refl
+kind_back NoData = refl
+kind_back Control = refl
+
 kind_same : (a b : Kind) → kind_number a ≡ kind_number b → a ≡ b
-kind_same QueuedRead QueuedRead e = refl
-kind_same QueuedWrite QueuedWrite e = refl
-kind_same DmaIn DmaIn e = refl
-kind_same DmaOut DmaOut e = refl
-kind_same PioIn PioIn e = refl
-kind_same PioOut PioOut e = refl
-kind_same NoData NoData e = refl
-kind_same Control Control e = refl
-kind_same a b e = absurd (cc)
+kind_same a b e = sym (kind_back a) ∙ ap kind_of e ∙ kind_back b
 
 pub kind_apart : IsToldApart put_kind Free
 kind_apart a b x y k l e = let same : kind_number a ≡ kind_number b = cc in (kind_same a b same, cc)

@@ -1,8 +1,7 @@
-use Rattle.std.proofs.Common.{◌≡◌, ◌<◌, List, Option, true, length, arith, sym, ap, subst, ◌∙◌}
+use Rattle.std.proofs.Common.{arith, sym, true, false}
 use Rattle.slots.specs.Commands.{is_unanswered}
-use Rattle.slots.specs.Slots.{Issue, holds, is_unsent, is_waiting, own_issue, own_of}
-use Rattle.slots.proofs.ListLemmas.{left_own, no_waiting, walk_ends, walk_found}
-use Rattle.slots.proofs.MaskLemmas.{own_read}
+use Rattle.slots.specs.Slots.{holds, is_unsent, is_waiting, own_issue, own_of}
+use Rattle.slots.proofs.ListLemmas.{left_own, no_waiting, seen_own, walk_ends, walk_found, walk_on}
 use Rattle.slots.proofs.list.SlotList.waiting.Goals as goal
 
 pub walk-init : goal.walk-init
@@ -10,13 +9,17 @@ walk-init c = rw (← c.self.view_is) (left_own c.args.dev is_unanswered is_unse
 
 pub returns-then-is_waiting-clause-value : goal.returns-then-is_waiting-clause-value
 returns-then-is_waiting-clause-value c =
-    let issues = c.self.inside.slots in
-    let dev = c.args.dev in
-    let s = c.in-Some.slot in
-    let below : s < length issues = omega (arith, c.self.invariant.0, c.in-Some.ensures.0) in
-    let here : holds is_waiting (own_issue (own_of dev issues) s) ≡ true = sym (ap (holds is_waiting) (own_read dev issues s _ below)) ∙ sym c.if-is_waiting.ensures in
-    sym (walk_found (λ k. holds is_waiting (own_issue (own_of c.args.dev c.args.self.now) k)) c.walk.rest s c.walk.invariant c.in-Some.ensures
-    (subst (λ (x : List (Option Issue)). holds is_waiting (own_issue (own_of dev x) s) ≡ true) c.self.view_is here))
+    sym (walk_found (λ k. holds is_waiting (own_issue (own_of c.args.dev c.args.self.now) k)) c.walk.rest c.in-Some.slot c.walk.invariant c.in-Some.ensures
+    (seen_own c.args.dev c.in-Some.slot is_waiting c.self.inside.slots c.args.self.now _ true c.self.view_is c.self.invariant.0 c.in-Some.ensures.0 c.if-is_waiting.ensures))
+
+pub returns-then-is_waiting-clause-there : goal.returns-then-is_waiting-clause-there
+returns-then-is_waiting-clause-there c =
+    (c.in-Some.ensures.0, seen_own c.args.dev c.in-Some.slot is_waiting c.self.inside.slots c.args.self.now _ true c.self.view_is c.self.invariant.0 c.in-Some.ensures.0 c.if-is_waiting.ensures)
+
+pub walk-preserved : goal.walk-preserved
+walk-preserved c =
+    walk_on (λ k. holds is_waiting (own_issue (own_of c.args.dev c.args.self.now) k)) c.walk.rest _ c.in-Some.slot c.walk.invariant c.without-rest.ensures.bits
+    (seen_own c.args.dev c.in-Some.slot is_waiting c.self.inside.slots c.args.self.now _ false c.self.view_is c.self.invariant.0 c.in-Some.ensures.0 c.if-is_waiting.ensures)
 
 pub returns-clause-value : goal.returns-clause-value
 returns-clause-value c = sym (walk_ends (λ k. holds is_waiting (own_issue (own_of c.args.dev c.args.self.now) k)) c.walk.rest c.walk.invariant c.in_default.ensures)

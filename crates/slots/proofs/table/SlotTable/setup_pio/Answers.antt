@@ -2,7 +2,7 @@ use Rattle.std.proofs.Common.{◌≡◌, ◌<◌, ℕ, Option, length, arith, sy
 use Rattle.slots.specs.declared.table.Context.{Context}
 use Rattle.slots.specs.Setup.{after_setup_pio, new_context, pio_fault, with_own_context}
 use Rattle.slots.specs.Slots.{Issue, Slots, slots_of}
-use Rattle.slots.proofs.CallLemmas.{pio_issue_is, pio_set_up, pio_refused}
+use Rattle.slots.proofs.CallLemmas.{pio_issue_is, pio_none, pio_set_up, pio_refused}
 use Rattle.slots.proofs.table.SlotTable.setup_pio.Goals as goal
 
 pub returns-in-Some-pio_fault-clause-refusal : goal.returns-in-Some-pio_fault-clause-refusal
@@ -48,3 +48,15 @@ returns-clause-own c =
     let now : after_setup_pio (slots_of dev c.args.self.now) c.args.count c.args.to_host ≡ with_own_context (slots_of dev c.args.self.now) c.new.result =
     subst (λ (u : Slots). after_setup_pio (slots_of dev u) c.args.count c.args.to_host ≡ with_own_context (slots_of dev u) c.new.result) c.self.view_is after in
     c.set_context.ensures.own ∙ sym now
+
+pub returns-in_default-clause-refusal : goal.returns-in_default-clause-refusal
+returns-in_default-clause-refusal c =
+    let t : Slots = record { issues = c.self.inside.slots; contexts = c.self.inside.contexts } in
+    let dev = c.args.dev in
+    rw (← c.self.view_is) (sym (pio_none (slots_of dev t) c.args.count c.args.to_host (sym c.sent_pio.ensures.value ∙ c.in_default.is)))
+
+pub returns-in_default-clause-own : goal.returns-in_default-clause-own
+returns-in_default-clause-own c =
+    let t : Slots = record { issues = c.self.inside.slots; contexts = c.self.inside.contexts } in
+    let dev = c.args.dev in
+    rw (← c.self.view_is) (pio_refused dev c.args.count c.args.to_host t _ (pio_none (slots_of dev t) c.args.count c.args.to_host (sym c.sent_pio.ensures.value ∙ c.in_default.is)))
