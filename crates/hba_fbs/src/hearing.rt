@@ -21,7 +21,7 @@ use port_errors::{DeviceCause, PortCause};
 use slots::{Answered, Completed, Context, SetupError, SlotTable};
 
 /// What is wrong with a FIS.
-#[derive(Clone, Copy, Debug, PartialEq, Eq)]
+#[derive(Clone, Copy)]
 pub enum Fault {
     /// The device is faulty from now on.
     Device(DeviceCause),
@@ -30,7 +30,7 @@ pub enum Fault {
 }
 
 /// What a FIS does to the slots of the device that sent it.
-#[derive(Clone, Copy, Debug, PartialEq, Eq)]
+#[derive(Clone, Copy)]
 pub enum Happening {
     /// No slot changes.
     Nothing,
@@ -51,7 +51,7 @@ pub enum Happening {
 }
 
 /// What a FIS means for the device that sent it.
-#[derive(Clone, Copy, Debug, PartialEq, Eq)]
+#[derive(Clone, Copy)]
 pub struct Heard {
     /// The state of the device after the FIS.
     pub state: DeviceState,

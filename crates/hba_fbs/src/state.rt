@@ -14,7 +14,7 @@ const IDLE: u8 = 0x77;
 
 /// The task file of a device, whether it is in software reset, the block that its last setup began, and the
 /// mark of its signature.
-#[derive(Clone, Copy, Debug, PartialEq, Eq)]
+#[derive(Clone, Copy)]
 pub struct DeviceState {
     /// Its Status.
     pub status: u8,

@@ -18,7 +18,7 @@ const BSY_BIT: u32 = 7;
 const UNTOLD: u8 = 0x88;
 
 /// The block of data that a PIO Setup begins.
-#[derive(Clone, Copy, Debug, PartialEq, Eq)]
+#[derive(Clone, Copy)]
 pub struct Block {
     /// I: whether its end sets PxIS.PSS.
     pub interrupts: bool,
