@@ -7,8 +7,9 @@ use std::alloc::{AllocError, Global};
 use std::convert::AsStr;
 use std::fmt;
 use trace_guest::Telling;
-use trace_run::{Turns, Watch};
+use trace_run::Watch;
 use trace_text::value_within;
+use trace_threads::Turns;
 
 /// What the program is asked to do.
 #[derive(Clone, Copy)]

@@ -14,8 +14,9 @@ use std::sync::Wait;
 use std::thread::Threads;
 use std::{fmt, fs, io};
 use trace_guest::play_guest;
-use trace_run::{Turns, play_steps, play_threads};
+use trace_run::play_steps;
 use trace_text::{Failure, Note, Shown, decode, read_input};
+use trace_threads::{Turns, play_threads};
 
 /// Does what the words after the program's name ask for, and gives the exit status: 0 done, 1 the
 /// input is refused, 2 the command line is refused, 3 memory was refused, 4 a read or a write failed,

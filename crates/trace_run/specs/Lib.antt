@@ -1,2 +1,2 @@
-pub mod Agendas
-pub mod Endings
+pub mod Clients
+pub mod Commons

@@ -1,8 +1,7 @@
 //! Scenarios: [`play_steps`] plays one line after the other on a world of devices, a port multiplier and a
-//! host; [`play_threads`] has each of these work in a thread of its own.
+//! host. What a line says of such a world, asks of its host and prints is public, for those who play it otherwise.
 #![tactic(auto)]
 
-mod agenda;
 mod blame;
 mod due;
 mod event;
@@ -15,13 +14,12 @@ mod refused;
 mod round_step;
 mod run;
 mod text;
-mod threads;
 mod tickets;
 mod tracer;
-mod turns;
 mod watch;
 
+pub use opening::{Opening, Sizes};
+pub use parse::{Common, Setting, View};
 pub use run::play_steps;
-pub use threads::{Ending, play_threads};
-pub use turns::Turns;
+pub use text::{Reply, print_view};
 pub use watch::Watch;

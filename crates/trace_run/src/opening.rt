@@ -1,8 +1,8 @@
 //! What a scenario says about its world before the world is built.
 
 ghost use Rattle.std.specs.Prelude.{◌≡◌, ◌*◌, ◌≤◌, IfOk, length, true};
-ghost use Rattle.pm_threads.specs.Setups.{lies_in};
 ghost use Rattle.pm_world.specs.Places.{is_config};
+ghost use Rattle.trace_run.specs.Clients.{lies_in_client};
 
 use crate::parse::Setting;
 use disk_model::{Scripted, Unit};
@@ -61,7 +61,7 @@ impl Sizes {
 
     /// Whether this many bytes from this address on lie in client memory.
     pub fn has_client(self, at: u32, count: usize) -> bool
-        ensures { result ≡ lies_in (1048576 * self.memory) at count }
+        ensures { result ≡ lies_in_client (1048576 * self.memory) at count }
     {
         let end = self.bytes();
         at >= CLIENT_START && at <= end && count as u64 <= u64::from(end - at)
@@ -105,7 +105,8 @@ impl Said {
 /// A world that is not built yet.
 #[derive(Drop)]
 pub struct Opening {
-    sizes: Sizes,
+    /// The sizes of the world, as far as lines have said them.
+    pub sizes: Sizes,
     /// What was said about each port's device. Nothing was said about ports past the last of them.
     devices: Vec<Said>,
     is_begun: bool,
@@ -132,13 +133,6 @@ impl Opening {
     /// Whether a line has said something.
     pub fn is_begun(&self) -> bool {
         self.is_begun
-    }
-
-    /// The sizes of the world, as far as lines have said them.
-    pub fn sizes(&self) -> Sizes
-        ensures { result ≡ self.now.sizes }
-    {
-        self.sizes
     }
 
     /// Whether a line has said which disk stands at this port.

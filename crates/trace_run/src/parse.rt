@@ -1,7 +1,7 @@
 //! What a line of a scenario asks for.
 
-ghost use Rattle.std.specs.Prelude.{◌≡◌, ◌*◌, IfOk, true, ℕ};
-ghost use Rattle.trace_run.specs.Agendas.{is_fitting_entry, names_up_to, puts_outside};
+ghost use Rattle.std.specs.Prelude.{◌≡◌, IfOk, true, ℕ};
+ghost use Rattle.trace_run.specs.Commons.{names_up_to};
 
 use crate::opening::{Opening, Sizes};
 use crate::round_step::RoundStep;
@@ -72,17 +72,6 @@ pub enum Action {
     See(View),
 }
 
-/// What a line asks of a run in threads.
-#[derive(Drop)]
-pub enum Entry {
-    /// What a line may ask in either kind of run.
-    Common(Common),
-    /// That the next request wait until all earlier ones have ended.
-    Barrier,
-    /// That the device at this port be pulled, and plugged in again, once it has sent so many FISes.
-    Pull(u8, u32),
-}
-
 impl Setting {
     /// Reads a line of this name, word by word; None if the name is not that of a setting.
     pub fn read(
@@ -135,49 +124,10 @@ impl Action {
     }
 }
 
-impl Entry {
-    /// Reads a line of this name, word by word, for a run of these sizes. A port that is not there is
-    /// `range`, and so are bytes outside client memory.
-    pub fn read(
-        alloc: Global,
-        name: &[u8],
-        words: &mut Words<'_>,
-        sizes: Sizes,
-    ) -> Result<Entry, Failure>
-        ensures { IfOk result (λ entry.
-            is_fitting_entry sizes.ports (1048576 * sizes.memory) entry ≡ true) }
-    {
-        let last = sizes.ports - 1;
-        let entry = match name {
-            b"barrier" => Entry::Barrier,
-            b"pull" => Entry::Pull(
-                words.port(last)?,
-                words.number(Quantity::Fises, 0, LARGEST)? as u32,
-            ),
-            _ => Entry::Common(Common::read(alloc, name, words, sizes, last, Wanted::ThreadsLine)?),
-        };
-        words.end()?;
-        if entry.puts_outside(sizes) {
-            return Err(words.refused_at(2, Refusal::Range, Wanted::ClientArea));
-        }
-        Ok(entry)
-    }
-
-    /// Whether this puts a byte outside client memory.
-    fn puts_outside(&self, sizes: Sizes) -> bool
-        ensures { result ≡ puts_outside (1048576 * sizes.memory) self.now }
-    {
-        match self {
-            Entry::Common(Common::Put(at, bytes)) => !sizes.has_client(*at, bytes.as_slice().len()),
-            _ => false,
-        }
-    }
-}
-
 impl Common {
     /// Reads a line of this name, word by word, where the devices are those up to the last port. The name of
     /// a setting comes too late, and any other that is none of these is not known.
-    fn read(
+    pub fn read(
         alloc: Global,
         name: &[u8],
         words: &mut Words<'_>,
@@ -274,7 +224,7 @@ pub fn filed_disk<H: Files>(
 
 /// Checks that the world has this port.
 fn has_port(words: &Words<'_>, opening: &Opening, port: u8) -> Result<(), Failure> {
-    let last = opening.sizes().ports - 1;
+    let last = opening.sizes.ports - 1;
     if port > last {
         let wanted = Wanted::Number(Quantity::Port, 0, u64::from(last));
         return Err(words.refused(Refusal::Range, wanted));

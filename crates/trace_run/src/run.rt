@@ -219,7 +219,7 @@ impl<F: Read + Write + Seek + OpenFile + Drop> Scene<F> {
         mut media: Media<F>,
     ) -> Result<Scene<F>, Failure> {
         Ok(Scene {
-            sizes: opening.sizes(),
+            sizes: opening.sizes,
             world: world_of(alloc, opening, &mut media)?,
             media,
             counts: Counts::new(alloc),
@@ -526,7 +526,7 @@ fn world_of<F: Read + Write + Seek + OpenFile + Drop>(
     opening: Opening,
     media: &mut Media<F>,
 ) -> Result<World, Failure> {
-    let sizes = opening.sizes();
+    let sizes = opening.sizes;
     let mut units = opening.into_units(alloc)?;
     load_disks(alloc, media, units.as_mut_slice())?;
     match World::with_mode(alloc, sizes.mode, sizes.config(), units) {

@@ -18,15 +18,19 @@ use trace_text::{Failure, Printer};
 pub enum Reply {
     /// The world is built.
     World(Sizes),
+    /// A device came to a port.
     Came {
         port: u8,
         conn: u32,
     },
+    /// The device of a port went.
     Gone {
         port: u8,
         conn: u32,
     },
+    /// A device sent this frame.
     Sent(FrameText),
+    /// The host took this frame.
     Took(FrameText),
     /// A step moved or dropped a frame or recorded that a connection came or went, or the driver did
     /// something.
@@ -39,9 +43,11 @@ pub enum Reply {
     Settled,
     /// All rounds went by, and none was such a round.
     Unsettled,
+    /// A step was refused.
     Refused(StepError),
     /// A request was taken under this ticket.
     Submitted(Ticket),
+    /// The driver refused a request.
     RequestRefused(SubmitError),
     /// A request ended.
     Ended(Completion),

@@ -1,17 +1,10 @@
 -- what lines ask of a run in threads
 
-use Rattle.std.specs.Prelude.{ℕ, Bool, true, false, nat_le, nat_lt, not, length}
+use Rattle.std.specs.Prelude.{ℕ, Bool, true, false, nat_lt, not, length}
 use Rattle.pm_threads.specs.Setups.{lies_in}
-use Rattle.trace_run.specs.declared.parse.Common.{Common}
 use Rattle.trace_run.specs.declared.parse.Common.TheVariants.{Submit, Put, See}
-use Rattle.trace_run.specs.declared.parse.Entry.{Entry}
-use Rattle.trace_run.specs.declared.parse.Entry.TheVariants as entry
-
--- whether a line that may stand in either kind of run names a port up to this one, if it names any
-abbrev pub names_up_to : ℕ → Common → Bool
-names_up_to last (Submit dev _) = nat_le dev last
-names_up_to last (Put _ _) = true
-names_up_to last (See _) = true
+use Rattle.trace_threads.specs.declared.entry.Entry.{Entry}
+use Rattle.trace_threads.specs.declared.entry.Entry.TheVariants as entry
 
 -- whether a line puts a byte outside the client area of a memory of this many bytes
 abbrev pub puts_outside : ℕ → Entry → Bool

@@ -3,12 +3,9 @@
 ghost use Rattle.std.specs.Prelude.{◌≡◌, ◌≢◌, IfOk, true};
 ghost use Rattle.pm_threads.specs.Links.{new_links};
 ghost use Rattle.pm_threads.specs.Setups.{can_run, is_fitting};
-ghost use Rattle.trace_run.specs.Endings.{status_of_ending};
+ghost use Rattle.trace_threads.specs.Endings.{status_of_ending};
 
 use crate::agenda::read_agenda;
-use crate::opening::Sizes;
-use crate::parse::View;
-use crate::text::{Reply, print_view};
 use crate::turns::Turns;
 use disk_model::Unit;
 use pm_threads::{
@@ -19,6 +16,7 @@ use std::alloc::Global;
 use std::io::Write;
 use std::sync::Wait;
 use std::thread::Threads;
+use trace_run::{Reply, Sizes, View, print_view};
 use trace_text::{Failure, Printer};
 
 /// How a run in threads went if nothing failed.

@@ -3,16 +3,16 @@
 ghost use Rattle.std.specs.Prelude.{◌≡◌, ◌*◌, length, nat_lt, true, IfOk};
 ghost use Rattle.std.specs.List.{list_all};
 ghost use Rattle.pm_threads.specs.Setups.{is_fitting, lies_in};
-ghost use Rattle.trace_run.specs.Agendas.{is_fitting_entry};
+ghost use Rattle.trace_threads.specs.Agendas.{is_fitting_entry};
 
-use crate::opening::{Opening, Sizes};
-use crate::parse::{Common, Entry, Setting, View};
+use crate::entry::Entry;
 use crate::turns::Turns;
 use disk_model::Unit;
 use hba_driver::Request;
 use pm_threads::{Planned, Setup};
 use std::alloc::{AllocError, Global};
 use std::mem;
+use trace_run::{Common, Opening, Setting, Sizes, View};
 use trace_text::{Failure, Words, is_skipped, without_return};
 
 /// All lines of a scenario for threads. A line that is refused ends the reading: no line has acted.
@@ -112,7 +112,7 @@ impl Agenda {
     pub fn sizes(&self) -> Sizes
         ensures { result ≡ self.now.opening.sizes }
     {
-        self.opening.sizes()
+        self.opening.sizes
     }
 
     /// Takes in what one more line asks.
@@ -165,7 +165,7 @@ impl Agenda {
             views,
             waits: _,
         } = self;
-        let memory = opening.sizes().bytes();
+        let memory = opening.sizes.bytes();
         let setup = Setup {
             units: opening.into_units(alloc)?,
             memory,
