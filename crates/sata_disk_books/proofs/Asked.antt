@@ -57,7 +57,7 @@ use Rattle.sata_disk_books.specs.Books.{CommandsAreAsked, IsAskedFor, books_afte
 
 -- ## Lists
 
-abbrev Each : {X : Type 0} → (X → Type 0) → List X → Type 0
+abbrev pub Each : {X : Type 0} → (X → Type 0) → List X → Type 0
 Each holds [] = Unit {0}
 Each holds (x ∷ later) = holds x × Each holds later
 
@@ -77,15 +77,15 @@ module _ (holds : Command → Type 0) where
   OfSeen (Asked place number s) = OfShown s
   OfSeen other = Unit {0}
 
-  abbrev OfDeed : Deed → Type 0
+  abbrev pub OfDeed : Deed → Type 0
   OfDeed (deed.Takes c) = holds c
   OfDeed other = Unit {0}
 
-  abbrev OfMove : Move → Type 0
+  abbrev pub OfMove : Move → Type 0
   OfMove (move.Takes c) = holds c
   OfMove other = Unit {0}
 
-  abbrev OfStep : Step → Type 0
+  abbrev pub OfStep : Step → Type 0
   OfStep (engine.Takes c) = holds c
   OfStep other = Unit {0}
 
@@ -180,7 +180,7 @@ module _ (holds : Command → Type 0) where
   move_deeds s move.Forgives is = tt
   move_deeds s other is = (tt, tt)
 
-  moves_deeds : (ms : List Move) (s : Schedule) → Each OfMove ms → Each OfDeed (all_deeds s ms)
+  pub moves_deeds : (ms : List Move) (s : Schedule) → Each OfMove ms → Each OfDeed (all_deeds s ms)
   unfolding all_deeds
   moves_deeds [] s are = tt
   moves_deeds (m ∷ later) s are = both OfDeed (deeds_of s m) (all_deeds (after_move s m) later) (move_deeds s m are.0) (moves_deeds later (after_move s m) are.1)
@@ -200,30 +200,30 @@ module _ (holds : Command → Type 0) where
   step_moves e engine.SendsAside is = tt
   step_moves e other is = (tt, tt)
 
-  steps_moves : (ss : List Step) (e : EngineState) → Each OfStep ss → Each OfMove (all_moves e ss)
+  pub steps_moves : (ss : List Step) (e : EngineState) → Each OfStep ss → Each OfMove (all_moves e ss)
   unfolding all_moves
   steps_moves [] e are = tt
   steps_moves (s ∷ later) e are = both OfMove (moves_of e s) (all_moves (after_step e s) later) (step_moves e s are.0) (steps_moves later (after_step e s) are.1)
 
   -- ## Calls other than a command's FIS
 
-  range_none : (x : Option (List Range)) → Each OfStep (range_steps x)
+  pub range_none : (x : Option (List Range)) → Each OfStep (range_steps x)
   range_none None = tt
   range_none (Some ranges) = (tt, tt)
 
-  data_none : (d : DiskState) (x : Option ℕ) (bytes : List ℕ) → Each OfStep (data_steps d x bytes)
+  pub data_none : (d : DiskState) (x : Option ℕ) (bytes : List ℕ) → Each OfStep (data_steps d x bytes)
   data_none d None bytes = (tt, tt)
   data_none d (Some blocks) bytes = range_none (ranges_of blocks (facts_of d.profile).sectors bytes)
 
-  start_none : (x : Option ℕ) → Each OfStep (start_steps x)
+  pub start_none : (x : Option ℕ) → Each OfStep (start_steps x)
   start_none None = tt
   start_none (Some p) = (tt, tt)
 
-  ask_none : (x : Option ℕ) → Each OfStep (ask_steps x)
+  pub ask_none : (x : Option ℕ) → Each OfStep (ask_steps x)
   ask_none None = (tt, tt)
   ask_none (Some p) = (tt, tt)
 
-  out_none : (o : Out) → Each OfStep (out_steps o)
+  pub out_none : (o : Out) → Each OfStep (out_steps o)
   out_none (out.Beside r) = (tt, tt)
   out_none (out.Ends tags) = (tt, tt)
   out_none (out.Of p r) = (tt, (tt, tt))

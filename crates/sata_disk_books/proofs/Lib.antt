@@ -5,3 +5,10 @@ mod Ended
 mod Places
 mod NoEnds
 pub mod Door
+mod Holds
+mod Sound
+mod Does
+mod Lone
+mod Counted
+mod NoSetUps
+mod Told

@@ -82,7 +82,7 @@ moved s (Sends place) = sent_case s place _
 moved s SendsEnds = sym (ends_after s.line 32)
 moved s other = refl
 
-line_after : (ms : List Move) (s : Schedule) → (after_moves s ms).line ≡ after_deeds s.line (all_deeds s ms)
+pub line_after : (ms : List Move) (s : Schedule) → (after_moves s ms).line ≡ after_deeds s.line (all_deeds s ms)
 unfolding after_moves all_deeds
 line_after [] s = refl
 line_after (m ∷ later) s = line_after later (after_move s m) ∙ ap (λ x. after_deeds x (all_deeds (after_move s m) later)) (moved s m)
@@ -93,7 +93,7 @@ unfolding after_moves
 moves_both [] ns s = refl
 moves_both (m ∷ ms) ns s = moves_both ms ns (after_move s m)
 
-all_deeds_both : (ms ns : List Move) (s : Schedule) → all_deeds s (ms ++ ns) ≡ all_deeds s ms ++ all_deeds (after_moves s ms) ns
+pub all_deeds_both : (ms ns : List Move) (s : Schedule) → all_deeds s (ms ++ ns) ≡ all_deeds s ms ++ all_deeds (after_moves s ms) ns
 unfolding after_moves all_deeds
 all_deeds_both [] ns s = refl
 all_deeds_both (m ∷ ms) ns s = ap (λ x. deeds_of s m ++ x) (all_deeds_both ms ns (after_move s m)) ∙ sym (append_assoc (deeds_of s m) (all_deeds (after_move s m) ms) _)

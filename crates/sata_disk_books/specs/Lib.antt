@@ -1,2 +1,4 @@
 pub mod Books
 pub mod Ended
+pub mod Counted
+pub mod Fises

@@ -1,6 +1,8 @@
 //! What the books of a `SataDisk` (`sata_disk`) have at each moment of a run.
 #![tactic(auto)]
 
+mod counts;
 mod laws;
 
+pub use counts::{data_are_counted, fises_tell};
 pub use laws::{commands_are_asked, data_are_given, ends_are_of_pages, places_are_tags};
