@@ -12,12 +12,17 @@ use Rattle.pm_world.specs.declared.step.Step.TheVariants as step
 use Rattle.world_rests.specs.Ended.{AsidesRecover, EachAsideRecovers}
 use Rattle.world_rests.specs.Laws.{RestsAfter}
 use Rattle.world_rests.specs.Left.{RestedDisksHaveDone}
+use Rattle.world_rests.specs.Matches.{PlanMatches, RestedPlansMatch}
 use Rattle.world_rests.specs.Opens.{MultiplierIsSet, RestedPortsAreOpen}
 use Rattle.world_rests.specs.Out.{RestedDisksAreLeft}
+use Rattle.world_rests.specs.Over.{RestedWorldsHaveEnded}
 use Rattle.world_rests.specs.Rests.{HasRound, IsAtRest, NothingMoves}
+use Rattle.world_rests.specs.Signs.{RestedDisksHaveSigned}
 use Rattle.world_rests.specs.Waits.{HostWaits}
 use Rattle.world_rests.specs.Watches.{RestedDriversWatch, WaitsForNotice}
 use Rattle.uses_world_rests.specs.Left.{DiskHasDoneIn, DiskIsLeftIn, config}
+use Rattle.uses_world_rests.specs.Over.{WorldHasEndedIn}
+use Rattle.uses_world_rests.specs.Signs.{DiskHasSignedIn}
 
 abbrev pub round : List Step
 round = step.PmPresence 0 ∷ step.DiskTake 0 ∷ step.DiskSend 0 ∷ step.PmFromDevice 0 ∷ step.PmDown 0 ∷ step.PmFromHost ∷ step.PmUp ∷ step.HostTake ∷ step.Tick ∷ step.HostPush ∷ []
@@ -87,3 +92,26 @@ asides_go_on seen items opened old new steps answers is right run rests law =
     let made : Run (new_world config (map seen items)) steps answers old = subst (λ (w : Places). Run w steps answers old) is run in
     let r = rests config (map seen items) fit steps answers made has_round in
     subst (λ (w : Places). EachAsideRecovers w.host) (sym r.0) (law config (map seen items) fit steps answers old made)
+
+pub plan_matches : {X : Type 0} (seen : X → Attached) (items : List X) (opened old new : Places) (steps : List Step) (answers : List Answer) → opened ≡ new_world config (map seen items)
+    → is_config config (length items) ≡ true → Run opened steps answers old → RestsAfter old round new → RestedPlansMatch → PlanMatches new
+plan_matches seen items opened old new steps answers is right run rests law =
+    let fit : is_config config (length (map seen items)) ≡ true = ap (λ (n : ℕ). is_config config n) (length-map items seen) ∙ right in
+    let made : Run (new_world config (map seen items)) steps answers old = subst (λ (w : Places). Run w steps answers old) is run in
+    let r = rests config (map seen items) fit steps answers made has_round in
+    subst PlanMatches (sym r.0) (law config (map seen items) fit steps answers old made r.1)
+
+pub world_has_ended : {X : Type 0} (seen : X → Attached) (items : List X) (opened old new : Places) (steps : List Step) (answers : List Answer) → opened ≡ new_world config (map seen items)
+    → is_config config (length items) ≡ true → Run opened steps answers old → RestsAfter old round new → RestedWorldsHaveEnded → WorldHasEndedIn (map seen items) new
+world_has_ended seen items opened old new steps answers is right run rests law =
+    let fit : is_config config (length (map seen items)) ≡ true = ap (λ (n : ℕ). is_config config n) (length-map items seen) ∙ right in
+    let made : Run (new_world config (map seen items)) steps answers old = subst (λ (w : Places). Run w steps answers old) is run in
+    let r = rests config (map seen items) fit steps answers made has_round in
+    subst (WorldHasEndedIn (map seen items)) (sym r.0) (λ alone. law config (map seen items) fit steps answers old made alone r.1)
+
+pub disk_has_signed : {X : Type 0} (seen : X → Attached) (items : List X) (opened old new : Places) (steps : List Step) (answers : List Answer) → opened ≡ new_world config (map seen items)
+    → is_config config (length items) ≡ true → Run opened steps answers old → RestsAfter old round new → RestedDisksHaveSigned → DiskHasSignedIn (map seen items) new
+disk_has_signed seen items opened old new steps answers is right run rests law sectors plan past has d there =
+    let fit : is_config config (length (map seen items)) ≡ true = ap (λ (n : ℕ). is_config config n) (length-map items seen) ∙ right in
+    let r = rests config (map seen items) fit steps answers (subst (λ (w : Places). Run w steps answers old) is run) has_round in
+    law config (map seen items) 0 sectors plan past fit (omega (arith)) has new d there (subst IsAtRest (sym r.0) r.1)

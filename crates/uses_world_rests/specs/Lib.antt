@@ -1,1 +1,3 @@
 pub mod Left
+pub mod Over
+pub mod Signs

@@ -8,3 +8,6 @@ pub mod Ended
 pub mod Out
 pub mod Watches
 pub mod Opens
+pub mod Matches
+pub mod Over
+pub mod Signs

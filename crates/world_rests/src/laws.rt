@@ -3,8 +3,11 @@
 ghost use Rattle.world_rests.specs.Ended.{AsidesRecover};
 ghost use Rattle.world_rests.specs.Laws.{IdleDriversWait, RestedHaveDone, StillRoundsRest};
 ghost use Rattle.world_rests.specs.Left.{RestedDisksHaveDone};
+ghost use Rattle.world_rests.specs.Matches.{RestedPlansMatch};
 ghost use Rattle.world_rests.specs.Opens.{RestedPortsAreOpen};
 ghost use Rattle.world_rests.specs.Out.{RestedDisksAreLeft};
+ghost use Rattle.world_rests.specs.Over.{RestedWorldsHaveEnded};
+ghost use Rattle.world_rests.specs.Signs.{RestedDisksHaveSigned};
 ghost use Rattle.world_rests.specs.Turns.{EachTakesTurns};
 ghost use Rattle.world_rests.specs.Watches.{RestedDriversWatch};
 
@@ -113,4 +116,42 @@ pub fn each_takes_turns()
 {
     multiplier::waits_for_at_most_fifteen();
     pm_world::paths_go_on();
+}
+
+/// Holds of each world at rest that a run from a new one with FIS-based switching leads to, whatever its devices are. The driver takes a
+/// device to be absent exactly where none is plugged in. Slot 30 works only on a device that is plugged in, and each request of one
+/// that is not has ended.
+pub fn rested_plans_match()
+    ensures { RestedPlansMatch }
+{
+    rested_have_done();
+    rested_drivers_watch();
+    rested_ports_are_open();
+    pm_world::one_order_at_a_time();
+    pm_world::ports_go_on();
+    pm_world::paths_go_on();
+}
+
+/// Holds of each world at rest that a run from a new one with FIS-based switching leads to, for a disk of `disk_model` that was
+/// left alone since its plugging (nothing was injected at its port), and is plugged in. While the driver takes the disk to start, its
+/// signature stands at the port. So slot 30 is not free while such a disk starts: it works on another device.
+pub fn rested_disks_have_signed()
+    ensures { RestedDisksHaveSigned }
+{
+    rested_have_done();
+    rested_ports_are_open();
+    rested_disks_are_left();
+    pm_world::paths_go_on();
+    pm_world::ends_meet();
+}
+
+/// Holds of each world at rest that a run from a new one with FIS-based switching leads to, where each device that is plugged in is a
+/// disk of `disk_model` that was left alone since its plugging (nothing was injected at its port). Slot 30 works on no device. The
+/// driver takes each device that is plugged in to be ready or unusable, and any other one to be absent. Each request has ended.
+pub fn rested_worlds_have_ended()
+    ensures { RestedWorldsHaveEnded }
+{
+    rested_plans_match();
+    rested_disks_are_left();
+    rested_disks_have_signed();
 }

@@ -8,7 +8,7 @@ mod round;
 
 pub use laws::{
     asides_recover, each_takes_turns, idle_drivers_wait, rested_disks_are_left,
-    rested_disks_have_done, rested_drivers_watch, rested_have_done, rested_ports_are_open,
-    still_rounds_rest,
+    rested_disks_have_done, rested_disks_have_signed, rested_drivers_watch, rested_have_done,
+    rested_plans_match, rested_ports_are_open, rested_worlds_have_ended, still_rounds_rest,
 };
 pub use round::{is_still, rests};

@@ -1,6 +1,6 @@
 use Rattle.std.proofs.Common.{ap, ◌∙◌}
 use Rattle.std.specs.Prelude.{Ok}
-use Rattle.uses_world_rests.proofs.Round.{asides_go_on, disk_has_done, disk_is_left, fits, moves_none, opens_all, watches_alone}
+use Rattle.uses_world_rests.proofs.Round.{asides_go_on, disk_has_done, disk_has_signed, disk_is_left, fits, moves_none, opens_all, plan_matches, watches_alone, world_has_ended}
 use Rattle.uses_world_rests.proofs.rested.Goals as goal
 
 pub returns-clause-rests : goal.returns-clause-rests
@@ -32,3 +32,18 @@ pub returns-clause-left : goal.returns-clause-left
 returns-clause-left g c =
     disk_is_left _ c.args.units.items c.in-Ok.world _ _ _ _ c.in-Ok.ensures.ok (fits c.new.result _ c.in-Ok.world _ c.new.ensures.bad_config c.in-Ok.is) c.in-Ok-run.ensures.run
     (c.rests.ensures.rests (c.in-Ok-true.is ∙ ap Ok c.in-Ok-true.field-0-test)) c.rested_disks_are_left.ensures
+
+pub returns-clause-matches : goal.returns-clause-matches
+returns-clause-matches g c =
+    plan_matches _ c.args.units.items c.in-Ok.world _ _ _ _ c.in-Ok.ensures.ok (fits c.new.result _ c.in-Ok.world _ c.new.ensures.bad_config c.in-Ok.is) c.in-Ok-run.ensures.run
+    (c.rests.ensures.rests (c.in-Ok-true.is ∙ ap Ok c.in-Ok-true.field-0-test)) c.rested_plans_match.ensures
+
+pub returns-clause-ended : goal.returns-clause-ended
+returns-clause-ended g c =
+    world_has_ended _ c.args.units.items c.in-Ok.world _ _ _ _ c.in-Ok.ensures.ok (fits c.new.result _ c.in-Ok.world _ c.new.ensures.bad_config c.in-Ok.is) c.in-Ok-run.ensures.run
+    (c.rests.ensures.rests (c.in-Ok-true.is ∙ ap Ok c.in-Ok-true.field-0-test)) c.rested_worlds_have_ended.ensures
+
+pub returns-clause-signs : goal.returns-clause-signs
+returns-clause-signs g c =
+    disk_has_signed _ c.args.units.items c.in-Ok.world _ _ _ _ c.in-Ok.ensures.ok (fits c.new.result _ c.in-Ok.world _ c.new.ensures.bad_config c.in-Ok.is) c.in-Ok-run.ensures.run
+    (c.rests.ensures.rests (c.in-Ok-true.is ∙ ap Ok c.in-Ok-true.field-0-test)) c.rested_disks_have_signed.ensures
