@@ -93,7 +93,7 @@ short : (c : Bool) (bytes : List ℕ) → length (if c then bytes ∷ [] else []
 short true bytes = omega arith
 short false bytes = omega arith
 
-picked : (p : List ℕ → Bool) (b : Bool) (f : Stamped) → picks p (map heard_as (if b then f ∷ [] else [])) ≡ (if b then (if p (heard_as f) then heard_as f ∷ [] else []) else [])
+pub picked : (p : List ℕ → Bool) (b : Bool) (f : Stamped) → picks p (map heard_as (if b then f ∷ [] else [])) ≡ (if b then (if p (heard_as f) then heard_as f ∷ [] else []) else [])
 picked p true f = refl
 picked p false f = refl
 
@@ -189,7 +189,7 @@ module _ (laws : Laws) (tag ports : ℕ) (legacy : Bool) (first : MachineState) 
       laws.whole old dev answer new does due came (laws.read dev low first past old so_far due_first [] (laws.unread ports legacy first opening dev)) in
       ap (λ (b : List ℕ). asks_of tag (marked b 0)) is ∙ data_asks_none tag dev came)
 
-  deed_none : (past : List Deed) (old : MachineState) (so_far : RunsRuled first past old) (deed : Deed) (new : MachineState) (does : Does old deed new)
+  pub deed_none : (past : List Deed) (old : MachineState) (so_far : RunsRuled first past old) (deed : Deed) (new : MachineState) (does : Does old deed new)
       → HasRules old → GathersDue old → DataAskNone tag (deed_calls old deed new does)
   deed_none past old so_far (Moved (act.Gathers dev answer)) new does rules due = gathers_none past old so_far dev answer new does rules due
   deed_none past old so_far (Moved act.Rests) new does rules due = rests_none tag old does.middle does.does

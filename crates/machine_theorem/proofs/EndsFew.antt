@@ -13,7 +13,6 @@ use Rattle.fan_out.specs.declared.fan_out.FanOut.{FanOut}
 use Rattle.fan_out.specs.declared.fan_out.FanOut.TheVariants.{Device, Multiplier}
 use Rattle.ata_reply.specs.Replies.{Shows}
 use Rattle.ata_reply.specs.declared.reply.Reply.{Reply}
-use Rattle.ata_reply.specs.declared.reply.Reply.TheVariants as reply
 use Rattle.disk_pages.specs.declared.profile.Profile.{Profile}
 use Rattle.sata_disk.specs.Sending.{IsOut}
 use Rattle.sata_disk.specs.State.{DiskState, new_disk}
@@ -52,7 +51,7 @@ straight_room (Device s) k end room = let less = ltb-true k 1 (and_parts _ _ roo
 straight_room (Multiplier f) k end room = absurd (false≢true (sym end))
 
 -- what a device with room sends with the stamp of the port it sends there
-sender_is : (many : Bool) (n : ℕ) (old : MachineState) (k : ℕ) (frame : Stamped) → IsThere many n old → wants_at old.fan k ≡ true → ((risen old.fan k frame).stamp.port == n) ≡ true → k ≡ n
+pub sender_is : (many : Bool) (n : ℕ) (old : MachineState) (k : ℕ) (frame : Stamped) → IsThere many n old → wants_at old.fan k ≡ true → ((risen old.fan k frame).stamp.port == n) ≡ true → k ≡ n
 sender_is true n old k frame there room port = sym (stamped old.fan k frame there.fan) ∙ eqb-true (risen old.fan k frame).stamp.port n port
 sender_is false n old k frame there room port = straight_room old.fan k there.fan room ∙ sym (there.one refl)
 
@@ -83,7 +82,7 @@ says tag low old k (out.Data place len) new does none is = let h = does.does.doe
 pub disk_same : (a b : DiskState) → Disk a ≡ Disk b → a ≡ b
 disk_same a b e = cc
 
-one_call : (k n tag : ℕ) (o : Out) → k ≡ n → ends_with tag (Sends o) ≡ 1 → ended_with tag (if k == n then Sends o ∷ [] else []) ≡ 1
+pub one_call : (k n tag : ℕ) (o : Out) → k ≡ n → ends_with tag (Sends o) ≡ 1 → ended_with tag (if k == n then Sends o ∷ [] else []) ≡ 1
 one_call k n tag o same one =
     ap (λ (b : Bool). ended_with tag (if b then Sends o ∷ [] else [])) (eq-eqb k n same) ∙ whole
   where

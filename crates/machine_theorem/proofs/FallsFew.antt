@@ -7,7 +7,6 @@ use Rattle.std.proofs.lemmas.List.Elements.{All-contains, All-cons, All-nil, Con
 use Rattle.fis_view.specs.Frames.{Stamped}
 use Rattle.fis_view.specs.Seen.{seen}
 use Rattle.fis_view.specs.Table.{Bits, SActive, field}
-use Rattle.fis_view.specs.declared.view.Fis.TheVariants as view
 use Rattle.multiplier.specs.State.{pm_port}
 use Rattle.slots.specs.Slots.{has_bit, holds, issue_at}
 use Rattle.ahci_registers.specs.declared.register.Register.TheVariants.{PxSact}
@@ -42,7 +41,7 @@ came_of old (deed ∷ later) now run = came_by old deed run.1.0 run.1.1 ++ came_
 abbrev pub IsStraight : (many : Bool) → (tag : ℕ) → Stamped → Type 0
 IsStraight many tag f = names_in tag (seen f.bytes) ≡ true → many ≡ false → f.stamp.port ≡ 0
 
-straight_all : (many : Bool) (n tag : ℕ) (old : MachineState) (deed : Deed) (new : MachineState) (does : Does old deed new) → IsThere many n old → All (IsStraight many tag) (sent_by old deed new does)
+pub straight_all : (many : Bool) (n tag : ℕ) (old : MachineState) (deed : Deed) (new : MachineState) (does : Does old deed new) → IsThere many n old → All (IsStraight many tag) (sent_by old deed new does)
 straight_all many n tag old (Moved (act.Speaks k o)) new does there =
     All-cons (IsStraight many tag) (risen old.fan k does.does.does.1.frame) [] (λ names straight. straight_port old.fan k does.does.does.1.frame (there.fan ∙ straight)) (All-nil (IsStraight many tag))
 straight_all many n tag old (Moved a) new does there = All-nil (IsStraight many tag)
@@ -87,7 +86,7 @@ least : (k : ℕ) → 0 ≤ k
 least k = omega arith
 
 module _ (laws : Facts) (many : Bool) (n tag : ℕ) (low : tag < 32) (ports : ℕ) (legacy : Bool) (first : MachineState) (opening : IsOpeningMachine ports legacy first) where
-  taken_names : (past : List Deed) (now : MachineState) (so_far : RunsRuled first past now) (took : Took) (new : MachineState) (does : Does now (Moved (act.Takes took)) new)
+  pub taken_names : (past : List Deed) (now : MachineState) (so_far : RunsRuled first past now) (took : Took) (new : MachineState) (does : Does now (Moved (act.Takes took)) new)
       → HasRules now → HasRules new → IsThere many n new → (frames : Frames) → HaveRisen now frames → All (IsStraight many tag) frames.sent
       → is_fallen (own_of many n) tag now.controller new.controller ≡ true → names_of n tag does.does.frame ≡ true
   taken_names past now so_far took new does rules rules_new there frames risen straight fallen =
@@ -118,7 +117,7 @@ module _ (laws : Facts) (many : Bool) (n tag : ℕ) (low : tag < 32) (ports : �
       length_one (names_of n tag does.does.frame) does.does.frame (taken_names past now so_far took new does rules rules_new there frames risen straight fallen)
   takes_few past now so_far took new does rules rules_new there frames risen straight false fallen = least (length (picks (names_of n tag) (does.does.frame ∷ [])))
 
-  none_few : (past : List Deed) (now : MachineState) (so_far : RunsRuled first past now) (deed : Deed) (new : MachineState) → Does now deed new → HasRules new → (MayEnd deed → ⊥)
+  pub none_few : (past : List Deed) (now : MachineState) (so_far : RunsRuled first past now) (deed : Deed) (new : MachineState) → Does now deed new → HasRules new → (MayEnd deed → ⊥)
       → (b : Bool) → is_fallen (own_of many n) tag now.controller new.controller ≡ b → once_if b ≤ 0
   none_few past now so_far deed new does rules never true fallen =
       let parts = fallen_parts (own_of many n) tag now.controller new.controller fallen in
@@ -136,7 +135,7 @@ module _ (laws : Facts) (many : Bool) (n tag : ℕ) (low : tag < 32) (ports : �
       let some = least (length (picks (names_of n tag) (came_by now deed new does))) in
       omega (arith, few, some)
 
-  first_there : (deeds : List Deed) (old now : MachineState) (run : RunsRuled old deeds now) → AllKeep many n tag old deeds now run → IsThere many n old
+  pub first_there : (deeds : List Deed) (old now : MachineState) (run : RunsRuled old deeds now) → AllKeep many n tag old deeds now run → IsThere many n old
   first_there [] old now run keeps = keeps
   first_there (deed ∷ later) old now run keeps = keeps.0.end
 

@@ -46,7 +46,7 @@ naming_is tag bytes names = naming_by tag bytes (seen bytes) refl names
 abbrev below : ℕ → Stamped → Bool
 below b f = nat_lt f.stamp.conn b
 
-if_more : {A : Type 0} (b : Bool) (x : A) (xs : List A) → length (if b then x ∷ xs else xs) ≡ once_if (b) + length xs
+pub if_more : {A : Type 0} (b : Bool) (x : A) (xs : List A) → length (if b then x ∷ xs else xs) ≡ once_if (b) + length xs
 if_more true x xs = omega arith
 if_more false x xs = omega arith
 
@@ -147,20 +147,24 @@ picked_two true true false x xs p e = refl
 picked_two true false false x xs p e = refl
 picked_two false b c x xs p e = refl
 
-of_both : (n tag c : ℕ) (xs : List Stamped) → picks (λ f. names_in tag (seen f.bytes)) (of_conn n c xs) ≡ picks (λ f. names_of n tag f && (f.stamp.conn == c)) xs
-of_both n tag c [] = refl
-of_both n tag c (x ∷ xs) =
-    picked_two (x.stamp.port == n) (names_in tag (seen x.bytes)) (x.stamp.conn == c) x (of_conn n c xs) (λ f. names_in tag (seen f.bytes)) refl
-    ∙ ap (λ (l : List Stamped). if names_of n tag x && (x.stamp.conn == c) then x ∷ l else l) (of_both n tag c xs)
+pub of_both : (q : Stamped → Bool) (n c : ℕ) (xs : List Stamped) → picks q (of_conn n c xs) ≡ picks (λ f. ((f.stamp.port == n) && q f) && (f.stamp.conn == c)) xs
+of_both q n c [] = refl
+of_both q n c (x ∷ xs) =
+    picked_two (x.stamp.port == n) (q x) (x.stamp.conn == c) x (of_conn n c xs) q refl
+    ∙ ap (λ (l : List Stamped). if ((x.stamp.port == n) && q x) && (x.stamp.conn == c) then x ∷ l else l) (of_both q n c xs)
 
--- of what came of each connection, in the order in which it was sent, no more names the tag than was sent
-pub came_few : (n tag : ℕ) (came sent : List Stamped) → ((c : ℕ) → (more : List Stamped) × (of_conn n c came ++ more ≡ of_conn n c sent))
-    → length (picks (names_of n tag) came) ≤ length (picks (names_of n tag) sent)
-came_few n tag came sent order = by_connections (names_of n tag) came sent (λ c.
-    let q : Stamped → Bool = λ f. names_in tag (seen f.bytes) in
+-- of what came of each connection, in the order in which it was sent, no more of a port passes a test than was sent
+pub few_came : (q : Stamped → Bool) (n : ℕ) (came sent : List Stamped) → ((c : ℕ) → (more : List Stamped) × (of_conn n c came ++ more ≡ of_conn n c sent))
+    → length (picks (λ f. (f.stamp.port == n) && q f) came) ≤ length (picks (λ f. (f.stamp.port == n) && q f) sent)
+few_came q n came sent order = by_connections (λ f. (f.stamp.port == n) && q f) came sent (λ c.
     let it = order c in
     let within : Within (of_conn n c came) (of_conn n c sent) = subst (λ (l : List Stamped). Within (of_conn n c came) l) it.1 (first_within (of_conn n c came) it.0) in
     let less = fewer (picks q (of_conn n c came)) (picks q (of_conn n c sent)) (within_picks q (of_conn n c came) (of_conn n c sent) within) in
-    let x = ap (λ (l : List Stamped). length l) (of_both n tag c came) in
-    let y = ap (λ (l : List Stamped). length l) (of_both n tag c sent) in
+    let x = ap (λ (l : List Stamped). length l) (of_both q n c came) in
+    let y = ap (λ (l : List Stamped). length l) (of_both q n c sent) in
     omega (arith, less, x, y))
+
+-- and no more names the tag
+pub came_few : (n tag : ℕ) (came sent : List Stamped) → ((c : ℕ) → (more : List Stamped) × (of_conn n c came ++ more ≡ of_conn n c sent))
+    → length (picks (names_of n tag) came) ≤ length (picks (names_of n tag) sent)
+came_few n tag came sent order = few_came (λ f. names_in tag (seen f.bytes)) n came sent order

@@ -223,10 +223,10 @@ counted laws own s below (deed ∷ later) old new run due was =
 
 -- ---- a machine that opens
 
-kept_of : (m : MachineState) → HasRules m → IsController m.controller
+pub kept_of : (m : MachineState) → HasRules m → IsController m.controller
 kept_of m rules = record { port = rules.port; slots = rules.slots; rules = rules.rules }
 
-none_told : (c : ControllerState) (s : ℕ) → IsController c → s < 32 → AreTold c.core (λ n. []) → (i : Issue) → issue_at c.core.slots s ≡ Some i → ⊥
+pub none_told : (c : ControllerState) (s : ℕ) → IsController c → s < 32 → AreTold c.core (λ n. []) → (i : Issue) → issue_at c.core.slots s ≡ Some i → ⊥
 none_told c s k below told i is =
     let it : IsIssue i = subst (λ (o : Option Issue). MatchOption o (Unit {0}) IsIssue) is (k.slots.issues s) in
     let mine : own_issue (view_of i.dev c.core).slots s ≡ Some i = own_here s c.core.slots i (let n = k.slots.slots in omega (arith, n, below)) is in

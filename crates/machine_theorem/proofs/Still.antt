@@ -45,7 +45,7 @@ supply_by true (NotTaken reason message line) c s bytes was is = refl
 supply_by true OutOfMemory c s bytes was is = refl
 supply_by true Stale c s bytes was is = refl
 
-one_kept : (s : ℕ) (old : ControllerState) (event : Event) (new : ControllerState) (does : Does old event new) (was : Sources) → issues_in s event ≡ false
+pub one_kept : (s : ℕ) (old : ControllerState) (event : Event) (new : ControllerState) (does : Does old event new) (was : Sources) → issues_in s event ≡ false
     → Kept (sources_by s old event new does was) was
 one_kept s old (call.Wrote offset value written) new does was is = pending new s was
 one_kept s old (call.WroteWide offset width value written) new does was is = wide (fits width offset) s old offset width value written new does was

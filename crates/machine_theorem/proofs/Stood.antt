@@ -189,7 +189,7 @@ from_issue r s since (deed ∷ later) old now run (inr there) =
       issues = rest.issues;
     }
 
-abbrev HasIssued : Sources → Type 0
+abbrev pub HasIssued : Sources → Type 0
 HasIssued was = (source : Source) × (was.issued ≡ Some source)
 
 supply_has : (here : Bool) (told : Supply) (c : ControllerState) (s : ℕ) (bytes : List ℕ) (was : Sources) → (here && is_issue told) ≡ true → HasIssued (if here then after_supply told c s bytes was else was)
@@ -200,7 +200,7 @@ supply_has true (NotTakenFor reason message line) c s bytes was is = absurd (fal
 supply_has true OutOfMemory c s bytes was is = absurd (false≢true is)
 supply_has true Stale c s bytes was is = absurd (false≢true is)
 
-event_has : (e : Event) (s : ℕ) (old new : ControllerState) (does : Calls old e new) (was : Sources) → issues_in s e ≡ true → HasIssued (sources_by s old e new does was)
+pub event_has : (e : Event) (s : ℕ) (old new : ControllerState) (does : Calls old e new) (was : Sources) → issues_in s e ≡ true → HasIssued (sources_by s old e new does was)
 event_has (call.Supplied slot number bytes told) s old new does was is = supply_has (slot == s) told old s bytes was is
 event_has (call.Missed slot number told) s old new does was is = supply_has (slot == s) told old s [] was is
 event_has other s old new does was is = absurd (false≢true is)

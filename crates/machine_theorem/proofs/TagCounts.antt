@@ -39,7 +39,7 @@ pub ended_both : (tag : ℕ) (xs ys : List Call) → ended_with tag (xs ++ ys) �
 ended_both tag [] ys = omega arith
 ended_both tag (x ∷ xs) ys = let more = ended_both tag xs ys in omega (arith, more)
 
-first_calls : (xs ys : List Call) (d : DiskState) → AreCalls d (xs ++ ys) → AreCalls d xs
+pub first_calls : (xs ys : List Call) (d : DiskState) → AreCalls d (xs ++ ys) → AreCalls d xs
 first_calls [] ys d are = tt
 first_calls (x ∷ xs) ys d are = (are.0, first_calls xs ys (after_call d x) are.1)
 
@@ -56,7 +56,7 @@ pub record Laws : Type 0 where
   pub single : AnswersAreSingle
   pub under_way : OpenIsUnderWay
 
-due_at : (xs : List Call) (x : Call) (h : Host) → AreDue h (xs ++ x ∷ []) → IsCallDue (host_of h xs) x
+pub due_at : (xs : List Call) (x : Call) (h : Host) → AreDue h (xs ++ x ∷ []) → IsCallDue (host_of h xs) x
 unfolding host_of
 due_at [] x h due = due.0
 due_at (y ∷ xs) x h due = due_at xs x (host_after h y) due.1
@@ -71,11 +71,11 @@ is_closed true true c e f = refl
 is_closed true false c e f = absurd (cc)
 is_closed false b c e f = absurd (cc)
 
-record EndsIt (p : Profile) (limit : ℕ) (done : List Call) (x : Call) (tag : ℕ) : Type 0 where
-  was : is_taken (commands (reached p limit done)) tag ≡ true
-  over : is_taken (commands (reached p limit (done ++ x ∷ []))) tag ≡ false
+pub record EndsIt (p : Profile) (limit : ℕ) (done : List Call) (x : Call) (tag : ℕ) : Type 0 where
+  pub was : is_taken (commands (reached p limit done)) tag ≡ true
+  pub over : is_taken (commands (reached p limit (done ++ x ∷ []))) tag ≡ false
 
-ends_it : Laws → (p : Profile) (limit : ℕ) (done : List Call) (tags tag : ℕ) → tag < 32 → AreCalls (new_disk p limit) (done ++ Sends (out.Ends tags) ∷ [])
+pub ends_it : Laws → (p : Profile) (limit : ℕ) (done : List Call) (tags tag : ℕ) → tag < 32 → AreCalls (new_disk p limit) (done ++ Sends (out.Ends tags) ∷ [])
     → has_bit tags tag ≡ true → EndsIt p limit done (Sends (out.Ends tags)) tag
 ends_it laws p limit done tags tag low are bit =
     let x : Call = Sends (out.Ends tags) in

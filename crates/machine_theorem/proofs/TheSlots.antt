@@ -53,15 +53,15 @@ pub record Laws : Type 0 where
 
 -- ---- the disk
 
-record Goes (d : DiskState) (calls : List Call) (now : Inside) : Type 0 where
-  are : AreCalls d calls
-  is : now ≡ Disk (after_calls d calls)
+pub record Goes (d : DiskState) (calls : List Call) (now : Inside) : Type 0 where
+  pub are : AreCalls d calls
+  pub is : now ≡ Disk (after_calls d calls)
 
 no_calls : (d : DiskState) → d ≡ after_calls d []
 unfolding after_calls
 no_calls d = refl
 
-goes_on : DisksGoOn → (many : Bool) (n tag : ℕ) (deeds : List Deed) (old now : MachineState) (run : RunsRuled old deeds now) → AllKeep many n tag old deeds now run → (d : DiskState)
+pub goes_on : DisksGoOn → (many : Bool) (n tag : ℕ) (deeds : List Deed) (old now : MachineState) (run : RunsRuled old deeds now) → AllKeep many n tag old deeds now run → (d : DiskState)
     → (bay_at old n).unit ≡ Disk d → Goes d (calls_of n old deeds now run) (bay_at now n).unit
 goes_on disks many n tag [] old now run keeps d unit = record {
   are = tt;
@@ -84,9 +84,9 @@ link_same (Wrote offset width value written) e = e
 link_same Powered e = e
 link_same other e = refl
 
-record FramesAre (was now : Frames) (sent came : List Stamped) : Type 0 where
-  sent_is : now.sent ≡ was.sent ++ sent
-  came_is : now.came ≡ was.came ++ came
+pub record FramesAre (was now : Frames) (sent came : List Stamped) : Type 0 where
+  pub sent_is : now.sent ≡ was.sent ++ sent
+  pub came_is : now.came ≡ was.came ++ came
 
 by_reset : (b : Bool) (was now : Frames) (s c sent came : List Stamped) → b ≡ false → FramesAre (more_frames b was s c) now sent came → FramesAre was now (s ++ sent) (c ++ came)
 by_reset true was now s c sent came e h = absurd (cc)
@@ -95,7 +95,7 @@ by_reset false was now s c sent came e h = record {
   came_is = h.came_is ∙ append_assoc was.came c came;
 }
 
-frames_are : (deeds : List Deed) (old now : MachineState) (run : RunsRuled old deeds now) (was : Frames) → HasLink deeds
+pub frames_are : (deeds : List Deed) (old now : MachineState) (run : RunsRuled old deeds now) (was : Frames) → HasLink deeds
     → FramesAre was (frames_in was old deeds now run) (sent_of old deeds now run) (came_of old deeds now run)
 frames_are [] old now run was linked = record { sent_is = sym (append-nil was.sent); came_is = sym (append-nil was.came) }
 frames_are (deed ∷ later) old now run was linked =
@@ -105,7 +105,7 @@ frames_are (deed ∷ later) old now run was linked =
     by_reset (is_reset deed) was (frames_in was old (deed ∷ later) now run) s c (sent_of mid later now run.1.2) (came_of mid later now run.1.2) (link_same deed linked.0)
     (frames_are later mid now run.1.2 (more_frames (is_reset deed) was s c) linked.1)
 
-none_picked : (n tag : ℕ) (frames : List Stamped) → NoneNamed tag frames → length (picks (names_of n tag) frames) ≡ 0
+pub none_picked : (n tag : ℕ) (frames : List Stamped) → NoneNamed tag frames → length (picks (names_of n tag) frames) ≡ 0
 none_picked n tag [] none = refl
 none_picked n tag (f ∷ later) none =
     ap (λ (b : Bool). length (if b then f ∷ picks (names_of n tag) later else picks (names_of n tag) later)) (by (f.stamp.port == n) none.0) ∙ none_picked n tag later none.1
@@ -114,14 +114,14 @@ none_picked n tag (f ∷ later) none =
     by true e = e
     by false e = refl
 
-none_straight : (many : Bool) (tag : ℕ) (frames : List Stamped) → NoneNamed tag frames → All (IsStraight many tag) frames
+pub none_straight : (many : Bool) (tag : ℕ) (frames : List Stamped) → NoneNamed tag frames → All (IsStraight many tag) frames
 none_straight many tag [] none = All-nil (IsStraight many tag)
 none_straight many tag (f ∷ later) none =
     All-cons (IsStraight many tag) f later (λ names straight. absurd (false≢true (sym none.0 ∙ names))) (none_straight many tag later none.1)
 
 -- ---- as many bits fall as the disk ended commands
 
-falls_ended : (laws : Laws) (ports : ℕ) (legacy : Bool) (old : MachineState) → IsOpeningMachine ports legacy old → (before : List Deed) (at : MachineState) (first : RunsRuled old before at)
+pub falls_ended : (laws : Laws) (ports : ℕ) (legacy : Bool) (old : MachineState) → IsOpeningMachine ports legacy old → (before : List Deed) (at : MachineState) (first : RunsRuled old before at)
     → (many : Bool) (n tag : ℕ) → n < 15 → tag < 32 → NoneNamed tag (frames_in no_frames old before at first).sent
     → (deeds : List Deed) (now : MachineState) (run : RunsRuled at deeds now) → HasLink deeds → AllKeep many n tag at deeds now run
     → (p : Profile) (limit : ℕ) (base : List Call) (d : DiskState) → (bay_at at n).unit ≡ Disk d → d ≡ reached p limit base
@@ -145,7 +145,7 @@ falls_ended laws ports legacy old opening before at first many n tag below low u
 
 -- ---- the command
 
-once_least : (b : Bool) → once_if b ≤ 1
+pub once_least : (b : Bool) → once_if b ≤ 1
 once_least true = omega arith
 once_least false = omega arith
 

@@ -10,3 +10,8 @@ pub mod Writes
 pub mod Tags
 pub mod Orders
 pub mod Identity
+pub mod Given
+pub mod Completions
+pub mod Following
+pub mod OwnSlots
+pub mod Reads

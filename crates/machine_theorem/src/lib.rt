@@ -5,21 +5,29 @@
 #![tactic(auto)]
 
 mod commands;
+mod completions;
 mod ends;
+mod follows;
 mod identity;
 mod moments;
 mod orders;
+mod own_slots;
 mod parts;
+mod reads;
 mod standing;
 mod tags;
 mod writes;
 
 pub use commands::{commands_come_from_slots, disks_hear_their_guest};
+pub use completions::{commands_are_as_supplied, completions_are_of_their_slots};
 pub use ends::{completions_are_of_devices, ends_come_from_devices};
+pub use follows::data_follow_setups;
 pub use identity::slots_name_their_disks_commands;
 pub use moments::data_are_of_slots;
 pub use orders::commands_are_sent_once;
+pub use own_slots::{carried_data_were_taken, payload_goes_to_its_own_slot};
 pub use parts::payload_comes_from_devices;
+pub use reads::reads_are_as_supplied;
 pub use standing::slots_have_one_command;
 pub use tags::tags_are_counted;
 pub use writes::writes_come_from_guests;

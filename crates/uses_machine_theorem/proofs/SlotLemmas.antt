@@ -1,9 +1,12 @@
 -- What the laws say of the runs that led here.
 use Rattle.ahci_machine.specs.States.{MachineState}
+use Rattle.machine_theorem.specs.Completions.{CompletionsAreOfSlots}
+use Rattle.machine_theorem.specs.Given.{CommandsAreGiven, DataAreGiven}
 use Rattle.machine_theorem.specs.Identity.{CommandsAreTheSlots}
 use Rattle.machine_theorem.specs.Orders.{CommandsAreSentOnce}
+use Rattle.machine_theorem.specs.Reads.{ReadsAreAsSupplied}
 use Rattle.machine_theorem.specs.Tags.{TagsOfNewDisks}
-use Rattle.uses_machine_theorem.specs.Slots.{KnowsOrders, KnowsSlots, KnowsTags}
+use Rattle.uses_machine_theorem.specs.Slots.{KnowsData, KnowsEnds, KnowsGiven, KnowsOrders, KnowsReads, KnowsSlots, KnowsTags}
 
 pub tags : TagsOfNewDisks → (now : MachineState) → KnowsTags now
 tags law now led n d there lived p limit new tag low = law led.ports led.legacy led.first led.opens led.deeds now led.run n d there lived p limit new tag low
@@ -14,3 +17,21 @@ orders law now at led deeds run own slot low = law led.ports led.legacy led.firs
 pub slots : CommandsAreTheSlots → (now : MachineState) → KnowsSlots now
 slots law now at led many n tag below low rest deeds run linked lasts keeps p limit base are same d there m is going =
     law led.ports led.legacy led.first led.opens led.deeds at led.run many n tag below low rest deeds now run linked lasts keeps p limit base are same d there m is going
+
+pub given : CommandsAreGiven → (now : MachineState) → KnowsGiven now
+given law now at led many n tag below low rest deeds run linked lasts keeps p limit base are same d there m is going =
+    law led.ports led.legacy led.first led.opens led.deeds at led.run many n tag below low rest deeds now run linked lasts keeps p limit base are same d there m is going
+
+pub data_are : DataAreGiven → (now : MachineState) → KnowsData now
+data_are law now at led many n tag below low rest deeds run linked lasts keeps p limit base are same len new does =
+    law led.ports led.legacy led.first led.opens led.deeds at led.run many n tag below low rest deeds now run linked lasts keeps p limit base are same len new does
+
+pub ends : CompletionsAreOfSlots → (now : MachineState) → KnowsEnds now
+ends law now at led many n tag below low rest deeds run linked lasts keeps p limit base are same took new does rules shows hides issue is mine =
+    law led.ports led.legacy led.first led.opens led.deeds at led.run many n tag below low rest deeds now run linked lasts keeps p limit base are same took new does rules shows hides
+    issue is mine
+
+pub reads : ReadsAreAsSupplied → (now : MachineState) → KnowsReads now
+reads law now at led many n c dev tag below dev_low low rest begins deeds run linked lasts keeps line runs well lost p limit base are same took new does mine port calm wrote brought named issue is kind =
+    law led.ports led.legacy led.first led.opens led.deeds at led.run many n c dev tag below dev_low low rest begins deeds now run linked lasts keeps line runs well lost p limit base are same took new
+    does mine port calm wrote brought named issue is kind

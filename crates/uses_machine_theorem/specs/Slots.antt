@@ -1,20 +1,35 @@
 -- What a caller of a machine knows of the commands under way at its disks and of the slots of these numbers.
-use Rattle.std.specs.Prelude.{◌≡◌, ◌<◌, ◌≤◌, ◌+◌, ℕ, Bool, true, List, Some}
+use Rattle.std.specs.Prelude.{◌≡◌, ◌<◌, ◌≤◌, ◌+◌, ℕ, Bool, true, false, List, Some}
+use Rattle.slots.specs.Slots.{Issue, has_bit, issue_at}
+use Rattle.slots.specs.declared.work.Kind.TheVariants.{QueuedRead}
+use Rattle.hba_fbs.specs.Taking.{port_of}
+use Rattle.hba_fbs.specs.declared.report.Wrote.{Wrote}
+use Rattle.ahci_registers.specs.declared.register.Register.TheVariants.{PxSact}
+use Rattle.ahci_controller.specs.Reading.{shown}
+use Rattle.ahci_controller.specs.Taking.{is_overflow}
+use Rattle.ahci_controller.specs.declared.taking.Took.{Took}
 use Rattle.block_command.specs.Moments.{Moment}
 use Rattle.block_disk.specs.Table.{is_under_way}
 use Rattle.block_queue.specs.Line.{command_at}
 use Rattle.disk_pages.specs.declared.profile.Profile.{Profile}
 use Rattle.sata_disk.specs.State.{DiskState, commands, new_disk}
+use Rattle.sata_disk.specs.declared.out.Out.TheVariants as out
 use Rattle.sata_disk_laws.specs.Calls.{AreCalls, Call}
 use Rattle.sata_disk_laws.specs.Laws.{reached}
-use Rattle.ahci_machine.specs.States.{MachineState, bay_at}
+use Rattle.ahci_machine.specs.States.{HasRules, MachineState, bay_at}
+use Rattle.ahci_machine.specs.declared.act.Act.TheVariants as act
 use Rattle.ahci_machine.specs.declared.bay.Unit.TheVariants.{Disk}
-use Rattle.machine_laws.specs.ControllerLaws.{RunsRuled}
-use Rattle.machine_laws.specs.Deeds.{Deed}
+use Rattle.machine_laws.specs.ControllerLaws.{ControllerRuns, RunsRuled, calls_in}
+use Rattle.machine_laws.specs.Deeds.{Deed, Does, Moved}
 use Rattle.machine_laws.specs.Falling.{AllLast, HasLink}
 use Rattle.machine_laws.specs.Heard.{HasLived, life_in, no_life}
-use Rattle.machine_theorem.specs.Identity.{AllKeep, IsAtRest, IsTheSlots}
+use Rattle.machine_theorem.specs.Completions.{IsDone}
+use Rattle.machine_theorem.specs.Following.{AllHeardWell}
+use Rattle.machine_theorem.specs.Given.{IsGiven, IsGivenData}
+use Rattle.machine_theorem.specs.Identity.{AllKeep, IsAtRest, IsTheSlots, own_of}
 use Rattle.machine_theorem.specs.Orders.{fallen_in, ordered_in, standing_in}
+use Rattle.machine_theorem.specs.OwnSlots.{AllKeepLine, BeginsClear, NoneLost, is_of}
+use Rattle.machine_theorem.specs.Reads.{IsBroughtAsRead}
 use Rattle.machine_theorem.specs.Tags.{IsCounted}
 use Rattle.uses_machine_theorem.specs.Led.{IsLed}
 
@@ -35,3 +50,44 @@ KnowsSlots now = (at : MachineState) (led : IsLed at) (many : Bool) (n tag : ℕ
     → (p : Profile) (limit : ℕ) (base : List Call) → AreCalls (new_disk p limit) base → rest.disk ≡ reached p limit base
     → (d : DiskState) → (bay_at now n).unit ≡ Disk d → (m : Moment) → command_at (commands d) tag ≡ Some m → is_under_way (Some m) ≡ true
     → IsTheSlots many n tag at deeds now run p limit base m.command
+
+-- A command that is under way at a disk behind such a moment is the one that the guest had supplied for the slot of its tag.
+abbrev pub KnowsGiven : MachineState → Type 0
+KnowsGiven now = (at : MachineState) (led : IsLed at) (many : Bool) (n tag : ℕ) → n < 15 → tag < 32 → (rest : IsAtRest many n tag led.first led.deeds at led.run)
+    → (deeds : List Deed) (run : RunsRuled at deeds now) → HasLink deeds → AllLast n at deeds now run → AllKeep many n tag at deeds now run
+    → (p : Profile) (limit : ℕ) (base : List Call) → AreCalls (new_disk p limit) base → rest.disk ≡ reached p limit base
+    → (d : DiskState) → (bay_at now n).unit ≡ Disk d → (m : Moment) → command_at (commands d) tag ≡ Some m → is_under_way (Some m) ≡ true
+    → IsGiven many n tag led.first led.deeds at led.run deeds now run p limit base m.command
+
+-- Data of a tag that a disk sends behind such a moment are the next bytes that the caller gave for the sectors of this command.
+abbrev pub KnowsData : MachineState → Type 0
+KnowsData now = (at : MachineState) (led : IsLed at) (many : Bool) (n tag : ℕ) → n < 15 → tag < 32 → (rest : IsAtRest many n tag led.first led.deeds at led.run)
+    → (deeds : List Deed) (run : RunsRuled at deeds now) → HasLink deeds → AllLast n at deeds now run → AllKeep many n tag at deeds now run
+    → (p : Profile) (limit : ℕ) (base : List Call) → AreCalls (new_disk p limit) base → rest.disk ≡ reached p limit base
+    → (len : ℕ) (new : MachineState) (does : Does now (Moved (act.Speaks n (out.Data tag len))) new)
+    → IsGivenData many n tag len led.first led.deeds at led.run deeds now run p limit base new does
+
+-- A bit of PxSACT falls as a FIS is taken behind such a moment, and the slot has a command for the disk: the disk had ended what the guest had supplied for this
+-- command, and did all of it.
+abbrev pub KnowsEnds : MachineState → Type 0
+KnowsEnds now = (at : MachineState) (led : IsLed at) (many : Bool) (n tag : ℕ) → n < 15 → tag < 32 → (rest : IsAtRest many n tag led.first led.deeds at led.run)
+    → (deeds : List Deed) (run : RunsRuled at deeds now) → HasLink deeds → AllLast n at deeds now run → AllKeep many n tag at deeds now run
+    → (p : Profile) (limit : ℕ) (base : List Call) → AreCalls (new_disk p limit) base → rest.disk ≡ reached p limit base
+    → (took : Took) (new : MachineState) (does : Does now (Moved (act.Takes took)) new) → HasRules new
+    → has_bit (shown PxSact now.controller) tag ≡ true → has_bit (shown PxSact new.controller) tag ≡ false
+    → (issue : Issue) → issue_at now.controller.core.slots tag ≡ Some issue → own_of many n issue.dev ≡ true
+    → IsDone many n tag led.first led.deeds at led.run deeds now run p limit base does.does.frame
+
+-- Data that come behind such a moment for the slot of the tag, in which a queued read is issued, are those that the disk sent for the command that the guest had
+-- supplied there, and each byte has the number of the one that the caller gave for its sectors, while no FIS of the disk is lost or at fault.
+abbrev pub KnowsReads : MachineState → Type 0
+KnowsReads now = (at : MachineState) (led : IsLed at) (many : Bool) (n c dev tag : ℕ) → n < 15 → dev < 16 → tag < 32
+    → (rest : IsAtRest many n tag led.first led.deeds at led.run) → BeginsClear n c dev at → (deeds : List Deed) (run : RunsRuled at deeds now)
+    → HasLink deeds → AllLast n at deeds now run → AllKeep many n tag at deeds now run → AllKeepLine many n c dev at deeds now run
+    → (runs : ControllerRuns at deeds now run) → AllHeardWell dev at.controller (calls_in at deeds now run) now.controller runs.calls
+    → NoneLost dev (calls_in at deeds now run)
+    → (p : Profile) (limit : ℕ) (base : List Call) → AreCalls (new_disk p limit) base → rest.disk ≡ reached p limit base
+    → (took : Took) (new : MachineState) (does : Does now (Moved (act.Takes took)) new) → is_of n c does.does.frame ≡ true
+    → port_of does.does.frame.bytes ≡ dev → is_overflow took.report.fault ≡ false → (wrote : Wrote) → took.brought ≡ Some wrote → wrote.slot ≡ tag
+    → (issue : Issue) → issue_at now.controller.core.slots wrote.slot ≡ Some issue → issue.work.kind ≡ QueuedRead
+    → IsBroughtAsRead many n tag led.first led.deeds at led.run deeds p limit base does.does.frame wrote

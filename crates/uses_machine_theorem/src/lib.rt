@@ -8,7 +8,7 @@ ghost use Rattle.ahci_controller.specs.Reading.{shown};
 ghost use Rattle.uses_machine_theorem.specs.Led.{AsksSupplied, EndsCompleted, EndsEarned, EndsSupplied, FallsSupplied, HoldsSupplied};
 ghost use Rattle.uses_machine_theorem.specs.Led.{IsLed, KnowsDisks, LendsBrought, LendsOfSlots, PutsNew, SpeaksDone, SpeaksOfSlots};
 ghost use Rattle.uses_machine_theorem.specs.Led.{SpeaksSupplied};
-ghost use Rattle.uses_machine_theorem.specs.Slots.{KnowsOrders, KnowsSlots, KnowsTags};
+ghost use Rattle.uses_machine_theorem.specs.Slots.{KnowsData, KnowsEnds, KnowsGiven, KnowsOrders, KnowsReads, KnowsSlots, KnowsTags};
 ghost use Rattle.uses_machine_theorem.specs.Standing.{BeginsToStand, GoesOnStanding};
 
 use ahci_controller::Width;
@@ -133,4 +133,19 @@ pub fn plugs(machine: &mut Machine, port: u8) -> Result<(), PortFault>
     machine_theorem::commands_are_sent_once();
     machine_theorem::slots_name_their_disks_commands();
     machine.plug(port)
+}
+
+/// What the caller knows of the queued commands of its guest, whatever run led to its machine; it runs no code. Behind a moment at rest, while the
+/// guest keeps to the standard, a command that is under way at a disk is the one that the guest had supplied for the slot of its tag; Data of the
+/// tag are the bytes of its sectors, and where the guest sees it completed, the disk had done all of it. What a FIS brings for the slot of a
+/// queued read are those bytes, each at its number, while no FIS of the disk is lost or at fault.
+pub fn knows_commands(machine: &Machine)
+    ensures given { KnowsGiven machine.now }
+    ensures sent { KnowsData machine.now }
+    ensures ended { KnowsEnds machine.now }
+    ensures read { KnowsReads machine.now }
+{
+    machine_theorem::commands_are_as_supplied();
+    machine_theorem::completions_are_of_their_slots();
+    machine_theorem::reads_are_as_supplied();
 }

@@ -1,0 +1,113 @@
+-- A run, cut at one of its deeds: what is counted along it is counted before this deed, by it, and behind it.
+use Rattle.std.proofs.Common.{◌≡◌, ℕ, zero, suc, ◌+◌, ◌≤◌, Bool, List, [], ◌∷◌, ◌++◌, append_assoc, refl, sym, ap, ◌∙◌, arith}
+use Rattle.fis_view.specs.Frames.{Stamped}
+use Rattle.controller_laws.specs.Events.{Event}
+use Rattle.sata_disk_laws.specs.Calls.{Call}
+use Rattle.ahci_machine.specs.States.{MachineState}
+use Rattle.machine_laws.specs.ControllerLaws.{RunsRuled, calls_in}
+use Rattle.machine_laws.specs.Controllers.{deed_calls}
+use Rattle.machine_laws.specs.Deeds.{Deed, Does}
+use Rattle.machine_laws.specs.Disks.{calls_at}
+use Rattle.machine_laws.specs.Falling.{AllLast, HasLink, Lasts}
+use Rattle.machine_laws.specs.Rising.{sent_by}
+use Rattle.machine_theorem.specs.Identity.{AllKeep, Keeps, calls_of}
+use Rattle.machine_theorem.specs.Orders.{are_ordered, fallen_in, is_fallen, ordered_in}
+use Rattle.machine_theorem.specs.Tags.{once_if}
+use Rattle.machine_theorem.proofs.EndsFew.{sent_of}
+
+pub record Cut (deed : Deed) (at : MachineState) (deeds : List Deed) (now : MachineState) (run : RunsRuled at deeds now) : Type 0 where
+  pub sooner : List Deed
+  pub mid : MachineState
+  pub led : RunsRuled at sooner mid
+  pub next : MachineState
+  pub does : Does mid deed next
+  pub later : List Deed
+  pub rest : RunsRuled next later now
+  pub is : deeds ≡ sooner ++ deed ∷ later
+  pub events : calls_in at deeds now run ≡ calls_in at sooner mid led ++ (deed_calls mid deed next does ++ calls_in next later now rest)
+  pub own : (n : ℕ) → calls_of n at deeds now run ≡ calls_of n at sooner mid led ++ (calls_at mid deed n ++ calls_of n next later now rest)
+  pub sent : sent_of at deeds now run ≡ sent_of at sooner mid led ++ (sent_by mid deed next does ++ sent_of next later now rest)
+  pub ordered : (own : ℕ → Bool) (slot : ℕ) → ordered_in own slot at deeds now run
+      ≡ ordered_in own slot at sooner mid led + (once_if (are_ordered own slot mid.controller (deed_calls mid deed next does)) + ordered_in own slot next later now rest)
+  pub fallen : (own : ℕ → Bool) (slot : ℕ) → fallen_in own slot at deeds now run
+      ≡ fallen_in own slot at sooner mid led + (once_if (is_fallen own slot mid.controller next.controller) + fallen_in own slot next later now rest)
+  pub keeps : (many : Bool) (n tag : ℕ) → AllKeep many n tag at deeds now run
+      → AllKeep many n tag at sooner mid led × Keeps many n tag mid deed next (deed_calls mid deed next does) × AllKeep many n tag next later now rest
+  pub lasts : (n : ℕ) → AllLast n at deeds now run → AllLast n at sooner mid led × Lasts mid deed next n × AllLast n next later now rest
+  pub links : HasLink deeds → HasLink sooner × HasLink later
+
+-- at its first deed
+unfoldable pub cut_here : (deed : Deed) (later : List Deed) (at now : MachineState) (run : RunsRuled at (deed ∷ later) now) → Cut deed at (deed ∷ later) now run
+cut_here deed later at now run = record {
+  sooner = [];
+  mid = at;
+  led = (run.0, refl);
+  next = run.1.0;
+  does = run.1.1;
+  later = later;
+  rest = run.1.2;
+  is = refl;
+  events = refl;
+  own = λ n. refl;
+  sent = refl;
+  ordered = λ own slot. omega arith;
+  fallen = λ own slot. omega arith;
+  keeps = λ many n tag k. (k.0.end, k.0, k.1);
+  lasts = λ n l. (tt, l.0, l.1);
+  links = λ l. (tt, l.1);
+}
+
+-- or at a later one
+unfoldable pub cut_more : (it deed : Deed) (later : List Deed) (at now : MachineState) (run : RunsRuled at (deed ∷ later) now) → Cut it run.1.0 later now run.1.2 → Cut it at (deed ∷ later) now run
+cut_more it deed later at now run c =
+    let first : List Event = deed_calls at deed run.1.0 run.1.1 in
+    let said : List Stamped = sent_by at deed run.1.0 run.1.1 in
+    record {
+      sooner = deed ∷ c.sooner;
+      mid = c.mid;
+      led = (run.0, (run.1.0, run.1.1, c.led));
+      next = c.next;
+      does = c.does;
+      later = c.later;
+      rest = c.rest;
+      is = ap (λ (l : List Deed). deed ∷ l) c.is;
+      events = ap (λ (l : List Event). first ++ l) c.events
+          ∙ sym (append_assoc first (calls_in run.1.0 c.sooner c.mid c.led) (deed_calls c.mid it c.next c.does ++ calls_in c.next c.later now c.rest));
+      own = λ n. ap (λ (l : List Call). calls_at at deed n ++ l) (c.own n)
+          ∙ sym (append_assoc (calls_at at deed n) (calls_of n run.1.0 c.sooner c.mid c.led) (calls_at c.mid it n ++ calls_of n c.next c.later now c.rest));
+      sent = ap (λ (l : List Stamped). said ++ l) c.sent
+          ∙ sym (append_assoc said (sent_of run.1.0 c.sooner c.mid c.led) (sent_by c.mid it c.next c.does ++ sent_of c.next c.later now c.rest));
+      ordered = λ own slot. let e = c.ordered own slot in omega (arith, e);
+      fallen = λ own slot. let e = c.fallen own slot in omega (arith, e);
+      keeps = λ many n tag k. let r = c.keeps many n tag k.1 in ((k.0, r.0), r.1, r.2);
+      lasts = λ n l. let r = c.lasts n l.1 in ((l.0, r.0), r.1, r.2);
+      links = λ l. let r = c.links l.1 in ((l.0, r.0), r.1);
+    }
+
+-- ---- the last deed that counts
+
+module _ (count : (old : MachineState) → (deed : Deed) → (new : MachineState) → Does old deed new → ℕ) where
+  abbrev pub total : (old : MachineState) → (deeds : List Deed) → (now : MachineState) → RunsRuled old deeds now → ℕ
+  total old [] now run = 0
+  total old (deed ∷ later) now run = count old deed run.1.0 run.1.1 + total run.1.0 later now run.1.2
+
+  -- this deed does, and none behind it
+  pub record LastOf (deed : Deed) (at : MachineState) (deeds : List Deed) (now : MachineState) (run : RunsRuled at deeds now) : Type 0 where
+    pub cut : Cut deed at deeds now run
+    pub here : 1 ≤ count cut.mid deed cut.next cut.does
+    pub none : total cut.next cut.later now cut.rest ≡ 0
+
+  pub record HasLast (at : MachineState) (deeds : List Deed) (now : MachineState) (run : RunsRuled at deeds now) : Type 0 where
+    pub deed : Deed
+    pub last : LastOf deed at deeds now run
+
+  pub last_of : (deeds : List Deed) (at now : MachineState) (run : RunsRuled at deeds now) → 1 ≤ total at deeds now run → HasLast at deeds now run
+  unfolding cut_here cut_more
+  last_of [] at now run some = absurd (omega (arith, some))
+  last_of (deed ∷ later) at now run some = by (λ more. last_of later run.1.0 now run.1.2 more) (total run.1.0 later now run.1.2) refl
+    where
+      by : (1 ≤ total run.1.0 later now run.1.2 → HasLast run.1.0 later now run.1.2) → (t : ℕ) → total run.1.0 later now run.1.2 ≡ t → HasLast at (deed ∷ later) now run
+      by tail zero e = record { deed = deed; last = record { cut = cut_here deed later at now run; here = omega (arith, some, e); none = e } }
+      by tail (suc t) e =
+          let r = tail (omega (arith, e)) in
+          record { deed = r.deed; last = record { cut = cut_more r.deed deed later at now run r.last.cut; here = r.last.here; none = r.last.none } }

@@ -1,0 +1,183 @@
+-- The FIS by which a bit falls behind a stretch is the one that the disk sent as it ended the last command of the tag.
+use Rattle.std.proofs.Common.{◌≡◌, ℕ, ◌+◌, ◌≤◌, ◌&&◌, Bool, true, false, List, [], ◌∷◌, ◌++◌, append_assoc, append-nil, length, Option, Some, None, Ok, Err, refl, sym, ap, subst, ◌∙◌, arith, All, Contains}
+use Rattle.std.specs.Prelude.{◌==◌, if◌then◌else◌}
+use Rattle.std.proofs.lemmas.Bool.{and_parts, eq-eqb, false≢true}
+use Rattle.std.proofs.lemmas.List.{length-append}
+use Rattle.std.proofs.lemmas.List.Elements.{All-append, All-cons, All-contains, All-head, All-nil, All-tail, Contains-append_left, Contains-append_right, Contains-push}
+use Rattle.fis_view.specs.Frames.{Stamped}
+use Rattle.fis_view.specs.Seen.{seen}
+use Rattle.fis_view.specs.Table.{Bits, SActive, field}
+use Rattle.fan_out.specs.FanOuts.{wants_at}
+use Rattle.fan_out.specs.Fans.{seat_at}
+use Rattle.fan_out.specs.Seats.{connection}
+use Rattle.fan_out.specs.declared.fan_out.FanOut.{FanOut}
+use Rattle.fan_out.specs.declared.fan_out.FanOut.TheVariants.{Device, Multiplier}
+use Rattle.fan_out.specs.declared.seat.Seat.{Seat}
+use Rattle.sata_disk.specs.State.{DiskState, new_disk}
+use Rattle.sata_disk.specs.declared.out.Out.TheVariants as out
+use Rattle.sata_disk_laws.specs.Calls.{Call, after_calls}
+use Rattle.sata_disk_laws.specs.Laws.{reached}
+use Rattle.sata_disk_laws.proofs.Door.{calls_after}
+use Rattle.ahci_machine.specs.States.{MachineState}
+use Rattle.ahci_machine.specs.declared.act.Act.TheVariants as act
+use Rattle.machine_laws.specs.ControllerLaws.{RunsRuled}
+use Rattle.machine_laws.specs.Deeds.{Deed, Does, FrameOffered, Moved}
+use Rattle.machine_laws.specs.Disks.{calls_at}
+use Rattle.machine_laws.specs.Falling.{AllLast, connection_at}
+use Rattle.machine_laws.specs.Rising.{IsOfDevice, frames_after, risen, sent_by}
+use Rattle.machine_theorem.specs.Identity.{AllKeep, IsThere, NoneNamed, calls_of, names_in, picks}
+use Rattle.machine_theorem.specs.Tags.{ended_with, once_if}
+use Rattle.machine_theorem.proofs.AtEnd.{LastEnd, speaks}
+use Rattle.machine_theorem.proofs.EndsFew.{one_call, sender_is, sent_few, sent_of}
+use Rattle.machine_theorem.proofs.Falls.{some_named}
+use Rattle.machine_theorem.proofs.LastSaid.{all_ends}
+use Rattle.machine_theorem.proofs.OneConn.{IsHere, last_came}
+use Rattle.machine_theorem.proofs.Risen.{names_of, naming_is}
+use Rattle.machine_theorem.proofs.Stretch.{AllEnded, Fall, Falls, Stretch, all_frames, calls, counts, front, has_disk, names, was_frames}
+use Rattle.machine_theorem.proofs.TagCounts.{ended_both}
+use Rattle.machine_theorem.proofs.TheSlots as slots
+use Rattle.machine_theorem.proofs.TheSlots.{none_picked}
+use Rattle.machine_theorem.proofs.Within.{picks_both}
+
+-- ---- the connection of what is sent
+
+connected : (seat : Seat) → seat.is_there ≡ true → connection seat ≡ Some seat.last
+connected seat there = ap (λ (b : Bool). if b then Some seat.last else None) there
+
+conn_is : (fan : FanOut) (k : ℕ) (frame : Stamped) → wants_at fan k ≡ true → connection_at fan k ≡ Some (risen fan k frame).stamp.conn
+conn_is (Device s) k frame room = connected s.seat (and_parts _ _ (and_parts _ _ room).1).0
+conn_is (Multiplier f) k frame room = connected (seat_at f k) (and_parts _ _ (and_parts _ _ room).1).0
+
+abbrev pub IsConn : (n tag : ℕ) → Option ℕ → Stamped → Type 0
+IsConn n tag conn f = names_of n tag f ≡ true → Some f.stamp.conn ≡ conn
+
+one_conn : (many : Bool) (n tag : ℕ) (conn : Option ℕ) (old : MachineState) (k : ℕ) (frame : Stamped) → IsThere many n old → connection_at old.fan n ≡ conn → wants_at old.fan k ≡ true
+    → IsConn n tag conn (risen old.fan k frame)
+one_conn many n tag conn old k frame there is room named =
+    let here : k ≡ n = sender_is many n old k frame there room (and_parts _ _ named).0 in
+    sym (conn_is old.fan k frame room) ∙ ap (λ (j : ℕ). connection_at old.fan j) here ∙ is
+
+deed_conn : (many : Bool) (n tag : ℕ) (conn : Option ℕ) (old : MachineState) (deed : Deed) (new : MachineState) (does : Does old deed new) → IsThere many n old → connection_at old.fan n ≡ conn
+    → All (IsConn n tag conn) (sent_by old deed new does)
+deed_conn many n tag conn old (Moved (act.Speaks k o)) new does there is =
+    let h = does.does.does.1 in
+    All-cons (IsConn n tag conn) (risen old.fan k h.frame) [] (one_conn many n tag conn old k h.frame there is h.room) (All-nil (IsConn n tag conn))
+deed_conn many n tag conn old (Moved a) new does there is = All-nil (IsConn n tag conn)
+deed_conn many n tag conn old (FrameOffered k frame (Ok x)) new does there is =
+    All-cons (IsConn n tag conn) (risen old.fan k frame) [] (one_conn many n tag conn old k frame there is does.own.1) (All-nil (IsConn n tag conn))
+deed_conn many n tag conn old (FrameOffered k frame (Err back)) new does there is = All-nil (IsConn n tag conn)
+deed_conn many n tag conn old deed new does there is = All-nil (IsConn n tag conn)
+
+run_conn : (many : Bool) (n tag : ℕ) (conn : Option ℕ) (deeds : List Deed) (old now : MachineState) (run : RunsRuled old deeds now) → AllKeep many n tag old deeds now run → AllLast n old deeds now run
+    → connection_at old.fan n ≡ conn → All (IsConn n tag conn) (sent_of old deeds now run)
+run_conn many n tag conn [] old now run keeps lasts is = All-nil (IsConn n tag conn)
+run_conn many n tag conn (deed ∷ later) old now run keeps lasts is =
+    All-append (IsConn n tag conn) (sent_by old deed run.1.0 run.1.1) (sent_of run.1.0 later now run.1.2) (deed_conn many n tag conn old deed run.1.0 run.1.1 keeps.0.end is)
+    (run_conn many n tag conn later run.1.0 now run.1.2 keeps.1 lasts.1 (lasts.0.same ∙ is))
+
+none_conn : (n tag : ℕ) (conn : Option ℕ) (frames : List Stamped) → NoneNamed tag frames → All (IsConn n tag conn) frames
+none_conn n tag conn [] none = All-nil (IsConn n tag conn)
+none_conn n tag conn (f ∷ later) none =
+    All-cons (IsConn n tag conn) f later (λ named. absurd (false≢true (sym none.0 ∙ (and_parts (f.stamp.port == n) (names_in tag (seen f.bytes)) named).1))) (none_conn n tag conn later none.1)
+
+some_same : (a b : ℕ) → Some a ≡ Some b → a ≡ b
+some_same a b e = cc
+
+-- the same one, where it is of that of a FIS
+all_same : (n tag c : ℕ) (conn : Option ℕ) → Some c ≡ conn → (frames : List Stamped) → All (IsConn n tag conn) frames → All (IsHere (λ f. names_in tag (seen f.bytes)) n c) frames
+all_same n tag c conn is [] all = All-nil (IsHere (λ f. names_in tag (seen f.bytes)) n c)
+all_same n tag c conn is (f ∷ later) all =
+    All-cons (IsHere (λ f. names_in tag (seen f.bytes)) n c) f later (λ named. some_same f.stamp.conn c (All-head (IsConn n tag conn) f later all named ∙ sym is))
+    (all_same n tag c conn is later (All-tail (IsConn n tag conn) f later all))
+
+-- ---- it is the last
+
+and_true : (a b : Bool) → a ≡ true → b ≡ true → (a && b) ≡ true
+and_true true b e f = f
+and_true false b e f = absurd (cc)
+
+one_names : (b : Bool) (f : Stamped) → 1 ≤ length (if b then f ∷ [] else []) → b ≡ true
+one_names true f some = refl
+one_names false f some = absurd (omega (arith, some))
+
+fewer_here : (n tag c : ℕ) (xs : List Stamped) → length (picks (λ f. names_of n tag f && (f.stamp.conn == c)) xs) ≤ length (picks (names_of n tag) xs)
+fewer_here n tag c [] = omega arith
+fewer_here n tag c (x ∷ xs) = by (names_of n tag x) (x.stamp.conn == c) (picks (λ f. names_of n tag f && (f.stamp.conn == c)) xs) (picks (names_of n tag) xs) (fewer_here n tag c xs)
+  where
+    by : (a b : Bool) (us vs : List Stamped) → length us ≤ length vs → length (if a && b then x ∷ us else us) ≤ length (if a then x ∷ vs else vs)
+    by true true us vs e = omega (arith, e)
+    by true false us vs e = omega (arith, e)
+    by false b us vs e = e
+
+pub same_fis : (laws : slots.Laws) (s : Stretch) (fall : Fall s) → Falls s fall → AllEnded s fall → (end : LastEnd s)
+    → sent_by end.last.cut.mid (speaks s end.tags) end.last.cut.next end.last.cut.does ≡ fall.does.does.frame ∷ []
+same_fis laws s fall falls ended end =
+    let c = end.last.cut in
+    let deed : Deed = speaks s end.tags in
+    let t : Stretch = front s deed c in
+    let frame : Stamped = fall.does.does.frame in
+    let f : Stamped = risen c.mid.fan s.n c.does.does.does.1.frame in
+    let q : Stamped → Bool = λ f. names_in s.tag (seen f.bytes) in
+    let N : Stamped → Bool = names s in
+    let then' : List Stamped = (was_frames s).sent in
+    let sooner : List Stamped = sent_of s.at c.sooner c.mid c.led in
+    let later : List Stamped = sent_of c.next c.later s.now c.rest in
+    let came : List Stamped = (all_frames s).came ++ frame ∷ [] in
+    let sent : List Stamped = (all_frames s).sent ++ [] in
+    let sent_is : sent ≡ (then' ++ sooner) ++ f ∷ later = append-nil (all_frames s).sent ∙ falls.sent_is ∙ ap (λ (l : List Stamped). then' ++ l) c.sent ∙ sym (append_assoc then' sooner (f ∷ later)) in
+    let bits = naming_is s.tag frame.bytes (and_parts (frame.stamp.port == s.n) (names_in s.tag (seen frame.bytes)) falls.named).1 in
+    let has : Contains came frame = Contains-append_right (all_frames s).came (frame ∷ []) frame (Contains-push [] frame) in
+    let device : IsOfDevice fall.new (frames_after (all_frames s) s.now (Moved (act.Takes fall.took)) fall.new fall.does) frame =
+    laws.facts.falls.naming fall.new (frames_after (all_frames s) s.now (Moved (act.Takes fall.took)) fall.new fall.does) falls.risen frame has fall.does.does.framed
+    (record { viewed = bits.viewed; some = some_named laws.facts.falls (field Bits SActive frame.bytes) s.tag bits.names }) in
+    let conn : Option ℕ = connection_at s.at.fan s.n in
+    let all_conn : All (IsConn s.n s.tag conn) sent =
+    subst (All (IsConn s.n s.tag conn)) (sym (append-nil (all_frames s).sent ∙ falls.sent_is)) (All-append (IsConn s.n s.tag conn) then' (sent_of s.at s.deeds s.now s.run)
+    (none_conn s.n s.tag conn then' s.rest.up) (run_conn s.many s.n s.tag conn s.deeds s.at s.now s.run s.keeps s.lasts refl)) in
+    let mine : Some frame.stamp.conn ≡ conn = All-contains (IsConn s.n s.tag conn) sent frame all_conn device.sent falls.named in
+    let all : All (IsHere q s.n frame.stamp.conn) sent = all_same s.n s.tag frame.stamp.conn conn mine sent all_conn in
+    let has_f : Contains sent f =
+    subst (λ (l : List Stamped). Contains l f) (sym sent_is) (Contains-append_right (then' ++ sooner) (f ∷ later) f (Contains-append_left (f ∷ []) later f (Contains-push [] f))) in
+    let cs : List Call = calls_at c.mid deed s.n in
+    let d : DiskState = reached s.p s.limit (s.base ++ calls t) in
+    let step = laws.falling.disks c.mid deed c.next c.does s.n d (has_disk laws t).there refl in
+    let few_sooner = sent_few laws.only s.many s.n s.tag s.low s.p s.limit laws.falling.disks c.sooner s.at c.mid c.led (c.keeps s.many s.n s.tag s.keeps).0 s.rest.disk s.rest.there s.base s.same in
+    let few_later = sent_few laws.only s.many s.n s.tag s.low s.p s.limit laws.falling.disks c.later c.next s.now c.rest (c.keeps s.many s.n s.tag s.keeps).2 (after_calls d cs) step.is
+    ((s.base ++ calls t) ++ cs) (sym (calls_after (s.base ++ calls t) cs (new_disk s.p s.limit))) in
+    let none_later = sym (all_ends s.n s.tag c.later c.next s.now c.rest) ∙ end.last.none in
+    let one : ended_with s.tag cs ≡ 1 = one_call s.n s.n s.tag (out.Ends end.tags) refl (ap once_if end.named) in
+    let rest : List Call = calls_of s.n c.next c.later s.now c.rest in
+    let ends : ended_with s.tag (calls s) ≡ ended_with s.tag (calls t) + (ended_with s.tag cs + ended_with s.tag rest) =
+    ap (ended_with s.tag) (c.own s.n) ∙ ended_both s.tag (calls t) (cs ++ rest) ∙ ap (λ (k : ℕ). ended_with s.tag (calls t) + k) (ended_both s.tag cs rest) in
+    let parts : length (picks N sent) ≡ (length (picks N then') + length (picks N sooner)) + (length (picks N (f ∷ [])) + length (picks N later)) =
+    ap (λ (l : List Stamped). length (picks N l)) sent_is ∙ long_both N (then' ++ sooner) (f ∷ later) ∙ ap (λ (k : ℕ). k + length (picks N (f ∷ later))) (long_both N then' sooner)
+    ∙ ap (λ (k : ℕ). (length (picks N then') + length (picks N sooner)) + k) (long_both N (f ∷ []) later) in
+    let none = none_picked s.n s.tag then' s.rest.up in
+    let k = counts laws s in
+    let k1 = k.ended in
+    let k2 = k.heard in
+    let k3 = k.asked in
+    let k4 = k.ordered in
+    let k5 = k.one in
+    let fell = falls.few in
+    let fallen = ended.fallen in
+    let all_sent = ended.sent in
+    let came_all = ended.came in
+    let some_f : 1 ≤ length (picks N (f ∷ [])) = omega (arith, parts, none, few_sooner, few_later, none_later, one, ends, fallen, fell, came_all) in
+    let named_f : N f ≡ true = one_names (N f) f some_f in
+    let here_f : f.stamp.conn ≡ frame.stamp.conn = All-contains (IsHere q s.n frame.stamp.conn) sent f all has_f named_f in
+    let few_here = fewer_here s.n s.tag frame.stamp.conn later in
+    let few_now : length (picks N sent) ≤ length (picks N came) = omega (arith, all_sent, k1, k2, k3, k4, k5, fell) in
+    let same : frame ≡ f = last_came q s.n frame.stamp.conn came sent falls.order all few_now frame f
+    (record { front = (all_frames s).came; later = []; is = refl; passes = and_true (N frame) (frame.stamp.conn == frame.stamp.conn) falls.named (eq-eqb frame.stamp.conn frame.stamp.conn refl); none = refl })
+    (record {
+      front = then' ++ sooner;
+      later = later;
+      is = sent_is;
+      passes = and_true (N f) (f.stamp.conn == frame.stamp.conn) named_f (eq-eqb f.stamp.conn frame.stamp.conn here_f);
+      none = omega (arith, few_here, few_later, none_later);
+    }) in
+    ap (λ (g : Stamped). g ∷ []) (sym same)
+  where
+    long_both : (p : Stamped → Bool) (xs ys : List Stamped) → length (picks p (xs ++ ys)) ≡ length (picks p xs) + length (picks p ys)
+    long_both p xs ys = ap (λ (l : List Stamped). length l) (picks_both p xs ys) ∙ length-append (picks p xs) (picks p ys)

@@ -1,0 +1,310 @@
+-- A stretch of a run that begins at rest and in which the guest keeps to the standard: what is counted over it, and where a bit falls behind it.
+use Rattle.std.proofs.Common.{◌≡◌, ℕ, ◌+◌, ◌<◌, ◌≤◌, ◌&&◌, Bool, true, false, not, List, [], ◌∷◌, ◌++◌, append_assoc, length, map, Some, refl, sym, ap, subst, ◌∙◌, arith, All}
+use Rattle.std.specs.Prelude.{if◌then◌else◌}
+use Rattle.std.specs.List.{flat_map}
+use Rattle.std.proofs.lemmas.List.{length-append}
+use Rattle.std.proofs.lemmas.List.Elements.{All-append, All-nil}
+use Rattle.fis_view.specs.Frames.{Stamped}
+use Rattle.multiplier.specs.Passing.{of_conn}
+use Rattle.fan_out.specs.declared.fan_out.FanOut.{FanOut}
+use Rattle.slots.specs.Slots.{Issue, has_bit, holds, is_queued_issue, issue_at}
+use Rattle.ahci_registers.specs.declared.register.Register.TheVariants.{PxSact}
+use Rattle.ahci_controller.specs.Reading.{shown}
+use Rattle.ahci_controller.specs.declared.taking.Took.{Took}
+use Rattle.disk_pages.specs.declared.profile.Profile.{Profile}
+use Rattle.sata_disk.specs.State.{DiskState, commands, is_taken, new_disk}
+use Rattle.sata_disk_laws.specs.Calls.{AreCalls, Call, after_calls}
+use Rattle.sata_disk_laws.specs.Laws.{reached}
+use Rattle.sata_disk_laws.proofs.Door.{calls_after, calls_both}
+use Rattle.controller_laws.specs.Events.{Event}
+use Rattle.ahci_machine.specs.States.{HasRules, IsOpeningMachine, MachineState, bay_at}
+use Rattle.ahci_machine.specs.declared.act.Act.TheVariants as act
+use Rattle.ahci_machine.specs.declared.bay.Unit.TheVariants.{Disk}
+use Rattle.machine_laws.specs.ControllerLaws.{OpensSo, RunsRuled, calls_in}
+use Rattle.machine_laws.specs.Controllers.{GathersDue, deed_calls}
+use Rattle.machine_laws.specs.Deeds.{Deed, Does, Moved}
+use Rattle.machine_laws.specs.Falling.{AllLast, HasLink, heard_by, sent_in}
+use Rattle.machine_laws.specs.Rising.{Frames, HaveRisen, frames_after, frames_in, is_multiplier, no_frames, on_way}
+use Rattle.machine_theorem.specs.Given.{IsWhole}
+use Rattle.machine_theorem.specs.Identity.{AllKeep, IsAtRest, IsThere, asked_of, asks_of, calls_of, heard_as, is_for, own_of, picks}
+use Rattle.machine_theorem.specs.Orders.{fallen_in, is_fallen, is_queued_of, is_sent_of, ordered_in, standing_in}
+use Rattle.machine_theorem.specs.Tags.{ended_with, heard_with}
+use Rattle.machine_theorem.proofs.Asking.{AllDataAskNone, all_none, asked_few}
+use Rattle.machine_theorem.proofs.Cut.{Cut}
+use Rattle.machine_theorem.proofs.EndsFew.{sent_few, sent_of}
+use Rattle.machine_theorem.proofs.Fallen.{heard_is, heard_within}
+use Rattle.machine_theorem.proofs.Falls.{named_by, told_now}
+use Rattle.machine_theorem.proofs.FallsFew.{IsStraight, came_of, falls_few, straight_all, taken_names}
+use Rattle.machine_theorem.proofs.Ordered.{first_ruled}
+use Rattle.machine_theorem.proofs.Own.{last_ruled}
+use Rattle.machine_theorem.proofs.Risen.{came_few, names_of}
+use Rattle.machine_theorem.proofs.TagCounts.{Counted, counted}
+use Rattle.machine_theorem.proofs.TheSlots.{Laws, falls_ended, frames_are, goes_on, none_picked, none_straight, once_least}
+use Rattle.machine_theorem.proofs.Within.{Within, fewer, picks_both, within_picks}
+
+-- ---- what led to a stretch, and then it
+
+record Joined (old at : MachineState) (deeds : List Deed) (now : MachineState) (run : RunsRuled at deeds now) : Type 0 where
+  all : RunsRuled old deeds now
+  calls : calls_in old deeds now all ≡ calls_in at deeds now run
+
+pub whole_run : (before : List Deed) (old at : MachineState) (first : RunsRuled old before at) (deeds : List Deed) (now : MachineState) (run : RunsRuled at deeds now)
+    → IsWhole old before at first deeds now run
+whole_run [] old at first deeds now run =
+    let it = subst (λ (m : MachineState). (r : RunsRuled m deeds now) → Joined old m deeds now r) (sym first.1) (λ r. record { all = r; calls = refl }) run in
+    record { all = it.all; calls = it.calls }
+whole_run (deed ∷ before) old at first deeds now run =
+    let it = whole_run before first.1.0 at first.1.2 deeds now run in
+    let events : List Event = deed_calls old deed first.1.0 first.1.1 in
+    record {
+      all = (first.0, (first.1.0, first.1.1, it.all));
+      calls = ap (λ (l : List Event). events ++ l) it.calls ∙ sym (append_assoc events (calls_in first.1.0 before at first.1.2) (calls_in at deeds now run));
+    }
+
+-- ---- a stretch
+
+pub record Stretch : Type 0 where
+  pub ports : ℕ
+  pub legacy : Bool
+  pub old : MachineState
+  pub opening : IsOpeningMachine ports legacy old
+  pub before : List Deed
+  pub at : MachineState
+  pub first : RunsRuled old before at
+  pub many : Bool
+  pub n : ℕ
+  pub tag : ℕ
+  pub below : n < 15
+  pub low : tag < 32
+  pub rest : IsAtRest many n tag old before at first
+  pub deeds : List Deed
+  pub now : MachineState
+  pub run : RunsRuled at deeds now
+  pub linked : HasLink deeds
+  pub lasts : AllLast n at deeds now run
+  pub keeps : AllKeep many n tag at deeds now run
+  pub p : Profile
+  pub limit : ℕ
+  pub base : List Call
+  pub are : AreCalls (new_disk p limit) base
+  pub same : rest.disk ≡ reached p limit base
+
+abbrev pub calls : Stretch → List Call
+calls s = calls_of s.n s.at s.deeds s.now s.run
+
+abbrev pub asked : Stretch → List (List ℕ)
+asked s = asked_of s.many s.n s.tag (sent_in (calls_in s.at s.deeds s.now s.run))
+
+abbrev pub own : Stretch → ℕ → Bool
+own s = own_of s.many s.n
+
+abbrev pub stands : Stretch → ℕ
+stands s = standing_in (own s) s.tag s.now.controller
+
+abbrev pub orders : Stretch → ℕ
+orders s = ordered_in (own s) s.tag s.at s.deeds s.now s.run
+
+abbrev pub falls : Stretch → ℕ
+falls s = fallen_in (own s) s.tag s.at s.deeds s.now s.run
+
+-- up to a deed of it
+abbrev pub front : (s : Stretch) → (deed : Deed) → Cut deed s.at s.deeds s.now s.run → Stretch
+front s deed c = record {
+  ports = s.ports;
+  legacy = s.legacy;
+  old = s.old;
+  opening = s.opening;
+  before = s.before;
+  at = s.at;
+  first = s.first;
+  many = s.many;
+  n = s.n;
+  tag = s.tag;
+  below = s.below;
+  low = s.low;
+  rest = s.rest;
+  deeds = c.sooner;
+  now = c.mid;
+  run = c.led;
+  linked = (c.links s.linked).0;
+  lasts = (c.lasts s.n s.lasts).0;
+  keeps = (c.keeps s.many s.n s.tag s.keeps).0;
+  p = s.p;
+  limit = s.limit;
+  base = s.base;
+  are = s.are;
+  same = s.same;
+}
+
+-- ---- what is there
+
+-- the disk at its end
+pub record HasDisk (s : Stretch) : Type 0 where
+  pub there : (bay_at s.now s.n).unit ≡ Disk (reached s.p s.limit (s.base ++ calls s))
+  pub are : AreCalls (new_disk s.p s.limit) (s.base ++ calls s)
+
+pub has_disk : Laws → (s : Stretch) → HasDisk s
+has_disk laws s =
+    let goes = goes_on laws.falling.disks s.many s.n s.tag s.deeds s.at s.now s.run s.keeps s.rest.disk s.rest.there in
+    record {
+      there = goes.is ∙ ap Disk (ap (λ (x : DiskState). after_calls x (calls s)) s.same ∙ sym (calls_after s.base (calls s) (new_disk s.p s.limit)));
+      are = calls_both s.base (calls s) (new_disk s.p s.limit) s.are (subst (λ (x : DiskState). AreCalls x (calls s)) s.same goes.are);
+    }
+
+-- the tag was free as it began
+pub was_free : (s : Stretch) → is_taken (commands (reached s.p s.limit s.base)) s.tag ≡ false
+was_free s = ap (λ (x : DiskState). is_taken (commands x) s.tag) (sym s.same) ∙ s.rest.free
+
+pub due_at : Laws → (s : Stretch) → GathersDue s.at
+due_at laws s =
+    let opens : OpensSo s.old = laws.facts.falls.opens s.ports s.legacy s.old s.opening (first_ruled s.before s.old s.at s.first) in
+    (laws.facts.falls.runs s.old s.before s.at s.first opens.due).due
+
+pub data_none : Laws → (s : Stretch) → AllDataAskNone s.tag s.at s.deeds s.now s.run
+data_none laws s =
+    let opens : OpensSo s.old = laws.facts.falls.opens s.ports s.legacy s.old s.opening (first_ruled s.before s.old s.at s.first) in
+    all_none laws.data_of s.tag s.ports s.legacy s.old s.opening opens.due s.before s.at s.first s.deeds s.now s.run (due_at laws s)
+
+-- ---- what is counted
+
+pub record Counts (s : Stretch) : Type 0 where
+  pub ended : ended_with s.tag (calls s) ≤ heard_with s.tag (calls s)
+  pub heard : heard_with s.tag (calls s) ≤ length (asked s)
+  pub asked : length (asked s) ≤ orders s
+  pub ordered : orders s ≤ falls s + stands s
+  pub fallen : falls s ≤ ended_with s.tag (calls s)
+  pub one : stands s ≤ 1
+
+pub counts : Laws → (s : Stretch) → Counts s
+counts laws s =
+    let disk = has_disk laws s in
+    let q : Counted s.p s.limit s.base s.tag (calls s) = counted s.p s.limit s.base s.tag laws.tags s.low (calls s) disk.are (was_free s) in
+    let sent = sent_in (calls_in s.at s.deeds s.now s.run) in
+    let within : Within (picks (asks_of s.tag) (flat_map heard_by (calls s))) (asked s) =
+    within_picks (asks_of s.tag) (flat_map heard_by (calls s)) (map heard_as (picks (is_for s.many s.n) sent))
+    (heard_within laws.falling s.many s.n s.tag s.deeds s.at s.now s.run s.rest.disk s.rest.there s.keeps (due_at laws s) s.linked s.lasts s.rest.leaving s.rest.down) in
+    let few = fewer (picks (asks_of s.tag) (flat_map heard_by (calls s))) (asked s) within in
+    let is = heard_is s.tag (calls s) in
+    let sums = laws.once s.ports s.legacy s.old s.opening s.before s.at s.first s.deeds s.now s.run (own s) s.tag s.low in
+    let none = s.rest.slot in
+    record {
+      ended = q.fewer;
+      heard = omega (arith, few, is);
+      asked = asked_few s.many s.n s.tag s.deeds s.at s.now s.run s.keeps (data_none laws s);
+      ordered = omega (arith, sums, none);
+      fallen = falls_ended laws s.ports s.legacy s.old s.opening s.before s.at s.first s.many s.n s.tag s.below s.low s.rest.up s.deeds s.now s.run s.linked s.keeps s.p s.limit s.base s.rest.disk s.rest.there s.same;
+      one = once_least (holds (is_sent_of (own s)) (issue_at s.now.controller.core.slots s.tag));
+    }
+
+-- ---- a bit that falls behind it
+
+pub record Fall (s : Stretch) : Type 0 where
+  pub took : Took
+  pub new : MachineState
+  pub does : Does s.now (Moved (act.Takes took)) new
+  pub rules : HasRules new
+  pub shows : has_bit (shown PxSact s.now.controller) s.tag ≡ true
+  pub hides : has_bit (shown PxSact new.controller) s.tag ≡ false
+  pub issue : Issue
+  pub is : issue_at s.now.controller.core.slots s.tag ≡ Some issue
+  pub mine : own s issue.dev ≡ true
+
+last_there : (many : Bool) (n tag : ℕ) (deeds : List Deed) (old now : MachineState) (run : RunsRuled old deeds now) → AllKeep many n tag old deeds now run → IsThere many n now
+last_there many n tag [] old now run keeps = subst (IsThere many n) (sym run.1) keeps
+last_there many n tag (deed ∷ later) old now run keeps = last_there many n tag later run.1.0 now run.1.2 keeps.1
+
+straight_run : (many : Bool) (n tag : ℕ) (deeds : List Deed) (old now : MachineState) (run : RunsRuled old deeds now) → AllKeep many n tag old deeds now run → All (IsStraight many tag) (sent_of old deeds now run)
+straight_run many n tag [] old now run keeps = All-nil (IsStraight many tag)
+straight_run many n tag (deed ∷ later) old now run keeps =
+    All-append (IsStraight many tag) _ (sent_of run.1.0 later now run.1.2) (straight_all many n tag old deed run.1.0 run.1.1 keeps.0.end)
+    (straight_run many n tag later run.1.0 now run.1.2 keeps.1)
+
+three : (a b c : Bool) → a ≡ true → b ≡ false → c ≡ true → (a && not b && c) ≡ true
+three true false c e f g = g
+three true true c e f g = absurd (cc)
+three false b c e f g = absurd (cc)
+
+and_both : (a b : Bool) → a ≡ true → b ≡ true → (a && b) ≡ true
+and_both true b e f = f
+and_both false b e f = absurd (cc)
+
+-- the frames since the link was reset, and with the FIS that is taken
+abbrev pub was_frames : Stretch → Frames
+was_frames s = frames_in no_frames s.old s.before s.at s.first
+
+abbrev pub all_frames : Stretch → Frames
+all_frames s = frames_in (was_frames s) s.at s.deeds s.now s.run
+
+abbrev pub names : Stretch → Stamped → Bool
+names s = names_of s.n s.tag
+
+pub record Falls (s : Stretch) (f : Fall s) : Type 0 where
+  pub risen : HaveRisen f.new (frames_after (all_frames s) s.now (Moved (act.Takes f.took)) f.new f.does)
+  pub sent_is : (all_frames s).sent ≡ (was_frames s).sent ++ sent_of s.at s.deeds s.now s.run
+  pub named : names s f.does.does.frame ≡ true
+  pub few : 1 + falls s ≤ length (picks (names s) ((all_frames s).came ++ f.does.does.frame ∷ []))
+  pub order : (c : ℕ) → (more : List Stamped) × (of_conn s.n c ((all_frames s).came ++ f.does.does.frame ∷ []) ++ more ≡ of_conn s.n c ((all_frames s).sent ++ []))
+
+pub fall_is : (laws : Laws) (s : Stretch) (f : Fall s) → Falls s f
+fall_is laws s f =
+    let h = f.does.does in
+    let deed : Deed = Moved (act.Takes f.took) in
+    let rules : HasRules s.now = last_ruled s.deeds s.at s.now s.run in
+    let there : IsThere s.many s.n s.now = last_there s.many s.n s.tag s.deeds s.at s.now s.run s.keeps in
+    let fan = ap (λ (m : MachineState). m.fan) f.does.turns ∙ ap (λ (m : MachineState). m.fan) h.rest in
+    let there_new : IsThere s.many s.n f.new = record { fan = ap (λ (x : FanOut). is_multiplier x) fan ∙ there.fan; one = there.one } in
+    let whole = whole_run s.before s.old s.at s.first s.deeds s.now s.run in
+    let past : List Deed = s.before ++ s.deeds in
+    let t = told_now laws.facts.falls s.ports s.legacy s.old s.opening past s.now whole.all in
+    let named = named_by laws.facts.falls s.now f.took f.new f.does rules f.rules t s.tag s.low f.shows f.hides in
+    let mine : is_queued_of (own s) f.issue ≡ true =
+    and_both (is_queued_issue f.issue) (own s f.issue.dev) (ap (holds is_queued_issue) (sym f.is ∙ named.is) ∙ named.queued) f.mine in
+    let fallen : is_fallen (own s) s.tag s.now.controller f.new.controller ≡ true =
+    three _ _ _ f.shows f.hides (ap (holds (is_queued_of (own s))) f.is ∙ mine) in
+    let then' : Frames = was_frames s in
+    let all : Frames = all_frames s in
+    let was : HaveRisen s.at then' = laws.facts.falls.rising s.old s.before s.at s.first no_frames (laws.facts.falls.opens_rising s.ports s.legacy s.old s.opening) in
+    let is : HaveRisen s.now all = laws.facts.falls.rising s.at s.deeds s.now s.run then' was in
+    let are = frames_are s.deeds s.at s.now s.run then' s.linked in
+    let begun : All (IsStraight s.many s.tag) then'.sent = none_straight s.many s.tag then'.sent s.rest.up in
+    let straight : All (IsStraight s.many s.tag) all.sent =
+    subst (All (IsStraight s.many s.tag)) (sym are.sent_is) (All-append (IsStraight s.many s.tag) then'.sent (sent_of s.at s.deeds s.now s.run) begun (straight_run s.many s.n s.tag s.deeds s.at s.now s.run s.keeps)) in
+    let names_it : names s h.frame ≡ true =
+    taken_names laws.facts s.many s.n s.tag s.low s.ports s.legacy s.old s.opening past s.now whole.all f.took f.new f.does rules f.rules there_new all is straight fallen in
+    let risen : HaveRisen f.new (frames_after all s.now deed f.new f.does) = laws.facts.falls.rising s.now (deed ∷ []) f.new (rules, (f.new, f.does, (f.rules, refl))) all is in
+    let N : Stamped → Bool = names s in
+    let few = falls_few laws.facts s.many s.n s.tag s.low s.ports s.legacy s.old s.opening s.before s.at s.first then' was begun s.deeds s.now s.run s.keeps in
+    let came : length (picks N all.came) ≡ length (picks N then'.came) + length (picks N (came_of s.at s.deeds s.now s.run)) =
+    ap (λ (l : List Stamped). length (picks N l)) are.came_is ∙ ap (λ (l : List Stamped). length l) (picks_both N then'.came (came_of s.at s.deeds s.now s.run))
+    ∙ length-append (picks N then'.came) (picks N (came_of s.at s.deeds s.now s.run)) in
+    let more : length (picks N (all.came ++ h.frame ∷ [])) ≡ length (picks N all.came) + length (picks N (h.frame ∷ [])) =
+    ap (λ (l : List Stamped). length l) (picks_both N all.came (h.frame ∷ [])) ∙ length-append (picks N all.came) (picks N (h.frame ∷ [])) in
+    let one : length (picks N (h.frame ∷ [])) ≡ 1 = ap (λ (b : Bool). length (if b then h.frame ∷ [] else [])) names_it in
+    record {
+      risen = risen;
+      sent_is = are.sent_is;
+      named = names_it;
+      few = omega (arith, few, came, more, one);
+      order = λ c. let r = laws.order f.new (frames_after all s.now deed f.new f.does) risen s.n c s.below in
+          (on_way s.n c f.new ++ r.dropped, sym (append_assoc (of_conn s.n c (all.came ++ h.frame ∷ [])) (on_way s.n c f.new) r.dropped) ∙ r.order);
+    }
+
+-- as many came as the disk ended commands
+pub record AllEnded (s : Stretch) (f : Fall s) : Type 0 where
+  pub fallen : 1 + falls s ≤ ended_with s.tag (calls s)
+  pub sent : length (picks (names s) ((all_frames s).sent ++ [])) ≤ ended_with s.tag (calls s)
+  pub came : length (picks (names s) ((all_frames s).came ++ f.does.does.frame ∷ [])) ≤ length (picks (names s) ((all_frames s).sent ++ []))
+
+pub all_ended : (laws : Laws) (s : Stretch) (f : Fall s) → Falls s f → AllEnded s f
+all_ended laws s f h =
+    let N : Stamped → Bool = names s in
+    let then' : Frames = was_frames s in
+    let sent_here : List Stamped = sent_of s.at s.deeds s.now s.run in
+    let ends = sent_few laws.only s.many s.n s.tag s.low s.p s.limit laws.falling.disks s.deeds s.at s.now s.run s.keeps s.rest.disk s.rest.there s.base s.same in
+    let none = none_picked s.n s.tag then'.sent s.rest.up in
+    let parts : length (picks N ((all_frames s).sent ++ [])) ≡ (length (picks N then'.sent) + length (picks N sent_here)) + 0 =
+    ap (λ (l : List Stamped). length l) (picks_both N (all_frames s).sent []) ∙ length-append (picks N (all_frames s).sent) []
+    ∙ ap (λ (k : ℕ). k + 0) (ap (λ (l : List Stamped). length (picks N l)) h.sent_is ∙ ap (λ (l : List Stamped). length l) (picks_both N then'.sent sent_here) ∙ length-append (picks N then'.sent) (picks N sent_here)) in
+    let came = came_few s.n s.tag ((all_frames s).came ++ f.does.does.frame ∷ []) ((all_frames s).sent ++ []) h.order in
+    let few = h.few in
+    record { fallen = omega (arith, ends, none, parts, came, few); sent = omega (arith, ends, none, parts); came = came }
