@@ -23,7 +23,7 @@
 #ifndef ACCOUNT_SIZES
 enum { PORTS = 4, SECTORS = 64, MOST = 8, ENTRIES = 4 };
 #endif
-enum { LOADS = 16, VERSIONS = 48, MOST_BYTES = 512 * MOST };
+enum { LOADS = 16, VERSIONS = 256, MOST_BYTES = 512 * MOST };
 
 /* Versions that a sector may have. */
 typedef struct {
