@@ -1,13 +1,17 @@
 -- Each bit of the slot that falls as a FIS is taken falls by one that came, names the tag, and is of the port.
-use Rattle.std.proofs.Common.{◌≡◌, ℕ, ◌+◌, ◌<◌, ◌≤◌, ◌&&◌, Bool, true, false, not, List, [], ◌∷◌, ◌++◌, length, Ok, Err, refl, sym, ap, subst, ◌∙◌, arith, All, Contains}
+use Rattle.std.proofs.Common.{◌≡◌, ℕ, ◌+◌, ◌<◌, ◌≤◌, ◌&&◌, Bool, true, false, not, List, [], ◌∷◌, ◌++◌, length, Ok, refl, sym, ap, subst, ◌∙◌, arith, All}
+use Rattle.std.proofs.Common.{Contains}
 use Rattle.std.specs.Prelude.{◌==◌, ◌||◌, if◌then◌else◌}
 use Rattle.std.proofs.lemmas.Bool.{and_parts, eq-eqb, eqb-true, false≢true}
 use Rattle.std.proofs.lemmas.List.{length-append}
-use Rattle.std.proofs.lemmas.List.Elements.{All-contains, All-cons, All-nil, Contains-append_right, Contains-push}
+use Rattle.std.proofs.lemmas.List.Elements.{All-append, All-contains, All-cons, All-nil, All-same, Contains-append_right, Contains-push}
 use Rattle.fis_view.specs.Frames.{Stamped}
 use Rattle.fis_view.specs.Seen.{seen}
 use Rattle.fis_view.specs.Table.{Bits, SActive, field}
+use Rattle.pm_ports.specs.declared.port.Offered.TheVariants.{Held}
 use Rattle.multiplier.specs.State.{pm_port}
+use Rattle.fan_out.specs.Calls.{FanCall, Offer}
+use Rattle.fan_out.specs.declared.fan_out.FanOut.{FanOut}
 use Rattle.slots.specs.Slots.{has_bit, holds, issue_at}
 use Rattle.ahci_registers.specs.declared.register.Register.TheVariants.{PxSact}
 use Rattle.ahci_controller.specs.Reading.{shown}
@@ -16,8 +20,9 @@ use Rattle.ahci_controller.specs.declared.taking.Took.{Took}
 use Rattle.ahci_machine.specs.States.{HasRules, IsOpeningMachine, MachineState}
 use Rattle.ahci_machine.specs.declared.act.Act.TheVariants as act
 use Rattle.machine_laws.specs.ControllerLaws.{RunsRuled}
-use Rattle.machine_laws.specs.Deeds.{Deed, Does, FrameOffered, Moved, Wrote}
-use Rattle.machine_laws.specs.Rising.{Frames, HaveRisen, IsOfDevice, came_by, frames_after, is_reset, risen, sent_by}
+use Rattle.machine_laws.specs.Deeds.{Deed, Does, Moved, Wrote}
+use Rattle.machine_laws.specs.Rising.{Frames, HaveRisen, IsOfDevice, Sends, came_by, frames_after, is_multiplier, risen, sent_call}
+use Rattle.machine_laws.proofs.RisRun.{crosses}
 use Rattle.machine_theorem.specs.Ends.{MayEnd, OthersEndNone}
 use Rattle.machine_theorem.specs.Identity.{AllKeep, IsThere, Spares, names_in, own_of, picks}
 use Rattle.machine_theorem.specs.Orders.{fallen_in, is_fallen, is_queued_of}
@@ -28,7 +33,6 @@ use Rattle.machine_theorem.proofs.Falls.{Laws, named_by, naming, some_named, tol
 use Rattle.machine_theorem.proofs.Names.{IsNamingOf}
 use Rattle.machine_theorem.proofs.Ordered.{first_ruled}
 use Rattle.machine_theorem.proofs.Risen.{names_of}
-use Rattle.machine_theorem.proofs.Taken.{more_sent}
 use Rattle.machine_theorem.proofs.Within.{picks_both}
 
 -- ---- what came
@@ -37,18 +41,20 @@ abbrev pub came_of : (old : MachineState) → (deeds : List Deed) → (now : Mac
 came_of old [] now run = []
 came_of old (deed ∷ later) now run = came_by old deed run.1.0 run.1.1 ++ came_of run.1.0 later now run.1.2
 
--- what names the tag has the stamp of the one port, if there is no multiplier
-abbrev pub IsStraight : (many : Bool) → (tag : ℕ) → Stamped → Type 0
-IsStraight many tag f = names_in tag (seen f.bytes) ≡ true → many ≡ false → f.stamp.port ≡ 0
+-- What a device straight behind the link sends has the stamp of port 0.
+abbrev IsStraight : Stamped → Type 0
+IsStraight f = f.stamp.port ≡ 0
 
-pub straight_all : (many : Bool) (n tag : ℕ) (old : MachineState) (deed : Deed) (new : MachineState) (does : Does old deed new) → IsThere many n old → All (IsStraight many tag) (sent_by old deed new does)
-straight_all many n tag old (Moved (act.Speaks k o)) new does there =
-    All-cons (IsStraight many tag) (risen old.fan k does.does.does.1.frame) [] (λ names straight. straight_port old.fan k does.does.does.1.frame (there.fan ∙ straight)) (All-nil (IsStraight many tag))
-straight_all many n tag old (Moved a) new does there = All-nil (IsStraight many tag)
-straight_all many n tag old (FrameOffered k frame (Ok x)) new does there =
-    All-cons (IsStraight many tag) (risen old.fan k frame) [] (λ names straight. straight_port old.fan k frame (there.fan ∙ straight)) (All-nil (IsStraight many tag))
-straight_all many n tag old (FrameOffered k frame (Err back)) new does there = All-nil (IsStraight many tag)
-straight_all many n tag old deed new does there = All-nil (IsStraight many tag)
+sent_straight : (end : FanOut) (call : FanCall) → is_multiplier end ≡ false → All IsStraight (sent_call end call)
+sent_straight end (Offer k frame (Ok Held) waits) is = All-cons IsStraight (risen end k frame) [] (straight_port end k frame is) (All-nil IsStraight)
+sent_straight end call is = All-nil IsStraight
+
+all_straight : (old new : FanOut) (calls : List FanCall) (sent : List Stamped) → Sends old calls sent new → is_multiplier new ≡ false → All IsStraight sent
+all_straight old new [] sent sends is = All-same IsStraight sent [] sends.1 (All-nil IsStraight)
+all_straight old new (call ∷ calls) sent sends is =
+    let one = sent_straight old call (crosses old new (call ∷ calls) sent sends ∙ is) in
+    let rest = all_straight sends.0 new calls sends.2.0 sends.2.2 is in
+    All-same IsStraight sent (sent_call old call ++ sends.2.0) sends.2.1 (All-append IsStraight (sent_call old call) sends.2.0 one rest)
 
 -- ---- one fall
 
@@ -87,9 +93,9 @@ least k = omega arith
 
 module _ (laws : Facts) (many : Bool) (n tag : ℕ) (low : tag < 32) (ports : ℕ) (legacy : Bool) (first : MachineState) (opening : IsOpeningMachine ports legacy first) where
   pub taken_names : (past : List Deed) (now : MachineState) (so_far : RunsRuled first past now) (took : Took) (new : MachineState) (does : Does now (Moved (act.Takes took)) new)
-      → HasRules now → HasRules new → IsThere many n new → (frames : Frames) → HaveRisen now frames → All (IsStraight many tag) frames.sent
+      → HasRules now → HasRules new → IsThere many n new → (frames : Frames) → HaveRisen now frames
       → is_fallen (own_of many n) tag now.controller new.controller ≡ true → names_of n tag does.does.frame ≡ true
-  taken_names past now so_far took new does rules rules_new there frames risen straight fallen =
+  taken_names past now so_far took new does rules rules_new there frames risen fallen =
       let h = does.does in
       let deed : Deed = Moved (act.Takes took) in
       let parts = fallen_parts (own_of many n) tag now.controller new.controller fallen in
@@ -103,19 +109,19 @@ module _ (laws : Facts) (many : Bool) (n tag : ℕ) (low : tag < 32) (ports : �
       let has : Contains after.came h.frame = Contains-append_right frames.came (h.frame ∷ []) h.frame (Contains-push [] h.frame) in
       let device : IsOfDevice new after h.frame =
       laws.falls.naming new after risen_now h.frame has h.framed (record { viewed = of.viewed; some = some_named laws.falls (field Bits SActive h.frame.bytes) tag bit }) in
-      let sent : All (IsStraight many tag) after.sent = more_sent (IsStraight many tag) (is_reset deed) frames (sent_by now deed new does) (came_by now deed new does) straight (All-nil (IsStraight many tag)) in
       let mine : is_queued_of (own_of many n) named.issue ≡ true = ap (holds (is_queued_of (own_of many n))) (sym named.is) ∙ parts.2 in
       let port : h.frame.stamp.port ≡ n = port_is many n h.frame named.issue.dev (and_parts _ _ mine).1 named.own
       (λ is. (device.port (there.fan ∙ is)).1)
-      (λ is. All-contains (IsStraight many tag) after.sent h.frame sent device.sent names is ∙ sym (there.one is)) in
+      (λ is. let straight = all_straight risen_now.first new.fan risen_now.calls after.sent risen_now.sends (there.fan ∙ is) in
+      All-contains IsStraight after.sent h.frame straight device.sent ∙ sym (there.one is)) in
       and_both (h.frame.stamp.port == n) (names_in tag (seen h.frame.bytes)) (eq-eqb h.frame.stamp.port n port) names
 
   takes_few : (past : List Deed) (now : MachineState) (so_far : RunsRuled first past now) (took : Took) (new : MachineState) (does : Does now (Moved (act.Takes took)) new)
-      → HasRules now → HasRules new → IsThere many n new → (frames : Frames) → HaveRisen now frames → All (IsStraight many tag) frames.sent
+      → HasRules now → HasRules new → IsThere many n new → (frames : Frames) → HaveRisen now frames
       → (b : Bool) → is_fallen (own_of many n) tag now.controller new.controller ≡ b → once_if b ≤ length (picks (names_of n tag) (does.does.frame ∷ []))
-  takes_few past now so_far took new does rules rules_new there frames risen straight true fallen =
-      length_one (names_of n tag does.does.frame) does.does.frame (taken_names past now so_far took new does rules rules_new there frames risen straight fallen)
-  takes_few past now so_far took new does rules rules_new there frames risen straight false fallen = least (length (picks (names_of n tag) (does.does.frame ∷ [])))
+  takes_few past now so_far took new does rules rules_new there frames risen true fallen =
+      length_one (names_of n tag does.does.frame) does.does.frame (taken_names past now so_far took new does rules rules_new there frames risen fallen)
+  takes_few past now so_far took new does rules rules_new there frames risen false fallen = least (length (picks (names_of n tag) (does.does.frame ∷ [])))
 
   pub none_few : (past : List Deed) (now : MachineState) (so_far : RunsRuled first past now) (deed : Deed) (new : MachineState) → Does now deed new → HasRules new → (MayEnd deed → ⊥)
       → (b : Bool) → is_fallen (own_of many n) tag now.controller new.controller ≡ b → once_if b ≤ 0
@@ -125,12 +131,14 @@ module _ (laws : Facts) (many : Bool) (n tag : ℕ) (low : tag < 32) (ports : �
   none_few past now so_far deed new does rules never false fallen = omega arith
 
   deed_few : (past : List Deed) (now : MachineState) (so_far : RunsRuled first past now) (deed : Deed) (new : MachineState) (does : Does now deed new)
-      → HasRules now → HasRules new → IsThere many n new → (frames : Frames) → HaveRisen now frames → All (IsStraight many tag) frames.sent
+      → HasRules now → HasRules new → IsThere many n new → (frames : Frames) → HaveRisen now frames
       → Spares many n tag now.controller deed new.controller → once_if (is_fallen (own_of many n) tag now.controller new.controller) ≤ length (picks (names_of n tag) (came_by now deed new does))
-  deed_few past now so_far (Moved (act.Takes took)) new does rules rules_new there frames risen straight spares =
-      takes_few past now so_far took new does rules rules_new there frames risen straight (is_fallen (own_of many n) tag now.controller new.controller) refl
-  deed_few past now so_far (Wrote offset width value written) new does rules rules_new there frames risen straight spares = let none : once_if (is_fallen (own_of many n) tag now.controller new.controller) ≡ 0 = ap once_if spares in omega (arith, none)
-  deed_few past now so_far deed new does rules rules_new there frames risen straight spares =
+  deed_few past now so_far (Moved (act.Takes took)) new does rules rules_new there frames risen spares =
+      takes_few past now so_far took new does rules rules_new there frames risen (is_fallen (own_of many n) tag now.controller new.controller) refl
+  deed_few past now so_far (Wrote offset width value written) new does rules rules_new there frames risen spares =
+      let none : once_if (is_fallen (own_of many n) tag now.controller new.controller) ≡ 0 = ap once_if spares in
+      omega (arith, none)
+  deed_few past now so_far deed new does rules rules_new there frames risen spares =
       let few = none_few past now so_far deed new does rules_new (λ e. e) (is_fallen (own_of many n) tag now.controller new.controller) refl in
       let some = least (length (picks (names_of n tag) (came_by now deed new does))) in
       omega (arith, few, some)
@@ -139,19 +147,18 @@ module _ (laws : Facts) (many : Bool) (n tag : ℕ) (low : tag < 32) (ports : �
   first_there [] old now run keeps = keeps
   first_there (deed ∷ later) old now run keeps = keeps.0.end
 
-  pub falls_few : (past : List Deed) (old : MachineState) (so_far : RunsRuled first past old) (frames : Frames) → HaveRisen old frames → All (IsStraight many tag) frames.sent
+  pub falls_few : (past : List Deed) (old : MachineState) (so_far : RunsRuled first past old) (frames : Frames) → HaveRisen old frames
       → (deeds : List Deed) (now : MachineState) (run : RunsRuled old deeds now) → AllKeep many n tag old deeds now run
       → fallen_in (own_of many n) tag old deeds now run ≤ length (picks (names_of n tag) (came_of old deeds now run))
-  falls_few past old so_far frames risen straight [] now run keeps = omega arith
-  falls_few past old so_far frames risen straight (deed ∷ later) now run keeps =
+  falls_few past old so_far frames risen [] now run keeps = omega arith
+  falls_few past old so_far frames risen (deed ∷ later) now run keeps =
       let mid : MachineState = run.1.0 in
       let does : Does old deed mid = run.1.1 in
       let rules : HasRules mid = first_ruled later mid now run.1.2 in
-      let one = deed_few past old so_far deed mid does run.0 rules (first_there later mid now run.1.2 keeps.1) frames risen straight keeps.0.spares in
+      let one = deed_few past old so_far deed mid does run.0 rules (first_there later mid now run.1.2 keeps.1) frames risen keeps.0.spares in
       let after : Frames = frames_after frames old deed mid does in
       let risen_now : HaveRisen mid after = laws.falls.rising old (deed ∷ []) mid (run.0, (mid, does, (rules, refl))) frames risen in
-      let sent : All (IsStraight many tag) after.sent = more_sent (IsStraight many tag) (is_reset deed) frames (sent_by old deed mid does) (came_by old deed mid does) straight (straight_all many n tag old deed mid does keeps.0.end) in
-      let rest = falls_few (past ++ deed ∷ []) mid (more past first old mid deed so_far does rules) after risen_now sent later now run.1.2 keeps.1 in
+      let rest = falls_few (past ++ deed ∷ []) mid (more past first old mid deed so_far does rules) after risen_now later now run.1.2 keeps.1 in
       let a : length (picks (names_of n tag) (came_by old deed mid does ++ came_of mid later now run.1.2))
       ≡ length (picks (names_of n tag) (came_by old deed mid does)) + length (picks (names_of n tag) (came_of mid later now run.1.2)) =
       ap (λ (l : List Stamped). length l) (picks_both (names_of n tag) (came_by old deed mid does) (came_of mid later now run.1.2))

@@ -239,7 +239,7 @@ record InOrder (n c : ℕ) (came sent : List Stamped) (f : Stamped) : Type 0 whe
   rest : List Stamped
   is : of_conn n c sent ≡ of_conn n c came ++ f ∷ rest
 
-untaken_is : (m : MachineState) (f : Stamped) → m.taken ≡ false → m.incoming ≡ Some f → untaken m ≡ f ∷ []
+pub untaken_is : (m : MachineState) (f : Stamped) → m.taken ≡ false → m.incoming ≡ Some f → untaken m ≡ f ∷ []
 untaken_is m f free on = ap (λ (b : Bool). if b then [] else option_to_list m.incoming) free ∙ ap (λ (o : Option Stamped). option_to_list o) on
 
 in_order : (n c : ℕ) (at now : MachineState) (was all : Frames) (came sent : List Stamped) (f : Stamped) → RisesInOrder at was n c → RisesInOrder now all n c

@@ -13,13 +13,17 @@ use Rattle.slots.specs.Slots.{has_bit}
 use Rattle.machine_theorem.specs.Identity.{names_in, picks}
 use Rattle.machine_theorem.specs.Tags.{once_if}
 use Rattle.machine_theorem.proofs.Names.{same_frame}
-use Rattle.machine_theorem.proofs.Within.{Within, fewer, first_within, within_picks}
+use Rattle.machine_theorem.proofs.Within.{Within, fewer, first_within}
 
 -- ---- ends
 
--- a FIS of this port names the tag
+-- a FIS names the tag
+abbrev pub names_tag : (tag : ℕ) → Stamped → Bool
+names_tag tag f = names_in tag (seen f.bytes)
+
+-- and is of this port
 abbrev pub names_of : (n tag : ℕ) → Stamped → Bool
-names_of n tag f = (f.stamp.port == n) && names_in tag (seen f.bytes)
+names_of n tag f = (f.stamp.port == n) && names_tag tag f
 
 pub record IsNaming (tag : ℕ) (bytes : List ℕ) : Type 0 where
   pub viewed : seen bytes ≡ Ok (view.SetBits bytes)
@@ -153,18 +157,24 @@ of_both q n c (x ∷ xs) =
     picked_two (x.stamp.port == n) (q x) (x.stamp.conn == c) x (of_conn n c xs) q refl
     ∙ ap (λ (l : List Stamped). if ((x.stamp.port == n) && q x) && (x.stamp.conn == c) then x ∷ l else l) (of_both q n c xs)
 
--- of what came of each connection, in the order in which it was sent, no more of a port passes a test than was sent
-pub few_came : (q : Stamped → Bool) (n : ℕ) (came sent : List Stamped) → ((c : ℕ) → (more : List Stamped) × (of_conn n c came ++ more ≡ of_conn n c sent))
+-- of a connection, what came and passes a test is a beginning of what was sent and passes it
+pub record Begins (q : Stamped → Bool) (n c : ℕ) (came sent : List Stamped) : Type 0 where
+  pub more : List Stamped
+  pub is : picks q (of_conn n c came) ++ more ≡ picks q (of_conn n c sent)
+
+-- If it is so of each connection, no more of the port that came passes the test than was sent.
+pub few_came : (q : Stamped → Bool) (n : ℕ) (came sent : List Stamped) → ((c : ℕ) → Begins q n c came sent)
     → length (picks (λ f. (f.stamp.port == n) && q f) came) ≤ length (picks (λ f. (f.stamp.port == n) && q f) sent)
 few_came q n came sent order = by_connections (λ f. (f.stamp.port == n) && q f) came sent (λ c.
     let it = order c in
-    let within : Within (of_conn n c came) (of_conn n c sent) = subst (λ (l : List Stamped). Within (of_conn n c came) l) it.1 (first_within (of_conn n c came) it.0) in
-    let less = fewer (picks q (of_conn n c came)) (picks q (of_conn n c sent)) (within_picks q (of_conn n c came) (of_conn n c sent) within) in
+    let within : Within (picks q (of_conn n c came)) (picks q (of_conn n c sent)) =
+    subst (λ (l : List Stamped). Within (picks q (of_conn n c came)) l) it.is (first_within (picks q (of_conn n c came)) it.more) in
+    let less = fewer (picks q (of_conn n c came)) (picks q (of_conn n c sent)) within in
     let x = ap (λ (l : List Stamped). length l) (of_both q n c came) in
     let y = ap (λ (l : List Stamped). length l) (of_both q n c sent) in
     omega (arith, less, x, y))
 
 -- and no more names the tag
-pub came_few : (n tag : ℕ) (came sent : List Stamped) → ((c : ℕ) → (more : List Stamped) × (of_conn n c came ++ more ≡ of_conn n c sent))
+pub came_few : (n tag : ℕ) (came sent : List Stamped) → ((c : ℕ) → Begins (names_tag tag) n c came sent)
     → length (picks (names_of n tag) came) ≤ length (picks (names_of n tag) sent)
-came_few n tag came sent order = few_came (λ f. names_in tag (seen f.bytes)) n came sent order
+came_few n tag came sent order = few_came (names_tag tag) n came sent order

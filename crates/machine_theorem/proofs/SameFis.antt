@@ -1,12 +1,11 @@
 -- The FIS by which a bit falls behind a stretch is the one that the disk sent as it ended the last command of the tag.
-use Rattle.std.proofs.Common.{◌≡◌, ℕ, ◌+◌, ◌≤◌, ◌&&◌, Bool, true, false, List, [], ◌∷◌, ◌++◌, append_assoc, append-nil, length, Option, Some, None, Ok, Err, refl, sym, ap, subst, ◌∙◌, arith, All, Contains}
+use Rattle.std.proofs.Common.{◌≡◌, ℕ, ◌+◌, ◌≤◌, ◌&&◌, Bool, true, false, List, [], ◌∷◌, ◌++◌, length, Option, Some, None, Ok, Err, refl, sym, ap, subst}
+use Rattle.std.proofs.Common.{◌∙◌, arith, All, Contains}
 use Rattle.std.specs.Prelude.{◌==◌, if◌then◌else◌}
-use Rattle.std.proofs.lemmas.Bool.{and_parts, eq-eqb, false≢true}
+use Rattle.std.proofs.lemmas.Bool.{and_parts, eq-eqb}
 use Rattle.std.proofs.lemmas.List.{length-append}
 use Rattle.std.proofs.lemmas.List.Elements.{All-append, All-cons, All-contains, All-head, All-nil, All-tail, Contains-append_left, Contains-append_right, Contains-push}
 use Rattle.fis_view.specs.Frames.{Stamped}
-use Rattle.fis_view.specs.Seen.{seen}
-use Rattle.fis_view.specs.Table.{Bits, SActive, field}
 use Rattle.fan_out.specs.FanOuts.{wants_at}
 use Rattle.fan_out.specs.Fans.{seat_at}
 use Rattle.fan_out.specs.Seats.{connection}
@@ -24,19 +23,17 @@ use Rattle.machine_laws.specs.ControllerLaws.{RunsRuled}
 use Rattle.machine_laws.specs.Deeds.{Deed, Does, FrameOffered, Moved}
 use Rattle.machine_laws.specs.Disks.{calls_at}
 use Rattle.machine_laws.specs.Falling.{AllLast, connection_at}
-use Rattle.machine_laws.specs.Rising.{IsOfDevice, frames_after, risen, sent_by}
-use Rattle.machine_theorem.specs.Identity.{AllKeep, IsThere, NoneNamed, calls_of, names_in, picks}
+use Rattle.machine_laws.specs.Rising.{risen, sent_by}
+use Rattle.machine_theorem.specs.Identity.{AllKeep, IsThere, calls_of, picks}
 use Rattle.machine_theorem.specs.Tags.{ended_with, once_if}
 use Rattle.machine_theorem.proofs.AtEnd.{LastEnd, speaks}
 use Rattle.machine_theorem.proofs.EndsFew.{one_call, sender_is, sent_few, sent_of}
-use Rattle.machine_theorem.proofs.Falls.{some_named}
 use Rattle.machine_theorem.proofs.LastSaid.{all_ends}
-use Rattle.machine_theorem.proofs.OneConn.{IsHere, last_came}
-use Rattle.machine_theorem.proofs.Risen.{names_of, naming_is}
-use Rattle.machine_theorem.proofs.Stretch.{AllEnded, Fall, Falls, Stretch, all_frames, calls, counts, front, has_disk, names, was_frames}
+use Rattle.machine_theorem.proofs.OneConn.{IsHere, came_as_sent, last_came}
+use Rattle.machine_theorem.proofs.Risen.{names_of, names_tag}
+use Rattle.machine_theorem.proofs.Stretch.{AllEnded, Fall, Falls, Stretch, calls, comes, counts, front, has_disk, names, sends}
 use Rattle.machine_theorem.proofs.TagCounts.{ended_both}
 use Rattle.machine_theorem.proofs.TheSlots as slots
-use Rattle.machine_theorem.proofs.TheSlots.{none_picked}
 use Rattle.machine_theorem.proofs.Within.{picks_both}
 
 -- ---- the connection of what is sent
@@ -75,19 +72,14 @@ run_conn many n tag conn (deed ∷ later) old now run keeps lasts is =
     All-append (IsConn n tag conn) (sent_by old deed run.1.0 run.1.1) (sent_of run.1.0 later now run.1.2) (deed_conn many n tag conn old deed run.1.0 run.1.1 keeps.0.end is)
     (run_conn many n tag conn later run.1.0 now run.1.2 keeps.1 lasts.1 (lasts.0.same ∙ is))
 
-none_conn : (n tag : ℕ) (conn : Option ℕ) (frames : List Stamped) → NoneNamed tag frames → All (IsConn n tag conn) frames
-none_conn n tag conn [] none = All-nil (IsConn n tag conn)
-none_conn n tag conn (f ∷ later) none =
-    All-cons (IsConn n tag conn) f later (λ named. absurd (false≢true (sym none.0 ∙ (and_parts (f.stamp.port == n) (names_in tag (seen f.bytes)) named).1))) (none_conn n tag conn later none.1)
-
 some_same : (a b : ℕ) → Some a ≡ Some b → a ≡ b
 some_same a b e = cc
 
 -- the same one, where it is of that of a FIS
-all_same : (n tag c : ℕ) (conn : Option ℕ) → Some c ≡ conn → (frames : List Stamped) → All (IsConn n tag conn) frames → All (IsHere (λ f. names_in tag (seen f.bytes)) n c) frames
-all_same n tag c conn is [] all = All-nil (IsHere (λ f. names_in tag (seen f.bytes)) n c)
+all_same : (n tag c : ℕ) (conn : Option ℕ) → Some c ≡ conn → (frames : List Stamped) → All (IsConn n tag conn) frames → All (IsHere (names_tag tag) n c) frames
+all_same n tag c conn is [] all = All-nil (IsHere (names_tag tag) n c)
 all_same n tag c conn is (f ∷ later) all =
-    All-cons (IsHere (λ f. names_in tag (seen f.bytes)) n c) f later (λ named. some_same f.stamp.conn c (All-head (IsConn n tag conn) f later all named ∙ sym is))
+    All-cons (IsHere (names_tag tag) n c) f later (λ named. some_same f.stamp.conn c (All-head (IsConn n tag conn) f later all named ∙ sym is))
     (all_same n tag c conn is later (All-tail (IsConn n tag conn) f later all))
 
 -- ---- it is the last
@@ -117,27 +109,22 @@ same_fis laws s fall falls ended end =
     let t : Stretch = front s deed c in
     let frame : Stamped = fall.does.does.frame in
     let f : Stamped = risen c.mid.fan s.n c.does.does.does.1.frame in
-    let q : Stamped → Bool = λ f. names_in s.tag (seen f.bytes) in
+    let q : Stamped → Bool = names_tag s.tag in
     let N : Stamped → Bool = names s in
-    let then' : List Stamped = (was_frames s).sent in
     let sooner : List Stamped = sent_of s.at c.sooner c.mid c.led in
     let later : List Stamped = sent_of c.next c.later s.now c.rest in
-    let came : List Stamped = (all_frames s).came ++ frame ∷ [] in
-    let sent : List Stamped = (all_frames s).sent ++ [] in
-    let sent_is : sent ≡ (then' ++ sooner) ++ f ∷ later = append-nil (all_frames s).sent ∙ falls.sent_is ∙ ap (λ (l : List Stamped). then' ++ l) c.sent ∙ sym (append_assoc then' sooner (f ∷ later)) in
-    let bits = naming_is s.tag frame.bytes (and_parts (frame.stamp.port == s.n) (names_in s.tag (seen frame.bytes)) falls.named).1 in
-    let has : Contains came frame = Contains-append_right (all_frames s).came (frame ∷ []) frame (Contains-push [] frame) in
-    let device : IsOfDevice fall.new (frames_after (all_frames s) s.now (Moved (act.Takes fall.took)) fall.new fall.does) frame =
-    laws.facts.falls.naming fall.new (frames_after (all_frames s) s.now (Moved (act.Takes fall.took)) fall.new fall.does) falls.risen frame has fall.does.does.framed
-    (record { viewed = bits.viewed; some = some_named laws.facts.falls (field Bits SActive frame.bytes) s.tag bits.names }) in
+    let came : List Stamped = comes s ++ frame ∷ [] in
+    let sent : List Stamped = sends s in
     let conn : Option ℕ = connection_at s.at.fan s.n in
-    let all_conn : All (IsConn s.n s.tag conn) sent =
-    subst (All (IsConn s.n s.tag conn)) (sym (append-nil (all_frames s).sent ∙ falls.sent_is)) (All-append (IsConn s.n s.tag conn) then' (sent_of s.at s.deeds s.now s.run)
-    (none_conn s.n s.tag conn then' s.rest.up) (run_conn s.many s.n s.tag conn s.deeds s.at s.now s.run s.keeps s.lasts refl)) in
-    let mine : Some frame.stamp.conn ≡ conn = All-contains (IsConn s.n s.tag conn) sent frame all_conn device.sent falls.named in
-    let all : All (IsHere q s.n frame.stamp.conn) sent = all_same s.n s.tag frame.stamp.conn conn mine sent all_conn in
+    let sent_conn : All (IsConn s.n s.tag conn) sent = run_conn s.many s.n s.tag conn s.deeds s.at s.now s.run s.keeps s.lasts refl in
+    let came_conn : All (IsConn s.n s.tag conn) came = came_as_sent q s.n (λ g. Some g.stamp.conn ≡ conn) came sent falls.order sent_conn in
+    let has : Contains came frame = Contains-push (comes s) frame in
+    let mine : Some frame.stamp.conn ≡ conn = All-contains (IsConn s.n s.tag conn) came frame came_conn has falls.named in
+    let all : All (IsHere q s.n frame.stamp.conn) sent = all_same s.n s.tag frame.stamp.conn conn mine sent sent_conn in
+    let here_came : All (IsHere q s.n frame.stamp.conn) came = all_same s.n s.tag frame.stamp.conn conn mine came came_conn in
     let has_f : Contains sent f =
-    subst (λ (l : List Stamped). Contains l f) (sym sent_is) (Contains-append_right (then' ++ sooner) (f ∷ later) f (Contains-append_left (f ∷ []) later f (Contains-push [] f))) in
+    subst (λ (l : List Stamped). Contains l f) (sym c.sent)
+    (Contains-append_right sooner (f ∷ later) f (Contains-append_left (f ∷ []) later f (Contains-push [] f))) in
     let cs : List Call = calls_at c.mid deed s.n in
     let d : DiskState = reached s.p s.limit (s.base ++ calls t) in
     let step = laws.falling.disks c.mid deed c.next c.does s.n d (has_disk laws t).there refl in
@@ -149,10 +136,9 @@ same_fis laws s fall falls ended end =
     let rest : List Call = calls_of s.n c.next c.later s.now c.rest in
     let ends : ended_with s.tag (calls s) ≡ ended_with s.tag (calls t) + (ended_with s.tag cs + ended_with s.tag rest) =
     ap (ended_with s.tag) (c.own s.n) ∙ ended_both s.tag (calls t) (cs ++ rest) ∙ ap (λ (k : ℕ). ended_with s.tag (calls t) + k) (ended_both s.tag cs rest) in
-    let parts : length (picks N sent) ≡ (length (picks N then') + length (picks N sooner)) + (length (picks N (f ∷ [])) + length (picks N later)) =
-    ap (λ (l : List Stamped). length (picks N l)) sent_is ∙ long_both N (then' ++ sooner) (f ∷ later) ∙ ap (λ (k : ℕ). k + length (picks N (f ∷ later))) (long_both N then' sooner)
-    ∙ ap (λ (k : ℕ). (length (picks N then') + length (picks N sooner)) + k) (long_both N (f ∷ []) later) in
-    let none = none_picked s.n s.tag then' s.rest.up in
+    let parts : length (picks N sent) ≡ length (picks N sooner) + (length (picks N (f ∷ [])) + length (picks N later)) =
+    ap (λ (l : List Stamped). length (picks N l)) c.sent ∙ long_both N sooner (f ∷ later)
+    ∙ ap (λ (k : ℕ). length (picks N sooner) + k) (long_both N (f ∷ []) later) in
     let k = counts laws s in
     let k1 = k.ended in
     let k2 = k.heard in
@@ -160,20 +146,25 @@ same_fis laws s fall falls ended end =
     let k4 = k.ordered in
     let k5 = k.one in
     let fell = falls.few in
-    let fallen = ended.fallen in
     let all_sent = ended.sent in
     let came_all = ended.came in
-    let some_f : 1 ≤ length (picks N (f ∷ [])) = omega (arith, parts, none, few_sooner, few_later, none_later, one, ends, fallen, fell, came_all) in
+    let some_f : 1 ≤ length (picks N (f ∷ [])) = omega (arith, parts, few_sooner, few_later, none_later, one, ends, fell, came_all, k1, k2, k3, k4, k5) in
     let named_f : N f ≡ true = one_names (N f) f some_f in
     let here_f : f.stamp.conn ≡ frame.stamp.conn = All-contains (IsHere q s.n frame.stamp.conn) sent f all has_f named_f in
     let few_here = fewer_here s.n s.tag frame.stamp.conn later in
     let few_now : length (picks N sent) ≤ length (picks N came) = omega (arith, all_sent, k1, k2, k3, k4, k5, fell) in
-    let same : frame ≡ f = last_came q s.n frame.stamp.conn came sent falls.order all few_now frame f
-    (record { front = (all_frames s).came; later = []; is = refl; passes = and_true (N frame) (frame.stamp.conn == frame.stamp.conn) falls.named (eq-eqb frame.stamp.conn frame.stamp.conn refl); none = refl })
+    let same : frame ≡ f = last_came q s.n frame.stamp.conn came sent (falls.order frame.stamp.conn) here_came all few_now frame f
     (record {
-      front = then' ++ sooner;
+      front = comes s;
+      later = [];
+      is = refl;
+      passes = and_true (N frame) (frame.stamp.conn == frame.stamp.conn) falls.named (eq-eqb frame.stamp.conn frame.stamp.conn refl);
+      none = refl;
+    })
+    (record {
+      front = sooner;
       later = later;
-      is = sent_is;
+      is = c.sent;
       passes = and_true (N f) (f.stamp.conn == frame.stamp.conn) named_f (eq-eqb f.stamp.conn frame.stamp.conn here_f);
       none = omega (arith, few_here, few_later, none_later);
     }) in

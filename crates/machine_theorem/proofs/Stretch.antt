@@ -1,11 +1,10 @@
 -- A stretch of a run that begins at rest and in which the guest keeps to the standard: what is counted over it, and where a bit falls behind it.
-use Rattle.std.proofs.Common.{◌≡◌, ℕ, ◌+◌, ◌<◌, ◌≤◌, ◌&&◌, Bool, true, false, not, List, [], ◌∷◌, ◌++◌, append_assoc, length, map, Some, refl, sym, ap, subst, ◌∙◌, arith, All}
+use Rattle.std.proofs.Common.{◌≡◌, ℕ, ◌+◌, ◌<◌, ◌≤◌, ◌&&◌, Bool, true, false, not, List, [], ◌∷◌, ◌++◌, append_assoc, length, map, Some, refl, sym, ap}
+use Rattle.std.proofs.Common.{subst, ◌∙◌, arith}
 use Rattle.std.specs.Prelude.{if◌then◌else◌}
 use Rattle.std.specs.List.{flat_map}
 use Rattle.std.proofs.lemmas.List.{length-append}
-use Rattle.std.proofs.lemmas.List.Elements.{All-append, All-nil}
 use Rattle.fis_view.specs.Frames.{Stamped}
-use Rattle.multiplier.specs.Passing.{of_conn}
 use Rattle.fan_out.specs.declared.fan_out.FanOut.{FanOut}
 use Rattle.slots.specs.Slots.{Issue, has_bit, holds, is_queued_issue, issue_at}
 use Rattle.ahci_registers.specs.declared.register.Register.TheVariants.{PxSact}
@@ -24,7 +23,7 @@ use Rattle.machine_laws.specs.ControllerLaws.{OpensSo, RunsRuled, calls_in}
 use Rattle.machine_laws.specs.Controllers.{GathersDue, deed_calls}
 use Rattle.machine_laws.specs.Deeds.{Deed, Does, Moved}
 use Rattle.machine_laws.specs.Falling.{AllLast, HasLink, heard_by, sent_in}
-use Rattle.machine_laws.specs.Rising.{Frames, HaveRisen, frames_after, frames_in, is_multiplier, no_frames, on_way}
+use Rattle.machine_laws.specs.Rising.{Frames, HaveRisen, frames_in, is_multiplier, no_frames, untaken}
 use Rattle.machine_theorem.specs.Given.{IsWhole}
 use Rattle.machine_theorem.specs.Identity.{AllKeep, IsAtRest, IsThere, asked_of, asks_of, calls_of, heard_as, is_for, own_of, picks}
 use Rattle.machine_theorem.specs.Orders.{fallen_in, is_fallen, is_queued_of, is_sent_of, ordered_in, standing_in}
@@ -34,12 +33,13 @@ use Rattle.machine_theorem.proofs.Cut.{Cut}
 use Rattle.machine_theorem.proofs.EndsFew.{sent_few, sent_of}
 use Rattle.machine_theorem.proofs.Fallen.{heard_is, heard_within}
 use Rattle.machine_theorem.proofs.Falls.{named_by, told_now}
-use Rattle.machine_theorem.proofs.FallsFew.{IsStraight, came_of, falls_few, straight_all, taken_names}
+use Rattle.machine_theorem.proofs.FallsFew.{came_of, falls_few, taken_names}
 use Rattle.machine_theorem.proofs.Ordered.{first_ruled}
 use Rattle.machine_theorem.proofs.Own.{last_ruled}
-use Rattle.machine_theorem.proofs.Risen.{came_few, names_of}
+use Rattle.machine_theorem.proofs.OwnPlace.{untaken_is}
+use Rattle.machine_theorem.proofs.Risen.{Begins, came_few, names_of, names_tag}
 use Rattle.machine_theorem.proofs.TagCounts.{Counted, counted}
-use Rattle.machine_theorem.proofs.TheSlots.{Laws, falls_ended, frames_are, goes_on, none_picked, none_straight, once_least}
+use Rattle.machine_theorem.proofs.TheSlots.{Laws, begins, falls_ended, goes_on, once_least}
 use Rattle.machine_theorem.proofs.Within.{Within, fewer, picks_both, within_picks}
 
 -- ---- what led to a stretch, and then it
@@ -213,12 +213,6 @@ last_there : (many : Bool) (n tag : ℕ) (deeds : List Deed) (old now : MachineS
 last_there many n tag [] old now run keeps = subst (IsThere many n) (sym run.1) keeps
 last_there many n tag (deed ∷ later) old now run keeps = last_there many n tag later run.1.0 now run.1.2 keeps.1
 
-straight_run : (many : Bool) (n tag : ℕ) (deeds : List Deed) (old now : MachineState) (run : RunsRuled old deeds now) → AllKeep many n tag old deeds now run → All (IsStraight many tag) (sent_of old deeds now run)
-straight_run many n tag [] old now run keeps = All-nil (IsStraight many tag)
-straight_run many n tag (deed ∷ later) old now run keeps =
-    All-append (IsStraight many tag) _ (sent_of run.1.0 later now run.1.2) (straight_all many n tag old deed run.1.0 run.1.1 keeps.0.end)
-    (straight_run many n tag later run.1.0 now run.1.2 keeps.1)
-
 three : (a b c : Bool) → a ≡ true → b ≡ false → c ≡ true → (a && not b && c) ≡ true
 three true false c e f g = g
 three true true c e f g = absurd (cc)
@@ -228,27 +222,48 @@ and_both : (a b : Bool) → a ≡ true → b ≡ true → (a && b) ≡ true
 and_both true b e f = f
 and_both false b e f = absurd (cc)
 
--- the frames since the link was reset, and with the FIS that is taken
+-- the frames since the link was reset
 abbrev pub was_frames : Stretch → Frames
 was_frames s = frames_in no_frames s.old s.before s.at s.first
 
 abbrev pub all_frames : Stretch → Frames
 all_frames s = frames_in (was_frames s) s.at s.deeds s.now s.run
 
+pub risen_at : Laws → (s : Stretch) → HaveRisen s.at (was_frames s)
+risen_at laws s = laws.facts.falls.rising s.old s.before s.at s.first no_frames (laws.facts.falls.opens_rising s.ports s.legacy s.old s.opening)
+
+pub risen_now : Laws → (s : Stretch) → HaveRisen s.now (all_frames s)
+risen_now laws s = laws.facts.falls.rising s.at s.deeds s.now s.run (was_frames s) (risen_at laws s)
+
+-- what was sent in it, and what came in it
+abbrev pub sends : Stretch → List Stamped
+sends s = sent_of s.at s.deeds s.now s.run
+
+abbrev pub comes : Stretch → List Stamped
+comes s = came_of s.at s.deeds s.now s.run
+
+-- What came, and then what the controller is to take next, is a beginning of what was sent, as far as it names the tag.
+pub came_begins : Laws → (s : Stretch) (c : ℕ) → Begins (names_tag s.tag) s.n c (comes s ++ untaken s.now) (sends s)
+came_begins laws s c =
+    begins laws.order laws.over s.n c s.tag s.below s.at (was_frames s) (risen_at laws s) (s.rest.up c) s.deeds s.now s.run s.linked (risen_now laws s)
+
 abbrev pub names : Stretch → Stamped → Bool
 names s = names_of s.n s.tag
 
+-- each bit of the slot that fell in it fell by one that came
+pub fell_few : Laws → (s : Stretch) → falls s ≤ length (picks (names s) (comes s))
+fell_few laws s =
+    falls_few laws.facts s.many s.n s.tag s.low s.ports s.legacy s.old s.opening s.before s.at s.first (was_frames s) (risen_at laws s)
+    s.deeds s.now s.run s.keeps
+
 pub record Falls (s : Stretch) (f : Fall s) : Type 0 where
-  pub risen : HaveRisen f.new (frames_after (all_frames s) s.now (Moved (act.Takes f.took)) f.new f.does)
-  pub sent_is : (all_frames s).sent ≡ (was_frames s).sent ++ sent_of s.at s.deeds s.now s.run
   pub named : names s f.does.does.frame ≡ true
-  pub few : 1 + falls s ≤ length (picks (names s) ((all_frames s).came ++ f.does.does.frame ∷ []))
-  pub order : (c : ℕ) → (more : List Stamped) × (of_conn s.n c ((all_frames s).came ++ f.does.does.frame ∷ []) ++ more ≡ of_conn s.n c ((all_frames s).sent ++ []))
+  pub few : 1 + falls s ≤ length (picks (names s) (comes s ++ f.does.does.frame ∷ []))
+  pub order : (c : ℕ) → Begins (names_tag s.tag) s.n c (comes s ++ f.does.does.frame ∷ []) (sends s)
 
 pub fall_is : (laws : Laws) (s : Stretch) (f : Fall s) → Falls s f
 fall_is laws s f =
     let h = f.does.does in
-    let deed : Deed = Moved (act.Takes f.took) in
     let rules : HasRules s.now = last_ruled s.deeds s.at s.now s.run in
     let there : IsThere s.many s.n s.now = last_there s.many s.n s.tag s.deeds s.at s.now s.run s.keeps in
     let fan = ap (λ (m : MachineState). m.fan) f.does.turns ∙ ap (λ (m : MachineState). m.fan) h.rest in
@@ -261,50 +276,30 @@ fall_is laws s f =
     and_both (is_queued_issue f.issue) (own s f.issue.dev) (ap (holds is_queued_issue) (sym f.is ∙ named.is) ∙ named.queued) f.mine in
     let fallen : is_fallen (own s) s.tag s.now.controller f.new.controller ≡ true =
     three _ _ _ f.shows f.hides (ap (holds (is_queued_of (own s))) f.is ∙ mine) in
-    let then' : Frames = was_frames s in
-    let all : Frames = all_frames s in
-    let was : HaveRisen s.at then' = laws.facts.falls.rising s.old s.before s.at s.first no_frames (laws.facts.falls.opens_rising s.ports s.legacy s.old s.opening) in
-    let is : HaveRisen s.now all = laws.facts.falls.rising s.at s.deeds s.now s.run then' was in
-    let are = frames_are s.deeds s.at s.now s.run then' s.linked in
-    let begun : All (IsStraight s.many s.tag) then'.sent = none_straight s.many s.tag then'.sent s.rest.up in
-    let straight : All (IsStraight s.many s.tag) all.sent =
-    subst (All (IsStraight s.many s.tag)) (sym are.sent_is) (All-append (IsStraight s.many s.tag) then'.sent (sent_of s.at s.deeds s.now s.run) begun (straight_run s.many s.n s.tag s.deeds s.at s.now s.run s.keeps)) in
     let names_it : names s h.frame ≡ true =
-    taken_names laws.facts s.many s.n s.tag s.low s.ports s.legacy s.old s.opening past s.now whole.all f.took f.new f.does rules f.rules there_new all is straight fallen in
-    let risen : HaveRisen f.new (frames_after all s.now deed f.new f.does) = laws.facts.falls.rising s.now (deed ∷ []) f.new (rules, (f.new, f.does, (f.rules, refl))) all is in
+    taken_names laws.facts s.many s.n s.tag s.low s.ports s.legacy s.old s.opening past s.now whole.all f.took f.new f.does rules f.rules there_new
+    (all_frames s) (risen_now laws s) fallen in
     let N : Stamped → Bool = names s in
-    let few = falls_few laws.facts s.many s.n s.tag s.low s.ports s.legacy s.old s.opening s.before s.at s.first then' was begun s.deeds s.now s.run s.keeps in
-    let came : length (picks N all.came) ≡ length (picks N then'.came) + length (picks N (came_of s.at s.deeds s.now s.run)) =
-    ap (λ (l : List Stamped). length (picks N l)) are.came_is ∙ ap (λ (l : List Stamped). length l) (picks_both N then'.came (came_of s.at s.deeds s.now s.run))
-    ∙ length-append (picks N then'.came) (picks N (came_of s.at s.deeds s.now s.run)) in
-    let more : length (picks N (all.came ++ h.frame ∷ [])) ≡ length (picks N all.came) + length (picks N (h.frame ∷ [])) =
-    ap (λ (l : List Stamped). length l) (picks_both N all.came (h.frame ∷ [])) ∙ length-append (picks N all.came) (picks N (h.frame ∷ [])) in
+    let few = fell_few laws s in
+    let more : length (picks N (comes s ++ h.frame ∷ [])) ≡ length (picks N (comes s)) + length (picks N (h.frame ∷ [])) =
+    ap (λ (l : List Stamped). length l) (picks_both N (comes s) (h.frame ∷ [])) ∙ length-append (picks N (comes s)) (picks N (h.frame ∷ [])) in
     let one : length (picks N (h.frame ∷ [])) ≡ 1 = ap (λ (b : Bool). length (if b then h.frame ∷ [] else [])) names_it in
     record {
-      risen = risen;
-      sent_is = are.sent_is;
       named = names_it;
-      few = omega (arith, few, came, more, one);
-      order = λ c. let r = laws.order f.new (frames_after all s.now deed f.new f.does) risen s.n c s.below in
-          (on_way s.n c f.new ++ r.dropped, sym (append_assoc (of_conn s.n c (all.came ++ h.frame ∷ [])) (on_way s.n c f.new) r.dropped) ∙ r.order);
+      few = omega (arith, few, more, one);
+      order = λ c.
+          subst (λ (l : List Stamped). Begins (names_tag s.tag) s.n c (comes s ++ l) (sends s)) (untaken_is s.now h.frame h.once h.on) (came_begins laws s c);
     }
 
 -- as many came as the disk ended commands
 pub record AllEnded (s : Stretch) (f : Fall s) : Type 0 where
   pub fallen : 1 + falls s ≤ ended_with s.tag (calls s)
-  pub sent : length (picks (names s) ((all_frames s).sent ++ [])) ≤ ended_with s.tag (calls s)
-  pub came : length (picks (names s) ((all_frames s).came ++ f.does.does.frame ∷ [])) ≤ length (picks (names s) ((all_frames s).sent ++ []))
+  pub sent : length (picks (names s) (sends s)) ≤ ended_with s.tag (calls s)
+  pub came : length (picks (names s) (comes s ++ f.does.does.frame ∷ [])) ≤ length (picks (names s) (sends s))
 
 pub all_ended : (laws : Laws) (s : Stretch) (f : Fall s) → Falls s f → AllEnded s f
 all_ended laws s f h =
-    let N : Stamped → Bool = names s in
-    let then' : Frames = was_frames s in
-    let sent_here : List Stamped = sent_of s.at s.deeds s.now s.run in
     let ends = sent_few laws.only s.many s.n s.tag s.low s.p s.limit laws.falling.disks s.deeds s.at s.now s.run s.keeps s.rest.disk s.rest.there s.base s.same in
-    let none = none_picked s.n s.tag then'.sent s.rest.up in
-    let parts : length (picks N ((all_frames s).sent ++ [])) ≡ (length (picks N then'.sent) + length (picks N sent_here)) + 0 =
-    ap (λ (l : List Stamped). length l) (picks_both N (all_frames s).sent []) ∙ length-append (picks N (all_frames s).sent) []
-    ∙ ap (λ (k : ℕ). k + 0) (ap (λ (l : List Stamped). length (picks N l)) h.sent_is ∙ ap (λ (l : List Stamped). length l) (picks_both N then'.sent sent_here) ∙ length-append (picks N then'.sent) (picks N sent_here)) in
-    let came = came_few s.n s.tag ((all_frames s).came ++ f.does.does.frame ∷ []) ((all_frames s).sent ++ []) h.order in
+    let came = came_few s.n s.tag (comes s ++ f.does.does.frame ∷ []) (sends s) h.order in
     let few = h.few in
-    record { fallen = omega (arith, ends, none, parts, came, few); sent = omega (arith, ends, none, parts); came = came }
+    record { fallen = omega (arith, ends, came, few); sent = ends; came = came }

@@ -1,14 +1,11 @@
 -- The command that a disk has under a tag is the one that stands in the slot of this number: the FISes with the tag, and its ends, are counted on both
 -- sides of the link.
-use Rattle.std.proofs.Common.{◌≡◌, ℕ, ◌+◌, ◌<◌, ◌≤◌, ◌&&◌, Bool, true, false, List, [], ◌∷◌, ◌++◌, length, map, refl, sym, ap, subst, ◌∙◌, arith, append_assoc, All}
-use Rattle.std.specs.Prelude.{◌==◌, if◌then◌else◌}
+use Rattle.std.proofs.Common.{◌≡◌, ℕ, ◌+◌, ◌<◌, ◌≤◌, Bool, true, false, List, [], ◌∷◌, ◌++◌, length, map, refl, sym, ap, subst, ◌∙◌, arith, append_assoc}
+use Rattle.std.specs.Prelude.{if◌then◌else◌}
 use Rattle.std.specs.List.{flat_map}
-use Rattle.std.proofs.lemmas.Bool.{false≢true}
 use Rattle.std.proofs.lemmas.Grind.{flat_map-append}
-use Rattle.std.proofs.lemmas.List.{append-nil, length-append}
-use Rattle.std.proofs.lemmas.List.Elements.{All-cons, All-nil}
+use Rattle.std.proofs.lemmas.List.{append-nil, append_cancel_left}
 use Rattle.fis_view.specs.Frames.{Stamped}
-use Rattle.fis_view.specs.Seen.{seen}
 use Rattle.disk_pages.specs.declared.profile.Profile.{Profile}
 use Rattle.sata_disk.specs.State.{DiskState, commands, is_taken, new_disk}
 use Rattle.sata_disk_books.specs.Ended.{OnlyEndsEnd}
@@ -25,8 +22,9 @@ use Rattle.machine_laws.specs.Controllers.{GathersDue}
 use Rattle.machine_laws.specs.Deeds.{Deed, Powered, Wrote}
 use Rattle.machine_laws.specs.Disks.{DisksGoOn, calls_at}
 use Rattle.machine_laws.specs.Falling.{HasLink, heard_by, resets, sent_in}
-use Rattle.machine_laws.specs.Rising.{FramesRise, Frames, HaveRisen, came_by, frames_in, is_reset, more_frames, no_frames, on_way, sent_by}
-use Rattle.machine_theorem.specs.Identity.{AllKeep, CommandsAreTheSlots, NoneNamed, asked_of, asks_of, calls_of, heard_as, is_for, names_in, own_of, picks}
+use Rattle.machine_laws.specs.Rising.{AreLinked, Frames, FramesAreOver, FramesRise, HaveRisen, RisesInOrder, came_by, frames_in, held_at as held_on}
+use Rattle.machine_laws.specs.Rising.{is_over, is_reset, more_frames, no_frames, on_way, sent_by, untaken}
+use Rattle.machine_theorem.specs.Identity.{AllKeep, CommandsAreTheSlots, NoneNamed, asked_of, asks_of, calls_of, heard_as, is_for, own_of, picks}
 use Rattle.machine_theorem.specs.Orders.{CommandsAreSentOnce, fallen_in, is_sent_of, ordered_in, standing_in}
 use Rattle.machine_theorem.specs.Tags.{ended_with, heard_with, once_if}
 use Rattle.machine_theorem.proofs.Asking as asking
@@ -34,9 +32,10 @@ use Rattle.machine_theorem.proofs.Asking.{all_none, asked_few}
 use Rattle.machine_theorem.proofs.EndsFew.{disk_same, sent_few, sent_of}
 use Rattle.machine_theorem.proofs.Fallen as fallen
 use Rattle.machine_theorem.proofs.Fallen.{heard_is, heard_within, left_there}
-use Rattle.machine_theorem.proofs.FallsFew.{Facts, IsStraight, came_of, falls_few}
+use Rattle.machine_theorem.proofs.FallsFew.{Facts, came_of, falls_few}
 use Rattle.machine_theorem.proofs.Ordered.{first_ruled}
-use Rattle.machine_theorem.proofs.Risen.{came_few, names_of}
+use Rattle.machine_theorem.proofs.Risen.{Begins, came_few, names_tag}
+use Rattle.machine_theorem.proofs.RisenTold.{conn_both}
 use Rattle.machine_theorem.proofs.TagCounts as counts
 use Rattle.machine_theorem.proofs.TagCounts.{Counted, Since, all_heard, counted, under_way_held}
 use Rattle.machine_theorem.proofs.TagKept.{held_at}
@@ -49,6 +48,7 @@ pub record Laws : Type 0 where
   pub data_of : asking.Laws
   pub facts : Facts
   pub order : FramesRise
+  pub over : FramesAreOver
   pub once : CommandsAreSentOnce
 
 -- ---- the disk
@@ -84,6 +84,10 @@ link_same (Wrote offset width value written) e = e
 link_same Powered e = e
 link_same other e = refl
 
+are_linked : (deeds : List Deed) → HasLink deeds → AreLinked deeds
+are_linked [] linked = tt
+are_linked (deed ∷ later) linked = (link_same deed linked.0, are_linked later linked.1)
+
 pub record FramesAre (was now : Frames) (sent came : List Stamped) : Type 0 where
   pub sent_is : now.sent ≡ was.sent ++ sent
   pub came_is : now.came ≡ was.came ++ came
@@ -105,43 +109,121 @@ frames_are (deed ∷ later) old now run was linked =
     by_reset (is_reset deed) was (frames_in was old (deed ∷ later) now run) s c (sent_of mid later now run.1.2) (came_of mid later now run.1.2) (link_same deed linked.0)
     (frames_are later mid now run.1.2 (more_frames (is_reset deed) was s c) linked.1)
 
-pub none_picked : (n tag : ℕ) (frames : List Stamped) → NoneNamed tag frames → length (picks (names_of n tag) frames) ≡ 0
-none_picked n tag [] none = refl
-none_picked n tag (f ∷ later) none =
-    ap (λ (b : Bool). length (if b then f ∷ picks (names_of n tag) later else picks (names_of n tag) later)) (by (f.stamp.port == n) none.0) ∙ none_picked n tag later none.1
-  where
-    by : (b : Bool) → names_in tag (seen f.bytes) ≡ false → (b && names_in tag (seen f.bytes)) ≡ false
-    by true e = e
-    by false e = refl
+-- ---- what comes in a stretch, of what is sent in it
 
-pub none_straight : (many : Bool) (tag : ℕ) (frames : List Stamped) → NoneNamed tag frames → All (IsStraight many tag) frames
-none_straight many tag [] none = All-nil (IsStraight many tag)
-none_straight many tag (f ∷ later) none =
-    All-cons (IsStraight many tag) f later (λ names straight. absurd (false≢true (sym none.0 ∙ names))) (none_straight many tag later none.1)
+none_names : (tag : ℕ) (frames : List Stamped) → NoneNamed tag frames → picks (names_tag tag) frames ≡ []
+none_names tag [] none = refl
+none_names tag (f ∷ later) none =
+    ap (λ (b : Bool). if b then f ∷ picks (names_tag tag) later else picks (names_tag tag) later) none.0 ∙ none_names tag later none.1
+
+pub none_first : (xs ys : List Stamped) → xs ++ ys ≡ [] → xs ≡ []
+none_first [] ys e = refl
+none_first (x ∷ xs) ys e = absurd (cc)
+
+-- if none that waits passes a test, those that come next and pass it are a beginning of those that are sent next and pass it
+cut_same : (q : Stamped → Bool) (was way sent x rest y : List Stamped) → was ++ way ≡ sent → was ++ (x ++ rest) ≡ sent ++ y → picks q way ≡ []
+    → picks q x ++ picks q rest ≡ picks q y
+cut_same q was way sent x rest y first last none =
+    let both : x ++ rest ≡ way ++ y =
+    append_cancel_left was (x ++ rest) (way ++ y) (last ∙ ap (λ (l : List Stamped). l ++ y) (sym first) ∙ append_assoc was way y) in
+    sym (picks_both q x rest) ∙ ap (picks q) both ∙ picks_both q way y ∙ ap (λ (l : List Stamped). l ++ picks q y) none
+
+-- what came first is a beginning, too
+pub begins_first : (q : Stamped → Bool) (n c : ℕ) (came next sent : List Stamped) → Begins q n c (came ++ next) sent → Begins q n c came sent
+begins_first q n c came next sent it =
+    let both : picks q (of_conn n c came) ++ picks q (of_conn n c next) ≡ picks q (of_conn n c (came ++ next)) =
+    sym (picks_both q (of_conn n c came) (of_conn n c next)) ∙ ap (picks q) (sym (conn_both n c came next)) in
+    record {
+      more = picks q (of_conn n c next) ++ it.more;
+      is = sym (append_assoc (picks q (of_conn n c came)) (picks q (of_conn n c next)) it.more) ∙ ap (λ (l : List Stamped). l ++ it.more) both ∙ it.is;
+    }
+
+module _ (n c tag : ℕ) (at : MachineState) (was : Frames) (deeds : List Deed) (now : MachineState) (run : RunsRuled at deeds now) (linked : HasLink deeds)
+    (none : NoneNamed tag (on_way n c at)) where
+  abbrev frames_now : Frames
+  frames_now = frames_in was at deeds now run
+
+  abbrev came_here : List Stamped
+  came_here = came_of at deeds now run
+
+  abbrev sent_here : List Stamped
+  sent_here = sent_of at deeds now run
+
+  frames_here : FramesAre was frames_now sent_here came_here
+  frames_here = frames_are deeds at now run was linked
+
+  none_way : picks (names_tag tag) (of_conn n c (untaken at)) ++ picks (names_tag tag) (held_on n c at.fan) ≡ []
+  none_way = sym (picks_both (names_tag tag) (of_conn n c (untaken at)) (held_on n c at.fan)) ∙ none_names tag (on_way n c at) none
+
+  came_is : of_conn n c frames_now.came ≡ of_conn n c was.came ++ of_conn n c came_here
+  came_is = ap (of_conn n c) frames_here.came_is ∙ conn_both n c was.came came_here
+
+  -- of a connection that is over only what had left its port
+  of_over : of_conn n c frames_now.came ++ of_conn n c (untaken now) ≡ of_conn n c was.came ++ of_conn n c (untaken at)
+      → Begins (names_tag tag) n c (came_here ++ untaken now) sent_here
+  of_over over =
+      let same : of_conn n c came_here ++ of_conn n c (untaken now) ≡ of_conn n c (untaken at) =
+      append_cancel_left (of_conn n c was.came) _ _
+      (sym (append_assoc (of_conn n c was.came) (of_conn n c came_here) (of_conn n c (untaken now)))
+      ∙ ap (λ (l : List Stamped). l ++ of_conn n c (untaken now)) (sym came_is) ∙ over) in
+      let no : picks (names_tag tag) (of_conn n c (came_here ++ untaken now)) ≡ [] =
+      ap (picks (names_tag tag)) (conn_both n c came_here (untaken now) ∙ same) ∙ none_first _ _ none_way in
+      record { more = picks (names_tag tag) (of_conn n c sent_here); is = ap (λ (l : List Stamped). l ++ picks (names_tag tag) (of_conn n c sent_here)) no }
+
+  -- of one that lasts what was sent, in order
+  of_lasting : RisesInOrder at was n c → is_over at.fan n c ≡ false → RisesInOrder now frames_now n c
+      → Begins (names_tag tag) n c (came_here ++ untaken now) sent_here
+  of_lasting first lasts last =
+      let A : List Stamped = of_conn n c was.came in
+      let X : List Stamped = of_conn n c came_here in
+      let U : List Stamped = of_conn n c (untaken now) in
+      let D : List Stamped = held_on n c now.fan ++ last.dropped in
+      let Y : List Stamped = of_conn n c sent_here in
+      let whole : A ++ on_way n c at ≡ of_conn n c was.sent =
+      sym (append-nil (A ++ on_way n c at)) ∙ ap (λ (l : List Stamped). (A ++ on_way n c at) ++ l) (sym (first.whole lasts)) ∙ first.order in
+      let order : A ++ (of_conn n c (came_here ++ untaken now) ++ D) ≡ of_conn n c was.sent ++ Y =
+      ap (λ (l : List Stamped). A ++ (l ++ D)) (conn_both n c came_here (untaken now)) ∙ ap (λ (l : List Stamped). A ++ l) (append_assoc X U D)
+      ∙ sym (append_assoc A X (U ++ D)) ∙ ap (λ (l : List Stamped). l ++ (U ++ D)) (sym came_is)
+      ∙ ap (λ (l : List Stamped). of_conn n c frames_now.came ++ l) (sym (append_assoc U (held_on n c now.fan) last.dropped))
+      ∙ sym (append_assoc (of_conn n c frames_now.came) (on_way n c now) last.dropped) ∙ last.order
+      ∙ ap (of_conn n c) frames_here.sent_is ∙ conn_both n c was.sent sent_here in
+      let clear = none_names tag (on_way n c at) none in
+      record {
+        more = picks (names_tag tag) D;
+        is = cut_same (names_tag tag) A (on_way n c at) (of_conn n c was.sent) (of_conn n c (came_here ++ untaken now)) D Y whole order clear;
+      }
+
+-- Where no FIS that names the tag is on its way, those that come from there on, and the one that the controller is to take next, are of each
+-- connection a beginning of those that are sent from there on.
+pub begins : FramesRise → FramesAreOver → (n c tag : ℕ) → n < 15 → (at : MachineState) (was : Frames) → HaveRisen at was → NoneNamed tag (on_way n c at)
+    → (deeds : List Deed) (now : MachineState) (run : RunsRuled at deeds now) → HasLink deeds → HaveRisen now (frames_in was at deeds now run)
+    → Begins (names_tag tag) n c (came_of at deeds now run ++ untaken now) (sent_of at deeds now run)
+begins order over n c tag low at was risen none deeds now run linked risen_now = by (is_over at.fan n c) refl
+  where
+    by : (b : Bool) → is_over at.fan n c ≡ b → Begins (names_tag tag) n c (came_of at deeds now run ++ untaken now) (sent_of at deeds now run)
+    by true is = of_over n c tag at was deeds now run linked none (over at deeds now run was risen (are_linked deeds linked) n c low is)
+    by false is =
+        of_lasting n c tag at was deeds now run linked none (order at was risen n c low) is (order now (frames_in was at deeds now run) risen_now n c low)
 
 -- ---- as many bits fall as the disk ended commands
 
 pub falls_ended : (laws : Laws) (ports : ℕ) (legacy : Bool) (old : MachineState) → IsOpeningMachine ports legacy old → (before : List Deed) (at : MachineState) (first : RunsRuled old before at)
-    → (many : Bool) (n tag : ℕ) → n < 15 → tag < 32 → NoneNamed tag (frames_in no_frames old before at first).sent
+    → (many : Bool) (n tag : ℕ) → n < 15 → tag < 32 → ((c : ℕ) → NoneNamed tag (on_way n c at))
     → (deeds : List Deed) (now : MachineState) (run : RunsRuled at deeds now) → HasLink deeds → AllKeep many n tag at deeds now run
     → (p : Profile) (limit : ℕ) (base : List Call) (d : DiskState) → (bay_at at n).unit ≡ Disk d → d ≡ reached p limit base
     → fallen_in (own_of many n) tag at deeds now run ≤ ended_with tag (calls_of n at deeds now run)
 falls_ended laws ports legacy old opening before at first many n tag below low up deeds now run linked keeps p limit base d unit same =
     let then' : Frames = frames_in no_frames old before at first in
-    let all : Frames = frames_in then' at deeds now run in
     let was : HaveRisen at then' = laws.facts.falls.rising old before at first no_frames (laws.facts.falls.opens_rising ports legacy old opening) in
-    let is : HaveRisen now all = laws.facts.falls.rising at deeds now run then' was in
-    let are = frames_are deeds at now run then' linked in
-    let N : Stamped → Bool = names_of n tag in
-    let falls = falls_few laws.facts many n tag low ports legacy old opening before at first then' was (none_straight many tag then'.sent up) deeds now run keeps in
-    let came : length (picks N all.came) ≡ length (picks N then'.came) + length (picks N (came_of at deeds now run)) =
-    ap (λ (l : List Stamped). length (picks N l)) are.came_is ∙ ap (λ (l : List Stamped). length l) (picks_both N then'.came (came_of at deeds now run)) ∙ length-append (picks N then'.came) (picks N (came_of at deeds now run)) in
-    let sent : length (picks N all.sent) ≡ length (picks N then'.sent) + length (picks N (sent_of at deeds now run)) =
-    ap (λ (l : List Stamped). length (picks N l)) are.sent_is ∙ ap (λ (l : List Stamped). length l) (picks_both N then'.sent (sent_of at deeds now run)) ∙ length-append (picks N then'.sent) (picks N (sent_of at deeds now run)) in
-    let none = none_picked n tag then'.sent up in
-    let risen = came_few n tag all.came all.sent (λ c. let r = laws.order now all is n c below in (on_way n c now ++ r.dropped, sym (append_assoc (of_conn n c all.came) (on_way n c now) r.dropped) ∙ r.order)) in
+    let is : HaveRisen now (frames_in then' at deeds now run) = laws.facts.falls.rising at deeds now run then' was in
+    let came : List Stamped = came_of at deeds now run in
+    let falls = falls_few laws.facts many n tag low ports legacy old opening before at first then' was deeds now run keeps in
+    let sent : List Stamped = sent_of at deeds now run in
+    let risen =
+    came_few n tag came sent
+    (λ c. begins_first (names_tag tag) n c came (untaken now) sent (begins laws.order laws.over n c tag below at then' was (up c) deeds now run linked is)) in
     let ends = sent_few laws.only many n tag low p limit laws.falling.disks deeds at now run keeps d unit base same in
-    omega (arith, falls, came, sent, none, risen, ends)
+    omega (arith, falls, risen, ends)
 
 -- ---- the command
 

@@ -32,7 +32,7 @@ use Rattle.machine_laws.specs.Controllers.{deed_calls}
 use Rattle.machine_laws.specs.Deeds.{Deed, Put, Removed, Wrote}
 use Rattle.machine_laws.specs.Disks.{calls_at}
 use Rattle.machine_laws.specs.Falling.{AllLast, HasLink, heard_by, leaving, sent_in, way_to}
-use Rattle.machine_laws.specs.Rising.{frames_in, is_multiplier, no_frames}
+use Rattle.machine_laws.specs.Rising.{is_multiplier, on_way}
 use Rattle.machine_theorem.specs.Orders.{is_fallen, is_ordered, standing_in}
 use Rattle.machine_theorem.specs.Tags.{asks_with}
 
@@ -76,15 +76,15 @@ NoneNamed tag (f ∷ later) = NamesNo tag f × NoneNamed tag later
 
 -- ---- the beginning of a stretch
 
--- A disk is at a port, and has no command under the tag; nothing is on its way to it. Since the link was reset no end with the tag was sent, and no
--- command that was sent to the disk stands in the slot of this number.
+-- A disk is at a port, and has no command under the tag; nothing is on its way to it. No FIS of this port that names the tag is on its way to the
+-- controller, of whatever connection, and no command that was sent to the disk stands in the slot of this number. Whatever was before.
 pub record IsAtRest (many : Bool) (n tag : ℕ) (old : MachineState) (before : List Deed) (at : MachineState) (first : RunsRuled old before at) : Type 0 where
   pub disk : DiskState
   pub there : (bay_at at n).unit ≡ Disk disk
   pub free : is_taken (commands disk) tag ≡ false
   pub leaving : leaving at ≡ []
   pub down : way_to at n ≡ []
-  pub up : NoneNamed tag (frames_in no_frames old before at first).sent
+  pub up : (c : ℕ) → NoneNamed tag (on_way n c at)
   pub slot : standing_in (own_of many n) tag at.controller ≡ 0
 
 -- ---- what the guest keeps to, and what stays as it is

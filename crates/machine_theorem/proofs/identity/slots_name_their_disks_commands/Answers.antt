@@ -34,6 +34,7 @@ returns c =
       };
       facts = record { falls = ends; others = c.ends_come_from_devices.ensures.others };
       order = c.frames_rise_in_order.ensures.order;
+      over = c.frames_rise_in_order.ensures.over;
       once = c.commands_are_sent_once.ensures;
     } in
     commands_are laws
