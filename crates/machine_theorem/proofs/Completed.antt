@@ -100,7 +100,7 @@ kinds s other past w h plain = absurd (false≢true h)
 
 -- ---- the history of the slot's device
 
-transfer_of : (o : Option Transfer) (w : Work) → option_map work_of_transfer o ≡ Some w → (t : Transfer) × ((o ≡ Some t) × (t.work ≡ w))
+pub transfer_of : (o : Option Transfer) (w : Work) → option_map work_of_transfer o ≡ Some w → (t : Transfer) × ((o ≡ Some t) × (t.work ≡ w))
 transfer_of None w h = absurd (cc)
 transfer_of (Some t) w h = (t, (refl, ap (λ (x : Option Work). match_some x w (λ y. y)) h))
 

@@ -10,8 +10,10 @@ use Rattle.machine_laws.specs.Deeds.{Deed, Does}
 use Rattle.machine_laws.specs.Disks.{calls_at}
 use Rattle.machine_laws.specs.Falling.{AllLast, HasLink, Lasts}
 use Rattle.machine_laws.specs.Rising.{sent_by}
+use Rattle.machine_theorem.specs.Brought.{AllTakenWell, TakesWell}
 use Rattle.machine_theorem.specs.Identity.{AllKeep, Keeps, calls_of}
 use Rattle.machine_theorem.specs.Orders.{are_ordered, fallen_in, is_fallen, ordered_in}
+use Rattle.machine_theorem.specs.OwnSlots.{AllKeepLine, KeepsLine}
 use Rattle.machine_theorem.specs.Tags.{once_if}
 use Rattle.machine_theorem.proofs.EndsFew.{sent_of}
 
@@ -35,6 +37,9 @@ pub record Cut (deed : Deed) (at : MachineState) (deeds : List Deed) (now : Mach
       → AllKeep many n tag at sooner mid led × Keeps many n tag mid deed next (deed_calls mid deed next does) × AllKeep many n tag next later now rest
   pub lasts : (n : ℕ) → AllLast n at deeds now run → AllLast n at sooner mid led × Lasts mid deed next n × AllLast n next later now rest
   pub links : HasLink deeds → HasLink sooner × HasLink later
+  pub line : (many : Bool) (n c dev : ℕ) → AllKeepLine many n c dev at deeds now run
+      → AllKeepLine many n c dev at sooner mid led × KeepsLine many n c dev mid deed next does × AllKeepLine many n c dev next later now rest
+  pub taken : (dev : ℕ) → AllTakenWell dev at deeds now run → AllTakenWell dev at sooner mid led × TakesWell dev mid deed next does × AllTakenWell dev next later now rest
 
 -- at its first deed
 unfoldable pub cut_here : (deed : Deed) (later : List Deed) (at now : MachineState) (run : RunsRuled at (deed ∷ later) now) → Cut deed at (deed ∷ later) now run
@@ -55,6 +60,8 @@ cut_here deed later at now run = record {
   keeps = λ many n tag k. (k.0.end, k.0, k.1);
   lasts = λ n l. (tt, l.0, l.1);
   links = λ l. (tt, l.1);
+  line = λ many n c dev k. (k.0.end, k.0, k.1);
+  taken = λ dev w. (tt, w.0, w.1);
 }
 
 -- or at a later one
@@ -82,6 +89,8 @@ cut_more it deed later at now run c =
       keeps = λ many n tag k. let r = c.keeps many n tag k.1 in ((k.0, r.0), r.1, r.2);
       lasts = λ n l. let r = c.lasts n l.1 in ((l.0, r.0), r.1, r.2);
       links = λ l. let r = c.links l.1 in ((l.0, r.0), r.1);
+      line = λ many n c' dev k. let r = c.line many n c' dev k.1 in ((k.0, r.0), r.1, r.2);
+      taken = λ dev w. let r = c.taken dev w.1 in ((w.0, r.0), r.1, r.2);
     }
 
 -- ---- the last deed that counts

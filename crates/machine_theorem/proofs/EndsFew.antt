@@ -93,7 +93,7 @@ if_few : (b : Bool) (f : Stamped) (n : ℕ) → (b ≡ true → n ≡ 1) → len
 if_few true f n one = let is = one refl in omega (arith, is)
 if_few false f n one = omega arith
 
-own_not : (u : Inside) (d : DiskState) → u ≡ Disk d → is_own u ≡ true → ⊥
+pub own_not : (u : Inside) (d : DiskState) → u ≡ Disk d → is_own u ≡ true → ⊥
 own_not u d is own = false≢true (sym (ap is_own is) ∙ own)
 
 -- what the devices send by these deeds

@@ -11,13 +11,14 @@ use Rattle.block_disk.specs.Table.{is_under_way}
 use Rattle.block_queue.specs.Line.{command_at}
 use Rattle.hba_laws.proofs.Door.{held}
 use Rattle.sata_disk.specs.Sending.{IsOut, part_at}
-use Rattle.sata_disk.specs.State.{DiskState, commands, is_taken, new_disk}
+use Rattle.sata_disk.specs.State.{DiskState, commands, new_disk}
+use Rattle.sata_disk.specs.declared.out.Out.{Out}
 use Rattle.sata_disk.specs.declared.out.Out.TheVariants as out
 use Rattle.sata_disk_books.specs.Books as books
 use Rattle.sata_disk_books.specs.Books.{AreNext, AreOfPage, page_in}
 use Rattle.sata_disk_laws.specs.Calls.{AreCalls, Call, Sends}
 use Rattle.sata_disk_laws.specs.Laws.{reached}
-use Rattle.sata_disk_laws.specs.Once.{Host, IsDataAt, IsQueued, host_of, new_host}
+use Rattle.sata_disk_laws.specs.Once.{Host, IsDataAt, IsOutDue, IsQueued, host_of, new_host}
 use Rattle.sata_disk_laws.proofs.Door.{calls_both}
 use Rattle.ahci_machine.specs.States.{MachineState, bay_at}
 use Rattle.ahci_machine.specs.declared.act.Act.TheVariants as act
@@ -29,7 +30,7 @@ use Rattle.machine_theorem.specs.Given.{CommandsAreGiven, DataAreGiven, IsGiven,
 use Rattle.machine_theorem.specs.Orders.{is_sent_of}
 use Rattle.machine_theorem.specs.Tags.{ended_with, heard_with, once_if}
 use Rattle.machine_theorem.proofs.AtOrder.{AtOrder, LastOrder, at_order, last_order}
-use Rattle.machine_theorem.proofs.AtEnd.{is_there}
+use Rattle.machine_theorem.proofs.AtEnd.{IsThere, is_there}
 use Rattle.machine_theorem.proofs.EndsFew.{disk_same}
 use Rattle.machine_theorem.proofs.AsSupplied.{Laws, supplied_at}
 use Rattle.machine_theorem.proofs.Stretch.{Stretch, asked, calls, counts, falls, has_disk, orders, own, stands, was_free, whole_run}
@@ -39,10 +40,10 @@ use Rattle.machine_theorem.proofs.TagPages.{page_same}
 
 -- ---- the command
 
-record Numbers (a o f e : ℕ) : Type 0 where
-  asked : a ≡ e + 1
-  orders : o ≡ e + 1
-  falls : f ≤ e
+pub record Numbers (a o f e : ℕ) : Type 0 where
+  pub asked : a ≡ e + 1
+  pub orders : o ≡ e + 1
+  pub falls : f ≤ e
 
 -- e ended of h that were heard, the last of which is under way
 numbers : (h a o f s e front later : ℕ) → h ≡ front + (1 + later) → e ≤ front → h ≤ a → a ≤ o → o ≤ f + s → s ≤ 1 → f ≤ e → Numbers a o f e
@@ -59,20 +60,26 @@ sent_one s one = by (holds (is_sent_of (own s)) (issue_at s.now.controller.core.
     by true e = refl
     by false e = absurd (let none : stands s ≡ 0 = ap once_if e in omega (arith, none, one))
 
-pub given : Laws → (s : Stretch) (d : DiskState) → (bay_at s.now s.n).unit ≡ Disk d → (m : Moment) → command_at (commands d) s.tag ≡ Some m → is_under_way (Some m) ≡ true
-    → IsGiven s.many s.n s.tag s.old s.before s.at s.first s.deeds s.now s.run s.p s.limit s.base m.command
-given laws s d there m is going =
+-- as a command is under way
+pub counted_now : Laws → (s : Stretch) (d : DiskState) → (bay_at s.now s.n).unit ≡ Disk d → (m : Moment) → command_at (commands d) s.tag ≡ Some m → is_under_way (Some m) ≡ true
+    → Numbers (length (asked s)) (orders s) (falls s) (ended_with s.tag (calls s))
+counted_now laws s d there m is going =
     let disk = has_disk laws.end.slots s in
     let same : d ≡ reached s.p s.limit (s.base ++ calls s) = disk_same d (reached s.p s.limit (s.base ++ calls s)) (sym there ∙ disk.there) in
-    let slots = laws.end.identity s.ports s.legacy s.old s.opening s.before s.at s.first s.many s.n s.tag s.below s.low s.rest s.deeds s.now s.run s.linked s.lasts s.keeps s.p s.limit s.base s.are s.same
-    d there m is going in
     let q : Counted s.p s.limit s.base s.tag (calls s) = counted s.p s.limit s.base s.tag laws.end.slots.tags s.low (calls s) disk.are (was_free s) in
     let held_now = ap (λ (x : DiskState). held_at (commands x) s.tag) (sym same) ∙ under_way_held (commands d) s.tag m is going in
     let since : Since s.p s.limit s.base s.tag (calls s) m.command = q.since m.command held_now in
     let k = counts laws.end.slots s in
+    numbers (heard_with s.tag (calls s)) (length (asked s)) (orders s) (falls s) (stands s) (ended_with s.tag (calls s)) (heard_with s.tag since.front) (heard_with s.tag since.asked.later)
+    (all_heard s.p s.limit s.base s.tag (calls s) m.command since) since.behind k.heard k.asked k.ordered k.one k.fallen
+
+pub given : Laws → (s : Stretch) (d : DiskState) → (bay_at s.now s.n).unit ≡ Disk d → (m : Moment) → command_at (commands d) s.tag ≡ Some m → is_under_way (Some m) ≡ true
+    → IsGiven s.many s.n s.tag s.old s.before s.at s.first s.deeds s.now s.run s.p s.limit s.base m.command
+given laws s d there m is going =
+    let slots = laws.end.identity s.ports s.legacy s.old s.opening s.before s.at s.first s.many s.n s.tag s.below s.low s.rest s.deeds s.now s.run s.linked s.lasts s.keeps s.p s.limit s.base s.are s.same
+    d there m is going in
     let e : ℕ = ended_with s.tag (calls s) in
-    let n = numbers (heard_with s.tag (calls s)) (length (asked s)) (orders s) (falls s) (stands s) e (heard_with s.tag since.front) (heard_with s.tag since.asked.later)
-    (all_heard s.p s.limit s.base s.tag (calls s) m.command since) since.behind k.heard k.asked k.ordered k.one k.fallen in
+    let n = counted_now laws s d there m is going in
     let some = n.asked in
     let o : LastOrder s = last_order laws.end s (omega (arith, some)) in
     let of : AtOrder s o = at_order laws.end laws.orders s o e n.asked n.orders n.falls in
@@ -114,22 +121,37 @@ each_next old n place d page there next (f ∷ later) all =
     All-cons (λ f. AreNext page.ledger (drop 4 f.bytes)) f later (subst (AreNext page.ledger) (sym part) next)
     (each_next old n place d page there next later (All-tail (CarriesPart old n place) f later all))
 
+-- what the disk sends is of a command that is open
+pub out_due : Laws → (s : Stretch) (o : Out) (new : MachineState) → Does s.now (Moved (act.Speaks s.n o)) new → IsOutDue (host_of new_host (s.base ++ calls s)) o
+out_due laws s o new does =
+    let x : Call = Sends o in
+    let done : List Call = s.base ++ calls s in
+    let d : DiskState = reached s.p s.limit done in
+    let disk = has_disk laws.end.slots s in
+    let on = laws.end.slots.falling.disks s.now (Moved (act.Speaks s.n o)) new does s.n d disk.there refl in
+    let one : calls_at s.now (Moved (act.Speaks s.n o)) s.n ≡ x ∷ [] = ap (λ (b : Bool). if b then x ∷ [] else []) (eq-eqb s.n s.n refl) in
+    let are : AreCalls (new_disk s.p s.limit) (done ++ x ∷ []) = calls_both done (x ∷ []) (new_disk s.p s.limit) disk.are (subst (λ (l : List Call). AreCalls d l) one on.are) in
+    due_at done x new_host (laws.end.slots.tags.single s.p s.limit (done ++ x ∷ []) are)
+
+-- and under way
+pub queued_now : Laws → (s : Stretch) (len : ℕ) (new : MachineState) → Does s.now (Moved (act.Speaks s.n (out.Data s.tag len))) new
+    → IsThere (command_at (commands (reached s.p s.limit (s.base ++ calls s))) s.tag)
+queued_now laws s len new does =
+    let done : List Call = s.base ++ calls s in
+    let due = out_due laws s (out.Data s.tag len) new does in
+    let queued : IsQueued (host_of new_host done) s.tag = queued_by (host_of new_host done) s.tag (nat_lt s.tag 32) refl s.low due in
+    is_there (command_at (commands (reached s.p s.limit done)) s.tag)
+    ((laws.end.slots.tags.under_way s.p s.limit done (has_disk laws.end.slots s).are).queued s.tag s.low queued.2 ∙ queued.1)
+
 pub given_data : Laws → books.DataAreGiven → DataCarryParts → (s : Stretch) (len : ℕ) (new : MachineState) (does : Does s.now (Moved (act.Speaks s.n (out.Data s.tag len))) new)
     → IsGivenData s.many s.n s.tag len s.old s.before s.at s.first s.deeds s.now s.run s.p s.limit s.base new does
 given_data laws law carry s len new does =
     let h = does.does.does.1 in
-    let x : Call = Sends (out.Data s.tag len) in
     let done : List Call = s.base ++ calls s in
     let d : DiskState = reached s.p s.limit done in
     let disk = has_disk laws.end.slots s in
     let same : h.disk ≡ d = disk_same h.disk d (sym h.there ∙ disk.there) in
-    let on = laws.end.slots.falling.disks s.now (Moved (act.Speaks s.n (out.Data s.tag len))) new does s.n d disk.there refl in
-    let one : calls_at s.now (Moved (act.Speaks s.n (out.Data s.tag len))) s.n ≡ x ∷ [] = ap (λ (b : Bool). if b then x ∷ [] else []) (eq-eqb s.n s.n refl) in
-    let are : AreCalls (new_disk s.p s.limit) (done ++ x ∷ []) = calls_both done (x ∷ []) (new_disk s.p s.limit) disk.are (subst (AreCalls d) one on.are) in
-    let due = due_at done x new_host (laws.end.slots.tags.single s.p s.limit (done ++ x ∷ []) are) in
-    let queued : IsQueued (host_of new_host done) s.tag = queued_by (host_of new_host done) s.tag (nat_lt s.tag 32) refl s.low due in
-    let was : is_taken (commands d) s.tag ≡ true = (laws.end.slots.tags.under_way s.p s.limit done disk.are).queued s.tag s.low queued.2 ∙ queued.1 in
-    let it = is_there (command_at (commands d) s.tag) was in
+    let it = queued_now laws s len new does in
     let p = has_next (page_in s.p s.limit done s.tag) (part_at (command_at (commands d) s.tag))
     (law s.p s.limit done s.tag len disk.are (subst (λ (x : DiskState). IsOut x (Some (out.Data s.tag len))) same h.next)) in
     let command = page_same s.p s.limit done s.tag it.moment.command p.page (under_way_held (commands d) s.tag it.moment it.is it.going) p.is in

@@ -37,11 +37,11 @@ use Rattle.ahci_controller.specs.Taking.{CoreHearsIf, is_overflow, part_in, part
 use Rattle.ahci_controller.specs.declared.taking.Took.{Took}
 use Rattle.controller_laws.specs.Events.{Takes}
 
-abbrev is_payload : Fis → Bool
+abbrev pub is_payload : Fis → Bool
 is_payload (view.Payload f) = true
 is_payload other = false
 
-abbrev BringsNone : Heard → Type 0
+abbrev pub BringsNone : Heard → Type 0
 BringsNone h = wrote_by h.happening ≡ None
 
 module _ (own : DeviceSlots) (state : DeviceState) where
@@ -75,7 +75,7 @@ module _ (own : DeviceSlots) (state : DeviceState) where
   activate true = refl
   activate false = refl
 
-fis_none : (own : DeviceSlots) (state : DeviceState) (sound : Bool) (fis : Fis) → is_payload fis ≡ false → BringsNone (heard_fis own state sound fis)
+pub fis_none : (own : DeviceSlots) (state : DeviceState) (sound : Bool) (fis : Fis) → is_payload fis ≡ false → BringsNone (heard_fis own state sound fis)
 unfolding heard_fis
 fis_none own state sound (view.RegD2H f) other = register own state (field table.D2h table.Status f) (field table.D2h table.Error f) state.resetting
 fis_none own state sound (view.SetBits f) other = bits own state (field table.Bits table.Status f) (field table.Bits table.Error f) (field table.Bits table.SActive f) (is_error (field table.Bits table.Status f))

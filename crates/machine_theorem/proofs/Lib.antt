@@ -61,3 +61,13 @@ mod SentFises
 mod OwnPlace
 mod WasTaken
 mod ReadsOwn
+mod FilledHistory
+mod FilledCores
+mod FilledFrames
+mod FilledCalls
+mod BroughtAt
+mod TakenWell
+mod FallsBehind
+mod BroughtRead
+mod HostShut
+mod CompletedReads

@@ -137,7 +137,7 @@ frames_are (deed ∷ later) old now run was linked =
 -- ---- the moment
 
 -- what is sent by a deed is one FIS at most
-one_sent : (old : MachineState) (deed : Deed) (new : MachineState) (does : Does old deed new) → (sent_by old deed new does ≡ []) ⊎ ((f : Stamped) × (sent_by old deed new does ≡ f ∷ []))
+pub one_sent : (old : MachineState) (deed : Deed) (new : MachineState) (does : Does old deed new) → (sent_by old deed new does ≡ []) ⊎ ((f : Stamped) × (sent_by old deed new does ≡ f ∷ []))
 one_sent old (Moved (act.Speaks k o)) new does = inr (risen old.fan k does.does.does.1.frame, refl)
 one_sent old (Moved a) new does = inl refl
 one_sent old (FrameOffered k frame (Ok x)) new does = inr (risen old.fan k frame, refl)
@@ -350,6 +350,7 @@ module _ (tell : FisesTell) (given : DataAreGiven) (parts : DataCarryParts) (dis
 -- the moment, and what the FISes said that were sent before it
 pub record IsFound (many : Bool) (n c dev : ℕ) (at : MachineState) (deeds : List Deed) (now : MachineState) (run : RunsRuled at deeds now) (f : Stamped) (wrote : Wrote) : Type 0 where
   pub prior : List Stamped
+  pub came : of_conn n c (came_of at deeds now run) ≡ prior
   pub told : told_after None (bytes_of prior) ≡ Some (record { tag = wrote.slot; count = wrote.offset })
   pub found : Found many n c dev at deeds now run prior f
 
@@ -382,7 +383,7 @@ found_at laws ports legacy old opening before at first many n c dev low dev_low 
     let order : InOrder n c came sent f =
     in_order n c at now was all came sent f (laws.order at was risen_at n c low) (laws.order now all risen_now n c low) (frames_are deeds at now run was link) begins.way begins.lasts
     (untaken_is now f h.once h.on) own in
-    record { prior = of_conn n c came; told = told; found = find many n c dev deeds at now run keeps (of_conn n c came) order.rest f order.is }
+    record { prior = of_conn n c came; came = refl; told = told; found = find many n c dev deeds at now run keeps (of_conn n c came) order.rest f order.is }
 
 pub payload_goes : Laws → PayloadGoesToItsOwnSlot
 payload_goes laws ports legacy old opening before at first many n c dev low dev_low begins p limit base are same deeds now run keeps runs well lost took new does own port calm wrote brought issue there kind =

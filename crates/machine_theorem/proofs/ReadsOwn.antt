@@ -48,7 +48,7 @@ module _ (laws : supplied.Laws) (own : places.Laws) (s : Stretch) (c dev : ℕ) 
       → IsGivenData s.many s.n q len s.old s.before s.at s.first found.cut.sooner found.cut.mid found.cut.led s.p s.limit s.base found.cut.next x) (sym tagged) (λ x. data_at len x))
       does
 
-  read_of : (k place len : ℕ) (does : Does found.cut.mid (Moved (act.Speaks k (out.Data place len))) found.cut.next)
+  pub read_of : (k place len : ℕ) (does : Does found.cut.mid (Moved (act.Speaks k (out.Data place len))) found.cut.next)
       → sent_by found.cut.mid (Moved (act.Speaks k (out.Data place len))) found.cut.next does ≡ f ∷ [] → place < 32
       → IsReadOf s.many s.n s.tag s.old s.before s.at s.first found.cut.sooner found.cut.mid found.cut.led s.p s.limit s.base k place len found.cut.next does f wrote
   read_of k place len does sent low =

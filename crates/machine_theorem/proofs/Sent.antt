@@ -96,9 +96,9 @@ one_disk : (d e : DiskState) → Disk d ≡ Disk e → d ≡ e
 one_disk d e is = ap (the_disk d) is
 
 -- its stamp has the port of its device, and if it is a Data FIS, its bytes are these
-record HasOrigin (old : MachineState) (deed : Deed) (f : Stamped) : Type 0 where
-  port : is_multiplier old.fan ≡ true → f.stamp.port ≡ sender deed
-  origin : slice_index f.bytes 0 ≡ 0x46 → Origin old deed (drop 4 f.bytes)
+pub record HasOrigin (old : MachineState) (deed : Deed) (f : Stamped) : Type 0 where
+  pub port : is_multiplier old.fan ≡ true → f.stamp.port ≡ sender deed
+  pub origin : slice_index f.bytes 0 ≡ 0x46 → Origin old deed (drop 4 f.bytes)
 
 pub stamped : (f : FanOut) (n : ℕ) (frame : Stamped) → is_multiplier f ≡ true → (risen f n frame).stamp.port ≡ n
 stamped (Device s) n frame on = absurd (false≢true on)
@@ -176,7 +176,7 @@ moves : Laws → (old : MachineState) (a : Act) (new : MachineState) (does : Doe
 moves laws old (act.Speaks n o) new does = speaks laws old n o new does
 moves laws old other new does = All-nil (HasOrigin old (Moved other))
 
-origins : Laws → (old : MachineState) (deed : Deed) (new : MachineState) (does : Does old deed new)
+pub origins : Laws → (old : MachineState) (deed : Deed) (new : MachineState) (does : Does old deed new)
     → All (HasOrigin old deed) (sent_by old deed new does)
 origins laws old (Moved a) new does = moves laws old a new does
 origins laws old (FrameOffered n frame told) new does = offers old n frame told told

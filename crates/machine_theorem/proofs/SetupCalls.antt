@@ -145,11 +145,11 @@ fed_none : (fed : Fed) (old : ControllerState) (dev : ℕ) (frame : List ℕ) �
 fed_none (fed_answer.Goes message line) old dev frame = (tt, tt)
 fed_none other old dev frame = tt
 
-abbrev IsNoTake : Event → Type 0
+abbrev pub IsNoTake : Event → Type 0
 IsNoTake (call.Took frame took) = ⊥
 IsNoTake e = Unit {0}
 
-call_none : (e : Event) (old new : ControllerState) (does : Does old e new) → IsNoTake e → AreNoFises (of_event old e new does)
+pub call_none : (e : Event) (old new : ControllerState) (does : Does old e new) → IsNoTake e → AreNoFises (of_event old e new does)
 call_none (call.Wrote offset value written) old new does is = write_none (register_at offset) (λ r. value) old
 call_none (call.WroteWide offset width value written) old new does is = wide_none (fits width offset) old offset width value written new does
 call_none (call.Supplied slot number bytes told) old new does is = supply_none slot told new
@@ -171,21 +171,21 @@ pub record Laws : Type 0 where
 told_if : (b c : Bool) (x t : Option Counted) → b ≡ c → (if b then x else t) ≡ (if c then x else t)
 told_if b c x t e = ap (λ k. if k then x else t) e
 
-first_kept : (events : List Event) (old new : ControllerState) → Runs old events new → IsController old
+pub first_kept : (events : List Event) (old new : ControllerState) → Runs old events new → IsController old
 first_kept [] old new run = run.0
 first_kept (e ∷ events) old new run = run.0
 
-greeted_none : (old new : Port) (dev : ℕ) (o : Option (List ℕ)) (report : TakeReport) → Greets old dev o report new → report.wrote ≡ None
+pub greeted_none : (old new : Port) (dev : ℕ) (o : Option (List ℕ)) (report : TakeReport) → Greets old dev o report new → report.wrote ≡ None
 unfolding heard_report
 greeted_none old new dev None report h = ap (λ (r : TakeReport). r.wrote) h.reports
 greeted_none old new dev (Some f) report h = ap (λ (r : TakeReport). r.wrote) h.reports
 
-last_kept : (events : List Event) (old new : ControllerState) → Runs old events new → IsController new
+pub last_kept : (events : List Event) (old new : ControllerState) → Runs old events new → IsController new
 last_kept [] old new run = subst IsController (sym run.1) run.0
 last_kept (e ∷ events) old new run = last_kept events run.1.0 new run.1.2
 
 module _ (laws : Laws) (n : ℕ) (low : n < 16) where
-  core_events : (old new : ControllerState) (e : Event) → IsController old → IsController new → (does : Does old e new) → AreCoreEvents old.core (of_event old e new does) new.core
+  pub core_events : (old new : ControllerState) (e : Event) → IsController old → IsController new → (does : Does old e new) → AreCoreEvents old.core (of_event old e new does) new.core
   core_events old new e k l does =
       subst (λ (events : List CoreEvent). AreCoreEvents old.core events new.core) (append-nil (of_event old e new does))
       (laws.events old new (e ∷ []) (k, (new, does, (l, refl))))

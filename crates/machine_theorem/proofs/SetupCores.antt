@@ -44,7 +44,7 @@ pub match_is : {A : Type 0} (P : A → Type 0) (o : Option A) → MatchOption o 
 match_is P None h = absurd h
 match_is P (Some x) h = (x, (refl, h))
 
-context_is : (n : ℕ) (port : Port) (c : Context) → IsTable port.slots → context_of port.slots n ≡ Some c → IsContext n port.slots c
+pub context_is : (n : ℕ) (port : Port) (c : Context) → IsTable port.slots → context_of port.slots n ≡ Some c → IsContext n port.slots c
 context_is n port c ok e = subst (λ (o : Option Context). MatchOption o (Unit {0}) (IsContext n port.slots)) e (ok.contexts n)
 
 pub way_of : (n : ℕ) (port : Port) → IsTable port.slots → WayIs (view_of n port)
@@ -60,6 +60,15 @@ due_case c false x y e = absurd (cc)
 due_context : (o : Option Context) (y : ℕ × ℕ × ℕ) → payload o ≡ Some y → (c : Context) × ((o ≡ Some c) × (c.activated ≡ true))
 due_context None y e = absurd (cc)
 due_context (Some c) y e = (c, (refl, due_case c c.activated _ y e))
+
+-- no queued read is set up while Data for the device go
+pub fed_none : (n : ℕ) (old : Port) (past : History) → IsTable old.slots → IsTold (view_of n old) past → (dev slot offset len : ℕ) → dev ≡ n
+    → payload (context_of old.slots dev) ≡ Some (slot, offset, len) → NoneUp past
+fed_none n old past ok told dev slot offset len same due =
+    let d = due_context (context_of old.slots n) (slot, offset, len) (ap (λ k. payload (context_of old.slots k)) (sym same) ∙ due) in
+    let is : IsContext n old.slots d.0 = context_is n old d.0 ok d.1.0 in
+    let of = match_is (IsContextOf n d.0) (issue_at old.slots d.0.slot) is.1 in
+    none_out (view_of n old) past d.0 told (way_of n old ok) d.1.0 (of.1.1.activates d.1.1).0
 
 -- ---- one event that is no FIS
 
@@ -104,14 +113,6 @@ sent_none true slot = tt
 sent_none false slot = tt
 
 module _ (n : ℕ) (old : Port) (past : History) (t : Option Counted) (ok : IsTable old.slots) (told : IsTold (view_of n old) past) (was : Follows past t) where
-  -- Data for the device
-  fed_none : (dev slot offset len : ℕ) → dev ≡ n → payload (context_of old.slots dev) ≡ Some (slot, offset, len) → NoneUp past
-  fed_none dev slot offset len same due =
-      let d = due_context (context_of old.slots n) (slot, offset, len) (ap (λ k. payload (context_of old.slots k)) (sym same) ∙ due) in
-      let is : IsContext n old.slots d.0 = context_is n old d.0 ok d.1.0 in
-      let of = match_is (IsContextOf n d.0) (issue_at old.slots d.0.slot) is.1 in
-      none_out (view_of n old) past d.0 told (way_of n old ok) d.1.0 (of.1.1.activates d.1.1).0
-
   -- a command that is its own setup is no queued one
   begun_none : (slot : ℕ) (i : Issue) (e : Event) → issue_at old.slots slot ≡ Some i → is_dma i.work.kind ≡ true → IssuesNone e
       → NoneUp (history.SetUp slot 0 i.work.len (is_read i.work.kind) ∷ e ∷ past)
@@ -143,7 +144,7 @@ module _ (n : ℕ) (old : Port) (past : History) (t : Option Counted) (ok : IsTa
   turn_follows : (turn : Turn) (bytes : List ℕ) → MayChoose old turn → Follows (turned_for n old turn bytes ++ past) t
   turn_follows Rests bytes may = was
   turn_follows (Feeds dev slot offset len) bytes may =
-      one_if (dev == n) (history.Carried (drop 4 bytes) ∷ []) past t (λ e. fed_follows (drop 4 bytes) past t (fed_none dev slot offset len (eqb-true dev n e) may.1.due)) was
+      one_if (dev == n) (history.Carried (drop 4 bytes) ∷ []) past t (λ e. fed_follows (drop 4 bytes) past t (fed_none n old past ok told dev slot offset len (eqb-true dev n e) may.1.due)) was
   turn_follows (Orders dev slot command) bytes may =
       one_if (dev == n) (begun_by slot (issue_at old.slots slot) ++ event_sent old.slots slot ∷ []) past t (λ e. order_follows slot) was
 
@@ -180,7 +181,7 @@ pub record Beside (n : ℕ) (port : Port) (t : Option Counted) : Type 0 where
   pub told : IsTold (view_of n port) past
   pub follows : Follows past t
 
-first_core : (events : List CoreEvent) (old new : Port) (run : RunsBy old events new) → AreCores old new events run → IsCore old
+pub first_core : (events : List CoreEvent) (old new : Port) (run : RunsBy old events new) → AreCores old new events run → IsCore old
 first_core [] old new run are = are
 first_core (e ∷ later) old new run are = are.0
 

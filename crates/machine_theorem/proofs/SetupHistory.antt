@@ -105,7 +105,7 @@ some_at : (s : ℕ) (o : Option ℕ) (f : ℕ → Setup) → is_at s o ≡ true 
 some_at s None f e = absurd (cc)
 some_at s (Some k) f e = refl
 
-if_not : (b x : Bool) → (if b then false else x) ≡ true → x ≡ true
+pub if_not : (b x : Bool) → (if b then false else x) ≡ true → x ≡ true
 if_not true x e = absurd (cc)
 if_not false x e = e
 

@@ -107,7 +107,7 @@ any_both d (x ∷ xs) ys (inr there) = elim (any_both d xs ys there) [
 
 -- ---- deeds that take none
 
-abbrev TakeNone : List Event → Type 0
+abbrev pub TakeNone : List Event → Type 0
 TakeNone [] = Unit {0}
 TakeNone (call.Took frame took ∷ later) = ⊥
 TakeNone (e ∷ later) = TakeNone later
@@ -150,6 +150,28 @@ misses : (w : Wanted) (old : MachineState) (answer : Result Told AllocError) (ne
 misses (Command slot number) old answer new h = tt
 misses (Data dev number done) old (Ok it) new h = misses_data (is_wanted old dev number done) (gathering_at old dev) dev old it new h
 misses (Data dev number done) old (Err e) new h = tt
+
+abbrev pub IsNoTaking : Deed → Type 0
+IsNoTaking (Moved (act.Takes took)) = ⊥
+IsNoTaking deed = Unit {0}
+
+move_none : (old : MachineState) (a : Act) (new : MachineState) (does : Does old (Moved a) new) → IsNoTaking (Moved a) → TakeNone (deed_calls old (Moved a) new does)
+move_none old (act.Takes took) new does none = absurd none
+move_none old act.Rests new does none = rests old does.middle does.does
+move_none old (act.Loses why) new does none = loses old.incoming why
+move_none old (act.Writes write) new does none = tt
+move_none old act.LetsGo new does none = tt
+move_none old (act.Turns said) new does none = tt
+move_none old (act.Gathers dev answer) new does none = tt
+move_none old (act.Misses slot answer) new does none = tt
+move_none old a new does none = tt
+
+pub deed_none : (old : MachineState) (deed : Deed) (new : MachineState) (does : Does old deed new) → IsNoTaking deed → TakeNone (deed_calls old deed new does)
+deed_none old (Moved a) new does none = move_none old a new does none
+deed_none old (WroteDeed offset width value written) new does none = tt
+deed_none old (Supplied w bytes) new does none = supplies w bytes old does.answer new does.supplies
+deed_none old (Missed w) new does none = misses w old does.answer new does.misses
+deed_none old deed new does none = tt
 
 -- ---- each deed
 

@@ -15,3 +15,6 @@ pub mod Completions
 pub mod Following
 pub mod OwnSlots
 pub mod Reads
+pub mod Filled
+pub mod Brought
+pub mod QueuedOnly

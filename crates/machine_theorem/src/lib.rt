@@ -4,6 +4,7 @@
 //! the disks.
 #![tactic(auto)]
 
+mod bytes;
 mod commands;
 mod completions;
 mod ends;
@@ -18,6 +19,7 @@ mod standing;
 mod tags;
 mod writes;
 
+pub use bytes::{completed_reads_are_brought, filled_bytes_were_brought, queued_reads_are_brought};
 pub use commands::{commands_come_from_slots, disks_hear_their_guest};
 pub use completions::{commands_are_as_supplied, completions_are_of_their_slots};
 pub use ends::{completions_are_of_devices, ends_come_from_devices};

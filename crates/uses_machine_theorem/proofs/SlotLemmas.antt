@@ -1,12 +1,16 @@
 -- What the laws say of the runs that led here.
 use Rattle.ahci_machine.specs.States.{MachineState}
+use Rattle.machine_laws.specs.ControllerLaws.{calls_in}
+use Rattle.machine_theorem.specs.Brought.{CompletedReadsAreBrought, ReadsAreBrought, ReadsAreBroughtSince}
 use Rattle.machine_theorem.specs.Completions.{CompletionsAreOfSlots}
+use Rattle.machine_theorem.specs.Filled.{FilledWereBrought}
 use Rattle.machine_theorem.specs.Given.{CommandsAreGiven, DataAreGiven}
 use Rattle.machine_theorem.specs.Identity.{CommandsAreTheSlots}
 use Rattle.machine_theorem.specs.Orders.{CommandsAreSentOnce}
+use Rattle.machine_theorem.specs.QueuedOnly.{QueuedReadsAreBrought}
 use Rattle.machine_theorem.specs.Reads.{ReadsAreAsSupplied}
 use Rattle.machine_theorem.specs.Tags.{TagsOfNewDisks}
-use Rattle.uses_machine_theorem.specs.Slots.{KnowsData, KnowsEnds, KnowsGiven, KnowsOrders, KnowsReads, KnowsSlots, KnowsTags}
+use Rattle.uses_machine_theorem.specs.Slots.{KnowsBrought, KnowsBroughtSince, KnowsBytes, KnowsData, KnowsEnds, KnowsFilled, KnowsGiven, KnowsOrders, KnowsQueued, KnowsReads, KnowsSlots, KnowsTags, stretch_of}
 
 pub tags : TagsOfNewDisks → (now : MachineState) → KnowsTags now
 tags law now led n d there lived p limit new tag low = law led.ports led.legacy led.first led.opens led.deeds now led.run n d there lived p limit new tag low
@@ -35,3 +39,24 @@ pub reads : ReadsAreAsSupplied → (now : MachineState) → KnowsReads now
 reads law now at led many n c dev tag below dev_low low rest begins deeds run linked lasts keeps line runs well lost p limit base are same took new does mine port calm wrote brought named issue is kind =
     law led.ports led.legacy led.first led.opens led.deeds at led.run many n c dev tag below dev_low low rest begins deeds now run linked lasts keeps line runs well lost p limit base are same took new
     does mine port calm wrote brought named issue is kind
+
+pub brought : ReadsAreBrought → (now : MachineState) → KnowsBrought now
+brought law now led slot low issue done k below = law led.ports led.legacy led.first led.opens led.deeds now led.run slot low issue done k below
+
+pub brought_since : ReadsAreBroughtSince → (now : MachineState) → KnowsBroughtSince now
+brought_since law now at led deeds run slot low issue done none k below =
+    law led.ports led.legacy led.first led.opens led.deeds at led.run deeds now run slot low issue done none k below
+
+pub bytes : CompletedReadsAreBrought → (now : MachineState) → KnowsBytes now
+bytes law now at led many n c dev tag below dev_low low rest begins deeds run linked lasts keeps line well lost p limit base are same issue done own mine k small =
+    law led.ports led.legacy (stretch_of many n tag at led deeds now run p limit base) led.opens c dev below dev_low low rest begins linked lasts keeps line well lost are same issue
+    done own mine k small
+
+pub queued : QueuedReadsAreBrought → (now : MachineState) → KnowsQueued now
+queued law now at led many n c dev tag below dev_low low rest begins deeds run linked lasts keeps line well lost p limit base are same sends issue done own mine k small =
+    law led.ports led.legacy (stretch_of many n tag at led deeds now run p limit base) led.opens c dev below dev_low low rest begins linked lasts keeps line well lost are same sends issue
+    done own mine k small
+
+pub filled : FilledWereBrought → (now : MachineState) → KnowsFilled now
+filled law now at deeds run runs n low slot slot_low past told none issue is own kind k over =
+    law n low slot slot_low at.controller now.controller (calls_in at deeds now run) runs.calls past told none issue is own kind k over

@@ -1,9 +1,13 @@
 -- What a caller of a machine knows of the commands under way at its disks and of the slots of these numbers.
-use Rattle.std.specs.Prelude.{◌≡◌, ◌<◌, ◌≤◌, ◌+◌, ℕ, Bool, true, false, List, Some}
-use Rattle.slots.specs.Slots.{Issue, has_bit, issue_at}
+use Rattle.std.specs.Prelude.{◌≡◌, ◌<◌, ◌≤◌, ◌+◌, ◌==◌, ℕ, Bool, true, false, List, Some}
+use Rattle.slots.specs.Bytes.{is_over}
+use Rattle.slots.specs.Slots.{Issue, has_bit, holds, issue_at}
 use Rattle.slots.specs.declared.work.Kind.TheVariants.{QueuedRead}
 use Rattle.hba_fbs.specs.Taking.{port_of}
+use Rattle.hba_fbs.specs.Views.{view_of}
 use Rattle.hba_fbs.specs.declared.report.Wrote.{Wrote}
+use Rattle.hba_laws.specs.Agreement.{IsTold}
+use Rattle.hba_laws.specs.History.{History}
 use Rattle.ahci_registers.specs.declared.register.Register.TheVariants.{PxSact}
 use Rattle.ahci_controller.specs.Reading.{shown}
 use Rattle.ahci_controller.specs.Taking.{is_overflow}
@@ -23,12 +27,15 @@ use Rattle.machine_laws.specs.ControllerLaws.{ControllerRuns, RunsRuled, calls_i
 use Rattle.machine_laws.specs.Deeds.{Deed, Does, Moved}
 use Rattle.machine_laws.specs.Falling.{AllLast, HasLink}
 use Rattle.machine_laws.specs.Heard.{HasLived, life_in, no_life}
+use Rattle.machine_theorem.specs.Brought.{AllTakenWell, ByteIsBrought, ByteIsRead, DiskStretch, IsReadDone}
 use Rattle.machine_theorem.specs.Completions.{IsDone}
+use Rattle.machine_theorem.specs.Filled.{WasBrought}
 use Rattle.machine_theorem.specs.Following.{AllHeardWell}
 use Rattle.machine_theorem.specs.Given.{IsGiven, IsGivenData}
 use Rattle.machine_theorem.specs.Identity.{AllKeep, IsAtRest, IsTheSlots, own_of}
-use Rattle.machine_theorem.specs.Orders.{fallen_in, ordered_in, standing_in}
+use Rattle.machine_theorem.specs.Orders.{fallen_in, is_sent_of, ordered_in, standing_in}
 use Rattle.machine_theorem.specs.OwnSlots.{AllKeepLine, BeginsClear, NoneLost, is_of}
+use Rattle.machine_theorem.specs.QueuedOnly.{ByteIsOfDisk, SendsQueued}
 use Rattle.machine_theorem.specs.Reads.{IsBroughtAsRead}
 use Rattle.machine_theorem.specs.Tags.{IsCounted}
 use Rattle.uses_machine_theorem.specs.Led.{IsLed}
@@ -91,3 +98,61 @@ KnowsReads now = (at : MachineState) (led : IsLed at) (many : Bool) (n c dev tag
     → port_of does.does.frame.bytes ≡ dev → is_overflow took.report.fault ≡ false → (wrote : Wrote) → took.brought ≡ Some wrote → wrote.slot ≡ tag
     → (issue : Issue) → issue_at now.controller.core.slots wrote.slot ≡ Some issue → issue.work.kind ≡ QueuedRead
     → IsBroughtAsRead many n tag led.first led.deeds at led.run deeds p limit base does.does.frame wrote
+
+-- Where the guest sees a queued read completed, each byte of it was brought at a moment of the run that led to the machine, and nothing was issued in the slot
+-- since then; and so it is of each stretch that begins where no queued command of the device that was sent stands in the slot.
+abbrev pub KnowsBrought : MachineState → Type 0
+KnowsBrought now = (led : IsLed now) (slot : ℕ) → slot < 32 → (issue : Issue) → IsReadDone now slot issue
+    → (k : ℕ) → k < issue.work.len → ByteIsBrought issue.dev slot k led.first led.deeds now led.run
+
+abbrev pub KnowsBroughtSince : MachineState → Type 0
+KnowsBroughtSince now = (at : MachineState) (led : IsLed at) (deeds : List Deed) (run : RunsRuled at deeds now) (slot : ℕ) → slot < 32
+    → (issue : Issue) → IsReadDone now slot issue → holds (is_sent_of (λ dev. dev == issue.dev)) (issue_at at.controller.core.slots slot) ≡ false
+    → (k : ℕ) → k < issue.work.len → ByteIsBrought issue.dev slot k at deeds now run
+
+abbrev pub stretch_of : (many : Bool) → (n tag : ℕ) → (at : MachineState) → IsLed at → (deeds : List Deed) → (now : MachineState) → RunsRuled at deeds now
+    → Profile → (limit : ℕ) → List Call → DiskStretch
+stretch_of many n tag at led deeds now run p limit base = record {
+  many = many;
+  n = n;
+  tag = tag;
+  old = led.first;
+  before = led.deeds;
+  at = at;
+  first = led.run;
+  deeds = deeds;
+  now = now;
+  run = run;
+  p = p;
+  limit = limit;
+  base = base;
+}
+
+-- Behind a moment at rest it is the byte of its number that the caller gave for the command that the guest had supplied there, while no FIS of the disk is lost
+-- or at fault.
+abbrev pub KnowsBytes : MachineState → Type 0
+KnowsBytes now = (at : MachineState) (led : IsLed at) (many : Bool) (n c dev tag : ℕ) → n < 15 → dev < 16 → tag < 32
+    → (rest : IsAtRest many n tag led.first led.deeds at led.run) → BeginsClear n c dev at → (deeds : List Deed) (run : RunsRuled at deeds now)
+    → HasLink deeds → AllLast n at deeds now run → AllKeep many n tag at deeds now run → AllKeepLine many n c dev at deeds now run
+    → AllTakenWell dev at deeds now run → NoneLost dev (calls_in at deeds now run)
+    → (p : Profile) (limit : ℕ) (base : List Call) → AreCalls (new_disk p limit) base → rest.disk ≡ reached p limit base
+    → (issue : Issue) → IsReadDone now tag issue → issue.dev ≡ dev → own_of many n dev ≡ true → (k : ℕ) → k < issue.work.len
+    → ByteIsRead (stretch_of many n tag at led deeds now run p limit base) dev k
+
+-- So it is, whatever it is, where the guest sends this disk queued commands alone.
+abbrev pub KnowsQueued : MachineState → Type 0
+KnowsQueued now = (at : MachineState) (led : IsLed at) (many : Bool) (n c dev tag : ℕ) → n < 15 → dev < 16 → tag < 32
+    → (rest : IsAtRest many n tag led.first led.deeds at led.run) → BeginsClear n c dev at → (deeds : List Deed) (run : RunsRuled at deeds now)
+    → HasLink deeds → AllLast n at deeds now run → AllKeep many n tag at deeds now run → AllKeepLine many n c dev at deeds now run
+    → AllTakenWell dev at deeds now run → NoneLost dev (calls_in at deeds now run)
+    → (p : Profile) (limit : ℕ) (base : List Call) → AreCalls (new_disk p limit) base → rest.disk ≡ reached p limit base
+    → SendsQueued (stretch_of many n tag at led deeds now run p limit base)
+    → (issue : Issue) → IsReadDone now tag issue → issue.dev ≡ dev → own_of many n dev ≡ true → (k : ℕ) → k < issue.work.len
+    → ByteIsOfDisk (stretch_of many n tag at led deeds now run p limit base) dev k
+
+-- The controller of the machine holds no byte for one that came which was not brought.
+abbrev pub KnowsFilled : MachineState → Type 0
+KnowsFilled now = (at : MachineState) (deeds : List Deed) (run : RunsRuled at deeds now) → ControllerRuns at deeds now run → (n : ℕ) → n < 16 → (slot : ℕ) → slot < 32
+    → (past : History) → IsTold (view_of n at.controller.core) past → holds (is_sent_of (λ dev. dev == n)) (issue_at at.controller.core.slots slot) ≡ false
+    → (issue : Issue) → issue_at now.controller.core.slots slot ≡ Some issue → issue.dev ≡ n → issue.work.kind ≡ QueuedRead
+    → (k : ℕ) → is_over issue.over k ≡ true → WasBrought n slot k at.controller (calls_in at deeds now run) now.controller

@@ -8,7 +8,8 @@ ghost use Rattle.ahci_controller.specs.Reading.{shown};
 ghost use Rattle.uses_machine_theorem.specs.Led.{AsksSupplied, EndsCompleted, EndsEarned, EndsSupplied, FallsSupplied, HoldsSupplied};
 ghost use Rattle.uses_machine_theorem.specs.Led.{IsLed, KnowsDisks, LendsBrought, LendsOfSlots, PutsNew, SpeaksDone, SpeaksOfSlots};
 ghost use Rattle.uses_machine_theorem.specs.Led.{SpeaksSupplied};
-ghost use Rattle.uses_machine_theorem.specs.Slots.{KnowsData, KnowsEnds, KnowsGiven, KnowsOrders, KnowsReads, KnowsSlots, KnowsTags};
+ghost use Rattle.uses_machine_theorem.specs.Slots.{KnowsBrought, KnowsBroughtSince, KnowsBytes, KnowsData, KnowsEnds, KnowsFilled};
+ghost use Rattle.uses_machine_theorem.specs.Slots.{KnowsGiven, KnowsOrders, KnowsQueued, KnowsReads, KnowsSlots, KnowsTags};
 ghost use Rattle.uses_machine_theorem.specs.Standing.{BeginsToStand, GoesOnStanding};
 
 use ahci_controller::Width;
@@ -138,14 +139,23 @@ pub fn plugs(machine: &mut Machine, port: u8) -> Result<(), PortFault>
 /// What the caller knows of the queued commands of its guest, whatever run led to its machine; it runs no code. Behind a moment at rest, while the
 /// guest keeps to the standard, a command that is under way at a disk is the one that the guest had supplied for the slot of its tag; Data of the
 /// tag are the bytes of its sectors, and where the guest sees it completed, the disk had done all of it. What a FIS brings for the slot of a
-/// queued read are those bytes, each at its number, while no FIS of the disk is lost or at fault.
+/// queued read are those bytes, each at its number, while no FIS of the disk is lost or at fault. And where the guest sees a queued read completed,
+/// each byte of it was brought by such a FIS, and nothing was issued in the slot since then.
 pub fn knows_commands(machine: &Machine)
     ensures given { KnowsGiven machine.now }
     ensures sent { KnowsData machine.now }
     ensures ended { KnowsEnds machine.now }
     ensures read { KnowsReads machine.now }
+    ensures brought { KnowsBrought machine.now }
+    ensures since { KnowsBroughtSince machine.now }
+    ensures bytes { KnowsBytes machine.now }
+    ensures queued { KnowsQueued machine.now }
+    ensures filled { KnowsFilled machine.now }
 {
     machine_theorem::commands_are_as_supplied();
     machine_theorem::completions_are_of_their_slots();
     machine_theorem::reads_are_as_supplied();
+    machine_theorem::completed_reads_are_brought();
+    machine_theorem::queued_reads_are_brought();
+    machine_theorem::filled_bytes_were_brought();
 }

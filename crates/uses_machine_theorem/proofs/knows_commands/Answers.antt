@@ -1,4 +1,4 @@
-use Rattle.uses_machine_theorem.proofs.SlotLemmas.{data_are, ends, given, reads}
+use Rattle.uses_machine_theorem.proofs.SlotLemmas.{brought, brought_since, bytes, data_are, ends, filled, given, queued, reads}
 use Rattle.uses_machine_theorem.proofs.knows_commands.Goals as goal
 
 pub returns : goal.returns
@@ -7,4 +7,9 @@ returns c = record {
   sent = data_are c.commands_are_as_supplied.ensures.sent c.args.machine.now;
   ended = ends c.completions_are_of_their_slots.ensures c.args.machine.now;
   read = reads c.reads_are_as_supplied.ensures c.args.machine.now;
+  brought = brought c.completed_reads_are_brought.ensures.brought c.args.machine.now;
+  since = brought_since c.completed_reads_are_brought.ensures.since c.args.machine.now;
+  bytes = bytes c.completed_reads_are_brought.ensures.read c.args.machine.now;
+  queued = queued c.queued_reads_are_brought.ensures c.args.machine.now;
+  filled = filled c.filled_bytes_were_brought.ensures c.args.machine.now;
 }

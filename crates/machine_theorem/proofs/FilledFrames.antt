@@ -1,0 +1,160 @@
+-- A FIS whose bytes the core writes has not gone past its table: what it brings are all of its bytes, and none that came before.
+use Rattle.std.proofs.Common.{◌≡◌, ℕ, ◌+◌, ◌-◌, ◌<◌, ◌≤◌, Bool, true, false, List, length, refl, sym, ap, subst, ◌∙◌, arith, Option, Some, None}
+use Rattle.std.specs.Prelude.{◌==◌, not, nat_lt, if◌then◌else◌}
+use Rattle.std.specs.List.{range_with_len}
+use Rattle.std.proofs.lemmas.Bool.{false≢true, ltb-false}
+use Rattle.std.proofs.lemmas.List.Folds.{list_any_at}
+use Rattle.std.proofs.lemmas.List.FromFn.{get_or-range_with_len, length-range_with_len}
+use Rattle.fis_view.specs.Seen.{seen}
+use Rattle.fis_view.specs.declared.view.Fis.{Fis}
+use Rattle.fis_view.specs.declared.view.Fis.TheVariants as view
+use Rattle.port_errors.specs.declared.cause.DeviceCause.TheVariants as cause
+use Rattle.slots.specs.Bytes.{any_over, is_over}
+use Rattle.slots.specs.Data.{after_arrive}
+use Rattle.slots.specs.Slots.{DeviceSlots, Issue, issue_at, match_some}
+use Rattle.slots.specs.Table.{IsContext, IsContextOf, IsTable}
+use Rattle.slots.specs.declared.table.Context.{Context}
+use Rattle.hba_fbs.specs.Deciding.{Decides, decided, heard_within, is_past}
+use Rattle.hba_fbs.specs.Hearing.{bus_failed, faulty, heard_bytes, heard_data_of, heard_fis, overflowed}
+use Rattle.hba_fbs.specs.Status.{is_error}
+use Rattle.hba_fbs.specs.Taking.{admitted, device_cause, heard_report, ignores, port_of, wrote_by}
+use Rattle.hba_fbs.specs.Views.{DeviceView, Port, view_of}
+use Rattle.hba_fbs.specs.declared.hearing.Fault.TheVariants as fault
+use Rattle.hba_fbs.specs.declared.hearing.Heard.{Heard}
+use Rattle.hba_fbs.specs.declared.report.TakeReport.{TakeReport}
+use Rattle.hba_fbs.specs.declared.report.Wrote.{Wrote}
+use Rattle.hba_fbs.specs.declared.room.Room.{Room}
+use Rattle.hba_fbs.specs.declared.room.Room.TheVariants.{Bytes, NoTable, Whole}
+use Rattle.hba_fbs.specs.declared.state.DeviceState.{DeviceState}
+use Rattle.hba_fbs.specs.declared.status.Block.{Block}
+use Rattle.ahci_controller.specs.States.{ControllerState}
+use Rattle.ahci_controller.specs.Taking.{CoreHearsIf, is_overflow, part_of, payload_of}
+use Rattle.ahci_controller.specs.declared.taking.Took.{Took}
+use Rattle.controller_laws.specs.Events as call
+use Rattle.controller_laws.specs.Events.{Takes}
+use Rattle.machine_theorem.specs.Filled.{BringsNot}
+use Rattle.machine_theorem.proofs.IsData.{BringsNone, fis_none}
+use Rattle.machine_theorem.proofs.SetupCalls.{greeted_none}
+use Rattle.machine_theorem.proofs.SetupCores.{context_is, match_is}
+
+-- the bytes are the next ones of the setup of a device
+pub record IsNext (own : DeviceSlots) (wrote : Wrote) : Type 0 where
+  pub context : Context
+  pub is : own.context ≡ Some context
+  pub slot : wrote.slot ≡ context.slot
+  pub from : wrote.offset ≡ context.next
+  pub few : wrote.len ≤ context.left
+
+pub record Fits (own : DeviceSlots) (over : Bool) (wrote : Wrote) : Type 0 where
+  pub whole : over ≡ false
+  pub next : IsNext own wrote
+
+abbrev AllFit : DeviceSlots → Heard → Type 0
+AllFit own h = (wrote : Wrote) → wrote_by h.happening ≡ Some wrote → Fits own (is_overflow (device_cause h.fault)) wrote
+
+none_fit : (own : DeviceSlots) (h : Heard) → BringsNone h → AllFit own h
+none_fit own h none wrote is = absurd (let both = sym none ∙ is in cc)
+
+end_fits : (b : Bool) → is_overflow (device_cause (if b then Some (fault.Device cause.TaskFile) else None)) ≡ false
+end_fits true = refl
+end_fits false = refl
+
+one_wrote : (own : DeviceSlots) (over : Bool) (v w : Wrote) → over ≡ false → IsNext own v → Some v ≡ Some w → Fits own over w
+one_wrote own over v w whole next is =
+    record { whole = whole; next = subst (λ (x : Wrote). IsNext own x) (ap (λ (o : Option Wrote). match_some o v (λ x. x)) is) next }
+
+bytes_fit : (own after : DeviceSlots) (state : DeviceState) (w : Wrote) (o : Option Block) (last : Bool) → IsNext own w
+    → AllFit own (heard_bytes after state w o last)
+bytes_fit own after state w None last next wrote is = one_wrote own false w wrote refl next is
+bytes_fit own after state w (Some block) true next wrote is = one_wrote own _ w wrote (end_fits (is_error block.ends)) next is
+bytes_fit own after state w (Some block) false next wrote is = one_wrote own false w wrote refl next is
+
+not_less : (a b : ℕ) → nat_lt a b ≡ false → b ≤ a
+not_less a b e = ltb-false a b e
+
+data_case : (own : DeviceSlots) (state : DeviceState) (c : Context) (count : ℕ) → own.context ≡ Some c → (away lost over last : Bool)
+    → nat_lt c.left count ≡ over
+    → AllFit own (if away then faulty state cause.Stray else if lost then bus_failed state else if over then overflowed state
+    else heard_bytes (after_arrive own count) state (record { slot = c.slot; offset = c.next; len = count }) state.block last)
+data_case own state c count is true lost over last less = none_fit own (faulty state cause.Stray) refl
+data_case own state c count is false true over last less = none_fit own (bus_failed state) refl
+data_case own state c count is false false true last less = none_fit own (overflowed state) refl
+data_case own state c count is false false false last less =
+    bytes_fit own (after_arrive own count) state (record { slot = c.slot; offset = c.next; len = count }) state.block last
+    (record { context = c; is = is; slot = refl; from = refl; few = not_less c.left count less })
+
+data_fit : (own : DeviceSlots) (state : DeviceState) (sound : Bool) (count : ℕ) (o : Option Context) → own.context ≡ o
+    → AllFit own (match_some o (faulty state cause.Stray) (heard_data_of own state sound count))
+data_fit own state sound count None is = none_fit own (faulty state cause.Stray) refl
+data_fit own state sound count (Some c) is = data_case own state c count is (not c.to_host) (not sound) (nat_lt c.left count) (c.left == count) refl
+
+fis_fits : (own : DeviceSlots) (state : DeviceState) (sound : Bool) (fis : Fis) → AllFit own (heard_fis own state sound fis)
+unfolding heard_fis
+fis_fits own state sound (view.Payload f) = data_fit own state sound (length f - 4) own.context refl
+fis_fits own state sound other = none_fit own (heard_fis own state sound other) (fis_none own state sound other refl)
+
+within_case : (own : DeviceSlots) (state : DeviceState) (fis : Fis) (b : Bool) → AllFit own (if b then overflowed state else heard_fis own state true fis)
+within_case own state fis true = none_fit own (overflowed state) refl
+within_case own state fis false = fis_fits own state true fis
+
+decided_fits : (dev : ℕ) (v : DeviceView) (room : Room) (o : Option Fis) → AllFit v.slots (decided dev v room o)
+unfolding heard_within
+decided_fits dev v room None = none_fit v.slots (decided dev v room None) refl
+decided_fits dev v NoTable (Some fis) = fis_fits v.slots v.state false fis
+decided_fits dev v (Bytes total) (Some fis) = within_case v.slots v.state fis (is_past total v.slots.context fis)
+decided_fits dev v Whole (Some fis) = fis_fits v.slots v.state true fis
+
+report_fits : (old new : Port) (dev : ℕ) (room : Room) (o : Option Fis) (report : TakeReport) → Decides old dev room o report new → (wrote : Wrote)
+    → report.wrote ≡ Some wrote → Fits (view_of dev old).slots (is_overflow report.fault) wrote
+unfolding heard_report
+report_fits old new dev room o report h wrote is =
+    subst (λ (b : Bool). Fits (view_of dev old).slots b wrote) (ap (λ (r : TakeReport). is_overflow r.fault) (sym h.reports))
+    (decided_fits dev (view_of dev old) room o wrote (ap (λ (r : TakeReport). r.wrote) (sym h.reports) ∙ is))
+
+hears_fit : (started ignored : Bool) (c : ControllerState) (frame : List ℕ) (report : TakeReport) (new : Port) → ignores (port_of frame) c.core frame ≡ ignored
+    → CoreHearsIf started c frame report new → (wrote : Wrote) → report.wrote ≡ Some wrote
+    → Fits (view_of (port_of frame) c.core).slots (is_overflow report.fault) wrote
+hears_fit true true c frame report new e h wrote is = absurd (let both = sym is ∙ ap (λ (r : TakeReport). r.wrote) (h.ignored e).reports in cc)
+hears_fit true false c frame report new e h wrote is =
+    report_fits c.core new (port_of frame) _ (admitted (port_of frame) (seen frame)) report (h.heard e) wrote is
+hears_fit false ignored c frame report new e h wrote is = absurd (let both = sym is ∙ greeted_none c.core new (port_of frame) _ report h in cc)
+
+-- what the core writes are all bytes of the FIS, and the next ones of a setup
+pub wrote_fits : (old new : ControllerState) (frame : List ℕ) (took : Took) → Takes old frame took new → (wrote : Wrote) → took.report.wrote ≡ Some wrote
+    → Fits (view_of (port_of frame) old.core).slots (is_overflow took.report.fault) wrote
+wrote_fits old new frame took h = hears_fit old.core.registers.started (ignores (port_of frame) old.core frame) old frame took.report new.core refl h.hears.core
+
+-- that is what the FIS brings
+brought_is : (old new : ControllerState) (frame : List ℕ) (took : Took) → Takes old frame took new → is_overflow took.report.fault ≡ false
+    → took.brought ≡ took.report.wrote
+brought_is old new frame took h whole =
+    h.hears.brought_is ∙ ap (λ (b : Bool). if b then part_of old (port_of frame) (payload_of (seen frame)) else took.report.wrote) whole
+
+pub brings_it : (old new : ControllerState) (frame : List ℕ) (took : Took) → Takes old frame took new → (wrote : Wrote) → took.report.wrote ≡ Some wrote
+    → took.brought ≡ Some wrote
+brings_it old new frame took h wrote is = brought_is old new frame took h (wrote_fits old new frame took h wrote is).whole ∙ is
+
+-- ---- no byte is brought twice
+
+none_over : (over : List Bool) (from len k : ℕ) → any_over over from len ≡ false → from ≤ k → k < from + len → is_over over k ≡ true → ⊥
+unfolding any_over
+none_over over from len k none low high is =
+    let long = length-range_with_len from len in
+    let at : from + (k - from) ≡ k = omega (arith, low) in
+    false≢true (sym none ∙ list_any_at (is_over over) (range_with_len from len) (k - from) 0 (omega (arith, long, low, high))
+    (ap (is_over over) (get_or-range_with_len from len (k - from) 0 (omega (arith, low, high)) ∙ at) ∙ is))
+
+-- what stands in a slot has come already: so the FIS does not bring it
+pub brings_not : (old new : ControllerState) → IsTable old.core.slots → (slot k : ℕ) (frame : List ℕ) (took : Took) → Takes old frame took new → (i : Issue)
+    → issue_at old.core.slots slot ≡ Some i → is_over i.over k ≡ true → BringsNot slot k (call.Took frame took)
+brings_not old new ok slot k frame took h i is over whole wrote brought named low high =
+    let fits = wrote_fits old new frame took h wrote (sym (brought_is old new frame took h whole) ∙ brought) in
+    let c = fits.next.context in
+    let there : IsContext (port_of frame) old.core.slots c = context_is (port_of frame) old.core c ok fits.next.is in
+    let of = match_is (IsContextOf (port_of frame) c) (issue_at old.core.slots c.slot) there.1 in
+    let same : of.0 ≡ i =
+    ap (λ (o : Option Issue). match_some o i (λ x. x)) (sym of.1.0 ∙ ap (issue_at old.core.slots) (sym fits.next.slot ∙ named) ∙ is) in
+    let fresh : any_over i.over c.next c.left ≡ false = subst (λ (x : Issue). any_over x.over c.next c.left ≡ false) same of.1.1.fresh in
+    let from = fits.next.from in
+    let few = fits.next.few in
+    none_over i.over c.next c.left k fresh (omega (arith, low, from)) (omega (arith, high, from, few)) over

@@ -1,0 +1,9 @@
+use Rattle.machine_theorem.proofs.FilledCalls.{filled_were_brought}
+use Rattle.machine_theorem.proofs.bytes.filled_bytes_were_brought.Goals as goal
+
+pub returns : goal.returns
+returns c = filled_were_brought (record {
+  events = c.events_are_core_events.ensures;
+  views = c.core_delivers.ensures.agrees;
+  filled = c.core_delivers.ensures.reports;
+})
