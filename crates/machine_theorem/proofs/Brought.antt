@@ -41,7 +41,7 @@ pub record Laws : Type 0 where
 
 -- ---- the command
 
-read_from : (o : Option Source) (f : Option Fetched) (source : Source) (command : Fetched) → IsReadFrom o f → o ≡ Some source → f ≡ Some command
+pub read_from : (o : Option Source) (f : Option Fetched) (source : Source) (command : Fetched) → IsReadFrom o f → o ≡ Some source → f ≡ Some command
     → command_of source ≡ Some (unmoved command)
 read_from None f source command h is at = absurd (cc)
 read_from (Some s) None source command h is at = absurd h

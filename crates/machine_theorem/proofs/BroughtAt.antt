@@ -25,6 +25,7 @@ use Rattle.machine_theorem.specs.Brought.{ByteIsBrought, IsReadDone, ReadsAreBro
 use Rattle.machine_theorem.specs.Commands.{AreNotIssued}
 use Rattle.machine_theorem.specs.Filled.{AreNotBrought, Brings, WasBrought}
 use Rattle.machine_theorem.specs.Orders.{is_sent_of}
+use Rattle.machine_theorem.specs.ReadsWritten.{NoneTaken}
 use Rattle.machine_theorem.proofs.Cut.{Cut, cut_here, cut_more}
 use Rattle.machine_theorem.proofs.Falls as falls
 use Rattle.machine_theorem.proofs.Falls.{Told, kept_of, named_by, told_now}
@@ -36,7 +37,7 @@ use Rattle.machine_theorem.proofs.SentOnce.{none_told}
 use Rattle.machine_theorem.proofs.SetupCalls as setup
 use Rattle.machine_theorem.proofs.StillStands.{none_both}
 use Rattle.machine_theorem.proofs.Stretch.{whole_run}
-use Rattle.machine_theorem.proofs.WasTaken.{TakeNone, deed_none}
+use Rattle.machine_theorem.proofs.WasTaken.{deed_none}
 
 pub record Laws : Type 0 where
   pub falls : falls.Laws
@@ -50,7 +51,7 @@ no_split : {A : Type 0} (before later : List Event) (e : Event) → [] ≡ befor
 no_split [] later e is = absurd (cc)
 no_split (x ∷ before) later e is = absurd (cc)
 
-none_here : {A : Type 0} (before : List Event) (frame : List ℕ) (took : Took) (later : List Event) → TakeNone (before ++ call.Took frame took ∷ later) → A
+none_here : {A : Type 0} (before : List Event) (frame : List ℕ) (took : Took) (later : List Event) → NoneTaken (before ++ call.Took frame took ∷ later) → A
 none_here [] frame took later none = absurd none
 none_here (call.Took f t ∷ before) frame took later none = absurd none
 none_here (call.Wrote offset value written ∷ before) frame took later none = none_here before frame took later none
@@ -63,9 +64,9 @@ none_here (call.Said write ∷ before) frame took later none = none_here before 
 none_here (call.Gathered d number f fed ∷ before) frame took later none = none_here before frame took later none
 none_here (call.NotThere d number fed ∷ before) frame took later none = none_here before frame took later none
 
-none_brings : {A : Type 0} (n s k : ℕ) (old : ControllerState) (events : List Event) (new : ControllerState) → TakeNone events
+none_brings : {A : Type 0} (n s k : ℕ) (old : ControllerState) (events : List Event) (new : ControllerState) → NoneTaken events
     → WasBrought n s k old events new → A
-none_brings n s k old events new none b = none_here b.sooner b.frame b.took b.later (subst TakeNone b.is none)
+none_brings n s k old events new none b = none_here b.sooner b.frame b.took b.later (subst NoneTaken b.is none)
 
 abbrev head_frame : List ℕ → List Event → List ℕ
 head_frame f (call.Took g t ∷ later) = g
@@ -245,13 +246,20 @@ pub reads_are_since : Laws → ReadsAreBroughtSince
 reads_are_since laws ports legacy old opening before at first deeds now run slot low issue done none k below =
     byte_is issue.dev slot k at deeds now run (brought_since laws ports legacy old opening before at first deeds now run slot low issue done none k below)
 
-pub reads_are_brought : Laws → ReadsAreBrought
-reads_are_brought laws ports legacy old opening deeds now run slot low issue done k below =
+-- from the opening
+pub brought_ever : (laws : Laws) (ports : ℕ) (legacy : Bool) (old : MachineState) → IsOpeningMachine ports legacy old → (deeds : List Deed) (now : MachineState)
+    (run : RunsRuled old deeds now) (slot : ℕ) → slot < 32 → (issue : Issue) → IsReadDone now slot issue → (k : ℕ) → k < issue.work.len
+    → Brought issue.dev slot k old deeds now run
+brought_ever laws ports legacy old opening deeds now run slot low issue done k below =
     let rules : HasRules old = first_ruled deeds old now run in
     let opens = laws.falls.opens ports legacy old opening rules in
-    reads_are_since laws ports legacy old opening [] old (rules, refl) deeds now run slot low issue done
+    brought_since laws ports legacy old opening [] old (rules, refl) deeds now run slot low issue done
     (by (issue_at old.controller.core.slots slot) (λ i is. none_told old.controller slot (kept_of laws.falls old rules) low opens.told i is)) k below
   where
     by : (o : Option Issue) → ((i : Issue) → o ≡ Some i → ⊥) → holds (is_sent_of (λ dev. dev == issue.dev)) o ≡ false
     by None none = refl
     by (Some i) none = absurd (none i refl)
+
+pub reads_are_brought : Laws → ReadsAreBrought
+reads_are_brought laws ports legacy old opening deeds now run slot low issue done k below =
+    byte_is issue.dev slot k old deeds now run (brought_ever laws ports legacy old opening deeds now run slot low issue done k below)

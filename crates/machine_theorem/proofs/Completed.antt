@@ -138,7 +138,7 @@ freed_by s past old new frame took true k told below run h =
 
 -- ---- as a FIS is taken
 
-not_queued : (c : ControllerState) (s : ℕ) → s < 32 → has_bit (shown PxSact c) s ≡ false → holds is_queued_issue (issue_at c.core.slots s) ≡ true → ⊥
+pub not_queued : (c : ControllerState) (s : ℕ) → s < 32 → has_bit (shown PxSact c) s ≡ false → holds is_queued_issue (issue_at c.core.slots s) ≡ true → ⊥
 not_queued c s below hides queued =
     false≢true (sym hides ∙ ap (λ (m : ℕ). has_bit m s) (sact_is c) ∙ or_right c.core.registers.armed (slots_where is_queued_issue c.core.slots) s (queued_bit c.core s below ∙ queued))
 

@@ -10,7 +10,6 @@ use Rattle.fis_view.specs.Frames.{Stamped}
 use Rattle.slots.specs.Slots.{Issue, holds, issue_at}
 use Rattle.hba_fbs.specs.Taking.{port_of}
 use Rattle.hba_fbs.specs.declared.report.Wrote.{Wrote}
-use Rattle.ahci_controller.specs.Taking.{is_overflow}
 use Rattle.ahci_controller.specs.declared.next.Next.TheVariants as next
 use Rattle.controller_laws.specs.Events as call
 use Rattle.controller_laws.specs.Events.{Event}
@@ -61,12 +60,15 @@ use Rattle.machine_theorem.proofs.Sent.{HasOrigin, origins}
 use Rattle.machine_theorem.proofs.StillStands.{none_both}
 use Rattle.machine_theorem.proofs.Stretch.{Stretch, asked, calls, counts, due_at, falls, front, has_disk, orders, stands, whole_run}
 use Rattle.machine_theorem.proofs.TakenWell.{WellRun, well_run}
+use Rattle.machine_theorem.proofs.WrittenBytes as written
+use Rattle.machine_theorem.proofs.WrittenBytes.{is_written, table_is}
 
 pub record Laws : Type 0 where
   pub moments : moments.Laws
   pub supplied : supplied.Laws
   pub places : places.Laws
   pub disks : sent.Laws
+  pub written : written.Laws
 
 abbrev first_or : Stamped → List Stamped → Stamped
 first_or x [] = x
@@ -138,7 +140,7 @@ module _ (laws : Laws) (ports : ℕ) (legacy : Bool) (d : DiskStretch) (opening 
   found =
       found_at laws.places ports legacy d.old opening d.before d.at d.first d.many d.n c dev below dev_low begins b.cut.sooner b.cut.mid b.cut.led
       (b.cut.line d.many d.n c dev line).0
-      well.runs well.well lost_sooner b.took b.cut.next b.cut.does mine b.brings.own (ap (λ x. is_overflow x) heard.well) wrote b.brings.brought b.brings.issue
+      well.runs well.well lost_sooner b.took b.cut.next b.cut.does mine b.brings.own b.brings.calm wrote b.brings.brought b.brings.issue
       (ap (issue_at b.cut.mid.controller.core.slots) b.brings.slot_is ∙ b.brings.is) b.brings.kind
 
   -- ---- it is sent
@@ -328,6 +330,8 @@ module _ (laws : Laws) (ports : ℕ) (legacy : Bool) (d : DiskStretch) (opening 
       let due : IsDataAt host place (nat_lt place 32) = due_by j (out.Data place len) (spoken_by j (out.Data place len) does sent) does in
       record {
         brought = byte_is dev d.tag k d.at d.deeds d.now d.run b;
+        written =
+            is_written laws.written ports legacy d.old opening d.before d.at d.first d.deeds d.now d.run dev d.tag k low issue done.is done.does.does.free b;
         sooner = cut.sooner;
         mid = cut.mid;
         led = cut.led;
@@ -341,6 +345,15 @@ module _ (laws : Laws) (ports : ℕ) (legacy : Bool) (d : DiskStretch) (opening 
         is = is;
         sent = sent;
         read = its_byte j place len does sent (place_low place (nat_lt place 32) refl (shut queued) due);
+        given =
+            let it = its_byte j place len does sent (place_low place (nat_lt place 32) refl (shut queued) due) in
+            sym it.byte
+            ∙ (is_written laws.written ports legacy d.old opening d.before d.at d.first d.deeds d.now d.run dev d.tag k low
+            issue done.is done.does.does.free b).byte_is;
+        table =
+            let it = its_byte j place len does sent (place_low place (nat_lt place 32) refl (shut queued) due) in
+            table_is laws.written ports legacy d.old opening d.before d.at d.first d.deeds d.now d.run dev d.tag k low issue done.is done.does.does.free b
+            it.whole.all it.supplied.runs it.supplied.source it.supplied.is;
       }
   move_of_disk queued (act.Speaks j (out.Page page)) does is sent has =
       absurd (false≢true (sym (shut queued) ∙ (due_by j (out.Page page) (spoken_by j (out.Page page) does sent) does).0))

@@ -85,7 +85,7 @@ by_slots s old new is j e = same_stems (issue_at old.slots s) j (ap (λ t. issue
 -- ---- events of the core
 
 -- the registers of the core that a controller writes
-abbrev IsWritten : port_register.Register → Type 0
+abbrev pub IsWritten : port_register.Register → Type 0
 IsWritten on_port.Is = Unit {0}
 IsWritten on_port.Serr = Unit {0}
 IsWritten on_port.Sact = Unit {0}
@@ -94,7 +94,7 @@ IsWritten on_port.Fbs = Unit {0}
 IsWritten other = ⊥
 
 -- an event of a controller's core, by which nothing is issued in the slot
-abbrev PlacesNone : ℕ → CoreEvent → Type 0
+abbrev pub PlacesNone : ℕ → CoreEvent → Type 0
 PlacesNone s (core.Took frame room report) = Unit {0}
 PlacesNone s (core.Wrote register value offer tables) = IsWritten register
 PlacesNone s (core.Flushed dev) = ⊥
@@ -109,7 +109,7 @@ PlacesNone s (core.Hung dev line) = Unit {0}
 PlacesNone s core.Relinked = Unit {0}
 PlacesNone s core.Restarted = Unit {0}
 
-abbrev PlaceNone : ℕ → List CoreEvent → Type 0
+abbrev pub PlaceNone : ℕ → List CoreEvent → Type 0
 PlaceNone s [] = Unit {0}
 PlaceNone s (e ∷ later) = PlacesNone s e × PlaceNone s later
 
@@ -171,7 +171,7 @@ empty s old new below none = none_stems (issue_at old.slots s) (issue_at new.slo
 abbrev no_issue : Option Issue
 no_issue = None
 
-event_stems : (e : CoreEvent) (s : ℕ) (old new : Port) → s < 32 → IsTable new.slots → DoesBy old e new → PlacesNone s e → SlotStems s old new
+pub event_stems : (e : CoreEvent) (s : ℕ) (old new : Port) → s < 32 → IsTable new.slots → DoesBy old e new → PlacesNone s e → SlotStems s old new
 event_stems (core.Took frame room report) s old new below ok h none = took s old new frame room report (ignores (port_of frame) old frame) below ok refl h
 event_stems (core.Wrote register value offer tables) s old new below ok h none =
     by_views s old new below ok (λ n low. subst (λ (v : DeviceView). ViewStems s (view_of n old) v) (sym (h.1.views n low)) (written_view register s old offer value n none))
@@ -304,7 +304,7 @@ fed_none : (s : ℕ) (fed : Fed) (old : ControllerState) (dev : ℕ) (frame : Li
 fed_none s (fed_answer.Goes message line) old dev frame = (tt, tt)
 fed_none s other old dev frame = tt
 
-call_none : (e : Event) (s : ℕ) (old new : ControllerState) (does : Does old e new) → issues_in s e ≡ false → PlaceNone s (of_event old e new does)
+pub call_none : (e : Event) (s : ℕ) (old new : ControllerState) (does : Does old e new) → issues_in s e ≡ false → PlaceNone s (of_event old e new does)
 call_none (call.Wrote offset value written) s old new does clear = write_none s (register_at offset) (λ r. value) old
 call_none (call.WroteWide offset width value written) s old new does clear = wide_none s (fits width offset) old offset width value written new does
 call_none (call.Supplied slot number bytes told) s old new does clear = supply_none s slot told new clear

@@ -34,7 +34,7 @@ use Rattle.machine_theorem.proofs.SetupFrames.{has_up, the_issue}
 use Rattle.machine_theorem.proofs.Stood.{issues_are_alone}
 use Rattle.machine_theorem.proofs.FilledHistory.{HasCame}
 use Rattle.machine_theorem.proofs.FilledCores.{Behind, FillsNow, cores_behind, fis_back}
-use Rattle.machine_theorem.proofs.FilledFrames.{brings_it, brings_not}
+use Rattle.machine_theorem.proofs.FilledFrames.{brings_it, brings_not, wrote_fits}
 
 -- ---- what stands in a slot for a device
 
@@ -137,6 +137,7 @@ module _ (laws : Laws) (n : ℕ) (low : n < 16) (s k : ℕ) (A : Type 0) where
         is = there.is;
         dev = there.dev;
         kind = up.kind;
+        calm = (wrote_fits old new frame took takes fills.wrote fills.is).fits.whole;
         wrote = fills.wrote;
         brought = brings_it old new frame took takes fills.wrote fills.is;
         slot_is = fills.slot_is;

@@ -1,7 +1,7 @@
 -- The command under a tag is the one that was supplied for the slot of this number, and the Data of it are its.
 use Rattle.std.proofs.Common.{◌≡◌, ℕ, ◌+◌, ◌<◌, ◌≤◌, Bool, true, false, List, [], ◌∷◌, ◌++◌, drop, length, Option, Some, None, refl, sym, ap, subst, ◌∙◌, arith, All}
-use Rattle.std.specs.Prelude.{if◌then◌else◌, nat_lt}
-use Rattle.std.proofs.lemmas.Bool.{eq-eqb, false≢true, lt-ltb}
+use Rattle.std.specs.Prelude.{nat_lt, if◌then◌else◌}
+use Rattle.std.proofs.lemmas.Bool.{false≢true, lt-ltb, eq-eqb}
 use Rattle.std.proofs.lemmas.List.Elements.{All-cons, All-head, All-nil, All-tail}
 use Rattle.fis_view.specs.Frames.{Stamped}
 use Rattle.slots.specs.Slots.{holds, issue_at}
@@ -10,8 +10,9 @@ use Rattle.block_disk.specs.Laws.{Page}
 use Rattle.block_disk.specs.Table.{is_under_way}
 use Rattle.block_queue.specs.Line.{command_at}
 use Rattle.hba_laws.proofs.Door.{held}
+use Rattle.disk_pages.specs.declared.profile.Profile.{Profile}
 use Rattle.sata_disk.specs.Sending.{IsOut, part_at}
-use Rattle.sata_disk.specs.State.{DiskState, commands, new_disk}
+use Rattle.sata_disk.specs.State.{DiskState, commands, new_disk, is_taken}
 use Rattle.sata_disk.specs.declared.out.Out.{Out}
 use Rattle.sata_disk.specs.declared.out.Out.TheVariants as out
 use Rattle.sata_disk_books.specs.Books as books
@@ -24,7 +25,6 @@ use Rattle.ahci_machine.specs.States.{MachineState, bay_at}
 use Rattle.ahci_machine.specs.declared.act.Act.TheVariants as act
 use Rattle.ahci_machine.specs.declared.bay.Unit.TheVariants.{Disk}
 use Rattle.machine_laws.specs.Deeds.{Does, Moved}
-use Rattle.machine_laws.specs.Disks.{calls_at}
 use Rattle.machine_laws.specs.Rising.{CarriesPart, DataCarryParts, sent_by}
 use Rattle.machine_theorem.specs.Given.{CommandsAreGiven, DataAreGiven, IsGiven, IsGivenData, IsWhole}
 use Rattle.machine_theorem.specs.Orders.{is_sent_of}
@@ -34,9 +34,11 @@ use Rattle.machine_theorem.proofs.AtEnd.{IsThere, is_there}
 use Rattle.machine_theorem.proofs.EndsFew.{disk_same}
 use Rattle.machine_theorem.proofs.AsSupplied.{Laws, supplied_at}
 use Rattle.machine_theorem.proofs.Stretch.{Stretch, asked, calls, counts, falls, has_disk, orders, own, stands, was_free, whole_run}
+use Rattle.machine_theorem.proofs.TagCounts as counts
 use Rattle.machine_theorem.proofs.TagCounts.{Counted, Since, all_heard, counted, due_at, under_way_held}
 use Rattle.machine_theorem.proofs.TagKept.{held_at}
 use Rattle.machine_theorem.proofs.TagPages.{page_same}
+use Rattle.machine_laws.specs.Disks.{calls_at}
 
 -- ---- the command
 
@@ -102,6 +104,16 @@ queued_by : (h : Host) (tag : ℕ) (b : Bool) → nat_lt tag 32 ≡ b → tag < 
 queued_by h tag true e low due = due
 queued_by h tag false e low due = absurd (false≢true (sym e ∙ lt-ltb tag 32 low))
 
+-- a disk that sends Data of a tag next has a command under way there
+pub taken_data : counts.Laws → (p : Profile) (limit : ℕ) (done : List Call) (tag len : ℕ) → tag < 32 → AreCalls (new_disk p limit) done
+    → IsOut (reached p limit done) (Some (out.Data tag len))
+    → is_taken (commands (reached p limit done)) tag ≡ true
+taken_data laws p limit done tag len low are goes =
+    let x : Call = Sends (out.Data tag len) in
+    let due = due_at done x new_host (laws.single p limit (done ++ x ∷ []) (calls_both done (x ∷ []) (new_disk p limit) are (goes, tt))) in
+    let queued : IsQueued (host_of new_host done) tag = queued_by (host_of new_host done) tag (nat_lt tag 32) refl low due in
+    (laws.under_way p limit done are).queued tag low queued.2 ∙ queued.1
+
 record HasNext (x : Option Page) (part : List ℕ) : Type 0 where
   page : Page
   is : x ≡ Some page
@@ -151,9 +163,10 @@ given_data laws law carry s len new does =
     let d : DiskState = reached s.p s.limit done in
     let disk = has_disk laws.end.slots s in
     let same : h.disk ≡ d = disk_same h.disk d (sym h.there ∙ disk.there) in
+    let goes : IsOut d (Some (out.Data s.tag len)) = subst (λ (x : DiskState). IsOut x (Some (out.Data s.tag len))) same h.next in
     let it = queued_now laws s len new does in
     let p = has_next (page_in s.p s.limit done s.tag) (part_at (command_at (commands d) s.tag))
-    (law s.p s.limit done s.tag len disk.are (subst (λ (x : DiskState). IsOut x (Some (out.Data s.tag len))) same h.next)) in
+    (law s.p s.limit done s.tag len disk.are goes) in
     let command = page_same s.p s.limit done s.tag it.moment.command p.page (under_way_held (commands d) s.tag it.moment it.is it.going) p.is in
     record {
       page = p.page;

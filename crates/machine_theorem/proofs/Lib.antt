@@ -70,4 +70,15 @@ mod TakenWell
 mod FallsBehind
 mod BroughtRead
 mod HostShut
+mod Idle
+mod Uncut
+mod WrittenBytes
 mod CompletedReads
+mod FirstDeeds
+mod SlotFree
+mod CameFirst
+mod HeardBehind
+mod WrittenSupplied
+mod HeardAfter
+mod ReadBack
+mod ReadsFollow

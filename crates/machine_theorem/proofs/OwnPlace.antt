@@ -242,12 +242,17 @@ record InOrder (n c : ℕ) (came sent : List Stamped) (f : Stamped) : Type 0 whe
 pub untaken_is : (m : MachineState) (f : Stamped) → m.taken ≡ false → m.incoming ≡ Some f → untaken m ≡ f ∷ []
 untaken_is m f free on = ap (λ (b : Bool). if b then [] else option_to_list m.incoming) free ∙ ap (λ (o : Option Stamped). option_to_list o) on
 
+-- nothing is on its way as it begins, so all came that was sent before
+pub all_came : (n c : ℕ) (at : MachineState) (was : Frames) → RisesInOrder at was n c → on_way n c at ≡ [] → is_over at.fan n c ≡ false
+    → of_conn n c was.came ≡ of_conn n c was.sent
+all_came n c at was first way lasts =
+    sym (append-nil (of_conn n c was.came)) ∙ ap (λ l. of_conn n c was.came ++ l) (sym (ap (λ l. l ++ first.dropped) way ∙ first.whole lasts))
+    ∙ sym (append_assoc (of_conn n c was.came) (on_way n c at) first.dropped) ∙ first.order
+
 in_order : (n c : ℕ) (at now : MachineState) (was all : Frames) (came sent : List Stamped) (f : Stamped) → RisesInOrder at was n c → RisesInOrder now all n c
     → all ≡ record { sent = was.sent ++ sent; came = was.came ++ came } → on_way n c at ≡ [] → is_over at.fan n c ≡ false → untaken now ≡ f ∷ [] → is_of n c f ≡ true → InOrder n c came sent f
 in_order n c at now was all came sent f first last same way lasts next own =
-    let whole : of_conn n c was.came ≡ of_conn n c was.sent =
-    sym (append-nil (of_conn n c was.came)) ∙ ap (λ l. of_conn n c was.came ++ l) (sym (ap (λ l. l ++ first.dropped) way ∙ first.whole lasts))
-    ∙ sym (append_assoc (of_conn n c was.came) (on_way n c at) first.dropped) ∙ first.order in
+    let whole : of_conn n c was.came ≡ of_conn n c was.sent = all_came n c at was first way lasts in
     let left : on_way n c now ++ last.dropped ≡ f ∷ (held_at n c now.fan ++ last.dropped) =
     ap (λ l. (of_conn n c l ++ held_at n c now.fan) ++ last.dropped) next ∙ ap (λ (b : Bool). ((if b then f ∷ [] else []) ++ held_at n c now.fan) ++ last.dropped) own in
     let order : of_conn n c (was.came ++ came) ++ on_way n c now ++ last.dropped ≡ of_conn n c (was.sent ++ sent) =
@@ -283,6 +288,39 @@ module _ (tell : FisesTell) (given : DataAreGiven) (parts : DataCarryParts) (dis
       let risen_is : risen found.cut.mid.fan k h.frame ≡ f = ap (λ l. head_or f l) sent in
       sender_is many n found.cut.mid k h.frame found.line.end h.room (ap (λ (x : Stamped). x.stamp.port == n) risen_is ∙ port_is n c f own)
 
+  -- it is the disk, as the calls led to it
+  is_speaker : (pre : List Stamped) (found : Found many n c dev at deeds now run pre f) (k : ℕ) (o : Out)
+      (does : Does found.cut.mid (Moved (act.Speaks k o)) found.cut.next)
+      → sent_by found.cut.mid (Moved (act.Speaks k o)) found.cut.next does ≡ f ∷ []
+      → does.does.does.1.disk ≡ reached p limit (base ++ calls_of n at found.cut.sooner found.cut.mid found.cut.led)
+  is_speaker pre found k o does sent =
+      let calls : List Call = calls_of n at found.cut.sooner found.cut.mid found.cut.led in
+      let gone : GoneOn many n c dev d calls (of_conn n c (sent_of at found.cut.sooner found.cut.mid found.cut.led)) (bay_at found.cut.mid n).unit =
+      stretch_made many n c dev disks found.cut.sooner at found.cut.mid found.cut.led found.keeps d there in
+      let h = does.does.does.1 in
+      disk_same h.disk (after_calls d calls) (sym h.there ∙ ap (λ (j : ℕ). (bay_at found.cut.mid j).unit) (speaker pre found k o does sent) ∙ gone.is)
+      ∙ ap (λ (x : DiskState). after_calls x calls) same ∙ sym (calls_after base calls (new_disk p limit))
+
+  -- so these Data went next, and they are those of the FIS
+  pub sends_of : (pre : List Stamped) (found : Found many n c dev at deeds now run pre f) (k place len : ℕ)
+      → (does : Does found.cut.mid (Moved (act.Speaks k (out.Data place len))) found.cut.next)
+      → sent_by found.cut.mid (Moved (act.Speaks k (out.Data place len))) found.cut.next does ≡ f ∷ []
+      → IsOut (reached p limit (base ++ calls_of n at found.cut.sooner found.cut.mid found.cut.led)) (Some (out.Data place len))
+  sends_of pre found k place len does sent =
+      subst (λ (x : DiskState). IsOut x (Some (out.Data place len))) (is_speaker pre found k (out.Data place len) does sent) does.does.does.1.next
+
+  pub part_of : (pre : List Stamped) (found : Found many n c dev at deeds now run pre f) (k place len : ℕ)
+      → (does : Does found.cut.mid (Moved (act.Speaks k (out.Data place len))) found.cut.next)
+      → sent_by found.cut.mid (Moved (act.Speaks k (out.Data place len))) found.cut.next does ≡ f ∷ []
+      → part_at (command_at (commands (reached p limit (base ++ calls_of n at found.cut.sooner found.cut.mid found.cut.led))) place) ≡ drop 4 f.bytes
+  part_of pre found k place len does sent =
+      let h = does.does.does.1 in
+      let carries : CarriesPart found.cut.mid k place f =
+      All-contains (CarriesPart found.cut.mid k place) (f ∷ []) f
+      (subst (λ l. All (CarriesPart found.cut.mid k place) l) sent (parts found.cut.mid k place len found.cut.next does)) (Contains-push [] f) in
+      ap (λ (x : DiskState). part_at (command_at (commands x) place))
+      (sym (disk_same carries.disk h.disk (sym carries.there ∙ h.there) ∙ is_speaker pre found k (out.Data place len) does sent)) ∙ sym carries.part
+
   pub place_of : (pre : List Stamped) → told_after None (bytes_of pre) ≡ Some (record { tag = wrote.slot; count = wrote.offset }) → (found : Found many n c dev at deeds now run pre f)
       → (k : ℕ) (place len : ℕ) → (does : Does found.cut.mid (Moved (act.Speaks k (out.Data place len))) found.cut.next) → sent_by found.cut.mid (Moved (act.Speaks k (out.Data place len))) found.cut.next does ≡ f ∷ []
       → place < 32 → IsAtPlace p limit (base ++ calls_of n at found.cut.sooner found.cut.mid found.cut.led) place f wrote
@@ -290,20 +328,12 @@ module _ (tell : FisesTell) (given : DataAreGiven) (parts : DataCarryParts) (dis
       let calls : List Call = calls_of n at found.cut.sooner found.cut.mid found.cut.led in
       let gone : GoneOn many n c dev d calls (of_conn n c (sent_of at found.cut.sooner found.cut.mid found.cut.led)) (bay_at found.cut.mid n).unit =
       stretch_made many n c dev disks found.cut.sooner at found.cut.mid found.cut.led found.keeps d there in
-      let h = does.does.does.1 in
-      let here : k ≡ n = speaker pre found k (out.Data place len) does sent in
-      let now_is : h.disk ≡ reached p limit (base ++ calls) =
-      disk_same h.disk (after_calls d calls) (sym h.there ∙ ap (λ (j : ℕ). (bay_at found.cut.mid j).unit) here ∙ gone.is)
-      ∙ ap (λ (x : DiskState). after_calls x calls) same ∙ sym (calls_after base calls (new_disk p limit)) in
       let whole : AreCalls (new_disk p limit) (base ++ calls) = calls_both base calls (new_disk p limit) are (subst (λ (x : DiskState). AreCalls x calls) same gone.are) in
       let fises : AreFises (reached p limit base) calls gone.made.fises = subst (λ (x : DiskState). AreFises x calls gone.made.fises) same gone.made.are in
       let says : told_after None gone.made.fises ≡ Some (record { tag = wrote.slot; count = wrote.offset }) =
       gone.made.told None ∙ ap (λ l. told_after None (bytes_of l)) found.prior ∙ told in
-      let sends : IsOut (reached p limit (base ++ calls)) (Some (out.Data place len)) = subst (λ (x : DiskState). IsOut x (Some (out.Data place len))) now_is h.next in
-      let carries : CarriesPart found.cut.mid k place f =
-      All-contains (CarriesPart found.cut.mid k place) (f ∷ []) f (subst (λ l. All (CarriesPart found.cut.mid k place) l) sent (parts found.cut.mid k place len found.cut.next does)) (Contains-push [] f) in
-      let part : part_at (command_at (commands (reached p limit (base ++ calls))) place) ≡ drop 4 f.bytes =
-      ap (λ (x : DiskState). part_at (command_at (commands x) place)) (sym (disk_same carries.disk h.disk (sym carries.there ∙ h.there) ∙ now_is)) ∙ sym carries.part in
+      let sends : IsOut (reached p limit (base ++ calls)) (Some (out.Data place len)) = sends_of pre found k place len does sent in
+      let part : part_at (command_at (commands (reached p limit (base ++ calls))) place) ≡ drop 4 f.bytes = part_of pre found k place len does sent in
       elim (tell p limit base calls gone.made.fises place len whole fises sends low) [
         | inl none ↦ absurd (let both = sym says ∙ none in cc)
         | inr counted ↦ (
@@ -350,6 +380,7 @@ module _ (tell : FisesTell) (given : DataAreGiven) (parts : DataCarryParts) (dis
 -- the moment, and what the FISes said that were sent before it
 pub record IsFound (many : Bool) (n c dev : ℕ) (at : MachineState) (deeds : List Deed) (now : MachineState) (run : RunsRuled at deeds now) (f : Stamped) (wrote : Wrote) : Type 0 where
   pub prior : List Stamped
+  -- all that came of the connection
   pub came : of_conn n c (came_of at deeds now run) ≡ prior
   pub told : told_after None (bytes_of prior) ≡ Some (record { tag = wrote.slot; count = wrote.offset })
   pub found : Found many n c dev at deeds now run prior f

@@ -18,8 +18,8 @@ use Rattle.machine_laws.specs.Deeds.{Deed, Does, Moved}
 use Rattle.machine_laws.specs.Rising.{bytes_of, sent_by}
 use Rattle.machine_theorem.specs.Given.{IsGivenData}
 use Rattle.machine_theorem.specs.Identity.{calls_of}
-use Rattle.machine_theorem.specs.OwnSlots.{IsAtPlace, is_of}
-use Rattle.machine_theorem.specs.Reads.{IsReadOf, OfItsRead, ReadsAreAsSupplied}
+use Rattle.machine_theorem.specs.OwnSlots.{BeginsClear, IsAtPlace, is_of}
+use Rattle.machine_theorem.specs.Reads.{IsBroughtAsRead, IsReadOf, OfItsRead, ReadsAreAsSupplied}
 use Rattle.machine_theorem.proofs.AsSupplied as supplied
 use Rattle.machine_theorem.proofs.EndsFew.{disk_same}
 use Rattle.machine_theorem.proofs.Given.{given_data}
@@ -27,7 +27,7 @@ use Rattle.machine_theorem.proofs.OwnPlace.{Found, IsFound, found_at, place_of, 
 use Rattle.machine_theorem.proofs.OwnPlace as places
 use Rattle.machine_theorem.proofs.Stretch.{Stretch, front}
 
-one_page : (a b : Page) → Some a ≡ Some b → a ≡ b
+pub one_page : (a b : Page) → Some a ≡ Some b → a ≡ b
 one_page a b e = ap (λ (o : Option Page). match_some o a (λ x. x)) e
 
 module _ (laws : supplied.Laws) (own : places.Laws) (s : Stretch) (c dev : ℕ) (d : DiskState) (there : (bay_at s.at s.n).unit ≡ Disk d) (is_disk : d ≡ reached s.p s.limit s.base)
@@ -74,10 +74,28 @@ module _ (laws : supplied.Laws) (own : places.Laws) (s : Stretch) (c dev : ℕ) 
   move_read (act.Speaks k o) does sent = tt
   move_read a does sent = tt
 
-  deed_read : (deed : Deed) (does : Does found.cut.mid deed found.cut.next) → sent_by found.cut.mid deed found.cut.next does ≡ f ∷ []
+  pub deed_read : (deed : Deed) (does : Does found.cut.mid deed found.cut.next) → sent_by found.cut.mid deed found.cut.next does ≡ f ∷ []
       → OfItsRead s.many s.n s.tag s.old s.before s.at s.first found.cut.sooner found.cut.mid found.cut.led s.p s.limit s.base deed found.cut.next does f wrote
   deed_read (Moved a) does sent = move_read a does sent
   deed_read deed does sent = tt
+
+-- the moment of the stretch at which it was sent
+unfoldable pub brought_as : supplied.Laws → places.Laws → (s : Stretch) (c dev : ℕ) → BeginsClear s.n c dev s.at → (f : Stamped) (wrote : Wrote)
+    → is_of s.n c f ≡ true → wrote.slot ≡ s.tag → IsFound s.many s.n c dev s.at s.deeds s.now s.run f wrote
+    → IsBroughtAsRead s.many s.n s.tag s.old s.before s.at s.first s.deeds s.p s.limit s.base f wrote
+brought_as laws own s c dev begins f wrote mine named it = record {
+  sooner = it.found.cut.sooner;
+  mid = it.found.cut.mid;
+  led = it.found.cut.led;
+  deed = it.found.deed;
+  after = it.found.cut.next;
+  does = it.found.cut.does;
+  later = it.found.cut.later;
+  is = it.found.cut.is;
+  sent = it.found.sent;
+  read = deed_read laws own s c dev begins.disk begins.there (disk_same begins.disk s.rest.disk (sym begins.there ∙ s.rest.there) ∙ s.same)
+      f wrote mine named it.prior it.told it.found it.found.deed it.found.cut.does it.found.sent;
+}
 
 pub reads_are : supplied.Laws → places.Laws → ReadsAreAsSupplied
 reads_are laws own ports legacy old opening before at first many n c dev tag low dev_low tag_low rest begins deeds now run linked lasts keeps line runs well lost p limit base are same took new does mine port calm wrote brought named issue there kind =
@@ -109,16 +127,4 @@ reads_are laws own ports legacy old opening before at first many n c dev tag low
       are = are;
       same = same;
     } in
-    record {
-      sooner = it.found.cut.sooner;
-      mid = it.found.cut.mid;
-      led = it.found.cut.led;
-      deed = it.found.deed;
-      after = it.found.cut.next;
-      does = it.found.cut.does;
-      later = it.found.cut.later;
-      is = it.found.cut.is;
-      sent = it.found.sent;
-      read = deed_read laws own s c dev begins.disk begins.there (disk_same begins.disk rest.disk (sym begins.there ∙ rest.there) ∙ same) does.does.frame wrote mine named it.prior it.told it.found
-          it.found.deed it.found.cut.does it.found.sent;
-    }
+    brought_as laws own s c dev begins does.does.frame wrote mine named it

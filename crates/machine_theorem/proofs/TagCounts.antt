@@ -47,7 +47,7 @@ one_call : (d : DiskState) (x : Call) → after_calls d (x ∷ []) ≡ after_cal
 unfolding after_calls
 one_call d x = refl
 
-one_call_more : (p : Profile) (limit : ℕ) (done : List Call) (x : Call) → reached p limit (done ++ x ∷ []) ≡ after_call (reached p limit done) x
+pub one_call_more : (p : Profile) (limit : ℕ) (done : List Call) (x : Call) → reached p limit (done ++ x ∷ []) ≡ after_call (reached p limit done) x
 one_call_more p limit done x = calls_after done (x ∷ []) (new_disk p limit) ∙ one_call (reached p limit done) x
 
 -- ---- what the host has open
@@ -90,7 +90,7 @@ ends_it laws p limit done tags tag low are bit =
 
 -- ---- a place that is taken
 
-held_of_taken : (x : Option Moment) → is_under_way x ≡ true → (c : Command) × (held_of x ≡ Some c)
+pub held_of_taken : (x : Option Moment) → is_under_way x ≡ true → (c : Command) × (held_of x ≡ Some c)
 held_of_taken None e = absurd (cc)
 held_of_taken (Some m) e = by (is_ended m.stage) refl e
   where
@@ -116,6 +116,9 @@ module _ (p : Profile) (limit : ℕ) (base : List Call) (tag : ℕ) where
     pub behind_base : asked.before ≡ base ++ front
     pub split : done ≡ front ++ Hears asked.bytes ∷ asked.later
     pub named : asks_with tag (seen asked.bytes) ≡ true
+    -- the disk took it as it heard this FIS
+    pub place : c.place ≡ tag
+    pub taken : steps_of (reached p limit asked.before) (Hears asked.bytes) ≡ engine.Takes c ∷ []
     pub behind : ended_with tag done ≤ heard_with tag front
     pub standing : ended_with tag asked.later ≡ 0
 
@@ -149,6 +152,8 @@ module _ (p : Profile) (limit : ℕ) (base : List Call) (tag : ℕ) where
         behind_base = s.behind_base;
         split = ap (λ (l : List Call). l ++ x ∷ []) s.split ∙ append_assoc s.front (Hears s.asked.bytes ∷ s.asked.later) (x ∷ []);
         named = s.named;
+        place = s.place;
+        taken = s.taken;
         behind = omega (arith, all, none, behind);
         standing = omega (arith, last, none, standing);
       }
@@ -206,6 +211,8 @@ module _ (p : Profile) (limit : ℕ) (base : List Call) (tag : ℕ) where
             behind_base = refl;
             split = refl;
             named = named_is bytes f viewed is (sym place ∙ here);
+            place = ap (λ (z : Command). z.place) e ∙ here;
+            taken = steps ∙ ap (λ (z : Command). engine.Takes z ∷ []) (sym e);
             behind = omega (arith, ends, fewer);
             standing = refl;
           }

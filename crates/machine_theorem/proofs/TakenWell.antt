@@ -10,13 +10,14 @@ use Rattle.machine_laws.specs.Controllers.{ControllerGoesOn, GathersDue, StaysDu
 use Rattle.machine_laws.specs.Deeds.{Deed, Does, Moved}
 use Rattle.machine_theorem.specs.Brought.{AllTakenWell, TakesWell}
 use Rattle.machine_theorem.specs.Following.{AllHeardWell}
+use Rattle.machine_theorem.specs.ReadsWritten.{NoneTaken}
 use Rattle.machine_theorem.proofs.Ordered.{first_ruled}
-use Rattle.machine_theorem.proofs.WasTaken.{TakeNone, deed_none}
+use Rattle.machine_theorem.proofs.WasTaken.{deed_none}
 
 -- ---- calls
 
 -- calls that take none
-none_well : (n : ℕ) (events : List Event) (old new : ControllerState) (run : Runs old events new) → TakeNone events → AllHeardWell n old events new run
+none_well : (n : ℕ) (events : List Event) (old new : ControllerState) (run : Runs old events new) → NoneTaken events → AllHeardWell n old events new run
 none_well n [] old new run none = tt
 none_well n (call.Took frame took ∷ later) old new run none = absurd none
 none_well n (call.Wrote offset value written ∷ later) old new run none = (tt, none_well n later run.1.0 new run.1.2 none)

@@ -1,31 +1,47 @@
 -- The queued command whose bit falls is the one that the guest had supplied for the slot, and its disk ended it.
-use Rattle.std.proofs.Common.{◌≡◌, ℕ, ◌+◌, List, ◌∷◌, ◌++◌, append_assoc, append-nil, ap, ◌∙◌, arith}
+use Rattle.std.proofs.Common.{◌≡◌, ℕ, ◌≤◌, Bool, List, [], ◌∷◌, ◌++◌, append_assoc, append-nil, refl, sym, ap, ◌∙◌, arith}
+use Rattle.std.specs.Prelude.{if◌then◌else◌}
+use Rattle.std.proofs.lemmas.Bool.{eq-eqb}
+use Rattle.fis_view.specs.Frames.{Stamped}
 use Rattle.ahci_controller.specs.declared.next.Next.TheVariants as next
 use Rattle.controller_laws.specs.Events as call
 use Rattle.controller_laws.specs.Events.{Event}
+use Rattle.block_queue.specs.Line.{has_bit}
+use Rattle.sata_disk.specs.declared.out.Out.TheVariants as out
+use Rattle.sata_disk_laws.specs.Calls.{Call, Sends}
 use Rattle.machine_laws.specs.ControllerLaws.{calls_in}
-use Rattle.machine_laws.specs.Falling.{sent_in}
+use Rattle.machine_laws.specs.Disks.{calls_at}
+use Rattle.machine_laws.specs.Falling.{AllLast, HasLink, sent_in}
 use Rattle.machine_theorem.specs.Commands.{AreNotIssued}
 use Rattle.machine_theorem.specs.Completions.{CompletionsAreOfSlots, IsDone}
 use Rattle.machine_theorem.specs.Given.{IsWhole}
-use Rattle.machine_theorem.specs.Identity.{asked_of}
-use Rattle.machine_theorem.specs.Tags.{ended_with}
+use Rattle.machine_theorem.specs.Identity.{AllKeep, asked_of, calls_of}
+use Rattle.machine_theorem.specs.Orders.{ordered_in}
+use Rattle.machine_theorem.specs.Tags.{ended_with, once_if}
 use Rattle.machine_theorem.proofs.AsSupplied.{Laws, supplied_at}
 use Rattle.machine_theorem.proofs.AtEnd.{AtEnd, LastEnd, at_end, last_end, speaks}
 use Rattle.machine_theorem.proofs.AtOrder.{AtOrder, LastOrder, at_order, last_order}
-use Rattle.machine_theorem.proofs.LastSaid.{sent_both}
+use Rattle.machine_theorem.proofs.LastSaid.{all_ends, sent_both}
 use Rattle.machine_theorem.proofs.SameFis.{same_fis}
 use Rattle.machine_theorem.proofs.StillStands.{none_both}
-use Rattle.machine_theorem.proofs.Stretch.{AllEnded, Fall, Falls, Stretch, all_ended, asked, calls, fall_is, front, whole_run}
+use Rattle.machine_theorem.proofs.Stretch.{AllEnded, Fall, Falls, Stretch, all_ended, asked, calls, fall_is, falls, front, whole_run}
+use Rattle.machine_theorem.proofs.TagCounts.{ended_both}
+
+-- ---- the end
+
+pub the_end : (laws : Laws) (s : Stretch) → Fall s → LastEnd s
+the_end laws s fall =
+    let ended : AllEnded s fall = all_ended laws.end.slots s fall (fall_is laws.end.slots s fall) in
+    let fallen = ended.fallen in
+    last_end s (omega (arith, fallen))
 
 -- ---- all of it
 
-is_done : (laws : Laws) (s : Stretch) (fall : Fall s) → IsDone s.many s.n s.tag s.old s.before s.at s.first s.deeds s.now s.run s.p s.limit s.base fall.does.does.frame
+unfoldable pub is_done : (laws : Laws) (s : Stretch) (fall : Fall s) → IsDone s.many s.n s.tag s.old s.before s.at s.first s.deeds s.now s.run s.p s.limit s.base fall.does.does.frame
 is_done laws s fall =
     let fell : Falls s fall = fall_is laws.end.slots s fall in
     let ended : AllEnded s fall = all_ended laws.end.slots s fall fell in
-    let fallen = ended.fallen in
-    let e : LastEnd s = last_end s (omega (arith, fallen)) in
+    let e : LastEnd s = the_end laws s fall in
     let at : AtEnd s e = at_end laws.end s fall ended e in
     let c = e.last.cut in
     let t : Stretch = front s (speaks s e.tags) c in
@@ -68,6 +84,45 @@ is_done laws s fall =
           ∙ ap (λ (l : List (List ℕ)). asked t ++ l) at.none ∙ append-nil (asked t) ∙ slots.last;
       whole = whole;
       supplied = supplied_at laws s fall.issue fall.is whole o.dev o.fis (record { before = of.ordered.before; later = of.ordered.later ++ rest; is = events; alone = alone });
+    }
+
+-- ---- where the end stands in the stretch
+
+-- What the disk and the guest did until then is a beginning of what they did in the stretch.
+pub record EndsIn (s : Stretch) (f : Stamped) (done : IsDone s.many s.n s.tag s.old s.before s.at s.first s.deeds s.now s.run s.p s.limit s.base f)
+    : Type 0 where
+  pub more : List Call
+  pub split : calls s ≡ calls_of s.n s.at done.end.before done.end.moment done.end.first ++ Sends (out.Ends done.end.tags) ∷ more
+  pub few : (own : ℕ → Bool) (slot : ℕ) → ordered_in own slot s.at done.end.before done.end.moment done.end.first ≤ ordered_in own slot s.at s.deeds s.now s.run
+  pub keeps : (tag : ℕ) → AllKeep s.many s.n tag s.at s.deeds s.now s.run → AllKeep s.many s.n tag s.at done.end.before done.end.moment done.end.first
+  pub lasts : AllLast s.n s.at done.end.before done.end.moment done.end.first
+  pub linked : HasLink done.end.before
+  -- no more bits fell in the stretch than commands had ended until then
+  pub fell : falls s ≤ ended_with s.tag (calls_of s.n s.at done.end.before done.end.moment done.end.first)
+
+pub ends_in : (laws : Laws) (s : Stretch) (fall : Fall s) → EndsIn s fall.does.does.frame (is_done laws s fall)
+unfolding is_done
+ends_in laws s fall =
+    let e : LastEnd s = the_end laws s fall in
+    let c = e.last.cut in
+    let x : Call = Sends (out.Ends e.tags) in
+    let rest : List Call = calls_of s.n c.next c.later s.now c.rest in
+    let here : calls_at c.mid (speaks s e.tags) s.n ≡ x ∷ [] = ap (λ (b : Bool). if b then x ∷ [] else []) (eq-eqb s.n s.n refl) in
+    record {
+      more = rest;
+      split = c.own s.n ∙ ap (λ (l : List Call). calls_of s.n s.at c.sooner c.mid c.led ++ (l ++ rest)) here;
+      few = λ own slot. let all = c.ordered own slot in omega (arith, all);
+      keeps = λ tag keeps. (c.keeps s.many s.n tag keeps).0;
+      lasts = (c.lasts s.n s.lasts).0;
+      linked = (c.links s.linked).0;
+      fell =
+          let ended = all_ended laws.end.slots s fall (fall_is laws.end.slots s fall) in
+          let fallen = ended.fallen in
+          let none : ended_with s.tag rest ≡ 0 = sym (all_ends s.n s.tag c.later c.next s.now c.rest) ∙ e.last.none in
+          let one : once_if (has_bit e.tags s.tag) ≡ 1 = ap once_if e.named in
+          let all = ap (ended_with s.tag) (c.own s.n ∙ ap (λ (l : List Call). calls_of s.n s.at c.sooner c.mid c.led ++ (l ++ rest)) here) in
+          let both = ended_both s.tag (calls_of s.n s.at c.sooner c.mid c.led) (x ∷ rest) in
+          omega (arith, fallen, none, one, all, both);
     }
 
 pub completions_are : Laws → CompletionsAreOfSlots

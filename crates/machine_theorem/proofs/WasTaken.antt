@@ -29,6 +29,7 @@ use Rattle.ahci_machine.specs.declared.request.Wanted.TheVariants.{Command, Data
 use Rattle.machine_laws.specs.ControllerLaws.{RunsRuled, calls_in}
 use Rattle.machine_laws.specs.Controllers.{data_calls, deed_calls, lost_calls, miss_calls, move_calls, rest_calls, supply_calls}
 use Rattle.machine_laws.specs.Deeds.{Deed, Does, Missed, Moved, Supplied, Wrote as WroteDeed}
+use Rattle.machine_theorem.specs.ReadsWritten.{NoneTaken}
 use Rattle.machine_theorem.specs.OwnSlots.{CarriedWereTaken, WasTaken}
 
 -- ---- over calls
@@ -107,12 +108,7 @@ any_both d (x ∷ xs) ys (inr there) = elim (any_both d xs ys there) [
 
 -- ---- deeds that take none
 
-abbrev pub TakeNone : List Event → Type 0
-TakeNone [] = Unit {0}
-TakeNone (call.Took frame took ∷ later) = ⊥
-TakeNone (e ∷ later) = TakeNone later
-
-none_took : {A : Type 0} (d : Carrying) (events : List Event) → TakeNone events → AnyTook d events → A
+none_took : {A : Type 0} (d : Carrying) (events : List Event) → NoneTaken events → AnyTook d events → A
 none_took d [] none is = absurd is
 none_took d (call.Took frame took ∷ later) none is = absurd none
 none_took d (call.Wrote offset value written ∷ later) none (inr is) = none_took d later none is
@@ -126,27 +122,27 @@ none_took d (call.Gathered dev number frame fed ∷ later) none (inr is) = none_
 none_took d (call.NotThere dev number fed ∷ later) none (inr is) = none_took d later none is
 none_took d (e ∷ later) none (inl is) = absurd is
 
-rests : (old new : MachineState) (h : acts.RestsNow old new) → TakeNone (rest_calls old new h)
+rests : (old new : MachineState) (h : acts.RestsNow old new) → NoneTaken (rest_calls old new h)
 rests old new (inl same) = tt
 rests old new (inr turns) = tt
 
-loses : (frame : Option Stamped) (why : Hindrance) → TakeNone (lost_calls frame why)
+loses : (frame : Option Stamped) (why : Hindrance) → NoneTaken (lost_calls frame why)
 loses None why = tt
 loses (Some f) why = tt
 
 supplies : (w : Wanted) (bytes : List ℕ) (old : MachineState) (answer : Result Told AllocError) (new : MachineState) (h : SuppliesMachine w bytes old answer new)
-    → TakeNone (supply_calls w bytes old answer new h)
+    → NoneTaken (supply_calls w bytes old answer new h)
 supplies (Command slot number) bytes old answer new h = tt
 supplies (Data dev number done) bytes old answer new h = tt
 
 misses_data : (wanted : Bool) (there : Option GatheringState) (dev : ℕ) (old : MachineState) (it : Told) (new : MachineState)
-    (h : MatchBool wanted (MatchOption there ⊥ (λ g. MissesFor g dev old it new)) (IsStale old it new)) → TakeNone (data_calls wanted there dev old it new h)
+    (h : MatchBool wanted (MatchOption there ⊥ (λ g. MissesFor g dev old it new)) (IsStale old it new)) → NoneTaken (data_calls wanted there dev old it new h)
 misses_data true None dev old it new h = tt
 misses_data true (Some g) dev old it new h = tt
 misses_data false there dev old it new h = tt
 
 misses : (w : Wanted) (old : MachineState) (answer : Result Told AllocError) (new : MachineState) (h : MissesMachine w old answer new)
-    → TakeNone (miss_calls w old answer new h)
+    → NoneTaken (miss_calls w old answer new h)
 misses (Command slot number) old answer new h = tt
 misses (Data dev number done) old (Ok it) new h = misses_data (is_wanted old dev number done) (gathering_at old dev) dev old it new h
 misses (Data dev number done) old (Err e) new h = tt
@@ -155,7 +151,7 @@ abbrev pub IsNoTaking : Deed → Type 0
 IsNoTaking (Moved (act.Takes took)) = ⊥
 IsNoTaking deed = Unit {0}
 
-move_none : (old : MachineState) (a : Act) (new : MachineState) (does : Does old (Moved a) new) → IsNoTaking (Moved a) → TakeNone (deed_calls old (Moved a) new does)
+move_none : (old : MachineState) (a : Act) (new : MachineState) (does : Does old (Moved a) new) → IsNoTaking (Moved a) → NoneTaken (deed_calls old (Moved a) new does)
 move_none old (act.Takes took) new does none = absurd none
 move_none old act.Rests new does none = rests old does.middle does.does
 move_none old (act.Loses why) new does none = loses old.incoming why
@@ -166,7 +162,7 @@ move_none old (act.Gathers dev answer) new does none = tt
 move_none old (act.Misses slot answer) new does none = tt
 move_none old a new does none = tt
 
-pub deed_none : (old : MachineState) (deed : Deed) (new : MachineState) (does : Does old deed new) → IsNoTaking deed → TakeNone (deed_calls old deed new does)
+pub deed_none : (old : MachineState) (deed : Deed) (new : MachineState) (does : Does old deed new) → IsNoTaking deed → NoneTaken (deed_calls old deed new does)
 deed_none old (Moved a) new does none = move_none old a new does none
 deed_none old (WroteDeed offset width value written) new does none = tt
 deed_none old (Supplied w bytes) new does none = supplies w bytes old does.answer new does.supplies

@@ -24,7 +24,8 @@ pub record Brings (n slot k : ℕ) (c : ControllerState) (frame : List ℕ) (too
   pub is : issue_at c.core.slots slot ≡ Some issue
   pub dev : issue.dev ≡ n
   pub kind : issue.work.kind ≡ QueuedRead
-  -- It brings bytes for this slot, which are all bytes behind its header; one of them has the number k in the command.
+  -- It brings bytes for this slot, which are all bytes behind its header, and do not go past the table; one of them has the number k in the command.
+  pub calm : is_overflow took.report.fault ≡ false
   pub wrote : Wrote
   pub brought : took.brought ≡ Some wrote
   pub slot_is : wrote.slot ≡ slot

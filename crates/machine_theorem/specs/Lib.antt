@@ -17,4 +17,8 @@ pub mod OwnSlots
 pub mod Reads
 pub mod Filled
 pub mod Brought
+pub mod ReadsWritten
 pub mod QueuedOnly
+pub mod FirstDeeds
+pub mod ReadBack
+pub mod ReadsFollow

@@ -1,7 +1,7 @@
 -- A guest that sends a disk queued commands alone: each byte of a queued read that it sees completed was brought by a FIS that this disk sent for the command
--- which the guest had supplied for the slot, and is the one of its number that the caller gave for its sectors (AHCI 1.3.1, 3.3.13, PxSACT, and 5.3.13; Serial
--- ATA 3.x, 13.6, native command queuing; ACS-3, 4, protocols).
-use Rattle.std.specs.Prelude.{ℕ, ◌≡◌, ◌<◌, ◌&&◌, Bool, true, false, not, List, [], ◌∷◌, ◌++◌, Result, Ok}
+-- which the guest had supplied for the slot; it is the one of its number that the caller gave for its sectors, and was written at its place (AHCI 1.3.1,
+-- 3.3.13, PxSACT, and 5.3.13; Serial ATA 3.x, 13.6, native command queuing; ACS-3, 4, protocols).
+use Rattle.std.specs.Prelude.{ℕ, ◌≡◌, ◌<◌, ◌&&◌, Bool, true, false, not, List, [], ◌∷◌, ◌++◌, slice_get, Some, Result, Ok}
 use Rattle.fis_view.specs.Frames.{Stamped}
 use Rattle.fis_view.specs.Seen.{seen}
 use Rattle.fis_view.specs.Table.{H2d, Command, field}
@@ -10,6 +10,7 @@ use Rattle.fis_view.specs.declared.view.Fis.TheVariants as view
 use Rattle.fis_view.specs.declared.view.FisFault.{FisFault}
 use Rattle.slots.specs.Slots.{Issue}
 use Rattle.controller_laws.specs.Events as call
+use Rattle.controller_laws.specs.Sources.{command_of, unmoved}
 use Rattle.sata_disk.specs.Hearing.{is_command}
 use Rattle.sata_disk.specs.State.{new_disk}
 use Rattle.sata_disk.specs.declared.out.Out.TheVariants as out
@@ -25,6 +26,7 @@ use Rattle.machine_laws.specs.Rising.{sent_by}
 use Rattle.machine_theorem.specs.Brought.{AllTakenWell, ByteIsBrought, DiskStretch, IsItsByte, IsReadDone}
 use Rattle.machine_theorem.specs.Identity.{AllKeep, IsAtRest, heard_as, is_for, own_of}
 use Rattle.machine_theorem.specs.OwnSlots.{AllKeepLine, BeginsClear, NoneLost}
+use Rattle.machine_theorem.specs.ReadsWritten.{IsWritten}
 
 -- ---- the guest
 
@@ -48,6 +50,8 @@ pub record SendsQueued (s : DiskStretch) : Type 0 where
 -- The disk at the port sent the FIS that brought the byte at a moment of the stretch before it was taken, for a queued command.
 pub record ByteIsOfDisk (s : DiskStretch) (dev k : ℕ) : Type 0 where
   pub brought : ByteIsBrought dev s.tag k s.at s.deeds s.now s.run
+  -- It was written at its place before the bit fell.
+  pub written : IsWritten dev s.tag k s.at s.deeds s.now s.run brought
   pub sooner : List Deed
   pub mid : MachineState
   pub led : RunsRuled s.at sooner mid
@@ -62,6 +66,10 @@ pub record ByteIsOfDisk (s : DiskStretch) (dev k : ℕ) : Type 0 where
   pub sent : sent_by mid (Moved (act.Speaks port (out.Data place len))) next does ≡ brought.does.does.frame ∷ []
   pub read : IsItsByte s k sooner mid led port place len next does brought.does.does.frame brought.brings.wrote (calls_in next between brought.mid until
       ++ call.Took brought.does.does.frame.bytes brought.took ∷ calls_in brought.after brought.later s.now brought.rest)
+  -- So what was written at the place of byte k is byte k of those that the caller gave for the sectors of the disk's command.
+  pub given : slice_get read.read.given.page.ledger.given k ≡ Some written.byte
+  -- The table by which it was written is that of the command which was supplied for the last issue in the slot before the bit falls, as the disk's FIS is.
+  pub table : command_of read.supplied.source ≡ Some (unmoved written.command)
 
 -- So it is of each byte of each queued read that such a guest sees completed behind a stretch as in `CompletedReadsAreBrought`.
 abbrev pub QueuedReadsAreBrought : Type 0

@@ -14,12 +14,16 @@ mod moments;
 mod orders;
 mod own_slots;
 mod parts;
+mod read_back;
 mod reads;
 mod standing;
 mod tags;
 mod writes;
 
-pub use bytes::{completed_reads_are_brought, filled_bytes_were_brought, queued_reads_are_brought};
+pub use bytes::{
+    completed_reads_are_brought, completed_reads_are_written, filled_bytes_were_brought,
+    queued_reads_are_brought,
+};
 pub use commands::{commands_come_from_slots, disks_hear_their_guest};
 pub use completions::{commands_are_as_supplied, completions_are_of_their_slots};
 pub use ends::{completions_are_of_devices, ends_come_from_devices};
@@ -29,6 +33,7 @@ pub use moments::data_are_of_slots;
 pub use orders::commands_are_sent_once;
 pub use own_slots::{carried_data_were_taken, payload_goes_to_its_own_slot};
 pub use parts::payload_comes_from_devices;
+pub use read_back::{completed_reads_follow_writes, guests_read_back};
 pub use reads::reads_are_as_supplied;
 pub use standing::slots_have_one_command;
 pub use tags::tags_are_counted;

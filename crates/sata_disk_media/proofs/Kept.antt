@@ -38,12 +38,12 @@ use Rattle.sata_disk.specs.Sending.{IsOut, out_at}
 use Rattle.sata_disk.specs.State.{DiskState, commands, new_disk}
 use Rattle.sata_disk.specs.declared.out.Out.{Out}
 use Rattle.sata_disk.specs.declared.out.Out.TheVariants as out
-use Rattle.sata_disk_laws.specs.Calls.{AreCalls, Answers, Asks, Call, Hears, IsCall, Sends, act_steps, after_call, after_calls, fis_steps, steps_of}
+use Rattle.sata_disk_laws.specs.Calls.{AreCalls, Answers, Asks, Call, Hears, Sends, act_steps, after_call, after_calls, fis_steps, steps_of}
 use Rattle.sata_disk_laws.specs.Laws.{reached, seen_in}
 use Rattle.sata_disk_books.specs.Books.{AreNext, AreOfPage, DataAreGiven, books_after, page_in}
 use Rattle.sata_disk_books.proofs.Door.{books_both, shown_both, shown_from}
 use Rattle.sata_disk_media.specs.Cells.{Cell, Kept, Unknown, answered_cell, asked_cell, covers, in_ranges, kept_in, sector_of}
-use Rattle.sata_disk_media.specs.Laws.{AreSparing, EndsWell, HasSector, IsBrought, IsTakenAt, IsUnread, LoadsBringWhatIsKept, ReadsBringWrites, Spares, WritesAreKept, next_data, sector_in, touches}
+use Rattle.sata_disk_media.specs.Laws.{AreSparing, EndsWell, GivenIsWritten, HasSector, IsBehindWrite, IsBrought, IsTakenAt, IsUnread, LoadsBringWhatIsKept, ReadsBringWrites, Spares, WritesAreKept, next_data, sector_in, touches}
 use Rattle.sata_disk_media.specs.Media.{IsHonest, cell_after, cell_of, kept, store_bytes}
 use Rattle.sata_disk_media.proofs.Called.{deeds_by}
 use Rattle.sata_disk_media.proofs.Moments.{is_over}
@@ -75,20 +75,27 @@ given_long : (sent part rest given : List ℕ) → given ≡ sent ++ part ++ res
 given_long sent part rest given e =
     let a = ap length e in let b = length-append (sent ++ part) rest in let c = length-append sent part in omega (arith, a, b, c)
 
-pub loads_bring_what_is_kept : DataAreGiven → LoadsBringWhatIsKept
-loads_bring_what_is_kept data' p limit first later place n s g are honest unread goes page has =
-    let calls : List Call = first ++ later in
-    let part : List ℕ = next_data p limit calls place in
+-- each whole sector of what was given for a command since the first calls
+given_sectors : (p : Profile) (limit : ℕ) (first later : List Call) (place s : ℕ) (g : Page) → place < 33 → AreCalls (new_disk p limit) (first ++ later)
+    → IsHonest p limit (first ++ later) → IsUnread (page_in p limit first place) → page_in p limit (first ++ later) place ≡ Some g
+    → g.command.lba ≤ s → (s - g.command.lba) * 512 + 512 ≤ length g.ledger.given
+    → IsBrought p limit first later s (sector_of g.command.lba s g.ledger.given)
+given_sectors p limit first later place s g low are honest unread page least most =
     let held = run_held p limit first s (are_first first later (new_disk p limit) are) in
-    let low : place < 33 = goes.2.0 in
     let given = calls_given p limit first later [] (reached p limit first) (books_in p limit first) place s (cell_of (new_disk p limit) s Unknown first)
     (are_then first later (new_disk p limit) are) (subst (λ z. IsHonest p limit (z ++ later)) (sym (append-nil first)) honest) low held (unread_given p limit first (books_in p limit first) place unread) in
     let here : at_page (books_after (books_in p limit first) (shown_from (reached p limit first) later)).pages place ≡ Some g =
     ap (λ (b : Books). at_page b.pages place) (sym (books_more p limit first later)) ∙ page in
+    (given g here).sectors s least most
+
+pub loads_bring_what_is_kept : DataAreGiven → LoadsBringWhatIsKept
+loads_bring_what_is_kept data' p limit first later place n s g are honest unread goes page has =
+    let calls : List Call = first ++ later in
+    let part : List ℕ = next_data p limit calls place in
     let next = next_of (page_in p limit calls place) g part page (data' p limit calls place n are goes) in
     let f = has.first in let l = has.last in
     let long = given_long g.ledger.sent part next.rest g.ledger.given next.given in
-    let brought = (given g here).sectors s (omega (arith, f)) (omega (arith, f, l, long)) in
+    let brought = given_sectors p limit first later place s g goes.2.0 are honest unread page (omega (arith, f)) (omega (arith, f, l, long)) in
     subst (λ x. IsBrought p limit first later s x)
     (ap (λ x. sector_of g.command.lba s x) next.given ∙ part_sector g.command.lba s g.ledger.sent part next.rest f l) brought
 
@@ -252,8 +259,18 @@ taken_unread d b bytes place t long low =
 
 -- ## Read after write
 
-pub reads_bring_writes : LoadsBringWhatIsKept → WritesAreKept → ReadsBringWrites
-reads_bring_writes loads writes p limit calls place n s written read are honest r =
+-- the calls by which the read was taken, and what a load brought since
+record Taken (p : Profile) (limit : ℕ) (calls : List Call) (place s : ℕ) (written : Page) : Type 0 where
+  heard : List Call
+  last : List Call
+  same : calls ≡ heard ++ last
+  are : AreCalls (new_disk p limit) (heard ++ last)
+  unread : IsUnread (page_in p limit heard place)
+  written_is : (bytes : List ℕ) → IsBrought p limit heard last s bytes → bytes ≡ sector_of written.command.lba s written.ledger.came
+
+behind_write : WritesAreKept → (p : Profile) (limit : ℕ) (calls : List Call) (place s : ℕ) (written : Page) → place < 33 → AreCalls (new_disk p limit) calls
+    → IsBehindWrite p limit calls place s written → Taken p limit calls place s written
+behind_write writes p limit calls place s written low are r =
     let end : Call = Sends r.end in
     let f : List Call = r.first ++ end ∷ r.middle in
     let heard : List Call = f ++ Hears r.bytes ∷ [] in
@@ -264,23 +281,39 @@ reads_bring_writes loads writes p limit calls place n s written read are honest 
     let going = (are_then r.first (end ∷ r.middle) (new_disk p limit) at_f).0 in
     let was : kept p limit r.first s ≡ Some (sector_of written.command.lba s written.ledger.came) =
     writes p limit r.first r.end r.from s written (are_first r.first (end ∷ r.middle) (new_disk p limit) at_f) going r.ends r.page r.writes r.covered in
-    let low : place < 33 = r.goes.2.0 in
     let held = run_held p limit f s at_f in
-    let unread : IsUnread (page_in p limit heard place) =
-    subst (λ (b : Books). IsUnread (at_page b.pages place)) (sym (books_more p limit f (Hears r.bytes ∷ [])))
-    (taken_unread (reached p limit f) (books_in p limit f) r.bytes place r.taken held.held.agree.kept.pages low) in
-    let goes : IsOut (reached p limit (heard ++ r.last)) (Some (out.Data place n)) = subst (λ x. IsOut (reached p limit x) (Some (out.Data place n))) same r.goes in
-    let page : page_in p limit (heard ++ r.last) place ≡ Some read = ap (λ x. page_in p limit x place) (sym same) ∙ r.reads in
-    let has : HasSector read (next_data p limit (heard ++ r.last) place) s = subst (λ x. HasSector read (next_data p limit x place) s) same r.has in
-    let b = loads p limit heard r.last place n s read are' (subst (λ x. IsHonest p limit x) same honest) unread goes page has in
     let upto : List Call = (end ∷ r.middle) ++ Hears r.bytes ∷ [] in
-    let between : List Call = upto ++ b.before in
-    let rest : List Call = Answers b.number b.answer ∷ b.after in
-    let parts : (end ∷ r.middle) ++ Hears r.bytes ∷ r.last ≡ between ++ rest =
-    sym (append_assoc (end ∷ r.middle) (Hears r.bytes ∷ []) r.last) ∙ ap (λ x. upto ++ x) b.answered ∙ sym (append_assoc upto b.before rest) in
-    let now : kept p limit (r.first ++ between) s ≡ Some (sector_of written.command.lba s written.ledger.came) =
-    stays p limit r.first between rest s _ was (subst (λ x. AreSparing (reached p limit r.first) s x) parts r.sparing) in
-    let where' : heard ++ b.before ≡ r.first ++ between =
-    ap (λ x. x ++ b.before) (append_assoc r.first (end ∷ r.middle) (Hears r.bytes ∷ [])) ∙ append_assoc r.first upto b.before in
-    ap (λ x. sector_in read (next_data p limit x place) s) same
-    ∙ b.same (sector_of written.command.lba s written.ledger.came) (ap (λ x. kept p limit x s) where' ∙ now)
+    record {
+      heard = heard;
+      last = r.last;
+      same = same;
+      are = are';
+      unread = subst (λ (b : Books). IsUnread (at_page b.pages place)) (sym (books_more p limit f (Hears r.bytes ∷ [])))
+          (taken_unread (reached p limit f) (books_in p limit f) r.bytes place r.taken held.held.agree.kept.pages low);
+      written_is = λ bytes b.
+          let between : List Call = upto ++ b.before in
+          let rest : List Call = Answers b.number b.answer ∷ b.after in
+          let parts : (end ∷ r.middle) ++ Hears r.bytes ∷ r.last ≡ between ++ rest =
+          sym (append_assoc (end ∷ r.middle) (Hears r.bytes ∷ []) r.last) ∙ ap (λ x. upto ++ x) b.answered ∙ sym (append_assoc upto b.before rest) in
+          let now : kept p limit (r.first ++ between) s ≡ Some (sector_of written.command.lba s written.ledger.came) =
+          stays p limit r.first between rest s _ was (subst (λ x. AreSparing (reached p limit r.first) s x) parts r.sparing) in
+          let where' : heard ++ b.before ≡ r.first ++ between =
+          ap (λ x. x ++ b.before) (append_assoc r.first (end ∷ r.middle) (Hears r.bytes ∷ [])) ∙ append_assoc r.first upto b.before in
+          b.same (sector_of written.command.lba s written.ledger.came) (ap (λ x. kept p limit x s) where' ∙ now);
+    }
+
+pub reads_bring_writes : LoadsBringWhatIsKept → WritesAreKept → ReadsBringWrites
+reads_bring_writes loads writes p limit calls place n s written read are honest r =
+    let t = behind_write writes p limit calls place s written r.goes.2.0 are r.behind in
+    let goes : IsOut (reached p limit (t.heard ++ t.last)) (Some (out.Data place n)) = subst (λ x. IsOut (reached p limit x) (Some (out.Data place n))) t.same r.goes in
+    let page : page_in p limit (t.heard ++ t.last) place ≡ Some read = ap (λ x. page_in p limit x place) (sym t.same) ∙ r.reads in
+    let has : HasSector read (next_data p limit (t.heard ++ t.last) place) s = subst (λ x. HasSector read (next_data p limit x place) s) t.same r.has in
+    ap (λ x. sector_in read (next_data p limit x place) s) t.same
+    ∙ t.written_is _ (loads p limit t.heard t.last place n s read t.are (subst (λ x. IsHonest p limit x) t.same honest) t.unread goes page has)
+
+pub given_is_written : WritesAreKept → GivenIsWritten
+given_is_written writes p limit calls place s written read low are honest behind page has =
+    let t = behind_write writes p limit calls place s written low are behind in
+    t.written_is (sector_of read.command.lba s read.ledger.given)
+    (given_sectors p limit t.heard t.last place s read low t.are (subst (λ x. IsHonest p limit x) t.same honest) t.unread
+    (ap (λ x. page_in p limit x place) (sym t.same) ∙ page) has.first has.last)

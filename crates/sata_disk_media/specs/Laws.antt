@@ -135,9 +135,9 @@ abbrev pub UndisturbedIsSpared : Type 0
 UndisturbedIsSpared = (p : Profile) (limit : ℕ) (first later : List Call) (s : ℕ) → AreCalls (new_disk p limit) (first ++ later)
     → ((before after : List Call) → later ≡ before ++ after → IsUndisturbed p limit (first ++ before) s) → AreSparing (reached p limit first) s later
 
--- Behind the first calls the FIS goes that ends a write well. Then come others, and a FIS that asks for a read, and others, and Data of this
--- place go next that have a sector of the write. In between no other store and no discard of it is asked for.
-pub record IsReadBack (p : Profile) (limit : ℕ) (calls : List Call) (place n s : ℕ) (written : Page) (read : Page) : Type 0 where
+-- Behind the first calls the FIS goes that ends a write well. Then come others, and a FIS that asks for a read at this place, and others. In between no other
+-- store and no discard of a sector of the write is asked for.
+pub record IsBehindWrite (p : Profile) (limit : ℕ) (calls : List Call) (place s : ℕ) (written : Page) : Type 0 where
   pub first : List Call
   pub end : Out
   pub middle : List Call
@@ -150,10 +150,14 @@ pub record IsReadBack (p : Profile) (limit : ℕ) (calls : List Call) (place n s
   pub writes : written.command.write ≡ true
   pub covered : covers written.command.lba written.command.count s ≡ true
   pub taken : IsTakenAt (reached p limit (first ++ Sends end ∷ middle)) bytes place
+  pub sparing : AreSparing (reached p limit first) s (Sends end ∷ middle ++ Hears bytes ∷ last)
+
+-- Data of this place go next that have a sector of the write.
+pub record IsReadBack (p : Profile) (limit : ℕ) (calls : List Call) (place n s : ℕ) (written : Page) (read : Page) : Type 0 where
+  pub behind : IsBehindWrite p limit calls place s written
   pub goes : IsOut (reached p limit calls) (Some (out.Data place n))
   pub reads : page_in p limit calls place ≡ Some read
   pub has : HasSector read (next_data p limit calls place) s
-  pub sparing : AreSparing (reached p limit first) s (Sends end ∷ middle ++ Hears bytes ∷ last)
 
 -- In every run with an honest medium a read that was heard after the end of a write went brings the bytes that came for the write, at each
 -- sector that nothing else stored to or discarded in between.
@@ -161,3 +165,15 @@ abbrev pub ReadsBringWrites : Type 0
 ReadsBringWrites = (p : Profile) (limit : ℕ) (calls : List Call) (place n s : ℕ) (written read : Page)
     → AreCalls (new_disk p limit) calls → IsHonest p limit calls → IsReadBack p limit calls place n s written read
     → sector_in read (next_data p limit calls place) s ≡ sector_of written.command.lba s written.ledger.came
+
+-- the caller gave the whole sector for the command
+pub record HasGiven (g : Page) (s : ℕ) : Type 0 where
+  pub first : g.command.lba ≤ s
+  pub last : (s - g.command.lba) * 512 + 512 ≤ length g.ledger.given
+
+-- In every run with an honest medium each whole sector of what was given for such a read has these bytes, whether its Data went or not.
+abbrev pub GivenIsWritten : Type 0
+GivenIsWritten = (p : Profile) (limit : ℕ) (calls : List Call) (place s : ℕ) (written read : Page) → place < 33
+    → AreCalls (new_disk p limit) calls → IsHonest p limit calls → IsBehindWrite p limit calls place s written
+    → page_in p limit calls place ≡ Some read → HasGiven read s
+    → sector_of read.command.lba s read.ledger.given ≡ sector_of written.command.lba s written.ledger.came

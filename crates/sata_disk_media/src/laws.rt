@@ -1,6 +1,7 @@
 //! The laws.
 
-ghost use Rattle.sata_disk_media.specs.Laws.{LoadsBringWhatIsKept, ReadsBringWrites, StoresAreOfWrites, UndisturbedIsSpared, WritesAreKept};
+ghost use Rattle.sata_disk_media.specs.Laws.{GivenIsWritten, LoadsBringWhatIsKept, ReadsBringWrites, StoresAreOfWrites};
+ghost use Rattle.sata_disk_media.specs.Laws.{UndisturbedIsSpared, WritesAreKept};
 
 /// A law. In every run with an honest medium each whole sector of the Data FIS of a read that goes next has the bytes that the medium was
 /// known to keep as the load that brought it was answered.
@@ -27,6 +28,14 @@ pub fn reads_bring_writes()
     ensures { ReadsBringWrites }
 {
     loads_bring_what_is_kept();
+    writes_are_kept();
+}
+
+/// A law. In every run with an honest medium what the caller gave for a read that is heard after the end of a write went has the bytes that
+/// came for that write, at each sector that nothing else stored to or discarded in between, whether Data of it went or not.
+pub fn reads_are_given_writes()
+    ensures { GivenIsWritten }
+{
     writes_are_kept();
 }
 

@@ -4,6 +4,6 @@
 mod laws;
 
 pub use laws::{
-    loads_bring_what_is_kept, reads_bring_writes, stores_are_of_writes, undisturbed_is_spared,
-    writes_are_kept,
+    loads_bring_what_is_kept, reads_are_given_writes, reads_bring_writes, stores_are_of_writes,
+    undisturbed_is_spared, writes_are_kept,
 };

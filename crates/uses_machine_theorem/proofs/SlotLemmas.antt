@@ -8,9 +8,12 @@ use Rattle.machine_theorem.specs.Given.{CommandsAreGiven, DataAreGiven}
 use Rattle.machine_theorem.specs.Identity.{CommandsAreTheSlots}
 use Rattle.machine_theorem.specs.Orders.{CommandsAreSentOnce}
 use Rattle.machine_theorem.specs.QueuedOnly.{QueuedReadsAreBrought}
+use Rattle.machine_theorem.specs.ReadBack.{GuestsReadBack}
 use Rattle.machine_theorem.specs.Reads.{ReadsAreAsSupplied}
+use Rattle.machine_theorem.specs.ReadsFollow.{CompletedReadsFollowWrites}
 use Rattle.machine_theorem.specs.Tags.{TagsOfNewDisks}
-use Rattle.uses_machine_theorem.specs.Slots.{KnowsBrought, KnowsBroughtSince, KnowsBytes, KnowsData, KnowsEnds, KnowsFilled, KnowsGiven, KnowsOrders, KnowsQueued, KnowsReads, KnowsSlots, KnowsTags, stretch_of}
+use Rattle.uses_machine_theorem.specs.Slots.{KnowsBrought, KnowsBroughtSince, KnowsBytes, KnowsData, KnowsEnds, KnowsFilled, KnowsGiven, KnowsOrders, KnowsQueued, KnowsReads, KnowsSlots, KnowsTags, stretch_of, KnowsFollowing, KnowsReadBack, KnowsWritten}
+use Rattle.machine_theorem.specs.ReadsWritten.{ReadsAreWritten}
 
 pub tags : TagsOfNewDisks → (now : MachineState) → KnowsTags now
 tags law now led n d there lived p limit new tag low = law led.ports led.legacy led.first led.opens led.deeds now led.run n d there lived p limit new tag low
@@ -47,6 +50,9 @@ pub brought_since : ReadsAreBroughtSince → (now : MachineState) → KnowsBroug
 brought_since law now at led deeds run slot low issue done none k below =
     law led.ports led.legacy led.first led.opens led.deeds at led.run deeds now run slot low issue done none k below
 
+pub written : ReadsAreWritten → (now : MachineState) → KnowsWritten now
+written law now led slot low issue done k below = law led.ports led.legacy led.first led.opens led.deeds now led.run slot low issue done k below
+
 pub bytes : CompletedReadsAreBrought → (now : MachineState) → KnowsBytes now
 bytes law now at led many n c dev tag below dev_low low rest begins deeds run linked lasts keeps line well lost p limit base are same issue done own mine k small =
     law led.ports led.legacy (stretch_of many n tag at led deeds now run p limit base) led.opens c dev below dev_low low rest begins linked lasts keeps line well lost are same issue
@@ -60,3 +66,15 @@ queued law now at led many n c dev tag below dev_low low rest begins deeds run l
 pub filled : FilledWereBrought → (now : MachineState) → KnowsFilled now
 filled law now at deeds run runs n low slot slot_low past told none issue is own kind k over =
     law n low slot slot_low at.controller now.controller (calls_in at deeds now run) runs.calls past told none issue is own kind k over
+
+pub read_back : GuestsReadBack → (now : MachineState) → KnowsReadBack now
+read_back law now at led many n c dev w r below dev_low w_low r_low rest rest_r begins deeds run linked lasts keeps keeps_r line runs well lost p limit base
+    are same honest k end falls took new does mine port calm wrote brought named issue is kind =
+    law led.ports led.legacy led.first led.opens led.deeds at led.run many n c dev w r below dev_low w_low r_low rest rest_r begins deeds now run linked lasts
+    keeps keeps_r line runs well lost p limit base are same honest k end falls took new does mine port calm wrote brought named issue is kind
+
+pub following : CompletedReadsFollowWrites → (now : MachineState) → KnowsFollowing now
+following law now at led many n w r below w_low r_low rest rest_r deeds run linked lasts keeps keeps_r p limit base are same honest k end falls took new does
+    rules fell =
+    law led.ports led.legacy led.first led.opens led.deeds at led.run many n w r below w_low r_low rest rest_r deeds now run linked lasts keeps keeps_r p limit
+    base are same honest k end falls took new does rules fell

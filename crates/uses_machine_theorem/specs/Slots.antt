@@ -1,7 +1,8 @@
 -- What a caller of a machine knows of the commands under way at its disks and of the slots of these numbers.
-use Rattle.std.specs.Prelude.{◌≡◌, ◌<◌, ◌≤◌, ◌+◌, ◌==◌, ℕ, Bool, true, false, List, Some}
+use Rattle.std.specs.Prelude.{◌≡◌, ◌<◌, ◌≤◌, ◌+◌, ◌==◌, ℕ, Bool, true, false, List, Some, ◌++◌}
 use Rattle.slots.specs.Bytes.{is_over}
 use Rattle.slots.specs.Slots.{Issue, has_bit, holds, issue_at}
+use Rattle.fis_view.specs.Frames.{Stamped}
 use Rattle.slots.specs.declared.work.Kind.TheVariants.{QueuedRead}
 use Rattle.hba_fbs.specs.Taking.{port_of}
 use Rattle.hba_fbs.specs.Views.{view_of}
@@ -20,6 +21,7 @@ use Rattle.sata_disk.specs.State.{DiskState, commands, new_disk}
 use Rattle.sata_disk.specs.declared.out.Out.TheVariants as out
 use Rattle.sata_disk_laws.specs.Calls.{AreCalls, Call}
 use Rattle.sata_disk_laws.specs.Laws.{reached}
+use Rattle.sata_disk_media.specs.Media.{IsHonest}
 use Rattle.ahci_machine.specs.States.{HasRules, MachineState, bay_at}
 use Rattle.ahci_machine.specs.declared.act.Act.TheVariants as act
 use Rattle.ahci_machine.specs.declared.bay.Unit.TheVariants.{Disk}
@@ -32,11 +34,15 @@ use Rattle.machine_theorem.specs.Completions.{IsDone}
 use Rattle.machine_theorem.specs.Filled.{WasBrought}
 use Rattle.machine_theorem.specs.Following.{AllHeardWell}
 use Rattle.machine_theorem.specs.Given.{IsGiven, IsGivenData}
-use Rattle.machine_theorem.specs.Identity.{AllKeep, IsAtRest, IsTheSlots, own_of}
+use Rattle.machine_theorem.specs.Identity.{AllKeep, IsAtRest, IsTheSlots, own_of, calls_of}
 use Rattle.machine_theorem.specs.Orders.{fallen_in, is_sent_of, ordered_in, standing_in}
 use Rattle.machine_theorem.specs.OwnSlots.{AllKeepLine, BeginsClear, NoneLost, is_of}
 use Rattle.machine_theorem.specs.QueuedOnly.{ByteIsOfDisk, SendsQueued}
+use Rattle.machine_theorem.specs.FirstDeeds.{first_deeds, first_run, machine_at}
+use Rattle.machine_theorem.specs.ReadBack.{Falls, FallsAt, IsReadBack}
 use Rattle.machine_theorem.specs.Reads.{IsBroughtAsRead}
+use Rattle.machine_theorem.specs.ReadsFollow.{IsFollowed}
+use Rattle.machine_theorem.specs.ReadsWritten.{ByteIsWritten}
 use Rattle.machine_theorem.specs.Tags.{IsCounted}
 use Rattle.uses_machine_theorem.specs.Led.{IsLed}
 
@@ -110,6 +116,11 @@ KnowsBroughtSince now = (at : MachineState) (led : IsLed at) (deeds : List Deed)
     → (issue : Issue) → IsReadDone now slot issue → holds (is_sent_of (λ dev. dev == issue.dev)) (issue_at at.controller.core.slots slot) ≡ false
     → (k : ℕ) → k < issue.work.len → ByteIsBrought issue.dev slot k at deeds now run
 
+-- And each was written at its place before the bit falls.
+abbrev pub KnowsWritten : MachineState → Type 0
+KnowsWritten now = (led : IsLed now) (slot : ℕ) → slot < 32 → (issue : Issue) → IsReadDone now slot issue
+    → (k : ℕ) → k < issue.work.len → ByteIsWritten issue.dev slot k led.first led.deeds now led.run
+
 abbrev pub stretch_of : (many : Bool) → (n tag : ℕ) → (at : MachineState) → IsLed at → (deeds : List Deed) → (now : MachineState) → RunsRuled at deeds now
     → Profile → (limit : ℕ) → List Call → DiskStretch
 stretch_of many n tag at led deeds now run p limit base = record {
@@ -156,3 +167,35 @@ KnowsFilled now = (at : MachineState) (deeds : List Deed) (run : RunsRuled at de
     → (past : History) → IsTold (view_of n at.controller.core) past → holds (is_sent_of (λ dev. dev == n)) (issue_at at.controller.core.slots slot) ≡ false
     → (issue : Issue) → issue_at now.controller.core.slots slot ≡ Some issue → issue.dev ≡ n → issue.work.kind ≡ QueuedRead
     → (k : ℕ) → is_over issue.over k ≡ true → WasBrought n slot k at.controller (calls_in at deeds now run) now.controller
+
+-- The bit of w falls behind such a moment as a FIS is taken, then slot r is free, and then Data come for a queued read in slot r: they have the bytes of what
+-- was written by the command whose bit fell, if the medium gives what it was last told to keep, and nothing else was stored or discarded there in between.
+abbrev pub KnowsReadBack : MachineState → Type 0
+KnowsReadBack now = (at : MachineState) (led : IsLed at) (many : Bool) (n c dev w r : ℕ) → n < 15 → dev < 16 → w < 32 → r < 32
+    → (rest : IsAtRest many n w led.first led.deeds at led.run) → IsAtRest many n r led.first led.deeds at led.run → BeginsClear n c dev at
+    → (deeds : List Deed) (run : RunsRuled at deeds now) → HasLink deeds → AllLast n at deeds now run
+    → AllKeep many n w at deeds now run → AllKeep many n r at deeds now run → AllKeepLine many n c dev at deeds now run
+    → (runs : ControllerRuns at deeds now run) → AllHeardWell dev at.controller (calls_in at deeds now run) now.controller runs.calls
+    → NoneLost dev (calls_in at deeds now run)
+    → (p : Profile) (limit : ℕ) (base : List Call) → AreCalls (new_disk p limit) base → rest.disk ≡ reached p limit base
+    → IsHonest p limit (base ++ calls_of n at deeds now run)
+    → (k : ℕ) (end : Stamped) → FallsAt (own_of many n) w r end k at deeds now run
+    → (took : Took) (new : MachineState) (does : Does now (Moved (act.Takes took)) new) → is_of n c does.does.frame ≡ true
+    → port_of does.does.frame.bytes ≡ dev → is_overflow took.report.fault ≡ false → (wrote : Wrote) → took.brought ≡ Some wrote → wrote.slot ≡ r
+    → (issue : Issue) → issue_at now.controller.core.slots wrote.slot ≡ Some issue → issue.work.kind ≡ QueuedRead
+    → IsReadBack many n w r led.first led.deeds at led.run (first_deeds k deeds) (machine_at k at deeds now run) (first_run k at deeds now run) deeds
+    p limit base end does.does.frame wrote
+
+-- The bit of w falls behind such a moment as a FIS is taken, then slot r is free, and then the bit of r falls as a FIS is taken: if the one is a write and the
+-- other a read, the Data that the disk sent for the read have the bytes of what was written, if the medium and what is in between are so.
+abbrev pub KnowsFollowing : MachineState → Type 0
+KnowsFollowing now = (at : MachineState) (led : IsLed at) (many : Bool) (n w r : ℕ) → n < 15 → w < 32 → r < 32
+    → (rest : IsAtRest many n w led.first led.deeds at led.run) → IsAtRest many n r led.first led.deeds at led.run
+    → (deeds : List Deed) (run : RunsRuled at deeds now) → HasLink deeds → AllLast n at deeds now run
+    → AllKeep many n w at deeds now run → AllKeep many n r at deeds now run
+    → (p : Profile) (limit : ℕ) (base : List Call) → AreCalls (new_disk p limit) base → rest.disk ≡ reached p limit base
+    → IsHonest p limit (base ++ calls_of n at deeds now run)
+    → (k : ℕ) (end : Stamped) → FallsAt (own_of many n) w r end k at deeds now run
+    → (took : Took) (new : MachineState) (does : Does now (Moved (act.Takes took)) new) → HasRules new → Falls (own_of many n) r now new
+    → IsFollowed many n w r led.first led.deeds at led.run (first_deeds k deeds) (machine_at k at deeds now run) (first_run k at deeds now run) deeds now run
+    p limit base end does.does.frame

@@ -10,6 +10,9 @@ ghost use Rattle.uses_machine_theorem.specs.Led.{IsLed, KnowsDisks, LendsBrought
 ghost use Rattle.uses_machine_theorem.specs.Led.{SpeaksSupplied};
 ghost use Rattle.uses_machine_theorem.specs.Slots.{KnowsBrought, KnowsBroughtSince, KnowsBytes, KnowsData, KnowsEnds, KnowsFilled};
 ghost use Rattle.uses_machine_theorem.specs.Slots.{KnowsGiven, KnowsOrders, KnowsQueued, KnowsReads, KnowsSlots, KnowsTags};
+ghost use Rattle.uses_machine_theorem.specs.Slots.{KnowsData, KnowsEnds, KnowsFollowing, KnowsGiven, KnowsOrders, KnowsReadBack, KnowsReads};
+ghost use Rattle.uses_machine_theorem.specs.Slots.{KnowsSlots, KnowsTags};
+ghost use Rattle.uses_machine_theorem.specs.Slots.{KnowsWritten};
 ghost use Rattle.uses_machine_theorem.specs.Standing.{BeginsToStand, GoesOnStanding};
 
 use ahci_controller::Width;
@@ -141,6 +144,9 @@ pub fn plugs(machine: &mut Machine, port: u8) -> Result<(), PortFault>
 /// tag are the bytes of its sectors, and where the guest sees it completed, the disk had done all of it. What a FIS brings for the slot of a
 /// queued read are those bytes, each at its number, while no FIS of the disk is lost or at fault. And where the guest sees a queued read completed,
 /// each byte of it was brought by such a FIS, and nothing was issued in the slot since then.
+/// queued read are those bytes, each at its number, while no FIS of the disk is lost or at fault. And if the medium gives what it was last told to keep, they
+/// are what the guest wrote there, by a write that it saw completed before; and so are all that the disk sent for a read that the guest sees completed.
+/// each byte of it was brought by such a FIS and written at its place, and nothing was issued in the slot since then.
 pub fn knows_commands(machine: &Machine)
     ensures given { KnowsGiven machine.now }
     ensures sent { KnowsData machine.now }
@@ -148,14 +154,20 @@ pub fn knows_commands(machine: &Machine)
     ensures read { KnowsReads machine.now }
     ensures brought { KnowsBrought machine.now }
     ensures since { KnowsBroughtSince machine.now }
+    ensures written { KnowsWritten machine.now }
     ensures bytes { KnowsBytes machine.now }
     ensures queued { KnowsQueued machine.now }
     ensures filled { KnowsFilled machine.now }
+    ensures back { KnowsReadBack machine.now }
+    ensures follows { KnowsFollowing machine.now }
 {
     machine_theorem::commands_are_as_supplied();
     machine_theorem::completions_are_of_their_slots();
     machine_theorem::reads_are_as_supplied();
     machine_theorem::completed_reads_are_brought();
+    machine_theorem::completed_reads_are_written();
     machine_theorem::queued_reads_are_brought();
     machine_theorem::filled_bytes_were_brought();
+    machine_theorem::guests_read_back();
+    machine_theorem::completed_reads_follow_writes();
 }

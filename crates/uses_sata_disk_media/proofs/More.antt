@@ -6,8 +6,8 @@ use Rattle.sata_disk.specs.Sending.{IsOut, part_at}
 use Rattle.sata_disk.specs.State.{DiskState, commands}
 use Rattle.sata_disk.specs.declared.out.Out.{Out}
 use Rattle.sata_disk.specs.declared.out.Out.TheVariants as out
-use Rattle.sata_disk_media.specs.Laws.{ReadsBringWrites, WritesAreKept, sector_in}
-use Rattle.uses_sata_disk_media.specs.Kept.{BringsWhatIsWritten, KeepsWhatIsWritten}
+use Rattle.sata_disk_media.specs.Laws.{GivenIsWritten, ReadsBringWrites, WritesAreKept, sector_in}
+use Rattle.uses_sata_disk_media.specs.Kept.{BringsWhatIsWritten, IsGivenWhatIsWritten, KeepsWhatIsWritten}
 
 pub brings : (d : DiskState) (x : Option Out) → ReadsBringWrites → BringsWhatIsWritten d x
 brings d None law = tt
@@ -19,3 +19,6 @@ pub keeps : (d : DiskState) (x : Option Out) → IsOut d x → WritesAreKept →
 keeps d None is law = tt
 keeps d (Some o) is law = λ p limit calls place s written r well page write cov.
     law p limit calls o place s written r.0 (subst (λ e. IsOut e (Some o)) r.1 is) well page write cov
+
+pub given : (d : DiskState) → GivenIsWritten → IsGivenWhatIsWritten d
+given d law p limit calls place s written read low r honest behind page has = law p limit calls place s written read low r.0 honest behind page has

@@ -1,5 +1,5 @@
 -- What a caller knows of the FIS that goes next, whatever run led to the disk.
-use Rattle.std.specs.Prelude.{ℕ, ◌≡◌, true, List, Option, Some, None}
+use Rattle.std.specs.Prelude.{ℕ, ◌≡◌, ◌<◌, true, List, Option, Some, None}
 use Rattle.block_disk.specs.Laws.{Page}
 use Rattle.block_queue.specs.Line.{command_at}
 use Rattle.disk_pages.specs.declared.profile.Profile.{Profile}
@@ -10,7 +10,7 @@ use Rattle.sata_disk.specs.declared.out.Out.TheVariants as out
 use Rattle.sata_disk_laws.specs.Calls.{Call}
 use Rattle.sata_disk_books.specs.Books.{page_in}
 use Rattle.sata_disk_media.specs.Cells.{covers, sector_of}
-use Rattle.sata_disk_media.specs.Laws.{EndsWell, IsReadBack, sector_in}
+use Rattle.sata_disk_media.specs.Laws.{EndsWell, HasGiven, IsBehindWrite, IsReadBack, sector_in}
 use Rattle.sata_disk_media.specs.Media.{IsHonest, kept}
 use Rattle.uses_sata_disk.specs.Reached.{IsReached}
 
@@ -27,3 +27,9 @@ KeepsWhatIsWritten d None = Unit {0}
 KeepsWhatIsWritten d (Some o) = (p : Profile) (limit : ℕ) (calls : List Call) (place s : ℕ) (written : Page)
     → IsReached p limit calls d → EndsWell o place → page_in p limit calls place ≡ Some written → written.command.write ≡ true
     → covers written.command.lba written.command.count s ≡ true → kept p limit calls s ≡ Some (sector_of written.command.lba s written.ledger.came)
+
+-- what was given for a read: at each sector of a write that ended before its command was heard it is the write's
+abbrev pub IsGivenWhatIsWritten : DiskState → Type 0
+IsGivenWhatIsWritten d = (p : Profile) (limit : ℕ) (calls : List Call) (place s : ℕ) (written read : Page) → place < 33
+    → IsReached p limit calls d → IsHonest p limit calls → IsBehindWrite p limit calls place s written → page_in p limit calls place ≡ Some read
+    → HasGiven read s → sector_of read.command.lba s read.ledger.given ≡ sector_of written.command.lba s written.ledger.came

@@ -2,10 +2,10 @@
 #![tactic(auto)]
 
 ghost use Rattle.sata_disk.specs.Sending.{IsOut};
-ghost use Rattle.uses_sata_disk_media.specs.Kept.{BringsWhatIsWritten, KeepsWhatIsWritten};
+ghost use Rattle.uses_sata_disk_media.specs.Kept.{BringsWhatIsWritten, IsGivenWhatIsWritten, KeepsWhatIsWritten};
 
 use sata_disk::{Out, SataDisk};
-use sata_disk_media::{reads_bring_writes, writes_are_kept};
+use sata_disk_media::{reads_are_given_writes, reads_bring_writes, writes_are_kept};
 
 /// The FIS that goes next. Whatever run with an honest medium led to the disk: Data have, at each sector of a write that ended before the
 /// command was heard, the bytes of that write; and where the FIS says that a write ended well, the medium keeps the bytes of that write.
@@ -17,4 +17,12 @@ pub fn next(disk: &SataDisk) -> Option<Out>
     reads_bring_writes();
     writes_are_kept();
     disk.next_out()
+}
+
+/// What the caller knows of its reads; it runs no code. Whatever run with an honest medium led to the disk: what it gave for a read has, at each
+/// sector of a write that ended before the command was heard, the bytes of that write.
+pub fn knows_reads(disk: &SataDisk)
+    ensures { IsGivenWhatIsWritten disk.now }
+{
+    reads_are_given_writes();
 }

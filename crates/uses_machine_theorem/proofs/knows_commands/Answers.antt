@@ -1,4 +1,4 @@
-use Rattle.uses_machine_theorem.proofs.SlotLemmas.{brought, brought_since, bytes, data_are, ends, filled, given, queued, reads}
+use Rattle.uses_machine_theorem.proofs.SlotLemmas.{brought, brought_since, bytes, data_are, ends, filled, given, queued, reads, following, read_back, written}
 use Rattle.uses_machine_theorem.proofs.knows_commands.Goals as goal
 
 pub returns : goal.returns
@@ -9,7 +9,10 @@ returns c = record {
   read = reads c.reads_are_as_supplied.ensures c.args.machine.now;
   brought = brought c.completed_reads_are_brought.ensures.brought c.args.machine.now;
   since = brought_since c.completed_reads_are_brought.ensures.since c.args.machine.now;
+  written = written c.completed_reads_are_written.ensures c.args.machine.now;
   bytes = bytes c.completed_reads_are_brought.ensures.read c.args.machine.now;
   queued = queued c.queued_reads_are_brought.ensures c.args.machine.now;
   filled = filled c.filled_bytes_were_brought.ensures c.args.machine.now;
+  back = read_back c.guests_read_back.ensures.back c.args.machine.now;
+  follows = following c.completed_reads_follow_writes.ensures c.args.machine.now;
 }

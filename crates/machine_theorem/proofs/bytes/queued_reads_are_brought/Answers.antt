@@ -5,6 +5,7 @@ use Rattle.machine_theorem.proofs.Falls as falls
 use Rattle.machine_theorem.proofs.OwnPlace as places
 use Rattle.machine_theorem.proofs.Sent as sent
 use Rattle.machine_theorem.proofs.TheSlots as slots
+use Rattle.machine_theorem.proofs.WrittenBytes as written
 use Rattle.machine_theorem.proofs.bytes.queued_reads_are_brought.Goals as goal
 
 pub returns : goal.returns
@@ -81,5 +82,11 @@ returns c =
       goes = c.controller_goes_on.ensures.goes;
       due = c.controller_goes_on.ensures.due;
     } in
+    let whole : written.Laws = record {
+      moments = at;
+      own = c.bytes_go_to_their_places.ensures.own;
+      whole = c.bytes_go_to_their_places.ensures.whole;
+      all = c.bytes_go_to_their_places.ensures.all;
+    } in
     let disks : sent.Laws = record { given = c.data_are_given.ensures; asked = c.commands_are_asked.ensures; parts = c.data_rise_unchanged.ensures.parts } in
-    queued_reads (record { moments = at; supplied = laws; places = own; disks = disks })
+    queued_reads (record { moments = at; supplied = laws; places = own; disks = disks; written = whole })
