@@ -275,7 +275,7 @@ and_true : (b : Bool) → (b && true) ≡ false → b ≡ false
 and_true true e = e
 and_true false e = refl
 
-supply_none : (s slot : ℕ) (told : Supply) (new : ControllerState) → ((slot == s) && is_issue told) ≡ false → PlaceNone s (of_supply told slot new)
+pub supply_none : (s slot : ℕ) (told : Supply) (new : ControllerState) → ((slot == s) && is_issue told) ≡ false → PlaceNone s (of_supply told slot new)
 supply_none s slot (supply_answer.Issued dev) new clear = placed_none s slot (kept new slot) (other_slot s slot (and_true (slot == s) clear))
 supply_none s slot supply_answer.More new clear = tt
 supply_none s slot (supply_answer.NotTaken reason message line) new clear = tt

@@ -45,7 +45,7 @@ pub record Laws : Type 0 where
 
 -- ---- kinds
 
-abbrev kind_view : Fis → Kind
+abbrev pub kind_view : Fis → Kind
 kind_view (view.RegH2D f) = table.H2d
 kind_view (view.RegD2H f) = table.D2h
 kind_view (view.SetBits f) = table.Bits
@@ -70,7 +70,7 @@ view_kind table.Pio true f v h = ap kind_in h
 view_kind table.Bits true f v h = ap kind_in h
 view_kind table.Other true f v h = ap kind_in h
 
-seen_kind : (f : List ℕ) (v : Fis) → seen f ≡ Ok v → kind_of f ≡ kind_view v
+pub seen_kind : (f : List ℕ) (v : Fis) → seen f ≡ Ok v → kind_of f ≡ kind_view v
 unfolding seen
 seen_kind f v h = view_kind (kind_of f) (may_have (kind_of f) (length f)) f v h
 
@@ -81,7 +81,7 @@ other_kind f g v same is other absurd_of =
 
 -- ---- SActive
 
-set_kept : (f : List ℕ) (v i n : ℕ) → 16 ≤ i → bits (slice_set f 1 v) i n ≡ bits f i n
+pub set_kept : (f : List ℕ) (v i n : ℕ) → 16 ≤ i → bits (slice_set f 1 v) i n ≡ bits f i n
 unfolding bits
 set_kept f v i zero high = refl
 set_kept f v i (suc n) high =
@@ -97,7 +97,7 @@ pub risen_sactive : (f : FanOut) (n : ℕ) (frame : Stamped) → field Bits SAct
 risen_sactive (Device s) n frame = sactive_kept frame.bytes s.asked
 risen_sactive (Multiplier f) n frame = sactive_kept frame.bytes n
 
-cut_run : (byte low n x : ℕ) → cut (Run byte low n ∷ []) x ≡ x % 2 ^ n
+pub cut_run : (byte low n x : ℕ) → cut (Run byte low n ∷ []) x ≡ x % 2 ^ n
 unfolding cut
 cut_run byte low n x = omega arith
 

@@ -24,7 +24,7 @@ use Rattle.machine_laws.specs.Deeds.{Deed, Does, Moved, Removed}
 use Rattle.machine_laws.specs.Disks.{DisksGoOn, calls_at, is_removed}
 use Rattle.machine_laws.specs.Rising.{is_multiplier}
 use Rattle.machine_laws.specs.Falling.{AllLast, ArrivesAt, DisksHearThem, FramesGoWhereTheyShould, HasLink, LinksPassInOrder, PortsPassInOrder, arrived, arrives, ended, ends, falls, fell, goes_to, heard_by, is_down_to, leaving, reached_at, sent_in, way_to}
-use Rattle.machine_theorem.specs.Identity.{AllKeep, asks_of, calls_of, heard_as, is_for, is_left, picks}
+use Rattle.machine_theorem.specs.Identity.{AllKeep, IsThere, asks_of, calls_of, heard_as, is_for, is_left, picks}
 use Rattle.machine_theorem.specs.Tags.{heard_with, once_if}
 use Rattle.machine_theorem.proofs.Within.{Within, first_within, picks_both, within_both, within_map, within_picks, within_then}
 
@@ -37,7 +37,7 @@ pub record Laws : Type 0 where
 
 -- ---- what a disk heard
 
-if_one : {A : Type 0} (b : Bool) (x : A) (xs : List A) (n : ℕ) → length xs ≡ n → length (if b then x ∷ xs else xs) ≡ once_if b + n
+pub if_one : {A : Type 0} (b : Bool) (x : A) (xs : List A) (n : ℕ) → length xs ≡ n → length (if b then x ∷ xs else xs) ≡ once_if b + n
 if_one true x xs n e = omega (arith, e)
 if_one false x xs n e = omega (arith, e)
 
@@ -61,19 +61,28 @@ left_there n other e = refl
 abbrev pub bytes_of : Stamped → List ℕ
 bytes_of f = f.bytes
 
+-- there is a multiplier, or none, and nothing is put at the port or taken from it
+abbrev pub AllStay : (many : Bool) → (n : ℕ) → (old : MachineState) → (deeds : List Deed) → (now : MachineState) → RunsRuled old deeds now → Type 0
+AllStay many n old [] now run = Unit {0}
+AllStay many n old (deed ∷ later) now run = (IsThere many n old × (is_left n deed ≡ true)) × AllStay many n run.1.0 later now run.1.2
+
+all_stay : (many : Bool) (n tag : ℕ) (deeds : List Deed) (old now : MachineState) (run : RunsRuled old deeds now) → AllKeep many n tag old deeds now run → AllStay many n old deeds now run
+all_stay many n tag [] old now run keeps = tt
+all_stay many n tag (deed ∷ later) old now run keeps = ((keeps.0.end, keeps.0.left), all_stay many n tag later run.1.0 now run.1.2 keeps.1)
+
 pub map_both : {A B : Type 0} (f : A → B) (xs ys : List A) → map f (xs ++ ys) ≡ map f xs ++ map f ys
 map_both f [] ys = refl
 map_both f (x ∷ xs) ys = ap (λ (l : List _). f x ∷ l) (map_both f xs ys)
 
-pub heard_ended : Laws → (n : ℕ) (deeds : List Deed) (old now : MachineState) (run : RunsRuled old deeds now) (d : DiskState) → (bay_at old n).unit ≡ Disk d → (many : Bool) (tag : ℕ)
-    → AllKeep many n tag old deeds now run → flat_map heard_by (calls_of n old deeds now run) ≡ map bytes_of (ended n old deeds now run)
-heard_ended laws n [] old now run d there many tag keeps = refl
-heard_ended laws n (deed ∷ later) old now run d there many tag keeps =
+pub heard_ended : Laws → (n : ℕ) (deeds : List Deed) (old now : MachineState) (run : RunsRuled old deeds now) (d : DiskState) → (bay_at old n).unit ≡ Disk d → (many : Bool)
+    → AllStay many n old deeds now run → flat_map heard_by (calls_of n old deeds now run) ≡ map bytes_of (ended n old deeds now run)
+heard_ended laws n [] old now run d there many stays = refl
+heard_ended laws n (deed ∷ later) old now run d there many stays =
     let mid : MachineState = run.1.0 in
-    let goes = laws.disks old deed mid run.1.1 n d there (left_there n deed keeps.0.left) in
+    let goes = laws.disks old deed mid run.1.1 n d there (left_there n deed stays.0.1) in
     flat_map-append heard_by (calls_at old deed n) (calls_of n mid later now run.1.2)
     ∙ ap (λ (l : List (List ℕ)). l ++ flat_map heard_by (calls_of n mid later now run.1.2)) (laws.hear old deed mid run.1.1 n d there)
-    ∙ ap (λ (l : List (List ℕ)). map bytes_of (ends old deed n) ++ l) (heard_ended laws n later mid now run.1.2 (after_calls d (calls_at old deed n)) goes.is many tag keeps.1)
+    ∙ ap (λ (l : List (List ℕ)). map bytes_of (ends old deed n) ++ l) (heard_ended laws n later mid now run.1.2 (after_calls d (calls_at old deed n)) goes.is many stays.1)
     ∙ sym (map_both bytes_of (ends old deed n) (ended n mid later now run.1.2))
 
 -- ---- what fell to it
@@ -108,14 +117,14 @@ deed_fell : FramesGoWhereTheyShould → (many : Bool) (n : ℕ) (old : MachineSt
 deed_fell goes many n old (Moved (act.Sends went)) new does end = fell_if old.fan many n went (reached_at old.fan n) old.outgoing end (goes old went new does)
 deed_fell goes many n old other new does end = tt
 
-all_fell : FramesGoWhereTheyShould → (many : Bool) (n tag : ℕ) (deeds : List Deed) (old now : MachineState) (run : RunsRuled old deeds now) → AllKeep many n tag old deeds now run
+all_fell : FramesGoWhereTheyShould → (many : Bool) (n : ℕ) (deeds : List Deed) (old now : MachineState) (run : RunsRuled old deeds now) → AllStay many n old deeds now run
     → Within (map bytes_of (fell n old deeds now run)) (map heard_as (picks (is_for many n) (arrived old deeds now run)))
-all_fell goes many n tag [] old now run keeps = tt
-all_fell goes many n tag (deed ∷ later) old now run keeps =
+all_fell goes many n [] old now run stays = tt
+all_fell goes many n (deed ∷ later) old now run stays =
     let mid : MachineState = run.1.0 in
     let P : List Stamped → List Stamped = picks (is_for many n) in
     let both = within_both (map bytes_of (falls old deed n)) (map heard_as (P (arrives old deed))) (map bytes_of (fell n mid later now run.1.2)) (map heard_as (P (arrived mid later now run.1.2)))
-    (deed_fell goes many n old deed mid run.1.1 keeps.0.end.fan) (all_fell goes many n tag later mid now run.1.2 keeps.1) in
+    (deed_fell goes many n old deed mid run.1.1 stays.0.0.fan) (all_fell goes many n later mid now run.1.2 stays.1) in
     let right : map heard_as (P (arrived old (deed ∷ later) now run)) ≡ map heard_as (P (arrives old deed)) ++ map heard_as (P (arrived mid later now run.1.2)) =
     ap (map heard_as) (picks_both (is_for many n) (arrives old deed) (arrived mid later now run.1.2)) ∙ map_both heard_as (P (arrives old deed)) (P (arrived mid later now run.1.2)) in
     subst (λ (l : List (List ℕ)). Within l (map heard_as (P (arrived old (deed ∷ later) now run)))) (sym (map_both bytes_of (falls old deed n) (fell n mid later now run.1.2)))
@@ -124,10 +133,10 @@ all_fell goes many n tag (deed ∷ later) old now run keeps =
 within_of : {A : Type 0} (xs more zs : List A) → xs ++ more ≡ zs → Within xs zs
 within_of xs more zs is = subst (λ (l : List _). Within xs l) is (first_within xs more)
 
-pub heard_within : Laws → (many : Bool) (n tag : ℕ) (deeds : List Deed) (old now : MachineState) (run : RunsRuled old deeds now) (d : DiskState) → (bay_at old n).unit ≡ Disk d
-    → AllKeep many n tag old deeds now run → GathersDue old → HasLink deeds → AllLast n old deeds now run → leaving old ≡ [] → way_to old n ≡ []
+pub heard_among : Laws → (many : Bool) (n : ℕ) (deeds : List Deed) (old now : MachineState) (run : RunsRuled old deeds now) (d : DiskState) → (bay_at old n).unit ≡ Disk d
+    → AllStay many n old deeds now run → GathersDue old → HasLink deeds → AllLast n old deeds now run → leaving old ≡ [] → way_to old n ≡ []
     → Within (flat_map heard_by (calls_of n old deeds now run)) (map heard_as (picks (is_for many n) (sent_in (calls_in old deeds now run))))
-heard_within laws many n tag deeds old now run d there keeps due linked lasts none clear =
+heard_among laws many n deeds old now run d there stays due linked lasts none clear =
     let e : List Stamped = ended n old deeds now run in
     let l : List Stamped = fell n old deeds now run in
     let a : List Stamped = arrived old deeds now run in
@@ -135,7 +144,13 @@ heard_within laws many n tag deeds old now run d there keeps due linked lasts no
     let P : List Stamped → List Stamped = picks (is_for many n) in
     let one : Within e l = within_of e (way_to now n) l (laws.ports n old deeds now run lasts ∙ ap (λ (w : List Stamped). w ++ l) clear) in
     let two : Within a s = within_of a (leaving now) s (laws.links old deeds now run due linked ∙ ap (λ (w : List Stamped). w ++ s) none) in
-    subst (λ (x : List (List ℕ)). Within x (map heard_as (P s))) (sym (heard_ended laws n deeds old now run d there many tag keeps))
+    subst (λ (x : List (List ℕ)). Within x (map heard_as (P s))) (sym (heard_ended laws n deeds old now run d there many stays))
     (within_then (map bytes_of e) (map bytes_of l) (map heard_as (P s)) (within_map bytes_of e l one)
-    (within_then (map bytes_of l) (map heard_as (P a)) (map heard_as (P s)) (all_fell laws.passes many n tag deeds old now run keeps)
+    (within_then (map bytes_of l) (map heard_as (P a)) (map heard_as (P s)) (all_fell laws.passes many n deeds old now run stays)
     (within_map heard_as (P a) (P s) (within_picks (is_for many n) a s two))))
+
+pub heard_within : Laws → (many : Bool) (n tag : ℕ) (deeds : List Deed) (old now : MachineState) (run : RunsRuled old deeds now) (d : DiskState) → (bay_at old n).unit ≡ Disk d
+    → AllKeep many n tag old deeds now run → GathersDue old → HasLink deeds → AllLast n old deeds now run → leaving old ≡ [] → way_to old n ≡ []
+    → Within (flat_map heard_by (calls_of n old deeds now run)) (map heard_as (picks (is_for many n) (sent_in (calls_in old deeds now run))))
+heard_within laws many n tag deeds old now run d there keeps due linked lasts none clear =
+    heard_among laws many n deeds old now run d there (all_stay many n tag deeds old now run keeps) due linked lasts none clear

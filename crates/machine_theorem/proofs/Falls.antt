@@ -133,7 +133,7 @@ module _ (laws : Laws) where
       subst (λ (events : List CoreEvent). AreCoreEvents old.core events new.core) (no_more (of_event old e new does))
       (laws.events old new (e ∷ []) (k, (new, does, (l, refl))))
 
-  told_after : (events : List Event) (old new : ControllerState) → call.Runs old events new → Told old → Told new
+  pub told_after : (events : List Event) (old new : ControllerState) → call.Runs old events new → Told old → Told new
   told_after [] old new run was = subst Told (sym run.1) was
   told_after (e ∷ events) old new run was =
       let mid : ControllerState = run.1.0 in

@@ -82,3 +82,14 @@ mod WrittenSupplied
 mod HeardAfter
 mod ReadBack
 mod ReadsFollow
+mod Answered
+mod CallCores
+mod Calm
+mod Waiting
+mod Commanded
+mod RegistersSent
+mod Transferring
+mod ErrorNone
+mod SinglesOwn
+mod AnswersHeard
+mod PlainWaits

@@ -9,7 +9,7 @@ use Rattle.guest_fetch.specs.Commands.{Fetched}
 use Rattle.guest_fetch.specs.declared.moves.Move.{Move}
 use Rattle.slots.specs.Commands.{after_sent, is_slot, sent_issue}
 use Rattle.slots.specs.Setup.{begun, whole_context, with_own_context}
-use Rattle.slots.specs.Slots.{DeviceSlots, Issue, freed, holds, is_control, is_queued_issue, issue_at, match_some, own_issue, owned_by, with_own_issue}
+use Rattle.slots.specs.Slots.{DeviceSlots, Issue, freed, holds, is_control, issue_at, match_some, own_issue, owned_by, slots_of, waiting, with_own_issue}
 use Rattle.slots.specs.Work.{is_dma, is_queued}
 use Rattle.slots.specs.declared.work.Kind.{Kind}
 use Rattle.slots.specs.declared.work.Kind.TheVariants.{QueuedRead, QueuedWrite, DmaIn, DmaOut, PioIn, PioOut, NoData, Control}
@@ -25,12 +25,13 @@ use Rattle.ahci_controller.specs.States.{ControllerState, kept}
 use Rattle.ahci_controller.specs.declared.next.Next.{Next}
 use Rattle.ahci_controller.specs.declared.next.Next.TheVariants as next
 
--- what goes was issued and not sent; a queued command stands there then, sent
+-- what goes was issued and not sent; a command stands there then, sent, and no slot of its device waited
 pub record IsOrderedOnce (slot : ℕ) (old new : Port) : Type 0 where
   pub issue : Issue
   pub was : issue_at old.slots slot ≡ Some issue
   pub unsent : issue.sent ≡ false
-  pub sent : is_queued_issue issue ≡ true → issue_at new.slots slot ≡ Some (sent_issue issue)
+  pub sent : is_control issue.work.kind ≡ false → issue_at new.slots slot ≡ Some (sent_issue issue)
+  pub free : is_control issue.work.kind ≡ false → waiting (slots_of issue.dev old.slots) ≡ None
 
 abbrev IsOnce : ControllerState → ControllerState → Next → Type 0
 IsOnce c d (next.Order dev slot fis) = slot < length c.core.slots.issues → IsOrderedOnce slot c.core d.core
@@ -38,7 +39,7 @@ IsOnce c d said = Unit {0}
 
 -- ---- a command goes
 
-queued_kind : (k : Kind) → is_queued k ≡ true → is_control k ≡ false
+pub queued_kind : (k : Kind) → is_queued k ≡ true → is_control k ≡ false
 queued_kind QueuedRead e = refl
 queued_kind QueuedWrite e = refl
 queued_kind DmaIn e = refl
@@ -64,9 +65,11 @@ gone_some own slot i true is no_control lt = absurd (cc)
 gone_some own slot i false is no_control lt =
     begun_same (with_own_issue own slot (Some (sent_issue i))) slot i (is_dma i.work.kind) ∙ get_or-set_same own.issues slot (Some (sent_issue i)) None lt
 
-sent_is : (own : DeviceSlots) (slot : ℕ) (i : Issue) → own_issue own slot ≡ Some i → is_queued_issue i ≡ true → slot < length own.issues → own_issue (after_sent own slot) slot ≡ Some (sent_issue i)
-sent_is own slot i is queued lt =
-    ap (λ (o : Option Issue). own_issue (gone_with own slot o) slot) is ∙ gone_some own slot i (is_control i.work.kind) refl (queued_kind i.work.kind queued) lt
+sent_is : (own : DeviceSlots) (slot : ℕ) (i : Issue) → own_issue own slot ≡ Some i → is_control i.work.kind ≡ false → slot < length own.issues → own_issue (after_sent own slot) slot ≡ Some (sent_issue i)
+sent_is own slot i is plain lt = ap (λ (o : Option Issue). own_issue (gone_with own slot o) slot) is ∙ gone_some own slot i (is_control i.work.kind) refl plain lt
+
+may_be : (o : Option Issue) (i : Issue) (P : Issue → Type 0) → o ≡ Some i → MatchOption o ⊥ P → P i
+may_be o i P is may = subst (λ (x : Option Issue). MatchOption x ⊥ P) is may
 
 first_of : (a b c : Bool) → (a && b && c) ≡ true → a ≡ true
 first_of true b c e = refl
@@ -89,11 +92,12 @@ order_once c d slot (Some issue) (Some command) is may goes = λ lt. record {
   issue = issue;
   was = is;
   unsent = free_first c.core issue (ap (holds (is_free c.core)) (sym is) ∙ (and_parts _ _ may.0).1);
-  sent = λ queued.
+  sent = λ plain.
       let mine = own_here slot c.core.slots issue lt is in
       let long : length (view_of issue.dev c.core).slots.issues ≡ length c.core.slots.issues = length-map c.core.slots.issues (owned_by issue.dev) in
-      let own = ap (λ v. own_issue v.slots slot) goes.own ∙ sent_is (view_of issue.dev c.core).slots slot issue mine queued (subst (λ (n : ℕ). slot < n) (sym long) lt) in
+      let own = ap (λ v. own_issue v.slots slot) goes.own ∙ sent_is (view_of issue.dev c.core).slots slot issue mine plain (subst (λ (n : ℕ). slot < n) (sym long) lt) in
       (own_in issue.dev slot d.core.slots (sent_issue issue) own).1;
+  free = (may_be (issue_at c.core.slots slot) issue (λ i. (i.sent ≡ false) × (is_control i.work.kind ≡ false → waiting (slots_of i.dev c.core.slots) ≡ None)) is may.1.may).1;
 }
 
 -- ---- what else is said
@@ -149,7 +153,7 @@ turns_if true c result d h = said c d result next.Nothing h.1 tt
 turns_if false c result d h = goes c.core.registers.started c result d h
 
 same_core : (c d : ControllerState) (result : Next) → IsOnce (written c) d result → IsOnce c d result
-same_core c d (next.Order dev slot fis) h = λ lt. let it = h lt in record { issue = it.issue; was = it.was; unsent = it.unsent; sent = it.sent }
+same_core c d (next.Order dev slot fis) h = λ lt. let it = h lt in record { issue = it.issue; was = it.was; unsent = it.unsent; sent = it.sent; free = it.free }
 same_core c d (next.Feed dev number slot offset len) h = tt
 same_core c d (next.Payload x) h = tt
 same_core c d (next.Posted x) h = tt

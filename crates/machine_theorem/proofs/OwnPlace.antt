@@ -107,11 +107,11 @@ one_both n c dev (x ∷ xs) ys first later = (first.0, one_both n c dev xs ys fi
 -- ---- the frames of a stretch
 
 module _ (many : Bool) (n c dev : ℕ) where
-  linked : (deeds : List Deed) (old now : MachineState) (run : RunsRuled old deeds now) → AllKeepLine many n c dev old deeds now run → AreLinked deeds
+  pub linked : (deeds : List Deed) (old now : MachineState) (run : RunsRuled old deeds now) → AllKeepLine many n c dev old deeds now run → AreLinked deeds
   linked [] old now run keeps = tt
   linked (deed ∷ later) old now run keeps = (keeps.0.linked, linked later run.1.0 now run.1.2 keeps.1)
 
-  came_one : (deeds : List Deed) (old now : MachineState) (run : RunsRuled old deeds now) → AllKeepLine many n c dev old deeds now run → AreOne n c dev (came_of old deeds now run)
+  pub came_one : (deeds : List Deed) (old now : MachineState) (run : RunsRuled old deeds now) → AllKeepLine many n c dev old deeds now run → AreOne n c dev (came_of old deeds now run)
   came_one [] old now run keeps = tt
   came_one (deed ∷ later) old now run keeps =
       one_both n c dev (came_by old deed run.1.0 run.1.1) (came_of run.1.0 later now run.1.2) keeps.0.came (came_one later run.1.0 now run.1.2 keeps.1)
@@ -120,7 +120,7 @@ more_frames_are : (b : Bool) (was : Frames) (sent came : List Stamped) → b ≡
 more_frames_are true was sent came e = absurd (false≢true (sym e))
 more_frames_are false was sent came e = refl
 
-frames_are : (deeds : List Deed) (old now : MachineState) (run : RunsRuled old deeds now) (was : Frames) → AreLinked deeds
+pub frames_are : (deeds : List Deed) (old now : MachineState) (run : RunsRuled old deeds now) (was : Frames) → AreLinked deeds
     → frames_in was old deeds now run ≡ record { sent = was.sent ++ sent_of old deeds now run; came = was.came ++ came_of old deeds now run }
 frames_are [] old now run was linked =
     ap (λ l. record { sent = l; came = was.came }) (sym (append-nil was.sent)) ∙ ap (λ l. record { sent = was.sent ++ []; came = l }) (sym (append-nil was.came))
@@ -167,7 +167,7 @@ behind many n c dev old deed later now run one pre f line is found = record {
   line = found.line;
 }
 
-abbrev head_or : Stamped → List Stamped → Stamped
+abbrev pub head_or : Stamped → List Stamped → Stamped
 head_or x [] = x
 head_or x (y ∷ ys) = y
 
@@ -220,7 +220,7 @@ no_cons : {A : Type 0} (pre rest : List Stamped) (f : Stamped) → [] ≡ pre ++
 no_cons [] rest f e = absurd (cc)
 no_cons (x ∷ pre) rest f e = absurd (cc)
 
-find : (many : Bool) (n c dev : ℕ) (deeds : List Deed) (old now : MachineState) (run : RunsRuled old deeds now) → AllKeepLine many n c dev old deeds now run
+pub find : (many : Bool) (n c dev : ℕ) (deeds : List Deed) (old now : MachineState) (run : RunsRuled old deeds now) → AllKeepLine many n c dev old deeds now run
     → (pre rest : List Stamped) (f : Stamped) → of_conn n c (sent_of old deeds now run) ≡ pre ++ f ∷ rest → Found many n c dev old deeds now run pre f
 find many n c dev [] old now run keeps pre rest f is = no_cons pre rest f is
 find many n c dev (deed ∷ later) old now run keeps pre rest f is =
@@ -235,9 +235,9 @@ cancel [] ys zs e = e
 cancel (x ∷ xs) ys zs e = cancel xs ys zs (ap (λ l. tail_of l) e)
 
 -- what came of the connection, and then the FIS that is to be taken, is a beginning of what was sent
-record InOrder (n c : ℕ) (came sent : List Stamped) (f : Stamped) : Type 0 where
-  rest : List Stamped
-  is : of_conn n c sent ≡ of_conn n c came ++ f ∷ rest
+pub record InOrder (n c : ℕ) (came sent : List Stamped) (f : Stamped) : Type 0 where
+  pub rest : List Stamped
+  pub is : of_conn n c sent ≡ of_conn n c came ++ f ∷ rest
 
 pub untaken_is : (m : MachineState) (f : Stamped) → m.taken ≡ false → m.incoming ≡ Some f → untaken m ≡ f ∷ []
 untaken_is m f free on = ap (λ (b : Bool). if b then [] else option_to_list m.incoming) free ∙ ap (λ (o : Option Stamped). option_to_list o) on
@@ -249,7 +249,7 @@ all_came n c at was first way lasts =
     sym (append-nil (of_conn n c was.came)) ∙ ap (λ l. of_conn n c was.came ++ l) (sym (ap (λ l. l ++ first.dropped) way ∙ first.whole lasts))
     ∙ sym (append_assoc (of_conn n c was.came) (on_way n c at) first.dropped) ∙ first.order
 
-in_order : (n c : ℕ) (at now : MachineState) (was all : Frames) (came sent : List Stamped) (f : Stamped) → RisesInOrder at was n c → RisesInOrder now all n c
+pub in_order : (n c : ℕ) (at now : MachineState) (was all : Frames) (came sent : List Stamped) (f : Stamped) → RisesInOrder at was n c → RisesInOrder now all n c
     → all ≡ record { sent = was.sent ++ sent; came = was.came ++ came } → on_way n c at ≡ [] → is_over at.fan n c ≡ false → untaken now ≡ f ∷ [] → is_of n c f ≡ true → InOrder n c came sent f
 in_order n c at now was all came sent f first last same way lasts next own =
     let whole : of_conn n c was.came ≡ of_conn n c was.sent = all_came n c at was first way lasts in
@@ -271,7 +271,7 @@ one_told : (a b : Counted) → Some a ≡ Some b → a ≡ b
 one_told a b e = ap (λ (o : Option Counted). match_some o a (λ x. x)) e
 
 -- a FIS of the connection is of its port
-port_is : (n c : ℕ) (f : Stamped) → is_of n c f ≡ true → (f.stamp.port == n) ≡ true
+pub port_is : (n c : ℕ) (f : Stamped) → is_of n c f ≡ true → (f.stamp.port == n) ≡ true
 port_is n c f e = (and_parts (f.stamp.port == n) (f.stamp.conn == c) e).0
 
 of_page : (x : Option Page) (page : Page) (bytes : List ℕ) → x ≡ Some page → AreOfPage x bytes → AreNext page.ledger bytes

@@ -12,7 +12,7 @@ use Rattle.sata_disk.specs.State.{DiskState}
 use Rattle.sata_disk.specs.Sending.{IsFis}
 use Rattle.sata_disk.specs.declared.out.Out.{Out}
 use Rattle.sata_disk_books.specs.Counted.{Counted}
-use Rattle.sata_disk_books.specs.Fises.{AreFises, Begins, told_after}
+use Rattle.sata_disk_books.specs.Fises.{AreFises, told_after}
 use Rattle.sata_disk_laws.specs.Calls as disk_call
 use Rattle.sata_disk_laws.specs.Calls.{AreCalls, Call, Sends, after_call, after_calls}
 use Rattle.sata_disk_laws.proofs.Door.{calls_after, calls_both}
@@ -173,7 +173,7 @@ module _ (many : Bool) (n c dev : ℕ) where
       let f : Stamped = risen old.fan k h.frame in
       subst (λ (l : List Stamped). Made d [] l) (sym (not_of n c f (f.stamp.port == n) refl (λ port. false≢true (sym same ∙ eq-eqb k n (sender_is many n old k h.frame keeps.end h.room port))))) (none_made d)
 
-  offers_none : (old : MachineState) (k : ℕ) (frame : Stamped) (told : Result (Unit {0}) Stamped) (new : MachineState) → Does old (FrameOffered k frame told) new → IsThere many n old
+  pub offers_none : (old : MachineState) (k : ℕ) (frame : Stamped) (told : Result (Unit {0}) Stamped) (new : MachineState) → Does old (FrameOffered k frame told) new → IsThere many n old
       → (d : DiskState) → (bay_at old n).unit ≡ Disk d → of_conn n c (unless_back told (risen old.fan k frame)) ≡ []
   offers_none old k frame (Err back) new does there d unit = refl
   offers_none old k frame (Ok x) new does there d unit =

@@ -9,7 +9,6 @@ use Rattle.slots.specs.Table.{IsIssue}
 use Rattle.ahci_registers.specs.declared.register.Register.TheVariants.{PxSact}
 use Rattle.hba_fbs.specs.Views.{view_of}
 use Rattle.hba_laws.specs.Cores.{CoreEvent}
-use Rattle.hba_laws.specs.History.{issued}
 use Rattle.hba_laws.proofs.Door.{held, own_here}
 use Rattle.ahci_controller.specs.Reading.{shown}
 use Rattle.ahci_controller.specs.States.{ControllerState}
@@ -29,7 +28,7 @@ use Rattle.machine_theorem.specs.Tags.{once_if}
 use Rattle.machine_theorem.proofs.Armed.{IsBare, queued_bit, sact_is, stays_bare, there_of}
 use Rattle.machine_theorem.proofs.CoreStems.{call_stems}
 use Rattle.machine_theorem.proofs.Few.{AreFew, are_few}
-use Rattle.machine_theorem.proofs.OrderedOnce.{IsOrderedOnce, ordered_once}
+use Rattle.machine_theorem.proofs.OrderedOnce.{IsOrderedOnce, ordered_once, queued_kind}
 use Rattle.machine_theorem.proofs.Stems.{Stems}
 use Rattle.machine_theorem.proofs.Stood.{is_placed}
 use Rattle.machine_theorem.proofs.Unread.{is_alone}
@@ -82,7 +81,7 @@ sent_now own s slot old new here queued h =
     let was : issue_at old.core.slots s ≡ Some h.issue = subst (λ (k : ℕ). issue_at old.core.slots k ≡ Some h.issue) here h.was in
     let kind : is_queued_of own h.issue ≡ true = ap (holds (is_queued_of own)) (sym was) ∙ queued in
     let both = and_parts (is_queued_issue h.issue) (own h.issue.dev) kind in
-    let after : issue_at new.core.slots s ≡ Some (sent_issue h.issue) = subst (λ (k : ℕ). issue_at new.core.slots k ≡ Some (sent_issue h.issue)) here (h.sent both.0) in
+    let after : issue_at new.core.slots s ≡ Some (sent_issue h.issue) = subst (λ (k : ℕ). issue_at new.core.slots k ≡ Some (sent_issue h.issue)) here (h.sent (queued_kind h.issue.work.kind both.0)) in
     record {
       before = ap (holds (is_sent_of own)) was ∙ and_false (is_queued_of own h.issue) h.issue.sent h.unsent;
       after = ap (holds (is_sent_of own)) after ∙ ap (λ (b : Bool). b && true) kind;

@@ -61,7 +61,7 @@ all_kept s (event ∷ later) old new run was are =
 
 -- ---- so the FIS is the one that was sent
 
-fis_of : (o : Option Fetched) (command : core_command.Command) (fis : List ℕ) → fis ≡ command.cfis → IsIssuedFrom o command → IsFisOf o fis
+pub fis_of : (o : Option Fetched) (command : core_command.Command) (fis : List ℕ) → fis ≡ command.cfis → IsIssuedFrom o command → IsFisOf o fis
 fis_of None command fis bytes h = h
 fis_of (Some f) command fis bytes h = bytes ∙ ap (λ (x : core_command.Command). x.cfis) h
 

@@ -61,7 +61,7 @@ unfolding host_of
 due_at [] x h due = due.0
 due_at (y ∷ xs) x h due = due_at xs x (host_after h y) due.1
 
-host_then : (xs : List Call) (x : Call) (h : Host) → host_of h (xs ++ x ∷ []) ≡ host_after (host_of h xs) x
+pub host_then : (xs : List Call) (x : Call) (h : Host) → host_of h (xs ++ x ∷ []) ≡ host_after (host_of h xs) x
 unfolding host_of
 host_then [] x h = refl
 host_then (y ∷ xs) x h = host_then xs x (host_after h y)
@@ -98,7 +98,7 @@ held_of_taken (Some m) e = by (is_ended m.stage) refl e
     by true is over = absurd (cc)
     by false is over = (m.command, held_is m is)
 
-none_held : (x : Option Moment) (c : Command) → is_under_way x ≡ false → held_of x ≡ Some c → ⊥
+pub none_held : (x : Option Moment) (c : Command) → is_under_way x ≡ false → held_of x ≡ Some c → ⊥
 none_held None c e h = cc
 none_held (Some m) c e h = false≢true (sym e ∙ ap not (held_parts m c h).0)
 

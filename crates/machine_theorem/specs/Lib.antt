@@ -22,3 +22,7 @@ pub mod QueuedOnly
 pub mod FirstDeeds
 pub mod ReadBack
 pub mod ReadsFollow
+pub mod InTurn
+pub mod Waits
+pub mod Transfers
+pub mod Singles

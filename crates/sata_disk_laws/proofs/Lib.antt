@@ -22,4 +22,5 @@ mod Stores
 mod Watching
 mod Watched
 mod ErrorLaws
+mod Awaited
 pub mod Door

@@ -5,3 +5,4 @@ pub mod Asides
 pub mod Once
 pub mod Errors
 pub mod Stores
+pub mod Awaited

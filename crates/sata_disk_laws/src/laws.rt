@@ -1,6 +1,7 @@
 //! The laws.
 
 ghost use Rattle.sata_disk_laws.specs.Asides.{AsidesAreEarned};
+ghost use Rattle.sata_disk_laws.specs.Awaited.{AsidesAreAwaited, OutsAreUnderWay, SinglesAreAwaited};
 ghost use Rattle.sata_disk_laws.specs.Errors.{AbortedUntilRead, LogTellsOfFailure};
 ghost use Rattle.sata_disk_laws.specs.Once.{AnswersAreSingle, OpenIsUnderWay, PartsAreFrames};
 ghost use Rattle.sata_disk_laws.specs.Stores.{StoresAreHeard};
@@ -92,6 +93,15 @@ pub fn answers_are_single()
 /// disk hears a command exactly where the host waits for nothing, and SRST is clear.
 pub fn open_is_under_way()
     ensures { OpenIsUnderWay }
+{}
+
+/// A law. In every run a command that is not queued and moves sectors is under way only while its host waits for its end, or for the Data that end it. A
+/// Register FIS or another reply of a command that goes next is of one that is under way. A command beside the queue is under way only while the disk waits
+/// for its end.
+pub fn singles_are_awaited()
+    ensures waits { SinglesAreAwaited }
+    ensures outs { OutsAreUnderWay }
+    ensures asides { AsidesAreAwaited }
 {}
 
 /// A law. In every run the Data FIS of a read that goes next has 1 to 16 whole sectors. So it has the length of a frame.

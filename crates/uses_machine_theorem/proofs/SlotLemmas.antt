@@ -1,19 +1,32 @@
 -- What the laws say of the runs that led here.
+use Rattle.std.proofs.Common.{◌≡◌, ℕ, List, ◌∷◌, ◌++◌, Some, ap, subst, ◌∙◌}
+use Rattle.ahci_controller.specs.States.{ControllerState}
+use Rattle.controller_laws.specs.Events.{Event, Runs}
+use Rattle.disk_pages.specs.declared.profile.Profile.{Profile}
+use Rattle.sata_disk.specs.Sending.{IsOut}
+use Rattle.sata_disk.specs.State.{DiskState, new_disk}
+use Rattle.sata_disk_laws.specs.Calls.{AreCalls, Call, Hears, after_calls}
+use Rattle.sata_disk_laws.specs.Laws.{reached}
 use Rattle.ahci_machine.specs.States.{MachineState}
 use Rattle.machine_laws.specs.ControllerLaws.{calls_in}
 use Rattle.machine_theorem.specs.Brought.{CompletedReadsAreBrought, ReadsAreBrought, ReadsAreBroughtSince}
+use Rattle.machine_laws.specs.Heard.{HasLived, Life, life_in, no_life}
 use Rattle.machine_theorem.specs.Completions.{CompletionsAreOfSlots}
 use Rattle.machine_theorem.specs.Filled.{FilledWereBrought}
 use Rattle.machine_theorem.specs.Given.{CommandsAreGiven, DataAreGiven}
 use Rattle.machine_theorem.specs.Identity.{CommandsAreTheSlots}
+use Rattle.machine_theorem.specs.InTurn.{CommandsGoInTurn}
 use Rattle.machine_theorem.specs.Orders.{CommandsAreSentOnce}
 use Rattle.machine_theorem.specs.QueuedOnly.{QueuedReadsAreBrought}
 use Rattle.machine_theorem.specs.ReadBack.{GuestsReadBack}
 use Rattle.machine_theorem.specs.Reads.{ReadsAreAsSupplied}
 use Rattle.machine_theorem.specs.ReadsFollow.{CompletedReadsFollowWrites}
 use Rattle.machine_theorem.specs.Tags.{TagsOfNewDisks}
-use Rattle.uses_machine_theorem.specs.Slots.{KnowsBrought, KnowsBroughtSince, KnowsBytes, KnowsData, KnowsEnds, KnowsFilled, KnowsGiven, KnowsOrders, KnowsQueued, KnowsReads, KnowsSlots, KnowsTags, stretch_of, KnowsFollowing, KnowsReadBack, KnowsWritten}
+use Rattle.uses_machine_theorem.specs.Slots.{KnowsBrought, KnowsBroughtSince, KnowsBytes, KnowsData, KnowsEnds, KnowsFilled, KnowsGiven, KnowsOrders, KnowsQueued, KnowsReads, KnowsSlots, KnowsTags, stretch_of, KnowsFollowing, KnowsReadBack, KnowsWritten, KnowsSinglesIf, KnowsTransfers, KnowsTurns, KnowsWaits}
 use Rattle.machine_theorem.specs.ReadsWritten.{ReadsAreWritten}
+use Rattle.machine_theorem.specs.Singles.{SinglesAreOfSlotsIf}
+use Rattle.machine_theorem.specs.Transfers.{TransfersEndSo}
+use Rattle.machine_theorem.specs.Waits.{CommandsAwaitAnswers}
 
 pub tags : TagsOfNewDisks → (now : MachineState) → KnowsTags now
 tags law now led n d there lived p limit new tag low = law led.ports led.legacy led.first led.opens led.deeds now led.run n d there lived p limit new tag low
@@ -78,3 +91,32 @@ following law now at led many n w r below w_low r_low rest rest_r deeds run link
     rules fell =
     law led.ports led.legacy led.first led.opens led.deeds at led.run many n w r below w_low r_low rest rest_r deeds now run linked lasts keeps keeps_r p limit
     base are same honest k end falls took new does rules fell
+
+-- what some calls of a new disk led to
+new_one : (p : Profile) (limit : ℕ) (life : Life) (d : DiskState) (lived : HasLived life d) (calls : List Call) → lived.disk ≡ new_disk p limit → life.calls ≡ calls
+    → AreCalls (new_disk p limit) calls × (d ≡ reached p limit calls)
+new_one p limit life d lived calls new is = (
+  subst (λ (l : List Call). AreCalls (new_disk p limit) l) is (subst (λ (x : DiskState). AreCalls x life.calls) new lived.are),
+  lived.is ∙ ap (λ (x : DiskState). after_calls x life.calls) new ∙ ap (reached p limit) is,
+)
+
+pub turns : CommandsGoInTurn → (now : MachineState) → KnowsTurns now
+turns law now led n d there lived p limit new base calls is idle on =
+    law p limit base calls (new_one p limit (life_in n no_life led.first led.deeds now led.run) d lived (base ++ calls) new is).0 idle on
+
+pub ends_so : TransfersEndSo → (now : MachineState) → KnowsTransfers now
+ends_so law now led n d there lived p limit new before bytes later is transfers idle on heard answered o next answer =
+    let it = new_one p limit (life_in n no_life led.first led.deeds now led.run) d lived (before ++ Hears bytes ∷ later) new is in
+    law p limit before bytes later it.0 transfers idle on heard answered o (subst (λ (x : DiskState). IsOut x (Some o)) it.1 next) answer
+
+pub waits : CommandsAwaitAnswers → (now : MachineState) → KnowsWaits now
+waits law now at led deeds run runs dev keeps = law dev at.controller now.controller _ runs.calls keeps
+
+-- whatever has commands wait
+abbrev Keeping : Type 1
+Keeping = (dev : ℕ) → (old : ControllerState) → (events : List Event) → (now : ControllerState) → Runs old events now → Type 0
+
+pub singles : (Waits : Keeping) → SinglesAreOfSlotsIf Waits → (now : MachineState) → KnowsSinglesIf Waits now
+singles Waits law now at led many n c dev slot below dev_low low begins p limit base are same idle deeds run linked lasts keeps on runs of waiting took new does rules own shows hides none issue is mine plain =
+    law led.ports led.legacy led.first led.opens led.deeds at led.run many n c dev slot below dev_low low begins p limit base are same idle deeds now run linked lasts keeps on runs of waiting took new does
+    rules own shows hides none issue is mine plain

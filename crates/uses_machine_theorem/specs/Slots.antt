@@ -1,7 +1,7 @@
 -- What a caller of a machine knows of the commands under way at its disks and of the slots of these numbers.
-use Rattle.std.specs.Prelude.{◌≡◌, ◌<◌, ◌≤◌, ◌+◌, ◌==◌, ℕ, Bool, true, false, List, Some, ◌++◌}
+use Rattle.std.specs.Prelude.{◌≡◌, ◌<◌, ◌≤◌, ◌+◌, ◌==◌, ℕ, Bool, true, false, List, Some, ◌++◌, ◌⊎◌, ◌∷◌}
 use Rattle.slots.specs.Bytes.{is_over}
-use Rattle.slots.specs.Slots.{Issue, has_bit, holds, issue_at}
+use Rattle.slots.specs.Slots.{Issue, has_bit, holds, issue_at, is_queued_issue}
 use Rattle.fis_view.specs.Frames.{Stamped}
 use Rattle.slots.specs.declared.work.Kind.TheVariants.{QueuedRead}
 use Rattle.hba_fbs.specs.Taking.{port_of}
@@ -9,19 +9,25 @@ use Rattle.hba_fbs.specs.Views.{view_of}
 use Rattle.hba_fbs.specs.declared.report.Wrote.{Wrote}
 use Rattle.hba_laws.specs.Agreement.{IsTold}
 use Rattle.hba_laws.specs.History.{History}
-use Rattle.ahci_registers.specs.declared.register.Register.TheVariants.{PxSact}
+use Rattle.ahci_registers.specs.declared.register.Register.TheVariants.{PxSact, PxCi}
 use Rattle.ahci_controller.specs.Reading.{shown}
+use Rattle.ahci_controller.specs.States.{ControllerState}
 use Rattle.ahci_controller.specs.Taking.{is_overflow}
 use Rattle.ahci_controller.specs.declared.taking.Took.{Took}
 use Rattle.block_command.specs.Moments.{Moment}
 use Rattle.block_disk.specs.Table.{is_under_way}
 use Rattle.block_queue.specs.Line.{command_at}
+use Rattle.controller_laws.specs.Events.{Event, Runs}
+use Rattle.ata_reply.specs.declared.reply.Reply.TheVariants as replies
 use Rattle.disk_pages.specs.declared.profile.Profile.{Profile}
+use Rattle.sata_disk.specs.Sending.{IsOut}
 use Rattle.sata_disk.specs.State.{DiskState, commands, new_disk}
+use Rattle.sata_disk.specs.declared.out.Out.{Out}
 use Rattle.sata_disk.specs.declared.out.Out.TheVariants as out
-use Rattle.sata_disk_laws.specs.Calls.{AreCalls, Call}
+use Rattle.sata_disk_laws.specs.Calls.{AreCalls, Call, Hears}
 use Rattle.sata_disk_laws.specs.Laws.{reached}
 use Rattle.sata_disk_media.specs.Media.{IsHonest}
+use Rattle.sata_disk_laws.specs.Once.{host_of, new_host}
 use Rattle.ahci_machine.specs.States.{HasRules, MachineState, bay_at}
 use Rattle.ahci_machine.specs.declared.act.Act.TheVariants as act
 use Rattle.ahci_machine.specs.declared.bay.Unit.TheVariants.{Disk}
@@ -36,6 +42,7 @@ use Rattle.machine_theorem.specs.Following.{AllHeardWell}
 use Rattle.machine_theorem.specs.Given.{IsGiven, IsGivenData}
 use Rattle.machine_theorem.specs.Identity.{AllKeep, IsAtRest, IsTheSlots, own_of, calls_of}
 use Rattle.machine_theorem.specs.Orders.{fallen_in, is_sent_of, ordered_in, standing_in}
+use Rattle.machine_theorem.specs.InTurn.{AreKeptOn, IsAnswered, IsIdle, answered_in, heard_in, is_answer}
 use Rattle.machine_theorem.specs.OwnSlots.{AllKeepLine, BeginsClear, NoneLost, is_of}
 use Rattle.machine_theorem.specs.QueuedOnly.{ByteIsOfDisk, SendsQueued}
 use Rattle.machine_theorem.specs.FirstDeeds.{first_deeds, first_run, machine_at}
@@ -43,7 +50,10 @@ use Rattle.machine_theorem.specs.ReadBack.{Falls, FallsAt, IsReadBack}
 use Rattle.machine_theorem.specs.Reads.{IsBroughtAsRead}
 use Rattle.machine_theorem.specs.ReadsFollow.{IsFollowed}
 use Rattle.machine_theorem.specs.ReadsWritten.{ByteIsWritten}
-use Rattle.machine_theorem.specs.Tags.{IsCounted}
+use Rattle.machine_theorem.specs.Tags.{IsCounted, once_if}
+use Rattle.machine_theorem.specs.Singles.{AllOfDevice, BeginsIdle, IsDoneSingle}
+use Rattle.machine_theorem.specs.Transfers.{fails, is_transferring}
+use Rattle.machine_theorem.specs.Waits.{AllKeepWaiting, AllPlain, commanded_in, taken_in, waits_in}
 use Rattle.uses_machine_theorem.specs.Led.{IsLed}
 
 -- of each tag no more commands ended at a disk than it heard, if it was new as it was put at its port
@@ -199,3 +209,51 @@ KnowsFollowing now = (at : MachineState) (led : IsLed at) (many : Bool) (n w r :
     → (took : Took) (new : MachineState) (does : Does now (Moved (act.Takes took)) new) → HasRules new → Falls (own_of many n) r now new
     → IsFollowed many n w r led.first led.deeds at led.run (first_deeds k deeds) (machine_at k at deeds now run) (first_run k at deeds now run) deeds now run
     p limit base end does.does.frame
+
+-- Take the last calls of a disk that was new as it was put at its port, from a moment on at which its host waits for nothing, and without a reset. What it
+-- answers next is a command of these that was heard behind all that were answered.
+abbrev pub KnowsTurns : MachineState → Type 0
+KnowsTurns now = (led : IsLed now) (n : ℕ) (d : DiskState) → (bay_at now n).unit ≡ Disk d
+    → (lived : HasLived (life_in n no_life led.first led.deeds now led.run) d)
+    → (p : Profile) (limit : ℕ) → lived.disk ≡ new_disk p limit → (base calls : List Call)
+    → (life_in n no_life led.first led.deeds now led.run).calls ≡ base ++ calls → IsIdle (host_of new_host base) → AreKeptOn calls
+    → IsAnswered p limit base calls
+
+-- Of a command that moves sectors and is not queued such an answer says that it ended well, or that it failed.
+abbrev pub KnowsTransfers : MachineState → Type 0
+KnowsTransfers now = (led : IsLed now) (n : ℕ) (d : DiskState) → (bay_at now n).unit ≡ Disk d
+    → (lived : HasLived (life_in n no_life led.first led.deeds now led.run) d)
+    → (p : Profile) (limit : ℕ) → lived.disk ≡ new_disk p limit → (before : List Call) (bytes : List ℕ) (later : List Call)
+    → (life_in n no_life led.first led.deeds now led.run).calls ≡ before ++ Hears bytes ∷ later → is_transferring bytes ≡ true
+    → IsIdle (host_of new_host before)
+    → AreKeptOn later → heard_in later ≡ 0 → answered_in later ≡ 0 → (o : Out) → IsOut d (Some o) → is_answer o ≡ true
+    → (o ≡ out.Of 32 replies.Done) ⊎ (fails o ≡ true)
+
+-- Behind a moment of a run no more commands were sent to a device than Register FISes of it were taken, and one that waits.
+abbrev pub KnowsWaits : MachineState → Type 0
+KnowsWaits now = (at : MachineState) (led : IsLed at) (deeds : List Deed) (run : RunsRuled at deeds now) (runs : ControllerRuns at deeds now run) (dev : ℕ)
+    → AllKeepWaiting dev at.controller (calls_in at deeds now run) now.controller runs.calls
+    → commanded_in dev at.controller (calls_in at deeds now run) now.controller runs.calls + once_if (waits_in dev at.controller)
+    ≤ taken_in dev (calls_in at deeds now run) + once_if (waits_in dev now.controller)
+
+-- A bit of PxCI falls behind a moment at which nothing is under way at a disk as a FIS of it is taken, and the slot has a command for it that is not
+-- queued: the disk answers by this FIS what the guest had supplied for this slot, and if that moves sectors, it did all of it, where commands and
+-- answers went in turn.
+abbrev pub KnowsSinglesIf :
+    (Waits : (dev : ℕ) → (old : ControllerState) → (events : List Event) → (now : ControllerState) → Runs old events now → Type 0) → MachineState → Type 0
+KnowsSinglesIf Waits now = (at : MachineState) (led : IsLed at) (many : Bool) (n c dev slot : ℕ) → n < 15 → dev < 16 → slot < 32
+    → (begins : BeginsIdle n c at) → (p : Profile) (limit : ℕ) (base : List Call) → AreCalls (new_disk p limit) base → begins.disk ≡ reached p limit base
+    → IsIdle (host_of new_host base) → (deeds : List Deed) (run : RunsRuled at deeds now)
+    → HasLink deeds → AllLast n at deeds now run → AllKeepLine many n c dev at deeds now run → AreKeptOn (calls_of n at deeds now run)
+    → (runs : ControllerRuns at deeds now run) → AllOfDevice many n dev at.controller (calls_in at deeds now run) now.controller runs.calls
+    → Waits dev at.controller (calls_in at deeds now run) now.controller runs.calls
+    → (took : Took) (new : MachineState) (does : Does now (Moved (act.Takes took)) new) → HasRules new → is_of n c does.does.frame ≡ true
+    → has_bit (shown PxCi now.controller) slot ≡ true → has_bit (shown PxCi new.controller) slot ≡ false → has_bit (shown PxSact new.controller) slot ≡ false
+    → (issue : Issue) → issue_at now.controller.core.slots slot ≡ Some issue → issue.dev ≡ dev → is_queued_issue issue ≡ false
+    → IsDoneSingle n dev slot led.first led.deeds at led.run deeds now run p limit base issue does.does.frame
+
+abbrev pub KnowsSingles : MachineState → Type 0
+KnowsSingles now = KnowsSinglesIf AllKeepWaiting now
+
+abbrev pub KnowsPlainSingles : MachineState → Type 0
+KnowsPlainSingles now = KnowsSinglesIf AllPlain now

@@ -13,6 +13,7 @@ ghost use Rattle.uses_machine_theorem.specs.Slots.{KnowsGiven, KnowsOrders, Know
 ghost use Rattle.uses_machine_theorem.specs.Slots.{KnowsData, KnowsEnds, KnowsFollowing, KnowsGiven, KnowsOrders, KnowsReadBack, KnowsReads};
 ghost use Rattle.uses_machine_theorem.specs.Slots.{KnowsSlots, KnowsTags};
 ghost use Rattle.uses_machine_theorem.specs.Slots.{KnowsWritten};
+ghost use Rattle.uses_machine_theorem.specs.Slots.{KnowsData, KnowsEnds, KnowsGiven, KnowsOrders, KnowsPlainSingles, KnowsReads, KnowsSingles, KnowsSlots, KnowsTags, KnowsTransfers, KnowsTurns, KnowsWaits};
 ghost use Rattle.uses_machine_theorem.specs.Standing.{BeginsToStand, GoesOnStanding};
 
 use ahci_controller::Width;
@@ -147,6 +148,9 @@ pub fn plugs(machine: &mut Machine, port: u8) -> Result<(), PortFault>
 /// queued read are those bytes, each at its number, while no FIS of the disk is lost or at fault. And if the medium gives what it was last told to keep, they
 /// are what the guest wrote there, by a write that it saw completed before; and so are all that the disk sent for a read that the guest sees completed.
 /// each byte of it was brought by such a FIS and written at its place, and nothing was issued in the slot since then.
+/// queued read are those bytes, each at its number, while no FIS of the disk is lost or at fault. So it is of a command that is not queued, and that
+/// the guest sees completed, where commands and answers went in turn: at a disk that was new as it was put at its port they do while it is not reset, at
+/// the controller while a command that waits leaves its slot only by its answer.
 pub fn knows_commands(machine: &Machine)
     ensures given { KnowsGiven machine.now }
     ensures sent { KnowsData machine.now }
@@ -160,6 +164,11 @@ pub fn knows_commands(machine: &Machine)
     ensures filled { KnowsFilled machine.now }
     ensures back { KnowsReadBack machine.now }
     ensures follows { KnowsFollowing machine.now }
+    ensures turns { KnowsTurns machine.now }
+    ensures transfers { KnowsTransfers machine.now }
+    ensures waits { KnowsWaits machine.now }
+    ensures singles { KnowsSingles machine.now }
+    ensures plain { KnowsPlainSingles machine.now }
 {
     machine_theorem::commands_are_as_supplied();
     machine_theorem::completions_are_of_their_slots();
@@ -170,4 +179,8 @@ pub fn knows_commands(machine: &Machine)
     machine_theorem::filled_bytes_were_brought();
     machine_theorem::guests_read_back();
     machine_theorem::completed_reads_follow_writes();
+    machine_theorem::commands_go_in_turn();
+    machine_theorem::transfers_are_answered();
+    machine_theorem::commands_await_their_answers();
+    machine_theorem::singles_are_of_their_slots();
 }

@@ -1,0 +1,308 @@
+-- The FISes of a stretch of calls that are commands for a disk are those of slots of its device.
+use Rattle.std.proofs.Common.{◌≡◌, ℕ, zero, suc, ◌+◌, ◌≤◌, ◌&&◌, Bool, true, false, List, [], ◌∷◌, ◌++◌, append_assoc, append-nil, length, map, Result, Ok, Err, refl, sym, ap, subst, ◌∙◌, arith}
+use Rattle.std.specs.Prelude.{◌==◌, if◌then◌else◌}
+use Rattle.std.specs.List.{flat_map}
+use Rattle.std.proofs.lemmas.Bool.{eq-eqb, false≢true}
+use Rattle.std.proofs.lemmas.Grind.{flat_map-append}
+use Rattle.std.proofs.lemmas.List.{length-append}
+use Rattle.fis_view.specs.Frames.{Stamped, marked}
+use Rattle.fis_view.specs.Seen.{seen}
+use Rattle.fis_view.specs.declared.view.Fis.{Fis}
+use Rattle.fis_view.specs.declared.view.Fis.TheVariants as view
+use Rattle.fis_view.specs.declared.view.FisFault.{FisFault}
+use Rattle.ahci_controller.specs.States.{ControllerState}
+use Rattle.ahci_controller.specs.declared.feeding.Fed.TheVariants as fed
+use Rattle.ahci_controller.specs.declared.next.Next.TheVariants as next
+use Rattle.controller_laws.specs.Events as call
+use Rattle.controller_laws.specs.Events.{Event, Runs}
+use Rattle.sata_disk.specs.Hearing.{is_command}
+use Rattle.sata_disk_laws.specs.Calls.{Answers, Asks, Call, Hears, Plugs, Sends, Starts}
+use Rattle.sata_disk_laws.specs.Once.{place_in}
+use Rattle.ahci_machine.specs.Gathers.{host_stamp}
+use Rattle.ahci_machine.specs.States.{MachineState}
+use Rattle.machine_laws.specs.ControllerLaws.{RunsRuled, calls_in}
+use Rattle.machine_laws.specs.Controllers.{deed_calls}
+use Rattle.machine_laws.specs.Deeds.{Deed}
+use Rattle.machine_laws.specs.Falling.{heard_by, sent_by, sent_in}
+use Rattle.machine_theorem.specs.Identity.{heard_as, is_for, picks}
+use Rattle.machine_theorem.specs.InTurn.{commands, heard_in, is_asking}
+use Rattle.machine_theorem.specs.Singles.{AllOfDevice}
+use Rattle.machine_theorem.specs.Tags.{asks_with, once_if}
+use Rattle.machine_theorem.specs.Waits.{AllKeepWaiting, commanded_in, is_commanded, taken_in}
+use Rattle.machine_theorem.proofs.Asking.{AllDataAskNone, DataAskNone}
+use Rattle.machine_theorem.proofs.Fallen.{if_one, map_both}
+use Rattle.machine_theorem.proofs.OneConn.{no_length}
+use Rattle.machine_theorem.proofs.Within.{picks_both}
+
+-- ---- what a disk heard
+
+pub heard_long : (calls : List Call) → length (picks is_asking (flat_map heard_by calls)) ≡ heard_in calls
+heard_long [] = refl
+heard_long (Hears bytes ∷ later) = if_one (is_asking bytes) bytes (picks is_asking (flat_map heard_by later)) (heard_in later) (heard_long later)
+heard_long (Plugs ∷ later) = let rest = heard_long later in omega (arith, rest)
+heard_long (Starts x ∷ later) = let rest = heard_long later in omega (arith, rest)
+heard_long (Asks r ∷ later) = let rest = heard_long later in omega (arith, rest)
+heard_long (Answers n a ∷ later) = let rest = heard_long later in omega (arith, rest)
+heard_long (Sends o ∷ later) = let rest = heard_long later in omega (arith, rest)
+
+-- ---- Data are no commands
+
+-- what asks for no tag is none
+none_asks : (r : Result Fis FisFault) → ((tag : ℕ) → asks_with tag r ≡ false) → commands r ≡ false
+none_asks (Ok (view.RegH2D f)) none = by (is_command f) refl
+  where
+    by : (b : Bool) → is_command f ≡ b → b ≡ false
+    by true is = absurd (false≢true (sym (none (place_in f)) ∙ ap (λ (b : Bool). b && (place_in f == place_in f)) is ∙ eq-eqb (place_in f) (place_in f) refl))
+    by false is = refl
+none_asks (Ok (view.RegD2H f)) none = refl
+none_asks (Ok (view.SetBits f)) none = refl
+none_asks (Ok (view.DmaActivate f)) none = refl
+none_asks (Ok (view.DmaSetup f)) none = refl
+none_asks (Ok (view.PioSetup f)) none = refl
+none_asks (Ok (view.Payload f)) none = refl
+none_asks (Ok (view.Unknown f)) none = refl
+none_asks (Err e) none = refl
+
+abbrev pub IsNoCommand : Event → Type 0
+IsNoCommand (call.Gathered dev number bytes (fed.Goes message line)) = is_asking (marked bytes 0) ≡ false
+IsNoCommand event = Unit {0}
+
+abbrev pub AreNoCommands : List Event → Type 0
+AreNoCommands [] = Unit {0}
+AreNoCommands (e ∷ later) = IsNoCommand e × AreNoCommands later
+
+one_none : (e : Event) (later : List Event) → ((tag : ℕ) → DataAskNone tag (e ∷ later)) → IsNoCommand e
+one_none (call.Gathered dev number bytes (fed.Goes message line)) later none = none_asks (seen (marked bytes 0)) (λ tag. (none tag).0)
+one_none (call.Gathered dev number bytes other) later none = tt
+one_none other later none = tt
+
+list_none : (events : List Event) → ((tag : ℕ) → DataAskNone tag events) → AreNoCommands events
+list_none [] none = tt
+list_none (e ∷ later) none = (one_none e later none, list_none later (λ tag. (none tag).1))
+
+both_none : (xs ys : List Event) → AreNoCommands xs → AreNoCommands ys → AreNoCommands (xs ++ ys)
+both_none [] ys a b = b
+both_none (x ∷ xs) ys a b = (a.0, both_none xs ys a.1 b)
+
+pub all_none : (deeds : List Deed) (old now : MachineState) (run : RunsRuled old deeds now) → ((tag : ℕ) → AllDataAskNone tag old deeds now run) → AreNoCommands (calls_in old deeds now run)
+all_none [] old now run none = tt
+all_none (deed ∷ later) old now run none =
+    both_none (deed_calls old deed run.1.0 run.1.1) (calls_in run.1.0 later now run.1.2) (list_none (deed_calls old deed run.1.0 run.1.1) (λ tag. (none tag).0))
+    (all_none later run.1.0 now run.1.2 (λ tag. (none tag).1))
+
+-- ---- the commands that are sent
+
+module _ (many : Bool) (n : ℕ) where
+  abbrev pub asked : List Event → List (List ℕ)
+  asked events = picks is_asking (map heard_as (picks (is_for many n) (sent_in events)))
+
+  pub asked_both : (xs ys : List Event) → asked (xs ++ ys) ≡ asked xs ++ asked ys
+  asked_both xs ys =
+      ap (λ (l : List Stamped). picks is_asking (map heard_as (picks (is_for many n) l))) (flat_map-append sent_by xs ys)
+      ∙ ap (λ (l : List Stamped). picks is_asking (map heard_as l)) (picks_both (is_for many n) (sent_in xs) (sent_in ys))
+      ∙ ap (picks is_asking) (map_both heard_as (picks (is_for many n) (sent_in xs)) (picks (is_for many n) (sent_in ys)))
+      ∙ picks_both is_asking (map heard_as (picks (is_for many n) (sent_in xs))) (map heard_as (picks (is_for many n) (sent_in ys)))
+
+  abbrev stamped : ℕ → List ℕ → Stamped
+  stamped to fis = record { bytes = fis; stamp = host_stamp to }
+
+  -- a FIS for the disk
+  picked : (b : Bool) (f : Stamped) → picks is_asking (map heard_as (if b then f ∷ [] else [])) ≡ (if b && is_asking (heard_as f) then heard_as f ∷ [] else [])
+  picked true f = refl
+  picked false f = refl
+
+  abbrev passes : Stamped → Bool
+  passes f = is_for many n f && is_asking (heard_as f)
+
+  frame_asks : (f : Stamped) → picks is_asking (map heard_as (picks (is_for many n) (f ∷ []))) ≡ (if passes f then heard_as f ∷ [] else [])
+  frame_asks f = picked (is_for many n f) f
+
+  short : (b : Bool) (x : List ℕ) → length (if b then x ∷ [] else []) ≡ once_if b
+  short true x = refl
+  short false x = refl
+
+  -- a call that sends a command for the disk
+  pub record IsAsking (e : Event) : Type 0 where
+    pub to : ℕ
+    pub slot : ℕ
+    pub fis : List ℕ
+    pub is : e ≡ call.Turned (next.Order to slot fis)
+    pub own : is_for many n (record { bytes = fis; stamp = host_stamp to }) ≡ true
+    pub asks : is_asking (marked fis 0) ≡ true
+
+  no_frame : (e : Event) → asked (e ∷ []) ≡ [] → 1 ≤ length (asked (e ∷ [])) → IsAsking e
+  no_frame e none some = absurd (let zero = ap (λ (l : List (List ℕ)). length l) none in omega (arith, zero, some))
+
+  both_true : (a b : Bool) → 1 ≤ once_if (a && b) → (a ≡ true) × (b ≡ true)
+  both_true true true some = (refl, refl)
+  both_true true false some = absurd (omega (arith, some))
+  both_true false b some = absurd (omega (arith, some))
+
+  frame_some : (f : Stamped) → 1 ≤ length (picks is_asking (map heard_as (picks (is_for many n) (f ∷ [])))) → (is_for many n f ≡ true) × (is_asking (heard_as f) ≡ true)
+  frame_some f some =
+      let long = ap (λ (l : List (List ℕ)). length l) (frame_asks f) ∙ short (passes f) (heard_as f) in
+      both_true (is_for many n f) (is_asking (heard_as f)) (omega (arith, long, some))
+
+  asking_is : (e : Event) → IsNoCommand e → 1 ≤ length (asked (e ∷ [])) → IsAsking e
+  asking_is (call.Turned (next.Order to slot fis)) none some =
+      let it = frame_some (stamped to fis) some in
+      record { to = to; slot = slot; fis = fis; is = refl; own = it.0; asks = it.1 }
+  asking_is (call.Gathered dev number bytes (fed.Goes message line)) none some = absurd (false≢true (sym none ∙ (frame_some (stamped dev bytes) some).1))
+  asking_is (call.Gathered dev number bytes other) none some = no_frame _ refl some
+  asking_is (call.Turned other) none some = no_frame _ refl some
+  asking_is other none some = no_frame _ refl some
+
+  asked_one : (e : Event) (it : IsAsking e) → asked (e ∷ []) ≡ marked it.fis 0 ∷ []
+  asked_one e it =
+      let f : Stamped = stamped it.to it.fis in
+      ap (λ (x : Event). asked (x ∷ [])) it.is ∙ frame_asks f ∙ ap (λ (b : Bool). if b && is_asking (heard_as f) then heard_as f ∷ [] else []) it.own ∙ ap (λ (b : Bool). if b then heard_as f ∷ [] else []) it.asks
+
+  -- ---- as many as are sent from slots of the device
+
+  module _ (dev : ℕ) where
+    zero_least : (k : ℕ) → 0 ≤ k
+    zero_least k = omega arith
+
+    least : (b : Bool) (l : List (List ℕ)) → length l ≡ 0 → length l ≤ once_if b
+    least b l e = let k = zero_least (once_if b) in omega (arith, e, k)
+
+    none_few : (e : Event) (c : ControllerState) → asked (e ∷ []) ≡ [] → length (asked (e ∷ [])) ≤ once_if (is_commanded dev c e)
+    none_few e c none = least (is_commanded dev c e) (asked (e ∷ [])) (ap (λ (l : List (List ℕ)). length l) none)
+
+    few_if : (a b d : Bool) → (a ≡ true → b ≡ true → d ≡ true) → once_if (a && b) ≤ once_if d
+    few_if true true true of = omega arith
+    few_if true true false of = absurd (false≢true (of refl refl))
+    few_if true false d of = zero_least (once_if d)
+    few_if false b d of = zero_least (once_if d)
+
+    frame_few : (f : Stamped) (d : Bool) → (is_for many n f ≡ true → is_asking (heard_as f) ≡ true → d ≡ true) → length (picks is_asking (map heard_as (picks (is_for many n) (f ∷ [])))) ≤ once_if d
+    frame_few f d of =
+        let long = ap (λ (l : List (List ℕ)). length l) (frame_asks f) ∙ short (passes f) (heard_as f) in
+        let few = few_if (is_for many n f) (is_asking (heard_as f)) d of in
+        omega (arith, long, few)
+
+    one_few : (e : Event) (old now : ControllerState) (later : List Event) (run : Runs old (e ∷ later) now) → IsNoCommand e → AllOfDevice many n dev old (e ∷ later) now run
+        → length (asked (e ∷ [])) ≤ once_if (is_commanded dev old e)
+    one_few (call.Turned (next.Order to slot fis)) old now later run none of = frame_few (stamped to fis) (is_commanded dev old (call.Turned (next.Order to slot fis))) of.0
+    one_few (call.Gathered d number bytes (fed.Goes message line)) old now later run none of =
+        frame_few (stamped d bytes) false (λ a b. absurd (false≢true (sym none ∙ b)))
+    one_few (call.Gathered d number bytes other) old now later run none of = none_few (call.Gathered d number bytes other) old refl
+    one_few (call.Turned other) old now later run none of = none_few (call.Turned other) old refl
+    one_few (call.Wrote offset value written) old now later run none of = none_few (call.Wrote offset value written) old refl
+    one_few (call.WroteWide offset width value written) old now later run none of = none_few (call.WroteWide offset width value written) old refl
+    one_few (call.Supplied slot number bytes supply) old now later run none of = none_few (call.Supplied slot number bytes supply) old refl
+    one_few (call.Missed slot number supply) old now later run none of = none_few (call.Missed slot number supply) old refl
+    one_few (call.Took frame took) old now later run none of = none_few (call.Took frame took) old refl
+    one_few (call.Left frame why) old now later run none of = none_few (call.Left frame why) old refl
+    one_few (call.Said write) old now later run none of = none_few (call.Said write) old refl
+    one_few (call.NotThere d number x) old now later run none of = none_few (call.NotThere d number x) old refl
+
+    pub asked_few : (events : List Event) (old now : ControllerState) (run : Runs old events now) → AreNoCommands events → AllOfDevice many n dev old events now run
+        → length (asked events) ≤ commanded_in dev old events now run
+    asked_few [] old now run none of = omega arith
+    asked_few (e ∷ later) old now run none of =
+        let first = one_few e old now later run none.0 of in
+        let rest = asked_few later run.1.0 now run.1.2 none.1 of.1 in
+        let both = ap (λ (l : List (List ℕ)). length l) (asked_both (e ∷ []) later) ∙ length-append (asked (e ∷ [])) (asked later) in
+        omega (arith, first, rest, both)
+
+    -- ---- the last of them
+
+    pub record LastAsked (old : ControllerState) (events : List Event) (now : ControllerState) (run : Runs old events now) : Type 0 where
+      pub before : List Event
+      pub at : ControllerState
+      pub led : Runs old before at
+      pub to : ℕ
+      pub slot : ℕ
+      pub fis : List ℕ
+      pub later : List Event
+      pub rest : Runs at (call.Turned (next.Order to slot fis) ∷ later) now
+      pub is : events ≡ before ++ call.Turned (next.Order to slot fis) ∷ later
+      pub own : is_for many n (record { bytes = fis; stamp = host_stamp to }) ≡ true
+      pub asks : is_asking (marked fis 0) ≡ true
+      pub last : asked events ≡ asked before ++ marked fis 0 ∷ []
+      pub commanded : commanded_in dev old events now run ≡ commanded_in dev old before at led + commanded_in dev at (call.Turned (next.Order to slot fis) ∷ later) now rest
+      pub taken : taken_in dev events ≡ taken_in dev before + taken_in dev later
+      pub none : AreNoCommands before
+      pub of : AllOfDevice many n dev old before at led
+      pub of_rest : AllOfDevice many n dev at (call.Turned (next.Order to slot fis) ∷ later) now rest
+      pub keeps : AllKeepWaiting dev old before at led
+      pub keeps_rest : AllKeepWaiting dev at (call.Turned (next.Order to slot fis) ∷ later) now rest
+
+    here_at : (to slot : ℕ) (fis : List ℕ) (later : List Event) (old now : ControllerState) (run : Runs old (call.Turned (next.Order to slot fis) ∷ later) now)
+        → AllOfDevice many n dev old (call.Turned (next.Order to slot fis) ∷ later) now run → AllKeepWaiting dev old (call.Turned (next.Order to slot fis) ∷ later) now run
+        → is_for many n (stamped to fis) ≡ true → is_asking (marked fis 0) ≡ true → asked (call.Turned (next.Order to slot fis) ∷ []) ≡ marked fis 0 ∷ [] → asked later ≡ []
+        → LastAsked old (call.Turned (next.Order to slot fis) ∷ later) now run
+    here_at to slot fis later old now run of keeps own asks one none =
+        let x : Event = call.Turned (next.Order to slot fis) in
+        record {
+          before = [];
+          at = old;
+          led = (run.0, refl);
+          to = to;
+          slot = slot;
+          fis = fis;
+          later = later;
+          rest = run;
+          is = refl;
+          own = own;
+          asks = asks;
+          last = asked_both (x ∷ []) later ∙ ap (λ (l : List (List ℕ)). asked (x ∷ []) ++ l) none ∙ append-nil (asked (x ∷ [])) ∙ one;
+          commanded = omega arith;
+          taken = omega arith;
+          none = tt;
+          of = tt;
+          of_rest = of;
+          keeps = tt;
+          keeps_rest = keeps;
+        }
+
+    -- it is the first call
+    here : (e : Event) (later : List Event) (old now : ControllerState) (run : Runs old (e ∷ later) now) → AllOfDevice many n dev old (e ∷ later) now run → AllKeepWaiting dev old (e ∷ later) now run
+        → IsAsking e → asked later ≡ [] → LastAsked old (e ∷ later) now run
+    here e later old now run of keeps it none =
+        subst (λ (x : Event). (run : Runs old (x ∷ later) now) → AllOfDevice many n dev old (x ∷ later) now run → AllKeepWaiting dev old (x ∷ later) now run → asked (x ∷ []) ≡ marked it.fis 0 ∷ []
+        → LastAsked old (x ∷ later) now run) (sym it.is) (λ run of keeps one. here_at it.to it.slot it.fis later old now run of keeps it.own it.asks one none) run of keeps (asked_one e it)
+
+    -- it is a later one
+    more : (e : Event) (later : List Event) (old now : ControllerState) (run : Runs old (e ∷ later) now) → IsNoCommand e → AllOfDevice many n dev old (e ∷ later) now run
+        → AllKeepWaiting dev old (e ∷ later) now run → LastAsked run.1.0 later now run.1.2 → LastAsked old (e ∷ later) now run
+    more e later old now run none of keeps l =
+        let x : Event = call.Turned (next.Order l.to l.slot l.fis) in
+        let commanded = l.commanded in
+        let taken = l.taken in
+        record {
+          before = e ∷ l.before;
+          at = l.at;
+          led = (run.0, (run.1.0, run.1.1, l.led));
+          to = l.to;
+          slot = l.slot;
+          fis = l.fis;
+          later = l.later;
+          rest = l.rest;
+          is = ap (λ (k : List Event). e ∷ k) l.is;
+          own = l.own;
+          asks = l.asks;
+          last = asked_both (e ∷ []) later ∙ ap (λ (k : List (List ℕ)). asked (e ∷ []) ++ k) l.last ∙ sym (append_assoc (asked (e ∷ [])) (asked l.before) (marked l.fis 0 ∷ []))
+              ∙ ap (λ (k : List (List ℕ)). k ++ marked l.fis 0 ∷ []) (sym (asked_both (e ∷ []) l.before));
+          commanded = omega (arith, commanded);
+          taken = omega (arith, taken);
+          none = (none, l.none);
+          of = (of.0, l.of);
+          of_rest = l.of_rest;
+          keeps = (keeps.0, l.keeps);
+          keeps_rest = l.keeps_rest;
+        }
+
+    pub last_asked : (events : List Event) (old now : ControllerState) (run : Runs old events now) → AreNoCommands events → AllOfDevice many n dev old events now run
+        → AllKeepWaiting dev old events now run → 1 ≤ length (asked events) → LastAsked old events now run
+    last_asked [] old now run none of keeps some = absurd (omega (arith, some))
+    last_asked (e ∷ later) old now run none of keeps some =
+        by (length (asked later)) refl (λ more_some. last_asked later run.1.0 now run.1.2 none.1 of.1 keeps.1 more_some)
+      where
+        both : length (asked (e ∷ later)) ≡ length (asked (e ∷ [])) + length (asked later)
+        both = ap (λ (l : List (List ℕ)). length l) (asked_both (e ∷ []) later) ∙ length-append (asked (e ∷ [])) (asked later)
+
+        by : (k : ℕ) → length (asked later) ≡ k → (1 ≤ length (asked later) → LastAsked run.1.0 later now run.1.2) → LastAsked old (e ∷ later) now run
+        by zero is tail = here e later old now run of keeps (asking_is e none.0 (omega (arith, both, some, is))) (no_length (asked later) is)
+        by (suc k) is tail = more e later old now run none.0 of keeps (tail (omega (arith, is)))

@@ -1,0 +1,104 @@
+-- A command waits in its slot for the answer of its device, and the next one goes to this device only behind that. So the slot that waits has the command
+-- that was sent last (AHCI 1.3.1, 5.3.8 and 5.3.13, a port sends a command and takes a Register FIS, and 9.3, FIS-based Switching).
+use Rattle.std.specs.Prelude.{ℕ, ◌≡◌, ◌<◌, ◌≤◌, ◌+◌, ◌==◌, ◌&&◌, Bool, true, false, not, is_some, List, [], ◌∷◌, Some}
+use Rattle.slots.specs.Slots.{Issue, holds, is_control, is_pio, is_queued_issue, is_waiting, issue_at, slots_of, waiting}
+use Rattle.hba_fbs.specs.Taking.{port_of}
+use Rattle.hba_fbs.specs.Views.{view_of}
+use Rattle.hba_laws.specs.Agreement.{IsTold}
+use Rattle.hba_laws.specs.History.{History}
+use Rattle.ahci_controller.specs.States.{ControllerState}
+use Rattle.ahci_controller.specs.declared.next.Next.TheVariants as next
+use Rattle.controller_laws.specs.Events as call
+use Rattle.controller_laws.specs.Events.{Event, Runs}
+use Rattle.machine_theorem.specs.Commands.{AreNotIssued}
+use Rattle.machine_theorem.specs.InTurn.{is_answering}
+use Rattle.machine_theorem.specs.Tags.{once_if}
+
+-- ---- what is counted
+
+-- a slot of the device has a command that was sent and is not answered
+abbrev pub waits_in : (dev : ℕ) → ControllerState → Bool
+waits_in dev c = is_some (waiting (slots_of dev c.core.slots))
+
+-- a call sends a command to the device, and no Control
+abbrev pub is_command_issue : (dev : ℕ) → Issue → Bool
+is_command_issue dev issue = (issue.dev == dev) && not (is_control issue.work.kind)
+
+abbrev pub is_commanded : (dev : ℕ) → ControllerState → Event → Bool
+is_commanded dev c (call.Turned (next.Order to slot fis)) = holds (is_command_issue dev) (issue_at c.core.slots slot)
+is_commanded dev c event = false
+
+-- by a call a Register FIS of the device is taken
+abbrev pub is_answered : (dev : ℕ) → Event → Bool
+is_answered dev (call.Took frame took) = (port_of frame == dev) && is_answering frame
+is_answered dev event = false
+
+-- how many calls of a run do
+abbrev pub commanded_in : (dev : ℕ) → (old : ControllerState) → (events : List Event) → (now : ControllerState) → Runs old events now → ℕ
+commanded_in dev old [] now run = 0
+commanded_in dev old (event ∷ later) now run = once_if (is_commanded dev old event) + commanded_in dev run.1.0 later now run.1.2
+
+abbrev pub taken_in : (dev : ℕ) → List Event → ℕ
+taken_in dev [] = 0
+taken_in dev (event ∷ later) = once_if (is_answered dev event) + taken_in dev later
+
+-- ---- a stretch
+
+-- A command that waits leaves its slot only as a Register FIS of its device is taken: no write stops the port or clears the device, and no other FIS
+-- ends the command, as Data do that end a PIO read.
+abbrev pub KeepsWaiting : (dev : ℕ) → (old : ControllerState) → Event → (new : ControllerState) → Type 0
+KeepsWaiting dev old event new = is_answered dev event ≡ false → waits_in dev old ≡ true → waits_in dev new ≡ true
+
+abbrev pub AllKeepWaiting : (dev : ℕ) → (old : ControllerState) → (events : List Event) → (now : ControllerState) → Runs old events now → Type 0
+AllKeepWaiting dev old [] now run = Unit {0}
+AllKeepWaiting dev old (event ∷ later) now run = KeepsWaiting dev old event run.1.0 × AllKeepWaiting dev run.1.0 later now run.1.2
+
+-- ---- the laws
+
+-- Over each such stretch of calls no more commands are sent to a device than Register FISes of it are taken, and one more where one of its slots waits.
+abbrev pub CommandsAwaitAnswers : Type 0
+CommandsAwaitAnswers = (dev : ℕ) (old now : ControllerState) (events : List Event) (run : Runs old events now) → AllKeepWaiting dev old events now run
+    → commanded_in dev old events now run + once_if (waits_in dev old) ≤ taken_in dev events + once_if (waits_in dev now)
+
+-- A command is sent to the device from a slot by this call, and none behind it, and no Register FIS of the device is taken.
+pub record IsLastCommand (dev slot : ℕ) (fis : List ℕ) (later : List Event) (now : ControllerState) : Type 0 where
+  pub at : ControllerState
+  pub run : Runs at (call.Turned (next.Order dev slot fis) ∷ later) now
+  pub commanded : is_commanded dev at (call.Turned (next.Order dev slot fis)) ≡ true
+  pub keeps : AllKeepWaiting dev run.1.0 later now run.1.2
+  pub none : commanded_in dev run.1.0 later now run.1.2 ≡ 0
+  pub untaken : taken_in dev later ≡ 0
+
+-- Then the slot waits with this command, and nothing was issued there since; no other slot of the device waits.
+pub record IsWaitingAlone (dev slot : ℕ) (later : List Event) (now : ControllerState) : Type 0 where
+  pub issue : Issue
+  pub is : issue_at now.core.slots slot ≡ Some issue
+  pub own : issue.dev ≡ dev
+  pub waits : is_waiting issue ≡ true
+  pub alone : AreNotIssued slot later
+  pub others : (s : ℕ) → s < 32 → (i : Issue) → issue_at now.core.slots s ≡ Some i → i.dev ≡ dev → is_waiting i ≡ true → s ≡ slot
+
+abbrev pub LastCommandsWait : Type 0
+LastCommandsWait = (dev : ℕ) → dev < 16 → (slot : ℕ) → slot < 32 → (fis : List ℕ) (later : List Event) (now : ControllerState)
+    → (last : IsLastCommand dev slot fis later now) → (past : History) → IsTold (view_of dev last.at.core) past → IsWaitingAlone dev slot later now
+
+-- ---- where a command waits
+
+-- No queued command and no PIO data-in is issued for the device: each of its commands is by DMA, a PIO data-out, or moves no data.
+abbrev pub HasPlain : (dev : ℕ) → ControllerState → Type 0
+HasPlain dev c = (s : ℕ) (i : Issue) → issue_at c.core.slots s ≡ Some i → i.dev ≡ dev → (is_queued_issue i ≡ false) × (is_pio i.work.kind ≡ false)
+
+-- a write takes no command that waits from its slot, as one does that stops the port, or clears or resets the device
+abbrev pub SparesWaiting : (dev : ℕ) → (old : ControllerState) → Event → (new : ControllerState) → Type 0
+SparesWaiting dev old (call.Wrote offset value written) new = waits_in dev old ≡ true → waits_in dev new ≡ true
+SparesWaiting dev old (call.WroteWide offset width value written) new = waits_in dev old ≡ true → waits_in dev new ≡ true
+SparesWaiting dev old event new = Unit {0}
+
+abbrev pub AllPlain : (dev : ℕ) → (old : ControllerState) → (events : List Event) → (now : ControllerState) → Runs old events now → Type 0
+AllPlain dev old [] now run = Unit {0}
+AllPlain dev old (event ∷ later) now run = HasPlain dev old × SparesWaiting dev old event run.1.0 × AllPlain dev run.1.0 later now run.1.2
+
+-- So a command waits over each stretch of calls in which the guest has no other commands for the device, and spares those that wait; whatever FISes come.
+abbrev pub PlainCommandsWait : Type 0
+PlainCommandsWait = (dev : ℕ) → dev < 16 → (old now : ControllerState) (events : List Event) (run : Runs old events now)
+    → (past : History) → IsTold (view_of dev old.core) past → AllPlain dev old events now run → AllKeepWaiting dev old events now run
