@@ -14,92 +14,106 @@ mod unqueued;
 mod vectors;
 
 use hba_fbs::{NoRegister, Register, WriteError};
-use host_memory::{MemoryError, Prd};
+use host_memory::Prd;
 use rig::Rig;
 use std::alloc::{AllocError, Global};
 use steps::Sent::{Block, Bytes};
 use steps::Step::{
-    Flushes, IsResetting, Issues, ListsRead, Refuses, Shows, Spoils, Starts, Takes, Writes,
+    Flushes, IsResetting, Issues, Lacks, ListsRead, Opens, Refuses, Shows, Spoils, Stands, Starts,
+    Takes, Writes,
 };
-use steps::{Sent, Step, play};
+use steps::{Sent, Step, assert_all, play};
 
 /// The offsets of the registers, their opening values, and the bits that a write stores in a port that opened.
-static TABLE: [(Register, u32, u32, u32); 14] = [
-    (Register::Clb, 0x00, 0, 0xFFFF_FC00),
-    (Register::Clbu, 0x04, 0, 0xFFFF_FFFF),
-    (Register::Fb, 0x08, 0, 0xFFFF_F000),
-    (Register::Fbu, 0x0C, 0, 0xFFFF_FFFF),
-    (Register::Is, 0x10, 0, 0),
-    (Register::Ie, 0x14, 0, 0xFFFF_FFFF),
-    (Register::Cmd, 0x18, 0x0040_0000, 0x0002_0000),
-    (Register::Tfd, 0x20, 0x50, 0),
-    (Register::Sig, 0x24, 0xFFFF_FFFF, 0),
-    (Register::Serr, 0x30, 0, 0),
-    (Register::Sact, 0x34, 0, 0),
-    (Register::Ci, 0x38, 0, 0),
-    (Register::Sntf, 0x3C, 0, 0),
-    (Register::Fbs, 0x40, 0xF000, 0x0000_0F01),
+static TABLE: [Step; 14] = [
+    Stands(Register::Clb, 0x00, 0, 0xFFFF_FC00),
+    Stands(Register::Clbu, 0x04, 0, 0xFFFF_FFFF),
+    Stands(Register::Fb, 0x08, 0, 0xFFFF_F000),
+    Stands(Register::Fbu, 0x0C, 0, 0xFFFF_FFFF),
+    Stands(Register::Is, 0x10, 0, 0),
+    Stands(Register::Ie, 0x14, 0, 0xFFFF_FFFF),
+    Stands(Register::Cmd, 0x18, 0x0040_0000, 0x0002_0000),
+    Stands(Register::Tfd, 0x20, 0x50, 0),
+    Stands(Register::Sig, 0x24, 0xFFFF_FFFF, 0),
+    Stands(Register::Serr, 0x30, 0, 0),
+    Stands(Register::Sact, 0x34, 0, 0),
+    Stands(Register::Ci, 0x38, 0, 0),
+    Stands(Register::Sntf, 0x3C, 0, 0),
+    Stands(Register::Fbs, 0x40, 0xF000, 0x0000_0F01),
 ];
 
-/// Whether bit k of a register of a port that opened is stored or stays. Ones in PxSACT and PxCI are refused.
-fn keeps_bit(rig: &mut Rig, offset: u32, k: u32, opening: u32, stored: u32) -> bool {
-    let value = 1_u32.wrapping_shl(k);
-    let refused = offset == 0x34 || offset == 0x38;
-    let answer = if refused {
-        Err(WriteError::Stopped)
-    } else {
-        Ok(())
-    };
-    rig.open();
-    rig.write(offset, value) == answer && rig.shows(offset, opening & !stored | value & stored)
-}
+impl Rig {
+    /// Whether bit k of a register of a port that opened is stored or stays. Ones in PxSACT and PxCI are refused.
+    fn keeps_bit(&mut self, offset: u32, k: u8, opening: u32, stored: u32) -> bool {
+        let value = 1_u32 << (k % 32);
+        let refused = offset == 0x34 || offset == 0x38;
+        let answer = if refused {
+            Err(WriteError::Stopped)
+        } else {
+            Ok(())
+        };
+        self.open();
+        self.write(offset, value) == answer
+            && self.shows(offset, opening & !stored | value & stored)
+    }
 
-/// Whether a register stands at its offset, opens so, and stores these bits. ST and FRE are left out.
-fn is_of_the_table(rig: &mut Rig, row: &(Register, u32, u32, u32)) -> bool {
-    let (register, offset, opening, stored) = *row;
-    rig.open();
-    if Register::at(offset) != Some(register)
-        || register.offset() != offset
-        || !rig.shows(offset, opening)
-    {
-        return false;
-    }
-    for k in 0..32_u32 {
-        let is_left_out = offset == 0x18 && (k == 0 || k == 4);
-        if !is_left_out && !keeps_bit(rig, offset, k, opening, stored) {
-            return false;
+    /// Whether a register stands at its offset, opens so, and stores these bits. ST and FRE are left out.
+    fn stands(&mut self, register: Register, offset: u32, opening: u32, stored: u32) -> bool {
+        self.open();
+        for k in 0..32_u8 {
+            let is_left_out = offset == 0x18 && (k == 0 || k == 4);
+            if !is_left_out && !self.keeps_bit(offset, k, opening, stored) {
+                return false;
+            }
         }
+        self.open();
+        Register::at(offset) == Some(register)
+            && register.offset() == offset
+            && self.shows(offset, opening)
     }
-    true
 }
 
 /// Each bit of each register of a port that opened, except ST and FRE.
 #[test]
-fn registers_are_those_of_the_table(rt: HostRuntime) -> Result<(), MemoryError> {
-    let mut rig = Rig::new(rt.alloc())?;
-    for row in &TABLE {
-        assert!(rt; is_of_the_table(&mut rig, row), "{}", row.1);
-    }
-    Ok(())
+fn registers_are_those_of_the_table(rt: HostRuntime) {
+    play(&rt, rt.alloc(), &TABLE);
 }
 
-/// Whether there is no register at this offset, for a read and for a write.
-fn is_no_register(rig: &mut Rig, offset: u32) -> bool {
-    rig.open();
-    Register::at(offset).is_none()
-        && rig.lacks(offset)
-        && rig.write(offset, 0) == Err(WriteError::NoRegister)
-        && rig.shows(0x24, 0xFFFF_FFFF)
-}
+/// Offsets without a register, for a read and for a write.
+static OTHERS: [Step; 28] = [
+    Opens,
+    Lacks(0x01),
+    Refuses(0x01, 0, WriteError::NoRegister),
+    Shows(0x24, 0xFFFF_FFFF),
+    Opens,
+    Lacks(0x1C),
+    Refuses(0x1C, 0, WriteError::NoRegister),
+    Shows(0x24, 0xFFFF_FFFF),
+    Opens,
+    Lacks(0x28),
+    Refuses(0x28, 0, WriteError::NoRegister),
+    Shows(0x24, 0xFFFF_FFFF),
+    Opens,
+    Lacks(0x2C),
+    Refuses(0x2C, 0, WriteError::NoRegister),
+    Shows(0x24, 0xFFFF_FFFF),
+    Opens,
+    Lacks(0x44),
+    Refuses(0x44, 0, WriteError::NoRegister),
+    Shows(0x24, 0xFFFF_FFFF),
+    Opens,
+    Lacks(0x70),
+    Refuses(0x70, 0, WriteError::NoRegister),
+    Shows(0x24, 0xFFFF_FFFF),
+    Opens,
+    Lacks(0xFFFF_FFFF),
+    Refuses(0xFFFF_FFFF, 0, WriteError::NoRegister),
+    Shows(0x24, 0xFFFF_FFFF),
+];
 
-/// Offsets without a register.
 #[test]
-fn other_offsets_are_refused(rt: HostRuntime) -> Result<(), MemoryError> {
-    let mut rig = Rig::new(rt.alloc())?;
-    for offset in [0x01, 0x1C, 0x28, 0x2C, 0x44, 0x70, 0xFFFF_FFFF] {
-        assert!(rt; is_no_register(&mut rig, offset), "{offset}");
-    }
-    Ok(())
+fn other_offsets_are_refused(rt: HostRuntime) {
+    play(&rt, rt.alloc(), &OTHERS);
 }
 
 /// The commands of device 1 and device 2 go to these places.
@@ -150,12 +164,12 @@ static ALL_BITS: [Step; 29] = [
 
 /// Whether a value that is written to a register changes another so, when each bit is set that may be set.
 fn clears(rig: &mut Rig, offset: u32, value: u32, shown: (u32, u32)) -> bool {
-    rig.play(&ALL_BITS).is_none() && rig.writes(offset, value) && rig.shows(shown.0, shown.1)
+    rig.play(&ALL_BITS) == 29 && rig.writes(offset, value) && rig.shows(shown.0, shown.1)
 }
 
 /// Whether a one in bit k clears what it clears. UFS follows PxSERR.
-fn clears_bit(rig: &mut Rig, k: u32) -> bool {
-    let value = 1_u32.wrapping_shl(k);
+fn clears_bit(rig: &mut Rig, k: u8) -> bool {
+    let value = 1_u32 << (k % 32);
     let unknown = if k == 25 { 0 } else { 0x0200_0000 };
     let ufs = if k == 25 { 0 } else { 0x10 };
     clears(
@@ -168,38 +182,37 @@ fn clears_bit(rig: &mut Rig, k: u32) -> bool {
         && clears(rig, 0x3C, value, (0x3C, 0xFFFF & !value))
 }
 
+/// How many bits from bit 0 on clear what they clear. Zeros clear none.
+fn clearing_bits(rig: &mut Rig) -> usize {
+    for k in 0..32_u8 {
+        if !clears_bit(rig, k) {
+            return k as usize;
+        }
+    }
+    if clears(rig, 0x10, 0, (0x10, 0x6900_001F)) {
+        32
+    } else {
+        0
+    }
+}
+
+/// The same of a port that opens.
+fn clearing_bits_of_a_port(alloc: Global) -> usize {
+    match Rig::new(alloc) {
+        Ok(mut rig) => clearing_bits(&mut rig),
+        Err(_) => 0,
+    }
+}
+
 /// Which bits ones clear.
 #[test]
-fn ones_clear_bits(rt: HostRuntime) -> Result<(), MemoryError> {
-    let mut rig = Rig::new(rt.alloc())?;
-    assert!(rt; clears(&mut rig, 0x10, 0, (0x10, 0x6900_001F)));
-    for k in 0..32_u32 {
-        assert!(rt; clears_bit(&mut rig, k), "{k}");
-    }
-    Ok(())
+fn ones_clear_bits(rt: HostRuntime) {
+    assert_all(&rt, clearing_bits_of_a_port(rt.alloc()), 32);
 }
 
-/// A device is in the middle of a PIO data-in command, with Status D8h, when ST falls.
-static STOP: [Step; 7] = [
-    Starts,
-    Issues(2, 2, 0xEC, &SECTOR),
-    Takes(Bytes(&[
-        0x5F, 0x62, 0xD8, 0, 0, 0, 0, 0, 0, 0, 0, 0, 0, 0, 0, 0x50, 0, 2, 0, 0,
-    ])),
-    Writes(0x40, 0x0201),
-    Shows(0x20, 0xD8),
-    Writes(0x18, 0x10),
-    Shows(0x20, 0x50),
-];
-
-#[test]
-fn a_stop_clears_busy(rt: HostRuntime) {
-    play(&rt, rt.alloc(), &STOP);
-}
-
-/// ST rises in both modes. While it is 1, some registers stay. It falls and rises, and leaves PxFBS as
-/// written.
-static STARTS: [Step; 42] = [
+/// ST rises in both modes. While it is 1, some registers stay. It falls and rises, and leaves PxFBS as written. At the end it
+/// falls when a device is in the middle of a PIO data-in command, with Status D8h.
+static STARTS: [Step; 49] = [
     Writes(0x18, 0x11),
     Shows(0x18, 0x0040_C011),
     Writes(0x18, 0),
@@ -242,6 +255,15 @@ static STARTS: [Step; 42] = [
     Shows(0x40, 0xF201),
     Writes(0x18, 0),
     Shows(0x18, 0x0040_0000),
+    Starts,
+    Issues(2, 2, 0xEC, &SECTOR),
+    Takes(Bytes(&[
+        0x5F, 0x62, 0xD8, 0, 0, 0, 0, 0, 0, 0, 0, 0, 0, 0, 0, 0x50, 0, 2, 0, 0,
+    ])),
+    Writes(0x40, 0x0201),
+    Shows(0x20, 0xD8),
+    Writes(0x18, 0x10),
+    Shows(0x20, 0x50),
 ];
 
 #[test]
@@ -364,18 +386,28 @@ static TEXTS: [(u8, WriteError, &str); 7] = [
     ),
 ];
 
-/// Whether a refusal has its number and its text.
-fn has_text(alloc: Global, row: &(u8, WriteError, &str)) -> Result<bool, AllocError> {
-    let (number, error, wanted) = *row;
-    let text = error.to_string(alloc)?;
-    Ok(error as u8 == number && text.as_str() == wanted)
+/// Whether this text was written.
+fn is_text(written: Result<String, AllocError>, text: &str) -> bool {
+    match written {
+        Ok(written) => written.as_str() == text,
+        Err(_) => false,
+    }
+}
+
+/// How many refusals have their number and their text. None have where a read's has another text.
+fn right_texts(alloc: Global) -> usize {
+    if !is_text(NoRegister.to_string(alloc), "no such register") {
+        return 0;
+    }
+    for (i, (number, error, text)) in TEXTS.iter().enumerate() {
+        if *error as u8 != *number || !is_text(error.to_string(alloc), text) {
+            return i;
+        }
+    }
+    7
 }
 
 #[test]
-fn refusals_have_numbers_and_texts(rt: HostRuntime) -> Result<(), AllocError> {
-    for row in &TEXTS {
-        assert!(rt; has_text(rt.alloc(), row)?);
-    }
-    assert!(rt; NoRegister.to_string(rt.alloc())?.as_str() == "no such register");
-    Ok(())
+fn refusals_have_numbers_and_texts(rt: HostRuntime) {
+    assert_all(&rt, right_texts(rt.alloc()), 7);
 }

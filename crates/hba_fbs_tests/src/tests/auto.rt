@@ -1,7 +1,7 @@
 //! DMA Setups with auto-activate.
 
 use super::steps::Sent::{Answer, Bytes};
-use super::steps::Step::{Faults, Flushes, GivesNone, GivesOf, QueuesWrite, Starts, Takes, Tells};
+use super::steps::Step::{Faults, Flushes, GivesNone, GivesOf, Moves, Starts, Takes, Tells};
 use super::steps::Told::Heard;
 use super::steps::{Sent, Step, play};
 use port_errors::DeviceCause;
@@ -15,10 +15,11 @@ const SETUP: Sent = Bytes(&[
 const ACTIVATE: Sent = Bytes(&[0x39, 2, 0, 0]);
 
 /// Device 2 has answered the write of 24 sectors in slot 0, and set up all of them. The first Data goes at once, and
-/// each later Data when a DMA Activate asks for it.
-static AT_ONCE: [Step; 10] = [
+/// each later Data when a DMA Activate asks for it. A DMA Activate before that Data is one too many. A flush of the device ends
+/// what its DMA Setup asked for. A flush of another device does not.
+static AT_ONCE: [Step; 31] = [
     Starts,
-    QueuesWrite(24),
+    Moves(2, 0, 0x61, 24),
     GivesOf(0x27, 2, 20),
     Takes(Answer(2)),
     Takes(SETUP),
@@ -27,40 +28,22 @@ static AT_ONCE: [Step; 10] = [
     Tells(ACTIVATE, Heard(Posted::Nothing)),
     GivesOf(0x46, 2, 4100),
     GivesNone,
-];
-
-#[test]
-fn first_data_goes_at_once(rt: HostRuntime) {
-    play(&rt, rt.alloc(), &AT_ONCE);
-}
-
-/// A DMA Activate before that Data is one too many.
-static STRAY: [Step; 7] = [
     Starts,
-    QueuesWrite(24),
+    Moves(2, 0, 0x61, 24),
     GivesOf(0x27, 2, 20),
     Takes(Answer(2)),
     Takes(SETUP),
     Faults(ACTIVATE, DeviceCause::Stray),
     GivesNone,
-];
-
-#[test]
-fn activate_before_first_data_is_stray(rt: HostRuntime) {
-    play(&rt, rt.alloc(), &STRAY);
-}
-
-/// A flush of the device ends what its DMA Setup asked for. A flush of another device does not.
-static FLUSHED: [Step; 14] = [
     Starts,
-    QueuesWrite(24),
+    Moves(2, 0, 0x61, 24),
     GivesOf(0x27, 2, 20),
     Takes(Answer(2)),
     Takes(SETUP),
     Flushes(3, 0),
     GivesOf(0x46, 2, 8196),
     Starts,
-    QueuesWrite(24),
+    Moves(2, 0, 0x61, 24),
     GivesOf(0x27, 2, 20),
     Takes(Answer(2)),
     Takes(SETUP),
@@ -69,6 +52,6 @@ static FLUSHED: [Step; 14] = [
 ];
 
 #[test]
-fn flush_ends_auto_activate(rt: HostRuntime) {
-    play(&rt, rt.alloc(), &FLUSHED);
+fn first_data_goes_at_once(rt: HostRuntime) {
+    play(&rt, rt.alloc(), &AT_ONCE);
 }

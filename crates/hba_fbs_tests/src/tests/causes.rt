@@ -3,15 +3,14 @@
 use super::rig::Rig;
 use super::steps::Sent::{Bytes, Sector, Setup};
 use super::steps::Step::{
-    BringsRuns, Fails, Flushes, Holds, IsStopped, Marks, MarksBoth, Reads, Shows, Spoils, Starts,
-    Takes, Tells, Writes,
+    Breaks, BringsRuns, Causes, Flushes, Holds, Posts, Reads, Shows, Spoils, Starts, Takes, Tells,
+    Writes,
 };
 use super::steps::Told::{Faulty, Heard, Stops};
-use super::steps::{Sent, Step, Told, play};
-use host_memory::MemoryError;
+use super::steps::{Sent, Step, Told, assert_all, play};
 use port_errors::{DeviceCause, PortCause};
 use rx_area::Posted;
-use std::process::Abort;
+use std::alloc::Global;
 
 /// Four bytes of Data of device 2.
 const DWORD: Sent = Bytes(&[0x46, 2, 0, 0, 0x11, 0x11, 0x11, 0x11]);
@@ -25,39 +24,6 @@ const IFS: u32 = 0x0800_0000;
 /// PxIS.TFES.
 const TFES: u32 = 0x4000_0000;
 
-/// Device 2 reads two sectors in slot 0, and has answered.
-static READING: [Step; 2] = [Starts, Reads(2, 0, 0x10_1000)];
-
-/// A FIS of device 2, the cause of the fault, and the bits of PxIS.
-type Row = (Sent, DeviceCause, u32);
-
-/// Whether the FIS is a fault that moves nothing, and the read stays in its slot.
-fn is_fault(rig: &mut Rig, row: Row) -> bool {
-    let (sent, cause, interrupts) = row;
-    rig.passes_all(&[
-        Fails(sent, cause),
-        Marks(Some(cause)),
-        Shows(0x10, interrupts),
-        Shows(0x40, 0x0002_F205),
-        Shows(0x34, 1),
-    ])
-}
-
-/// The number of the first FIS that is not such a fault after these steps.
-fn first_other(rig: &mut Rig, before: &[Step], rows: &[Row]) -> Option<usize> {
-    for (i, row) in rows.iter().enumerate() {
-        if !rig.passes_all(before) || !is_fault(rig, *row) {
-            return Some(i);
-        }
-    }
-    None
-}
-
-/// Each FIS is such a fault after these steps.
-fn assert_faults(rt: &impl Abort, rig: &mut Rig, before: &[Step], rows: &[Row]) {
-    assert_eq!(rt; first_other(rig, before, rows), None, "the number of a row");
-}
-
 /// An error of device 2.
 const FAILED: Sent = Bytes(&[0xA1, 0x42, 0x41, 0x40, 0, 0, 0, 0]);
 /// The end of its read in slot 0.
@@ -66,81 +32,53 @@ const ENDED: Sent = Bytes(&[0xA1, 0x42, 0x50, 0, 1, 0, 0, 0]);
 /// Data of device 2 without a byte.
 const EMPTY: Sent = Bytes(&[0x46, 2, 0, 0]);
 
-/// An error, Data that nothing asked for, an end with bytes missing, and Data without a byte.
-static CAUSES: [Row; 4] = [
-    (FAILED, DeviceCause::TaskFile, TFES | SDBS),
-    (DWORD, DeviceCause::Stray, IFS),
-    (ENDED, DeviceCause::Short, IFS | SDBS),
-    (EMPTY, DeviceCause::BadFis, IFS),
-];
-
-#[test]
-fn faults_have_causes(rt: HostRuntime) -> Result<(), MemoryError> {
-    let mut rig = Rig::new(rt.alloc())?;
-    assert_faults(&rt, &mut rig, &READING, &CAUSES);
-    Ok(())
-}
-
-/// DMA Setups for the read.
-static SETUPS: [Row; 4] = [
-    (Setup(2, true, 1, 0, 512), DeviceCause::BadTag, IFS),
-    (Setup(2, true, 0, 0, 2048), DeviceCause::Overflow, OFS),
-    (Setup(2, true, 0, 0, 2), DeviceCause::BadFis, IFS),
-    (Setup(2, false, 0, 0, 512), DeviceCause::WrongWay, IFS),
-];
-
-/// The first sector of the read came.
-static HALF_READ: [Step; 4] = [
+/// DMA Setups for the read: at once, and when its first sector came. Then half a sector of it is set up, and Data is longer
+/// than that. The first sector stays. Last device 2 brings 64 runs of four bytes of its read, with a gap after each, and then a
+/// run that fills a gap, or one that joins none of them.
+static SETUPS: [Step; 38] = [
+    Starts,
+    Reads(2, 0, 0x10_1000),
+    Breaks(Setup(2, true, 1, 0, 512), DeviceCause::BadTag, IFS),
+    Starts,
+    Reads(2, 0, 0x10_1000),
+    Breaks(Setup(2, true, 0, 0, 2048), DeviceCause::Overflow, OFS),
+    Starts,
+    Reads(2, 0, 0x10_1000),
+    Breaks(Setup(2, true, 0, 0, 2), DeviceCause::BadFis, IFS),
+    Starts,
+    Reads(2, 0, 0x10_1000),
+    Breaks(Setup(2, false, 0, 0, 512), DeviceCause::WrongWay, IFS),
     Starts,
     Reads(2, 0, 0x10_1000),
     Takes(Setup(2, true, 0, 0, 512)),
     Takes(Sector(2, 1)),
-];
-
-/// DMA Setups after that.
-static LATER_SETUPS: [Row; 2] = [
-    (Setup(2, true, 0, 0, 512), DeviceCause::Twice, IFS),
-    (Setup(2, true, 0, 1020, 8), DeviceCause::Overflow, OFS),
-];
-
-/// Half a sector of the read is set up.
-static SET_UP: [Step; 3] = [
+    Breaks(Setup(2, true, 0, 0, 512), DeviceCause::Twice, IFS),
+    Starts,
+    Reads(2, 0, 0x10_1000),
+    Takes(Setup(2, true, 0, 0, 512)),
+    Takes(Sector(2, 1)),
+    Breaks(Setup(2, true, 0, 1020, 8), DeviceCause::Overflow, OFS),
     Starts,
     Reads(2, 0, 0x10_1000),
     Takes(Setup(2, true, 0, 0, 256)),
-];
-
-/// Data that is longer than its setup.
-static LONG_DATA: [Row; 1] = [(Sector(2, 2), DeviceCause::Overflow, OFS)];
-
-#[test]
-fn setups_that_are_faults(rt: HostRuntime) -> Result<(), MemoryError> {
-    let mut rig = Rig::new(rt.alloc())?;
-    assert_faults(&rt, &mut rig, &READING, &SETUPS);
-    assert_faults(&rt, &mut rig, &HALF_READ, &LATER_SETUPS);
-    assert_faults(&rt, &mut rig, &SET_UP, &LONG_DATA);
-    assert!(rt; rig.are(0x1000, 512, 1));
-    Ok(())
-}
-
-/// Device 2 brings 64 runs of four bytes of its read, with a gap after each.
-static RUNS: [Step; 4] = [Starts, Reads(2, 0, 0x10_1000), BringsRuns(64), Marks(None)];
-
-/// A run that fills a gap.
-static FILLS: [Step; 2] = [
+    Breaks(Sector(2, 2), DeviceCause::Overflow, OFS),
+    Holds(0x1000, 512, 1),
+    Starts,
+    Reads(2, 0, 0x10_1000),
+    BringsRuns(64),
+    Causes(None, None, None),
     Tells(Setup(2, true, 0, 508, 4), Heard(Posted::Setup)),
-    Marks(None),
+    Causes(None, None, None),
+    Starts,
+    Reads(2, 0, 0x10_1000),
+    BringsRuns(64),
+    Causes(None, None, None),
+    Breaks(Setup(2, true, 0, 512, 4), DeviceCause::Fragments, IFS),
 ];
 
-/// A run that joins none of them.
-static ONE_MORE: [Row; 1] = [(Setup(2, true, 0, 512, 4), DeviceCause::Fragments, IFS)];
-
 #[test]
-fn too_many_runs_are_a_fault(rt: HostRuntime) -> Result<(), MemoryError> {
-    let mut rig = Rig::new(rt.alloc())?;
-    assert!(rt; rig.passes_all(&RUNS) && rig.passes_all(&FILLS));
-    assert_faults(&rt, &mut rig, &RUNS, &ONE_MORE);
-    Ok(())
+fn setups_that_are_faults(rt: HostRuntime) {
+    play(&rt, rt.alloc(), &SETUPS);
 }
 
 /// A FIS of 68 bytes of an unknown type.
@@ -150,57 +88,75 @@ const LONG_UNKNOWN: Sent = Bytes(&[
     0, 0, 0, 0, 0,
 ]);
 
-/// It has no room in the received area.
-static UNKNOWN: [Row; 1] = [(LONG_UNKNOWN, DeviceCause::BadFis, IFS)];
+/// Device 2 reads two sectors in slot 0, and has answered. An error, Data that nothing asked for, an end with bytes missing,
+/// Data without a byte, and a FIS that has no room in the received area.
+static CAUSES: [Step; 16] = [
+    Starts,
+    Reads(2, 0, 0x10_1000),
+    Breaks(FAILED, DeviceCause::TaskFile, TFES | SDBS),
+    Starts,
+    Reads(2, 0, 0x10_1000),
+    Breaks(DWORD, DeviceCause::Stray, IFS),
+    Starts,
+    Reads(2, 0, 0x10_1000),
+    Breaks(ENDED, DeviceCause::Short, IFS | SDBS),
+    Starts,
+    Reads(2, 0, 0x10_1000),
+    Breaks(EMPTY, DeviceCause::BadFis, IFS),
+    Starts,
+    Reads(2, 0, 0x10_1000),
+    Breaks(LONG_UNKNOWN, DeviceCause::BadFis, IFS),
+    Posts(0x1260, 0),
+];
 
 #[test]
-fn a_long_unknown_fis_is_a_fault(rt: HostRuntime) -> Result<(), MemoryError> {
-    let mut rig = Rig::new(rt.alloc())?;
-    assert_faults(&rt, &mut rig, &READING, &UNKNOWN);
-    assert!(rt; rig.posts(0x1260, 0));
-    Ok(())
+fn faults_have_causes(rt: HostRuntime) {
+    play(&rt, rt.alloc(), &CAUSES);
 }
 
-/// A PRD whose address became odd after an accepted setup.
-static SPOILT: [Step; 4] = [
+/// A DMA Activate of the control port.
+const ACTIVATE: Sent = Bytes(&[0x39, 0x0F, 0, 0]);
+
+/// FISes that the control port may not send, and Data for a PRD whose address became odd after an accepted setup: each stops
+/// the port and moves nothing, and the read stays in its slot. What comes after that is ignored and changes no cause. ST ends
+/// it when it falls.
+static STOPS: [Step; 31] = [
+    Starts,
+    Reads(2, 0, 0x10_1000),
+    Tells(ACTIVATE, Stops(PortCause::BadControl)),
+    Causes(None, None, Some(PortCause::BadControl)),
+    Shows(0x10, 0x2800_0000),
+    Shows(0x40, 0xF201),
+    Shows(0x34, 1),
+    Holds(0, 0x10_0000, 0),
+    Starts,
+    Reads(2, 0, 0x10_1000),
+    Tells(Bytes(&[0xA1, 0xCF, 0, 0]), Stops(PortCause::BadControl)),
+    Causes(None, None, Some(PortCause::BadControl)),
+    Shows(0x10, 0x2800_0000),
+    Shows(0x40, 0xF201),
+    Shows(0x34, 1),
+    Holds(0, 0x10_0000, 0),
     Starts,
     Reads(2, 0, 0x10_1000),
     Tells(Setup(2, true, 0, 0, 512), Heard(Posted::Setup)),
     Spoils(0x2080, 1),
-];
-
-/// Whether a FIS stops the port for this cause after these steps, and moves nothing. The read stays in its slot.
-fn is_stopped_by(rig: &mut Rig, before: &[Step], sent: Sent, cause: PortCause) -> bool {
-    rig.passes_all(before)
-        && rig.passes_all(&[
-            Tells(sent, Stops(cause)),
-            IsStopped(Some(cause)),
-            Shows(0x10, 0x2800_0000),
-            Shows(0x40, 0xF201),
-            Shows(0x34, 1),
-            Holds(0, 0x10_0000, 0),
-        ])
-}
-
-/// What comes after that is ignored and changes no cause. ST ends it when it falls.
-static STAYS_STOPPED: [Step; 5] = [
-    Takes(Bytes(&[0x39, 0x0F, 0, 0])),
+    Tells(Sector(2, 0x77), Stops(PortCause::Bus)),
+    Causes(None, None, Some(PortCause::Bus)),
+    Shows(0x10, 0x2800_0000),
+    Shows(0x40, 0xF201),
+    Shows(0x34, 1),
+    Holds(0, 0x10_0000, 0),
+    Takes(ACTIVATE),
     Takes(EMPTY),
-    IsStopped(Some(PortCause::Bus)),
+    Causes(None, None, Some(PortCause::Bus)),
     Writes(0x18, 0x10),
-    IsStopped(None),
+    Causes(None, None, None),
 ];
 
-/// FISes that the control port may not send, and Data for a spoilt table.
 #[test]
-fn each_cause_of_the_port(rt: HostRuntime) -> Result<(), MemoryError> {
-    let mut rig = Rig::new(rt.alloc())?;
-    let (activate, short) = (Bytes(&[0x39, 0x0F, 0, 0]), Bytes(&[0xA1, 0xCF, 0, 0]));
-    let stopped = is_stopped_by(&mut rig, &READING, activate, PortCause::BadControl)
-        && is_stopped_by(&mut rig, &READING, short, PortCause::BadControl)
-        && is_stopped_by(&mut rig, &SPOILT, Sector(2, 0x77), PortCause::Bus);
-    assert!(rt; stopped && rig.passes_all(&STAYS_STOPPED));
-    Ok(())
+fn each_cause_of_the_port(rt: HostRuntime) {
+    play(&rt, rt.alloc(), &STOPS);
 }
 
 /// Device 4 and device 2 are faulty. The causes stand whatever both send, until PxFBS.DEC clears the
@@ -210,15 +166,15 @@ static STAND: [Step; 13] = [
     Reads(2, 0, 0x10_1000),
     Takes(Bytes(&[0x46, 4, 0, 0])),
     Takes(DWORD),
-    MarksBoth(DeviceCause::Stray, DeviceCause::BadFis),
+    Causes(Some(DeviceCause::Stray), Some(DeviceCause::BadFis), None),
     Takes(Bytes(&[0xA1, 0x44, 0x41, 0x40, 0, 0, 0, 0])),
     Takes(Bytes(&[0x46, 2, 0, 0])),
     Takes(Bytes(&[0xC7, 5, 0, 0])),
-    MarksBoth(DeviceCause::Stray, DeviceCause::BadFis),
+    Causes(Some(DeviceCause::Stray), Some(DeviceCause::BadFis), None),
     Writes(0x40, 0x0203),
-    Marks(Some(DeviceCause::Stray)),
+    Causes(Some(DeviceCause::Stray), None, None),
     Flushes(2, 1),
-    Marks(None),
+    Causes(None, None, None),
 ];
 
 #[test]
@@ -255,51 +211,56 @@ fn has_causes(rig: &Rig, dev: u8, told: Told) -> bool {
     rig.cause(dev) == device && rig.port_cause() == port
 }
 
-/// Device 2 and device 4 read two sectors each in a port that opened anew, whose received area is clear.
+/// Device 2 and device 4 read two sectors each in a port that opened anew.
 fn begins(rig: &mut Rig) -> bool {
-    rig.clear_received();
     rig.start();
     rig.reads(2, 0, 0x10_1000) && rig.reads(4, 1, 0x10_2000)
 }
 
-/// Whether all devices but this one look as in a port that did not hear the last FIS.
-fn leaves_others(rig: &mut Rig, unhurt: &mut Rig, dev: u8) -> bool {
-    for other in 0..16_u8 {
-        if other != dev && !rig.looks_as_in(unhurt, other) {
-            return false;
-        }
-    }
-    true
-}
-
-/// Whether a frame that comes from a device does what is ruled, and nothing to another device.
-fn injects(rig: &mut Rig, unhurt: &mut Rig, dev: u8, first: u8, len: usize) -> bool {
+/// Whether a frame that comes from a device does what is ruled. What it leaves to another device is a clause of
+/// `HostPort::take`.
+fn injects(rig: &mut Rig, dev: u8, first: u8, len: usize) -> bool {
     let mut bytes = [0xFF; 40];
     bytes[0] = first;
     bytes[1] = 0xF0 | dev;
     let (told, interrupts) = ruled(dev != 15, first, len);
     begins(rig)
         && rig.is_told(bytes.get(..len).unwrap_or(&[]), dev, told)
-        && leaves_others(rig, unhurt, dev)
         && rig.shows(0x10, interrupts)
         && rig.shows(0x34, 3)
         && rig.shows(0x24, 0xFFFF_FFFF)
         && has_causes(rig, dev, told)
 }
 
-/// Any first byte, with 4, 8, .. 40 bytes, from a device and from the control port.
-#[test]
-fn any_first_byte(rt: HostRuntime) -> Result<(), MemoryError> {
-    let mut rig = Rig::new(rt.alloc())?;
-    let mut unhurt = Rig::new(rt.alloc())?;
-    assert!(rt; begins(&mut unhurt));
-    for first in 0..=255_u8 {
-        for dwords in 1..11_usize {
-            let both = injects(&mut rig, &mut unhurt, 2, first, 4 * dwords)
-                && injects(&mut rig, &mut unhurt, 15, first, 4 * dwords);
-            assert!(rt; both, "{first} {dwords}");
+/// Whether a first byte with 4, 8, .. 40 bytes does what is ruled, from a device and from the control port.
+fn injects_all(rig: &mut Rig, first: u8) -> bool {
+    for dwords in 1..11_usize {
+        if !injects(rig, 2, first, 4 * dwords) || !injects(rig, 15, first, 4 * dwords) {
+            return false;
         }
     }
-    assert!(rt; rig.are(0, 0x10_0000, 0));
-    Ok(())
+    true
+}
+
+/// How many first bytes from 0 on do so. No byte goes to client memory.
+fn injected(rig: &mut Rig) -> usize {
+    for first in 0..=255_u8 {
+        if !injects_all(rig, first) {
+            return first as usize;
+        }
+    }
+    if rig.holds(0, 0x10_0000, 0) { 256 } else { 0 }
+}
+
+/// The same of a port that opens.
+fn injected_first_bytes(alloc: Global) -> usize {
+    match Rig::new(alloc) {
+        Ok(mut rig) => injected(&mut rig),
+        Err(_) => 0,
+    }
+}
+
+#[test]
+fn any_first_byte(rt: HostRuntime) {
+    assert_all(&rt, injected_first_bytes(rt.alloc()), 256);
 }

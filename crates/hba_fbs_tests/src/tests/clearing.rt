@@ -1,47 +1,13 @@
 //! PxFBS.DEC, which clears the device that PxFBS shows, with values from outside.
 
 use super::steps::Sent::{Answer, Bytes, Sector, Setup};
-use super::steps::Step::{
-    Carries, Holds, Issues, Reads, Refuses, Shows, Starts, Takes, Tells, Writes,
-};
-use super::steps::Told::{Done, Faulty, Heard, Ignored, Stops};
+use super::steps::Step::{Holds, Issues, Reads, Refuses, Shows, Starts, Takes, Tells, Writes};
+use super::steps::Told::{Brings, Done, Faulty, Heard, Ignored, Stops};
 use super::steps::{Step, play};
 use hba_fbs::WriteError;
 use host_memory::Prd;
 use port_errors::{DeviceCause, PortCause};
 use rx_area::Posted;
-
-/// Device 5 and then device 1 are faulty. Each DEC clears the device that is shown, and a third does
-/// nothing.
-static CLEARS_IN_ORDER: [Step; 16] = [
-    Starts,
-    Tells(
-        Bytes(&[0x46, 5, 0, 0]),
-        Faulty(Posted::Nothing, DeviceCause::BadFis),
-    ),
-    Tells(
-        Bytes(&[0x46, 1, 0, 0]),
-        Faulty(Posted::Nothing, DeviceCause::BadFis),
-    ),
-    Shows(0x40, 0x0005_F005),
-    Writes(0x40, 3),
-    Shows(0x40, 0x0001_F005),
-    Tells(Answer(5), Heard(Posted::D2h)),
-    Tells(Answer(1), Ignored),
-    Writes(0x40, 3),
-    Shows(0x40, 0x0000_F001),
-    Tells(Answer(5), Heard(Posted::D2h)),
-    Tells(Answer(1), Heard(Posted::D2h)),
-    Writes(0x40, 3),
-    Shows(0x40, 0x0000_F001),
-    Tells(Answer(5), Heard(Posted::D2h)),
-    Tells(Answer(1), Heard(Posted::D2h)),
-];
-
-#[test]
-fn clears_in_order(rt: HostRuntime) {
-    play(&rt, rt.alloc(), &CLEARS_IN_ORDER);
-}
 
 /// Devices 0, 2 and 4 read two sectors each, in the slots of their own numbers, and set up all of it. Device 2 tells
 /// of an error and is cleared, with another DEV. Its slots are free, and ERR and Error are still told. Its old Data is
@@ -87,13 +53,13 @@ static OTHERS_GO_ON: [Step; 23] = [
     Takes(Setup(2, true, 2, 0, 1024)),
     Reads(4, 4, 0x10_5000),
     Takes(Setup(4, true, 4, 0, 1024)),
-    Carries(0, 0x10, 0, 0),
+    Tells(Sector(0, 0x10), Brings(0, 0)),
     Takes(Bytes(&[0xA1, 0x42, 0x41, 0x40, 0, 0, 0, 0])),
     Writes(0x40, 0x0403),
     Shows(0x34, 0x11),
-    Carries(4, 0x40, 4, 0),
-    Carries(0, 0x11, 0, 512),
-    Carries(4, 0x41, 4, 512),
+    Tells(Sector(4, 0x40), Brings(4, 0)),
+    Tells(Sector(0, 0x11), Brings(0, 512)),
+    Tells(Sector(4, 0x41), Brings(4, 512)),
     Tells(
         Bytes(&[0xA1, 0, 0x50, 0, 0x15, 0, 0, 0]),
         Done(Posted::Bits, 1),
@@ -122,9 +88,32 @@ const PLACE: [Prd; 1] = [Prd {
     bytes: 1024,
 }];
 
-/// A command of device 2 that went out to it is no longer waited for once the device is cleared. A
-/// write that is refused clears nothing.
-static CLEARS_WHAT_WENT_OUT: [Step; 16] = [
+/// Device 5 and then device 1 are faulty. Each DEC clears the device that is shown, and a third does
+/// nothing. A command of device 2 that went out to it is no longer waited for once the device is cleared. A
+/// write that is refused clears nothing. While the port is stopped, no device is shown, and DEC does nothing.
+static CLEARS: [Step; 39] = [
+    Starts,
+    Tells(
+        Bytes(&[0x46, 5, 0, 0]),
+        Faulty(Posted::Nothing, DeviceCause::BadFis),
+    ),
+    Tells(
+        Bytes(&[0x46, 1, 0, 0]),
+        Faulty(Posted::Nothing, DeviceCause::BadFis),
+    ),
+    Shows(0x40, 0x0005_F005),
+    Writes(0x40, 3),
+    Shows(0x40, 0x0001_F005),
+    Tells(Answer(5), Heard(Posted::D2h)),
+    Tells(Answer(1), Ignored),
+    Writes(0x40, 3),
+    Shows(0x40, 0x0000_F001),
+    Tells(Answer(5), Heard(Posted::D2h)),
+    Tells(Answer(1), Heard(Posted::D2h)),
+    Writes(0x40, 3),
+    Shows(0x40, 0x0000_F001),
+    Tells(Answer(5), Heard(Posted::D2h)),
+    Tells(Answer(1), Heard(Posted::D2h)),
     Starts,
     Issues(2, 3, 0x60, &PLACE),
     Writes(0x40, 0x0203),
@@ -144,15 +133,6 @@ static CLEARS_WHAT_WENT_OUT: [Step; 16] = [
     Shows(0x38, 0),
     Shows(0x20, 0x50),
     Shows(0x40, 0x0000_F201),
-];
-
-#[test]
-fn clears_what_went_out(rt: HostRuntime) {
-    play(&rt, rt.alloc(), &CLEARS_WHAT_WENT_OUT);
-}
-
-/// While the port is stopped, no device is shown, and DEC does nothing.
-static CLEARS_WHERE_SHOWN: [Step; 7] = [
     Starts,
     Issues(2, 3, 0x60, &PLACE),
     Tells(
@@ -166,6 +146,6 @@ static CLEARS_WHERE_SHOWN: [Step; 7] = [
 ];
 
 #[test]
-fn clears_where_shown(rt: HostRuntime) {
-    play(&rt, rt.alloc(), &CLEARS_WHERE_SHOWN);
+fn clears_in_order(rt: HostRuntime) {
+    play(&rt, rt.alloc(), &CLEARS);
 }

@@ -6,9 +6,9 @@
 ghost use Rattle.std.specs.Prelude.{◌↔◌, All, IsTrue, ℕ};
 ghost use Rattle.host_memory.specs.Writing.{CanBeWritten};
 
-use fis_view::{Frame, FrameError, H2dFields, Stamp};
+use fis_view::{Frame, H2dFields, Stamp};
 use hba_commands::write_command;
-use hba_fbs::{HostPort, TakeReport, WriteError};
+use hba_fbs::{HostPort, Register, TakeReport, WriteError};
 use host_memory::{HostMemory, MemoryError, Prd};
 use port_errors::{DeviceCause, PortCause};
 use std::alloc::{AllocError, Global};
@@ -37,12 +37,17 @@ fn can_be_written(prds: &[Prd]) -> bool
         .all(|prd| 1 <= prd.bytes && prd.bytes <= 0x40_0000)
 }
 
-/// The bytes of an area from this address on: so many, or none.
-fn part(area: &[u8], at: usize, count: usize) -> &[u8] {
-    match area.get(at..) {
-        Some(rest) => rest.get(..count).unwrap_or(&[]),
-        None => &[],
+/// This many bytes of an area, from this address on, are this one.
+fn are(area: &[u8], at: usize, count: usize, byte: u8) -> bool {
+    if let Some(bytes) = area.get(at..at.saturating_add(count)) {
+        for found in bytes {
+            if *found != byte {
+                return false;
+            }
+        }
+        return true;
     }
+    false
 }
 
 /// The byte at this address of an area becomes this one.
@@ -81,17 +86,20 @@ impl Rig {
 
     /// Whether a value is taken.
     pub(super) fn writes(&mut self, offset: u32, value: u32) -> bool {
-        self.write(offset, value) == Ok(())
+        matches!(self.write(offset, value), Ok(()))
     }
 
     /// Whether a register shows this.
     pub(super) fn shows(&self, offset: u32, value: u32) -> bool {
-        self.port.read(offset) == Ok(value)
+        match self.port.read(offset) {
+            Ok(shown) => shown == value,
+            Err(_) => false,
+        }
     }
 
     /// Whether there is no register.
     pub(super) fn lacks(&self, offset: u32) -> bool {
-        self.port.read(offset).is_err()
+        matches!(Register::at(offset), None) && matches!(self.port.read(offset), Err(_))
     }
 
     pub(super) fn flushes(&mut self, dev: u8, free: u32) -> bool {
@@ -114,40 +122,38 @@ impl Rig {
         self.port.port_cause()
     }
 
-    /// Whether the faulty devices are those with such a cause in these sixteen places.
-    pub(super) fn marks(&self, causes: &[Option<DeviceCause>; 16]) -> bool {
-        for (dev, cause) in causes.iter().enumerate() {
-            if self.cause(dev as u8) != *cause {
+    /// Whether devices 2 and 4 are faulty for these causes, no other device is, and this stopped the port.
+    pub(super) fn marks(
+        &self,
+        second: Option<DeviceCause>,
+        fourth: Option<DeviceCause>,
+        stopped: Option<PortCause>,
+    ) -> bool {
+        for dev in 0..16_u8 {
+            let cause = match dev {
+                2 => second,
+                4 => fourth,
+                _ => None,
+            };
+            if self.port.cause(dev) != cause {
                 return false;
             }
         }
-        true
+        self.port.port_cause() == stopped
     }
 
-    /// Whether a device looks as in another port: PxTFD, its row of the received area, whether it is in software
-    /// reset and whether it is signed, and its cause. PxFBS.DEV names it then in both.
-    pub(super) fn looks_as_in(&mut self, other: &mut Rig, dev: u8) -> bool {
-        let chosen = 1 + 256 * u32::from(dev);
-        let at = 0x1000 + 256 * usize::from(dev);
-        self.writes(0x40, chosen)
-            && other.writes(0x40, chosen)
-            && self.port.read(0x20) == other.port.read(0x20)
-            && part(self.memory.structure(), at, 256) == part(other.memory.structure(), at, 256)
-            && self.resetting(dev) == other.resetting(dev)
-            && self.signed(dev) == other.signed(dev)
-            && self.cause(dev) == other.cause(dev)
-    }
-
-    /// The port takes these bytes as a frame of a device.
-    pub(super) fn take(&mut self, bytes: &[u8]) -> Result<TakeReport, FrameError> {
+    /// The port takes these bytes as a frame of a device, unless memory is refused.
+    pub(super) fn take(&mut self, bytes: &[u8]) -> Option<TakeReport> {
         let stamp = Stamp {
             port: 0,
             conn: 1,
             number: 0,
             shown: [0; 15],
         };
-        let frame = Frame::from_bytes(self.alloc, bytes, stamp)?;
-        Ok(self.port.take(&frame, &mut self.memory))
+        match Frame::from_bytes(self.alloc, bytes, stamp) {
+            Ok(frame) => Some(self.port.take(&frame, &mut self.memory)),
+            Err(_) => None,
+        }
     }
 
     /// The next frame, asked for once more if memory was refused: it goes out then, with its number, once.
@@ -176,11 +182,11 @@ impl Rig {
 
     /// Issues a command for its device.
     pub(super) fn issue(&mut self, slot: u8, fields: &H2dFields, prds: &[Prd]) -> bool {
-        let table = 0x2000 + 0x1000 * u32::from(slot);
-        let bit = 1_u32.wrapping_shl(u32::from(slot));
+        let table = 0x2000 + 0x1000 * slot as u32;
+        let bit = 1_u32 << (slot % 32);
         let queued = fields.command == 0x60 || fields.command == 0x61;
         self.write_slot(slot, table, fields, prds)
-            && self.writes(0x40, 1 + 256 * u32::from(fields.pm_port % 16))
+            && self.writes(0x40, 1 + 256 * (fields.pm_port % 16) as u32)
             && self.writes(0x34, if queued { bit } else { 0 })
             && self.writes(0x38, bit)
             && self.shows(0x18, 0x0040_C011)
@@ -188,7 +194,7 @@ impl Rig {
 
     /// The byte at this address of host memory becomes this one.
     pub(super) fn put_client(&mut self, address: u32, byte: u8) -> bool {
-        self.memory.put_client(address, &[byte]).is_ok()
+        matches!(self.memory.put_client(address, &[byte]), Ok(()))
     }
 
     /// The byte at this address of the structure area becomes this one.
@@ -196,21 +202,13 @@ impl Rig {
         put(self.memory.structure_mut(), at, byte);
     }
 
-    /// All bytes of the received area, which begins at 1000h, become 0.
-    pub(super) fn clear_received(&mut self) {
-        if let Some(area) = self.memory.structure_mut().get_mut(0x1000..0x2000) {
-            area.fill(0);
-        }
-    }
-
     /// The byte at this address of the structure area is this one.
     pub(super) fn posts(&self, at: usize, byte: u8) -> bool {
-        self.memory.structure().get(at) == Some(&byte)
+        are(self.memory.structure(), at, 1, byte)
     }
 
     /// This many bytes, from this address of the client area on, are this one.
-    pub(super) fn are(&self, at: usize, count: usize, byte: u8) -> bool {
-        let bytes = part(self.memory.client(), at, count);
-        bytes.len() == count && bytes.iter().all(|found| *found == byte)
+    pub(super) fn holds(&self, at: usize, count: usize, byte: u8) -> bool {
+        are(self.memory.client(), at, count, byte)
     }
 }

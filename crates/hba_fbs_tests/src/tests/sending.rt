@@ -2,8 +2,8 @@
 
 use super::steps::Sent::{Answer, Bytes, Sector, Setup};
 use super::steps::Step::{
-    Flushes, Gives, GivesNone, GivesSector, Holds, IsResetting, Puts, Queues, QueuesControl,
-    QueuesWrite, Resets, Shows, Spoils, Starts, Takes, Tells,
+    Flushes, Gives, GivesNone, GivesSector, Holds, IsResetting, Moves, Puts, Queues, Resets, Shows,
+    Spoils, Starts, Takes, Tells,
 };
 use super::steps::Told::{Done, Heard, Ignored, Stops};
 use super::steps::{Step, play};
@@ -16,7 +16,7 @@ static WRITE_GOES_OUT: [Step; 16] = [
     Puts(0x10_1000, 0xAB),
     Puts(0x10_11FF, 0xCD),
     GivesNone,
-    QueuesWrite(1),
+    Moves(2, 0, 0x61, 1),
     Gives(
         0,
         &[
@@ -43,13 +43,15 @@ fn write_goes_out(rt: HostRuntime) {
     play(&rt, rt.alloc(), &WRITE_GOES_OUT);
 }
 
-/// A device has one command out that it has not answered. Another device's command goes in the
-/// meantime, the lowest slot first. Status 58h ends the command of device 1, and leaves it busy.
-static COMMANDS_WAIT: [Step; 14] = [
+/// A device has one command out that it has not answered. Another device's command goes in the meantime, the lowest slot
+/// first. Status 58h ends the command of device 1, and leaves it busy. A Control with SRST set goes to the control port, which
+/// is busy, and needs no answer. A device in reset gets no command until its signature comes. A stopped port gives nothing. A
+/// table that no longer has the slot's bytes stops the port, on the way out and on the way in.
+static COMMANDS: [Step; 43] = [
     Starts,
-    Queues(4, 7),
-    Queues(1, 3),
-    Queues(4, 5),
+    Queues(4, 7, 0xE4),
+    Queues(1, 3, 0xE4),
+    Queues(4, 5, 0xE4),
     Gives(0, &[0x27, 0x81, 0xE4]),
     Gives(1, &[0x27, 0x84, 0xE4]),
     GivesNone,
@@ -61,59 +63,32 @@ static COMMANDS_WAIT: [Step; 14] = [
         ]),
         Done(Posted::D2h, 8),
     ),
-    Queues(1, 0),
+    Queues(1, 0, 0xE4),
     GivesNone,
     Takes(Answer(1)),
     Gives(3, &[0x27, 0x81, 0xE4]),
-];
-
-#[test]
-fn commands_wait_for_their_device(rt: HostRuntime) {
-    play(&rt, rt.alloc(), &COMMANDS_WAIT);
-}
-
-/// A Control with SRST set goes to the control port, which is busy, and needs no answer.
-static CONTROL_GOES: [Step; 9] = [
     Starts,
-    Queues(15, 1),
+    Queues(15, 1, 0xE4),
     Gives(0, &[0x27, 0x8F, 0xE4]),
-    QueuesControl(15, 0),
+    Queues(15, 0, 0),
     Gives(1, &[0x27, 0x0F, 0]),
     IsResetting(15, true),
     Shows(0x38, 2),
     Flushes(15, 2),
     IsResetting(15, false),
-];
-
-#[test]
-fn control_goes_to_a_busy_device(rt: HostRuntime) {
-    play(&rt, rt.alloc(), &CONTROL_GOES);
-}
-
-/// A device in reset gets no command until its signature comes. A stopped port gives nothing.
-static CONTROL_RESETS: [Step; 9] = [
     Starts,
     Resets(3),
-    Queues(3, 2),
+    Queues(3, 2, 0xE4),
     GivesNone,
     Takes(Bytes(&[
         0x34, 3, 0x50, 1, 1, 0, 0, 0, 0, 0, 0, 0, 1, 0, 0, 0, 0, 0, 0, 0,
     ])),
     Gives(1, &[0x27, 0x83, 0xE4]),
-    Queues(4, 0),
+    Queues(4, 0, 0xE4),
     Tells(Bytes(&[0x39, 0x0F, 0, 0]), Stops(PortCause::BadControl)),
     GivesNone,
-];
-
-#[test]
-fn control_resets(rt: HostRuntime) {
-    play(&rt, rt.alloc(), &CONTROL_RESETS);
-}
-
-/// A table that no longer has the slot's bytes stops the port, on the way out and on the way in.
-static SPOILT_TABLE: [Step; 11] = [
     Starts,
-    QueuesWrite(1),
+    Moves(2, 0, 0x61, 1),
     Gives(0, &[0x27, 0x82, 0x61]),
     Takes(Answer(2)),
     Takes(Setup(2, false, 0, 0, 512)),
@@ -126,16 +101,16 @@ static SPOILT_TABLE: [Step; 11] = [
 ];
 
 #[test]
-fn spoilt_table_stops_the_port(rt: HostRuntime) {
-    play(&rt, rt.alloc(), &SPOILT_TABLE);
+fn commands_wait_for_their_device(rt: HostRuntime) {
+    play(&rt, rt.alloc(), &COMMANDS);
 }
 
-/// This runs with the third, fourth, and so on, allocation refused in turn (the first two are the
+/// This runs with the fourth, fifth, and so on, allocation refused in turn (the first three are the
 /// memory's). A frame for which memory was refused goes out at the next call, with its number, once.
 static REFUSED_FRAMES: [Step; 11] = [
     Starts,
-    QueuesWrite(1),
-    Queues(3, 1),
+    Moves(2, 0, 0x61, 1),
+    Queues(3, 1, 0xE4),
     Gives(0, &[0x27, 0x82, 0x61]),
     Gives(1, &[0x27, 0x83, 0xE4]),
     GivesNone,

@@ -50,8 +50,9 @@ fn a_signature_marks_its_device(rt: HostRuntime) {
 }
 
 /// A signature that ends a software reset marks too. Those of other kinds do not, and so none with an error, none
-/// while the device is busy, and no other answer.
-static OTHERS: [Step; 24] = [
+/// while the device is busy, and no other answer. Nor does one that is ignored: while ST is 0, and while the device is faulty.
+/// Another device's marks then.
+static OTHERS: [Step; 34] = [
     Starts,
     Takes(Register(0x50, 1, 1, [1, 0x69, 0x96])),
     IsSigned(2, false),
@@ -76,15 +77,6 @@ static OTHERS: [Step; 24] = [
     IsSigned(2, false),
     Takes(SIGNATURE),
     IsSigned(2, true),
-];
-
-#[test]
-fn others_do_not(rt: HostRuntime) {
-    play(&rt, rt.alloc(), &OTHERS);
-}
-
-/// An ignored signature does not mark: while ST is 0, and while the device is faulty. Another device's marks.
-static IGNORED: [Step; 10] = [
     Starts,
     Writes(0x18, 0x10),
     Takes(SIGNATURE),
@@ -100,6 +92,6 @@ static IGNORED: [Step; 10] = [
 ];
 
 #[test]
-fn ignored_ones_do_not(rt: HostRuntime) {
-    play(&rt, rt.alloc(), &IGNORED);
+fn others_do_not(rt: HostRuntime) {
+    play(&rt, rt.alloc(), &OTHERS);
 }

@@ -4,8 +4,8 @@
 
 use super::fises::{answer, block, counting, data, register, setup};
 use super::rig::Rig;
-use fis_view::{Frame, FrameError, H2dFields, Stamp};
-use hba_fbs::{TakeReport, WriteError, Wrote};
+use fis_view::{Frame, H2dFields, Stamp};
+use hba_fbs::{Register, TakeReport, WriteError, Wrote};
 use host_memory::Prd;
 use port_errors::{DeviceCause, PortCause};
 use rx_area::Posted;
@@ -69,14 +69,10 @@ pub(super) enum Step {
     Takes(Sent),
     /// A FIS is taken, and this is told of it.
     Tells(Sent, Told),
-    /// A FIS makes its device faulty for this cause, moves nothing and ends nothing.
-    Fails(Sent, DeviceCause),
     /// A FIS makes its device faulty for this cause and ends nothing.
     Faults(Sent, DeviceCause),
     /// A FIS is no fault, and by it these slots become free.
     Ends(Sent, u32),
-    /// A sector of Data of a device, all of whose bytes are this one, goes to a slot, from this offset on.
-    Carries(u8, u8, u8, u32),
     /// Device 2 brings so many runs of four bytes of its read in slot 0, with a gap after each, and none is a fault.
     BringsRuns(u16),
     /// This many bytes, from this address of the client area on, are this one.
@@ -95,16 +91,11 @@ pub(super) enum Step {
     Issues(u8, u8, u8, &'static [Prd]),
     /// A queued read of a device, in this slot, of two sectors for this address, is issued, goes out and is answered.
     Reads(u8, u8, u32),
-    /// A command of a device, in this slot, that moves no data is issued.
-    Queues(u8, u8),
-    /// A Control of a device, in this slot, with SRST set is issued.
-    QueuesControl(u8, u8),
-    /// A queued write of device 2, from sector 8 on, of this many sectors from 101000h on is issued in slot 0.
-    QueuesWrite(u16),
-    /// A command of device 2 in a slot, of this code, for sectors from 8 on, this many of them, is issued for 101000h.
-    Moves(u8, u8, u16),
-    /// The same of another device, for 104000h.
-    MovesOf(u8, u8, u8, u16),
+    /// A command of a device, in this slot and of this code, that moves no data is issued. Code 0 is a Control with SRST set.
+    Queues(u8, u8, u8),
+    /// A command of a device in a slot, of this code, for sectors from 8 on, this many of them, is issued for the place of its
+    /// device: 101000h of device 2, 102000h of device 3.
+    Moves(u8, u8, u8, u16),
     /// A command of device 2 in slot 0 of this code, with this Count and room for so many sectors, is written there.
     ListsOf(u8, u16, u32),
     /// A software reset of a device begins.
@@ -115,12 +106,8 @@ pub(super) enum Step {
     IsResetting(u8, bool),
     /// Whether a device is marked as signed.
     IsSigned(u8, bool),
-    /// No device is faulty, or device 2 alone for this cause. No cause stops the port.
-    Marks(Option<DeviceCause>),
-    /// Devices 2 and 4 are faulty for these causes, and no other device.
-    MarksBoth(DeviceCause, DeviceCause),
-    /// No device is faulty. This stopped the port.
-    IsStopped(Option<PortCause>),
+    /// Devices 2 and 4 are faulty for these causes, and no other device. This stopped the port.
+    Causes(Option<DeviceCause>, Option<DeviceCause>, Option<PortCause>),
     /// The next frame begins with these bytes, and its stamp is of its device and has this number.
     Gives(u32, &'static [u8]),
     /// The next frame is a sector of Data of device 2. These are its first and its last byte.
@@ -129,6 +116,21 @@ pub(super) enum Step {
     GivesOf(u8, u8, usize),
     /// No frame goes out.
     GivesNone,
+    /// There is no register at an offset.
+    Lacks(u32),
+    /// A register stands at its offset, has this value in a port that opens, and stores these bits. ST and FRE are left out.
+    Stands(Register, u32, u32, u32),
+    /// A FIS is taken, whatever the port makes of it. This is what PxTFD and PxIS show then.
+    Becomes(&'static [u8], u32, u32),
+    /// A FIS makes device 2 faulty for this cause and sets these bits of PxIS. It moves nothing and ends nothing: the read in
+    /// slot 0 stays there.
+    Breaks(Sent, DeviceCause, u32),
+    /// A queued command of one sector, in this slot, of this device and of this code, is issued as the driver does it: PxFBS
+    /// as it reads at the write of PxCI, and the bit that is written to PxSACT.
+    Drives(u8, u8, u8, u32, u32),
+    /// The port starts, and a command of device 2 in a slot, of this code, for sectors from 8 on, this many of them and for
+    /// 101000h, goes out.
+    GoesOut(u8, u8, u16),
 }
 
 /// What a command of a device in a slot says.
@@ -141,7 +143,7 @@ pub(super) fn command(dev: u8, command: u8, lba: u64, slot: u8) -> H2dFields {
         features: if queued { 1 } else { 0 },
         lba,
         device: if queued { 0x40 } else { 0 },
-        count: if queued { u16::from(slot) * 8 } else { 0 },
+        count: if queued { slot as u16 * 8 } else { 0 },
         icc: 0,
         control: if command == 0 { 4 } else { 0 },
     }
@@ -182,7 +184,7 @@ fn report(dev: u8, told: Told) -> TakeReport {
         Told::Brings(slot, offset) => report.wrote = Some(sector_at(slot, offset)),
         Told::BringsLast(slot, offset) => {
             report.wrote = Some(sector_at(slot, offset));
-            report.done = 1_u32.wrapping_shl(u32::from(slot));
+            report.done = 1_u32 << (slot % 32);
         }
     }
     report
@@ -205,7 +207,7 @@ fn is_sector(frame: &Frame, first: u8, last: u8) -> bool {
 
 fn is_of(frame: &Frame, first: u8, dev: u8, len: usize) -> bool {
     let bytes = frame.bytes();
-    bytes.len() == len && bytes.first() == Some(&first) && frame.pm_port() == dev
+    bytes.len() == len && bytes.starts_with(&[first]) && frame.pm_port() == dev
 }
 
 /// Whether a frame, if there is one, is what a step wants of it.
@@ -221,19 +223,19 @@ fn is_wanted(frame: Option<&Frame>, step: Step) -> bool {
 
 /// Whether this is told: this cause of a fault, these slots that became free, and that no byte was written.
 fn is_told(
-    told: Result<TakeReport, FrameError>,
+    told: Option<TakeReport>,
     cause: Option<DeviceCause>,
     done: u32,
     unwritten: bool,
 ) -> bool {
     match told {
-        Ok(report) => {
+        Some(report) => {
             report.fault == cause
-                && report.stopped.is_none()
+                && matches!(report.stopped, None)
                 && report.done == done
-                && (report.wrote.is_none() || !unwritten)
+                && (matches!(report.wrote, None) || !unwritten)
         }
-        Err(_) => false,
+        None => false,
     }
 }
 
@@ -251,14 +253,14 @@ fn dev_of(sent: Sent) -> u8 {
 
 impl Rig {
     /// A FIS is taken, once more if memory was refused.
-    fn hears(&mut self, bytes: &[u8]) -> Result<TakeReport, FrameError> {
+    fn hears(&mut self, bytes: &[u8]) -> Option<TakeReport> {
         match self.take(bytes) {
-            Err(_) => self.take(bytes),
+            None => self.take(bytes),
             told => told,
         }
     }
 
-    fn hears_sent(&mut self, sent: Sent) -> Result<TakeReport, FrameError> {
+    fn hears_sent(&mut self, sent: Sent) -> Option<TakeReport> {
         match sent {
             Sent::Answer(dev) => self.hears(&answer(dev)),
             Sent::Setup(dev, to_host, slot, offset, count) => {
@@ -279,17 +281,33 @@ impl Rig {
     }
 
     fn tells(&mut self, sent: Sent, told: Told) -> bool {
-        self.hears_sent(sent) == Ok(report(dev_of(sent), told))
+        self.hears_sent(sent) == Some(report(dev_of(sent), told))
+    }
+
+    fn faults(&mut self, sent: Sent, cause: DeviceCause, unwritten: bool) -> bool {
+        is_told(self.hears_sent(sent), Some(cause), 0, unwritten)
+    }
+
+    fn breaks(&mut self, sent: Sent, cause: DeviceCause, interrupts: u32) -> bool {
+        self.faults(sent, cause, true)
+            && self.marks(Some(cause), None, None)
+            && self.shows(0x10, interrupts)
+            && self.shows(0x40, 0x0002_F205)
+            && self.shows(0x34, 1)
+    }
+
+    fn becomes(&mut self, fis: &[u8], file: u32, interrupts: u32) -> bool {
+        matches!(self.hears(fis), Some(_)) && self.shows(0x20, file) && self.shows(0x10, interrupts)
     }
 
     /// Whether this is told of bytes that come from a device.
     pub(super) fn is_told(&mut self, bytes: &[u8], dev: u8, told: Told) -> bool {
-        self.hears(bytes) == Ok(report(dev, told))
+        self.hears(bytes) == Some(report(dev, told))
     }
 
     fn brings_runs(&mut self, count: u16) -> bool {
         for run in 0..count {
-            let setup = Sent::Setup(2, true, 0, run.wrapping_mul(8), 4);
+            let setup = Sent::Setup(2, true, 0, run % 64 * 8, 4);
             let is_good = is_told(self.hears_sent(setup), None, 0, true)
                 && is_told(self.hears_sent(Sent::Part(2, 0x11, 4)), None, 0, false);
             if !is_good {
@@ -307,9 +325,9 @@ impl Rig {
         }
     }
 
-    /// A frame goes out.
-    pub(super) fn sends(&mut self) -> bool {
-        matches!(self.next_out(), Ok(Some(_)))
+    /// A frame of a command or a Control goes out to a device.
+    fn sends(&mut self, dev: u8) -> bool {
+        self.gives(Step::GivesOf(0x27, dev, 20))
     }
 
     /// A command of a device is issued and goes out. A queued one moves two sectors if one PRD stands for it, and else
@@ -322,7 +340,7 @@ impl Rig {
             device: 0x40,
             ..command(dev, code, 0x100, slot)
         };
-        self.issue(slot, &fields, prds) && self.sends()
+        self.issue(slot, &fields, prds) && self.sends(dev)
     }
 
     /// A queued read of two sectors is issued, goes out and is answered.
@@ -331,40 +349,27 @@ impl Rig {
             address,
             bytes: 1024,
         };
-        self.issues(dev, slot, 0x60, &[prd]) && self.hears(&answer(dev)).is_ok()
+        self.issues(dev, slot, 0x60, &[prd]) && matches!(self.hears(&answer(dev)), Some(_))
     }
 
-    fn queues_write(&mut self, sectors: u16) -> bool {
+    /// A command that moves this many sectors, for the place of its device.
+    fn moves(&mut self, dev: u8, slot: u8, code: u8, sectors: u16) -> bool {
+        let fields = command(dev, code, 8, slot);
+        let (features, count) = if code == 0x61 {
+            (sectors, fields.count)
+        } else {
+            (fields.features, sectors)
+        };
         let fields = H2dFields {
-            features: sectors,
-            ..command(2, 0x61, 8, 0)
+            features,
+            count,
+            ..fields
         };
         let prd = Prd {
-            address: 0x10_1000,
-            bytes: 512 * u32::from(sectors),
+            address: 0x0F_F000 + 0x1000 * dev as u32,
+            bytes: 512 * sectors as u32,
         };
-        self.issue(0, &fields, &[prd])
-    }
-
-    fn marks_two(&self, second: Option<DeviceCause>, fourth: Option<DeviceCause>) -> bool {
-        let mut causes = [None; 16];
-        causes[2] = second;
-        causes[4] = fourth;
-        self.marks(&causes) && self.port_cause().is_none()
-    }
-
-    fn is_stopped(&self, cause: Option<PortCause>) -> bool {
-        self.marks(&[None; 16]) && self.port_cause() == cause
-    }
-
-    /// A command that moves as many sectors as its Count says.
-    fn moves(&mut self, dev: u8, slot: u8, code: u8, sectors: u16, address: u32) -> bool {
-        let fields = H2dFields {
-            count: sectors,
-            ..command(dev, code, 8, slot)
-        };
-        let bytes = 512 * u32::from(sectors);
-        self.issue(slot, &fields, &[Prd { address, bytes }])
+        self.issue(slot, &fields, &[prd])
     }
 
     fn lists(&mut self, code: u8, count: u16, sectors: u32) -> bool {
@@ -387,7 +392,7 @@ impl Rig {
             Step::Spoils(at, byte) => self.put_structure(at, byte),
             Step::Puts(address, byte) => return self.put_client(address, byte),
             Step::Lists(dev, slot) => {
-                let table = 0x2000 + 0x1000 * u32::from(slot);
+                let table = 0x2000 + 0x1000 * slot as u32;
                 return self.write_slot(slot, table, &command(dev, 0xE4, 0, slot), &[]);
             }
             Step::ListsRead(dev, slot, table) => {
@@ -399,27 +404,46 @@ impl Rig {
             }
             Step::Issues(dev, slot, code, prds) => return self.issues(dev, slot, code, prds),
             Step::Reads(dev, slot, address) => return self.reads(dev, slot, address),
-            Step::Queues(dev, slot) => return self.issue(slot, &command(dev, 0xE4, 0, slot), &[]),
-            Step::QueuesControl(dev, slot) => {
-                return self.issue(slot, &command(dev, 0, 0, slot), &[]);
+            Step::Queues(dev, slot, code) => {
+                return self.issue(slot, &command(dev, code, 0, slot), &[]);
             }
-            Step::QueuesWrite(sectors) => return self.queues_write(sectors),
-            Step::Moves(slot, code, sectors) => {
-                return self.moves(2, slot, code, sectors, 0x10_1000);
-            }
-            Step::MovesOf(dev, slot, code, sectors) => {
-                return self.moves(dev, slot, code, sectors, 0x10_4000);
-            }
+            Step::Moves(dev, slot, code, sectors) => return self.moves(dev, slot, code, sectors),
             Step::ListsOf(code, count, sectors) => return self.lists(code, count, sectors),
             Step::Resets(dev) => return self.resets(dev),
+            Step::Drives(slot, dev, code, switching, armed) => {
+                return self.drives(slot, &command(dev, code, 0, slot), switching, armed);
+            }
+            Step::GoesOut(slot, code, sectors) => {
+                self.start();
+                return self.moves(2, slot, code, sectors) && self.sends(2);
+            }
             _ => {}
         }
         true
     }
 
+    /// A queued command of one sector is issued as the driver does it.
+    fn drives(&mut self, slot: u8, fields: &H2dFields, switching: u32, armed: u32) -> bool {
+        let fields = H2dFields {
+            control: 8,
+            ..*fields
+        };
+        let prd = Prd {
+            address: 0x10_1000,
+            bytes: 512,
+        };
+        self.write_slot(slot, 0x2000, &fields, &[prd])
+            && self.writes(0x40, switching)
+            && self.shows(0x40, switching)
+            && self.writes(0x34, armed)
+            && self.shows(0x40, switching)
+            && self.writes(0x38, armed)
+            && self.shows(0x38, armed)
+    }
+
     /// A software reset of a device begins.
     pub(super) fn resets(&mut self, dev: u8) -> bool {
-        self.issue(0, &command(dev, 0, 0, 0), &[]) && self.sends()
+        self.issue(0, &command(dev, 0, 0, 0), &[]) && self.sends(dev)
     }
 
     /// Whether a step is as it says.
@@ -428,23 +452,23 @@ impl Rig {
             Step::Writes(offset, value) => self.writes(offset, value),
             Step::Refuses(offset, value, error) => self.write(offset, value) == Err(error),
             Step::Shows(offset, value) => self.shows(offset, value),
-            Step::Takes(sent) => self.hears_sent(sent).is_ok(),
-            Step::Tells(sent, told) => self.tells(sent, told),
-            Step::Fails(sent, cause) => is_told(self.hears_sent(sent), Some(cause), 0, true),
-            Step::Faults(sent, cause) => is_told(self.hears_sent(sent), Some(cause), 0, false),
-            Step::Ends(sent, done) => is_told(self.hears_sent(sent), None, done, false),
-            Step::Carries(dev, byte, slot, offset) => {
-                self.tells(Sent::Sector(dev, byte), Told::Brings(slot, offset))
+            Step::Lacks(offset) => self.lacks(offset),
+            Step::Stands(register, offset, opening, stored) => {
+                self.stands(register, offset, opening, stored)
             }
+            Step::Takes(sent) => matches!(self.hears_sent(sent), Some(_)),
+            Step::Tells(sent, told) => self.tells(sent, told),
+            Step::Becomes(fis, file, interrupts) => self.becomes(fis, file, interrupts),
+            Step::Breaks(sent, cause, interrupts) => self.breaks(sent, cause, interrupts),
+            Step::Faults(sent, cause) => self.faults(sent, cause, false),
+            Step::Ends(sent, done) => is_told(self.hears_sent(sent), None, done, false),
             Step::BringsRuns(count) => self.brings_runs(count),
-            Step::Holds(at, count, byte) => self.are(at, count, byte),
+            Step::Holds(at, count, byte) => self.holds(at, count, byte),
             Step::Posts(at, byte) => self.posts(at, byte),
             Step::Flushes(dev, free) => self.flushes(dev, free),
             Step::IsResetting(dev, is) => self.resetting(dev) == is,
             Step::IsSigned(dev, is) => self.signed(dev) == is,
-            Step::Marks(cause) => self.marks_two(cause, None),
-            Step::MarksBoth(second, fourth) => self.marks_two(Some(second), Some(fourth)),
-            Step::IsStopped(cause) => self.is_stopped(cause),
+            Step::Causes(second, fourth, stopped) => self.marks(second, fourth, stopped),
             Step::Gives(..) | Step::GivesSector(..) | Step::GivesOf(..) | Step::GivesNone => {
                 self.gives(step)
             }
@@ -452,26 +476,31 @@ impl Rig {
         }
     }
 
-    /// The number of the first step that is not as it says.
-    pub(super) fn play(&mut self, steps: &[Step]) -> Option<usize> {
+    /// How many steps from the first on are as they say.
+    pub(super) fn play(&mut self, steps: &[Step]) -> usize {
         for (i, step) in steps.iter().enumerate() {
             if !self.passes(*step) {
-                return Some(i);
+                return i;
             }
         }
-        None
-    }
-
-    /// Whether all steps are as they say.
-    pub(super) fn passes_all(&mut self, steps: &[Step]) -> bool {
-        self.play(steps).is_none()
+        steps.len()
     }
 }
 
-/// Each step of a port that opened is as it says.
+/// How many steps of a port that opens are as they say. None are where memory is refused.
+fn played(alloc: Global, steps: &[Step]) -> usize {
+    match Rig::new(alloc) {
+        Ok(mut rig) => rig.play(steps),
+        Err(_) => 0,
+    }
+}
+
+/// As many as there are, of steps or of what a test counts, are as they say.
+pub(super) fn assert_all(rt: &impl Abort, count: usize, all: usize) {
+    assert!(rt; count == all, "number {count} of {all}");
+}
+
+/// Each step of a port that opens is as it says.
 pub(super) fn play(rt: &impl Abort, alloc: Global, steps: &[Step]) {
-    let Ok(mut rig) = Rig::new(alloc) else {
-        panic!(rt; "out of memory");
-    };
-    assert_eq!(rt; rig.play(steps), None, "the number of a step");
+    assert_all(rt, played(alloc, steps), steps.len());
 }

@@ -1,9 +1,9 @@
 //! FISes that are taken, with values from outside.
 
-use super::steps::Sent::{Answer, Block, Bytes, Counting, Part, Setup};
+use super::steps::Sent::{Answer, Block, Bytes, Counting, Part, Sector, Setup};
 use super::steps::Step::{
-    Carries, Ends, Faults, Holds, IsResetting, Issues, Posts, Reads, Resets, Shows, Starts, Takes,
-    Tells, Writes,
+    Ends, Faults, Holds, IsResetting, Issues, Posts, Reads, Resets, Shows, Starts, Takes, Tells,
+    Writes,
 };
 use super::steps::Told::{Brings, Done, Faulty, Heard, Ignored, Stops};
 use super::steps::{Step, play};
@@ -59,22 +59,24 @@ fn read_is_done_once(rt: HostRuntime) {
     play(&rt, rt.alloc(), &READ_IS_DONE_ONCE);
 }
 
-/// Two reads of two sectors whose Data FISes cross. Another read comes with its second sector first.
-static READS_CROSS: [Step; 23] = [
+/// Two reads of two sectors whose Data FISes cross. Another read comes with its second sector first. A Set Device Bits FIS
+/// that names all tags completes the two whole reads of its device, and nothing else: no free slot, and no read of another
+/// device.
+static READS_CROSS: [Step; 42] = [
     Starts,
     Reads(0, 0, 0x10_1000),
     Reads(4, 1, 0x10_2000),
     Reads(9, 2, 0x10_3000),
     Takes(Setup(0, true, 0, 0, 1024)),
     Takes(Setup(4, true, 1, 0, 1024)),
-    Carries(0, 0x11, 0, 0),
-    Carries(4, 0x44, 1, 0),
-    Carries(0, 0x12, 0, 512),
-    Carries(4, 0x45, 1, 512),
+    Tells(Sector(0, 0x11), Brings(0, 0)),
+    Tells(Sector(4, 0x44), Brings(1, 0)),
+    Tells(Sector(0, 0x12), Brings(0, 512)),
+    Tells(Sector(4, 0x45), Brings(1, 512)),
     Takes(Setup(9, true, 2, 512, 512)),
-    Carries(9, 0x99, 2, 512),
+    Tells(Sector(9, 0x99), Brings(2, 512)),
     Takes(Setup(9, true, 2, 0, 512)),
-    Carries(9, 0x90, 2, 0),
+    Tells(Sector(9, 0x90), Brings(2, 0)),
     Holds(0x1000, 512, 0x11),
     Holds(0x1200, 512, 0x12),
     Holds(0x2000, 512, 0x44),
@@ -90,29 +92,19 @@ static READS_CROSS: [Step; 23] = [
         Done(Posted::Bits, 2),
     ),
     Shows(0x34, 5),
-];
-
-#[test]
-fn reads_cross(rt: HostRuntime) {
-    play(&rt, rt.alloc(), &READS_CROSS);
-}
-
-/// A Set Device Bits FIS that names all tags completes the two whole reads of its device, and nothing
-/// else: no free slot, and no read of another device.
-static ALL_TAGS_ARE_NAMED: [Step; 19] = [
     Starts,
     Reads(9, 2, 0x10_3000),
     Takes(Setup(9, true, 2, 0, 1024)),
-    Carries(9, 0x90, 2, 0),
-    Carries(9, 0x91, 2, 512),
+    Tells(Sector(9, 0x90), Brings(2, 0)),
+    Tells(Sector(9, 0x91), Brings(2, 512)),
     Reads(4, 1, 0x10_1000),
     Takes(Setup(4, true, 1, 0, 1024)),
-    Carries(4, 0x40, 1, 0),
-    Carries(4, 0x41, 1, 512),
+    Tells(Sector(4, 0x40), Brings(1, 0)),
+    Tells(Sector(4, 0x41), Brings(1, 512)),
     Reads(4, 6, 0x10_2000),
     Takes(Setup(4, true, 6, 0, 1024)),
-    Carries(4, 0x42, 6, 0),
-    Carries(4, 0x43, 6, 512),
+    Tells(Sector(4, 0x42), Brings(6, 0)),
+    Tells(Sector(4, 0x43), Brings(6, 512)),
     Shows(0x34, 0x46),
     Tells(
         Bytes(&[0xA1, 4, 0x50, 0, 0xFF, 0xFF, 0xFF, 0xFF]),
@@ -128,8 +120,8 @@ static ALL_TAGS_ARE_NAMED: [Step; 19] = [
 ];
 
 #[test]
-fn all_tags_are_named(rt: HostRuntime) {
-    play(&rt, rt.alloc(), &ALL_TAGS_ARE_NAMED);
+fn reads_cross(rt: HostRuntime) {
+    play(&rt, rt.alloc(), &READS_CROSS);
 }
 
 /// A FIS of 64 bytes of an unknown type.
