@@ -10,7 +10,7 @@ use Rattle.block_command.specs.declared.command.Command.{Command}
 use Rattle.block_command.specs.declared.command.Turn.{Turn}
 use Rattle.block_command.specs.declared.command.Turn.TheVariants as turn
 use Rattle.block_command.specs.Moments.{Moment, turn_of}
-use Rattle.block_command.specs.Laws.{CameData, Comes, Failed, Flushed, Goes, Happening, Input, Ledger, Loaded, Loads, SentSetUp, Stored, blank, entered, given_to, shown, stored_in}
+use Rattle.block_command.specs.Laws.{CameData, Comes, Flushed, Goes, Happening, Input, Ledger, Loaded, Loads, SentSetUp, Stored, blank, entered, given_to, shown, stored_in}
 use Rattle.block_disk.specs.Table as table
 use Rattle.block_disk.specs.Table.{is_under_way}
 use Rattle.block_disk.specs.Laws.{At, Page, Refused, Reset, Shown, Took, at_page, entered_in, page_entered, shown_at}

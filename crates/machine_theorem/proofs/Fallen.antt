@@ -1,5 +1,5 @@
 -- What the disk at a port heard in a stretch that begins at rest are some of the FISes that the controller sent in it, in order.
-use Rattle.std.proofs.Common.{◌≡◌, ℕ, ◌+◌, Bool, true, false, not, List, [], ◌∷◌, ◌++◌, length, map, Option, Some, None, refl, sym, ap, subst, ◌∙◌, inl, arith}
+use Rattle.std.proofs.Common.{◌≡◌, ℕ, ◌+◌, Bool, true, false, not, List, [], ◌∷◌, ◌++◌, append_assoc, length, map, Option, Some, None, refl, sym, ap, subst, ◌∙◌, inl, arith}
 use Rattle.std.specs.Prelude.{◌==◌, ◌||◌, if◌then◌else◌}
 use Rattle.std.specs.List.{flat_map}
 use Rattle.std.specs.Option.{option_to_list}
@@ -23,10 +23,12 @@ use Rattle.machine_laws.specs.Controllers.{GathersDue}
 use Rattle.machine_laws.specs.Deeds.{Deed, Does, Moved, Removed}
 use Rattle.machine_laws.specs.Disks.{DisksGoOn, calls_at, is_removed}
 use Rattle.machine_laws.specs.Rising.{is_multiplier}
-use Rattle.machine_laws.specs.Falling.{AllLast, ArrivesAt, DisksHearThem, FramesGoWhereTheyShould, HasLink, LinksPassInOrder, PortsPassInOrder, arrived, arrives, ended, ends, falls, fell, goes_to, heard_by, is_down_to, leaving, reached_at, sent_in, way_to}
+use Rattle.machine_laws.specs.Falling.{AllLast, ArrivesAt, DisksHearThem, FramesGoWhereTheyShould, HasLink, LinksPassInOrder, PortsPassInOrder, arrived, arrives, ended, ends, falls, fell, goes_to, heard_by, is_down_to, leaving, reached_at, sent_in, waits_down, way_to}
 use Rattle.machine_theorem.specs.Identity.{AllKeep, IsThere, asks_of, calls_of, heard_as, is_for, is_left, picks}
+use Rattle.machine_theorem.specs.OwnSlots.{AllKeepLine}
 use Rattle.machine_theorem.specs.Tags.{heard_with, once_if}
-use Rattle.machine_theorem.proofs.Within.{Within, first_within, picks_both, within_both, within_map, within_picks, within_then}
+use Rattle.machine_theorem.specs.Crossing.{Within}
+use Rattle.machine_theorem.proofs.Within.{first_within, picks_both, within_both, within_map, within_picks, within_then}
 
 pub record Laws : Type 0 where
   pub links : LinksPassInOrder
@@ -69,6 +71,10 @@ AllStay many n old (deed ∷ later) now run = (IsThere many n old × (is_left n 
 all_stay : (many : Bool) (n tag : ℕ) (deeds : List Deed) (old now : MachineState) (run : RunsRuled old deeds now) → AllKeep many n tag old deeds now run → AllStay many n old deeds now run
 all_stay many n tag [] old now run keeps = tt
 all_stay many n tag (deed ∷ later) old now run keeps = ((keeps.0.end, keeps.0.left), all_stay many n tag later run.1.0 now run.1.2 keeps.1)
+
+pub line_stays : (many : Bool) (n c dev : ℕ) (deeds : List Deed) (old now : MachineState) (run : RunsRuled old deeds now) → AllKeepLine many n c dev old deeds now run → AllStay many n old deeds now run
+line_stays many n c dev [] old now run keeps = tt
+line_stays many n c dev (deed ∷ later) old now run keeps = ((keeps.0.end, keeps.0.left), line_stays many n c dev later run.1.0 now run.1.2 keeps.1)
 
 pub map_both : {A B : Type 0} (f : A → B) (xs ys : List A) → map f (xs ++ ys) ≡ map f xs ++ map f ys
 map_both f [] ys = refl
@@ -146,6 +152,30 @@ heard_among laws many n deeds old now run d there stays due linked lasts none cl
     let two : Within a s = within_of a (leaving now) s (laws.links old deeds now run due linked ∙ ap (λ (w : List Stamped). w ++ s) none) in
     subst (λ (x : List (List ℕ)). Within x (map heard_as (P s))) (sym (heard_ended laws n deeds old now run d there many stays))
     (within_then (map bytes_of e) (map bytes_of l) (map heard_as (P s)) (within_map bytes_of e l one)
+    (within_then (map bytes_of l) (map heard_as (P a)) (map heard_as (P s)) (all_fell laws.passes many n deeds old now run stays)
+    (within_map heard_as (P a) (P s) (within_picks (is_for many n) a s two))))
+
+-- What it heard, and then the FIS that it was given, are some of them, too.
+pub given_within : Laws → (many : Bool) (n : ℕ) (deeds : List Deed) (old now : MachineState) (run : RunsRuled old deeds now) (d : DiskState) → (bay_at old n).unit ≡ Disk d
+    → AllStay many n old deeds now run → GathersDue old → HasLink deeds → AllLast n old deeds now run → leaving old ≡ [] → way_to old n ≡ []
+    → (f : Stamped) → (bay_at now n).down ≡ Some f
+    → Within (flat_map heard_by (calls_of n old deeds now run) ++ f.bytes ∷ []) (map heard_as (picks (is_for many n) (sent_in (calls_in old deeds now run))))
+given_within laws many n deeds old now run d there stays due linked lasts none clear f down =
+    let e : List Stamped = ended n old deeds now run in
+    let l : List Stamped = fell n old deeds now run in
+    let a : List Stamped = arrived old deeds now run in
+    let s : List Stamped = sent_in (calls_in old deeds now run) in
+    let P : List Stamped → List Stamped = picks (is_for many n) in
+    let waits : List Stamped = option_to_list (waits_down now.fan n) in
+    let way : way_to now n ≡ f ∷ waits = ap (λ (o : Option Stamped). option_to_list o ++ waits) down in
+    let all : (e ++ f ∷ []) ++ waits ≡ l =
+    append_assoc e (f ∷ []) waits ∙ ap (λ (w : List Stamped). e ++ w) (sym way) ∙ laws.ports n old deeds now run lasts ∙ ap (λ (w : List Stamped). w ++ l) clear in
+    let one : Within (e ++ f ∷ []) l = within_of (e ++ f ∷ []) waits l all in
+    let two : Within a s = within_of a (leaving now) s (laws.links old deeds now run due linked ∙ ap (λ (w : List Stamped). w ++ s) none) in
+    let heard : flat_map heard_by (calls_of n old deeds now run) ++ f.bytes ∷ [] ≡ map bytes_of (e ++ f ∷ []) =
+    ap (λ (x : List (List ℕ)). x ++ f.bytes ∷ []) (heard_ended laws n deeds old now run d there many stays) ∙ sym (map_both bytes_of e (f ∷ [])) in
+    subst (λ (x : List (List ℕ)). Within x (map heard_as (P s))) (sym heard)
+    (within_then (map bytes_of (e ++ f ∷ [])) (map bytes_of l) (map heard_as (P s)) (within_map bytes_of (e ++ f ∷ []) l one)
     (within_then (map bytes_of l) (map heard_as (P a)) (map heard_as (P s)) (all_fell laws.passes many n deeds old now run stays)
     (within_map heard_as (P a) (P s) (within_picks (is_for many n) a s two))))
 

@@ -148,7 +148,7 @@ module _ (laws : Laws) where
   first_ruled [] old new run = run.0
   first_ruled (deed ∷ later) old new run = run.0
 
-  controller_runs : (ports : ℕ) (legacy : Bool) (old : MachineState) → IsOpeningMachine ports legacy old → (deeds : List Deed) (now : MachineState) (run : RunsRuled old deeds now)
+  pub controller_runs : (ports : ℕ) (legacy : Bool) (old : MachineState) → IsOpeningMachine ports legacy old → (deeds : List Deed) (now : MachineState) (run : RunsRuled old deeds now)
       → ControllerRuns old deeds now run
   controller_runs ports legacy old opening deeds now run =
       laws.runs old deeds now run (laws.opens ports legacy old opening (first_ruled deeds old now run)).due

@@ -16,7 +16,7 @@ use Rattle.ahci_machine.specs.declared.answers.Told.{Told}
 use Rattle.ahci_machine.specs.declared.request.Wanted.{Wanted}
 use Rattle.ahci_machine.specs.declared.request.Wanted.TheVariants.{Command, Data}
 use Rattle.machine_laws.specs.Controllers.{data_calls, deed_calls, lost_calls, miss_calls, move_calls, rest_calls, supply_calls}
-use Rattle.machine_laws.specs.Deeds.{Answered, Deed, Does, FrameOffered, FrameTaken, Missed, Moved, Plugged, Powered, Pulled, Put, Removed, Supplied, Unlent, Wrote}
+use Rattle.machine_laws.specs.Deeds.{Deed, Does, Missed, Moved, Supplied, Wrote}
 
 abbrev pub AreFew : List Event → Type 0
 AreFew [] = Unit {0}

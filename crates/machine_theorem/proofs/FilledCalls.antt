@@ -3,7 +3,7 @@ use Rattle.std.proofs.Common.{◌≡◌, ◌⊎◌, ℕ, ◌<◌, ◌/◌, ◌&&
 use Rattle.std.proofs.Common.{Some, None}
 use Rattle.std.specs.Prelude.{◌==◌, MatchOption, if◌then◌else◌, replicate}
 use Rattle.std.specs.Option.{option_map}
-use Rattle.std.proofs.lemmas.Bool.{cases_lt, eq-eqb, eqb-true, false≢true}
+use Rattle.std.proofs.lemmas.Bool.{cases_lt, eq-eqb, eqb-true, false≢true, true≢false}
 use Rattle.std.proofs.lemmas.List.{get_or-map, get_or-replicate, get_or_past, length-replicate}
 use Rattle.slots.specs.Bytes.{is_over, none_over}
 use Rattle.slots.specs.Slots.{Issue, Slots, holds, issue_at, match_some, own_issue, owned_by, slots_of}
@@ -20,6 +20,7 @@ use Rattle.hba_laws.specs.Cores as core
 use Rattle.hba_laws.specs.History.{History, issued}
 use Rattle.ahci_controller.specs.States.{ControllerState}
 use Rattle.ahci_controller.specs.Taking.{room_for}
+use Rattle.ahci_controller.specs.declared.feeding.Fed.TheVariants as fed_answer
 use Rattle.ahci_controller.specs.declared.taking.Took.{Took}
 use Rattle.controller_laws.specs.CoreEvents.{AreCoreEvents, of_event, of_frame}
 use Rattle.controller_laws.specs.Events as call
@@ -28,7 +29,8 @@ use Rattle.machine_theorem.specs.Commands.{AreNotIssued, issues_in}
 use Rattle.machine_theorem.specs.Filled.{AreNotBrought, Brings, BringsNot, FilledWereBrought, WasBrought}
 use Rattle.machine_theorem.specs.Orders.{is_sent_of}
 use Rattle.machine_theorem.proofs.Completed.{transfer_of}
-use Rattle.machine_theorem.proofs.SetupCalls.{IsNoTake, Laws, call_none, core_events, first_kept, last_kept}
+use Rattle.machine_theorem.proofs.Ordered.{last_kept}
+use Rattle.machine_theorem.proofs.SetupCalls.{IsNoTake, Laws, call_none, core_events, first_kept}
 use Rattle.machine_theorem.proofs.SetupCores.{told_next}
 use Rattle.machine_theorem.proofs.SetupFrames.{has_up, the_issue}
 use Rattle.machine_theorem.proofs.Stood.{issues_are_alone}
@@ -117,19 +119,19 @@ module _ (laws : Laws) (n : ℕ) (low : n < 16) (s k : ℕ) (A : Type 0) where
         inl (was.back c, none_issues s old new e kept does there.issue there.is (issues_in s e) refl, none_brings s k old new e kept does there);
   }
 
-  none_taken : (e : Event) (old new : ControllerState) (does : Does old e new) → IsController old → IsController new → IsNoTake e → Behind n s k old.core A
-      → Behind n s k new.core (After n s k old e A)
+  none_taken : (e : Event) (old new : ControllerState) (does : Does old e new) → IsController old → IsController new → IsNoTake QueuedRead n e
+      → Behind n s k old.core A → Behind n s k new.core (After n s k old e A)
   none_taken e old new does kept l is was =
-      let are : AreCoreEvents old.core (of_event old e new does) new.core = core_events laws n low old new e kept l does in
+      let are : AreCoreEvents old.core (of_event old e new does) new.core = core_events QueuedRead refl laws n low old new e kept l does in
       cores_behind laws.views n low s k (After n s k old e A) (of_event old e new does) old.core new.core are.run are.sound.cores are.sound.frames
-      (call_none e old new does is) (before_call e old new does kept was)
+      (call_none QueuedRead n e old new does is) (before_call e old new does kept was)
 
   -- a FIS is taken
   brings_now : (old new : ControllerState) (frame : List ℕ) (took : Took) → call.Takes old frame took new → port_of frame ≡ n → (past : History)
       → IsTold (view_of n old.core) past
       → FillsNow s k past frame took.report → Brings n s k old frame took
   brings_now old new frame took takes own past told fills =
-      let up = has_up (view_of n old.core) past s told fills.up in
+      let up = has_up QueuedRead (view_of n old.core) past s told fills.up in
       let there : IsThere n s old.core.slots up.issue = is_there n s old.core.slots up.issue up.is in
       record {
         own = own;
@@ -191,12 +193,13 @@ module _ (laws : Laws) (n : ℕ) (low : n < 16) (s k : ℕ) (A : Type 0) where
       subst (λ p. core.Hearkens old.core frame room took.report p) (sym are.run.2) are.run.1 in
       let next = subst (λ p. core.IsCore p) (sym are.run.2) are.sound.cores.1 in
       own_taken old new frame took takes hears kept was (port_of frame == n) refl
-      (told_next laws.views n low (core.Took frame room took.report) old.core new.core hears are.sound.cores.0 next are.sound.frames.0 was.past was.told)
+      (told_next QueuedRead refl laws.views n low (core.Took frame room took.report) old.core new.core hears are.sound.cores.0 next are.sound.frames.0
+      was.past was.told)
 
   call_behind : (e : Event) (old new : ControllerState) (does : Does old e new) → IsController old → IsController new → Behind n s k old.core A
       → Behind n s k new.core (After n s k old e A)
   call_behind (call.Took frame took) old new does kept l was =
-      fis_taken old new frame took does old.core.registers.started kept (core_events laws n low old new (call.Took frame took) kept l does) was
+      fis_taken old new frame took does old.core.registers.started kept (core_events QueuedRead refl laws n low old new (call.Took frame took) kept l does) was
   call_behind (call.Wrote offset value written) old new does kept l was = none_taken (call.Wrote offset value written) old new does kept l tt was
   call_behind (call.WroteWide offset width value written) old new does kept l was =
       none_taken (call.WroteWide offset width value written) old new does kept l tt was
@@ -205,7 +208,9 @@ module _ (laws : Laws) (n : ℕ) (low : n < 16) (s k : ℕ) (A : Type 0) where
   call_behind (call.Left frame why) old new does kept l was = none_taken (call.Left frame why) old new does kept l tt was
   call_behind (call.Turned next) old new does kept l was = none_taken (call.Turned next) old new does kept l tt was
   call_behind (call.Said write) old new does kept l was = none_taken (call.Said write) old new does kept l tt was
-  call_behind (call.Gathered dev number frame fed) old new does kept l was = none_taken (call.Gathered dev number frame fed) old new does kept l tt was
+  call_behind (call.Gathered dev number frame (fed_answer.Goes message line)) old new does kept l was =
+      none_taken (call.Gathered dev number frame (fed_answer.Goes message line)) old new does kept l (λ e. absurd (true≢false e)) was
+  call_behind (call.Gathered dev number frame other) old new does kept l was = none_taken (call.Gathered dev number frame other) old new does kept l tt was
   call_behind (call.NotThere dev number fed) old new does kept l was = none_taken (call.NotThere dev number fed) old new does kept l tt was
 
 -- ---- all of them

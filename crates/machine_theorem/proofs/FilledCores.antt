@@ -6,6 +6,7 @@ use Rattle.std.proofs.lemmas.Bool.{and_parts, eqb-true, leb-true, ltb-true}
 use Rattle.slots.specs.Slots.{Issue, holds, issue_at, match_some}
 use Rattle.slots.specs.Table.{IsTable}
 use Rattle.slots.specs.Work.{is_dma, is_read}
+use Rattle.slots.specs.declared.work.Kind.TheVariants.{QueuedRead}
 use Rattle.hba_fbs.specs.Choosing.{MayChoose}
 use Rattle.hba_fbs.specs.Offering.{asked_by}
 use Rattle.hba_fbs.specs.Registers.{falls}
@@ -52,7 +53,7 @@ module _ (s k n : ℕ) (old : Port) (past : History) (ok : IsTable old.slots) (t
       by : (b : Bool) → (dev == n) ≡ b → HasCame s k ((if b then history.Carried (drop 4 bytes) ∷ [] else []) ++ past) → HasCame s k past
       by false e c = c
       by true e c = elim (carried_back s k (drop 4 bytes) past c) [
-        | inl up ↦ absurd (fed_none n old past ok told dev slot offset len (eqb-true dev n e) may.1.due s up.0)
+        | inl up ↦ absurd (fed_none QueuedRead refl n old past ok told dev slot offset len (eqb-true dev n e) may.1.due s up.0)
         | inr was ↦ was
       ]
   turn_back (Orders dev slot command) bytes may c =
@@ -60,7 +61,7 @@ module _ (s k n : ℕ) (old : Port) (past : History) (ok : IsTable old.slots) (t
       (both_none (begun_by slot (issue_at old.slots slot)) (event_sent old.slots slot ∷ []) (begun_none slot (issue_at old.slots slot))
       (sent_none (holds is_control_issue (issue_at old.slots slot)) slot, tt)) c
 
-  pub core_back : (e : CoreEvent) (new : Port) → IsNoFis e → DoesBy old e new → HasCame s k (happened n old e ++ past) → HasCame s k past
+  pub core_back : (e : CoreEvent) (new : Port) → IsNoFis QueuedRead n e → DoesBy old e new → HasCame s k (happened n old e ++ past) → HasCame s k past
   core_back (core.Took frame room report) new plain does c = absurd plain
   core_back (core.Wrote on_port.Fbs value offer tables) new plain does c = if_back (is_device n (cleared_by old.errors value)) (history.Emptied ∷ []) (tt, tt) c
   core_back (core.Wrote on_port.Is value offer tables) new plain does c = c
@@ -91,13 +92,13 @@ pub record Behind (n s k : ℕ) (port : Port) (A : Type 0) : Type 0 where
 
 module _ (law : CoreViewsAreTold) (n : ℕ) (low : n < 16) (s k : ℕ) (A : Type 0) where
   pub cores_behind : (events : List CoreEvent) (old new : Port) (run : RunsBy old events new) → AreCores old new events run → AreFramedBy events
-      → AreNoFises events → Behind n s k old A → Behind n s k new A
+      → AreNoFises QueuedRead n events → Behind n s k old A → Behind n s k new A
   cores_behind [] old new run cores frames none was = subst (λ (p : Port). Behind n s k p A) (sym run) was
   cores_behind (e ∷ later) old new run cores frames none was =
       let next : IsCore run.0 = first_core later run.0 new run.2 cores.1 in
       cores_behind later run.0 new run.2 cores.1 frames.1 none.1 (record {
         past = happened n old e ++ was.past;
-        told = told_next law n low e old run.0 run.1 cores.0 next frames.0 was.past was.told;
+        told = told_next QueuedRead refl law n low e old run.0 run.1 cores.0 next frames.0 was.past was.told;
         back = λ c. was.back (core_back s k n old was.past cores.0.slots was.told e run.0 none.0 run.1 c);
       })
 
@@ -109,7 +110,7 @@ pub record FillsNow (s k : ℕ) (past : History) (frame : List ℕ) (report : Ta
   pub is : report.wrote ≡ Some wrote
   pub slot_is : wrote.slot ≡ s
   pub whole : wrote.len ≡ length (drop 4 frame)
-  pub up : IsUp s past
+  pub up : IsUp QueuedRead s past
   pub from : wrote.offset ≤ k
   pub to : k < wrote.offset + wrote.len
 
@@ -121,7 +122,7 @@ carried_is xs ys e = ap (λ (o : Option Event). match_some o ys bytes_of) e
     bytes_of other = ys
 
 fills_now : (s k : ℕ) (past : History) (frame bytes : List ℕ) (report : TakeReport) (wrote : Wrote) (o : Option Event) → report.wrote ≡ Some wrote
-    → FillsAs wrote (drop 4 frame) o past → o ≡ Some (history.Carried bytes) → IsUp s past → IsIn (next_number past) (length bytes) k
+    → FillsAs wrote (drop 4 frame) o past → o ≡ Some (history.Carried bytes) → IsUp QueuedRead s past → IsIn (next_number past) (length bytes) k
     → FillsNow s k past frame report
 fills_now s k past frame bytes report wrote o is fills event up inside =
     let same : bytes ≡ drop 4 frame = carried_is bytes (drop 4 frame) (sym event ∙ fills.is) in

@@ -89,7 +89,7 @@ filled_case k from bytes f false e is = inr (ap (λ (x : Bool). is_some (if x th
 
 -- The byte is one of these, or it was filled before.
 pub carried_back : (s k : ℕ) (bytes : List ℕ) (past : History) → HasCame s k (history.Carried bytes ∷ past)
-    → (IsUp s past × IsIn (next_number past) (length bytes) k) ⊎ HasCame s k past
+    → (IsUp QueuedRead s past × IsIn (next_number past) (length bytes) k) ⊎ HasCame s k past
 carried_back s k bytes past c = by (is_set_up s past) refl c.filled
   where
     was : issued s past ≡ Some c.transfer
@@ -99,7 +99,7 @@ carried_back s k bytes past c = by (is_set_up s past) refl c.filled
     before f = record { transfer = c.transfer; is = was; kind = c.kind; filled = f }
 
     by : (b : Bool) → is_set_up s past ≡ b → is_some ((if b then filled_from (next_number past) bytes (filled s past) else filled s past) k) ≡ true
-        → (IsUp s past × IsIn (next_number past) (length bytes) k) ⊎ HasCame s k past
+        → (IsUp QueuedRead s past × IsIn (next_number past) (length bytes) k) ⊎ HasCame s k past
     by false e f = inr (before f)
     by true e f =
         elim (filled_case k (next_number past) bytes (filled s past) (nat_le (next_number past) k && nat_lt k (next_number past + length bytes)) refl f) [

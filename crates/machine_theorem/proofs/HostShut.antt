@@ -23,7 +23,7 @@ use Rattle.sata_disk_laws.specs.Once.{host_of, is_queued_code, none_open, out_go
 use Rattle.machine_laws.specs.Falling.{heard_by}
 use Rattle.machine_theorem.specs.Identity.{heard_as, is_for, picks}
 use Rattle.machine_theorem.specs.QueuedOnly.{NoneSingle, asks_single}
-use Rattle.machine_theorem.proofs.Within.{Within}
+use Rattle.machine_theorem.specs.Crossing.{Within}
 
 -- no command is open that is not queued
 abbrev pub IsShut : Host → Type 0

@@ -7,7 +7,7 @@ use Rattle.std.proofs.lemmas.List.{length-append}
 use Rattle.fis_view.specs.Frames.{Stamped, marked}
 use Rattle.block_queue.specs.Line.{has_bit}
 use Rattle.sata_disk.specs.declared.out.Out.TheVariants as out
-use Rattle.sata_disk_laws.specs.Calls.{Call, Plugs, Hears, Starts, Asks, Answers, Sends}
+use Rattle.sata_disk_laws.specs.Calls.{Call, Plugs, Starts, Asks, Answers, Sends}
 use Rattle.ahci_controller.specs.declared.feeding.Fed.{Fed}
 use Rattle.ahci_controller.specs.declared.feeding.Fed.TheVariants as fed
 use Rattle.ahci_controller.specs.declared.next.Next.TheVariants as next

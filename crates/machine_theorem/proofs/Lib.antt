@@ -56,6 +56,12 @@ mod SetupHistory
 mod SetupFrames
 mod SetupCores
 mod SetupCalls
+mod FedCalls
+mod SetupOpens
+mod Words
+mod FeedStays
+mod FeedHolds
+mod FedFor
 mod RisenTold
 mod SentFises
 mod OwnPlace
@@ -93,3 +99,11 @@ mod ErrorNone
 mod SinglesOwn
 mod AnswersHeard
 mod PlainWaits
+mod KeepPlaces
+mod Signs
+mod SignsSent
+mod SignsCame
+mod DataDown
+mod DataDeeds
+mod OwnData
+mod WritesOwn

@@ -110,12 +110,16 @@ feeds : (out : Bool) (c d : ControllerState) (dev : ℕ) (answer : Fed) → does
 feeds true c d dev answer goes h = fed_by (may_feed c.core dev) c d dev answer goes refl h
 feeds false c d dev answer goes h = absurd (subst does_go h.1 goes)
 
-pub fed_low : (c d : ControllerState) (dev number : ℕ) (answer : Fed) → IsTable c.core.slots → does_go answer → GathersIf (is_fed c.wants dev number) c dev answer d → dev < 16
-fed_low c d dev number answer is goes h =
+-- Data that go are due
+pub fed_some : (c d : ControllerState) (dev number : ℕ) (answer : Fed) → does_go answer → GathersIf (is_fed c.wants dev number) c dev answer d
+    → is_some (payload (context_of c.core.slots dev)) ≡ true
+fed_some c d dev number answer goes h =
     let may : may_feed c.core dev ≡ true = feeds (is_fed c.wants dev number) c d dev answer goes h in
-    low_dev c.core.slots dev is
-    (and_first (is_some (payload (context_of c.core.slots dev))) (is_none (cause_of c.core.errors dev))
-    (and_second (is_running c.core) (is_due c.core.slots c.core.errors dev) may))
+    and_first (is_some (payload (context_of c.core.slots dev))) (is_none (cause_of c.core.errors dev))
+    (and_second (is_running c.core) (is_due c.core.slots c.core.errors dev) may)
+
+pub fed_low : (c d : ControllerState) (dev number : ℕ) (answer : Fed) → IsTable c.core.slots → does_go answer → GathersIf (is_fed c.wants dev number) c dev answer d → dev < 16
+fed_low c d dev number answer is goes h = low_dev c.core.slots dev is (fed_some c d dev number answer goes h)
 
 -- ---- calls that send nothing
 

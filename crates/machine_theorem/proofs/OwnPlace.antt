@@ -230,7 +230,7 @@ find many n c dev (deed ∷ later) old now run keeps pre rest f is =
 
 -- ---- in order
 
-cancel : (xs ys zs : List Stamped) → xs ++ ys ≡ xs ++ zs → ys ≡ zs
+pub cancel : (xs ys zs : List Stamped) → xs ++ ys ≡ xs ++ zs → ys ≡ zs
 cancel [] ys zs e = e
 cancel (x ∷ xs) ys zs e = cancel xs ys zs (ap (λ l. tail_of l) e)
 

@@ -13,7 +13,8 @@ use Rattle.slots.specs.Slots.{has_bit}
 use Rattle.machine_theorem.specs.Identity.{names_in, picks}
 use Rattle.machine_theorem.specs.Tags.{once_if}
 use Rattle.machine_theorem.proofs.Names.{same_frame}
-use Rattle.machine_theorem.proofs.Within.{Within, fewer, first_within}
+use Rattle.machine_theorem.specs.Crossing.{Within}
+use Rattle.machine_theorem.proofs.Within.{fewer, first_within}
 
 -- ---- ends
 

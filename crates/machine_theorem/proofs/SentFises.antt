@@ -72,7 +72,7 @@ none_made : (d : DiskState) → Made d [] []
 none_made d = record { fises = []; are = refl; told = λ u. refl }
 
 -- calls that send nothing
-abbrev SendsNone : List Call → Type 0
+abbrev pub SendsNone : List Call → Type 0
 SendsNone [] = Unit {0}
 SendsNone (Sends o ∷ later) = ⊥
 SendsNone (c ∷ later) = SendsNone later
@@ -103,7 +103,7 @@ refused_none : {A B : Type 0} (r : Result A B) (calls : List Call) → SendsNone
 refused_none (Ok a) calls none = none
 refused_none (Err e) calls none = tt
 
-abbrev IsSilent : Deed → Type 0
+abbrev pub IsSilent : Deed → Type 0
 IsSilent (Moved (act.Speaks k o)) = ⊥
 IsSilent deed = Unit {0}
 
@@ -115,7 +115,7 @@ move_none (act.Starts k place) n down is = at_none (k == n) (disk_call.Starts (S
 move_none (act.Asks id request) n down is = at_none (id.port == n) (disk_call.Asks request ∷ []) tt
 move_none a n down is = tt
 
-deed_none : (old : MachineState) (deed : Deed) (n : ℕ) → IsSilent deed → SendsNone (calls_at old deed n)
+pub deed_none : (old : MachineState) (deed : Deed) (n : ℕ) → IsSilent deed → SendsNone (calls_at old deed n)
 deed_none old (Moved a) n is = move_none a n (bay_at old n).down is
 deed_none old (Answered id answer told) n is = at_none (id.port == n) (unless_refused told (disk_call.Answers id.number answer ∷ [])) (refused_none told (disk_call.Answers id.number answer ∷ []) tt)
 deed_none old (Pulled k told) n is = at_none (k == n) (unless_refused told (disk_call.Plugs ∷ [])) (refused_none told (disk_call.Plugs ∷ []) tt)
@@ -131,18 +131,18 @@ pub sender_is : (many : Bool) (n : ℕ) (old : MachineState) (k : ℕ) (frame : 
 sender_is true n old k frame there room port = sym (stamped old.fan k frame there.fan) ∙ eqb-true (risen old.fan k frame).stamp.port n port
 sender_is false n old k frame there room port = straight_room old.fan k there.fan room ∙ sym (there.one refl)
 
-stamp_is : (many : Bool) (n : ℕ) (old : MachineState) (frame : Stamped) → IsThere many n old → (risen old.fan n frame).stamp.port ≡ n
+pub stamp_is : (many : Bool) (n : ℕ) (old : MachineState) (frame : Stamped) → IsThere many n old → (risen old.fan n frame).stamp.port ≡ n
 stamp_is true n old frame there = stamped old.fan n frame there.fan
 stamp_is false n old frame there = straight_port old.fan n frame there.fan ∙ sym (there.one refl)
 
 own_not : (u : Inside) (d : DiskState) → u ≡ Disk d → is_own u ≡ true → ⊥
 own_not u d is own = false≢true (sym (ap is_own is) ∙ own)
 
-not_of : (n c : ℕ) (f : Stamped) (b : Bool) → (f.stamp.port == n) ≡ b → (b ≡ true → ⊥) → of_conn n c (f ∷ []) ≡ []
+pub not_of : (n c : ℕ) (f : Stamped) (b : Bool) → (f.stamp.port == n) ≡ b → (b ≡ true → ⊥) → of_conn n c (f ∷ []) ≡ []
 not_of n c f true e never = absurd (never refl)
 not_of n c f false e never = ap (λ (x : Bool). if x && f.stamp.conn == c then f ∷ [] else []) e
 
-is_one : (n c : ℕ) (f : Stamped) → f.stamp.port ≡ n → f.stamp.conn ≡ c → of_conn n c (f ∷ []) ≡ f ∷ []
+pub is_one : (n c : ℕ) (f : Stamped) → f.stamp.port ≡ n → f.stamp.conn ≡ c → of_conn n c (f ∷ []) ≡ f ∷ []
 is_one n c f port conn =
     ap (λ (x : Bool). if x && f.stamp.conn == c then f ∷ [] else []) (eq-eqb f.stamp.port n port) ∙ ap (λ (x : Bool). if x then f ∷ [] else []) (eq-eqb f.stamp.conn c conn)
 

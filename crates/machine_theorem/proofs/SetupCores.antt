@@ -1,12 +1,15 @@
 -- The history of a device beside what its FISes say, over the events of a controller's core.
-use Rattle.std.proofs.Common.{◌≡◌, ℕ, ◌<◌, Bool, true, false, List, [], ◌∷◌, ◌++◌, append_assoc, drop, refl, sym, ap, subst, ◌∙◌, Option, Some, None}
-use Rattle.std.specs.Prelude.{◌==◌, MatchOption, if◌then◌else◌}
+use Rattle.std.proofs.Common.{◌≡◌, ℕ, ◌<◌, ◌-◌, length, Bool, true, false, List, [], ◌∷◌, ◌++◌, append_assoc, drop, refl, sym, ap, subst, ◌∙◌, Option, Some, None}
+use Rattle.std.specs.Prelude.{◌==◌, MatchOption, is_some, if◌then◌else◌}
 use Rattle.std.proofs.lemmas.Bool.{eqb-true, eq-eqb, false≢true, true≢false}
+use Rattle.std.proofs.lemmas.List.{length-drop}
 use Rattle.fis_view.specs.Seen.{seen}
 use Rattle.slots.specs.Data.{payload}
 use Rattle.slots.specs.Slots.{Issue, context_of, holds, issue_at, match_some, own_issue}
 use Rattle.slots.specs.Table.{IsContext, IsContextOf, IsTable}
-use Rattle.slots.specs.Work.{is_dma, is_read}
+use Rattle.slots.specs.Work.{is_dma, is_queued, is_read}
+use Rattle.slots.specs.declared.work.Kind.{Kind}
+use Rattle.slots.specs.declared.work.Kind.TheVariants.{QueuedRead, QueuedWrite}
 use Rattle.slots.specs.declared.table.Context.{Context}
 use Rattle.slots.specs.declared.work.Work.{Work}
 use Rattle.hba_fbs.specs.Deciding.{Decides, decided}
@@ -25,6 +28,7 @@ use Rattle.hba_fbs.specs.declared.room.Room.{Room}
 use Rattle.hba_fbs.specs.declared.turn.Turn.{Turn}
 use Rattle.hba_fbs.specs.declared.turn.Turn.TheVariants.{Feeds, Orders, Rests}
 use Rattle.hba_fbs.specs.Choosing.{MayChoose}
+use Rattle.hba_fbs.specs.Turning.{feeds}
 use Rattle.hba_laws.proofs.Door.{own_in}
 use Rattle.hba_laws.specs.Agreement.{IsTold}
 use Rattle.hba_laws.specs.CoreHistories.{AreFramedBy, CoreViewsAreTold, IsFramedBy, event_by, happened, turned_for}
@@ -33,10 +37,9 @@ use Rattle.hba_laws.specs.Cores.{AreCores, CoreEvent, DoesBy, IsCore, RunsBy}
 use Rattle.hba_laws.specs.Delivering.{begun_by, event_heard, event_sent, is_control_issue}
 use Rattle.hba_laws.specs.History as history
 use Rattle.hba_laws.specs.History.{Event, History, issued}
-use Rattle.sata_disk_books.specs.Counted.{Counted}
-use Rattle.sata_disk_books.specs.Fises.{told_by}
-use Rattle.machine_theorem.proofs.SetupHistory.{Follows, IsMild, IssuesNone, NoneUp, fed_follows, issued_follow, mild_follows, nothing_up, was_issued}
-use Rattle.machine_theorem.proofs.SetupFrames.{WayIs, frame_follows, none_out, the_issue}
+use Rattle.sata_disk_books.specs.Counted.{Counted, more_by}
+use Rattle.machine_theorem.proofs.SetupHistory.{Follows, IsMild, IssuesNone, NoneUp, carried_follows, fed_follows, issued_follow, mild_follows, nothing_up, was_issued}
+use Rattle.machine_theorem.proofs.SetupFrames.{WayIs, frame_follows, none_way, the_issue, told_with}
 
 -- ---- contexts
 
@@ -61,14 +64,14 @@ due_context : (o : Option Context) (y : ℕ × ℕ × ℕ) → payload o ≡ Som
 due_context None y e = absurd (cc)
 due_context (Some c) y e = (c, (refl, due_case c c.activated _ y e))
 
--- no queued read is set up while Data for the device go
-pub fed_none : (n : ℕ) (old : Port) (past : History) → IsTable old.slots → IsTold (view_of n old) past → (dev slot offset len : ℕ) → dev ≡ n
-    → payload (context_of old.slots dev) ≡ Some (slot, offset, len) → NoneUp past
-fed_none n old past ok told dev slot offset len same due =
-    let d = due_context (context_of old.slots n) (slot, offset, len) (ap (λ k. payload (context_of old.slots k)) (sym same) ∙ due) in
+-- no read of this kind is set up while Data for the device go
+pub fed_none : (k : Kind) → is_read k ≡ true → (n : ℕ) (old : Port) (past : History) → IsTable old.slots → IsTold (view_of n old) past → (dev slot offset len : ℕ) → dev ≡ n
+    → payload (context_of old.slots dev) ≡ Some (slot, offset, len) → NoneUp k past
+fed_none k reads n old past ok told dev slot offset len same due =
+    let d = due_context (context_of old.slots n) (slot, offset, len) (ap (λ j. payload (context_of old.slots j)) (sym same) ∙ due) in
     let is : IsContext n old.slots d.0 = context_is n old d.0 ok d.1.0 in
     let of = match_is (IsContextOf n d.0) (issue_at old.slots d.0.slot) is.1 in
-    none_out (view_of n old) past d.0 told (way_of n old ok) d.1.0 (of.1.1.activates d.1.1).0
+    none_way k (view_of n old) past d.0 told (way_of n old ok) d.1.0 (λ e. false≢true (sym (of.1.1.activates d.1.1).0 ∙ sym e ∙ reads))
 
 -- ---- one event that is no FIS
 
@@ -80,29 +83,35 @@ IsWritten on_port.Sntf = Unit {0}
 IsWritten on_port.Fbs = Unit {0}
 IsWritten other = ⊥
 
--- an event of a controller's core that is no FIS
-abbrev pub IsNoFis : CoreEvent → Type 0
-IsNoFis (core.Took frame room report) = ⊥
-IsNoFis (core.Wrote register value offer tables) = IsWritten register
-IsNoFis (core.Flushed dev) = ⊥
-IsNoFis (core.Gave bytes) = ⊥
-IsNoFis core.Failed = ⊥
-IsNoFis (core.Placed dev slots offer tables) = Unit {0}
-IsNoFis (core.Chose turn bytes) = Unit {0}
-IsNoFis (core.Greeted frame report) = Unit {0}
-IsNoFis (core.Commanded value) = Unit {0}
-IsNoFis (core.Overrode dev) = Unit {0}
-IsNoFis (core.Hung dev line) = Unit {0}
-IsNoFis core.Relinked = Unit {0}
-IsNoFis core.Restarted = Unit {0}
+-- An event of a controller's core that is no FIS. Of a command that is no read it is no Data for the device either.
+abbrev pub IsNoFis : Kind → (n : ℕ) → CoreEvent → Type 0
+IsNoFis k n (core.Took frame room report) = ⊥
+IsNoFis k n (core.Wrote register value offer tables) = IsWritten register
+IsNoFis k n (core.Flushed dev) = ⊥
+IsNoFis k n (core.Gave bytes) = ⊥
+IsNoFis k n core.Failed = ⊥
+IsNoFis k n (core.Placed dev slots offer tables) = Unit {0}
+IsNoFis k n (core.Chose (Feeds dev slot offset len) bytes) = is_read k ≡ false → (dev == n) ≡ false
+IsNoFis k n (core.Chose turn bytes) = Unit {0}
+IsNoFis k n (core.Greeted frame report) = Unit {0}
+IsNoFis k n (core.Commanded value) = Unit {0}
+IsNoFis k n (core.Overrode dev) = Unit {0}
+IsNoFis k n (core.Hung dev line) = Unit {0}
+IsNoFis k n core.Relinked = Unit {0}
+IsNoFis k n core.Restarted = Unit {0}
 
-empty_if : (b : Bool) (past : History) (t : Option Counted) → Follows past t → Follows ((if b then history.Emptied ∷ [] else []) ++ past) t
-empty_if true past t was = mild_follows history.Emptied past t tt was
-empty_if false past t was = was
+empty_if : (k : Kind) (b : Bool) (past : History) (t : Option Counted) → Follows k past t → Follows k ((if b then history.Emptied ∷ [] else []) ++ past) t
+empty_if k true past t was = mild_follows k history.Emptied past t tt was
+empty_if k false past t was = was
 
-one_if : (b : Bool) (h past : History) (t : Option Counted) → (b ≡ true → Follows (h ++ past) t) → Follows past t → Follows ((if b then h else []) ++ past) t
-one_if true h past t now was = now refl
-one_if false h past t now was = was
+one_if : (k : Kind) (b : Bool) (h past : History) (t : Option Counted) → (b ≡ true → Follows k (h ++ past) t) → Follows k past t → Follows k ((if b then h else []) ++ past) t
+one_if k true h past t now was = now refl
+one_if k false h past t now was = was
+
+queued_no_dma : (k : Kind) → is_queued k ≡ true → is_dma k ≡ false
+queued_no_dma QueuedRead e = refl
+queued_no_dma QueuedWrite e = refl
+queued_no_dma other e = absurd (cc)
 
 sent_mild : (b : Bool) (slot : ℕ) → IsMild (if b then history.SentControl slot else history.Sent slot)
 sent_mild true slot = tt
@@ -112,10 +121,11 @@ sent_none : (b : Bool) (slot : ℕ) → IssuesNone (if b then history.SentContro
 sent_none true slot = tt
 sent_none false slot = tt
 
-module _ (n : ℕ) (old : Port) (past : History) (t : Option Counted) (ok : IsTable old.slots) (told : IsTold (view_of n old) past) (was : Follows past t) where
+module _ (k : Kind) (queued : is_queued k ≡ true) (n : ℕ) (old : Port) (past : History) (t : Option Counted) (ok : IsTable old.slots) (told : IsTold (view_of n old) past)
+    (was : Follows k past t) where
   -- a command that is its own setup is no queued one
   begun_none : (slot : ℕ) (i : Issue) (e : Event) → issue_at old.slots slot ≡ Some i → is_dma i.work.kind ≡ true → IssuesNone e
-      → NoneUp (history.SetUp slot 0 i.work.len (is_read i.work.kind) ∷ e ∷ past)
+      → NoneUp k (history.SetUp slot 0 i.work.len (is_read i.work.kind) ∷ e ∷ past)
   begun_none slot i e at dma none s up =
       let same : slot ≡ s = eqb-true slot s up.up in
       let first : issued s (e ∷ past) ≡ Some up.transfer = was_issued s (history.SetUp slot 0 i.work.len (is_read i.work.kind)) (e ∷ past) up.transfer tt up.is in
@@ -124,33 +134,38 @@ module _ (n : ℕ) (old : Port) (past : History) (t : Option Counted) (ok : IsTa
       let there : issue_at old.slots s ≡ Some j.0 = (own_in n s old.slots j.0 j.1.0).1 in
       let one : i ≡ j.0 = ap (λ (o : Option Issue). match_some o i (λ x. x)) (sym at ∙ ap (issue_at old.slots) same ∙ there) in
       let kind = ap (λ (x : Issue). x.work.kind) one ∙ ap (λ (w : Work). w.kind) j.1.1 ∙ up.kind in
-      false≢true (sym (ap is_dma kind) ∙ dma)
+      false≢true (sym (ap is_dma kind ∙ queued_no_dma k queued) ∙ dma)
 
   begun_case : (slot : ℕ) (i : Issue) (e : Event) (b : Bool) → issue_at old.slots slot ≡ Some i → is_dma i.work.kind ≡ b → IsMild e → IssuesNone e
-      → Follows ((if b then history.SetUp slot 0 i.work.len (is_read i.work.kind) ∷ [] else []) ++ e ∷ past) t
-  begun_case slot i e true at dma mild none = nothing_up _ t (begun_none slot i e at dma none)
-  begun_case slot i e false at dma mild none = mild_follows e past t mild was
+      → Follows k ((if b then history.SetUp slot 0 i.work.len (is_read i.work.kind) ∷ [] else []) ++ e ∷ past) t
+  begun_case slot i e true at dma mild none = nothing_up k _ t (begun_none slot i e at dma none)
+  begun_case slot i e false at dma mild none = mild_follows k e past t mild was
 
-  begun_follows : (slot : ℕ) (o : Option Issue) (e : Event) → issue_at old.slots slot ≡ o → IsMild e → IssuesNone e → Follows (begun_by slot o ++ e ∷ past) t
-  begun_follows slot None e at mild none = mild_follows e past t mild was
+  begun_follows : (slot : ℕ) (o : Option Issue) (e : Event) → issue_at old.slots slot ≡ o → IsMild e → IssuesNone e → Follows k (begun_by slot o ++ e ∷ past) t
+  begun_follows slot None e at mild none = mild_follows k e past t mild was
   begun_follows slot (Some i) e at mild none = begun_case slot i e (is_dma i.work.kind) at refl mild none
 
-  order_follows : (slot : ℕ) → Follows ((begun_by slot (issue_at old.slots slot) ++ event_sent old.slots slot ∷ []) ++ past) t
+  order_follows : (slot : ℕ) → Follows k ((begun_by slot (issue_at old.slots slot) ++ event_sent old.slots slot ∷ []) ++ past) t
   order_follows slot =
       let b : Bool = holds is_control_issue (issue_at old.slots slot) in
-      subst (λ (h : History). Follows h t) (sym (append_assoc (begun_by slot (issue_at old.slots slot)) (event_sent old.slots slot ∷ []) past))
+      subst (λ (h : History). Follows k h t) (sym (append_assoc (begun_by slot (issue_at old.slots slot)) (event_sent old.slots slot ∷ []) past))
       (begun_follows slot (issue_at old.slots slot) (event_sent old.slots slot) refl (sent_mild b slot) (sent_none b slot))
 
-  turn_follows : (turn : Turn) (bytes : List ℕ) → MayChoose old turn → Follows (turned_for n old turn bytes ++ past) t
-  turn_follows Rests bytes may = was
-  turn_follows (Feeds dev slot offset len) bytes may =
-      one_if (dev == n) (history.Carried (drop 4 bytes) ∷ []) past t (λ e. fed_follows (drop 4 bytes) past t (fed_none n old past ok told dev slot offset len (eqb-true dev n e) may.1.due)) was
-  turn_follows (Orders dev slot command) bytes may =
-      one_if (dev == n) (begun_by slot (issue_at old.slots slot) ++ event_sent old.slots slot ∷ []) past t (λ e. order_follows slot) was
+  fed_case : (dev slot offset len : ℕ) (bytes : List ℕ) (r : Bool) → is_read k ≡ r → (r ≡ false → (dev == n) ≡ false) → MayChoose old (Feeds dev slot offset len) → (dev == n) ≡ true
+      → Follows k (history.Carried (drop 4 bytes) ∷ past) t
+  fed_case dev slot offset len bytes true reads plain may own = fed_follows k (drop 4 bytes) past t (fed_none k reads n old past ok told dev slot offset len (eqb-true dev n own) may.1.due)
+  fed_case dev slot offset len bytes false reads plain may own = absurd (false≢true (sym (plain refl) ∙ own))
 
-  pub core_follows : (e : CoreEvent) (new : Port) → IsNoFis e → DoesBy old e new → Follows (happened n old e ++ past) t
+  turn_follows : (turn : Turn) (bytes : List ℕ) → IsNoFis k n (core.Chose turn bytes) → MayChoose old turn → Follows k (turned_for n old turn bytes ++ past) t
+  turn_follows Rests bytes plain may = was
+  turn_follows (Feeds dev slot offset len) bytes plain may =
+      one_if k (dev == n) (history.Carried (drop 4 bytes) ∷ []) past t (fed_case dev slot offset len bytes (is_read k) refl plain may) was
+  turn_follows (Orders dev slot command) bytes plain may =
+      one_if k (dev == n) (begun_by slot (issue_at old.slots slot) ++ event_sent old.slots slot ∷ []) past t (λ e. order_follows slot) was
+
+  pub core_follows : (e : CoreEvent) (new : Port) → IsNoFis k n e → DoesBy old e new → Follows k (happened n old e ++ past) t
   core_follows (core.Took frame room report) new plain does = absurd plain
-  core_follows (core.Wrote on_port.Fbs value offer tables) new plain does = empty_if (is_device n (cleared_by old.errors value)) past t was
+  core_follows (core.Wrote on_port.Fbs value offer tables) new plain does = empty_if k (is_device n (cleared_by old.errors value)) past t was
   core_follows (core.Wrote on_port.Is value offer tables) new plain does = was
   core_follows (core.Wrote on_port.Serr value offer tables) new plain does = was
   core_follows (core.Wrote on_port.Sact value offer tables) new plain does = was
@@ -160,53 +175,58 @@ module _ (n : ℕ) (old : Port) (past : History) (t : Option Counted) (ok : IsTa
   core_follows (core.Gave bytes) new plain does = absurd plain
   core_follows core.Failed new plain does = absurd plain
   core_follows (core.Placed dev slots offer tables) new plain does =
-      one_if (dev == n) _ past t (λ e. issued_follow (asked_by offer slots) tables 32 past t was) was
-  core_follows (core.Chose turn bytes) new plain does = turn_follows turn bytes does.0
+      one_if k (dev == n) _ past t (λ e. issued_follow k (asked_by offer slots) tables 32 past t was) was
+  core_follows (core.Chose turn bytes) new plain does = turn_follows turn bytes plain does.0
   core_follows (core.Greeted frame report) new plain does = was
-  core_follows (core.Commanded value) new plain does = empty_if (falls old.registers value) past t was
+  core_follows (core.Commanded value) new plain does = empty_if k (falls old.registers value) past t was
   core_follows (core.Overrode dev) new plain does = was
-  core_follows (core.Hung dev line) new plain does = empty_if (dev == n) past t was
-  core_follows core.Relinked new plain does = mild_follows history.Emptied past t tt was
-  core_follows core.Restarted new plain does = mild_follows history.Emptied past t tt was
+  core_follows (core.Hung dev line) new plain does = empty_if k (dev == n) past t was
+  core_follows core.Relinked new plain does = mild_follows k history.Emptied past t tt was
+  core_follows core.Restarted new plain does = mild_follows k history.Emptied past t tt was
 
 -- ---- a list of them
 
-abbrev pub AreNoFises : List CoreEvent → Type 0
-AreNoFises [] = Unit {0}
-AreNoFises (e ∷ later) = IsNoFis e × AreNoFises later
+abbrev pub AreNoFises : Kind → (n : ℕ) → List CoreEvent → Type 0
+AreNoFises k n [] = Unit {0}
+AreNoFises k n (e ∷ later) = IsNoFis k n e × AreNoFises k n later
 
 -- a device's history, beside what its FISes say
-pub record Beside (n : ℕ) (port : Port) (t : Option Counted) : Type 0 where
+pub record Beside (k : Kind) (n : ℕ) (port : Port) (t : Option Counted) : Type 0 where
   pub past : History
   pub told : IsTold (view_of n port) past
-  pub follows : Follows past t
+  pub follows : Follows k past t
+
+pub no_fault : (o : Option Fault) → device_cause o ≡ None → port_cause o ≡ None → o ≡ None
+no_fault None e f = refl
+no_fault (Some (fault.Device c)) e f = absurd (cc)
+no_fault (Some (fault.Port c)) e f = absurd (cc)
+
+-- where Data of the device come, this follows
+abbrev pub Carries : Kind → (data' : ℕ → Option Counted → Option Counted) → (old : Port) → (frame : List ℕ) → (past : History) → (t : Option Counted) → Type 0
+Carries k data' old frame past t = (c : Context) → context_of old.slots (port_of frame) ≡ Some c → c.to_host ≡ true
+    → Follows k (history.Carried (drop 4 frame) ∷ past) (data' (length frame - 4) t)
 
 pub first_core : (events : List CoreEvent) (old new : Port) (run : RunsBy old events new) → AreCores old new events run → IsCore old
 first_core [] old new run are = are
 first_core (e ∷ later) old new run are = are.0
 
-module _ (law : CoreViewsAreTold) (n : ℕ) (low : n < 16) where
+module _ (k : Kind) (queued : is_queued k ≡ true) (law : CoreViewsAreTold) (n : ℕ) (low : n < 16) where
   pub told_next : (e : CoreEvent) (old new : Port) (does : DoesBy old e new) → IsCore old → IsCore new → IsFramedBy e → (past : History) → IsTold (view_of n old) past
       → IsTold (view_of n new) (happened n old e ++ past)
   told_next e old new does one two framed past told = law n low old new (e ∷ []) (new, does, refl) (record { cores = (one, two); frames = (framed, tt) }) past told
 
-  pub fises_none : (events : List CoreEvent) (old new : Port) (run : RunsBy old events new) → AreCores old new events run → AreFramedBy events → AreNoFises events → (t : Option Counted)
-      → Beside n old t → Beside n new t
-  fises_none [] old new run cores frames none t was = subst (λ (p : Port). Beside n p t) (sym run) was
+  pub fises_none : (events : List CoreEvent) (old new : Port) (run : RunsBy old events new) → AreCores old new events run → AreFramedBy events → AreNoFises k n events → (t : Option Counted)
+      → Beside k n old t → Beside k n new t
+  fises_none [] old new run cores frames none t was = subst (λ (p : Port). Beside k n p t) (sym run) was
   fises_none (e ∷ later) old new run cores frames none t was =
       let next : IsCore run.0 = first_core later run.0 new run.2 cores.1 in
       fises_none later run.0 new run.2 cores.1 frames.1 none.1 t (record {
         past = happened n old e ++ was.past;
         told = told_next e old run.0 run.1 cores.0 next frames.0 was.past was.told;
-        follows = core_follows n old was.past t cores.0.slots was.told was.follows e run.0 none.0 run.1;
+        follows = core_follows k queued n old was.past t cores.0.slots was.told was.follows e run.0 none.0 run.1;
       })
 
   -- ---- a FIS
-
-  no_fault : (o : Option Fault) → device_cause o ≡ None → port_cause o ≡ None → o ≡ None
-  no_fault None e f = refl
-  no_fault (Some (fault.Device c)) e f = absurd (cc)
-  no_fault (Some (fault.Port c)) e f = absurd (cc)
 
   heard_event : (old : Port) (room : Room) (frame : List ℕ) (b : Bool) → b ≡ false
       → (if b then None else event_heard (decided (port_of frame) (view_of (port_of frame) old) room (admitted (port_of frame) (seen frame))) (drop 4 frame))
@@ -214,12 +234,13 @@ module _ (law : CoreViewsAreTold) (n : ℕ) (low : n < 16) where
   heard_event old room frame true e = absurd (true≢false e)
   heard_event old room frame false e = refl
 
-  fis_own : (old new : Port) (frame : List ℕ) (room : Room) (report : TakeReport) → port_of frame ≡ n → ignores (port_of frame) old frame ≡ false → IsCore new
-      → Decides old (port_of frame) room (admitted (port_of frame) (seen frame)) report new → report.fault ≡ None → report.stopped ≡ None
-      → (past : History) (t : Option Counted) → Follows past t → IsTold (view_of (port_of frame) new) (match_some (event_by old room frame) [] (λ e. e ∷ []) ++ past)
-      → Follows (match_some (event_by old room frame) [] (λ e. e ∷ []) ++ past) (told_by (seen frame) t)
+  fis_own : (data' : ℕ → Option Counted → Option Counted) (old new : Port) (frame : List ℕ) (room : Room) (report : TakeReport)
+      → ignores (port_of frame) old frame ≡ false → Decides old (port_of frame) room (admitted (port_of frame) (seen frame)) report new → report.fault ≡ None → report.stopped ≡ None
+      → (past : History) (t : Option Counted) → Follows k past t → IsTold (view_of (port_of frame) old) past → Carries k data' old frame past t
+      → IsTold (view_of (port_of frame) new) (match_some (event_by old room frame) [] (λ e. e ∷ []) ++ past)
+      → Follows k (match_some (event_by old room frame) [] (λ e. e ∷ []) ++ past) (told_with data' (seen frame) t)
   unfolding heard_report
-  fis_own old new frame room report own hears ok is well runs past t was told =
+  fis_own data' old new frame room report hears is well runs past t was before carries told =
       let dev : ℕ = port_of frame in
       let v : DeviceView = view_of dev old in
       let h : Heard = decided dev v room (admitted dev (seen frame)) in
@@ -228,21 +249,20 @@ module _ (law : CoreViewsAreTold) (n : ℕ) (low : n < 16) where
       let told_now : IsTold (view_after_hearing v h) (match_some (event_heard h (drop 4 frame)) [] (λ e. e ∷ []) ++ past) =
       subst (λ (o : Option Event). IsTold (view_after_hearing v h) (match_some o [] (λ e. e ∷ []) ++ past)) same
       (subst (λ (x : DeviceView). IsTold x (match_some (event_by old room frame) [] (λ e. e ∷ []) ++ past)) is.own told) in
-      let way : WayIs (view_after_hearing v h) = subst WayIs is.own (way_of dev new ok.slots) in
-      subst (λ (o : Option Event). Follows (match_some o [] (λ e. e ∷ []) ++ past) (told_by (seen frame) t)) (sym same)
-      (frame_follows v frame past t was dev room fine told_now way)
+      subst (λ (o : Option Event). Follows k (match_some o [] (λ e. e ∷ []) ++ past) (told_with data' (seen frame) t)) (sym same)
+      (frame_follows k queued data' v frame past t was before carries dev room fine told_now)
 
   if_own : (b : Bool) (h past : History) (v : DeviceView) → b ≡ true → IsTold v ((if b then h else []) ++ past) → IsTold v (h ++ past)
   if_own true h past v e told = told
   if_own false h past v e told = absurd (false≢true e)
 
-  own_view : (k : ℕ) (new : Port) (h : History) → k ≡ n → IsTold (view_of n new) h → IsTold (view_of k new) h
-  own_view k new h same told = subst (λ (j : ℕ). IsTold (view_of j new) h) (sym same) told
+  own_view : (m : ℕ) (new : Port) (h : History) → m ≡ n → IsTold (view_of n new) h → IsTold (view_of m new) h
+  own_view m new h same told = subst (λ (j : ℕ). IsTold (view_of j new) h) (sym same) told
 
-  pub fis_beside : (old new : Port) (frame : List ℕ) (room : Room) (report : TakeReport) → port_of frame ≡ n → IsCore old → IsCore new → IsFramedBy (core.Took frame room report)
-      → (does : core.Hearkens old frame room report new) → report.ignored ≡ false → report.fault ≡ None → report.stopped ≡ None → (t : Option Counted) → Beside n old t
-      → Beside n new (told_by (seen frame) t)
-  fis_beside old new frame room report own one two framed does heard well runs t was =
+  pub fis_beside : (data' : ℕ → Option Counted → Option Counted) (old new : Port) (frame : List ℕ) (room : Room) (report : TakeReport) → port_of frame ≡ n → IsCore old → IsCore new
+      → IsFramedBy (core.Took frame room report) → (does : core.Hearkens old frame room report new) → report.ignored ≡ false → report.fault ≡ None → report.stopped ≡ None
+      → (t : Option Counted) → (was : Beside k n old t) → Carries k data' old frame was.past t → Beside k n new (told_with data' (seen frame) t)
+  fis_beside data' old new frame room report own one two framed does heard well runs t was carries =
       let h : History = match_some (event_by old room frame) [] (λ e. e ∷ []) in
       let told : IsTold (view_of n new) (h ++ was.past) =
       if_own (port_of frame == n) h was.past (view_of n new) (eq-eqb (port_of frame) n own) (told_next (core.Took frame room report) old new does one two framed was.past was.told) in
@@ -253,9 +273,10 @@ module _ (law : CoreViewsAreTold) (n : ℕ) (low : n < 16) where
       }
     where
       by : (b : Bool) → ignores (port_of frame) old frame ≡ b → IsTold (view_of n new) (match_some (event_by old room frame) [] (λ e. e ∷ []) ++ was.past)
-          → Follows (match_some (event_by old room frame) [] (λ e. e ∷ []) ++ was.past) (told_by (seen frame) t)
+          → Follows k (match_some (event_by old room frame) [] (λ e. e ∷ []) ++ was.past) (told_with data' (seen frame) t)
       by true e told = absurd (true≢false (ap (λ (r : TakeReport). r.ignored) (sym (does.ignored e).reports) ∙ heard))
-      by false e told = fis_own old new frame room report own e two (does.heard e) well runs was.past t was.follows (own_view (port_of frame) new _ own told)
+      by false e told = fis_own data' old new frame room report e (does.heard e) well runs was.past t was.follows (own_view (port_of frame) old _ own was.told) carries
+          (own_view (port_of frame) new _ own told)
 
   -- a FIS of another device
   other_if : (b : Bool) (h past : History) (v : DeviceView) → b ≡ false → IsTold v ((if b then h else []) ++ past) → IsTold v past
@@ -263,9 +284,21 @@ module _ (law : CoreViewsAreTold) (n : ℕ) (low : n < 16) where
   other_if false h past v e told = told
 
   pub other_beside : (old new : Port) (frame : List ℕ) (room : Room) (report : TakeReport) → (port_of frame == n) ≡ false → IsCore old → IsCore new
-      → IsFramedBy (core.Took frame room report) → core.Hearkens old frame room report new → (t : Option Counted) → Beside n old t → Beside n new t
+      → IsFramedBy (core.Took frame room report) → core.Hearkens old frame room report new → (t : Option Counted) → Beside k n old t → Beside k n new t
   other_beside old new frame room report apart one two framed does t was = record {
     past = was.past;
     told = other_if (port_of frame == n) _ was.past (view_of n new) apart (told_next (core.Took frame room report) old new does one two framed was.past was.told);
     follows = was.follows;
+  }
+
+  -- ---- Data for the device
+
+  pub fed_beside : (old new : Port) (dev : ℕ) (frame : List ℕ) (o : Option (ℕ × ℕ × ℕ)) → dev ≡ n → is_some o ≡ true → IsCore old → IsCore new
+      → DoesBy old (core.Chose (match_some o Rests (feeds dev)) frame) new → (t : Option Counted) → Beside k n old t → Beside k n new (more_by (length frame - 4) t)
+  fed_beside old new dev frame None same some one two does t was = absurd (false≢true some)
+  fed_beside old new dev frame (Some x) same some one two does t was = record {
+    past = history.Carried (drop 4 frame) ∷ was.past;
+    told = if_own (dev == n) (history.Carried (drop 4 frame) ∷ []) was.past (view_of n new) (eq-eqb dev n same)
+        (told_next (core.Chose (Feeds dev x.0 x.1 x.2) frame) old new does one two tt was.past was.told);
+    follows = subst (λ (j : ℕ). Follows k (history.Carried (drop 4 frame) ∷ was.past) (more_by j t)) (length-drop 4 frame) (carried_follows k (drop 4 frame) was.past t was.follows);
   }

@@ -1,32 +1,32 @@
--- A history of a device beside what its FISes say: the slot of a queued read that is set up, and the number of its next byte, are what they say.
+-- A history of a device beside what its FISes say: the slot of a queued command that is set up, and the number of its next byte, are what they say.
 use Rattle.std.proofs.Common.{◌≡◌, ℕ, zero, suc, ◌+◌, Bool, true, false, List, [], ◌∷◌, ◌++◌, append_assoc, length, refl, sym, ap, subst, ◌∙◌, arith, Option, Some, None}
 use Rattle.std.specs.Prelude.{◌==◌, is_some, if◌then◌else◌}
 use Rattle.std.proofs.lemmas.Bool.{eqb-true}
 use Rattle.host_memory.specs.declared.table.Prd.{Prd}
 use Rattle.slots.specs.Slots.{match_some}
-use Rattle.slots.specs.declared.work.Kind.TheVariants.{QueuedRead}
+use Rattle.slots.specs.declared.work.Kind.{Kind}
 use Rattle.hba_commands.specs.declared.command.Command.{Command}
 use Rattle.hba_laws.specs.Alike.{told_issue, told_issued}
 use Rattle.hba_laws.specs.History as history
 use Rattle.hba_laws.specs.History.{Event, History, Setup, Transfer, carried, completes, is_at, is_set_up, issued, last_setup, next_number, unless, waiting_in}
 use Rattle.sata_disk_books.specs.Counted.{Counted, more_by}
 
--- what is issued in a slot that is set up is a queued read
-pub record IsUp (s : ℕ) (past : History) : Type 0 where
+-- what is issued in a slot that is set up is of this kind
+pub record IsUp (k : Kind) (s : ℕ) (past : History) : Type 0 where
   pub transfer : Transfer
   pub is : issued s past ≡ Some transfer
   pub up : is_set_up s past ≡ true
-  pub kind : transfer.work.kind ≡ QueuedRead
+  pub kind : transfer.work.kind ≡ k
 
-abbrev pub Follows : History → Option Counted → Type 0
-Follows past t = (s : ℕ) → IsUp s past → t ≡ Some (record { tag = s; count = next_number past })
+abbrev pub Follows : Kind → History → Option Counted → Type 0
+Follows k past t = (s : ℕ) → IsUp k s past → t ≡ Some (record { tag = s; count = next_number past })
 
 -- none is
-abbrev pub NoneUp : History → Type 0
-NoneUp past = (s : ℕ) → IsUp s past → ⊥
+abbrev pub NoneUp : Kind → History → Type 0
+NoneUp k past = (s : ℕ) → IsUp k s past → ⊥
 
-pub nothing_up : (past : History) (t : Option Counted) → NoneUp past → Follows past t
-nothing_up past t none s up = absurd (none s up)
+pub nothing_up : (k : Kind) (past : History) (t : Option Counted) → NoneUp k past → Follows k past t
+nothing_up k past t none s up = absurd (none s up)
 
 -- ---- what is issued now was issued before
 
@@ -67,8 +67,8 @@ IsMild (history.PioSetUp count to_host ends) = ⊥
 IsMild (history.Carried bytes) = ⊥
 IsMild e = Unit {0}
 
-up_before : (s : ℕ) (e : Event) (past : History) → IssuesNone e → (up : IsUp s (e ∷ past)) → is_set_up s past ≡ true → IsUp s past
-up_before s e past none up was = record { transfer = up.transfer; is = was_issued s e past up.transfer none up.is; up = was; kind = up.kind }
+up_before : (k : Kind) (s : ℕ) (e : Event) (past : History) → IssuesNone e → (up : IsUp k s (e ∷ past)) → is_set_up s past ≡ true → IsUp k s past
+up_before k s e past none up was = record { transfer = up.transfer; is = was_issued s e past up.transfer none up.is; up = was; kind = up.kind }
 
 not_issued : (slot s : ℕ) (b : Bool) (x : Bool) → (if b then false else x) ≡ true → b ≡ false
 not_issued slot s true x e = absurd (cc)
@@ -79,26 +79,26 @@ issue_case : (s : ℕ) (past : History) (b : Bool) (t : Transfer) (x : Transfer)
 issue_case s past true t x e up = absurd (cc)
 issue_case s past false t x e up = (e, up)
 
-pub mild_follows : (e : Event) (past : History) (t : Option Counted) → IsMild e → Follows past t → Follows (e ∷ past) t
-mild_follows (history.Issued slot x) past t mild was s up =
+pub mild_follows : (k : Kind) (e : Event) (past : History) (t : Option Counted) → IsMild e → Follows k past t → Follows k (e ∷ past) t
+mild_follows k (history.Issued slot x) past t mild was s up =
     let both = issue_case s past (slot == s) x up.transfer up.is up.up in
     was s (record { transfer = up.transfer; is = both.0; up = both.1; kind = up.kind })
-mild_follows (history.Sent slot) past t mild was s up = was s (up_before s (history.Sent slot) past tt up up.up)
-mild_follows (history.SentControl slot) past t mild was s up = was s (up_before s (history.SentControl slot) past tt up up.up)
-mild_follows (history.SetUp tag offset count to_host) past t mild was s up = absurd mild
-mild_follows (history.PioSetUp count to_host ends) past t mild was s up = absurd mild
-mild_follows (history.Carried bytes) past t mild was s up = absurd mild
-mild_follows history.Answered past t mild was s up = was s (up_before s history.Answered past tt up up.up)
-mild_follows (history.Named mask) past t mild was s up = was s (up_before s (history.Named mask) past tt up up.up)
-mild_follows history.Emptied past t mild was s up = was s (up_before s history.Emptied past tt up up.up)
+mild_follows k (history.Sent slot) past t mild was s up = was s (up_before k s (history.Sent slot) past tt up up.up)
+mild_follows k (history.SentControl slot) past t mild was s up = was s (up_before k s (history.SentControl slot) past tt up up.up)
+mild_follows k (history.SetUp tag offset count to_host) past t mild was s up = absurd mild
+mild_follows k (history.PioSetUp count to_host ends) past t mild was s up = absurd mild
+mild_follows k (history.Carried bytes) past t mild was s up = absurd mild
+mild_follows k history.Answered past t mild was s up = was s (up_before k s history.Answered past tt up up.up)
+mild_follows k (history.Named mask) past t mild was s up = was s (up_before k s (history.Named mask) past tt up up.up)
+mild_follows k history.Emptied past t mild was s up = was s (up_before k s history.Emptied past tt up up.up)
 
 -- a DMA Setup FIS
-pub set_up_follows : (tag offset count : ℕ) (to_host : Bool) (past : History) (t : Option Counted) → t ≡ Some (record { tag = tag; count = offset })
-    → Follows (history.SetUp tag offset count to_host ∷ past) t
-set_up_follows tag offset count to_host past t told s up =
+pub set_up_follows : (k : Kind) (tag offset count : ℕ) (to_host : Bool) (past : History) (t : Option Counted) → t ≡ Some (record { tag = tag; count = offset })
+    → Follows k (history.SetUp tag offset count to_host ∷ past) t
+set_up_follows k tag offset count to_host past t told s up =
     let same : tag ≡ s = eqb-true tag s up.up in
     let more : offset + 0 ≡ offset = omega arith in
-    told ∙ ap (λ k. Some (record { tag = k; count = offset })) same ∙ ap (λ k. Some (record { tag = s; count = k })) (sym more)
+    told ∙ ap (λ j. Some (record { tag = j; count = offset })) same ∙ ap (λ j. Some (record { tag = s; count = j })) (sym more)
 
 -- a slot that is set up has a setup
 some_at : (s : ℕ) (o : Option ℕ) (f : ℕ → Setup) → is_at s o ≡ true → is_some (match_some o None (λ k. Some (f k))) ≡ true
@@ -126,25 +126,28 @@ more_number None n k e = absurd (cc)
 more_number (Some g) n k e = omega arith
 
 -- Data
-pub carried_follows : (bytes : List ℕ) (past : History) (t : Option Counted) → Follows past t → Follows (history.Carried bytes ∷ past) (more_by (length bytes) t)
-carried_follows bytes past t was s up =
-    let before : t ≡ Some (record { tag = s; count = next_number past }) = was s (up_before s (history.Carried bytes) past tt up up.up) in
+pub carried_follows : (k : Kind) (bytes : List ℕ) (past : History) (t : Option Counted) → Follows k past t
+    → Follows k (history.Carried bytes ∷ past) (more_by (length bytes) t)
+carried_follows k bytes past t was s up =
+    let before : t ≡ Some (record { tag = s; count = next_number past }) = was s (up_before k s (history.Carried bytes) past tt up up.up) in
     ap (λ x. more_by (length bytes) x) before
-    ∙ ap (λ k. Some (record { tag = s; count = k })) (sym (more_number (last_setup past) (carried past) (length bytes) (up_some s past up.up)))
+    ∙ ap (λ j. Some (record { tag = s; count = j })) (sym (more_number (last_setup past) (carried past) (length bytes) (up_some s past up.up)))
 
 -- Data of another way
-pub fed_follows : (bytes : List ℕ) (past : History) (t : Option Counted) → NoneUp past → Follows (history.Carried bytes ∷ past) t
-fed_follows bytes past t none = nothing_up (history.Carried bytes ∷ past) t (λ s up. none s (up_before s (history.Carried bytes) past tt up up.up))
+pub fed_follows : (k : Kind) (bytes : List ℕ) (past : History) (t : Option Counted) → NoneUp k past → Follows k (history.Carried bytes ∷ past) t
+fed_follows k bytes past t none = nothing_up k (history.Carried bytes ∷ past) t (λ s up. none s (up_before k s (history.Carried bytes) past tt up up.up))
 
 -- ---- commands are issued
 
-issue_follows : (slot : ℕ) (table : List Prd) (o : Option Command) (past : History) (t : Option Counted) → Follows past t → Follows (told_issue slot table o ++ past) t
-issue_follows slot table None past t was = was
-issue_follows slot table (Some command) past t was = mild_follows (history.Issued slot (record { work = command.work; table = table })) past t tt was
+issue_follows : (k : Kind) (slot : ℕ) (table : List Prd) (o : Option Command) (past : History) (t : Option Counted) → Follows k past t
+    → Follows k (told_issue slot table o ++ past) t
+issue_follows k slot table None past t was = was
+issue_follows k slot table (Some command) past t was = mild_follows k (history.Issued slot (record { work = command.work; table = table })) past t tt was
 
-pub issued_follow : (commands : ℕ → Option Command) (tables : ℕ → List Prd) (k : ℕ) (past : History) (t : Option Counted) → Follows past t → Follows (told_issued commands tables k ++ past) t
+pub issued_follow : (k : Kind) (commands : ℕ → Option Command) (tables : ℕ → List Prd) (n : ℕ) (past : History) (t : Option Counted) → Follows k past t
+    → Follows k (told_issued commands tables n ++ past) t
 unfolding told_issued
-issued_follow commands tables zero past t was = was
-issued_follow commands tables (suc k) past t was =
-    subst (λ (h : History). Follows h t) (sym (append_assoc (told_issue k (tables k) (commands k)) (told_issued commands tables k) past))
-    (issue_follows k (tables k) (commands k) (told_issued commands tables k ++ past) t (issued_follow commands tables k past t was))
+issued_follow k commands tables zero past t was = was
+issued_follow k commands tables (suc n) past t was =
+    subst (λ (h : History). Follows k h t) (sym (append_assoc (told_issue n (tables n) (commands n)) (told_issued commands tables n) past))
+    (issue_follows k n (tables n) (commands n) (told_issued commands tables n ++ past) t (issued_follow k commands tables n past t was))

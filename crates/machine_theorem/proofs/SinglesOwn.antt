@@ -65,7 +65,7 @@ use Rattle.machine_theorem.proofs.Commanded.{AreNoCommands, LastAsked, all_none,
 use Rattle.machine_theorem.proofs.EndsFew.{disk_same, sent_of}
 use Rattle.machine_theorem.proofs.ErrorNone.{IsErrorFis, error_none, fails_with}
 use Rattle.machine_theorem.proofs.Fallen as fallen
-use Rattle.machine_theorem.proofs.Fallen.{AllStay, heard_among}
+use Rattle.machine_theorem.proofs.Fallen.{heard_among, line_stays}
 use Rattle.machine_theorem.proofs.Falls as falls
 use Rattle.machine_theorem.proofs.Falls.{Told, kept_of, told_after, told_now}
 use Rattle.machine_theorem.proofs.FallsFew.{came_of}
@@ -80,7 +80,8 @@ use Rattle.machine_theorem.proofs.Still.{fis_of}
 use Rattle.machine_theorem.proofs.Stretch.{whole_run}
 use Rattle.machine_theorem.proofs.TagCounts.{due_at, first_calls}
 use Rattle.machine_theorem.proofs.Waiting.{low_slot}
-use Rattle.machine_theorem.proofs.Within.{Within, all_of, fewer, picks_both, within_picks}
+use Rattle.machine_theorem.specs.Crossing.{Within}
+use Rattle.machine_theorem.proofs.Within.{all_of, fewer, picks_both, within_picks}
 
 pub record Laws : Type 0 where
   pub falls : falls.Laws
@@ -234,10 +235,6 @@ earns (Some page) earned = record { page = page; is = refl; earned = earned }
 
 -- ---- the stretch
 
-all_stay : (many : Bool) (n c dev : ℕ) (deeds : List Deed) (old now : MachineState) (run : RunsRuled old deeds now) → AllKeepLine many n c dev old deeds now run → AllStay many n old deeds now run
-all_stay many n c dev [] old now run keeps = tt
-all_stay many n c dev (deed ∷ later) old now run keeps = ((keeps.0.end, keeps.0.left), all_stay many n c dev later run.1.0 now run.1.2 keeps.1)
-
 pub record Stretch : Type 0 where
   pub ports : ℕ
   pub legacy : Bool
@@ -298,7 +295,7 @@ counts laws s =
     let opens : OpensSo s.old = laws.falls.opens s.ports s.legacy s.old s.opening (first_ruled s.before s.old s.at s.first) in
     let due : GathersDue s.at = (laws.falls.runs s.old s.before s.at s.first opens.due).due in
     let none : AreNoCommands (events s) = all_none s.deeds s.at s.now s.run (λ tag. data_none laws.data_of tag s.ports s.legacy s.old s.opening opens.due s.before s.at s.first s.deeds s.now s.run due) in
-    let among = heard_among laws.falling s.many s.n s.deeds s.at s.now s.run s.begins.disk s.begins.there (all_stay s.many s.n s.c s.dev s.deeds s.at s.now s.run s.keeps) due s.has_link s.lasts
+    let among = heard_among laws.falling s.many s.n s.deeds s.at s.now s.run s.begins.disk s.begins.there (line_stays s.many s.n s.c s.dev s.deeds s.at s.now s.run s.keeps) due s.has_link s.lasts
     s.begins.leaving s.begins.down in
     let within : Within (picks is_asking (flat_map heard_by (calls s))) (asked s.many s.n (events s)) = within_picks is_asking _ _ among in
     let few = fewer (picks is_asking (flat_map heard_by (calls s))) (asked s.many s.n (events s)) within in

@@ -1,5 +1,5 @@
 -- While a queued command stands in a slot that was sent, and no bit of it falls, nothing is issued there.
-use Rattle.std.proofs.Common.{◌≡◌, ℕ, ◌+◌, ◌<◌, ◌≤◌, Bool, true, false, List, [], ◌∷◌, ◌++◌, None, refl, ap, arith}
+use Rattle.std.proofs.Common.{◌≡◌, ℕ, ◌<◌, ◌≤◌, Bool, true, false, List, [], ◌∷◌, ◌++◌, None, refl, ap, arith}
 use Rattle.slots.specs.Slots.{holds, issue_at}
 use Rattle.ahci_controller.specs.States.{ControllerState}
 use Rattle.controller_laws.specs.Events.{Does as Calls, Event, IsController, Runs}

@@ -40,7 +40,8 @@ use Rattle.machine_theorem.proofs.OwnPlace.{untaken_is}
 use Rattle.machine_theorem.proofs.Risen.{Begins, came_few, names_of, names_tag}
 use Rattle.machine_theorem.proofs.TagCounts.{Counted, counted}
 use Rattle.machine_theorem.proofs.TheSlots.{Laws, begins, falls_ended, goes_on, once_least}
-use Rattle.machine_theorem.proofs.Within.{Within, fewer, picks_both, within_picks}
+use Rattle.machine_theorem.specs.Crossing.{Within}
+use Rattle.machine_theorem.proofs.Within.{fewer, picks_both, within_picks}
 
 -- ---- what led to a stretch, and then it
 

@@ -39,7 +39,8 @@ use Rattle.machine_theorem.proofs.RisenTold.{conn_both}
 use Rattle.machine_theorem.proofs.TagCounts as counts
 use Rattle.machine_theorem.proofs.TagCounts.{Counted, Since, all_heard, counted, under_way_held}
 use Rattle.machine_theorem.proofs.TagKept.{held_at}
-use Rattle.machine_theorem.proofs.Within.{Within, all_of, fewer, picks_both, within_picks}
+use Rattle.machine_theorem.specs.Crossing.{Within}
+use Rattle.machine_theorem.proofs.Within.{all_of, fewer, picks_both, within_picks}
 
 pub record Laws : Type 0 where
   pub tags : counts.Laws

@@ -1,14 +1,10 @@
 -- A list with some of another's elements, in order.
-use Rattle.std.proofs.Common.{◌≡◌, ◌⊎◌, ◌+◌, ◌≤◌, Bool, true, false, List, [], ◌∷◌, ◌++◌, length, refl, ap, ◌∙◌, inl, inr, arith}
+use Rattle.std.proofs.Common.{◌≡◌, ◌≤◌, Bool, true, false, List, [], ◌∷◌, ◌++◌, length, refl, ap, ◌∙◌, inl, inr, arith}
 use Rattle.std.specs.Prelude.{map, if◌then◌else◌}
+use Rattle.machine_theorem.specs.Crossing.{Within}
 use Rattle.machine_theorem.specs.Identity.{picks}
 
-abbrev pub Within : {A : Type 0} → List A → List A → Type 0
-Within [] ys = Unit {0}
-Within (x ∷ xs) [] = ⊥
-Within (x ∷ xs) (y ∷ ys) = ((x ≡ y) × Within xs ys) ⊎ Within (x ∷ xs) ys
-
-past : {A : Type 0} (xs : List A) (y : A) (ys : List A) → Within xs ys → Within xs (y ∷ ys)
+pub past : {A : Type 0} (xs : List A) (y : A) (ys : List A) → Within xs ys → Within xs (y ∷ ys)
 past [] y ys h = tt
 past (x ∷ xs) y ys h = inr h
 

@@ -13,6 +13,10 @@ pub mod Identity
 pub mod Given
 pub mod Completions
 pub mod Following
+pub mod Feeding
+pub mod Fed
+pub mod Asking
+pub mod Crossing
 pub mod OwnSlots
 pub mod Reads
 pub mod Filled
@@ -26,3 +30,5 @@ pub mod InTurn
 pub mod Waits
 pub mod Transfers
 pub mod Singles
+pub mod OwnWrites
+pub mod TakenWrites

@@ -1,6 +1,6 @@
 -- A slot has one command at a time. A command is issued only in a slot where none is; and as long as the bit of PxCI has been 1 since then, or of a
 -- queued command that of PxSACT, no other is issued there (AHCI 1.3.1, 3.3.13, PxSACT, 3.3.14, PxCI, and 5.3, a port fetches a command).
-use Rattle.std.specs.Prelude.{◌≡◌, ◌⊎◌, ◌<◌, ℕ, Bool, true, false, List, [], ◌∷◌, length, Some, None}
+use Rattle.std.specs.Prelude.{◌≡◌, ◌⊎◌, ◌<◌, ℕ, Bool, true, List, [], ◌∷◌, length, Some, None}
 use Rattle.slots.specs.Slots.{has_bit, holds, is_queued_issue, issue_at}
 use Rattle.ahci_registers.specs.declared.register.Register.{Register}
 use Rattle.ahci_registers.specs.declared.register.Register.TheVariants.{PxCi, PxSact}

@@ -48,7 +48,7 @@ use Rattle.sata_disk_books.proofs.Walks.{books_both, shown_from}
 
 -- ## Which FIS a command sends
 
-abbrev reply_or : Reply → Option Out → Reply
+abbrev pub reply_or : Reply → Option Out → Reply
 reply_or r (Some (out.Of p x)) = x
 reply_or r other = r
 
@@ -65,11 +65,11 @@ fails_none true one two t first second = first
 fails_none false one two t first second = second
 
 -- it is a DMA Setup FIS, or none
-abbrev Either : Stage → Command → Reply → Type 0
+abbrev pub Either : Stage → Command → Reply → Type 0
 Either stage c r = ((is_loud_stage stage ≡ true) × (wants_wire (turn_of stage) ≡ true) × (r ≡ set_up c))
     ⊎ ((is_loud_stage stage ≡ false) × ((t : Option Counted) → set_up_by r t ≡ t))
 
-of_case : (d : DiskState) (p : ℕ) (r : Reply) (c : Command) (done : ℕ) (bytes : List ℕ) (sent : ℕ) (stage : Stage)
+pub of_case : (d : DiskState) (p : ℕ) (r : Reply) (c : Command) (done : ℕ) (bytes : List ℕ) (sent : ℕ) (stage : Stage)
     → Some (out.Of p r) ≡ out_at d p (Some (moment c done bytes sent stage)) → Either stage c r
 of_case d p r c done bytes sent SetUpRead e = inl (refl, refl, ap (λ x. reply_or r x) e)
 of_case d p r c done bytes sent SetUpWrite e = inl (refl, refl, ap (λ x. reply_or r x) e)
@@ -177,22 +177,24 @@ call_goes d b t (call.Sends o) is may = out_goes d b t o is may
 
 -- ## Every run
 
-none_shown : (d : DiskState) (b : Books) → b ≡ books_after b (shown_from d [])
+pub none_shown : (d : DiskState) (b : Books) → b ≡ books_after b (shown_from d [])
 unfolding books_after seen_of all_deeds all_moves all_steps
 none_shown d b = refl
 
-calls_good : (calls : List Call) (d : DiskState) (b : Books) (t : Option Counted) → Good d b t → AreCalls d calls
+pub call_good : (d : DiskState) (b : Books) (t : Option Counted) (c : Call) → Good d b t → IsCall d c
+    → Good (after_call d c) (books_after b (seen_of (commands d) (deeds_by d c))) (counted_call c t)
+call_good d b t c is may = record { stands = call_goes d b t c is may; lone = call_lone d c is.lone }
+
+pub calls_good : (calls : List Call) (d : DiskState) (b : Books) (t : Option Counted) → Good d b t → AreCalls d calls
     → Good (after_calls d calls) (books_after b (shown_from d calls)) (counted_after t calls)
 unfolding after_calls counted_after
 calls_good [] d b t is are = subst (λ (x : Books). Good d x t) (none_shown d b) is
 calls_good (c ∷ later) d b t is are =
-    let now : Good (after_call d c) (books_after b (seen_of (commands d) (deeds_by d c))) (counted_call c t) =
-    record { stands = call_goes d b t c is are.0; lone = call_lone d c is.lone } in
     subst (λ (x : Books). Good (after_calls (after_call d c) later) x (counted_after (counted_call c t) later))
     (sym (books_both (seen_of (commands d) (deeds_by d c)) (shown_from (after_call d c) later) b) ∙ ap (λ x. books_after b x) (sym (shown_by d c later)))
-    (calls_good later (after_call d c) (books_after b (seen_of (commands d) (deeds_by d c))) (counted_call c t) now are.1)
+    (calls_good later (after_call d c) (books_after b (seen_of (commands d) (deeds_by d c))) (counted_call c t) (call_good d b t c is are.0) are.1)
 
-new_good : (p : Profile) (limit : ℕ) → Good (new_disk p limit) no_books None
+pub new_good : (p : Profile) (limit : ℕ) → Good (new_disk p limit) no_books None
 new_good p limit = record {
   stands = record { agree = record { kept = kept_none 33 refl; out = refl }; sound = none_sound None };
   lone = record { paging = λ e. absurd (cc); faulty = λ e. absurd (cc) };

@@ -192,7 +192,7 @@ single_low : (x : Option ℕ) → ((k : ℕ) → x ≡ Some k → k < 32) → or
 single_low None low = omega arith
 single_low (Some k) low = let below = low k refl in omega (arith, below)
 
-place_low : (l : Line) → data_place l < 33
+pub place_low : (l : Line) → data_place l < 33
 unfolding data_place
 place_low l = single_low _ (λ k e. found_low (has_link l) 32 k e)
 
@@ -267,7 +267,7 @@ out_quiet d (out.Of p r) is = (is, (tt, tt))
 out_quiet d (out.Data p n) is = absurd is
 out_quiet d other is = tt
 
-call_quiet : (d : DiskState) (c : Call) → IsQuietCall d c → AreQuietSteps d.engine (steps_of d c)
+pub call_quiet : (d : DiskState) (c : Call) → IsQuietCall d c → AreQuietSteps d.engine (steps_of d c)
 call_quiet d (call.Hears f) is = fis_quiet d (view_seen f)
 call_quiet d (call.Starts x) is = start_steps_quiet d.engine x
 call_quiet d (call.Asks r) is = ask_steps_quiet d.engine r.place
@@ -313,7 +313,7 @@ unfolding books_after seen_of
 sent_case l b t p true is = deed_stands (after_deed l (deed.Sends p)) (entered_by b (seen l.queue (act_of (deed.Sends p)))) t deed.Resets is tt tt
 sent_case l b t p false is = is
 
-sent_deeds : (e : EngineState) (p : ℕ) → all_deeds e.schedule (all_moves e (engine.Sends p ∷ engine.Forgives ∷ [])) ≡ deeds_of e.schedule (move.Sends p)
+pub sent_deeds : (e : EngineState) (p : ℕ) → all_deeds e.schedule (all_moves e (engine.Sends p ∷ engine.Forgives ∷ [])) ≡ deeds_of e.schedule (move.Sends p)
 unfolding all_moves all_deeds
 sent_deeds e p = append-nil (deeds_of e.schedule (move.Sends p))
 

@@ -12,3 +12,6 @@ mod Lone
 mod Counted
 mod NoSetUps
 mod Told
+mod Coming
+mod Taken
+mod Turning

@@ -97,12 +97,12 @@ module _ (d : Table) (place : ℕ) (x : Option Moment) (long : length d.places �
 
 -- ## One command
 
-and_true : (a b : Bool) → a ≡ true → b ≡ true → (a && b) ≡ true
+pub and_true : (a b : Bool) → a ≡ true → b ≡ true → (a && b) ≡ true
 and_true true true e f = refl
 and_true true false e f = absurd (cc)
 and_true false b e f = absurd (cc)
 
-same_protocol : (m : Moment) (i : Input) → is_queued (after m i).command.protocol ≡ is_queued m.command.protocol
+pub same_protocol : (m : Moment) (i : Input) → is_queued (after m i).command.protocol ≡ is_queued m.command.protocol
 same_protocol m i = ap (λ c. is_queued c.protocol) (same_command m.command m.done m.bytes m.sent m.stage i)
 
 same_place : (m : Moment) (i : Input) → (after m i).command.place ≡ m.command.place
@@ -115,7 +115,7 @@ had_link m i quiet h =
     let q : is_queued m.command.protocol ≡ true = sym (same_protocol m i) ∙ both.0 in
     and_true (is_queued m.command.protocol) (set_up m) q (had m.command m.done m.bytes m.sent m.stage i q quiet both.1)
 
-queued_of : (m : Moment) → has_wire (Some m) ≡ true → is_queued m.command.protocol ≡ true
+pub queued_of : (m : Moment) → has_wire (Some m) ≡ true → is_queued m.command.protocol ≡ true
 queued_of m h = (of_and (is_queued m.command.protocol) (set_up m) h).0
 
 counts_on : (t : Option Counted) (p : ℕ) (m : Moment) (i : Input) → is_loud m.stage i ≡ false → is_queued m.command.protocol ≡ true → CountsFor t p m
@@ -178,7 +178,7 @@ answer_quiet None i e = refl
 answer_quiet (Some m) Goes e = absurd (cc)
 answer_quiet (Some m) i e = refl
 
-opening_free : (c : Command) → has_wire (Some (opening c)) ≡ true → ⊥
+pub opening_free : (c : Command) → has_wire (Some (opening c)) ≡ true → ⊥
 opening_free c h = let no : nat_lt 0 0 ≡ true = (of_and (is_queued c.protocol) _ h).1 in cc
 
 taken_sound : (l : Line) (c : Command) (ranks : List ℕ) (b : Bool) (t : Option Counted) → length l.queue.table.places ≡ 33 → c.place < 33
@@ -279,7 +279,7 @@ no_holder None b e f = refl
 no_holder (Some t) true e f = absurd (cc)
 no_holder (Some t) false e f = absurd (cc)
 
-may_free : (l : Line) (p : ℕ) (m : Moment) → command_at l p ≡ Some m → may_send l p ≡ true → wants_wire (turn_of m.stage) ≡ true → l.queue.table.wire ≡ None
+pub may_free : (l : Line) (p : ℕ) (m : Moment) → command_at l p ≡ Some m → may_send l p ≡ true → wants_wire (turn_of m.stage) ≡ true → l.queue.table.wire ≡ None
 may_free l p m is may wants =
     no_holder l.queue.table.wire (wants_wire (turn_of m.stage))
     (subst (λ (x : Option Moment). may_go_at l.queue.table x ≡ true) is (of_and _ _ may).1) wants

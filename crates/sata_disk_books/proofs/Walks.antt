@@ -10,7 +10,7 @@ use Rattle.block_queue.specs.Deeds as deed
 use Rattle.block_queue.specs.Deeds.{Deed, act_of, after_deed, seen_of}
 use Rattle.block_queue.specs.Line.{Line, line_gone, line_reset}
 use Rattle.block_scheduler.specs.Schedule.{Schedule, ends_sent, with_line}
-use Rattle.block_scheduler.specs.Laws.{Move, Starts, Asks, Sends, SendsEnds, Hears, Answers, Forgives, Resets, after_move, after_moves, all_deeds, deeds_of, ends_deeds}
+use Rattle.block_scheduler.specs.Laws.{Move, Sends, SendsEnds, after_move, after_moves, all_deeds, deeds_of, ends_deeds}
 use Rattle.block_engine.specs.declared.request.Range.{Range}
 use Rattle.block_engine.specs.Engine.{EngineState, started}
 use Rattle.block_engine.specs.Laws as engine

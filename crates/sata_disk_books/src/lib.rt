@@ -4,5 +4,5 @@
 mod counts;
 mod laws;
 
-pub use counts::{data_are_counted, fises_tell};
+pub use counts::{data_are_asked_in_turn, data_are_counted, data_are_taken, fises_tell};
 pub use laws::{commands_are_asked, data_are_given, ends_are_of_pages, places_are_tags};

@@ -1,3 +1,4 @@
 mod LedLemmas
 mod StandLemmas
 mod SlotLemmas
+mod FeedLemmas

@@ -1,3 +1,4 @@
 pub mod Led
 pub mod Standing
 pub mod Slots
+pub mod Feeding

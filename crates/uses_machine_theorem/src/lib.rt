@@ -5,6 +5,7 @@ ghost use Rattle.std.specs.Prelude.{◌≡◌, ◌<◌, ◌≤◌, IfOk, IfSome}
 ghost use Rattle.slots.specs.Slots.{has_bit};
 ghost use Rattle.ahci_registers.specs.declared.register.Register.TheVariants.{PxCi};
 ghost use Rattle.ahci_controller.specs.Reading.{shown};
+ghost use Rattle.uses_machine_theorem.specs.Feeding.{KnowsFed, KnowsPlaces, KnowsWrites};
 ghost use Rattle.uses_machine_theorem.specs.Led.{AsksSupplied, EndsCompleted, EndsEarned, EndsSupplied, FallsSupplied, HoldsSupplied};
 ghost use Rattle.uses_machine_theorem.specs.Led.{IsLed, KnowsDisks, LendsBrought, LendsOfSlots, PutsNew, SpeaksDone, SpeaksOfSlots};
 ghost use Rattle.uses_machine_theorem.specs.Led.{SpeaksSupplied};
@@ -183,4 +184,19 @@ pub fn knows_commands(machine: &Machine)
     machine_theorem::transfers_are_answered();
     machine_theorem::commands_await_their_answers();
     machine_theorem::singles_are_of_their_slots();
+}
+
+/// What the caller knows of the Data of its guest's queued writes, whatever run led to its machine; it runs no code. Data that go to a device of a
+/// slot were read for this slot, from the byte that goes next. Over a link that keeps the order, this slot is the place of the command for which a disk
+/// takes them, and the byte is the one behind those that came for it. Behind a moment at rest, while the guest keeps to the standard, no FIS of the disk
+/// is lost or at fault, and it serves queued commands alone, what a disk is to hear for its command under a tag are those bytes of the slot of this
+/// number, and the command is the one that the guest had supplied there.
+pub fn knows_writes(machine: &Machine)
+    ensures fed { KnowsFed machine.now }
+    ensures places { KnowsPlaces machine.now }
+    ensures writes { KnowsWrites machine.now }
+{
+    machine_theorem::fed_data_are_of_their_slots();
+    machine_theorem::ordered_links_keep_places();
+    machine_theorem::writes_are_as_supplied();
 }

@@ -79,6 +79,7 @@ returns c =
         events = c.events_are_core_events.ensures;
         views = c.core_delivers.ensures.agrees;
         filled = c.core_delivers.ensures.reports;
+        chosen = c.core_delivers.ensures.chosen;
       };
       goes = c.controller_goes_on.ensures.goes;
       due = c.controller_goes_on.ensures.due;

@@ -6,4 +6,5 @@ returns c = data_follow (record {
   events = c.events_are_core_events.ensures;
   views = c.core_delivers.ensures.agrees;
   filled = c.core_delivers.ensures.reports;
+  chosen = c.core_delivers.ensures.chosen;
 })

@@ -1,5 +1,5 @@
 use Rattle.machine_theorem.proofs.Falls as falls
-use Rattle.machine_theorem.proofs.OwnPlace.{Laws, payload_goes}
+use Rattle.machine_theorem.proofs.OwnPlace.{payload_goes}
 use Rattle.machine_theorem.proofs.own_slots.payload_goes_to_its_own_slot.Goals as goal
 
 pub returns : goal.returns
