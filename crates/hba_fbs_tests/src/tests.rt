@@ -13,34 +13,16 @@ mod taking;
 mod unqueued;
 mod vectors;
 
-use hba_fbs::{NoRegister, Register, WriteError};
+use hba_fbs::{Register, WriteError};
 use host_memory::Prd;
 use rig::Rig;
-use std::alloc::{AllocError, Global};
-use steps::Sent::{Block, Bytes};
+use std::alloc::Global;
+use steps::Sent::{Block, Eight, Four, Twenty};
 use steps::Step::{
-    Flushes, IsResetting, Issues, Lacks, ListsRead, Opens, Refuses, Shows, Spoils, Stands, Starts,
-    Takes, Writes,
+    Begins, Flushes, IsResetting, Issues, Lacks, ListsRead, Opens, Refuses, Says, SaysOfARead,
+    Shows, Spoils, Stands, Starts, Takes, Writes,
 };
 use steps::{Sent, Step, assert_all, play};
-
-/// The offsets of the registers, their opening values, and the bits that a write stores in a port that opened.
-static TABLE: [Step; 14] = [
-    Stands(Register::Clb, 0x00, 0, 0xFFFF_FC00),
-    Stands(Register::Clbu, 0x04, 0, 0xFFFF_FFFF),
-    Stands(Register::Fb, 0x08, 0, 0xFFFF_F000),
-    Stands(Register::Fbu, 0x0C, 0, 0xFFFF_FFFF),
-    Stands(Register::Is, 0x10, 0, 0),
-    Stands(Register::Ie, 0x14, 0, 0xFFFF_FFFF),
-    Stands(Register::Cmd, 0x18, 0x0040_0000, 0x0002_0000),
-    Stands(Register::Tfd, 0x20, 0x50, 0),
-    Stands(Register::Sig, 0x24, 0xFFFF_FFFF, 0),
-    Stands(Register::Serr, 0x30, 0, 0),
-    Stands(Register::Sact, 0x34, 0, 0),
-    Stands(Register::Ci, 0x38, 0, 0),
-    Stands(Register::Sntf, 0x3C, 0, 0),
-    Stands(Register::Fbs, 0x40, 0xF000, 0x0000_0F01),
-];
 
 impl Rig {
     /// Whether bit k of a register of a port that opened is stored or stays. Ones in PxSACT and PxCI are refused.
@@ -73,49 +55,6 @@ impl Rig {
     }
 }
 
-/// Each bit of each register of a port that opened, except ST and FRE.
-#[test]
-fn registers_are_those_of_the_table(rt: HostRuntime) {
-    play(&rt, rt.alloc(), &TABLE);
-}
-
-/// Offsets without a register, for a read and for a write.
-static OTHERS: [Step; 28] = [
-    Opens,
-    Lacks(0x01),
-    Refuses(0x01, 0, WriteError::NoRegister),
-    Shows(0x24, 0xFFFF_FFFF),
-    Opens,
-    Lacks(0x1C),
-    Refuses(0x1C, 0, WriteError::NoRegister),
-    Shows(0x24, 0xFFFF_FFFF),
-    Opens,
-    Lacks(0x28),
-    Refuses(0x28, 0, WriteError::NoRegister),
-    Shows(0x24, 0xFFFF_FFFF),
-    Opens,
-    Lacks(0x2C),
-    Refuses(0x2C, 0, WriteError::NoRegister),
-    Shows(0x24, 0xFFFF_FFFF),
-    Opens,
-    Lacks(0x44),
-    Refuses(0x44, 0, WriteError::NoRegister),
-    Shows(0x24, 0xFFFF_FFFF),
-    Opens,
-    Lacks(0x70),
-    Refuses(0x70, 0, WriteError::NoRegister),
-    Shows(0x24, 0xFFFF_FFFF),
-    Opens,
-    Lacks(0xFFFF_FFFF),
-    Refuses(0xFFFF_FFFF, 0, WriteError::NoRegister),
-    Shows(0x24, 0xFFFF_FFFF),
-];
-
-#[test]
-fn other_offsets_are_refused(rt: HostRuntime) {
-    play(&rt, rt.alloc(), &OTHERS);
-}
-
 /// The commands of device 1 and device 2 go to these places.
 const PLACE: [Prd; 1] = [Prd {
     address: 0x10_1000,
@@ -132,22 +71,22 @@ const SECTOR: [Prd; 1] = [Prd {
 /// is wrong, and last a FIS of the control port that stops the port.
 static ALL_BITS: [Step; 29] = [
     Starts,
-    Takes(Bytes(&[0xA1, 0xC0, 0x50, 0, 0, 0, 0, 0])),
-    Takes(Bytes(&[0xA1, 0xC1, 0x50, 0, 0, 0, 0, 0])),
-    Takes(Bytes(&[0xA1, 0xC2, 0x50, 0, 0, 0, 0, 0])),
-    Takes(Bytes(&[0xA1, 0xC3, 0x50, 0, 0, 0, 0, 0])),
-    Takes(Bytes(&[0xA1, 0xC4, 0x50, 0, 0, 0, 0, 0])),
-    Takes(Bytes(&[0xA1, 0xC5, 0x50, 0, 0, 0, 0, 0])),
-    Takes(Bytes(&[0xA1, 0xC6, 0x50, 0, 0, 0, 0, 0])),
-    Takes(Bytes(&[0xA1, 0xC7, 0x50, 0, 0, 0, 0, 0])),
-    Takes(Bytes(&[0xA1, 0xC8, 0x50, 0, 0, 0, 0, 0])),
-    Takes(Bytes(&[0xA1, 0xC9, 0x50, 0, 0, 0, 0, 0])),
-    Takes(Bytes(&[0xA1, 0xCA, 0x50, 0, 0, 0, 0, 0])),
-    Takes(Bytes(&[0xA1, 0xCB, 0x50, 0, 0, 0, 0, 0])),
-    Takes(Bytes(&[0xA1, 0xCC, 0x50, 0, 0, 0, 0, 0])),
-    Takes(Bytes(&[0xA1, 0xCD, 0x50, 0, 0, 0, 0, 0])),
-    Takes(Bytes(&[0xA1, 0xCE, 0x50, 0, 0, 0, 0, 0])),
-    Takes(Bytes(&[0xA1, 0xCF, 0x50, 0, 0, 0, 0, 0])),
+    Takes(Eight([0xA1, 0xC0, 0x50, 0, 0, 0, 0, 0])),
+    Takes(Eight([0xA1, 0xC1, 0x50, 0, 0, 0, 0, 0])),
+    Takes(Eight([0xA1, 0xC2, 0x50, 0, 0, 0, 0, 0])),
+    Takes(Eight([0xA1, 0xC3, 0x50, 0, 0, 0, 0, 0])),
+    Takes(Eight([0xA1, 0xC4, 0x50, 0, 0, 0, 0, 0])),
+    Takes(Eight([0xA1, 0xC5, 0x50, 0, 0, 0, 0, 0])),
+    Takes(Eight([0xA1, 0xC6, 0x50, 0, 0, 0, 0, 0])),
+    Takes(Eight([0xA1, 0xC7, 0x50, 0, 0, 0, 0, 0])),
+    Takes(Eight([0xA1, 0xC8, 0x50, 0, 0, 0, 0, 0])),
+    Takes(Eight([0xA1, 0xC9, 0x50, 0, 0, 0, 0, 0])),
+    Takes(Eight([0xA1, 0xCA, 0x50, 0, 0, 0, 0, 0])),
+    Takes(Eight([0xA1, 0xCB, 0x50, 0, 0, 0, 0, 0])),
+    Takes(Eight([0xA1, 0xCC, 0x50, 0, 0, 0, 0, 0])),
+    Takes(Eight([0xA1, 0xCD, 0x50, 0, 0, 0, 0, 0])),
+    Takes(Eight([0xA1, 0xCE, 0x50, 0, 0, 0, 0, 0])),
+    Takes(Eight([0xA1, 0xCF, 0x50, 0, 0, 0, 0, 0])),
     Issues(1, 1, 0x60, &PLACE),
     Takes(Sent::Answer(1)),
     Takes(Sent::Setup(0x41, true, 1, 0, 256)),
@@ -155,11 +94,11 @@ static ALL_BITS: [Step; 29] = [
     Issues(2, 2, 0xEC, &SECTOR),
     Takes(Block(0x62, 0x50, 512)),
     Takes(Sent::Sector(2, 2)),
-    Takes(Bytes(&[0xC7, 0, 0, 0])),
+    Takes(Four([0xC7, 0, 0, 0])),
     Takes(Sent::Answer(0x40)),
-    Takes(Bytes(&[0xA1, 0x43, 0x41, 0x40, 0, 0, 0, 0])),
-    Takes(Bytes(&[0x46, 4, 0, 0])),
-    Takes(Bytes(&[0x39, 0x0F, 0, 0])),
+    Takes(Eight([0xA1, 0x43, 0x41, 0x40, 0, 0, 0, 0])),
+    Takes(Four([0x46, 4, 0, 0])),
+    Takes(Four([0x39, 0x0F, 0, 0])),
 ];
 
 /// Whether a value that is written to a register changes another so, when each bit is set that may be set.
@@ -210,9 +149,57 @@ fn ones_clear_bits(rt: HostRuntime) {
     assert_all(&rt, clearing_bits_of_a_port(rt.alloc()), 32);
 }
 
-/// ST rises in both modes. While it is 1, some registers stay. It falls and rises, and leaves PxFBS as written. At the end it
-/// falls when a device is in the middle of a PIO data-in command, with Status D8h.
-static STARTS: [Step; 49] = [
+/// Registers, writes, areas, slots and refusals of a port that opens.
+static PORT: [Step; 185] = [
+    // The offsets of the registers, their opening values, and the bits that a write stores in a port that opened.
+    Begins,
+    Stands(Register::Clb, 0x00, 0, 0xFFFF_FC00),
+    Stands(Register::Clbu, 0x04, 0, 0xFFFF_FFFF),
+    Stands(Register::Fb, 0x08, 0, 0xFFFF_F000),
+    Stands(Register::Fbu, 0x0C, 0, 0xFFFF_FFFF),
+    Stands(Register::Is, 0x10, 0, 0),
+    Stands(Register::Ie, 0x14, 0, 0xFFFF_FFFF),
+    Stands(Register::Cmd, 0x18, 0x0040_0000, 0x0002_0000),
+    Stands(Register::Tfd, 0x20, 0x50, 0),
+    Stands(Register::Sig, 0x24, 0xFFFF_FFFF, 0),
+    Stands(Register::Serr, 0x30, 0, 0),
+    Stands(Register::Sact, 0x34, 0, 0),
+    Stands(Register::Ci, 0x38, 0, 0),
+    Stands(Register::Sntf, 0x3C, 0, 0),
+    Stands(Register::Fbs, 0x40, 0xF000, 0x0000_0F01),
+    // Offsets without a register, for a read and for a write.
+    Begins,
+    Opens,
+    Lacks(0x01),
+    Refuses(0x01, 0, WriteError::NoRegister),
+    Shows(0x24, 0xFFFF_FFFF),
+    Opens,
+    Lacks(0x1C),
+    Refuses(0x1C, 0, WriteError::NoRegister),
+    Shows(0x24, 0xFFFF_FFFF),
+    Opens,
+    Lacks(0x28),
+    Refuses(0x28, 0, WriteError::NoRegister),
+    Shows(0x24, 0xFFFF_FFFF),
+    Opens,
+    Lacks(0x2C),
+    Refuses(0x2C, 0, WriteError::NoRegister),
+    Shows(0x24, 0xFFFF_FFFF),
+    Opens,
+    Lacks(0x44),
+    Refuses(0x44, 0, WriteError::NoRegister),
+    Shows(0x24, 0xFFFF_FFFF),
+    Opens,
+    Lacks(0x70),
+    Refuses(0x70, 0, WriteError::NoRegister),
+    Shows(0x24, 0xFFFF_FFFF),
+    Opens,
+    Lacks(0xFFFF_FFFF),
+    Refuses(0xFFFF_FFFF, 0, WriteError::NoRegister),
+    Shows(0x24, 0xFFFF_FFFF),
+    // ST rises in both modes. While it is 1, some registers stay. It falls and rises, and leaves PxFBS as written. At the end it
+    // falls when a device is in the middle of a PIO data-in command, with Status D8h.
+    Begins,
     Writes(0x18, 0x11),
     Shows(0x18, 0x0040_C011),
     Writes(0x18, 0),
@@ -257,22 +244,15 @@ static STARTS: [Step; 49] = [
     Shows(0x18, 0x0040_0000),
     Starts,
     Issues(2, 2, 0xEC, &SECTOR),
-    Takes(Bytes(&[
+    Takes(Twenty([
         0x5F, 0x62, 0xD8, 0, 0, 0, 0, 0, 0, 0, 0, 0, 0, 0, 0, 0x50, 0, 2, 0, 0,
     ])),
     Writes(0x40, 0x0201),
     Shows(0x20, 0xD8),
     Writes(0x18, 0x10),
     Shows(0x20, 0x50),
-];
-
-#[test]
-fn starts_and_stops(rt: HostRuntime) {
-    play(&rt, rt.alloc(), &STARTS);
-}
-
-/// The last places of the received area and of the command list, and the places after them.
-static AREAS: [Step; 34] = [
+    // The last places of the received area and of the command list, and the places after them.
+    Begins,
     Writes(0x08, 0xF_F000),
     Shows(0x08, 0xF_F000),
     Writes(0x18, 0x10),
@@ -307,17 +287,10 @@ static AREAS: [Step; 34] = [
     Shows(0x04, 0),
     Writes(0x18, 0x11),
     Shows(0x18, 0x0040_C011),
-];
-
-#[test]
-fn areas_lie_inside(rt: HostRuntime) {
-    play(&rt, rt.alloc(), &AREAS);
-}
-
-/// Slots 0 and 2 are good slots of device 2; the table of slot 2 lies at the last place that has room
-/// for it. Slot 1 is a slot of device 3, and the table of slot 3 has no room. Each refusal is looked
-/// for in all of the slots before the next.
-static SLOTS: [Step; 46] = [
+    // Slots 0 and 2 are good slots of device 2; the table of slot 2 lies at the last place that has room
+    // for it. Slot 1 is a slot of device 3, and the table of slot 3 has no room. Each refusal is looked
+    // for in all of the slots before the next.
+    Begins,
     ListsRead(2, 0, 0x2000),
     ListsRead(3, 1, 0x3000),
     ListsRead(2, 2, 0xF_FF00),
@@ -364,50 +337,23 @@ static SLOTS: [Step; 46] = [
     Writes(0x34, 0),
     Shows(0x34, 0),
     IsResetting(2, false),
-];
-
-#[test]
-fn slots_are_issued_all_or_none(rt: HostRuntime) {
-    play(&rt, rt.alloc(), &SLOTS);
-}
-
-/// The refusals with their numbers and their texts.
-static TEXTS: [(u8, WriteError, &str); 7] = [
-    (1, WriteError::NoRegister, "no such register"),
-    (2, WriteError::Stopped, "the port is stopped"),
-    (3, WriteError::Running, "the port is running"),
-    (4, WriteError::SlotBusy, "slot is in use"),
-    (5, WriteError::WrongDevice, "a header names another device"),
-    (6, WriteError::BadTable, "bad table"),
-    (
+    // The refusals with their numbers and their texts, and that of a read.
+    Begins,
+    Says(1, WriteError::NoRegister, "no such register"),
+    Says(2, WriteError::Stopped, "the port is stopped"),
+    Says(3, WriteError::Running, "the port is running"),
+    Says(4, WriteError::SlotBusy, "slot is in use"),
+    Says(5, WriteError::WrongDevice, "a header names another device"),
+    Says(6, WriteError::BadTable, "bad table"),
+    Says(
         8,
         WriteError::OtherDevice,
         "a header names another device than the active one",
     ),
+    SaysOfARead("no such register"),
 ];
 
-/// Whether this text was written.
-fn is_text(written: Result<String, AllocError>, text: &str) -> bool {
-    match written {
-        Ok(written) => written.as_str() == text,
-        Err(_) => false,
-    }
-}
-
-/// How many refusals have their number and their text. None have where a read's has another text.
-fn right_texts(alloc: Global) -> usize {
-    if !is_text(NoRegister.to_string(alloc), "no such register") {
-        return 0;
-    }
-    for (i, (number, error, text)) in TEXTS.iter().enumerate() {
-        if *error as u8 != *number || !is_text(error.to_string(alloc), text) {
-            return i;
-        }
-    }
-    7
-}
-
 #[test]
-fn refusals_have_numbers_and_texts(rt: HostRuntime) {
-    assert_all(&rt, right_texts(rt.alloc()), 7);
+fn registers_are_written(rt: HostRuntime) {
+    play(&rt, rt.alloc(), &PORT);
 }

@@ -1,6 +1,6 @@
 //! A port without switching: one device at a time.
 
-use super::steps::Sent::{Answer, Bytes, Sector, Setup};
+use super::steps::Sent::{Answer, Four, Sector, Setup};
 use super::steps::Step::{Gives, Lists, Opens, Posts, Refuses, Shows, Takes, Tells, Writes};
 use super::steps::Told::{Done, Faulty, Heard, Ignored};
 use super::steps::{Step, play};
@@ -36,7 +36,7 @@ static ONE_DEVICE: [Step; 36] = [
     Posts(0x1040, 0x34),
     Shows(0x38, 4),
     Tells(
-        Bytes(&[0x46, 0, 0, 0]),
+        Four([0x46, 0, 0, 0]),
         Faulty(Posted::Nothing, DeviceCause::BadFis),
     ),
     Shows(0x10, 0x0800_0000),

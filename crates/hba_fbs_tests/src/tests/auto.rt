@@ -1,6 +1,6 @@
 //! DMA Setups with auto-activate.
 
-use super::steps::Sent::{Answer, Bytes};
+use super::steps::Sent::{Answer, Bytes, Four};
 use super::steps::Step::{Faults, Flushes, GivesNone, GivesOf, Moves, Starts, Takes, Tells};
 use super::steps::Told::Heard;
 use super::steps::{Sent, Step, play};
@@ -12,7 +12,7 @@ const SETUP: Sent = Bytes(&[
     0x41, 0x82, 0, 0, 0, 0, 0, 0, 0, 0, 0, 0, 0, 0, 0, 0, 0, 0, 0, 0, 0, 0x30, 0, 0, 0, 0, 0, 0,
 ]);
 
-const ACTIVATE: Sent = Bytes(&[0x39, 2, 0, 0]);
+const ACTIVATE: Sent = Four([0x39, 2, 0, 0]);
 
 /// Device 2 has answered the write of 24 sectors in slot 0, and set up all of them. The first Data goes at once, and
 /// each later Data when a DMA Activate asks for it. A DMA Activate before that Data is one too many. A flush of the device ends

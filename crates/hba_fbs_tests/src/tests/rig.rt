@@ -8,7 +8,7 @@ ghost use Rattle.host_memory.specs.Writing.{CanBeWritten};
 
 use fis_view::{Frame, H2dFields, Stamp};
 use hba_commands::write_command;
-use hba_fbs::{HostPort, Register, TakeReport, WriteError};
+use hba_fbs::{HostPort, NoRegister, Register, TakeReport, WriteError};
 use host_memory::{HostMemory, MemoryError, Prd};
 use port_errors::{DeviceCause, PortCause};
 use std::alloc::{AllocError, Global};
@@ -57,6 +57,14 @@ fn put(area: &mut [u8], at: usize, byte: u8) {
     }
 }
 
+/// Whether this text was written.
+fn is_text(written: Result<String, AllocError>, text: &str) -> bool {
+    match written {
+        Ok(written) => written.as_str() == text,
+        Err(_) => false,
+    }
+}
+
 impl Rig {
     /// A port that opened.
     pub(super) fn new(alloc: Global) -> Result<Rig, MemoryError> {
@@ -67,17 +75,27 @@ impl Rig {
         })
     }
 
+    /// Whether there is memory for a new memory. The port is new then, too.
+    pub(super) fn begin(&mut self) -> bool {
+        match HostMemory::new(self.alloc, 0x20_0000) {
+            Ok(memory) => {
+                self.memory = memory;
+                self.open();
+                true
+            }
+            Err(_) => false,
+        }
+    }
+
     /// The port opens anew.
     pub(super) fn open(&mut self) {
         self.port = HostPort::new();
     }
 
-    /// The port opens anew, and runs with switching and its received area at 1000h.
-    pub(super) fn start(&mut self) {
+    /// Whether the port, opened anew, runs with switching and its received area at 1000h.
+    pub(super) fn start(&mut self) -> bool {
         self.open();
-        let _ = self.write(0x08, 0x1000);
-        let _ = self.write(0x40, 1);
-        let _ = self.write(0x18, 0x11);
+        self.writes(0x08, 0x1000) && self.writes(0x40, 1) && self.writes(0x18, 0x11)
     }
 
     pub(super) fn write(&mut self, offset: u32, value: u32) -> Result<(), WriteError> {
@@ -120,6 +138,16 @@ impl Rig {
 
     pub(super) fn port_cause(&self) -> Option<PortCause> {
         self.port.port_cause()
+    }
+
+    /// Whether a refusal is written so.
+    pub(super) fn says(&self, error: WriteError, text: &str) -> bool {
+        is_text(error.to_string(self.alloc), text)
+    }
+
+    /// Whether the refusal of a read is written so.
+    pub(super) fn says_of_a_read(&self, text: &str) -> bool {
+        is_text(NoRegister.to_string(self.alloc), text)
     }
 
     /// Whether devices 2 and 4 are faulty for these causes, no other device is, and this stopped the port.

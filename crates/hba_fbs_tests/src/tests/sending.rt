@@ -1,17 +1,19 @@
 //! Frames that go out, with values from outside.
 
-use super::steps::Sent::{Answer, Bytes, Sector, Setup};
+use super::steps::Sent::{Answer, Eight, Four, Sector, Setup, Twenty};
 use super::steps::Step::{
-    Flushes, Gives, GivesNone, GivesSector, Holds, IsResetting, Moves, Puts, Queues, Resets, Shows,
-    Spoils, Starts, Takes, Tells,
+    Begins, Flushes, Gives, GivesNone, GivesSector, Holds, IsResetting, Moves, Puts, Queues,
+    Resets, Shows, Spoils, Starts, Takes, Tells,
 };
 use super::steps::Told::{Done, Heard, Ignored, Stops};
 use super::steps::{Step, play};
 use port_errors::PortCause;
 use rx_area::Posted;
 
-/// The FISes of a queued write of device 2, in slot 0, of sector 8.
-static WRITE_GOES_OUT: [Step; 16] = [
+/// Commands and Data that go out.
+static FRAMES: [Step; 61] = [
+    // The FISes of a queued write of device 2, in slot 0, of sector 8.
+    Begins,
     Starts,
     Puts(0x10_1000, 0xAB),
     Puts(0x10_11FF, 0xCD),
@@ -29,25 +31,18 @@ static WRITE_GOES_OUT: [Step; 16] = [
     Shows(0x20, 0x50),
     Takes(Setup(2, false, 0, 0, 512)),
     GivesNone,
-    Tells(Bytes(&[0x39, 2, 0, 0]), Heard(Posted::Nothing)),
+    Tells(Four([0x39, 2, 0, 0]), Heard(Posted::Nothing)),
     GivesSector(0xAB, 0xCD),
     GivesNone,
     Tells(
-        Bytes(&[0xA1, 0x42, 0x50, 0, 1, 0, 0, 0]),
+        Eight([0xA1, 0x42, 0x50, 0, 1, 0, 0, 0]),
         Done(Posted::Bits, 1),
     ),
-];
-
-#[test]
-fn write_goes_out(rt: HostRuntime) {
-    play(&rt, rt.alloc(), &WRITE_GOES_OUT);
-}
-
-/// A device has one command out that it has not answered. Another device's command goes in the meantime, the lowest slot
-/// first. Status 58h ends the command of device 1, and leaves it busy. A Control with SRST set goes to the control port, which
-/// is busy, and needs no answer. A device in reset gets no command until its signature comes. A stopped port gives nothing. A
-/// table that no longer has the slot's bytes stops the port, on the way out and on the way in.
-static COMMANDS: [Step; 43] = [
+    // A device has one command out that it has not answered. Another device's command goes in the meantime, the lowest slot
+    // first. Status 58h ends the command of device 1, and leaves it busy. A Control with SRST set goes to the control port, which
+    // is busy, and needs no answer. A device in reset gets no command until its signature comes. A stopped port gives nothing. A
+    // table that no longer has the slot's bytes stops the port, on the way out and on the way in.
+    Begins,
     Starts,
     Queues(4, 7, 0xE4),
     Queues(1, 3, 0xE4),
@@ -58,7 +53,7 @@ static COMMANDS: [Step; 43] = [
     Tells(Answer(4), Done(Posted::D2h, 0x20)),
     Gives(2, &[0x27, 0x84, 0xE4]),
     Tells(
-        Bytes(&[
+        Twenty([
             0x34, 1, 0x58, 0, 0, 0, 0, 0, 0, 0, 0, 0, 0, 0, 0, 0, 0, 0, 0, 0,
         ]),
         Done(Posted::D2h, 8),
@@ -80,19 +75,19 @@ static COMMANDS: [Step; 43] = [
     Resets(3),
     Queues(3, 2, 0xE4),
     GivesNone,
-    Takes(Bytes(&[
+    Takes(Twenty([
         0x34, 3, 0x50, 1, 1, 0, 0, 0, 0, 0, 0, 0, 1, 0, 0, 0, 0, 0, 0, 0,
     ])),
     Gives(1, &[0x27, 0x83, 0xE4]),
     Queues(4, 0, 0xE4),
-    Tells(Bytes(&[0x39, 0x0F, 0, 0]), Stops(PortCause::BadControl)),
+    Tells(Four([0x39, 0x0F, 0, 0]), Stops(PortCause::BadControl)),
     GivesNone,
     Starts,
     Moves(2, 0, 0x61, 1),
     Gives(0, &[0x27, 0x82, 0x61]),
     Takes(Answer(2)),
     Takes(Setup(2, false, 0, 0, 512)),
-    Takes(Bytes(&[0x39, 2, 0, 0])),
+    Takes(Four([0x39, 2, 0, 0])),
     Spoils(0x208C, 0xFD),
     GivesNone,
     Shows(0x10, 0x2800_0000),
@@ -101,8 +96,8 @@ static COMMANDS: [Step; 43] = [
 ];
 
 #[test]
-fn commands_wait_for_their_device(rt: HostRuntime) {
-    play(&rt, rt.alloc(), &COMMANDS);
+fn frames_go_out(rt: HostRuntime) {
+    play(&rt, rt.alloc(), &FRAMES);
 }
 
 /// This runs with the fourth, fifth, and so on, allocation refused in turn (the first three are the
@@ -116,7 +111,7 @@ static REFUSED_FRAMES: [Step; 11] = [
     GivesNone,
     Takes(Answer(2)),
     Takes(Setup(2, false, 0, 0, 512)),
-    Takes(Bytes(&[0x39, 2, 0, 0])),
+    Takes(Four([0x39, 2, 0, 0])),
     GivesSector(0, 0),
     GivesNone,
 ];

@@ -1,15 +1,17 @@
 //! The mark of a device from which the signature of an ATA device came.
 
-use super::steps::Sent::{Bytes, Register};
-use super::steps::Step::{Flushes, IsSigned, Opens, Resets, Starts, Takes, Writes};
+use super::steps::Sent::{Four, Register, Twenty};
+use super::steps::Step::{Begins, Flushes, IsSigned, Opens, Resets, Starts, Takes, Writes};
 use super::steps::{Sent, Step, play};
 
 /// The signature of an ATA device, of device 2.
 const SIGNATURE: Sent = Register(0x50, 1, 1, [1, 0, 0]);
 
-/// A signature marks its device alone. A fall of ST, DEC and later FISes leave the mark; a flush takes it. So it is with
-/// FIS-based switching, and then without it.
-static MARKS: [Step; 32] = [
+/// Which FISes mark their device, and what takes a mark.
+static MARKS: [Step; 68] = [
+    // A signature marks its device alone. A fall of ST, DEC and later FISes leave the mark; a flush takes it. So it is with
+    // FIS-based switching, and then without it.
+    Begins,
     Starts,
     IsSigned(2, false),
     Takes(SIGNATURE),
@@ -17,7 +19,7 @@ static MARKS: [Step; 32] = [
     IsSigned(3, false),
     Takes(Register(0x50, 0, 0, [0, 0, 0])),
     IsSigned(2, true),
-    Takes(Bytes(&[0x46, 2, 0, 0])),
+    Takes(Four([0x46, 2, 0, 0])),
     Writes(0x40, 3),
     IsSigned(2, true),
     Writes(0x18, 0x10),
@@ -34,7 +36,7 @@ static MARKS: [Step; 32] = [
     IsSigned(3, false),
     Takes(Register(0x50, 0, 0, [0, 0, 0])),
     IsSigned(2, true),
-    Takes(Bytes(&[0x46, 2, 0, 0])),
+    Takes(Four([0x46, 2, 0, 0])),
     Writes(0x40, 2),
     IsSigned(2, true),
     Writes(0x18, 0x10),
@@ -42,17 +44,10 @@ static MARKS: [Step; 32] = [
     IsSigned(2, true),
     Flushes(2, 0),
     IsSigned(2, false),
-];
-
-#[test]
-fn a_signature_marks_its_device(rt: HostRuntime) {
-    play(&rt, rt.alloc(), &MARKS);
-}
-
-/// A signature that ends a software reset marks too. Those of other kinds do not, and so none with an error, none
-/// while the device is busy, and no other answer. Nor does one that is ignored: while ST is 0, and while the device is faulty.
-/// Another device's marks then.
-static OTHERS: [Step; 34] = [
+    // A signature that ends a software reset marks too. Those of other kinds do not, and so none with an error, none
+    // while the device is busy, and no other answer. Nor does one that is ignored: while ST is 0, and while the device is faulty.
+    // Another device's marks then.
+    Begins,
     Starts,
     Takes(Register(0x50, 1, 1, [1, 0x69, 0x96])),
     IsSigned(2, false),
@@ -82,16 +77,16 @@ static OTHERS: [Step; 34] = [
     Takes(SIGNATURE),
     IsSigned(2, false),
     Writes(0x18, 0x11),
-    Takes(Bytes(&[0x46, 2, 0, 0])),
+    Takes(Four([0x46, 2, 0, 0])),
     Takes(SIGNATURE),
     IsSigned(2, false),
-    Takes(Bytes(&[
+    Takes(Twenty([
         0x34, 3, 0x50, 1, 1, 0, 0, 0, 0, 0, 0, 0, 1, 0, 0, 0, 0, 0, 0, 0,
     ])),
     IsSigned(3, true),
 ];
 
 #[test]
-fn others_do_not(rt: HostRuntime) {
-    play(&rt, rt.alloc(), &OTHERS);
+fn signatures_mark_their_devices(rt: HostRuntime) {
+    play(&rt, rt.alloc(), &MARKS);
 }

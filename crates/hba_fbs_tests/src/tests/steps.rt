@@ -31,6 +31,10 @@ pub(super) enum Sent {
     Register(u8, u8, u8, [u8; 3]),
     /// Any bytes.
     Bytes(&'static [u8]),
+    /// Any four, eight or twenty bytes. A row with them by value is proved with less work than one that refers to them.
+    Four([u8; 4]),
+    Eight([u8; 8]),
+    Twenty([u8; 20]),
 }
 
 /// What is told of a FIS.
@@ -55,6 +59,8 @@ pub(super) enum Told {
 /// A step of a test.
 #[derive(Clone, Copy)]
 pub(super) enum Step {
+    /// The port and its memory are new.
+    Begins,
     /// The port opens anew, and runs with switching and its received area at 1000h.
     Starts,
     /// The port opens anew.
@@ -121,13 +127,17 @@ pub(super) enum Step {
     /// A register stands at its offset, has this value in a port that opens, and stores these bits. ST and FRE are left out.
     Stands(Register, u32, u32, u32),
     /// A FIS is taken, whatever the port makes of it. This is what PxTFD and PxIS show then.
-    Becomes(&'static [u8], u32, u32),
+    Becomes(Sent, u32, u32),
     /// A FIS makes device 2 faulty for this cause and sets these bits of PxIS. It moves nothing and ends nothing: the read in
     /// slot 0 stays there.
     Breaks(Sent, DeviceCause, u32),
     /// A queued command of one sector, in this slot, of this device and of this code, is issued as the driver does it: PxFBS
     /// as it reads at the write of PxCI, and the bit that is written to PxSACT.
     Drives(u8, u8, u8, u32, u32),
+    /// A refusal has this number and is written so.
+    Says(u8, WriteError, &'static str),
+    /// The refusal of a read is written so.
+    SaysOfARead(&'static str),
     /// The port starts, and a command of device 2 in a slot, of this code, for sectors from 8 on, this many of them and for
     /// 101000h, goes out.
     GoesOut(u8, u8, u16),
@@ -230,10 +240,14 @@ fn is_told(
 ) -> bool {
     match told {
         Some(report) => {
-            report.fault == cause
-                && matches!(report.stopped, None)
-                && report.done == done
-                && (matches!(report.wrote, None) || !unwritten)
+            let wanted = TakeReport {
+                fault: cause,
+                stopped: None,
+                wrote: if unwritten { None } else { report.wrote },
+                done,
+                ..report
+            };
+            report == wanted
         }
         None => false,
     }
@@ -248,6 +262,9 @@ fn dev_of(sent: Sent) -> u8 {
         Sent::Register(..) => 2,
         Sent::Bytes([_, second, ..]) => *second % 16,
         Sent::Bytes(_) => 0,
+        Sent::Four(bytes) => bytes[1] % 16,
+        Sent::Eight(bytes) => bytes[1] % 16,
+        Sent::Twenty(bytes) => bytes[1] % 16,
     }
 }
 
@@ -277,6 +294,9 @@ impl Rig {
                 self.hears(&register(2, status, error, count, lba))
             }
             Sent::Bytes(bytes) => self.hears(bytes),
+            Sent::Four(bytes) => self.hears(&bytes),
+            Sent::Eight(bytes) => self.hears(&bytes),
+            Sent::Twenty(bytes) => self.hears(&bytes),
         }
     }
 
@@ -296,8 +316,10 @@ impl Rig {
             && self.shows(0x34, 1)
     }
 
-    fn becomes(&mut self, fis: &[u8], file: u32, interrupts: u32) -> bool {
-        matches!(self.hears(fis), Some(_)) && self.shows(0x20, file) && self.shows(0x10, interrupts)
+    fn becomes(&mut self, sent: Sent, file: u32, interrupts: u32) -> bool {
+        matches!(self.hears_sent(sent), Some(_))
+            && self.shows(0x20, file)
+            && self.shows(0x10, interrupts)
     }
 
     /// Whether this is told of bytes that come from a device.
@@ -387,7 +409,8 @@ impl Rig {
     /// What is done with the slots, and whether it went well. Other steps do nothing here.
     fn acts(&mut self, step: Step) -> bool {
         match step {
-            Step::Starts => self.start(),
+            Step::Begins => return self.begin(),
+            Step::Starts => return self.start(),
             Step::Opens => self.open(),
             Step::Spoils(at, byte) => self.put_structure(at, byte),
             Step::Puts(address, byte) => return self.put_client(address, byte),
@@ -414,8 +437,7 @@ impl Rig {
                 return self.drives(slot, &command(dev, code, 0, slot), switching, armed);
             }
             Step::GoesOut(slot, code, sectors) => {
-                self.start();
-                return self.moves(2, slot, code, sectors) && self.sends(2);
+                return self.start() && self.moves(2, slot, code, sectors) && self.sends(2);
             }
             _ => {}
         }
@@ -453,12 +475,14 @@ impl Rig {
             Step::Refuses(offset, value, error) => self.write(offset, value) == Err(error),
             Step::Shows(offset, value) => self.shows(offset, value),
             Step::Lacks(offset) => self.lacks(offset),
+            Step::Says(number, error, text) => error as u8 == number && self.says(error, text),
+            Step::SaysOfARead(text) => self.says_of_a_read(text),
             Step::Stands(register, offset, opening, stored) => {
                 self.stands(register, offset, opening, stored)
             }
             Step::Takes(sent) => matches!(self.hears_sent(sent), Some(_)),
             Step::Tells(sent, told) => self.tells(sent, told),
-            Step::Becomes(fis, file, interrupts) => self.becomes(fis, file, interrupts),
+            Step::Becomes(sent, file, interrupts) => self.becomes(sent, file, interrupts),
             Step::Breaks(sent, cause, interrupts) => self.breaks(sent, cause, interrupts),
             Step::Faults(sent, cause) => self.faults(sent, cause, false),
             Step::Ends(sent, done) => is_told(self.hears_sent(sent), None, done, false),

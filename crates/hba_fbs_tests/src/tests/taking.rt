@@ -1,9 +1,11 @@
 //! FISes that are taken, with values from outside.
 
-use super::steps::Sent::{Answer, Block, Bytes, Counting, Part, Sector, Setup};
+use super::steps::Sent::{
+    Answer, Block, Bytes, Counting, Eight, Four, Part, Sector, Setup, Twenty,
+};
 use super::steps::Step::{
-    Ends, Faults, Holds, IsResetting, Issues, Posts, Reads, Resets, Shows, Starts, Takes, Tells,
-    Writes,
+    Begins, Ends, Faults, Holds, IsResetting, Issues, Posts, Reads, Resets, Shows, Starts, Takes,
+    Tells, Writes,
 };
 use super::steps::Told::{Brings, Done, Faulty, Heard, Ignored, Stops};
 use super::steps::{Step, play};
@@ -11,8 +13,28 @@ use host_memory::Prd;
 use port_errors::{DeviceCause, PortCause};
 use rx_area::Posted;
 
-/// The queued read of slot 5 of device 3 goes to two places, and is done once.
-static READ_IS_DONE_ONCE: [Step; 19] = [
+/// A FIS of 64 bytes of an unknown type.
+pub(super) const UNKNOWN: [u8; 64] = [
+    0xC7, 3, 0, 0, 0, 0, 0, 0, 0, 0, 0, 0, 0, 0, 0, 0, 0, 0, 0, 0, 0, 0, 0, 0, 0, 0, 0, 0, 0, 0, 0,
+    0, 0, 0, 0, 0, 0, 0, 0, 0, 0, 0, 0, 0, 0, 0, 0, 0, 0, 0, 0, 0, 0, 0, 0, 0, 0, 0, 0, 0, 0, 0, 0,
+    0,
+];
+
+/// The signature of a port multiplier, with I.
+const PM_SIGNATURE: [u8; 20] = [
+    0x34, 0x4F, 0x50, 1, 1, 0x69, 0x96, 0, 0, 0, 0, 0, 1, 0, 0, 0, 0, 0, 0, 0,
+];
+
+/// The identify data of device 1, for slot 3, come to this place.
+const SECTOR: [Prd; 1] = [Prd {
+    address: 0x10_1000,
+    bytes: 512,
+}];
+
+/// Reads, faults, a reset and PIO data-in.
+static TAKEN: [Step; 138] = [
+    // The queued read of slot 5 of device 3 goes to two places, and is done once.
+    Begins,
     Starts,
     Issues(
         3,
@@ -43,26 +65,19 @@ static READ_IS_DONE_ONCE: [Step; 19] = [
     Holds(0x20D4, 1, 0),
     Shows(0x34, 0x20),
     Tells(
-        Bytes(&[0xA1, 0x43, 0x50, 0, 0x20, 0, 0, 0]),
+        Eight([0xA1, 0x43, 0x50, 0, 0x20, 0, 0, 0]),
         Done(Posted::Bits, 0x20),
     ),
     Shows(0x34, 0),
     Shows(0x10, 8),
     Tells(
-        Bytes(&[0xA1, 0x43, 0x50, 0, 0x20, 0, 0, 0]),
+        Eight([0xA1, 0x43, 0x50, 0, 0x20, 0, 0, 0]),
         Heard(Posted::Bits),
     ),
-];
-
-#[test]
-fn read_is_done_once(rt: HostRuntime) {
-    play(&rt, rt.alloc(), &READ_IS_DONE_ONCE);
-}
-
-/// Two reads of two sectors whose Data FISes cross. Another read comes with its second sector first. A Set Device Bits FIS
-/// that names all tags completes the two whole reads of its device, and nothing else: no free slot, and no read of another
-/// device.
-static READS_CROSS: [Step; 42] = [
+    // Two reads of two sectors whose Data FISes cross. Another read comes with its second sector first. A Set Device Bits FIS
+    // that names all tags completes the two whole reads of its device, and nothing else: no free slot, and no read of another
+    // device.
+    Begins,
     Starts,
     Reads(0, 0, 0x10_1000),
     Reads(4, 1, 0x10_2000),
@@ -87,10 +102,7 @@ static READS_CROSS: [Step; 42] = [
         Setup(9, true, 2, 512, 512),
         Faulty(Posted::Setup, DeviceCause::Twice),
     ),
-    Tells(
-        Bytes(&[0xA1, 4, 0x50, 0, 7, 0, 0, 0]),
-        Done(Posted::Bits, 2),
-    ),
+    Tells(Eight([0xA1, 4, 0x50, 0, 7, 0, 0, 0]), Done(Posted::Bits, 2)),
     Shows(0x34, 5),
     Starts,
     Reads(9, 2, 0x10_3000),
@@ -107,42 +119,28 @@ static READS_CROSS: [Step; 42] = [
     Tells(Sector(4, 0x43), Brings(6, 512)),
     Shows(0x34, 0x46),
     Tells(
-        Bytes(&[0xA1, 4, 0x50, 0, 0xFF, 0xFF, 0xFF, 0xFF]),
+        Eight([0xA1, 4, 0x50, 0, 0xFF, 0xFF, 0xFF, 0xFF]),
         Done(Posted::Bits, 0x42),
     ),
     Shows(0x34, 4),
     Shows(0x40, 0xF401),
     Tells(
-        Bytes(&[0xA1, 4, 0x50, 0, 0xFF, 0xFF, 0xFF, 0xFF]),
+        Eight([0xA1, 4, 0x50, 0, 0xFF, 0xFF, 0xFF, 0xFF]),
         Heard(Posted::Bits),
     ),
     Shows(0x34, 4),
-];
-
-#[test]
-fn reads_cross(rt: HostRuntime) {
-    play(&rt, rt.alloc(), &READS_CROSS);
-}
-
-/// A FIS of 64 bytes of an unknown type.
-pub(super) const UNKNOWN: [u8; 64] = [
-    0xC7, 3, 0, 0, 0, 0, 0, 0, 0, 0, 0, 0, 0, 0, 0, 0, 0, 0, 0, 0, 0, 0, 0, 0, 0, 0, 0, 0, 0, 0, 0,
-    0, 0, 0, 0, 0, 0, 0, 0, 0, 0, 0, 0, 0, 0, 0, 0, 0, 0, 0, 0, 0, 0, 0, 0, 0, 0, 0, 0, 0, 0, 0, 0,
-    0,
-];
-
-/// Device 5 and then device 1 send a Data FIS without bytes. A third device goes on. The control port
-/// stops the port.
-static FAULTS_ARE_REPORTED: [Step; 16] = [
+    // Device 5 and then device 1 send a Data FIS without bytes. A third device goes on. The control port
+    // stops the port.
+    Begins,
     Starts,
     Tells(
-        Bytes(&[0x46, 5, 0, 0]),
+        Four([0x46, 5, 0, 0]),
         Faulty(Posted::Nothing, DeviceCause::BadFis),
     ),
     Shows(0x40, 0x0005_F005),
     Tells(Answer(5), Ignored),
     Tells(
-        Bytes(&[0x46, 1, 0, 0]),
+        Four([0x46, 1, 0, 0]),
         Faulty(Posted::Nothing, DeviceCause::BadFis),
     ),
     Shows(0x40, 0x0005_F005),
@@ -151,57 +149,32 @@ static FAULTS_ARE_REPORTED: [Step; 16] = [
     Shows(0x30, 0x0200_0000),
     Shows(0x10, 0x0800_0010),
     Tells(
-        Bytes(&[0xA1, 0xCF, 0x50, 0, 0, 0, 0, 0]),
+        Eight([0xA1, 0xCF, 0x50, 0, 0, 0, 0, 0]),
         Heard(Posted::Bits),
     ),
     Shows(0x3C, 0x8000),
-    Tells(Bytes(&[0x39, 0x0F, 0, 0]), Stops(PortCause::BadControl)),
+    Tells(Four([0x39, 0x0F, 0, 0]), Stops(PortCause::BadControl)),
     Shows(0x40, 0xF001),
     Shows(0x10, 0x2800_0018),
     Tells(Answer(3), Ignored),
-];
-
-#[test]
-fn faults_are_reported(rt: HostRuntime) {
-    play(&rt, rt.alloc(), &FAULTS_ARE_REPORTED);
-}
-
-/// The signature of a port multiplier, with I.
-const PM_SIGNATURE: [u8; 20] = [
-    0x34, 0x4F, 0x50, 1, 1, 0x69, 0x96, 0, 0, 0, 0, 0, 1, 0, 0, 0, 0, 0, 0, 0,
-];
-
-/// A software reset of the control port ends with its signature alone.
-static SIGNATURE_ENDS_RESET: [Step; 13] = [
+    // A software reset of the control port ends with its signature alone.
+    Begins,
     Starts,
-    Takes(Bytes(&PM_SIGNATURE)),
+    Takes(Twenty(PM_SIGNATURE)),
     Shows(0x24, 0xFFFF_FFFF),
     Resets(15),
     Writes(0x10, 1),
     Tells(Answer(0x4F), Ignored),
     IsResetting(15, true),
-    Tells(Bytes(&PM_SIGNATURE), Heard(Posted::D2h)),
+    Tells(Twenty(PM_SIGNATURE), Heard(Posted::D2h)),
     IsResetting(15, false),
     Writes(0x40, 0xF01),
     Shows(0x24, 0x9669_0101),
     Shows(0x10, 1),
     Shows(0x20, 0x0150),
-];
-
-#[test]
-fn signature_ends_reset(rt: HostRuntime) {
-    play(&rt, rt.alloc(), &SIGNATURE_ENDS_RESET);
-}
-
-/// The identify data of device 1, for slot 3, come to this place.
-const SECTOR: [Prd; 1] = [Prd {
-    address: 0x10_1000,
-    bytes: 512,
-}];
-
-/// PIO data-in of 512 bytes in one block and in two, without the end of the command, and with ERR in E_Status: the
-/// fault, and what is done then, PxIS and PxTFD.
-static BLOCKS_END: [Step; 43] = [
+    // PIO data-in of 512 bytes in one block and in two, without the end of the command, and with ERR in E_Status: the
+    // fault, and what is done then, PxIS and PxTFD.
+    Begins,
     Starts,
     Issues(1, 3, 0xEC, &SECTOR),
     Takes(Answer(2)),
@@ -248,6 +221,6 @@ static BLOCKS_END: [Step; 43] = [
 ];
 
 #[test]
-fn blocks_end(rt: HostRuntime) {
-    play(&rt, rt.alloc(), &BLOCKS_END);
+fn fises_are_taken(rt: HostRuntime) {
+    play(&rt, rt.alloc(), &TAKEN);
 }
